@@ -1,0 +1,105 @@
+ghost use Rattle.std.specs.Prelude.{◌≡◌, List, [], ◌∷◌, ◌++◌, length, OnOk, OnErr, IfOk};
+
+use crate::copies::Copied;
+use crate::memory::Memory;
+use std::alloc::Global;
+use std::marker::Model;
+
+/// A list of values. Contracts see it as the list: no capacity, pointer or allocator is part of its value.
+#[derive(Drop, Debug)]
+pub struct Seq<T> {
+    items: Vec<T>,
+}
+
+impl<T> Model for Seq<T> {
+    ghost use Rattle.std.specs.Prelude.{List};
+    ghost use Rattle.std.specs.Coded.{coded_list};
+
+    ghost Value = { List T };
+
+    ghost coded = { coded_list T.code };
+
+    ghost view = { λ s. s.items.items };
+}
+
+impl<T> Seq<T> {
+    pub fn new(alloc: Global) -> Seq<T>
+        ensures { result ≡ [] }
+    {
+        Seq {
+            items: Vec::new(alloc),
+        }
+    }
+
+    /// An empty list on the same allocator.
+    pub fn empty(&self) -> Seq<T>
+        ensures { result ≡ [] }
+    {
+        Seq {
+            items: Vec::new(*self.items.allocator()),
+        }
+    }
+
+    pub fn from_vec(items: Vec<T>) -> Seq<T>
+        ensures { result ≡ items.items }
+    {
+        Seq { items }
+    }
+
+    pub fn into_vec(self) -> Vec<T>
+        ensures { result.items ≡ self }
+    {
+        let Seq { items } = self;
+        items
+    }
+
+    pub fn as_slice(&self) -> &[T]
+        ensures { result.now ≡ self.now }
+    {
+        self.items.as_slice()
+    }
+
+    pub fn len(&self) -> usize
+        ensures { result ≡ length self.now }
+    {
+        self.items.len()
+    }
+
+    pub fn push(&mut self, x: T) -> Result<(), Memory>
+    where
+        T: Drop,
+        ensures ok { OnOk result (self.new ≡ self.old ++ x ∷ []) }
+        ensures err { OnErr result (self.new ≡ self.old) }
+    {
+        self.items.push(x)?;
+        Ok(())
+    }
+}
+
+impl<T: Copy> Seq<T> {
+    pub fn extend_from_slice(&mut self, more: &[T]) -> Result<(), Memory>
+        ensures ok { OnOk result (self.new ≡ self.old ++ more.now) }
+        ensures err { OnErr result (self.new ≡ self.old) }
+    {
+        self.items.extend_from_slice(more)?;
+        Ok(())
+    }
+}
+
+impl<T: Copied + Drop> Seq<T> {
+    pub fn copy(&self) -> Result<Seq<T>, Memory>
+        ensures { IfOk result (λ c. c ≡ self.now) }
+    {
+        let mut copy = self.empty();
+        for item in &self.items {
+            copy.push(item.copied()?)?;
+        }
+        Ok(copy)
+    }
+}
+
+/// The bytes of a file, or of a part of one.
+pub type Bytes = Seq<u8>;
+
+/// A name as the class file has it: a list of UTF-16 code units.
+pub type Name = Seq<u16>;
