@@ -1,0 +1,5 @@
+pub mod Input
+pub mod Sequence
+pub mod Reading
+pub mod Meets
+pub mod Spelling
