@@ -1,10 +1,33 @@
-//! The plain types that every other crate names.
+//! The plain types that every other crate names: lists, names, the parts of a class file, and the faults.
 #![tactic(auto)]
 
+mod annotation;
+mod attribute;
+mod class;
+mod compared;
+mod constant;
 mod copies;
+mod edit;
+mod fault;
+mod frame;
+mod instruction;
+mod kind;
 mod list;
 mod memory;
+mod mutator;
+mod shared;
 
+pub use annotation::{Elem, Note};
+pub use attribute::{Attr, Body, Code, Row};
+pub use class::{Class, ClassId, Member};
+pub use constant::Const;
 pub use copies::Copied;
+pub use edit::{Edit, NewInsn};
+pub use fault::{Bound, ClassFault, DescFault, LayoutFault, TextFault};
+pub use frame::{Frame, Shape, VItem};
+pub use instruction::{Arg, Insn};
+pub use kind::{Kind, MethodType};
 pub use list::{Bytes, Name, Seq};
 pub use memory::Memory;
+pub use mutator::Mutator;
+pub use shared::SharedBytes;

@@ -1,4 +1,5 @@
-ghost use Rattle.std.specs.Prelude.{◌≡◌, List, [], ◌∷◌, ◌++◌, length, OnOk, OnErr, IfOk};
+ghost use Rattle.std.specs.Prelude.{◌≡◌, ◌↔◌, List, [], ◌∷◌, ◌++◌, length, slice_get, IsTrue, OnOk, OnErr, IfOk};
+ghost use Rattle.std.specs.Option.{option_copied};
 
 use crate::copies::Copied;
 use crate::memory::Memory;
@@ -40,17 +41,24 @@ impl<T> Seq<T> {
         }
     }
 
+    /// The same items. It takes no memory.
     pub fn from_vec(items: Vec<T>) -> Seq<T>
         ensures { result ≡ items.items }
     {
         Seq { items }
     }
 
+    /// The same items. It takes no memory.
     pub fn into_vec(self) -> Vec<T>
         ensures { result.items ≡ self }
     {
         let Seq { items } = self;
         items
+    }
+
+    /// The allocator that the list keeps.
+    pub fn allocator(&self) -> Global {
+        *self.items.allocator()
     }
 
     pub fn as_slice(&self) -> &[T]
@@ -65,18 +73,33 @@ impl<T> Seq<T> {
         self.items.len()
     }
 
-    pub fn push(&mut self, x: T) -> Result<(), Memory>
+    pub fn is_empty(&self) -> bool
+        ensures { IsTrue result ↔ (self.now ≡ []) }
+    {
+        self.items.is_empty()
+    }
+
+    /// The item at a place, if the list has one there.
+    pub fn get(&self, at: usize) -> Option<&T>
+        ensures { option_copied result ≡ slice_get self.now at }
+    {
+        self.items.get(at)
+    }
+
+    /// Adds an item at the end. Where memory runs out the list is unchanged.
+    pub fn push(&mut self, item: T) -> Result<(), Memory>
     where
         T: Drop,
-        ensures ok { OnOk result (self.new ≡ self.old ++ x ∷ []) }
+        ensures ok { OnOk result (self.new ≡ self.old ++ item ∷ []) }
         ensures err { OnErr result (self.new ≡ self.old) }
     {
-        self.items.push(x)?;
+        self.items.push(item)?;
         Ok(())
     }
 }
 
 impl<T: Copy> Seq<T> {
+    /// Adds the items at the end. Where memory runs out the list is unchanged.
     pub fn extend_from_slice(&mut self, more: &[T]) -> Result<(), Memory>
         ensures ok { OnOk result (self.new ≡ self.old ++ more.now) }
         ensures err { OnErr result (self.new ≡ self.old) }
@@ -87,6 +110,7 @@ impl<T: Copy> Seq<T> {
 }
 
 impl<T: Copied + Drop> Seq<T> {
+    /// An equal list.
     pub fn copy(&self) -> Result<Seq<T>, Memory>
         ensures { IfOk result (λ c. c ≡ self.now) }
     {

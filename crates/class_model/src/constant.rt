@@ -1,0 +1,37 @@
+use crate::list::Name;
+
+/// An entry of the constant pool (JVMS 4.4), under the name that the field has for it.
+/// An index counts the entries from 1.
+#[derive(Debug, Drop, PartialEq, Eq)]
+pub enum Const {
+    /// A text: tag 1.
+    Utf8(Name),
+    /// Tag 3.
+    Integer(i32),
+    /// Tag 4, its bits carried unread.
+    Float(u32),
+    /// Tag 5. It takes two places: the second holds `Second`.
+    Long(i64),
+    /// Tag 6, its bits carried unread. It takes two places: the second holds `Second`.
+    Double(u64),
+    /// A class by the index of its name: tag 7.
+    Class(u16),
+    /// A string by the index of its text: tag 8.
+    Text(u16),
+    /// A field by the indices of its class and its pair: tag 9.
+    Field(u16, u16),
+    /// A class's method by the indices of its class and its pair: tag 10.
+    Method(u16, u16),
+    /// An interface's method by the indices of its class and its pair: tag 11.
+    IMethod(u16, u16),
+    /// A name and a descriptor by their indices: tag 12.
+    Pair(u16, u16),
+    /// A method handle, by its kind and the index of the member: tag 15.
+    Handle(u8, u16),
+    /// A method type by the index of its descriptor: tag 16.
+    MethodKind(u16),
+    /// A dynamic call site, by the number of its bootstrap method and the index of its pair: tag 18.
+    Dynamic(u16, u16),
+    /// The place behind a `Long` or a `Double`, which nothing may use.
+    Second,
+}

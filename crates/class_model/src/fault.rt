@@ -1,0 +1,173 @@
+//! Why a class file, a text or a descriptor can't be read, and why a class can't be written.
+
+ghost use Rattle.std.specs.Prelude.{◌≡◌};
+ghost use Rattle.class_model.specs.declared.fault.ClassFault.TheVariants as class_fault;
+ghost use Rattle.class_model.specs.declared.fault.LayoutFault.TheVariants as layout_fault;
+ghost use Rattle.class_model.specs.declared.fault.TextFault.TheVariants as text_fault;
+ghost use Rattle.class_model.specs.declared.fault.DescFault.TheVariants as desc_fault;
+
+use crate::memory::Memory;
+use std::alloc::{AllocError, AllocFailed};
+use thiserror::Error;
+
+/// Why bytes spell no class. A place is a byte offset in the file, from 0.
+#[derive(Clone, Copy, Debug, PartialEq, Eq, Error)]
+pub enum ClassFault {
+    #[error("the file ends inside the item at {at}")]
+    Truncated { at: u64 },
+    #[error("the text, name or descriptor at {at} is not in its form")]
+    BadText { at: u64 },
+    #[error("the tag {tag} at {at} is not one of the standard's")]
+    BadTag { at: u64, tag: u8 },
+    #[error("the index at {at} names no entry of the right kind")]
+    BadIndex { at: u64 },
+    #[error("the opcode {op} at {at} is not one of the profile's")]
+    BadOpcode { at: u64, op: u8 },
+    #[error("a length, a count or an order is wrong at {at}")]
+    BadLength { at: u64 },
+    #[error("the padding byte at {at} is not 0")]
+    Padding { at: u64 },
+    #[error("a float is used at {at}")]
+    FloatUsed { at: u64 },
+    #[error("a dynamic call or constant is used at {at}")]
+    DynamicUsed { at: u64 },
+    #[error("the place named at {at} is not the start of an instruction")]
+    BadTarget { at: u64 },
+    #[error("the file does not begin as a class file")]
+    BadMagic,
+    #[error("the major version {major} is not 51 or 52")]
+    BadVersion { major: u16 },
+    #[error("bytes follow the class at {at}")]
+    TrailingBytes { at: u64 },
+    #[error("out of memory")]
+    Memory,
+}
+
+impl From<Memory> for ClassFault {
+    ghost from_gives = { λ _ e. e ≡ class_fault.Memory };
+
+    fn from(_e: Memory) -> ClassFault {
+        ClassFault::Memory
+    }
+}
+
+impl From<AllocError> for ClassFault {
+    ghost from_gives = { λ _ e. e ≡ class_fault.Memory };
+
+    fn from(_e: AllocError) -> ClassFault {
+        ClassFault::Memory
+    }
+}
+
+impl<T: Drop> From<AllocFailed<T>> for ClassFault {
+    ghost from_gives = { λ _ e. e ≡ class_fault.Memory };
+
+    fn from(_e: AllocFailed<T>) -> ClassFault {
+        ClassFault::Memory
+    }
+}
+
+/// What a class file has no room for.
+#[derive(Clone, Copy, Debug, PartialEq, Eq)]
+pub enum Bound {
+    /// The constant pool has at most 65,534 entries.
+    Pool,
+    /// A text has at most 65,535 bytes.
+    Text,
+    /// The code of a method has at most 65,535 bytes.
+    Code,
+    /// A jump's offset has two bytes.
+    Jump,
+    /// A list has at most 65,535 items.
+    List,
+    /// An attribute's content has fewer than 2^32 bytes.
+    Attribute,
+}
+
+/// Why a class has no spelling.
+#[derive(Clone, Copy, Debug, PartialEq, Eq, Error)]
+pub enum LayoutFault {
+    #[error("too large: {what:?}")]
+    TooLarge { what: Bound },
+    #[error("out of memory")]
+    Memory,
+}
+
+impl From<Memory> for LayoutFault {
+    ghost from_gives = { λ _ e. e ≡ layout_fault.Memory };
+
+    fn from(_e: Memory) -> LayoutFault {
+        LayoutFault::Memory
+    }
+}
+
+impl From<AllocError> for LayoutFault {
+    ghost from_gives = { λ _ e. e ≡ layout_fault.Memory };
+
+    fn from(_e: AllocError) -> LayoutFault {
+        LayoutFault::Memory
+    }
+}
+
+impl<T: Drop> From<AllocFailed<T>> for LayoutFault {
+    ghost from_gives = { λ _ e. e ≡ layout_fault.Memory };
+
+    fn from(_e: AllocFailed<T>) -> LayoutFault {
+        LayoutFault::Memory
+    }
+}
+
+/// Why bytes spell no text.
+#[derive(Clone, Copy, Debug, PartialEq, Eq, Error)]
+pub enum TextFault {
+    /// No code unit's spelling begins at this byte.
+    #[error("no code unit's spelling begins at {at}")]
+    BadText { at: u64 },
+    #[error("out of memory")]
+    Memory,
+}
+
+impl From<Memory> for TextFault {
+    ghost from_gives = { λ _ e. e ≡ text_fault.Memory };
+
+    fn from(_e: Memory) -> TextFault {
+        TextFault::Memory
+    }
+}
+
+impl From<AllocError> for TextFault {
+    ghost from_gives = { λ _ e. e ≡ text_fault.Memory };
+
+    fn from(_e: AllocError) -> TextFault {
+        TextFault::Memory
+    }
+}
+
+/// Why a text is no descriptor of this profile.
+#[derive(Clone, Copy, Debug, PartialEq, Eq, Error)]
+pub enum DescFault {
+    /// It is outside the standard's grammar.
+    #[error("not a descriptor")]
+    Bad,
+    /// It is in the standard's grammar, and has a float or a double as a kind.
+    #[error("a float in a descriptor")]
+    Float,
+    #[error("out of memory")]
+    Memory,
+}
+
+impl From<Memory> for DescFault {
+    ghost from_gives = { λ _ e. e ≡ desc_fault.Memory };
+
+    fn from(_e: Memory) -> DescFault {
+        DescFault::Memory
+    }
+}
+
+impl From<AllocError> for DescFault {
+    ghost from_gives = { λ _ e. e ≡ desc_fault.Memory };
+
+    fn from(_e: AllocError) -> DescFault {
+        DescFault::Memory
+    }
+}

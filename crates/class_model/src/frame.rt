@@ -1,0 +1,37 @@
+use crate::list::Seq;
+
+/// A stated frame (JVMS 4.7.4), at the number of the instruction that it stands for.
+#[derive(Debug, Drop, PartialEq, Eq)]
+pub struct Frame {
+    pub at: u32,
+    pub shape: Shape,
+}
+
+/// How a frame differs from the one before it. A flag says that the longer form was used, which has two bytes for the offset.
+#[derive(Debug, Drop, PartialEq, Eq)]
+pub enum Shape {
+    /// The same locals and no stack: types 0 to 63, or 251.
+    Same(bool),
+    /// The same locals and one stack item: types 64 to 127, or 247.
+    One(bool, VItem),
+    /// So many locals fewer, 1 to 3, and no stack: types 248 to 250.
+    Chop(u8),
+    /// These locals more, one to three, and no stack: types 252 to 254.
+    Append(Seq<VItem>),
+    /// All locals and the whole stack: type 255.
+    Full(Seq<VItem>, Seq<VItem>),
+}
+
+/// A verification type (JVMS 4.7.4) without the floats.
+#[derive(Clone, Copy, Debug, PartialEq, Eq)]
+pub enum VItem {
+    Top,
+    Integer,
+    Long,
+    Null,
+    UninitializedThis,
+    /// An object of the class at this index of the constant pool.
+    Object(u16),
+    /// What the `new` at this instruction number made.
+    Uninitialized(u32),
+}
