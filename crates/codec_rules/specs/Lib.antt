@@ -3,3 +3,4 @@ pub mod Sequence
 pub mod Reading
 pub mod Meets
 pub mod Spelling
+pub mod Laws

@@ -24,13 +24,17 @@ many_at read (suc count) input = do
   others ← many_at read count first.1
   Ok (first.0 ∷ others.0, others.1)
 
--- Values one after the other until no byte is left, in so many turns at most. No value is empty, so as many turns as there are bytes are enough.
+-- Values one after the other until no byte is left, in so many turns at most.
 unfoldable pub whole_at : {F A : Type 0} → Reader F A → ℕ → Input → Result (List A) F
 whole_at read zero input = Ok []
 whole_at read (suc turns) input = if length input.bytes == 0 then Ok [] else do
   first ← read input
   others ← whole_at read turns first.1
   Ok (first.0 ∷ others)
+
+-- Values one after the other until no byte is left: no value is empty, so as many turns as there are bytes are enough.
+abbrev pub until_end : {F A : Type 0} → Reader F A → Input → Result (List A) F
+until_end read input = whole_at read (length input.bytes) input
 
 -- What was read before, in front of what is still read.
 abbrev pub with_front : {F A : Type 0} → List A → Result (List A × Input) F → Result (List A × Input) F

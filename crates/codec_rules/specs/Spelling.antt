@@ -1,5 +1,6 @@
 -- A spelling at a place, and what it is for a reading function to undo it (this project's own).
 use Rattle.std.specs.Prelude.{◌≡◌, ℕ, ◌+◌, ◌<◌, List, [], ◌∷◌, ◌++◌, length, Ok}
+use Rattle.std.specs.List.{AllByRecursion}
 use Rattle.codec_rules.specs.Input.{Input, IsBytes}
 use Rattle.codec_rules.specs.Reading.{Reader}
 
@@ -29,3 +30,7 @@ spelled_from spell at (value ∷ values) = spell at value ++ spelled_from spell 
 -- No spelling is empty.
 abbrev pub IsFilled : {A : Type 0} → Speller A → Type 0
 IsFilled {A} spell = (at : ℕ) (value : A) → 0 < length (spell at value)
+
+-- The values are spelled by all of an input's bytes.
+abbrev pub IsWhole : {A : Type 0} → Speller A → (A → Type 0) → Input → List A → Type 0
+IsWhole spell P input values = (input.bytes ≡ spelled_from spell input.at values) × AllByRecursion P values

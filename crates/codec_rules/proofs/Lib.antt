@@ -1,0 +1,6 @@
+pub mod Sequence
+pub mod Codec
+pub mod Numbers
+pub mod Many
+pub mod Whole
+pub mod Loops
