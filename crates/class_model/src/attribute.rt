@@ -1,7 +1,11 @@
+ghost use Rattle.std.specs.Prelude.{◌≡◌, IfOk};
+
 use crate::annotation::Note;
+use crate::copies::Copied;
 use crate::frame::Frame;
 use crate::instruction::Insn;
 use crate::list::{Bytes, Seq};
+use crate::memory::Memory;
 
 /// An attribute (JVMS 4.7): the index of its name, and its content.
 #[derive(Debug, Drop)]
@@ -49,4 +53,74 @@ pub struct Row {
     pub end: u32,
     pub handler: u32,
     pub catch: u16,
+}
+
+#[cycle(attribute_copy)]
+fn copy_attrs(attrs: &Seq<Attr>) -> Result<Seq<Attr>, Memory>
+    ensures { IfOk result (λ c. c ≡ attrs.now) }
+{
+    let mut copy = attrs.empty();
+    for attr in attrs.as_slice() {
+        copy.push(attr.copy()?)?;
+    }
+    Ok(copy)
+}
+
+impl Attr {
+    /// An equal value.
+    #[cycle(attribute_copy)]
+    pub fn copy(&self) -> Result<Attr, Memory>
+        ensures { IfOk result (λ c. c ≡ self.now) }
+    {
+        Ok(Attr {
+            name: self.name,
+            body: self.body.copy()?,
+        })
+    }
+}
+
+impl Copied for Attr {
+    fn copied(&self) -> Result<Attr, Memory> {
+        self.copy()
+    }
+}
+
+impl Body {
+    /// An equal value.
+    #[cycle(attribute_copy)]
+    pub fn copy(&self) -> Result<Body, Memory>
+        ensures { IfOk result (λ c. c ≡ self.now) }
+    {
+        match self {
+            Body::Code(code) => Ok(Body::Code(code.copy()?)),
+            Body::Lines(lines) => Ok(Body::Lines(lines.copy()?)),
+            Body::Frames(frames) => Ok(Body::Frames(frames.copy()?)),
+            Body::Source(name) => Ok(Body::Source(*name)),
+            Body::Value(value) => Ok(Body::Value(*value)),
+            Body::Notes(notes) => Ok(Body::Notes(notes.copy()?)),
+            Body::Raw(bytes) => Ok(Body::Raw(bytes.copy()?)),
+        }
+    }
+}
+
+impl Code {
+    /// An equal value.
+    #[cycle(attribute_copy)]
+    pub fn copy(&self) -> Result<Code, Memory>
+        ensures { IfOk result (λ c. c ≡ self.now) }
+    {
+        Ok(Code {
+            max_stack: self.max_stack,
+            max_locals: self.max_locals,
+            insns: self.insns.copy()?,
+            rows: self.rows.copy()?,
+            attrs: copy_attrs(&self.attrs)?,
+        })
+    }
+}
+
+impl Copied for Row {
+    fn copied(&self) -> Result<Row, Memory> {
+        Ok(*self)
+    }
 }

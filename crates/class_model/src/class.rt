@@ -1,6 +1,10 @@
+ghost use Rattle.std.specs.Prelude.{◌≡◌, IfOk};
+
 use crate::attribute::Attr;
 use crate::constant::Const;
+use crate::copies::Copied;
 use crate::list::Seq;
+use crate::memory::Memory;
 
 /// A class file (JVMS 4.1). Indices are those of the constant pool, counted from 1.
 #[derive(Debug, Drop)]
@@ -30,3 +34,49 @@ pub struct Member {
 /// A class of a program, by its number there.
 #[derive(Clone, Copy, Debug, PartialEq, Eq, PartialOrd, Ord, Hash)]
 pub struct ClassId(pub u32);
+
+impl Class {
+    /// An equal value.
+    pub fn copy(&self) -> Result<Class, Memory>
+        ensures { IfOk result (λ c. c ≡ self.now) }
+    {
+        Ok(Class {
+            minor: self.minor,
+            major: self.major,
+            pool: self.pool.copy()?,
+            flags: self.flags,
+            this: self.this,
+            parent: self.parent,
+            interfaces: self.interfaces.copy()?,
+            fields: self.fields.copy()?,
+            methods: self.methods.copy()?,
+            attrs: self.attrs.copy()?,
+        })
+    }
+}
+
+impl Member {
+    /// An equal value.
+    pub fn copy(&self) -> Result<Member, Memory>
+        ensures { IfOk result (λ c. c ≡ self.now) }
+    {
+        Ok(Member {
+            flags: self.flags,
+            name: self.name,
+            desc: self.desc,
+            attrs: self.attrs.copy()?,
+        })
+    }
+}
+
+impl Copied for Member {
+    fn copied(&self) -> Result<Member, Memory> {
+        self.copy()
+    }
+}
+
+impl Copied for ClassId {
+    fn copied(&self) -> Result<ClassId, Memory> {
+        Ok(*self)
+    }
+}

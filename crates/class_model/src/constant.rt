@@ -1,4 +1,8 @@
+ghost use Rattle.std.specs.Prelude.{◌≡◌, IfOk};
+
+use crate::copies::Copied;
 use crate::list::Name;
+use crate::memory::Memory;
 
 /// An entry of the constant pool (JVMS 4.4), under the name that the field has for it.
 /// An index counts the entries from 1.
@@ -34,4 +38,35 @@ pub enum Const {
     Dynamic(u16, u16),
     /// The place behind a `Long` or a `Double`, which nothing may use.
     Second,
+}
+
+impl Const {
+    /// An equal value.
+    pub fn copy(&self) -> Result<Const, Memory>
+        ensures { IfOk result (λ c. c ≡ self.now) }
+    {
+        match self {
+            Const::Utf8(units) => Ok(Const::Utf8(units.copy()?)),
+            Const::Integer(value) => Ok(Const::Integer(*value)),
+            Const::Float(bits) => Ok(Const::Float(*bits)),
+            Const::Long(value) => Ok(Const::Long(*value)),
+            Const::Double(bits) => Ok(Const::Double(*bits)),
+            Const::Class(name) => Ok(Const::Class(*name)),
+            Const::Text(text) => Ok(Const::Text(*text)),
+            Const::Field(class, pair) => Ok(Const::Field(*class, *pair)),
+            Const::Method(class, pair) => Ok(Const::Method(*class, *pair)),
+            Const::IMethod(class, pair) => Ok(Const::IMethod(*class, *pair)),
+            Const::Pair(name, desc) => Ok(Const::Pair(*name, *desc)),
+            Const::Handle(kind, member) => Ok(Const::Handle(*kind, *member)),
+            Const::MethodKind(desc) => Ok(Const::MethodKind(*desc)),
+            Const::Dynamic(bootstrap, pair) => Ok(Const::Dynamic(*bootstrap, *pair)),
+            Const::Second => Ok(Const::Second),
+        }
+    }
+}
+
+impl Copied for Const {
+    fn copied(&self) -> Result<Const, Memory> {
+        self.copy()
+    }
 }

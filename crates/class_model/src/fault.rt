@@ -43,6 +43,53 @@ pub enum ClassFault {
     Memory,
 }
 
+impl ClassFault {
+    ghost use Rattle.class_model.specs.Fault.{number_of, value_of};
+
+    /// The number under which the fault is printed. Want of memory has none.
+    pub fn number(&self) -> Option<u8>
+        ensures { result ≡ number_of self.now }
+    {
+        match self {
+            ClassFault::Truncated { .. } => Some(3),
+            ClassFault::BadText { .. } => Some(4),
+            ClassFault::BadTag { .. } => Some(5),
+            ClassFault::BadIndex { .. } => Some(6),
+            ClassFault::BadOpcode { .. } => Some(7),
+            ClassFault::BadLength { .. } => Some(8),
+            ClassFault::Padding { .. } => Some(9),
+            ClassFault::FloatUsed { .. } => Some(10),
+            ClassFault::DynamicUsed { .. } => Some(11),
+            ClassFault::BadTarget { .. } => Some(12),
+            ClassFault::BadMagic => Some(17),
+            ClassFault::BadVersion { .. } => Some(18),
+            ClassFault::TrailingBytes { .. } => Some(19),
+            ClassFault::Memory => None,
+        }
+    }
+
+    /// The value that is printed behind the number: the place, the major of a version, or else 0.
+    pub fn value(&self) -> u64
+        ensures { result ≡ value_of self.now }
+    {
+        match self {
+            ClassFault::Truncated { at } => *at,
+            ClassFault::BadText { at } => *at,
+            ClassFault::BadTag { at, .. } => *at,
+            ClassFault::BadIndex { at } => *at,
+            ClassFault::BadOpcode { at, .. } => *at,
+            ClassFault::BadLength { at } => *at,
+            ClassFault::Padding { at } => *at,
+            ClassFault::FloatUsed { at } => *at,
+            ClassFault::DynamicUsed { at } => *at,
+            ClassFault::BadTarget { at } => *at,
+            ClassFault::BadVersion { major } => u64::from(*major),
+            ClassFault::TrailingBytes { at } => *at,
+            ClassFault::BadMagic | ClassFault::Memory => 0,
+        }
+    }
+}
+
 impl From<Memory> for ClassFault {
     ghost from_gives = { λ _ e. e ≡ class_fault.Memory };
 

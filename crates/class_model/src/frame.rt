@@ -1,4 +1,8 @@
+ghost use Rattle.std.specs.Prelude.{◌≡◌, IfOk};
+
+use crate::copies::Copied;
 use crate::list::Seq;
+use crate::memory::Memory;
 
 /// A stated frame (JVMS 4.7.4), at the number of the instruction that it stands for.
 #[derive(Debug, Drop, PartialEq, Eq)]
@@ -34,4 +38,43 @@ pub enum VItem {
     Object(u16),
     /// What the `new` at this instruction number made.
     Uninitialized(u32),
+}
+
+impl Frame {
+    /// An equal value.
+    pub fn copy(&self) -> Result<Frame, Memory>
+        ensures { IfOk result (λ c. c ≡ self.now) }
+    {
+        Ok(Frame {
+            at: self.at,
+            shape: self.shape.copy()?,
+        })
+    }
+}
+
+impl Copied for Frame {
+    fn copied(&self) -> Result<Frame, Memory> {
+        self.copy()
+    }
+}
+
+impl Shape {
+    /// An equal value.
+    pub fn copy(&self) -> Result<Shape, Memory>
+        ensures { IfOk result (λ c. c ≡ self.now) }
+    {
+        match self {
+            Shape::Same(extended) => Ok(Shape::Same(*extended)),
+            Shape::One(extended, item) => Ok(Shape::One(*extended, *item)),
+            Shape::Chop(count) => Ok(Shape::Chop(*count)),
+            Shape::Append(items) => Ok(Shape::Append(items.copy()?)),
+            Shape::Full(locals, stack) => Ok(Shape::Full(locals.copy()?, stack.copy()?)),
+        }
+    }
+}
+
+impl Copied for VItem {
+    fn copied(&self) -> Result<VItem, Memory> {
+        Ok(*self)
+    }
 }

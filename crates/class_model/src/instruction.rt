@@ -1,4 +1,8 @@
+ghost use Rattle.std.specs.Prelude.{◌≡◌, IfOk};
+
+use crate::copies::Copied;
 use crate::list::Seq;
+use crate::memory::Memory;
 
 /// An instruction (JVMS 6.5). It keeps the opcode as read, so a list of instructions has one spelling.
 #[derive(Debug, Drop, PartialEq, Eq)]
@@ -31,4 +35,43 @@ pub enum Arg {
     Kind(u8),
     /// The class of `multianewarray` and the number of its dimensions.
     Multi(u16, u8),
+}
+
+impl Insn {
+    /// An equal value.
+    pub fn copy(&self) -> Result<Insn, Memory>
+        ensures { IfOk result (λ c. c ≡ self.now) }
+    {
+        Ok(Insn {
+            op: self.op,
+            wide: self.wide,
+            arg: self.arg.copy()?,
+        })
+    }
+}
+
+impl Copied for Insn {
+    fn copied(&self) -> Result<Insn, Memory> {
+        self.copy()
+    }
+}
+
+impl Arg {
+    /// An equal value.
+    pub fn copy(&self) -> Result<Arg, Memory>
+        ensures { IfOk result (λ c. c ≡ self.now) }
+    {
+        match self {
+            Arg::None => Ok(Arg::None),
+            Arg::Number(value) => Ok(Arg::Number(*value)),
+            Arg::Pool(index) => Ok(Arg::Pool(*index)),
+            Arg::Local(local) => Ok(Arg::Local(*local)),
+            Arg::Inc(local, by) => Ok(Arg::Inc(*local, *by)),
+            Arg::To(target) => Ok(Arg::To(*target)),
+            Arg::Table(default, low, targets) => Ok(Arg::Table(*default, *low, targets.copy()?)),
+            Arg::Lookup(default, rows) => Ok(Arg::Lookup(*default, rows.copy()?)),
+            Arg::Kind(kind) => Ok(Arg::Kind(*kind)),
+            Arg::Multi(index, dimensions) => Ok(Arg::Multi(*index, *dimensions)),
+        }
+    }
 }

@@ -1,4 +1,8 @@
+ghost use Rattle.std.specs.Prelude.{◌≡◌, IfOk};
+
+use crate::copies::Copied;
 use crate::list::{Name, Seq};
+use crate::memory::Memory;
 
 /// A type of a field, an argument or a result (JVMS 4.3.2), without the floats.
 #[derive(Debug, Drop, PartialEq, Eq)]
@@ -19,4 +23,43 @@ pub struct MethodType {
     pub args: Seq<Kind>,
     /// None for `void`.
     pub ret: Option<Kind>,
+}
+
+impl Kind {
+    /// An equal value.
+    pub fn copy(&self) -> Result<Kind, Memory>
+        ensures { IfOk result (λ c. c ≡ self.now) }
+    {
+        match self {
+            Kind::Boolean => Ok(Kind::Boolean),
+            Kind::Byte => Ok(Kind::Byte),
+            Kind::Char => Ok(Kind::Char),
+            Kind::Short => Ok(Kind::Short),
+            Kind::Int => Ok(Kind::Int),
+            Kind::Long => Ok(Kind::Long),
+            Kind::Ref(name) => Ok(Kind::Ref(name.copy()?)),
+        }
+    }
+}
+
+impl Copied for Kind {
+    fn copied(&self) -> Result<Kind, Memory> {
+        self.copy()
+    }
+}
+
+impl MethodType {
+    /// An equal value.
+    pub fn copy(&self) -> Result<MethodType, Memory>
+        ensures { IfOk result (λ c. c ≡ self.now) }
+    {
+        let ret = match &self.ret {
+            Some(kind) => Some(kind.copy()?),
+            None => None,
+        };
+        Ok(MethodType {
+            args: self.args.copy()?,
+            ret,
+        })
+    }
 }

@@ -99,6 +99,15 @@ impl<T> Seq<T> {
 }
 
 impl<T: Copy> Seq<T> {
+    /// The items of the slice.
+    pub fn from_slice(alloc: Global, items: &[T]) -> Result<Seq<T>, Memory>
+        ensures { IfOk result (λ list. list ≡ items.now) }
+    {
+        let mut list = Seq::new(alloc);
+        list.extend_from_slice(items)?;
+        Ok(list)
+    }
+
     /// Adds the items at the end. Where memory runs out the list is unchanged.
     pub fn extend_from_slice(&mut self, more: &[T]) -> Result<(), Memory>
         ensures ok { OnOk result (self.new ≡ self.old ++ more.now) }
@@ -114,11 +123,17 @@ impl<T: Copied + Drop> Seq<T> {
     pub fn copy(&self) -> Result<Seq<T>, Memory>
         ensures { IfOk result (λ c. c ≡ self.now) }
     {
-        let mut copy = self.empty();
+        let mut items = Vec::with_capacity(self.allocator(), self.items.len())?;
         for item in &self.items {
-            copy.push(item.copied()?)?;
+            items.push(item.copied()?)?;
         }
-        Ok(copy)
+        Ok(Seq { items })
+    }
+}
+
+impl<T: Copied + Drop> Copied for Seq<T> {
+    fn copied(&self) -> Result<Seq<T>, Memory> {
+        self.copy()
     }
 }
 

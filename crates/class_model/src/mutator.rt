@@ -1,3 +1,5 @@
+ghost use Rattle.std.specs.Prelude.{◌≡◌};
+
 /// The kinds of mutants, in the order in which the mutants of one instruction are listed.
 #[derive(Clone, Copy, Debug, PartialEq, Eq, PartialOrd, Ord)]
 pub enum Mutator {
@@ -12,4 +14,27 @@ pub enum Mutator {
     TrueReturns,
     NullReturns,
     PrimitiveReturns,
+}
+
+impl Mutator {
+    ghost use Rattle.class_model.specs.MutatorName.{mutator_name};
+
+    /// The name that identifiers and reports print.
+    pub fn name(&self) -> &'static str
+        ensures { result.now ≡ mutator_name self.now }
+    {
+        match self {
+            Mutator::ConditionalsBoundary => "CONDITIONALS_BOUNDARY",
+            Mutator::Increments => "INCREMENTS",
+            Mutator::InvertNegs => "INVERT_NEGS",
+            Mutator::Math => "MATH",
+            Mutator::NegateConditionals => "NEGATE_CONDITIONALS",
+            Mutator::VoidMethodCalls => "VOID_METHOD_CALLS",
+            Mutator::EmptyReturns => "EMPTY_RETURNS",
+            Mutator::FalseReturns => "FALSE_RETURNS",
+            Mutator::TrueReturns => "TRUE_RETURNS",
+            Mutator::NullReturns => "NULL_RETURNS",
+            Mutator::PrimitiveReturns => "PRIMITIVE_RETURNS",
+        }
+    }
 }

@@ -1,5 +1,6 @@
 ghost use Rattle.std.specs.Prelude.{◌≡◌, IfOk};
 
+use crate::copies::Copied;
 use crate::list::Bytes;
 use crate::memory::Memory;
 use std::alloc::Global;
@@ -42,5 +43,11 @@ impl SharedBytes {
         ensures { result.now ≡ self.now }
     {
         self.bytes.as_slice()
+    }
+}
+
+impl Copied for SharedBytes {
+    fn copied(&self) -> Result<SharedBytes, Memory> {
+        self.copy()
     }
 }
