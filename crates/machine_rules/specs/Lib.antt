@@ -1,0 +1,16 @@
+pub mod Names
+pub mod Kinds
+pub mod Instructions
+pub mod Linked
+pub mod Programs
+pub mod State
+pub mod Effects
+pub mod Initialisation
+pub mod Natives
+pub mod Calls
+pub mod Throwing
+pub mod Script
+pub mod Steps
+pub mod Runs
+pub mod Library
+pub mod Worked
