@@ -16,6 +16,7 @@ mod list;
 mod memory;
 mod mutator;
 mod shared;
+mod text;
 
 pub use annotation::{Elem, Note};
 pub use attribute::{Attr, Body, Code, Row};
@@ -31,3 +32,4 @@ pub use list::{Bytes, Name, Seq};
 pub use memory::Memory;
 pub use mutator::Mutator;
 pub use shared::SharedBytes;
+pub use text::{read_text, write_text};
