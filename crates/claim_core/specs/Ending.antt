@@ -1,0 +1,39 @@
+-- Workers that did all cells of a table, and what the least places then are. This project's own.
+use Rattle.std.specs.Prelude.{◌≡◌, ◌≢◌, ◌⊎◌, ℕ, ◌<◌, ◌≤◌, ◌↔◌, List, length, All, Contains, slice_get, Option, Some, None}
+use Rattle.claim_core.specs.declared.events.Entry.{Entry}
+use Rattle.claim_core.specs.declared.events.Event.{Event}
+use Rattle.claim_core.specs.declared.events.Entry.TheVariants.{Claimed, Looked, Detected}
+use Rattle.claim_core.specs.Claims.{Claims, list_of, least_of, place_in, no_place, started, after_all, IsInRange}
+
+-- a run of the table: the mutant, and the place of the test among the tests
+pub record Cell : Type 0 where
+  pub mutant : ℕ
+  pub place : ℕ
+
+-- the worker's reason to leave a cell: a look of its own showed a place below the cell's
+abbrev pub Leaves : List Entry → Cell → Type 0
+Leaves entries cell = (v : ℕ) × Contains entries (Looked cell.mutant v) × (v < cell.place)
+
+-- the worker detects the cell exactly where it is among the detecting ones
+abbrev pub Settles : List Cell → List Entry → Cell → Type 0
+Settles detecting entries cell = Contains entries (Detected cell.mutant cell.place) ↔ Contains detecting cell
+
+-- each cell of the table was claimed, and left or settled by its worker, and nothing else was detected
+pub record IsWholeRun (c : Claims) (table detecting : List Cell) : Type 0 where
+  pub count : length table ≡ c.cells
+  pub cells : All (λ cell. (cell.mutant < length c.least) × (cell.place < no_place)) table
+  pub in_table : All (Contains table) detecting
+  pub claimed : (n : ℕ) → n < c.cells → (w : ℕ) × Contains (list_of c w) (Claimed n)
+  pub done : (w n : ℕ) (cell : Cell) → Contains (list_of c w) (Claimed n) → slice_get table n ≡ Some cell → Leaves (list_of c w) cell ⊎ Settles detecting (list_of c w) cell
+  pub only : (w : ℕ) (cell : Cell) → Contains (list_of c w) (Detected cell.mutant cell.place) → (n : ℕ) × Contains (list_of c w) (Claimed n) × (slice_get table n ≡ Some cell) × Settles detecting (list_of c w) cell
+
+-- the place is the least of the mutant's cells, or none where it has none
+abbrev pub IsLeastOf : List Cell → ℕ → Option ℕ → Type 0
+IsLeastOf detecting mutant (Some place) = Contains detecting (record { mutant = mutant; place = place }) × All (λ cell. cell.mutant ≡ mutant → place ≤ cell.place) detecting
+IsLeastOf detecting mutant None = All (λ cell. cell.mutant ≢ mutant) detecting
+
+-- after any events from the start, where the cells of a table are all done, the least place of each mutant is the least of its detecting cells
+abbrev pub EndsAtLeast : ℕ → ℕ → ℕ → List Event → Type 0
+EndsAtLeast mutants cells workers events =
+    All (IsInRange (started mutants cells workers)) events → (table detecting : List Cell) → IsWholeRun (after_all events (started mutants cells workers)) table detecting
+    → (mutant : ℕ) → mutant < mutants → IsLeastOf detecting mutant (place_in (least_of (after_all events (started mutants cells workers)) mutant))

@@ -1,0 +1,25 @@
+-- A held state of claims, as the claims that it stands for.
+use Rattle.std.specs.Prelude.{◌≡◌, ℕ, ◌+◌, ◌<◌, ◌^◌, List, Bool, map, length}
+use Rattle.claim_core.specs.declared.events.Entry.{Entry}
+use Rattle.claim_core.specs.declared.state.Worker.{Worker}
+use Rattle.claim_core.specs.declared.state.ClaimState.TheInside.{Inside}
+use Rattle.claim_core.specs.Claims.{Claims, is_exhausted}
+use Rattle.claim_core.specs.Agreement.{ClaimsAgree}
+
+abbrev pub entries_of : Worker → List Entry
+entries_of w = w.entries.items
+
+abbrev pub drained_of : Worker → Bool
+drained_of w = w.drained
+
+abbrev pub lists_of : List Worker → List (List Entry)
+lists_of workers = map entries_of workers
+
+abbrev pub claims_of : Inside → Claims
+claims_of s = record { cells = s.cells; next = s.next; least = s.least.items; lists = lists_of s.workers.items }
+
+-- the claims agree, each worker knows whether it drew past the cells, and the numbers never wrap
+pub record IsKept (s : Inside) : Type 0 where
+  pub agree : ClaimsAgree (claims_of s)
+  pub drained : map drained_of s.workers.items ≡ map (is_exhausted s.cells) (lists_of s.workers.items)
+  pub room : s.cells + length s.workers.items < 2 ^ 64

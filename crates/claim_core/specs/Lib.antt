@@ -1,0 +1,4 @@
+pub mod Claims
+pub mod Agreement
+pub mod Ending
+pub mod Held
