@@ -1,0 +1,6 @@
+pub mod Known
+pub mod Lines
+pub mod Kept
+pub mod Same
+pub mod Runs
+pub mod Witness

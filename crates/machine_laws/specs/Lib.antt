@@ -1,0 +1,3 @@
+pub mod Consulted
+pub mod FrameLaw
+pub mod Witness
