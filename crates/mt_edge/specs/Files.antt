@@ -1,0 +1,21 @@
+-- A tree of files: a map from paths to contents, both lists of bytes, with the paths in byte order. This project's own.
+use Rattle.std.specs.Prelude.{ℕ, List, [], ◌∷◌, ◌++◌, Bool, filter}
+use Rattle.std.specs.Bool.{nat_eq}
+use Rattle.std.specs.Ordering.{nat_cmp}
+use Rattle.std.specs.Cmp.Lexicographic.{slice_cmp}
+use Rattle.std.specs.List.{starts_with}
+use Rattle.std.specs.FinMap.{FinMap, keys}
+
+abbrev pub Files : Type 0
+Files = FinMap (slice_cmp nat_cmp) (List ℕ)
+
+abbrev pub begins_with : List ℕ → List ℕ → Bool
+begins_with front path = starts_with nat_eq path front
+
+-- the byte of `/`
+abbrev pub slash : ℕ
+slash = 47
+
+-- the paths below a folder, in byte order
+abbrev pub listed : List ℕ → Files → List (List ℕ)
+listed folder files = filter (begins_with (folder ++ slash ∷ [])) (keys files)

@@ -1,0 +1,30 @@
+-- What a contract sees of the sink and the tree in memory.
+use Rattle.std.specs.Prelude.{ℕ, List}
+use Rattle.mt_edge.specs.Files.{Files}
+use Rattle.mt_edge.specs.Held.{Script, files_of}
+use Rattle.mt_edge.specs.declared.mem_sink.MemSink.{MemSink}
+use Rattle.mt_edge.specs.declared.mem_tree.MemTree.{MemTree}
+
+-- the bytes that were put
+abbrev pub sink_bytes : MemSink → List ℕ
+sink_bytes s = s.bytes
+
+abbrev pub sink_script : MemSink → Script
+sink_script s = s.script
+
+abbrev pub sink_faults : MemSink → ℕ
+sink_faults s = s.faults
+
+-- the files that are held
+abbrev pub tree_files : MemTree → Files
+tree_files t = files_of t.files
+
+abbrev pub tree_script : MemTree → Script
+tree_script t = t.script
+
+-- the faults of `list` and `read`, and those of `replace`
+abbrev pub tree_reading : MemTree → ℕ
+tree_reading t = t.reading
+
+abbrev pub tree_writing : MemTree → ℕ
+tree_writing t = t.writing

@@ -1,0 +1,20 @@
+//! The outside of the tool: a tree of files, a sink of bytes and a meter of steps. The tree and the sink are traits, with a
+//! pair in memory for tests and the real pair, which is trusted to reach the files and the standard output.
+#![tactic(auto)]
+
+mod host;
+mod mem_sink;
+mod mem_tree;
+mod outside;
+mod script;
+mod steps;
+
+pub use host::{HostSink, HostTree};
+pub use mem_sink::MemSink;
+pub use mem_tree::MemTree;
+pub use outside::{EdgeFault, Sink, Tree};
+
+#[cfg(test)]
+mod tests;
+
+pub use steps::{Meter, MeterPart};

@@ -1,0 +1,162 @@
+ghost use Rattle.std.specs.Prelude.{◌≡◌, ◌≢◌, ◌⊎◌, ◌↔◌, ◌++◌, ◌∷◌, [], Some, IfOk, IfSome, OnOk, OnErr, IsErrOf, IsTrue, None, map, filter, string_bytes, MatchOption};
+ghost use Rattle.std.specs.FinMap.{get, insert, keys};
+ghost use Rattle.mt_edge.specs.Causes.{HasCause};
+ghost use Rattle.mt_edge.specs.Files.{begins_with, listed, slash};
+ghost use Rattle.mt_edge.specs.Held.{files_of, files_in, fails, after_call};
+ghost use Rattle.mt_edge.specs.declared.outside.EdgeFault.TheVariants.{Failed};
+
+use crate::outside::{EdgeFault, Tree};
+use crate::script::CallScript;
+use class_model::{Bytes, Memory};
+use std::alloc::Global;
+use std::collections::BTreeMap;
+
+/// A tree in memory, which fails at the calls that it is told to.
+#[derive(Drop)]
+pub struct MemTree {
+    alloc: Global,
+    files: BTreeMap<String, Bytes>,
+    script: CallScript,
+    reading: u64,
+    writing: u64,
+}
+
+// The keys that begin with the prefix.
+fn names(
+    alloc: Global,
+    files: &BTreeMap<String, Bytes>,
+    prefix: &[u8],
+) -> Result<Vec<String>, Memory>
+    ensures { IfOk result (λ v. map string_bytes v.items ≡ filter (begins_with prefix.now) (keys (files_of files.now))) }
+{
+    let mut found = Vec::new(alloc);
+    for key in files.keys() {
+        if key.as_bytes().starts_with(prefix) {
+            found.push(key.clone()?)?;
+        }
+    }
+    Ok(found)
+}
+
+// The folder with a slash behind it.
+fn opened(alloc: Global, folder: &str) -> Result<String, Memory>
+    ensures { IfOk result (λ s. string_bytes s ≡ folder.now ++ slash ∷ []) }
+{
+    let mut prefix = String::from_str(alloc, folder)?;
+    prefix.push('/')?;
+    Ok(prefix)
+}
+
+fn found(files: &BTreeMap<String, Bytes>, path: &str) -> Result<Option<Bytes>, Memory>
+    ensures { IfOk result (λ found. found ≡ get (files_of files.now) path.now) }
+{
+    match files.get(path) {
+        Some(bytes) => Ok(Some(bytes.copy()?)),
+        None => Ok(None),
+    }
+}
+
+fn copied(alloc: Global, bytes: &[u8]) -> Result<Bytes, Memory>
+    ensures { IfOk result (λ copy. copy ≡ bytes.now) }
+{
+    let mut copy = Bytes::new(alloc);
+    copy.extend_from_slice(bytes)?;
+    Ok(copy)
+}
+
+impl MemTree {
+    ghost use Rattle.mt_edge.specs.Shown.{tree_files, tree_script};
+
+    /// A tree of these files; of two at one path the later counts. `failing` has the numbers of the calls, counted from 0, that
+    /// are to fail.
+    pub fn new(
+        alloc: Global,
+        files: Vec<(String, Bytes)>,
+        failing: Vec<u64>,
+    ) -> Result<MemTree, EdgeFault>
+        ensures holds { IfOk result (λ t. tree_files t ≡ files_in files.items) }
+        ensures script { IfOk result (λ t. tree_script t ≡ record { call = 0; failing = failing.items }) }
+        ensures memory { ¬ IsErrOf result Failed }
+    {
+        let mut held = BTreeMap::new(alloc);
+        for (path, bytes) in files {
+            held.insert(path, bytes)?;
+        }
+        Ok(MemTree {
+            alloc,
+            files: held,
+            script: CallScript::new(failing),
+            reading: 0,
+            writing: 0,
+        })
+    }
+
+    /// The bytes that the path holds.
+    pub fn held(&self, path: &str) -> Option<&[u8]>
+        ensures { MatchOption result (get (tree_files self.now) path.now ≡ None) (λ bytes. get (tree_files self.now) path.now ≡ Some bytes.now) }
+    {
+        match self.files.get(path) {
+            Some(bytes) => Some(bytes.as_slice()),
+            None => None,
+        }
+    }
+}
+
+impl Tree for MemTree {
+    ghost use Rattle.mt_edge.specs.Shown.{tree_files, tree_script, tree_reading, tree_writing};
+
+    ghost holds = { λ t. Some (tree_files t) };
+
+    ghost reading = { λ t. tree_reading t };
+
+    ghost writing = { λ t. tree_writing t };
+
+    fn list(&mut self, folder: &str) -> Result<Vec<String>, EdgeFault>
+        ensures names { IfOk result (λ paths. map string_bytes paths.items ≡ listed folder.now (tree_files self.old)) }
+        ensures same { Some (tree_files self.new) ≡ Some (tree_files self.old) }
+        ensures cause { HasCause (tree_reading self.old) (tree_reading self.new) result }
+        ensures other { tree_writing self.new ≡ tree_writing self.old }
+        ensures told { IsErrOf result Failed ↔ IsTrue (fails (tree_script self.old)) }
+        ensures counted { tree_script self.new ≡ after_call (tree_script self.old) }
+    {
+        if self.script.next_fails() {
+            self.reading = self.reading.saturating_add(1);
+            return Err(EdgeFault::Failed);
+        }
+        let prefix = opened(self.alloc, folder)?;
+        Ok(names(self.alloc, &self.files, prefix.as_bytes())?)
+    }
+
+    fn read(&mut self, path: &str) -> Result<Option<Bytes>, EdgeFault>
+        ensures bytes { IfOk result (λ found. found ≡ get (tree_files self.old) path.now) }
+        ensures same { Some (tree_files self.new) ≡ Some (tree_files self.old) }
+        ensures cause { HasCause (tree_reading self.old) (tree_reading self.new) result }
+        ensures other { tree_writing self.new ≡ tree_writing self.old }
+        ensures told { IsErrOf result Failed ↔ IsTrue (fails (tree_script self.old)) }
+        ensures counted { tree_script self.new ≡ after_call (tree_script self.old) }
+    {
+        if self.script.next_fails() {
+            self.reading = self.reading.saturating_add(1);
+            return Err(EdgeFault::Failed);
+        }
+        Ok(found(&self.files, path)?)
+    }
+
+    fn replace(&mut self, path: &str, bytes: &[u8]) -> Result<(), EdgeFault>
+        ensures ok { OnOk result (Some (tree_files self.new) ≡ Some (insert (tree_files self.old) path.now bytes.now)) }
+        ensures err { OnErr result ((Some (tree_files self.new) ≡ Some (tree_files self.old)) ⊎ (Some (tree_files self.new) ≡ Some (insert (tree_files self.old) path.now bytes.now))) }
+        ensures cause { HasCause (tree_writing self.old) (tree_writing self.new) result }
+        ensures other { tree_reading self.new ≡ tree_reading self.old }
+        ensures told { IsErrOf result Failed ↔ IsTrue (fails (tree_script self.old)) }
+        ensures counted { tree_script self.new ≡ after_call (tree_script self.old) }
+    {
+        if self.script.next_fails() {
+            self.writing = self.writing.saturating_add(1);
+            return Err(EdgeFault::Failed);
+        }
+        let key = String::from_str(self.alloc, path)?;
+        let value = copied(self.alloc, bytes)?;
+        self.files.insert(key, value)?;
+        Ok(())
+    }
+}
