@@ -1,8 +1,7 @@
 -- A tree in memory as a map of byte lists.
-use Rattle.std.proofs.Common.{◌≡◌, ℕ, Bool, true, false, cond, T, List, [], ◌∷◌, map, ◌&&◌, refl, sym, ap, ◌∙◌, subst, filter, drop, Bor}
-use Rattle.std.specs.Prelude.{string_bytes, Option, Some, slice_index_or}
+use Rattle.std.proofs.Common.{◌≡◌, ℕ, Bool, true, false, cond, T, List, [], ◌∷◌, map, ◌&&◌, refl, sym, ap, ◌∙◌, subst, drop, Bor}
+use Rattle.std.specs.Prelude.{string_bytes, Some, slice_index_or}
 use Rattle.std.specs.Ordering.{nat_cmp, eq_by_cmp, is_lt}
-use Rattle.std.specs.Cmp.{nat_cmp_total}
 use Rattle.std.specs.Cmp.Lexicographic.{slice_cmp, nat_list_cmp_total}
 use Rattle.std.specs.String.{string_cmp}
 use Rattle.std.specs.Map.{lookup}
@@ -13,8 +12,8 @@ use Rattle.std.specs.declared.string.String.{String}
 use Rattle.std.specs.declared.alloc.Global.{Global}
 use Rattle.std.specs.declared.cmp.Ordering.{Ordering}
 use Rattle.std.specs.declared.cmp.Ordering.TheVariants.{Less, Equal, Greater}
-use Rattle.std.specs.FinMap.{FinMap, get, insert, find, put, keys, entries, is_sorted, from_entries, from_sorted, same_map, slice_cmp-IsAntisymmetric, nat_cmp-IsAntisymmetric, get-from_entries, get-insert, get-from_sorted, entries-from_sorted}
-use Rattle.std.specs.FinMap.Entries.{find-put, below_all, by_order}
+use Rattle.std.specs.FinMap.{get, insert, find, put, keys, entries, is_sorted, from_entries, from_sorted, same_map, slice_cmp-IsAntisymmetric, nat_cmp-IsAntisymmetric, get-from_entries, get-insert, get-from_sorted, entries-from_sorted}
+use Rattle.std.specs.FinMap.Entries.{find-put, below_all}
 use Rattle.mt_edge.specs.Files.{Files}
 use Rattle.mt_edge.specs.Held.{path_and_bytes}
 

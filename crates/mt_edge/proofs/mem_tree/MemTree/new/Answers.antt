@@ -2,7 +2,7 @@ use Rattle.std.proofs.Common.{sym, ap, ◌∙◌, ◌∷◌, [], string_bytes}
 use Rattle.std.specs.FinMap.{insert, from_entries}
 use Rattle.std.proofs.lemmas.List.Sums.{fold-append}
 use Rattle.mt_edge.specs.Files.{Files}
-use Rattle.mt_edge.proofs.Maps.{Held, insert_held, files, put_file}
+use Rattle.mt_edge.proofs.Maps.{insert_held, files, put_file}
 use Rattle.mt_edge.proofs.mem_tree.MemTree.new.Goals as goal
 
 pub loop-path-preserved : goal.loop-path-preserved

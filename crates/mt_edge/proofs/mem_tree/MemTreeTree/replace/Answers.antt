@@ -1,8 +1,5 @@
-use Rattle.std.proofs.Common.{◌≡◌, sym, ap, ◌∙◌, Some, rules}
-use Rattle.std.specs.FinMap.{insert, from_entries}
-use Rattle.std.proofs.Common.{map}
-use Rattle.mt_edge.specs.Held.{path_and_bytes}
-use Rattle.mt_edge.specs.Files.{Files}
+use Rattle.std.proofs.Common.{ap, ◌∙◌, Some}
+use Rattle.std.specs.FinMap.{insert}
 use Rattle.mt_edge.proofs.Maps.{insert_held, files}
 use Rattle.mt_edge.proofs.mem_tree.MemTreeTree.replace.Goals as goal
 
