@@ -2,6 +2,7 @@
 use Rattle.std.specs.Prelude.{ℕ, zero, suc, ◌+◌, ◌==◌, nat_eq, List, [], ◌∷◌, length, take, drop, position, codes, Option, Some, None, option_and_then, Result, Err, ok_or, if◌then◌else◌}
 use Rattle.std.specs.Cmp.Lexicographic.{pointwise}
 use Rattle.std.specs.Option.{option_map}
+use Rattle.class_model.specs.Parting.{parted_at}
 use Rattle.class_model.specs.DeclaredName.{is_class_name}
 use Rattle.class_model.specs.Descriptor.{BaseType, byte, char, double, float, int, long, short, boolean, FieldType, base, object, array, MethodDescriptor, kind_of, method_type}
 use Rattle.class_model.specs.declared.kind.Kind.{Kind}
@@ -25,8 +26,7 @@ base_of letter =
 -- the class behind an L: its name goes up to the first semicolon
 abbrev pub object_at : List ℕ → Option (FieldType × List ℕ)
 object_at units =
-    option_and_then (λ end. if is_class_name (take end units) then Some (object (take end units), drop (end + 1) units) else None)
-    (position (λ unit. unit == 59) units)
+    option_and_then (λ x. if is_class_name x.0 then Some (object x.0, x.1) else None) (parted_at 59 units)
 
 -- the base type or the class whose first unit is known
 abbrev pub element_at : ℕ → List ℕ → Option (FieldType × List ℕ)
