@@ -8,17 +8,17 @@ use Rattle.machine_rules.specs.declared.machine.CallKind.TheVariants.{ClassWide,
 use Rattle.machine_rules.specs.declared.machine.Limits.{Limits}
 use Rattle.machine_rules.specs.Names.{Name}
 use Rattle.machine_rules.specs.Kinds.{Kind, is_of_kind, height_of, is_int_kind, narrow}
-use Rattle.machine_rules.specs.Linked.{Linked, LinkedMethod, LinkedBody, HasCode, IsNative, NoBody, Native, AssertTrue, AssertFalse, is_static, is_interface, method_place, is_from_file, has_class_initializer, has_constant, is_covered}
+use Rattle.machine_rules.specs.Linked.{Linked, LinkedMethod, LinkedBody, HasCode, IsNative, NoBody, Native, AssertTrue, AssertFalse, is_static, is_interface, method_place, is_from_file, has_class_initializer, has_static_constant, is_covered}
 use Rattle.machine_rules.specs.Programs.{Look, supers}
 use Rattle.machine_rules.specs.State.{Call, Object, Frame, World}
 use Rattle.machine_rules.specs.Effects.{Effect, Goes, NoRow, Current, Fault, StackOverflow, fault_object, on_some, on_top, on_int, on_object, on_reversed, reversed_onto, jumps, pushes, locals_of, allocates, throws_from, throws, enters}
 use Rattle.machine_rules.specs.Names.{plain_descriptor}
 use Rattle.machine_rules.specs.Instructions.{MethodRef, Instruction, Nop, NullConstant, IntConstant, LongConstant, TextConstant, ClassConstant, IntLoad, LongLoad, ReferenceLoad, IntStore, LongStore, ReferenceStore, ArrayLoad, ArrayStore, Pop, Pop2, Dup, DupX1, DupX2, Dup2, Dup2X1, Dup2X2, Swap, IntOperation, LongOperation, IntNegate, LongNegate, IntShift, LongShift, Increment, Convert, LongCompare, IfInt, IfInts, IfSame, IfNotSame, IfNull, IfNotNull, Goto, TableSwitch, LookupSwitch, IntReturn, LongReturn, ReferenceReturn, PlainReturn, GetStatic, PutStatic, GetField, PutField, InvokeVirtual, InvokeInterface, InvokeSpecial, InvokeStatic, New, NewArray, NewReferenceArray, NewMultiArray, ArrayLength, Throw, CheckCast, InstanceOf, MonitorEnter, MonitorExit, Unlinked}
-use Rattle.machine_rules.specs.Initialisation.{Need, Ready, Begins, Fails, need_of, initialised_before, needed, begins, when_ready}
+use Rattle.machine_rules.specs.Initialisation.{Need, Ready, Begins, Fails, Unlisted, need_of, needed, begins, when_ready}
 use Rattle.machine_rules.specs.Natives.{Given, Gives, Throws, NotGiven, is_zero, on_boolean, asserts, native}
 use Rattle.machine_rules.specs.Calls.{consult, goes_on, given, runs, same_bool, calls_static, finds_static, static_with, invokes_static, is_object_initializer, invokes_special, room_of, is_awaited, returns, returns_int, returns_plain}
 use Rattle.machine_rules.specs.Throwing.{rows_of, pops, unwinds}
-use Rattle.machine_rules.specs.Script.{new_object, begins_call, begins_with, calls_kind, calls_body, finds_call, call_with, calls_next, needs_static, differ}
+use Rattle.machine_rules.specs.Script.{new_object, begins_call, begins_with, calls_kind, finds_call, call_with, calls_next, needs_static}
 use Rattle.machine_rules.specs.Steps.{int_local, reference_local, pops_word, int_operation, act, line_of, reach, reaches, fetch, goes}
 use Rattle.machine_laws.specs.Consulted.{Seen, AllSeen, IsLibraryWhole, FramesSeen, HeapSeen, KindSeen, HitIf, AllHit, FramesHit}
 use Rattle.machine_laws.proofs.Known.{Grows, grows_in, seen_in, frames_grow, heap_grow, heap_append, fault_seen, first_seen}
@@ -98,12 +98,13 @@ module _ (p : Look) (whole : IsLibraryWhole p) (ns : List Name) (rs : Pairs) (L 
   -- ---- initialisation
 
   fine_begins : (w : World) (fs : List Frame) (n : Name) (c : Option Linked) → Good p ns rs L w fs → Fine p ns rs L (begins w fs n c)
-  fine_begins w fs n c g = fine_if p ns rs L (has_class_initializer c || has_constant c) _ _ tt (going p ns rs L w fs g)
+  fine_begins w fs n c g = fine_if p ns rs L (has_class_initializer c || has_static_constant c) _ _ tt (going p ns rs L w fs g)
 
   pub fine_ready : (w : World) (fs : List Frame) (d : Need) (c : Option Linked) (e : Effect) → Good p ns rs L w fs → Fine p ns rs L e → Fine p ns rs L (when_ready w fs d c e)
   fine_ready w fs Ready c e g h = h
   fine_ready w fs (Begins n) c e g h = fine_begins w fs n c g
   fine_ready w fs Fails c e g h = tt
+  fine_ready w fs Unlisted c e g h = tt
 
   -- ---- natives
 
@@ -155,7 +156,7 @@ module _ (p : Look) (whole : IsLibraryWhole p) (ns : List Name) (rs : Pairs) (L 
   fine_finds_static : (w : World) (f : Frame) (fs : List Frame) (room : ℕ) (r : MethodRef) (c : Option Linked) (ready : Effect → Effect) → Good p ns rs L w (f ∷ fs) → Seen p w.consulted r.class → KeepsFine ready → Fine p ns rs L (finds_static q w f fs room r c ready)
   fine_finds_static w f fs room r None ready g s h = tt
   fine_finds_static w f fs room r (Some c) ready g s h =
-      fine_if p ns rs L (same_bool r.interface (is_interface c.flags)) _ _
+      fine_if p ns rs L (same_bool (is_interface c.flags) r.interface) _ _
       (fine_some p ns rs L (method_place r.name r.desc c.methods) _ (λ k. fine_some p ns rs L (slice_get c.methods k) _ (λ m. fine_calls_static w f fs room r k m ready g s h))) tt
 
   pub fine_static_with : (w : World) (f : Frame) (fs : List Frame) (room : ℕ) (r : MethodRef) (d : Need) → Good p ns rs L w (f ∷ fs) → Seen p w.consulted r.class → Fine p ns rs L (static_with p q w f fs room r d)
@@ -164,7 +165,7 @@ module _ (p : Look) (whole : IsLibraryWhole p) (ns : List Name) (rs : Pairs) (L 
   fine_invokes_static : (w : World) (f : Frame) (fs : List Frame) (room : ℕ) (r : MethodRef) → Good p ns rs L w (f ∷ fs) → Fine p ns rs L (invokes_static p q w f fs room r)
   fine_invokes_static w f fs room r g =
       let s = seen_in p (supers p r.class) w.consulted in
-      fine_static_with (consult p r.class w) f fs room r (need_of p w.inits (initialised_before p r.class)) (good_consult w (f ∷ fs) r.class g) (first_seen p r.class _ s)
+      fine_static_with (consult p r.class w) f fs room r (need_of p w.inits r.class) (good_consult w (f ∷ fs) r.class g) (first_seen p r.class _ s)
 
   fine_invokes_special : (w : World) (f : Frame) (fs : List Frame) (r : MethodRef) → Good p ns rs L w (f ∷ fs) → Fine p ns rs L (invokes_special w f fs r)
   fine_invokes_special w f fs r g = fine_if p ns rs L (is_object_initializer r) _ _ (fine_object p ns rs L f.stack _ (λ x rest. going p ns rs L w (f ∷ fs) g)) tt
@@ -284,26 +285,23 @@ module _ (p : Look) (whole : IsLibraryWhole p) (ns : List Name) (rs : Pairs) (L 
 
   -- ---- the script
 
-  fine_begins_call : (w : World) (c : Call) (rest : List Call) (k max_locals : ℕ) (args : List Value) → Good p ns rs L w [] → Seen p w.consulted c.class → Fine p ns rs L (begins_call q w c rest k max_locals args)
-  fine_begins_call w c rest k max_locals args g s = fine_enters (record w { running = Some c; script = rest }) [] c.class k max_locals args g s
+  fine_begins_call : (w : World) (c : Call) (rest : List Call) (k : ℕ) (body : LinkedBody) (args : List Value) → Good p ns rs L w [] → Seen p w.consulted c.class → Fine p ns rs L (begins_call q w c rest k body args)
+  fine_begins_call w c rest k (HasCode code) args g s = fine_enters (record w { running = Some c; script = rest }) [] c.class k code.max_locals args g s
+  fine_begins_call w c rest k (IsNative n) args g s = tt
+  fine_begins_call w c rest k NoBody args g s = tt
 
-  fine_calls_kind : (w : World) (c : Call) (rest : List Call) (k max_locals : ℕ) (o : Object) (ready : Effect → Effect) (kind : CallKind) → Good p ns rs L w [] → Seen p w.consulted c.class → KindSeen p w.consulted o.kind → KeepsFine ready → Fine p ns rs L (calls_kind q w c rest k max_locals o ready kind)
-  fine_calls_kind w c rest k max_locals o ready ClassWide g s so h = h _ (fine_begins_call w c rest k max_locals [] g s)
-  fine_calls_kind w c rest k max_locals o ready Make g s so h =
-      h _ (fine_allocates p ns rs L q w [] o (1 + length o.values) (begins_with q c rest k max_locals) g so (λ u x e gu. fine_begins_call (record u { instance = Some x }) c rest k max_locals (Ref x ∷ []) gu (subst (λ ks. Seen p ks c.class) (sym e) s)))
-  fine_calls_kind w c rest k max_locals o ready Around g s so h = fine_some p ns rs L w.instance _ (λ x. fine_begins_call w c rest k max_locals (Ref x ∷ []) g s)
-  fine_calls_kind w c rest k max_locals o ready TestMethod g s so h = fine_some p ns rs L w.instance _ (λ x. fine_begins_call w c rest k max_locals (Ref x ∷ []) g s)
-
-  fine_calls_body : (w : World) (c : Call) (rest : List Call) (k : ℕ) (o : Object) (ready : Effect → Effect) (body : LinkedBody) → Good p ns rs L w [] → Seen p w.consulted c.class → KindSeen p w.consulted o.kind → KeepsFine ready → Fine p ns rs L (calls_body q w c rest k o ready body)
-  fine_calls_body w c rest k o ready (HasCode code) g s so h = fine_calls_kind w c rest k code.max_locals o ready c.kind g s so h
-  fine_calls_body w c rest k o ready (IsNative n) g s so h = tt
-  fine_calls_body w c rest k o ready NoBody g s so h = tt
+  fine_calls_kind : (w : World) (c : Call) (rest : List Call) (k : ℕ) (body : LinkedBody) (o : Object) (ready : Effect → Effect) (kind : CallKind) → Good p ns rs L w [] → Seen p w.consulted c.class → KindSeen p w.consulted o.kind → KeepsFine ready → Fine p ns rs L (calls_kind q w c rest k body o ready kind)
+  fine_calls_kind w c rest k body o ready ClassWide g s so h = h _ (fine_begins_call w c rest k body [] g s)
+  fine_calls_kind w c rest k body o ready Make g s so h =
+      h _ (fine_allocates p ns rs L q w [] o (1 + length o.values) (begins_with q c rest k body) g so (λ u x e gu. fine_begins_call (record u { instance = Some x }) c rest k body (Ref x ∷ []) gu (subst (λ ks. Seen p ks c.class) (sym e) s)))
+  fine_calls_kind w c rest k body o ready Around g s so h = fine_some p ns rs L w.instance _ (λ x. fine_begins_call w c rest k body (Ref x ∷ []) g s)
+  fine_calls_kind w c rest k body o ready TestMethod g s so h = fine_some p ns rs L w.instance _ (λ x. fine_begins_call w c rest k body (Ref x ∷ []) g s)
 
   fine_finds_call : (w : World) (c : Call) (rest : List Call) (o : Object) (class : Option Linked) (ready : Effect → Effect) → Good p ns rs L w [] → Seen p w.consulted c.class → KindSeen p w.consulted o.kind → KeepsFine ready → Fine p ns rs L (finds_call q w c rest o class ready)
   fine_finds_call w c rest o None ready g s so h = tt
   fine_finds_call w c rest o (Some class) ready g s so h =
       fine_some p ns rs L (method_place c.method plain_descriptor class.methods) _ (λ k. fine_some p ns rs L (slice_get class.methods k) _ (λ m.
-      fine_if p ns rs L (differ (is_static m.flags) (needs_static c.kind)) _ _ tt (fine_calls_body w c rest k o ready m.body g s so h)))
+      fine_if p ns rs L (same_bool (is_static m.flags) (needs_static c.kind)) _ _ (fine_calls_kind w c rest k m.body o ready c.kind g s so h) tt))
 
   pub fine_call_with : (w : World) (c : Call) (rest : List Call) (d : Need) → Good p ns rs L w [] → AllSeen p w.consulted (supers p c.class) → Fine p ns rs L (call_with p q w c rest d)
   fine_call_with w c rest d g s = fine_finds_call w c rest (new_object p c.class) (p c.class) _ g (first_seen p c.class _ s) s (λ e h. fine_ready w [] d (needed p d) e g h)
@@ -311,7 +309,7 @@ module _ (p : Look) (whole : IsLibraryWhole p) (ns : List Name) (rs : Pairs) (L 
   fine_next : (w : World) (cs : List Call) → Good p ns rs L w [] → Fine p ns rs L (calls_next p q w cs)
   fine_next w [] g = tt
   fine_next w (c ∷ rest) g =
-      fine_call_with (consult p c.class w) c rest (need_of p w.inits (initialised_before p c.class)) (good_consult w [] c.class g) (seen_in p (supers p c.class) w.consulted)
+      fine_call_with (consult p c.class w) c rest (need_of p w.inits c.class) (good_consult w [] c.class g) (seen_in p (supers p c.class) w.consulted)
 
   -- ---- one step
 

@@ -1,6 +1,6 @@
 -- A step is the same on a program that agrees on what was consulted after it.
-use Rattle.std.proofs.Common.{◌≡◌, ℕ, ◌++◌, List, [], ◌∷◌, Option, Some, None, refl, ap, ◌∙◌}
-use Rattle.std.specs.Prelude.{ℤ, if◌then◌else◌, is_none}
+use Rattle.std.proofs.Common.{◌≡◌, ℕ, ◌++◌, Bool, true, false, List, [], ◌∷◌, Option, Some, None, refl, ap, ◌∙◌}
+use Rattle.std.specs.Prelude.{ℤ, if◌then◌else◌, ◌&&◌, is_none}
 use Rattle.machine_rules.specs.declared.value.Value.{Value}
 use Rattle.machine_rules.specs.declared.value.Value.TheVariants.{Int, Long, Ref, Null}
 use Rattle.machine_rules.specs.declared.machine.InitState.{InitState}
@@ -14,7 +14,7 @@ use Rattle.machine_rules.specs.Linked.{is_library, method_in, code_of, is_from_f
 use Rattle.machine_rules.specs.Programs.{Look, supers, consult_in, consulted_with}
 use Rattle.machine_rules.specs.State.{Call, Plain, Frame, World, MachineState}
 use Rattle.machine_rules.specs.Effects.{Effect, Goes, NoRow, Current, on_some, on_int}
-use Rattle.machine_rules.specs.Initialisation.{Need, Ready, Begins, Fails, init_in, init_of, need_before, need_of, initialised_before, needed, when_ready}
+use Rattle.machine_rules.specs.Initialisation.{Need, Ready, Begins, Fails, Unlisted, init_in, init_of, need_with, are_library, behind_first, need_of, needed, when_ready}
 use Rattle.machine_rules.specs.Calls.{consult, goes_on, finds_static, static_with, invokes_static, room_in, returns, returns_int, returns_plain}
 use Rattle.machine_rules.specs.Throwing.{rows_in, pops}
 use Rattle.machine_rules.specs.Script.{own_values, values_of, new_object, finds_call, call_with, calls_next}
@@ -55,16 +55,18 @@ abbrev NeedSeen : Look → List Name → Need → Type 0
 NeedSeen p ns Ready = Unit {0}
 NeedSeen p ns (Begins m) = Seen p ns m
 NeedSeen p ns Fails = Unit {0}
+NeedSeen p ns Unlisted = Unit {0}
 
-before_seen : (p : Look) (ns : List Name) (i : InitState) (n : Name) (d : Need) → Seen p ns n → NeedSeen p ns d → NeedSeen p ns (need_before i n d)
-before_seen p ns Fresh n d s h = s
-before_seen p ns Running n d s h = h
-before_seen p ns Done n d s h = h
-before_seen p ns Failed n d s h = tt
+with_seen : (p : Look) (ns : List Name) (i : InitState) (n : Name) (alone : Bool) → Seen p ns n → NeedSeen p ns (need_with i n alone)
+with_seen p ns Fresh n true s = s
+with_seen p ns Fresh n false s = tt
+with_seen p ns Running n alone s = tt
+with_seen p ns Done n alone s = tt
+with_seen p ns Failed n alone s = tt
 
-need_seen : (p : Look) (ns : List Name) (is : List (Name × InitState)) (ms : List Name) → AllSeen p ns ms → NeedSeen p ns (need_of p is ms)
-need_seen p ns is [] h = tt
-need_seen p ns is (m ∷ ms) h = before_seen p ns (init_of p is m) m (need_of p is ms) h.0 (need_seen p ns is ms h.1)
+behind_seen : (p : Look) (ns ms : List Name) → AllSeen p ns ms → AllSeen p ns (behind_first ms)
+behind_seen p ns [] s = tt
+behind_seen p ns (m ∷ ms) s = s.1
 
 module _ (p p' : Look) (whole : IsLibraryWhole p) (q : Limits) where
   pub consult_same : (n : Name) (ns : List Name) → Agree p p' (consulted_with p n ns) → consulted_with p' n ns ≡ consulted_with p n ns
@@ -72,15 +74,24 @@ module _ (p p' : Look) (whole : IsLibraryWhole p) (q : Limits) where
       let s = seen_in p (supers p n) ns in
       ap (λ ms. consult_in p' ms ns) (supers_same p p' (consulted_with p n ns) a n s) ∙ in_same p p' (consulted_with p n ns) a (supers p n) ns s
 
-  need_same : (ns : List Name) (is : List (Name × InitState)) (ms : List Name) → Agree p p' ns → AllSeen p ns ms → need_of p' is ms ≡ need_of p is ms
-  need_same ns is [] a s = refl
-  need_same ns is (m ∷ ms) a s =
-      ap (λ c. need_before (if is_library c then Done else init_in m is) m (need_of p' is ms)) (a m s.0) ∙ ap (need_before (init_of p is m) m) (need_same ns is ms a s.1)
+  library_same : (ns ms : List Name) → Agree p p' ns → AllSeen p ns ms → are_library p' ms ≡ are_library p ms
+  library_same ns [] a s = refl
+  library_same ns (m ∷ ms) a s = ap (λ c. is_library c && are_library p' ms) (a m s.0) ∙ ap (λ b. is_library (p m) && b) (library_same ns ms a s.1)
+
+  need_same : (ns : List Name) (is : List (Name × InitState)) (n : Name) → Agree p p' ns → AllSeen p ns (supers p n) → need_of p' is n ≡ need_of p is n
+  need_same ns is n a s =
+      ap (λ c. need_with (if is_library c then Done else init_in n is) n (are_library p' (behind_first (supers p' n)))) (a n (first_seen p n ns s))
+      ∙ ap (λ ms. need_with (init_of p is n) n (are_library p' (behind_first ms))) (supers_same p p' ns a n s)
+      ∙ ap (need_with (init_of p is n) n) (library_same ns (behind_first (supers p n)) a (behind_seen p ns (supers p n) s))
+
+  need_seen : (ns : List Name) (is : List (Name × InitState)) (n : Name) → Seen p ns n → NeedSeen p ns (need_of p is n)
+  need_seen ns is n s = with_seen p ns (init_of p is n) n (are_library p (behind_first (supers p n))) s
 
   same_needed : (ns : List Name) (d : Need) → Agree p p' ns → NeedSeen p ns d → needed p' d ≡ needed p d
   same_needed ns Ready a s = refl
   same_needed ns (Begins m) a s = a m s
   same_needed ns Fails a s = refl
+  same_needed ns Unlisted a s = refl
 
   -- ---- instructions
 
@@ -90,13 +101,12 @@ module _ (p p' : Look) (whole : IsLibraryWhole p) (q : Limits) where
       let u = consult p n w in
       let s0 = seen_in p (supers p n) w.consulted in
       let s1 : Seen p u.consulted n = first_seen p n _ s0 in
-      let ms = initialised_before p n in
-      let d = need_of p w.inits ms in
+      let d = need_of p w.inits n in
       let gu = good_consult p whole w.consulted w.reached ⊥ q w (f ∷ fs) n g in
       let a : Agree p p' u.consulted = agree_before p p' u.consulted w.reached ⊥ (invokes_static p q w f fs room r) (fine_static_with p whole u.consulted w.reached ⊥ q u f fs room r d (λ m x. x, gu.1, gu.2, gu.3, gu.4) s1) h in
-      ap (λ ns. static_with p' q (record w { consulted = ns }) f fs room r (need_of p' w.inits ms)) (consult_same n w.consulted a)
-      ∙ ap (static_with p' q u f fs room r) (need_same u.consulted w.inits ms a (s1, tt))
-      ∙ ap (λ c. finds_static q u f fs room r (p' n) (λ e. when_ready u (f ∷ fs) d c e)) (same_needed u.consulted d a (need_seen p u.consulted w.inits ms (s1, tt)))
+      ap (λ ns. static_with p' q (record w { consulted = ns }) f fs room r (need_of p' w.inits n)) (consult_same n w.consulted a)
+      ∙ ap (static_with p' q u f fs room r) (need_same u.consulted w.inits n a s0)
+      ∙ ap (λ c. finds_static q u f fs room r (p' n) (λ e. when_ready u (f ∷ fs) d c e)) (same_needed u.consulted d a (need_seen u.consulted w.inits n s1))
       ∙ ap (λ c. finds_static q u f fs room r c (λ e. when_ready u (f ∷ fs) d (needed p d) e)) (a n s1)
 
   same_returns : (w : World) (fs : List Frame) (v : Option Value) → Agree p p' w.consulted → FramesSeen p w.consulted fs → returns p' w fs v ≡ returns p w fs v
@@ -195,13 +205,12 @@ module _ (p p' : Look) (whole : IsLibraryWhole p) (q : Limits) where
       let u = consult p n w in
       let s0 = seen_in p (supers p n) w.consulted in
       let s1 : Seen p u.consulted n = first_seen p n _ s0 in
-      let ms = initialised_before p n in
-      let d = need_of p w.inits ms in
+      let d = need_of p w.inits n in
       let gu = good_consult p whole w.consulted w.reached ⊥ q w [] n g in
       let a : Agree p p' u.consulted = agree_before p p' u.consulted w.reached ⊥ (calls_next p q w (c ∷ rest)) (fine_call_with p whole u.consulted w.reached ⊥ q u c rest d (λ m x. x, gu.1, gu.2, gu.3, gu.4) s0) h in
-      ap (λ ns. call_with p' q (record w { consulted = ns }) c rest (need_of p' w.inits ms)) (consult_same n w.consulted a)
-      ∙ ap (call_with p' q u c rest) (need_same u.consulted w.inits ms a (s1, tt))
-      ∙ ap (λ x. finds_call q u c rest (new_object p' n) (p' n) (λ e. when_ready u [] d x e)) (same_needed u.consulted d a (need_seen p u.consulted w.inits ms (s1, tt)))
+      ap (λ ns. call_with p' q (record w { consulted = ns }) c rest (need_of p' w.inits n)) (consult_same n w.consulted a)
+      ∙ ap (call_with p' q u c rest) (need_same u.consulted w.inits n a s0)
+      ∙ ap (λ x. finds_call q u c rest (new_object p' n) (p' n) (λ e. when_ready u [] d x e)) (same_needed u.consulted d a (need_seen u.consulted w.inits n s1))
       ∙ ap (λ x. finds_call q u c rest (new_object p' n) x (λ e. when_ready u [] d (needed p d) e)) (a n s1)
       ∙ ap (λ o. finds_call q u c rest o (p n) (λ e. when_ready u [] d (needed p d) e)) (object_same u.consulted n a s0)
 

@@ -1,9 +1,9 @@
 -- A linked class: what a class file says (JVMS 4.1), with names in place of pool indices.
-use Rattle.std.specs.Prelude.{ℕ, suc, ℤ, Bool, true, false, ◌&&◌, nat_eq, nat_le, nat_lt, if◌then◌else◌, List, [], ◌∷◌, Option, Some, None, is_some, slice_get}
+use Rattle.std.specs.Prelude.{ℕ, suc, ℤ, Bool, true, false, ◌&&◌, ◌||◌, nat_eq, nat_le, nat_lt, if◌then◌else◌, List, [], ◌∷◌, Option, Some, None, slice_get}
 use Rattle.std.specs.Int.{bit_at}
 use Rattle.std.specs.List.{list_any}
 use Rattle.machine_rules.specs.Names.{Name, same, class_initializer, plain_descriptor}
-use Rattle.machine_rules.specs.Kinds.{Kind}
+use Rattle.machine_rules.specs.Kinds.{Kind, is_int_kind, is_long_kind, is_text_kind}
 use Rattle.machine_rules.specs.Instructions.{Instruction}
 
 -- A row of the exception table (JVMS 4.7.3): it covers the instructions from `start` up to but not `end`. No class name catches everything.
@@ -31,7 +31,7 @@ pub data Native : Type 0 where
   AssertTrue : Native
   AssertFalse : Native
 
--- What stands behind a method's head. A native method of a class file, or one without a row, has no body.
+-- What stands behind a method's head. An abstract method has no body, nor has a native one without a row.
 pub data LinkedBody : Type 0 where
   HasCode : LinkedCode → LinkedBody
   IsNative : Native → LinkedBody
@@ -96,12 +96,12 @@ abbrev pub code_of : Option LinkedMethod → Option LinkedCode
 code_of None = None
 code_of (Some m) = code_in m.body
 
--- Whether a method is the initializer of its class: the static method of that name and descriptor that has code (JVMS 2.9).
 abbrev pub has_code : LinkedBody → Bool
 has_code (HasCode code) = true
 has_code (IsNative native) = false
 has_code NoBody = false
 
+-- Whether a method is the initializer of its class: the static method of that name and descriptor that has code (JVMS 2.9).
 abbrev pub is_class_initializer : LinkedMethod → Bool
 is_class_initializer m = same m.name class_initializer && same m.desc plain_descriptor && is_static m.flags && has_code m.body
 
@@ -109,10 +109,17 @@ abbrev pub has_class_initializer : Option Linked → Bool
 has_class_initializer None = false
 has_class_initializer (Some c) = list_any is_class_initializer c.methods
 
--- Whether a field of a class has a constant.
-abbrev pub has_constant : Option Linked → Bool
-has_constant None = false
-has_constant (Some c) = list_any (λ f. is_some f.constant) c.fields
+-- Whether a constant is one for a field of this kind: an int for the int kinds, a long for long, a text for String (JVMS 4.7.2).
+abbrev pub fits_kind : Option FieldConstant → Kind → Bool
+fits_kind None k = false
+fits_kind (Some (IntField z)) k = is_int_kind k
+fits_kind (Some (LongField z)) k = is_long_kind k
+fits_kind (Some (TextField t)) k = is_text_kind k
+
+-- Each field that an interface declares counts as static.
+abbrev pub has_static_constant : Option Linked → Bool
+has_static_constant None = false
+has_static_constant (Some c) = list_any (λ f. (is_interface c.flags || is_static f.flags) && fits_kind f.constant f.kind) c.fields
 
 -- The classes that a class names as its supers: the superclass, and then the interfaces in order.
 abbrev pub parents_with : Option Name → List Name → List Name
@@ -133,15 +140,15 @@ is_from_file (Some c) = if c.library then false else true
 
 -- ---- lines
 
--- Whether a row of lines starts no earlier than the one found so far.
-abbrev pub is_no_earlier : LinkedLine → Option LinkedLine → Bool
-is_no_earlier r None = true
-is_no_earlier r (Some best) = nat_le best.start r.start
+-- Whether a row starts later than this one, if there is one.
+abbrev pub is_later : LinkedLine → Option LinkedLine → Bool
+is_later r None = true
+is_later r (Some other) = nat_lt other.start r.start
 
 -- Of the rows that start at or before an instruction the one with the greatest start, of several such rows the last.
-abbrev pub line_row : ℕ → List LinkedLine → Option LinkedLine → Option LinkedLine
-line_row at [] best = best
-line_row at (r ∷ rs) best = line_row at rs (if nat_le r.start at && is_no_earlier r best then Some r else best)
+abbrev pub line_row : ℕ → List LinkedLine → Option LinkedLine
+line_row at [] = None
+line_row at (r ∷ rs) = if nat_le r.start at && is_later r (line_row at rs) then Some r else line_row at rs
 
 abbrev pub line_number : Option LinkedLine → ℕ
 line_number None = 0
@@ -149,7 +156,7 @@ line_number (Some r) = r.line
 
 -- The line of an instruction, 0 where there is none (JVMS 4.7.12; which of several rows counts is this project's own).
 abbrev pub line_at : ℕ → List LinkedLine → ℕ
-line_at at rs = line_number (line_row at rs None)
+line_at at rs = line_number (line_row at rs)
 
 -- ---- exception rows
 
