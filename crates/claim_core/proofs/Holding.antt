@@ -1,7 +1,7 @@
 -- A held state after a step of its code.
-use Rattle.std.proofs.Common.{◌≡◌, ℕ, zero, suc, ◌+◌, ◌^◌, ◌<◌, List, [], ◌∷◌, ◌++◌, Bool, true, false, refl, sym, ap, ◌∙◌, subst, arith, length, map, replicate}
+use Rattle.std.proofs.Common.{◌≡◌, ℕ, zero, suc, ◌+◌, ◌^◌, ◌<◌, List, [], ◌∷◌, ◌++◌, true, false, refl, sym, ap, ◌∙◌, subst, arith, length, map, replicate}
 use Rattle.std.specs.Prelude.{slice_index_or, slice_set, OnErr, Result, Ok, Err, Some, None, nat_lt, if◌then◌else◌}
-use Rattle.std.proofs.lemmas.List.{map-set, get_or-map, length-map, map-append}
+use Rattle.std.proofs.lemmas.List.{map-set, get_or-map, length-map}
 use Rattle.std.proofs.Math.Seq.{map-set_same}
 use Rattle.claim_core.specs.declared.events.Entry.{Entry}
 use Rattle.claim_core.specs.declared.state.Worker.{Worker}

@@ -1,10 +1,9 @@
 -- Every event keeps the agreement.
-use Rattle.std.proofs.Common.{◌≡◌, ◌≢◌, ◌⊎◌, ℕ, zero, suc, ◌+◌, ◌<◌, ◌≤◌, List, [], ◌∷◌, ◌++◌, Bool, true, false, cond, if◌then◌else◌, refl, sym, ap, ◌∙◌, subst, inl, inr, ⊎_elim, arith, true≢false, min, length, replicate}
+use Rattle.std.proofs.Common.{◌≡◌, ◌≢◌, ◌⊎◌, ℕ, zero, suc, ◌+◌, ◌<◌, ◌≤◌, List, [], ◌∷◌, Bool, true, false, if◌then◌else◌, refl, sym, ap, ◌∙◌, subst, inl, inr, ⊎_elim, arith, min, length, replicate}
 use Rattle.std.proofs.Math.Nat.{min-le_left, min-le_right}
-use Rattle.std.proofs.lemmas.Bool.{cases_lt, leb-true, leb-false, lt-leb}
+use Rattle.std.proofs.lemmas.Bool.{cases_lt, leb-false}
 use Rattle.std.proofs.lemmas.List.{get_or-set_same, get_or-set_other, length-set}
-use Rattle.std.proofs.lemmas.List.Sums.{count_by-le-length}
-use Rattle.std.specs.Prelude.{All, AllPairs, Contains, slice_index, slice_index_or, slice_set, count_by, nat_le}
+use Rattle.std.specs.Prelude.{All, AllPairs, Contains, slice_index, slice_index_or, count_by, nat_le}
 use mathlib.Core.Logic.{dite}
 use native.Mathlib.Decide.{ℕ_discrete}
 use Rattle.claim_core.specs.declared.events.Entry.{Entry}
@@ -13,7 +12,7 @@ use Rattle.claim_core.specs.declared.events.Event.{Event}
 use Rattle.claim_core.specs.declared.events.Event.TheVariants.{Claim, Look, Detect}
 use Rattle.claim_core.specs.Claims.{Claims, no_place, list_of, least_of, started, is_past, is_exhausted, noted, claimed, looked, detected, after, IsInRange, after_all}
 use Rattle.claim_core.specs.Agreement.{ClaimsAgree, Ascends, IsFresh}
-use Rattle.claim_core.proofs.Lists.{at, noted_here, noted_else, length-noted, contains_kept, contains_new, contains_noted, contains_was, pairs_noted, count-same, count-more, under_cells, one_if}
+use Rattle.claim_core.proofs.Lists.{at, length-noted, contains_kept, contains_new, contains_noted, contains_was, pairs_noted, count-same, count-more, under_cells, one_if}
 
 number_of : Entry → ℕ
 number_of (Claimed n) = n

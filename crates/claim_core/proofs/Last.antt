@@ -1,13 +1,12 @@
 -- What the least places are once all cells of a table are done.
-use Rattle.std.proofs.Common.{◌≡◌, ◌≢◌, ◌⊎◌, ℕ, ◌<◌, ◌≤◌, List, [], ◌∷◌, Bool, true, false, if◌then◌else◌, refl, sym, ap, ◌∙◌, subst, true≢false, is_some, eq-eqb, ne_eqb, inl, inr, ⊎_elim, arith, length}
+use Rattle.std.proofs.Common.{◌≡◌, ◌≢◌, ◌⊎◌, ℕ, ◌<◌, ◌≤◌, List, if◌then◌else◌, refl, sym, ap, ◌∙◌, subst, true≢false, is_some, eq-eqb, ne_eqb, inl, inr, ⊎_elim, arith, length}
 use Rattle.std.specs.Prelude.{◌↔◌, All, Contains, slice_index_or, slice_get, Some, None, IsNone, IfSome}
 use mathlib.Core.Logic.{dite}
 use native.Mathlib.Decide.{ℕ_discrete}
 use Rattle.std.proofs.lemmas.Option.{slice_get-get_or}
 use Rattle.std.proofs.lemmas.List.Elements.{All-contains_itself}
-use Rattle.claim_core.specs.declared.events.Entry.{Entry}
-use Rattle.claim_core.specs.declared.events.Entry.TheVariants.{Claimed, Looked, Detected}
-use Rattle.claim_core.specs.Claims.{Claims, no_place, place_in, list_of, least_of, started, after_all, IsInRange}
+use Rattle.claim_core.specs.declared.events.Entry.TheVariants.{Detected}
+use Rattle.claim_core.specs.Claims.{Claims, no_place, place_in, list_of, least_of, started, after_all}
 use Rattle.claim_core.specs.Agreement.{ClaimsAgree, IsUndetected, IsLeastDetected}
 use Rattle.claim_core.specs.Ending.{Cell, Leaves, Settles, IsWholeRun, IsLeastOf, EndsAtLeast}
 use Rattle.claim_core.specs.declared.events.Event.{Event}

@@ -28,7 +28,7 @@ pub record ClaimsAgree (c : Claims) : Type 0 where
   -- a looked place is none or somebody's detection, and at most what its worker detected before
   pub looked : (w m v : ℕ) → Contains (list_of c w) (Looked m v) → (v ≡ no_place) ⊎ ((u : ℕ) × Contains (list_of c u) (Detected m v))
   pub fresh : (w : ℕ) → AllPairs IsFresh (list_of c w)
-  -- next is at most the number of cells and of lists that drew past them
+  -- next is at most the number of cells and of lists that have a number at or past it
   pub room : c.next ≤ c.cells + count_by (is_exhausted c.cells) c.lists
 
 -- no list has a detection of the mutant

@@ -12,7 +12,7 @@ use Rattle.claim_core.specs.declared.events.Reply.TheVariants.{Cell, Place, Done
 abbrev pub no_place : ℕ
 no_place = 65535
 
--- how far the numbers are drawn, the least detected place of each mutant, and what each worker did, in its order
+-- the state: how many cells there are, the number that is drawn next, the least detected place of each mutant, and what each worker did, in its order
 pub record Claims : Type 0 where
   pub cells : ℕ
   pub next : ℕ
@@ -58,7 +58,7 @@ looked c worker mutant = record c { lists = noted c.lists worker (Looked mutant 
 abbrev pub detected : Claims → ℕ → ℕ → ℕ → Claims
 detected c worker mutant place = record c { least = slice_set c.least mutant (min (least_of c mutant) place); lists = noted c.lists worker (Detected mutant place) }
 
--- the state after an event. A worker that drew a number past the cells draws no more
+-- the state after an event. A worker that drew a number at or past the cells draws no more
 abbrev pub after : Event → Claims → Claims
 after (Claim worker) c = if is_exhausted c.cells (list_of c worker) then c else claimed c worker
 after (Look worker mutant) c = looked c worker mutant

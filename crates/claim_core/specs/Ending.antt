@@ -18,7 +18,8 @@ Leaves entries cell = (v : ℕ) × Contains entries (Looked cell.mutant v) × (v
 abbrev pub Settles : List Cell → List Entry → Cell → Type 0
 Settles detecting entries cell = Contains entries (Detected cell.mutant cell.place) ↔ Contains detecting cell
 
--- each cell of the table was claimed, and left or settled by its worker, and nothing else was detected
+-- Each cell of the table was claimed. Its worker left or settled it, and detected nothing but cells that it claimed and settled. It is not
+-- asked that a worker looks at a cell that it doesn't leave, or that the look on which it leaves one comes after the claim.
 pub record IsWholeRun (c : Claims) (table detecting : List Cell) : Type 0 where
   pub count : length table ≡ c.cells
   pub cells : All (λ cell. (cell.mutant < length c.least) × (cell.place < no_place)) table
@@ -27,7 +28,7 @@ pub record IsWholeRun (c : Claims) (table detecting : List Cell) : Type 0 where
   pub done : (w n : ℕ) (cell : Cell) → Contains (list_of c w) (Claimed n) → slice_get table n ≡ Some cell → Leaves (list_of c w) cell ⊎ Settles detecting (list_of c w) cell
   pub only : (w : ℕ) (cell : Cell) → Contains (list_of c w) (Detected cell.mutant cell.place) → (n : ℕ) × Contains (list_of c w) (Claimed n) × (slice_get table n ≡ Some cell) × Settles detecting (list_of c w) cell
 
--- the place is the least of the mutant's cells, or none where it has none
+-- the place is the least of the mutant's detecting cells, or none where it has none
 abbrev pub IsLeastOf : List Cell → ℕ → Option ℕ → Type 0
 IsLeastOf detecting mutant (Some place) = Contains detecting (record { mutant = mutant; place = place }) × All (λ cell. cell.mutant ≡ mutant → place ≤ cell.place) detecting
 IsLeastOf detecting mutant None = All (λ cell. cell.mutant ≢ mutant) detecting

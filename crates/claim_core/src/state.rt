@@ -46,6 +46,8 @@ impl ClaimState {
         requires few { mutants < 2 ^ 32 }
         requires room { cells + workers < 2 ^ 64 }
         ensures started { IfOk result (λ state. state ≡ started mutants cells workers) }
+        ensures mutants { IfOk result (λ state. length state.least ≡ mutants) }
+        ensures workers { IfOk result (λ state. length state.lists ≡ workers) }
         ensures agree { IfOk result ClaimsAgree }
     {
         let least = vec![in alloc; NO_PLACE; mutants as usize]?;
@@ -63,8 +65,10 @@ impl ClaimState {
         requires { IsInRange self.old event.now }
         ensures state { OnOk result (self.new ≡ after event.now self.old) }
         ensures reply { IfOk result (λ reply. reply ≡ reply_of event.now self.old) }
-        ensures keeps { ClaimsAgree self.old → ClaimsAgree self.new }
         ensures err { OnErr result (self.new ≡ self.old) }
+        ensures keeps { ClaimsAgree self.old → ClaimsAgree self.new }
+        ensures mutants { length self.new.least ≡ length self.old.least }
+        ensures workers { length self.new.lists ≡ length self.old.lists }
     {
         match *event {
             Event::Claim { worker } => {
@@ -175,7 +179,7 @@ fn note(workers: &mut [Worker], worker: u64, entry: Entry) -> Result<(), Memory>
     Ok(())
 }
 
-// The worker drew a number past the cells.
+// The worker drew a number at or past the cells.
 fn drain(workers: &mut [Worker], worker: u64)
     requires { worker < length workers.old }
     ensures lists { lists_of workers.new ≡ lists_of workers.old }
@@ -183,3 +187,6 @@ fn drain(workers: &mut [Worker], worker: u64)
 {
     workers[worker as usize].drained = true;
 }
+
+#[cfg(test)]
+mod tests;

@@ -1,16 +1,15 @@
-use Rattle.std.proofs.Common.{◌≡◌, ◌<◌, ◌+◌, ◌^◌, ℕ, List, true, false, refl, sym, ap, ◌∙◌, subst, map, length, arith, nat_lt, if◌then◌else◌}
+use Rattle.std.proofs.Common.{◌≡◌, ◌+◌, ℕ, List, true, refl, sym, ap, ◌∙◌, map, length, nat_lt, if◌then◌else◌}
 use Rattle.std.proofs.Math.Facts.{Fits-of_lt}
 use Rattle.std.proofs.lemmas.List.{with_items_is, length-map}
-use Rattle.std.proofs.lemmas.Bool.{le-leb, lt-leb, lt-ltb, ltb-false}
-use Rattle.std.specs.Prelude.{slice_set, Option, Some, None}
+use Rattle.std.proofs.lemmas.Bool.{le-leb, lt-leb}
+use Rattle.std.specs.Prelude.{slice_set, Some, None}
 use Rattle.std.specs.Vec.{with_items}
 use Rattle.claim_core.specs.declared.state.Worker.{Worker}
 use Rattle.claim_core.specs.declared.state.ClaimState.TheInside.{Inside}
 use Rattle.claim_core.specs.declared.events.Entry.TheVariants.{Claimed}
 use Rattle.claim_core.specs.declared.events.Event.TheVariants.{Claim}
-use Rattle.claim_core.specs.declared.events.Reply.{Reply}
 use Rattle.claim_core.specs.declared.events.Reply.TheVariants.{Cell}
-use Rattle.claim_core.specs.Claims.{noted, claimed, is_exhausted, list_of, IsInRange}
+use Rattle.claim_core.specs.Claims.{noted, claimed, is_exhausted, list_of}
 use Rattle.claim_core.specs.Held.{claims_of, entries_of, lists_of, drained_of}
 use Rattle.claim_core.proofs.Keeping.{claimed_agrees}
 use Rattle.claim_core.proofs.Holding.{in_range, told, next_fits, as_many, kept_noted, kept_past, state_claimed, reply_cell}

@@ -1,7 +1,7 @@
 use Rattle.std.proofs.Common.{◌≡◌, refl, sym, ap, ◌∙◌, map}
 use Rattle.claim_core.specs.declared.events.Entry.TheVariants.{Looked}
 use Rattle.claim_core.specs.declared.events.Event.TheVariants.{Look}
-use Rattle.claim_core.specs.Claims.{noted, looked, least_of, IsInRange}
+use Rattle.claim_core.specs.Claims.{noted, looked, least_of}
 use Rattle.std.proofs.lemmas.List.{with_items_is}
 use Rattle.std.specs.Vec.{with_items}
 use Rattle.claim_core.specs.declared.state.ClaimState.TheInside.{Inside}

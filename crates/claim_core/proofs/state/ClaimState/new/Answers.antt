@@ -1,5 +1,4 @@
-use Rattle.std.proofs.Common.{refl, sym, subst}
-use Rattle.claim_core.specs.Agreement.{ClaimsAgree}
+use Rattle.std.proofs.Common.{refl}
 use Rattle.claim_core.proofs.Holding.{kept_idle}
 use Rattle.claim_core.proofs.state.ClaimState.new.Goals as goal
 
