@@ -5,9 +5,9 @@ use Rattle.std.specs.Cmp.Lexicographic.{same_text}
 use Rattle.machine_rules.specs.Names.{Name, same}
 use Rattle.machine_rules.specs.Instructions.{Instruction}
 use Rattle.machine_rules.specs.Linked.{Linked, is_library}
-use Rattle.machine_rules.specs.Programs.{supers}
+use Rattle.machine_rules.specs.Programs.{Look, supers}
 use Rattle.machine_rules.specs.Effects.{Fault, StackOverflow, AssertionFailed, fault_name}
-use Rattle.machine_rules.specs.Library.{library_classes, class_among, first_of}
+use Rattle.machine_rules.specs.Library.{library_classes, class_among, first_of, with_library}
 use Rattle.machine_rules.specs.Worked.{program_with, class_a, class_t, class_d}
 use Rattle.machine_laws.specs.Consulted.{Seen, AllSeen, Agree, IsLibraryWhole}
 use Rattle.machine_laws.specs.Witness.{wider_program}
@@ -42,23 +42,28 @@ from_library : (cs : List (Name × Linked)) → NoLibrary cs → (n : Name) (oth
 from_library [] h n other s = s
 from_library (c ∷ cs) h n other s = file_case c.1 (class_among cs n) other (same c.0 n) h.0 (from_library cs h.1 n other) s
 
-module _ (code : List Instruction) where
-  each_seen : Every (λ n. AllSeen (program_with code) [] (supers (program_with code) n)) library_classes
+-- a program of a class A and a class T, neither of them of the library
+module _ (a t : Linked) (ha : a.library ≡ false) (ht : t.library ≡ false) where
+  abbrev pub pair_program : Look
+  pair_program = with_library ((codes "A", a) ∷ (codes "T", t) ∷ [])
+
+  each_seen : Every (λ n. AllSeen pair_program [] (supers pair_program n)) library_classes
   unfolding supers
   each_seen = ((refl, tt), ((refl, (refl, tt)), ((refl, (refl, (refl, tt))), ((refl, (refl, (refl, (refl, tt)))), ((refl, (refl, (refl, (refl, tt)))), ((refl, (refl, (refl, (refl, (refl, tt))))), ((refl, (refl, tt)), tt)))))))
 
-  whole_supers : (n : Name) → is_library (program_with code n) ≡ true → AllSeen (program_with code) [] (supers (program_with code) n)
+  whole_supers : (n : Name) → is_library (pair_program n) ≡ true → AllSeen pair_program [] (supers pair_program n)
   whole_supers n h =
-      every_name (λ m. AllSeen (program_with code) [] (supers (program_with code) m)) library_classes each_seen n
-      (some_library (class_among library_classes n) (from_library ((codes "A", class_a code) ∷ (codes "T", class_t) ∷ []) (refl, (refl, tt)) n (class_among library_classes n) h))
+      every_name (λ m. AllSeen pair_program [] (supers pair_program m)) library_classes each_seen n
+      (some_library (class_among library_classes n) (from_library ((codes "A", a) ∷ (codes "T", t) ∷ []) (ha, (ht, tt)) n (class_among library_classes n) h))
 
-  whole_faults : (x : Fault) → is_library (program_with code (fault_name x)) ≡ true
+  whole_faults : (x : Fault) → is_library (pair_program (fault_name x)) ≡ true
   whole_faults StackOverflow = refl
   whole_faults AssertionFailed = refl
 
-  pub whole : IsLibraryWhole (program_with code)
+  pub whole : IsLibraryWhole pair_program
   whole = record { supers = whole_supers; faults = whole_faults }
 
+module _ (code : List Instruction) where
   further_case : (c : Linked) (other : Name → Option Linked) (n : Name) (b : Bool) → b ≡ same (codes "B") n → Seen (program_with code) (codes "T" ∷ codes "A" ∷ []) n → first_of (if b then Some c else other n) (class_among library_classes n) ≡ first_of (other n) (class_among library_classes n)
   further_case c other n true e s = absurd (subst (λ m. Seen (program_with code) (codes "T" ∷ codes "A" ∷ []) m → ⊥) (same_text (codes "B") n e) (λ h. cc) s)
   further_case c other n false e s = refl

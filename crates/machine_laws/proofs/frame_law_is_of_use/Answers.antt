@@ -4,7 +4,7 @@ use Rattle.machine_rules.specs.Programs.{supers}
 use Rattle.machine_rules.specs.Steps.{act, step_of}
 use Rattle.machine_rules.specs.State.{plain_test}
 use Rattle.machine_rules.specs.Runs.{With}
-use Rattle.machine_rules.specs.Worked.{f_code, program_with, roomy, neg_run}
+use Rattle.machine_rules.specs.Worked.{class_a, class_t, f_code, program_with, roomy, neg_run}
 use Rattle.machine_laws.specs.Consulted.{Agree}
 use Rattle.machine_laws.specs.FrameLaw.{WentRight}
 use Rattle.machine_laws.specs.Witness.{wider_program}
@@ -25,7 +25,7 @@ agrees = subst (Agree (program_with f_code) (wider_program f_code)) (sym consult
 
 pub returns : goal.returns
 returns c = record {
-  whole = whole f_code;
+  whole = whole (class_a f_code) class_t refl refl;
   agree = agrees;
-  same = tests_depend (program_with f_code) (wider_program f_code) (plain_test (codes "T") (codes "neg")) roomy 1000000000 (whole f_code) (subst WentRight (sym ending) tt) agrees;
+  same = tests_depend (program_with f_code) (wider_program f_code) (plain_test (codes "T") (codes "neg")) roomy 1000000000 (whole (class_a f_code) class_t refl refl) (subst WentRight (sym ending) tt) agrees;
 }

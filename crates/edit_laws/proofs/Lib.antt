@@ -1,0 +1,5 @@
+mod Places
+mod Exchange
+mod Lockstep
+mod Unreached
+mod Reached
