@@ -64,6 +64,43 @@ tested {F} {A} r s P test fault codec = record {
   again = λ y at rest q. rw (codec.again y at rest q.0, q.1) refl;
 }
 
+-- The same where the fault tells what was read.
+pub tested_by : {F A : Type 0} (read : Reader F A) (spell : Speller A) (P : A → Type 0) (test : A → Bool) (fault : A → F) → IsCodecAt read spell P
+    → IsCodecAt (λ input. read input >>= λ x. cond (test x.0) (Ok x) (Err (fault x.0))) spell (λ x. P x × (test x ≡ true))
+tested_by {F} {A} r s P test fault codec = record {
+  takes = λ input y rest bytes h.
+      let a = bind_ok (r input) (λ x. cond (test x.0) (Ok x) (Err (fault x.0))) (y, rest) h in
+      let g = guard_passed (test a.0.0) (fault a.0.0) a.0 (y, rest) a.2 in
+      let t = codec.takes input a.0.0 a.0.1 bytes a.1 in
+      subst (λ (z : A × Input). Takes input (s input.at z.0) z.1 × (P z.0 × (test z.0 ≡ true))) g.1 (t.0, (t.1, g.0));
+  again = λ y at rest q. rw (codec.again y at rest q.0, q.1) refl;
+}
+
+-- A value that is made of what was read, where that passes a test.
+pub made_tested : {F A B : Type 0} (read : Reader F A) (spell : Speller A) (P : A → Type 0) (test : A → Bool) (fault : A → F) (make : A → B) (part : B → A) (Q : B → Type 0)
+    → IsCodecAt read spell P → ((a : A) → P a → test a ≡ true → Q (make a) × (part (make a) ≡ a)) → ((b : B) → Q b → P (part b) × (test (part b) ≡ true) × (make (part b) ≡ b))
+    → IsCodecAt (λ input. read input >>= λ x. cond (test x.0) (Ok (make x.0, x.1)) (Err (fault x.0))) (λ at b. spell at (part b)) Q
+made_tested {F} {A} {B} r s P test fault f g Q codec there back = record {
+  takes = λ input y rest bytes e.
+      let a = bind_ok (r input) (λ x. cond (test x.0) (Ok (f x.0, x.1)) (Err (fault x.0))) (y, rest) e in
+      let m : B × Input = (f a.0.0, a.0.1) in
+      let passed = guard_passed (test a.0.0) (fault a.0.0) m (y, rest) a.2 in
+      let t = codec.takes input a.0.0 a.0.1 bytes a.1 in
+      let known = there a.0.0 t.1 passed.0 in
+      subst (λ (z : B × Input). Takes input (s input.at (g z.0)) z.1 × Q z.0) passed.1
+      (subst (λ (z : A). Takes input (s input.at z) a.0.1) (sym known.1) t.0, known.0);
+  again = λ y at rest q.
+      let known = back y q in
+      rw (codec.again (g y) at rest known.0, known.1) (ap (λ (z : B). done {F = F} {A = B × Input} (z, input_at (at + length (s at (g y))) rest)) known.2);
+}
+
+-- The same reader, said in another way.
+pub reread : {F A : Type 0} (read other : Reader F A) (spell : Speller A) (P : A → Type 0) → ((input : Input) → other input ≡ read input) → IsCodecAt read spell P → IsCodecAt other spell P
+reread read other spell P same codec = record {
+  takes = λ input y rest bytes e. codec.takes input y rest bytes (sym (same input) ∙ e);
+  again = λ y at rest q. same (input_at at (spell at y ++ rest)) ∙ codec.again y at rest q;
+}
+
 -- One of two ways, by a test of what is known before.
 pub either : {F A : Type 0} (test : Bool) (left right : Reader F A) (spell : Speller A) (P : A → Type 0) → (test ≡ true → IsCodecAt left spell P) → (test ≡ false → IsCodecAt right spell P) → IsCodecAt (λ input. cond test (left input) (right input)) spell P
 either true left right spell P is_left is_right = is_left refl

@@ -4,3 +4,5 @@ pub mod Numbers
 pub mod Many
 pub mod Whole
 pub mod Loops
+pub mod Meets
+pub mod Skipped

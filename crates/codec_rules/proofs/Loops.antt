@@ -3,11 +3,11 @@ use Rattle.std.proofs.Common.{◌≡◌, ℕ, suc, ◌-◌, ◌+◌, ◌≤◌, 
 use Rattle.std.proofs.lemmas.List.{append-nil}
 use Rattle.codec_rules.specs.Input.{Input, IsBytes}
 use Rattle.codec_rules.specs.Sequence.{◌>>=◌}
-use Rattle.codec_rules.specs.Reading.{Reader, many_at, whole_at, until_end, with_front, with_values}
+use Rattle.codec_rules.specs.Reading.{Reader, Shortens, many_at, whole_at, until_end, with_front, with_values}
 use Rattle.codec_rules.specs.Meets.{Fails}
 use Rattle.codec_rules.specs.Spelling.{Speller, IsCodecAt, IsFilled}
 use Rattle.codec_rules.proofs.Sequence.{done}
-use Rattle.codec_rules.proofs.Whole.{shorter, enough_turns}
+use Rattle.codec_rules.proofs.Whole.{codec_shortens, enough_turns}
 use Rattle.std.proofs.lemmas.Bool.{ne_eqb}
 
 regroup : {F A : Type 0} (front : List A) (value : A) (read : Result (List A × Input) F) → with_front front (read >>= λ x. Ok (value ∷ x.0, x.1)) ≡ with_front (front ++ value ∷ []) read
@@ -54,18 +54,22 @@ whole_turn read n input some =
     ap (λ (turns : ℕ). whole_at read turns input) some ∙ rw more refl
 
 -- one more value was read
-pub whole_goes_on : {F A : Type 0} (read : Reader F A) (spell : Speller A) (P : A → Type 0) → IsCodecAt read spell P → IsFilled spell → (front : List A) (input : Input) (value : A) (after : Input) (total : Result (List A) F) → 0 < length input.bytes → IsBytes input.bytes → read input ≡ Ok (value, after)
+pub until_goes_on : {F A : Type 0} (read : Reader F A) → Shortens read → (front : List A) (input : Input) (value : A) (after : Input) (total : Result (List A) F) → 0 < length input.bytes → IsBytes input.bytes → read input ≡ Ok (value, after)
     → with_values front (until_end read input) ≡ total → with_values (front ++ value ∷ []) (until_end read after) ≡ total
 unfolding whole_at
-whole_goes_on {F} {A} read spell P codec filled front input value after total some bytes h so_far =
+until_goes_on {F} {A} read shortens front input value after total some bytes h so_far =
     let n = length input.bytes - 1 in
     let k : length input.bytes ≡ suc n = omega arith in
-    let less = shorter read spell P codec filled input value after bytes h in
-    let fits = (codec.takes input value after bytes h).0.rest_fits in
-    let same : whole_at read n after ≡ until_end read after = enough_turns read spell P codec filled n (length after.bytes) after (omega (arith, less)) (omega arith) fits in
+    let less = shortens input value after bytes h in
+    let same : whole_at read n after ≡ until_end read after = enough_turns read shortens n (length after.bytes) after (omega (arith, less.0)) (omega arith) less.1 in
     let turn : until_end read input ≡ (whole_at read n after >>= λ values. Ok (value ∷ values)) = whole_turn read n input k ∙ rw h refl in
     let one : with_values front (until_end read input) ≡ with_values (front ++ value ∷ []) (until_end read after) = rw (turn, same) (regroup_values front value (until_end read after)) in
     sym one ∙ so_far
+
+-- the same of a codec
+pub whole_goes_on : {F A : Type 0} (read : Reader F A) (spell : Speller A) (P : A → Type 0) → IsCodecAt read spell P → IsFilled spell → (front : List A) (input : Input) (value : A) (after : Input) (total : Result (List A) F) → 0 < length input.bytes → IsBytes input.bytes → read input ≡ Ok (value, after)
+    → with_values front (until_end read input) ≡ total → with_values (front ++ value ∷ []) (until_end read after) ≡ total
+whole_goes_on read spell P codec filled = until_goes_on read (codec_shortens read spell P codec filled)
 
 -- the next value has a fault
 pub whole_ends : {F A : Type 0} (memory fault : F) (read : Reader F A) (front : List A) (input : Input) (total : Result (List A) F) → 0 < length input.bytes → Fails memory fault (read input) → with_values front (until_end read input) ≡ total → Fails memory fault total

@@ -1,6 +1,6 @@
 -- What is known of the steps of a sequence that came to its end.
-use Rattle.std.proofs.Common.{◌≡◌, Bool, true, false, cond, Result, Ok, Err, refl}
-use Rattle.codec_rules.specs.Sequence.{◌>>=◌, or_fault}
+use Rattle.std.proofs.Common.{◌≡◌, Bool, true, false, cond, Option, Some, None, Result, Ok, Err, refl}
+use Rattle.codec_rules.specs.Sequence.{◌>>=◌, or_fault, unless}
 
 -- a value, as a step that gives it
 abbrev pub done : {F A : Type 0} → A → Result A F
@@ -28,3 +28,8 @@ guard_ok false fault a b e = (refl, cc)
 pub guard_passed : {F A : Type 0} (test : Bool) (fault : F) (a b : A) → cond test (Ok a) (Err fault) ≡ Ok b → (test ≡ true) × (a ≡ b)
 guard_passed true fault a b e = (refl, cc)
 guard_passed false fault a b e = absurd cc
+
+-- a value passed, so there was no fault
+pub unless_ok : {F A : Type 0} (fault : Option F) (a b : A) → unless fault a ≡ Ok b → (fault ≡ None) × (a ≡ b)
+unless_ok {F} None a b e = (refl, ok_is {F = F} a b e)
+unless_ok (Some fault) a b e = absurd cc

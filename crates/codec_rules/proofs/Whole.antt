@@ -5,7 +5,7 @@ use Rattle.std.proofs.lemmas.Bool.{eqb-true, ne_eqb}
 use Rattle.std.proofs.lemmas.List.{length-append, nil_from_length}
 use Rattle.codec_rules.specs.Input.{Input, IsBytes}
 use Rattle.codec_rules.specs.Sequence.{◌>>=◌}
-use Rattle.codec_rules.specs.Reading.{Reader, whole_at}
+use Rattle.codec_rules.specs.Reading.{Reader, Shortens, whole_at}
 use Rattle.codec_rules.specs.Spelling.{Speller, IsCodecAt, IsFilled, IsWhole, input_at, spelled_from}
 use Rattle.codec_rules.proofs.Sequence.{bind_ok, ok_is}
 
@@ -66,23 +66,26 @@ shorter r s P codec filled input value rest bytes e =
     let len : length input.bytes ≡ length (s input.at value) + length rest.bytes = ap (λ (x : List ℕ). length x) t.0.parts ∙ length-append (s input.at value) rest.bytes in
     omega (arith, len, filled input.at value)
 
+pub codec_shortens : {F A : Type 0} (read : Reader F A) (spell : Speller A) (P : A → Type 0) → IsCodecAt read spell P → IsFilled spell → Shortens read
+codec_shortens read spell P codec filled = λ input value rest bytes e. (shorter read spell P codec filled input value rest bytes e, (codec.takes input value rest bytes e).0.rest_fits)
+
 abbrev Same : {F A : Type 0} → Reader F A → ℕ → ℕ → Input → Type 0
 Same read turns more input = whole_at read turns input ≡ whole_at read more input
 
 -- a turn, where the turns after it are known
-same_turn : {F A : Type 0} (read : Reader F A) (spell : Speller A) (P : A → Type 0) → IsCodecAt read spell P → IsFilled spell → (n m : ℕ)
+same_turn : {F A : Type 0} (read : Reader F A) → Shortens read → (n m : ℕ)
     → ((i : Input) → length i.bytes ≤ n → length i.bytes ≤ m → IsBytes i.bytes → Same read n m i)
     → (input : Input) → length input.bytes ≤ suc n → length input.bytes ≤ suc m → IsBytes input.bytes → (first : Result (A × Input) F) → read input ≡ first → Same read (suc n) (suc m) input
 unfolding whole_at
-same_turn {F} {A} r s P codec filled n m later input le lm bytes (Ok x) e =
-    let less = shorter r s P codec filled input x.0 x.1 bytes e in
-    rw (e, later x.1 (omega (arith, less)) (omega (arith, less)) ((codec.takes input x.0 x.1 bytes e).0.rest_fits)) refl
-same_turn r s P codec filled n m later input le lm bytes (Err fault) e = rw e refl
+same_turn {F} {A} r shortens n m later input le lm bytes (Ok x) e =
+    let less = shortens input x.0 x.1 bytes e in
+    rw (e, later x.1 (omega (arith, less.0)) (omega (arith, less.0)) less.1) refl
+same_turn r shortens n m later input le lm bytes (Err fault) e = rw e refl
 
 -- more turns than there are bytes change nothing
-pub enough_turns : {F A : Type 0} (read : Reader F A) (spell : Speller A) (P : A → Type 0) → IsCodecAt read spell P → IsFilled spell → (n m : ℕ) (input : Input) → length input.bytes ≤ n → length input.bytes ≤ m → IsBytes input.bytes → whole_at read n input ≡ whole_at read m input
+pub enough_turns : {F A : Type 0} (read : Reader F A) → Shortens read → (n m : ℕ) (input : Input) → length input.bytes ≤ n → length input.bytes ≤ m → IsBytes input.bytes → whole_at read n input ≡ whole_at read m input
 unfolding whole_at
-enough_turns r s P codec filled zero zero input le lm bytes = refl
-enough_turns r s P codec filled zero (suc m) input le lm bytes = let none : length input.bytes ≡ 0 = omega arith in rw none refl
-enough_turns r s P codec filled (suc n) zero input le lm bytes = let none : length input.bytes ≡ 0 = omega arith in rw none refl
-enough_turns r s P codec filled (suc n) (suc m) input le lm bytes = same_turn r s P codec filled n m (enough_turns r s P codec filled n m) input le lm bytes (r input) refl
+enough_turns r shortens zero zero input le lm bytes = refl
+enough_turns r shortens zero (suc m) input le lm bytes = let none : length input.bytes ≡ 0 = omega arith in rw none refl
+enough_turns r shortens (suc n) zero input le lm bytes = let none : length input.bytes ≡ 0 = omega arith in rw none refl
+enough_turns r shortens (suc n) (suc m) input le lm bytes = same_turn r shortens n m (enough_turns r shortens n m) input le lm bytes (r input) refl

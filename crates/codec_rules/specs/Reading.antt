@@ -1,7 +1,7 @@
 -- Reading at the front of an input: the value and what is left, or the first fault (this project's own).
-use Rattle.std.specs.Prelude.{ℕ, zero, suc, List, [], ◌∷◌, ◌++◌, length, take, Result, Ok, Err, nat_lt, ◌==◌, if◌then◌else◌}
+use Rattle.std.specs.Prelude.{◌≡◌, ◌<◌, ℕ, zero, suc, List, [], ◌∷◌, ◌++◌, length, take, Result, Ok, Err, nat_lt, ◌==◌, if◌then◌else◌}
 use Rattle.std.specs.Int.{Width, byte_len, from_be_bytes}
-use Rattle.codec_rules.specs.Input.{Input, behind}
+use Rattle.codec_rules.specs.Input.{Input, IsBytes, behind}
 use Rattle.codec_rules.specs.Sequence.{◌>>=◌}
 
 -- A reading function of values A with faults F.
@@ -43,3 +43,7 @@ with_front front read = read >>= λ x. Ok (front ++ x.0, x.1)
 -- The same where nothing is left.
 abbrev pub with_values : {F A : Type 0} → List A → Result (List A) F → Result (List A) F
 with_values front read = read >>= λ values. Ok (front ++ values)
+
+-- Each value that is read leaves fewer bytes.
+abbrev pub Shortens : {F A : Type 0} → Reader F A → Type 0
+Shortens {F} {A} read = (input : Input) (value : A) (rest : Input) → IsBytes input.bytes → read input ≡ Ok (value, rest) → (length rest.bytes < length input.bytes) × IsBytes rest.bytes
