@@ -1,11 +1,12 @@
 -- A name that is parted at a unit is what stands before, the unit, and what stands behind.
-use Rattle.std.proofs.Common.{◌≡◌, ℕ, ◌+◌, ◌<◌, ◌≤◌, Bool, true, false, cond, eqb, List, [], ◌∷◌, ◌++◌, length, take, drop, Option, Some, None, refl, sym, ap, subst, ◌∙◌, arith}
-use Rattle.std.specs.Prelude.{nat_lt, position}
+use Rattle.std.proofs.Common.{◌≡◌, ℕ, ◌+◌, ◌<◌, Bool, true, false, eqb, List, [], ◌∷◌, ◌++◌, length, take, drop, slice_index_or, Some, None, refl, sym, ap, subst, ◌∙◌, arith, length-append}
+use Rattle.std.specs.Prelude.{nat_lt}
 use Rattle.std.specs.List.{All, slice_split, position_or_len, before_first, after_first}
 use Rattle.std.proofs.lemmas.Grind.{common_steps}
-use Rattle.std.proofs.lemmas.Bool.{ltb-true, ltb-false, eqb-true, eq-eqb}
-use Rattle.std.proofs.lemmas.List.Sums.{split_at_first, fails_before_first, passes_at_first}
+use Rattle.std.proofs.lemmas.Bool.{ltb-true, ltb-false, lt-ltb, eqb-true, eq-eqb}
+use Rattle.std.proofs.lemmas.List.Sums.{split_at_first, fails_before_first, passes_at_first, position_or_len_is}
 use Rattle.std.proofs.lemmas.List.Splits.{slice_split_none, slice_split_at}
+use Rattle.std.proofs.Math.Seq.{drop-append-add}
 use Rattle.class_model.specs.Parting.{parted_at}
 
 abbrev is : ℕ → ℕ → Bool
@@ -55,3 +56,24 @@ parts_go_on unit units before behind e =
 
 pub parts_end : (unit : ℕ) (units : List ℕ) → parted_at unit units ≡ None → slice_split (is unit) units ≡ units ∷ []
 parts_end unit units e = slice_split_none (is unit) units (all_free unit units _ refl e)
+
+-- ---- parting again what was put together
+
+after_front : (unit : ℕ) (before behind : List ℕ) (k d : ℕ) → k < length before → All (λ other. eqb other unit ≡ false) before → is unit (slice_index_or (before ++ unit ∷ behind) k d) ≡ false
+after_front unit before behind k d lt free = let f = free k d lt in grind (arith, common_steps)
+
+at_unit : (unit : ℕ) (before behind : List ℕ) (d : ℕ) → is unit (slice_index_or (before ++ unit ∷ behind) (length before) d) ≡ true
+at_unit unit before behind d = let e = eq-eqb unit unit refl in grind (arith, common_steps)
+
+place_again : (unit : ℕ) (before behind : List ℕ) → All (λ other. eqb other unit ≡ false) before → position_or_len (is unit) (before ++ unit ∷ behind) ≡ length before
+place_again unit before behind free =
+    let sum = length-append before (unit ∷ behind) in
+    position_or_len_is (is unit) (before ++ unit ∷ behind) (length before) 0 (omega (arith, sum)) (λ k lt. after_front unit before behind k 0 lt free) (λ lt. at_unit unit before behind 0)
+
+pub parted_again : (unit : ℕ) (before behind : List ℕ) → All (λ other. eqb other unit ≡ false) before → parted_at unit (before ++ unit ∷ behind) ≡ Some (before, behind)
+parted_again unit before behind free =
+    let sum = length-append before (unit ∷ behind) in
+    let here : length before < length (before ++ unit ∷ behind) = omega (arith, sum) in
+    let front : take (length before) (before ++ unit ∷ behind) ≡ before = grind (arith, common_steps) in
+    let back : drop (length before + 1) (before ++ unit ∷ behind) ≡ behind = drop-append-add before (unit ∷ behind) 1 in
+    rw (place_again unit before behind free, lt-ltb _ _ here, front, back) refl

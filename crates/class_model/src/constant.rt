@@ -4,8 +4,7 @@ use crate::copies::Copied;
 use crate::list::Name;
 use crate::memory::Memory;
 
-/// An entry of the constant pool (JVMS 4.4), under the name that the field has for it.
-/// An index counts the entries from 1.
+/// An entry of the constant pool (JVMS 4.4). An index counts the entries from 1.
 #[derive(Debug, Drop, PartialEq, Eq)]
 pub enum Const {
     /// A text: tag 1.
@@ -20,19 +19,19 @@ pub enum Const {
     Double(u64),
     /// A class by the index of its name: tag 7.
     Class(u16),
-    /// A string by the index of its text: tag 8.
+    /// A string by the index of its text, CONSTANT_String: tag 8.
     Text(u16),
     /// A field by the indices of its class and its pair: tag 9.
     Field(u16, u16),
     /// A class's method by the indices of its class and its pair: tag 10.
     Method(u16, u16),
-    /// An interface's method by the indices of its class and its pair: tag 11.
+    /// An interface's method by the indices of its class and its pair, CONSTANT_InterfaceMethodref: tag 11.
     IMethod(u16, u16),
-    /// A name and a descriptor by their indices: tag 12.
+    /// A name and a descriptor by their indices, CONSTANT_NameAndType: tag 12.
     Pair(u16, u16),
     /// A method handle, by its kind and the index of the member: tag 15.
     Handle(u8, u16),
-    /// A method type by the index of its descriptor: tag 16.
+    /// A method type by the index of its descriptor, CONSTANT_MethodType: tag 16.
     MethodKind(u16),
     /// A dynamic call site, by the number of its bootstrap method and the index of its pair: tag 18.
     Dynamic(u16, u16),

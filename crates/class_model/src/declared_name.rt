@@ -3,8 +3,9 @@
 ghost use Rattle.std.specs.Prelude.{◌≡◌, ◌<◌, ◌==◌, ◌||◌, not, length, position, IfSome, MatchOption, None, Some};
 ghost use Rattle.std.specs.Char.Utf16.{is_high_surrogate, is_low_surrogate, has_unpaired_surrogate};
 ghost use Rattle.std.specs.List.{list_all};
+ghost use Rattle.class_model.specs.Steps.{behind_char};
 ghost use Rattle.class_model.specs.Parting.{parted_at};
-ghost use Rattle.class_model.specs.DeclaredName.{behind_char, is_reserved, is_special, is_field_name, is_method_name, is_class_name};
+ghost use Rattle.class_model.specs.DeclaredName.{is_reserved, is_special, is_field_name, is_method_name, is_class_name};
 
 const SLASH: u16 = b'/' as u16;
 

@@ -19,7 +19,7 @@ pub enum ClassFault {
     BadText { at: u64 },
     #[error("the tag {tag} at {at} is not one of the standard's")]
     BadTag { at: u64, tag: u8 },
-    #[error("the index at {at} names no entry of the right kind")]
+    #[error("the index at {at} names no entry of the right kind, or a long entry has no room")]
     BadIndex { at: u64 },
     #[error("the opcode {op} at {at} is not one of the profile's")]
     BadOpcode { at: u64, op: u8 },
@@ -31,7 +31,7 @@ pub enum ClassFault {
     FloatUsed { at: u64 },
     #[error("a dynamic call or constant is used at {at}")]
     DynamicUsed { at: u64 },
-    #[error("the place named at {at} is not the start of an instruction")]
+    #[error("a place named at {at} is not the start of an instruction, or a row covers none")]
     BadTarget { at: u64 },
     #[error("the file does not begin as a class file")]
     BadMagic,
@@ -193,10 +193,10 @@ impl From<AllocError> for TextFault {
 /// Why a text is no descriptor of this profile.
 #[derive(Clone, Copy, Debug, PartialEq, Eq, Error)]
 pub enum DescFault {
-    /// It is outside the standard's grammar.
+    /// It is outside the grammar, in which the name of a class keeps the rule of a declared name.
     #[error("not a descriptor")]
     Bad,
-    /// It is in the standard's grammar, and has a float or a double as a kind.
+    /// It is in the grammar, and has a float or a double as a kind.
     #[error("a float in a descriptor")]
     Float,
     #[error("out of memory")]

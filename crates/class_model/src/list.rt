@@ -56,7 +56,7 @@ impl<T> Seq<T> {
         items
     }
 
-    /// The allocator that the list keeps.
+    /// The allocator that the list keeps, for what is made beside it. There is one global allocator, so nothing is said of it.
     pub fn allocator(&self) -> Global {
         *self.items.allocator()
     }
