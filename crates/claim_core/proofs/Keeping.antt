@@ -205,7 +205,7 @@ pub after_all-least : (es : List Event) (c : Claims) → length (after_all es c)
 after_all-least [] c = refl
 after_all-least (e ∷ es) c = after_all-least es (after e c) ∙ (same_sizes e c).1
 
-idle_list : (workers w : ℕ) → at (replicate workers []) w ≡ []
+pub idle_list : (workers w : ℕ) → at (replicate workers []) w ≡ []
 idle_list zero w = refl
 idle_list (suc n) zero = refl
 idle_list (suc n) (suc w) = idle_list n w

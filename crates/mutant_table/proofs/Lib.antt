@@ -1,0 +1,4 @@
+mod Views
+mod Moves
+mod Told
+mod Ended

@@ -1,0 +1,68 @@
+-- The seats of a table, in the order of their numbers. This project's own.
+use Rattle.std.specs.Prelude.{◌≡◌, ℕ, ◌<◌, List, [], length, slice_index_or, true, map, drop}
+use Rattle.atomic_table.specs.Seated.{TableId}
+use Rattle.claim_core.specs.declared.events.Entry.{Entry}
+use Rattle.claim_core.specs.Claims.{Claims}
+use Rattle.mutant_table.specs.declared.rule.View.{View}
+use Rattle.mutant_table.specs.declared.rule.Sizes.{Sizes}
+use Rattle.mutant_table.specs.Rule.{first_view}
+use Rattle.mutant_table.specs.declared.seat.ClaimSeat.{ClaimSeat}
+use Rattle.mutant_table.specs.declared.table.ClaimTable.{ClaimTable}
+use Rattle.mutant_table.specs.declared.table.ClaimEnd.{ClaimEnd}
+
+abbrev pub view_of : ClaimSeat → View
+view_of s = s.seat.me.0
+
+-- the worker's number, and its list
+abbrev pub worker_of : ClaimSeat → ℕ
+worker_of s = (view_of s).worker
+
+abbrev pub entries_of : ClaimSeat → List Entry
+entries_of s = (view_of s).entries
+
+abbrev pub mutants_of : ClaimTable → ℕ
+mutants_of t = t.table.shared.key.mutants
+
+abbrev pub cells_of : ClaimTable → ℕ
+cells_of t = t.table.shared.key.cells
+
+abbrev pub workers_of : ClaimTable → ℕ
+workers_of t = t.table.shared.key.workers
+
+-- the seat is of the table, and holds no slot. The seat of worker 0 knows how many there are
+pub record IsSeatAt (table : TableId) (z : Sizes) (s : ClaimSeat) : Type 0 where
+  pub table_is : s.seat.table_id ≡ table
+  pub mutants : (view_of s).mutants ≡ z.mutants
+  pub cells : (view_of s).cells ≡ z.cells
+  pub bare : s.seat.me.1 ≡ []
+  pub first : worker_of s ≡ 0 → ((view_of s).made ≡ z.workers) × ((view_of s).ended ≡ [])
+
+abbrev pub IsSeatOf : ClaimTable → ClaimSeat → Type 0
+IsSeatOf t s = IsSeatAt t.table.shared.table_id t.table.shared.key s
+
+-- all seats of the table, in the order of their numbers
+pub record AreSeatsAt (table : TableId) (z : Sizes) (seats : List ClaimSeat) : Type 0 where
+  pub count : length seats ≡ z.workers
+  pub each : (k : ℕ) (d : ClaimSeat) → k < length seats → IsSeatAt table z (slice_index_or seats k d) × (worker_of (slice_index_or seats k d) ≡ k)
+
+abbrev pub AreSeats : ClaimTable → List ClaimSeat → Type 0
+AreSeats t seats = AreSeatsAt t.table.shared.table_id t.table.shared.key seats
+
+-- the claims at the end, with the lists of the seats
+abbrev pub claims_at : ℕ → ClaimEnd → List ClaimSeat → Claims
+claims_at cells end seats = record { cells = cells; next = end.next; least = end.least; lists = map entries_of seats }
+
+abbrev pub ended_as : ClaimSeat → ℕ × List Entry
+ended_as s = (worker_of s, entries_of s)
+
+-- the view of worker 0 once it has taken in all others
+pub record IsGathered (z : Sizes) (seats : List ClaimSeat) (v : View) : Type 0 where
+  pub live : v.live ≡ true
+  pub worker : v.worker ≡ 0
+  pub made : v.made ≡ z.workers
+  pub entries : v.entries ≡ slice_index_or (map entries_of seats) 0 []
+  pub ended : v.ended ≡ map ended_as (drop 1 seats)
+
+-- the view of worker 0 when n seats are made
+abbrev pub first_made : Sizes → ℕ → View
+first_made z n = record (first_view z) { made = n }
