@@ -89,3 +89,26 @@ enough_turns r shortens zero zero input le lm bytes = refl
 enough_turns r shortens zero (suc m) input le lm bytes = let none : length input.bytes ≡ 0 = omega arith in rw none refl
 enough_turns r shortens (suc n) zero input le lm bytes = let none : length input.bytes ≡ 0 = omega arith in rw none refl
 enough_turns r shortens (suc n) (suc m) input le lm bytes = same_turn r shortens n m (enough_turns r shortens n m) input le lm bytes (r input) refl
+
+-- ---- by induction
+
+-- a turn, where the turns after it are known
+all_turn : {F A : Type 0} (read : Reader F A) (P : Input → List A → Type 0) → Shortens read → ((i : Input) → length i.bytes ≡ 0 → P i []) → ((i : Input) (x : A) (rest : Input) (xs : List A) → IsBytes i.bytes → read i ≡ Ok (x, rest) → P rest xs → P i (x ∷ xs))
+    → (n : ℕ) → ((i : Input) (xs : List A) → length i.bytes ≤ n → IsBytes i.bytes → whole_at read n i ≡ Ok xs → P i xs)
+    → (input : Input) (xs : List A) → length input.bytes ≤ suc n → IsBytes input.bytes → whole_at read (suc n) input ≡ Ok xs → (test : Bool) → eqb (length input.bytes) 0 ≡ test → P input xs
+unfolding whole_at
+all_turn r P shortens none more n later input xs le bytes e true test = subst (P input) ((stops (eqb (length input.bytes) 0) _ xs e).0 test) (none input (eqb-true _ _ test))
+all_turn {F} {A} r P shortens none more n later input xs le bytes e false test =
+    let f = (stops (eqb (length input.bytes) 0) _ xs e).1 test in
+    let a = bind_ok (r input) (λ first. whole_at r n first.1 >>= λ others. Ok (first.0 ∷ others)) xs f in
+    let b = bind_ok (whole_at r n a.0.1) (λ others. Ok (a.0.0 ∷ others)) xs a.2 in
+    let less = shortens input a.0.0 a.0.1 bytes a.1 in
+    let u = later a.0.1 b.0 (omega (arith, less.0, le)) less.1 b.1 in
+    subst (P input) (ok_is {F = F} (a.0.0 ∷ b.0) xs b.2) (more input a.0.0 a.0.1 b.0 bytes a.1 u)
+
+-- What holds of no values where no byte is left, and of one value more where it holds of those behind it, holds of all that are read until no byte is left.
+pub whole_all : {F A : Type 0} (read : Reader F A) (P : Input → List A → Type 0) → Shortens read → ((i : Input) → length i.bytes ≡ 0 → P i []) → ((i : Input) (x : A) (rest : Input) (xs : List A) → IsBytes i.bytes → read i ≡ Ok (x, rest) → P rest xs → P i (x ∷ xs))
+    → (turns : ℕ) (input : Input) (xs : List A) → length input.bytes ≤ turns → IsBytes input.bytes → whole_at read turns input ≡ Ok xs → P input xs
+unfolding whole_at
+whole_all {F} r P shortens none more zero input xs le bytes e = subst (P input) (ok_is {F = F} [] xs e) (none input (omega arith))
+whole_all r P shortens none more (suc n) input xs le bytes e = all_turn r P shortens none more n (whole_all r P shortens none more n) input xs le bytes e _ refl
