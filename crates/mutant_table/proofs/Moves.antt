@@ -1,12 +1,11 @@
 -- Each kind of step keeps the rule, and tells its worker of its own list.
-use Rattle.std.proofs.Common.{◌≡◌, ◌≢◌, ◌⊎◌, ℕ, zero, suc, ◌+◌, ◌-◌, ◌%◌, ◌^◌, ◌<◌, ◌≤◌, List, [], ◌∷◌, ◌++◌, Bool, true, false, set, length, replicate, refl, sym, ap, ◌∙◌, subst, inl, inr, ⊎_elim, arith, add-one, min}
-use Rattle.std.specs.Prelude.{slice_index, slice_index_or, slice_set, Contains}
+use Rattle.std.proofs.Common.{◌≡◌, ℕ, ◌+◌, ◌-◌, ◌%◌, ◌^◌, ◌<◌, ◌≤◌, List, [], ◌∷◌, ◌++◌, true, false, set, length, replicate, refl, sym, ap, ◌∙◌, subst, ⊎_elim, arith, add-one, min}
+use Rattle.std.specs.Prelude.{slice_index, slice_set}
 use Rattle.std.specs.List.{count_by}
-use mathlib.Core.Option.{some, none}
-use lib.ListN.{get_elem?}
+use mathlib.Core.Option.{none}
 use Rattle.std.proofs.lemmas.List.{set-get_or, length-set, length-replicate}
 use Rattle.std.proofs.lemmas.List.Sums.{count_by-le-length}
-use Rattle.atomic_table.specs.Table.{State, Me, Act, keeps, Allows, Splits, Joins, opening, step}
+use Rattle.atomic_table.specs.Table.{State, Me, keeps, Allows, Splits, Joins, opening, step}
 use Rattle.claim_core.specs.declared.events.Entry.{Entry}
 use Rattle.claim_core.specs.declared.events.Entry.TheVariants.{Claimed, Looked, Detected}
 use Rattle.claim_core.specs.Claims.{Claims, no_place, list_of, least_of, started, noted, claimed, looked, detected, is_exhausted}

@@ -10,3 +10,6 @@ mod table;
 
 pub use seat::ClaimSeat;
 pub use table::{ClaimEnd, ClaimTable};
+
+#[cfg(test)]
+mod tests;

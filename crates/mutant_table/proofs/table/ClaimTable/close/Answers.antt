@@ -1,8 +1,7 @@
-use Rattle.std.proofs.Common.{◌≡◌, ◌∷◌, [], ◌++◌, ◌+◌, take, drop, sym, ap, ◌∙◌, subst, length, rules}
+use Rattle.std.proofs.Common.{◌≡◌, ◌∷◌, [], ◌++◌, take, drop, sym, ap, ◌∙◌, rules}
 use mathlib.Core.Option.{some}
 use lib.ListN.{get_elem?}
 use Rattle.std.specs.Slots.{slots_items}
-use Rattle.mutant_table.specs.Seats.{claims_at}
 use Rattle.mutant_table.proofs.Ended.{copied, ended_agree}
 use Rattle.mutant_table.proofs.table.ClaimTable.close.Goals as goal
 

@@ -1,5 +1,5 @@
-use Rattle.std.proofs.Common.{◌≡◌, ◌+◌, ◌<◌, ◌≤◌, ℕ, length, vec_len, take, drop}
-use Rattle.std.specs.Prelude.{slice_index, vec_capacity}
+use Rattle.std.proofs.Common.{◌≡◌, ◌≤◌, vec_len, take, drop}
+use Rattle.std.specs.Prelude.{vec_capacity}
 use Rattle.std.specs.Mem.Slots.{slots_items}
 use Rattle.mutant_table.proofs.table.ClaimTable.close.Given as goal
 
