@@ -67,7 +67,7 @@ until_goes_on {F} {A} read shortens front input value after total some bytes h s
     sym one ∙ so_far
 
 -- the same of a codec
-pub whole_goes_on : {F A : Type 0} (read : Reader F A) (spell : Speller A) (P : A → Type 0) → IsCodecAt read spell P → IsFilled spell → (front : List A) (input : Input) (value : A) (after : Input) (total : Result (List A) F) → 0 < length input.bytes → IsBytes input.bytes → read input ≡ Ok (value, after)
+pub whole_goes_on : {F A : Type 0} (read : Reader F A) (spell : Speller A) (P : A → Type 0) → IsCodecAt read spell P → IsFilled spell P → (front : List A) (input : Input) (value : A) (after : Input) (total : Result (List A) F) → 0 < length input.bytes → IsBytes input.bytes → read input ≡ Ok (value, after)
     → with_values front (until_end read input) ≡ total → with_values (front ++ value ∷ []) (until_end read after) ≡ total
 whole_goes_on read spell P codec filled = until_goes_on read (codec_shortens read spell P codec filled)
 

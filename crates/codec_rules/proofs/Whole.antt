@@ -17,7 +17,7 @@ stops {F} true r xs e = (λ h. ok_is {F = F} [] xs e, λ h. absurd cc)
 stops false r xs e = (λ h. absurd cc, λ h. e)
 
 -- a turn, where the turns after it are known
-turn : {F A : Type 0} (read : Reader F A) (spell : Speller A) (P : A → Type 0) → IsCodecAt read spell P → IsFilled spell → (n : ℕ)
+turn : {F A : Type 0} (read : Reader F A) (spell : Speller A) (P : A → Type 0) → IsCodecAt read spell P → IsFilled spell P → (n : ℕ)
     → ((i : Input) (ys : List A) → length i.bytes ≤ n → IsBytes i.bytes → whole_at read n i ≡ Ok ys → IsWhole spell P i ys)
     → (input : Input) (xs : List A) → length input.bytes ≤ suc n → IsBytes input.bytes → whole_at read (suc n) input ≡ Ok xs → (test : Bool) → eqb (length input.bytes) 0 ≡ test → IsWhole spell P input xs
 unfolding whole_at
@@ -30,12 +30,12 @@ turn {F} {A} r s P codec filled n later input xs le bytes e false test =
     let b = bind_ok (whole_at r n a.0.1) (λ others. Ok (a.0.0 ∷ others)) xs a.2 in
     let t = codec.takes input a.0.0 a.0.1 bytes a.1 in
     let len : length input.bytes ≡ length (s input.at a.0.0) + length a.0.1.bytes = ap (λ (x : List ℕ). length x) t.0.parts ∙ length-append (s input.at a.0.0) a.0.1.bytes in
-    let u = later a.0.1 b.0 (omega (arith, len, filled input.at a.0.0)) t.0.rest_fits b.1 in
+    let u = later a.0.1 b.0 (omega (arith, len, filled input.at a.0.0 t.1)) t.0.rest_fits b.1 in
     let tail : a.0.1.bytes ≡ spelled_from s (input.at + length (s input.at a.0.0)) b.0 = subst (λ (k : ℕ). a.0.1.bytes ≡ spelled_from s k b.0) t.0.place u.0 in
     subst (IsWhole s P input) (ok_is {F = F} (a.0.0 ∷ b.0) xs b.2) (t.0.parts ∙ ap (λ (x : List ℕ). s input.at a.0.0 ++ x) tail, (t.1, u.1))
 
 -- What is read until no byte is left is spelled by all of the bytes.
-pub whole_takes : {F A : Type 0} (read : Reader F A) (spell : Speller A) (P : A → Type 0) → IsCodecAt read spell P → IsFilled spell → (turns : ℕ) (input : Input) (xs : List A) → length input.bytes ≤ turns → IsBytes input.bytes → whole_at read turns input ≡ Ok xs
+pub whole_takes : {F A : Type 0} (read : Reader F A) (spell : Speller A) (P : A → Type 0) → IsCodecAt read spell P → IsFilled spell P → (turns : ℕ) (input : Input) (xs : List A) → length input.bytes ≤ turns → IsBytes input.bytes → whole_at read turns input ≡ Ok xs
     → IsWhole spell P input xs
 unfolding whole_at
 whole_takes {F} r s P codec filled zero input xs le bytes e =
@@ -44,29 +44,29 @@ whole_takes {F} r s P codec filled zero input xs le bytes e =
 whole_takes r s P codec filled (suc n) input xs le bytes e = turn r s P codec filled n (whole_takes r s P codec filled n) input xs le bytes e _ refl
 
 -- What is spelled by all of the bytes is read until none is left.
-pub whole_again : {F A : Type 0} (read : Reader F A) (spell : Speller A) (P : A → Type 0) → IsCodecAt read spell P → IsFilled spell → (turns : ℕ) (xs : List A) (at : ℕ) → length (spelled_from spell at xs) ≤ turns → AllByRecursion P xs
+pub whole_again : {F A : Type 0} (read : Reader F A) (spell : Speller A) (P : A → Type 0) → IsCodecAt read spell P → IsFilled spell P → (turns : ℕ) (xs : List A) (at : ℕ) → length (spelled_from spell at xs) ≤ turns → AllByRecursion P xs
     → whole_at read turns (input_at at (spelled_from spell at xs)) ≡ Ok xs
 unfolding whole_at
 whole_again r s P codec filled zero [] at le q = refl
 whole_again r s P codec filled (suc n) [] at le q = refl
-whole_again r s P codec filled zero (x ∷ xs) at le q = absurd (omega (arith, length-append (s at x) (spelled_from s (at + length (s at x)) xs), filled at x))
+whole_again r s P codec filled zero (x ∷ xs) at le q = absurd (omega (arith, length-append (s at x) (spelled_from s (at + length (s at x)) xs), filled at x q.0))
 whole_again r s P codec filled (suc n) (x ∷ xs) at le q =
     let front = s at x in
     let back = spelled_from s (at + length front) xs in
     let len : length (front ++ back) ≡ length front + length back = length-append front back in
-    let more : eqb (length (front ++ back)) 0 ≡ false = not_zero (length (front ++ back)) (omega (arith, len, filled at x)) in
-    rw (more, codec.again x at back q.0, whole_again r s P codec filled n xs (at + length front) (omega (arith, len, filled at x, le)) q.1) refl
+    let more : eqb (length (front ++ back)) 0 ≡ false = not_zero (length (front ++ back)) (omega (arith, len, filled at x q.0)) in
+    rw (more, codec.again x at back q.0, whole_again r s P codec filled n xs (at + length front) (omega (arith, len, filled at x q.0, le)) q.1) refl
 
 -- ---- as a loop reads them: it stops where no byte is left, and each turn leaves fewer bytes
 
 -- a value that was read leaves fewer bytes
-pub shorter : {F A : Type 0} (read : Reader F A) (spell : Speller A) (P : A → Type 0) → IsCodecAt read spell P → IsFilled spell → (input : Input) (value : A) (rest : Input) → IsBytes input.bytes → read input ≡ Ok (value, rest) → length rest.bytes < length input.bytes
+pub shorter : {F A : Type 0} (read : Reader F A) (spell : Speller A) (P : A → Type 0) → IsCodecAt read spell P → IsFilled spell P → (input : Input) (value : A) (rest : Input) → IsBytes input.bytes → read input ≡ Ok (value, rest) → length rest.bytes < length input.bytes
 shorter r s P codec filled input value rest bytes e =
     let t = codec.takes input value rest bytes e in
     let len : length input.bytes ≡ length (s input.at value) + length rest.bytes = ap (λ (x : List ℕ). length x) t.0.parts ∙ length-append (s input.at value) rest.bytes in
-    omega (arith, len, filled input.at value)
+    omega (arith, len, filled input.at value t.1)
 
-pub codec_shortens : {F A : Type 0} (read : Reader F A) (spell : Speller A) (P : A → Type 0) → IsCodecAt read spell P → IsFilled spell → Shortens read
+pub codec_shortens : {F A : Type 0} (read : Reader F A) (spell : Speller A) (P : A → Type 0) → IsCodecAt read spell P → IsFilled spell P → Shortens read
 codec_shortens read spell P codec filled = λ input value rest bytes e. (shorter read spell P codec filled input value rest bytes e, (codec.takes input value rest bytes e).0.rest_fits)
 
 abbrev Same : {F A : Type 0} → Reader F A → ℕ → ℕ → Input → Type 0

@@ -1,4 +1,4 @@
--- The laws by which codecs compose (this project's own). In each, `P` and `Q` say which values have a spelling.
+-- The laws by which codecs compose (this project's own). `P` and `Q` say which values have a spelling.
 use Rattle.std.specs.Prelude.{◌≡◌, ℕ, ◌+◌, ◌≤◌, Bool, true, false, FitsSigned, ◌*◌, ◌^◌, ◌<◌, if◌then◌else◌, List, ◌++◌, length, Ok, Err}
 use Rattle.std.specs.Int.{Width, byte_len, to_be_bytes, cast_signed, cast_unsigned}
 use Rattle.std.specs.List.{AllByRecursion}
@@ -54,11 +54,11 @@ ManyCompose F A P = (read : Reader F A) (spell : Speller A) → IsCodecAt read s
 
 -- What is read until no byte is left is spelled by all of the bytes.
 abbrev pub WholeIsTaken : (F A : Type 0) → (A → Type 0) → Type 0
-WholeIsTaken F A P = (read : Reader F A) (spell : Speller A) → IsCodecAt read spell P → IsFilled spell → (turns : ℕ) (input : Input) (xs : List A) → length input.bytes ≤ turns → IsBytes input.bytes → whole_at read turns input ≡ Ok xs → IsWhole spell P input xs
+WholeIsTaken F A P = (read : Reader F A) (spell : Speller A) → IsCodecAt read spell P → IsFilled spell P → (turns : ℕ) (input : Input) (xs : List A) → length input.bytes ≤ turns → IsBytes input.bytes → whole_at read turns input ≡ Ok xs → IsWhole spell P input xs
 
 -- What is spelled by all of the bytes is read until none is left.
 abbrev pub WholeIsReadAgain : (F A : Type 0) → (A → Type 0) → Type 0
-WholeIsReadAgain F A P = (read : Reader F A) (spell : Speller A) → IsCodecAt read spell P → IsFilled spell → (turns : ℕ) (xs : List A) (at : ℕ) → length (spelled_from spell at xs) ≤ turns → AllByRecursion P xs → whole_at read turns (input_at at (spelled_from spell at xs)) ≡ Ok xs
+WholeIsReadAgain F A P = (read : Reader F A) (spell : Speller A) → IsCodecAt read spell P → IsFilled spell P → (turns : ℕ) (xs : List A) (at : ℕ) → length (spelled_from spell at xs) ≤ turns → AllByRecursion P xs → whole_at read turns (input_at at (spelled_from spell at xs)) ≡ Ok xs
 
 -- Bytes begin with the spelling of at most one value.
 abbrev pub OneIsSpelled : (F A : Type 0) → (A → Type 0) → Type 0

@@ -12,7 +12,7 @@ abbrev pub Gives : {F X Y : Type 0} → F → (X → Y) → Result Y F → Resul
 Gives memory view meant (Ok value) = meant ≡ Ok (view value)
 Gives memory view meant (Err fault) = Fails memory fault meant
 
--- The call moved a cursor from `old` to `new` as the definition does.
+-- The call moved a cursor from `old` to `new` as the definition does. After a fault nothing is said of the cursor, since it is to be dropped.
 abbrev pub Reads : {F A : Type 0} → F → Reader F A → Input → Input → Result A F → Type 0
 Reads memory read old new (Ok value) = read old ≡ Ok (value, new)
 Reads memory read old new (Err fault) = Fails memory fault (read old)

@@ -24,7 +24,7 @@ many_at read (suc count) input = do
   others ← many_at read count first.1
   Ok (first.0 ∷ others.0, others.1)
 
--- Values one after the other until no byte is left, in so many turns at most.
+-- Values one after the other until no byte is left, in so many turns. What is left after the last turn is not looked at, so there have to be turns enough.
 unfoldable pub whole_at : {F A : Type 0} → Reader F A → ℕ → Input → Result (List A) F
 whole_at read zero input = Ok []
 whole_at read (suc turns) input = if length input.bytes == 0 then Ok [] else do
@@ -32,7 +32,7 @@ whole_at read (suc turns) input = if length input.bytes == 0 then Ok [] else do
   others ← whole_at read turns first.1
   Ok (first.0 ∷ others)
 
--- Values one after the other until no byte is left: no value is empty, so as many turns as there are bytes are enough.
+-- Values one after the other until no byte is left. A reader whose every value takes a byte, as `Shortens` says, has turns enough in as many as there are bytes.
 abbrev pub until_end : {F A : Type 0} → Reader F A → Input → Result (List A) F
 until_end read input = whole_at read (length input.bytes) input
 

@@ -28,8 +28,8 @@ spelled_from spell at [] = []
 spelled_from spell at (value ∷ values) = spell at value ++ spelled_from spell (at + length (spell at value)) values
 
 -- No spelling is empty.
-abbrev pub IsFilled : {A : Type 0} → Speller A → Type 0
-IsFilled {A} spell = (at : ℕ) (value : A) → 0 < length (spell at value)
+abbrev pub IsFilled : {A : Type 0} → Speller A → (A → Type 0) → Type 0
+IsFilled {A} spell P = (at : ℕ) (value : A) → P value → 0 < length (spell at value)
 
 -- The values are spelled by all of an input's bytes.
 abbrev pub IsWhole : {A : Type 0} → Speller A → (A → Type 0) → Input → List A → Type 0

@@ -44,7 +44,7 @@ impl<'a> Model for Cursor<'a> {
     ghost invariant = { λ c. c.place + length c.rest.now < 2 ^ 64 };
 }
 
-/// Bytes are below 256. Behind a model a caller doesn't know it of a slice, so the cursor's calls say it.
+/// Bytes are below 256. Behind a model a caller doesn't know it of a slice, so `at` says it.
 fn are_bytes(bytes: &[u8])
     ensures { IsBytes bytes.now }
 {

@@ -176,8 +176,8 @@ insn_codec base pool =
     (λ r q. first_small pool r r.wide refl q))
     (λ r q place. spelled r place)
 
-pub insn_filled : IsFilled raw_bytes
-insn_filled place r = subst (λ (bytes : List ℕ). 0 < length bytes) (spelled r place) (some_byte (first_byte r % 256) (bytes_behind (place + 1) r))
+pub insn_filled : (pool : List Const) → IsFilled raw_bytes (IsRaw pool)
+insn_filled pool place r q = subst (λ (bytes : List ℕ). 0 < length bytes) (spelled r place) (some_byte (first_byte r % 256) (bytes_behind (place + 1) r))
   where
     some_byte : (byte : ℕ) (bytes : List ℕ) → 0 < length (byte ∷ bytes)
     some_byte byte bytes = omega arith

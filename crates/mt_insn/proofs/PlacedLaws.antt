@@ -33,7 +33,7 @@ pub placed_there : (base : ℕ) (pool : List Const) (input : Input) (insn : RawI
 placed_there base pool input insn rest e = rw e refl
 
 pub insn_shortens : (base : ℕ) (pool : List Const) → Shortens (insn_at base pool)
-insn_shortens base pool = codec_shortens (insn_at base pool) raw_bytes (IsRaw pool) (insn_codec base pool) insn_filled
+insn_shortens base pool = codec_shortens (insn_at base pool) raw_bytes (IsRaw pool) (insn_codec base pool) (insn_filled pool)
 
 pub placed_shortens : (base : ℕ) (pool : List Const) → Shortens (placed_at base pool)
 placed_shortens base pool = λ input p rest bytes e. insn_shortens base pool input p.insn rest bytes (placed_parts base pool input p rest e).0

@@ -6,3 +6,4 @@ pub mod Reading
 pub mod Spelling
 pub mod Targets
 pub mod Order
+pub mod Code

@@ -1,0 +1,130 @@
+-- The code of a method (JVMS 4.7.3, 6.5): its instructions one after the other, and what bounds it has.
+use Rattle.std.specs.Prelude.{◌≡◌, ℕ, ◌+◌, ◌-◌, ◌*◌, ◌<◌, ◌^◌, nat_lt, ℤ, pos, negsuc, ◌-ℤ◌, Bool, true, false, not, ◌&&◌, List, [], ◌∷◌, ◌++◌, length, map, slice_index, Option, Some, None, Result, Ok, Err, if◌then◌else◌}
+use Rattle.std.specs.List.{AllByRecursion, list_all}
+use Rattle.class_model.specs.declared.constant.Const.{Const}
+use Rattle.class_model.specs.declared.instruction.Arg.{Arg}
+use Rattle.class_model.specs.declared.instruction.Arg.TheVariants as arg
+use Rattle.class_model.specs.declared.instruction.Insn.{Insn}
+use Rattle.class_model.specs.declared.fault.LayoutFault.{LayoutFault}
+use Rattle.class_model.specs.declared.fault.LayoutFault.TheVariants as layout_fault
+use Rattle.class_model.specs.declared.fault.Bound.TheVariants as bound
+use Rattle.codec_rules.specs.Spelling.{spelled_from}
+use Rattle.mt_insn.specs.Opcode.{form_of}
+use Rattle.mt_insn.specs.Operands.{padding}
+use Rattle.mt_insn.specs.Spelling.{raw_bytes, IsRaw}
+use Rattle.mt_insn.specs.declared.opcode.Form.{Form}
+use Rattle.mt_insn.specs.declared.opcode.Form.TheVariants as form
+use Rattle.mt_insn.specs.declared.raw.Operand.{Operand}
+use Rattle.mt_insn.specs.declared.raw.Operand.TheVariants as operand
+use Rattle.mt_insn.specs.declared.raw.RawInsn.{RawInsn}
+
+-- ---- sizes and places
+
+-- how many keys a switch has
+abbrev pub table_keys : Arg → ℕ
+table_keys (arg.Table default low targets) = length targets
+table_keys other = 0
+
+abbrev pub lookup_keys : Arg → ℕ
+lookup_keys (arg.Lookup default pairs) = length pairs
+lookup_keys other = 0
+
+-- How many bytes stand behind an opcode that ends at a place in the code.
+abbrev pub operand_size : Form → ℕ → Arg → ℕ
+operand_size form.Plain place a = 0
+operand_size form.Float place a = 0
+operand_size form.FloatLocal place a = 0
+operand_size form.SmallNumber place a = 1
+operand_size form.Number place a = 2
+operand_size form.SmallConstant place a = 1
+operand_size form.Constant place a = 2
+operand_size form.LongConstant place a = 2
+operand_size form.Local place a = 1
+operand_size form.Increment place a = 2
+operand_size form.Jump place a = 2
+operand_size form.FarJump place a = 4
+operand_size form.Table place a = padding place + (12 + 4 * table_keys a)
+operand_size form.Lookup place a = padding place + (8 + 8 * lookup_keys a)
+operand_size form.Field place a = 2
+operand_size form.Method place a = 2
+operand_size form.AnyMethod place a = 2
+operand_size form.Interface place a = 4
+operand_size form.Dynamic place a = 0
+operand_size form.Class place a = 2
+operand_size form.Array place a = 1
+operand_size form.Dimensions place a = 3
+
+-- The same behind wide.
+abbrev pub wide_size : Form → ℕ
+wide_size form.Increment = 4
+wide_size other = 2
+
+abbrev pub formed_size : Option Form → Bool → ℕ → Arg → ℕ
+formed_size None wide place a = 0
+formed_size (Some form) true place a = wide_size form
+formed_size (Some form) false place a = operand_size form place a
+
+-- How many bytes an instruction that begins at a place takes.
+abbrev pub size_at : ℕ → Insn → ℕ
+size_at place insn = if insn.wide then 2 + formed_size (form_of insn.op) true (place + 2) insn.arg else 1 + formed_size (form_of insn.op) false (place + 1) insn.arg
+
+-- Where each instruction begins, and where the last one ends.
+abbrev pub places_from : ℕ → List Insn → List ℕ
+places_from place [] = []
+places_from place (insn ∷ insns) = place ∷ places_from (place + size_at place insn) insns
+
+abbrev pub end_from : ℕ → List Insn → ℕ
+end_from place [] = place
+end_from place (insn ∷ insns) = end_from (place + size_at place insn) insns
+
+-- The place of each instruction in the code, and the code's length.
+abbrev pub places : List Insn → List ℕ
+places insns = places_from 0 insns
+
+abbrev pub code_length : List Insn → ℕ
+code_length insns = end_from 0 insns
+
+-- ---- offsets
+
+-- How far it is from a place to the start of the instruction of a number.
+abbrev pub offset : List ℕ → ℕ → ℕ → ℤ
+offset starts place number = pos (slice_index starts number) -ℤ pos place
+
+abbrev pub operand_of : List ℕ → ℕ → Arg → Operand
+operand_of starts place (arg.To n) = operand.To (offset starts place n)
+operand_of starts place (arg.Table n low ns) = operand.Table (offset starts place n) low (map (offset starts place) ns)
+operand_of starts place (arg.Lookup n pairs) = operand.Lookup (offset starts place n) (map (λ pair. (pair.0, offset starts place pair.1)) pairs)
+operand_of starts place other = operand.Done other
+
+abbrev pub raw_of : List ℕ → ℕ → Insn → RawInsn
+raw_of starts place insn = record { op = insn.op; wide = insn.wide; operand = operand_of starts place insn.arg }
+
+abbrev pub raws_from : List ℕ → ℕ → List Insn → List RawInsn
+raws_from starts place [] = []
+raws_from starts place (insn ∷ insns) = raw_of starts place insn ∷ raws_from starts (place + size_at place insn) insns
+
+-- The instructions with offsets for their targets.
+abbrev pub raws : List Insn → List RawInsn
+raws insns = raws_from (places insns) 0 insns
+
+-- ---- the code
+
+-- The bytes of the instructions, one after the other.
+abbrev pub code : List Insn → List ℕ
+code insns = spelled_from raw_bytes 0 (raws insns)
+
+-- the numbers of the instructions to which an operand leads
+abbrev pub targets_in : Arg → List ℕ
+targets_in (arg.To n) = n ∷ []
+targets_in (arg.Table n low ns) = n ∷ ns
+targets_in (arg.Lookup n pairs) = n ∷ map (λ pair. pair.1) pairs
+targets_in other = []
+
+-- Each target is an instruction of the code. Numbers are 32 bits wide.
+abbrev pub HasTargets : ℕ → Insn → Type 0
+HasTargets count insn = AllByRecursion (λ n. (n < count) × (n < 2 ^ 32)) (targets_in insn.arg)
+
+-- The instructions have a spelling: each has an operand of the form of its opcode, its index names what the opcode may name in the pool, its targets are instructions of the code, and their offsets fit.
+pub record IsCode (pool : List Const) (insns : List Insn) : Type 0 where
+  pub formed : AllByRecursion (IsRaw pool) (raws insns)
+  pub targets : AllByRecursion (HasTargets (length insns)) insns
