@@ -1,0 +1,34 @@
+//! The program: its words, the real files and the real output are handed to the top call, whose status is the exit status.
+#![tactic(auto)]
+
+use mt_edge::{HostSink, HostTree};
+use mutest_engine::{Status, run};
+use std::env;
+use std::env::Env;
+use std::io::ErrorKind;
+use std::process::ExitCode;
+
+// The words behind the program's name. Words that are no text count as no words, which no command has.
+fn words(rt: &(impl Env + AllocGlobal)) -> Result<Vec<String>, Status> {
+    let mut words = Vec::new(rt.alloc());
+    match env::args(rt) {
+        Ok(args) => {
+            for word in args.skip(1) {
+                words.push(word)?;
+            }
+            Ok(words)
+        }
+        Err(error) if error.kind() == ErrorKind::OutOfMemory => Err(Status::WantOfMemory),
+        Err(_) => Ok(words),
+    }
+}
+
+fn main(rt: HostRuntime) -> ExitCode {
+    let mut tree = HostTree::new(&rt);
+    let mut out = HostSink::new(&rt);
+    let status = match words(&rt) {
+        Ok(words) => run(rt.alloc(), &words, &mut tree, &mut out),
+        Err(status) => status,
+    };
+    ExitCode::from(status.code())
+}

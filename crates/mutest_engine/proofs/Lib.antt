@@ -1,0 +1,5 @@
+mod CodeLaws
+mod Ends
+mod ManyFrom
+mod PoolLaws
+mod Turns

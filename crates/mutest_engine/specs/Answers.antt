@@ -1,0 +1,144 @@
+-- What the words of the command line and the files that are held decide: each command's answer, and what each status leaves (this project's own).
+use Rattle.std.specs.Prelude.{◌≡◌, ◌⊎◌, ℕ, ◌+◌, ◌-◌, ◌^◌, ◌<◌, ◌≤◌, min, List, [], ◌∷◌, ◌++◌, Bool, ◌&&◌, not, nat_lt, nat_eq, ◌==◌, if◌then◌else◌, length, slice_index, codes, Option, None, Some, Result, Ok, Err, MatchResult, option_map}
+use Rattle.std.specs.Cmp.Lexicographic.{pointwise}
+use Rattle.std.specs.FinMap.{get, insert}
+use Rattle.class_model.specs.declared.class.Class.{Class}
+use Rattle.class_model.specs.declared.fault.ClassFault.TheVariants as class_fault
+use Rattle.mt_edge.specs.Files.{Files}
+use Rattle.mutest_engine.specs.ClassForm.{class_of_file}
+use Rattle.mutest_engine.specs.Mutants.{class_mutants}
+use Rattle.mutest_engine.specs.Printing.{id_lines}
+use Rattle.mutest_engine.specs.declared.fault.FormFault.{FormFault}
+use Rattle.mutest_engine.specs.declared.fault.FormFault.TheVariants as fault
+use Rattle.mutest_engine.specs.declared.status.Status.{Status}
+use Rattle.mutest_engine.specs.declared.status.Status.TheVariants.{Done, Usage, NotFound, BadClass, NotYet, ReadFault, WriteFault, TooMany, WantOfMemory}
+use Rattle.mutest_engine.specs.declared.status.Output.{Output}
+use Rattle.mutest_engine.specs.declared.status.Limit.TheVariants as limit
+
+-- ---- steps up to the first refusal
+
+abbrev pub and_then : {X Y : Type 0} → Result X Status → (X → Result Y Status) → Result Y Status
+and_then (Ok x) next = next x
+and_then (Err status) next = Err status
+
+-- ---- commands
+
+pub data Command : Type 0 where
+  list_class : List ℕ → Command
+
+-- a value of a command: not empty, and without a `-` at its front
+abbrev pub is_value : List ℕ → Bool
+is_value word = not (length word == 0) && not (slice_index word 0 == 45)
+
+-- The words behind the program's name: exactly `list FILE`.
+abbrev pub command_of : List (List ℕ) → Result Command Status
+command_of [] = Err Usage
+command_of (word ∷ []) = Err Usage
+command_of (word ∷ file ∷ []) = if pointwise nat_eq word (codes "list") && is_value file then Ok (list_class file) else Err Usage
+command_of (word ∷ file ∷ more ∷ words) = Err Usage
+
+-- ---- answers
+
+-- a file that a command replaces
+pub record Write : Type 0 where
+  pub which : Output
+  pub path : List ℕ
+  pub bytes : List ℕ
+
+-- what a command does where nothing fails: the files that it replaces, in order, and then the text that it puts
+pub record Answered : Type 0 where
+  pub writes : List Write
+  pub text : List ℕ
+
+-- a file has at most 4,194,304 bytes
+abbrev pub within_limit : List ℕ → Result (List ℕ) Status
+within_limit bytes = if nat_lt 4194304 (length bytes) then Err (TooMany limit.Class (length bytes)) else Ok bytes
+
+abbrev pub held_at : List ℕ → Option (List ℕ) → Result (List ℕ) Status
+held_at path None = Err (NotFound path)
+held_at path (Some bytes) = within_limit bytes
+
+abbrev pub file_of : List ℕ → Files → Result (List ℕ) Status
+file_of path files = held_at path (get files path)
+
+-- how a fault of a file is refused
+abbrev pub refusal_of : List ℕ → FormFault → Status
+refusal_of path (fault.Short at need) = BadClass path (class_fault.Truncated at)
+refusal_of path (fault.NotYet at) = NotYet path at
+refusal_of path fault.BadMagic = BadClass path class_fault.BadMagic
+refusal_of path (fault.BadVersion major) = BadClass path (class_fault.BadVersion major)
+refusal_of path (fault.Trailing at) = BadClass path (class_fault.TrailingBytes at)
+refusal_of path fault.Memory = WantOfMemory
+
+abbrev pub or_refusal : {X : Type 0} → List ℕ → Result X FormFault → Result X Status
+or_refusal path (Ok x) = Ok x
+or_refusal path (Err e) = Err (refusal_of path e)
+
+-- the class of a file
+abbrev pub spelled_class : List ℕ → List ℕ → Result Class Status
+spelled_class path bytes = or_refusal path (class_of_file bytes)
+
+abbrev pub list_answer : List ℕ → Files → Result (List ℕ) Status
+list_answer path files = and_then (file_of path files) (λ bytes. and_then (spelled_class path bytes) (λ class. Ok (id_lines (class_mutants class))))
+
+abbrev pub answer_to : Command → Files → Result Answered Status
+answer_to (list_class path) files = and_then (list_answer path files) (λ text. Ok (record { writes = []; text = text }))
+
+-- What the words and the files decide.
+abbrev pub answer_of : List (List ℕ) → Files → Result Answered Status
+answer_of words files = and_then (command_of words) (λ command. answer_to command files)
+
+-- ---- how a status agrees with the answer
+
+-- the statuses that words and files don't decide
+abbrev pub IsFault : Status → Type 0
+IsFault Done = ⊥
+IsFault Usage = ⊥
+IsFault (NotFound path) = ⊥
+IsFault (BadClass path e) = ⊥
+IsFault (NotYet path at) = ⊥
+IsFault (ReadFault faults) = Unit {0}
+IsFault (WriteFault which faults) = Unit {0}
+IsFault (TooMany what number) = ⊥
+IsFault WantOfMemory = Unit {0}
+
+-- a step of the code gives what is stated, or a fault
+abbrev pub Gives : {X : Type 0} → Result X Status → Result X Status → Type 0
+Gives stated result = MatchResult result (λ x. stated ≡ Ok x) (λ s. (stated ≡ Err s) ⊎ IsFault s)
+
+-- the code gives the text of a command that replaces no file, or a fault
+abbrev pub GivesText : Result Answered Status → Result (List ℕ) Status → Type 0
+GivesText stated result = MatchResult result (λ text. stated ≡ Ok (record { writes = []; text = text })) (λ s. (stated ≡ Err s) ⊎ IsFault s)
+
+-- the statuses that come before anything is written
+abbrev pub IsRefusal : Status → Type 0
+IsRefusal Done = ⊥
+IsRefusal (WriteFault which faults) = ⊥
+IsRefusal Usage = Unit {0}
+IsRefusal (NotFound path) = Unit {0}
+IsRefusal (BadClass path e) = Unit {0}
+IsRefusal (NotYet path at) = Unit {0}
+IsRefusal (ReadFault faults) = Unit {0}
+IsRefusal (TooMany what number) = Unit {0}
+IsRefusal WantOfMemory = Unit {0}
+
+-- the status is the stated one, or a fault
+abbrev pub Agrees : Result Answered Status → Status → Type 0
+Agrees (Ok answered) s = (s ≡ Done) ⊎ IsFault s
+Agrees (Err e) s = (s ≡ e) ⊎ IsFault s
+
+-- where the files aren't told, the same of what the words alone decide
+abbrev pub AgreesUntold : Result Command Status → Status → Type 0
+AgreesUntold stated s = (stated ≡ Err Usage → (s ≡ Usage) ⊎ (s ≡ WantOfMemory)) × (s ≡ Usage → stated ≡ Err Usage)
+
+-- ---- faults
+
+-- so many calls failed, for a count that stays at its end
+abbrev pub Failed : ℕ → ℕ → ℕ → Type 0
+Failed before now faults = (0 < faults) × (min (before + faults) (2 ^ 64 - 1) ≤ now)
+
+-- A fault of reading was one of the tree, a fault of writing was one of the sink, and they are as many as are told.
+abbrev pub CountsFaults : ℕ → ℕ → ℕ → ℕ → Status → Type 0
+CountsFaults read0 read1 put0 put1 (ReadFault faults) = Failed read0 read1 faults
+CountsFaults read0 read1 put0 put1 (WriteFault which faults) = Failed put0 put1 faults
+CountsFaults read0 read1 put0 put1 s = Unit {0}

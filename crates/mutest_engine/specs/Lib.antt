@@ -1,0 +1,12 @@
+pub mod Item
+pub mod PoolForm
+pub mod CodeForm
+pub mod AttributeForm
+pub mod ClassForm
+pub mod CodeSpelling
+pub mod Mutants
+pub mod Printing
+pub mod Answers
+pub mod StatusText
+pub mod Said
+pub mod PoolSpelling

@@ -1,0 +1,90 @@
+-- What each status leaves in the sink and in the tree (this project's own).
+use Rattle.std.specs.Prelude.{◌≡◌, ◌⊎◌, ℕ, List, [], ◌∷◌, ◌++◌, Bool, true, false, Option, option_map, Result, Ok, Err, MatchBool}
+use Rattle.std.specs.FinMap.{insert}
+use mathlib.Core.List.{IsPrefix}
+use Rattle.mt_edge.specs.Files.{Files}
+use Rattle.mt_edge.specs.Causes.{Rose}
+use Rattle.mt_edge.specs.Pieces.{Grows, GrowsBy}
+use Rattle.mutest_engine.specs.StatusText.{line_of}
+use Rattle.mutest_engine.specs.Answers.{Answered, Write}
+use Rattle.mutest_engine.specs.declared.status.Status.{Status}
+use Rattle.mutest_engine.specs.declared.status.Status.TheVariants.{Done, Usage, NotFound, BadClass, NotYet, ReadFault, WriteFault, TooMany, WantOfMemory}
+use Rattle.mutest_engine.specs.declared.status.Output.{Output}
+use Rattle.mutest_engine.specs.declared.status.Output.TheVariants.{Report, History, Output as Printed, Journal, Assembled}
+
+-- ---- the sink
+
+-- the sink got the piece, or a beginning of it where its faults rose
+abbrev pub Got : ℕ → ℕ → Option (List ℕ) → Option (List ℕ) → List ℕ → Type 0
+Got put0 put1 before after piece = Grows before after piece ⊎ (Rose put0 put1 × GrowsBy before after piece)
+
+-- the sink got a beginning of a text, and behind it a refusal's line or a beginning of that
+pub record Broken (before after : Option (List ℕ)) (text line : List ℕ) : Type 0 where
+  pub part : List ℕ
+  pub rest : List ℕ
+  pub begins : IsPrefix part text
+  pub refused : IsPrefix rest line
+  pub grown : Grows before after (part ++ rest)
+
+-- the same where memory ran out, at whichever refusal
+pub record Cut (before after : Option (List ℕ)) (text : List ℕ) : Type 0 where
+  pub status : Status
+  pub broken : Broken before after text (line_of status)
+
+-- What a status leaves, where the command's text is `text`.
+abbrev pub Leaves : ℕ → ℕ → Option (List ℕ) → Option (List ℕ) → List ℕ → Status → Type 0
+Leaves put0 put1 before after text Done = Grows before after text
+Leaves put0 put1 before after text (WriteFault which faults) = Broken before after text (line_of (WriteFault which faults))
+Leaves put0 put1 before after text WantOfMemory = Cut before after text
+Leaves put0 put1 before after text Usage = Got put0 put1 before after (line_of Usage)
+Leaves put0 put1 before after text (NotFound path) = Got put0 put1 before after (line_of (NotFound path))
+Leaves put0 put1 before after text (BadClass path fault) = Got put0 put1 before after (line_of (BadClass path fault))
+Leaves put0 put1 before after text (NotYet path at) = Got put0 put1 before after (line_of (NotYet path at))
+Leaves put0 put1 before after text (ReadFault faults) = Got put0 put1 before after (line_of (ReadFault faults))
+Leaves put0 put1 before after text (TooMany what number) = Got put0 put1 before after (line_of (TooMany what number))
+
+abbrev pub text_of_answer : Result Answered Status → List ℕ
+text_of_answer (Ok answered) = answered.text
+text_of_answer (Err status) = []
+
+-- ---- the tree
+
+abbrev pub written : Write → Option Files → Option Files
+written w files = option_map (λ held. insert held w.path w.bytes) files
+
+abbrev pub all_written : List Write → Option Files → Option Files
+all_written [] files = files
+all_written (w ∷ ws) files = all_written ws (written w files)
+
+abbrev pub is_same : Output → Output → Bool
+is_same Report Report = true
+is_same History History = true
+is_same Printed Printed = true
+is_same Journal Journal = true
+is_same Assembled Assembled = true
+is_same one other = false
+
+-- the named write failed: all before it stand, and it may
+abbrev pub Stopped : Output → List Write → Option Files → Option Files → Type 0
+Stopped which [] old new = new ≡ old
+Stopped which (w ∷ ws) old new = MatchBool (is_same which w.which) ((new ≡ old) ⊎ (new ≡ written w old)) (Stopped which ws (written w old) new)
+
+-- some of the writes stand
+abbrev pub Partly : List Write → Option Files → Option Files → Type 0
+Partly [] old new = new ≡ old
+Partly (w ∷ ws) old new = (new ≡ old) ⊎ Partly ws (written w old) new
+
+abbrev pub FilesAfter : List Write → Option Files → Option Files → Status → Type 0
+FilesAfter ws old new Done = new ≡ all_written ws old
+FilesAfter ws old new (WriteFault which faults) = Stopped which ws old new
+FilesAfter ws old new WantOfMemory = Partly ws old new
+FilesAfter ws old new Usage = new ≡ old
+FilesAfter ws old new (NotFound path) = new ≡ old
+FilesAfter ws old new (BadClass path fault) = new ≡ old
+FilesAfter ws old new (NotYet path at) = new ≡ old
+FilesAfter ws old new (ReadFault faults) = new ≡ old
+FilesAfter ws old new (TooMany what number) = new ≡ old
+
+abbrev pub writes_of_answer : Result Answered Status → List Write
+writes_of_answer (Ok answered) = answered.writes
+writes_of_answer (Err status) = []

@@ -1,0 +1,55 @@
+-- What is told of each status: its number, which is the exit status, and the line that a refusal puts (this project's own).
+use Rattle.std.specs.Prelude.{ℕ, List, [], ◌∷◌, ◌++◌, codes, decimal, Option, Some, None}
+use Rattle.class_model.specs.Fault.{number_of, value_of}
+use Rattle.class_model.specs.declared.fault.ClassFault.{ClassFault}
+use Rattle.mutest_engine.specs.declared.status.Status.{Status}
+use Rattle.mutest_engine.specs.declared.status.Status.TheVariants.{Done, Usage, NotFound, BadClass, NotYet, ReadFault, WriteFault, TooMany, WantOfMemory}
+use Rattle.mutest_engine.specs.declared.status.Output.{Output}
+use Rattle.mutest_engine.specs.declared.status.Output.TheVariants as output
+use Rattle.mutest_engine.specs.declared.status.Limit.{Limit}
+use Rattle.mutest_engine.specs.declared.status.Limit.TheVariants as limit
+
+abbrev pub status_number : Status → ℕ
+status_number Done = 0
+status_number Usage = 2
+status_number (NotFound path) = 3
+status_number (BadClass path fault) = 5
+status_number (NotYet path at) = 16
+status_number (ReadFault faults) = 10
+status_number (WriteFault which faults) = 11
+status_number (TooMany what number) = 12
+status_number WantOfMemory = 14
+
+abbrev pub output_name : Output → List ℕ
+output_name output.Report = codes "report"
+output_name output.History = codes "history"
+output_name output.Output = codes "output"
+output_name output.Journal = codes "journal"
+output_name output.Assembled = codes "assembled"
+
+abbrev pub limit_name : Limit → List ℕ
+limit_name limit.Classes = codes "classes"
+limit_name limit.Class = codes "class"
+limit_name limit.Bytes = codes "bytes"
+limit_name limit.Tests = codes "tests"
+limit_name limit.Mutants = codes "mutants"
+limit_name limit.Cells = codes "cells"
+limit_name limit.Sources = codes "sources"
+limit_name limit.History = codes "history"
+
+-- a fault's number and its value; want of memory is no fault of a class
+abbrev pub fault_text : ClassFault → Option ℕ → List ℕ
+fault_text fault None = []
+fault_text fault (Some number) = codes " " ++ decimal number ++ codes " " ++ decimal (value_of fault)
+
+-- the line of a refusal
+abbrev pub line_of : Status → List ℕ
+line_of Done = []
+line_of Usage = codes "mutest: Usage\n"
+line_of (NotFound path) = codes "mutest: NotFound " ++ path ++ codes "\n"
+line_of (BadClass path fault) = codes "mutest: BadClass " ++ path ++ fault_text fault (number_of fault) ++ codes "\n"
+line_of (NotYet path at) = codes "mutest: NotYet " ++ path ++ codes " " ++ decimal at ++ codes "\n"
+line_of (ReadFault faults) = codes "mutest: ReadFault\n"
+line_of (WriteFault which faults) = codes "mutest: WriteFault " ++ output_name which ++ codes "\n"
+line_of (TooMany what number) = codes "mutest: TooMany " ++ limit_name what ++ codes " " ++ decimal number ++ codes "\n"
+line_of WantOfMemory = []

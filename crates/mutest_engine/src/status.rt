@@ -1,0 +1,199 @@
+//! How a call of the tool ends.
+
+ghost use Rattle.std.specs.Prelude.{◌≡◌, ◌++◌, IfOk, OnOk, codes, decimal, pos};
+ghost use Rattle.class_model.specs.Fault.{number_of};
+ghost use Rattle.mutest_engine.specs.StatusText.{status_number, fault_text, output_name, limit_name, line_of};
+ghost use Rattle.mutest_engine.specs.declared.status.Status.TheVariants.{WantOfMemory};
+
+use class_model::{Bytes, ClassFault, Memory};
+use std::alloc::{AllocError, AllocFailed, Global};
+
+/// What a call writes.
+#[derive(Clone, Copy, Debug, PartialEq, Eq)]
+pub enum Output {
+    Report,
+    History,
+    Output,
+    Journal,
+    Assembled,
+}
+
+/// What a count has a limit for.
+#[derive(Clone, Copy, Debug, PartialEq, Eq)]
+pub enum Limit {
+    Classes,
+    Class,
+    Bytes,
+    Tests,
+    Mutants,
+    Cells,
+    Sources,
+    History,
+}
+
+/// How a call ends. A path is its printed UTF-8.
+#[derive(Debug, Drop)]
+pub enum Status {
+    Done,
+    /// The words are no command.
+    Usage,
+    /// Nothing is held at the path.
+    NotFound { path: Bytes },
+    /// The file at the path is no class file.
+    BadClass { path: Bytes, fault: ClassFault },
+    /// The file at the path has an item, at a byte offset, in a form that isn't read yet.
+    NotYet { path: Bytes, at: u64 },
+    /// So many calls that read the tree failed.
+    ReadFault { faults: u64 },
+    /// So many calls that write to this output failed.
+    WriteFault { which: Output, faults: u64 },
+    /// A count passes its limit.
+    TooMany { limit: Limit, number: u64 },
+    /// Memory ran out.
+    WantOfMemory,
+}
+
+impl From<Memory> for Status {
+    ghost from_gives = { λ _ e. e ≡ WantOfMemory };
+
+    fn from(_: Memory) -> Self {
+        Status::WantOfMemory
+    }
+}
+
+impl From<AllocError> for Status {
+    ghost from_gives = { λ _ e. e ≡ WantOfMemory };
+
+    fn from(_: AllocError) -> Self {
+        Status::WantOfMemory
+    }
+}
+
+impl<T: Drop> From<AllocFailed<T>> for Status {
+    ghost from_gives = { λ _ e. e ≡ WantOfMemory };
+
+    fn from(_: AllocFailed<T>) -> Self {
+        Status::WantOfMemory
+    }
+}
+
+impl Status {
+    /// The exit status.
+    pub fn number(&self) -> i32
+        ensures { result ≡ pos (status_number self.now) }
+    {
+        i32::from(self.code())
+    }
+
+    /// The exit status as the operating system takes it.
+    pub fn code(&self) -> u8
+        ensures { result ≡ status_number self.now }
+    {
+        match self {
+            Status::Done => 0,
+            Status::Usage => 2,
+            Status::NotFound { .. } => 3,
+            Status::BadClass { .. } => 5,
+            Status::NotYet { .. } => 16,
+            Status::ReadFault { .. } => 10,
+            Status::WriteFault { .. } => 11,
+            Status::TooMany { .. } => 12,
+            Status::WantOfMemory => 14,
+        }
+    }
+}
+
+fn output_name(which: Output) -> &'static str
+    ensures { result.now ≡ output_name which }
+{
+    match which {
+        Output::Report => "report",
+        Output::History => "history",
+        Output::Output => "output",
+        Output::Journal => "journal",
+        Output::Assembled => "assembled",
+    }
+}
+
+fn limit_name(limit: Limit) -> &'static str
+    ensures { result.now ≡ limit_name limit }
+{
+    match limit {
+        Limit::Classes => "classes",
+        Limit::Class => "class",
+        Limit::Bytes => "bytes",
+        Limit::Tests => "tests",
+        Limit::Mutants => "mutants",
+        Limit::Cells => "cells",
+        Limit::Sources => "sources",
+        Limit::History => "history",
+    }
+}
+
+fn put_str(text: &mut Bytes, piece: &str) -> Result<(), Memory>
+    ensures { OnOk result (text.new ≡ text.old ++ piece.now) }
+{
+    text.extend_from_slice(piece.as_bytes())
+}
+
+fn put_number(alloc: Global, text: &mut Bytes, number: u64) -> Result<(), Memory>
+    ensures { OnOk result (text.new ≡ text.old ++ decimal number) }
+{
+    let digits = format!(in alloc; "{number}")?;
+    put_str(text, digits.as_str())
+}
+
+fn put_fault(alloc: Global, text: &mut Bytes, fault: ClassFault) -> Result<(), Memory>
+    ensures { OnOk result (text.new ≡ text.old ++ fault_text fault (number_of fault)) }
+{
+    let Some(number) = fault.number() else {
+        return Ok(());
+    };
+    put_str(text, " ")?;
+    put_number(alloc, text, u64::from(number))?;
+    put_str(text, " ")?;
+    put_number(alloc, text, fault.value())
+}
+
+/// The line that a refusal puts.
+pub fn line(alloc: Global, status: &Status) -> Result<Bytes, Memory>
+    ensures { IfOk result (λ text. text ≡ line_of status.now) }
+{
+    let mut text = Bytes::new(alloc);
+    match status {
+        Status::Done | Status::WantOfMemory => (),
+        Status::Usage => put_str(&mut text, "mutest: Usage\n")?,
+        Status::NotFound { path } => {
+            put_str(&mut text, "mutest: NotFound ")?;
+            text.extend_from_slice(path.as_slice())?;
+            put_str(&mut text, "\n")?;
+        }
+        Status::BadClass { path, fault } => {
+            put_str(&mut text, "mutest: BadClass ")?;
+            text.extend_from_slice(path.as_slice())?;
+            put_fault(alloc, &mut text, *fault)?;
+            put_str(&mut text, "\n")?;
+        }
+        Status::NotYet { path, at } => {
+            put_str(&mut text, "mutest: NotYet ")?;
+            text.extend_from_slice(path.as_slice())?;
+            put_str(&mut text, " ")?;
+            put_number(alloc, &mut text, *at)?;
+            put_str(&mut text, "\n")?;
+        }
+        Status::ReadFault { .. } => put_str(&mut text, "mutest: ReadFault\n")?,
+        Status::WriteFault { which, .. } => {
+            put_str(&mut text, "mutest: WriteFault ")?;
+            put_str(&mut text, output_name(*which))?;
+            put_str(&mut text, "\n")?;
+        }
+        Status::TooMany { limit, number } => {
+            put_str(&mut text, "mutest: TooMany ")?;
+            put_str(&mut text, limit_name(*limit))?;
+            put_str(&mut text, " ")?;
+            put_number(alloc, &mut text, *number)?;
+            put_str(&mut text, "\n")?;
+        }
+    }
+    Ok(text)
+}

@@ -1,0 +1,194 @@
+//! The top call: from the words and the files that are held to what is written.
+
+ghost use Rattle.std.specs.Prelude.{◌≡◌, ◌≢◌, ◌⊎◌, ◌≤◌, ℕ, map, string_bytes, IfSome, IfOk, IfErr, MatchResult, Ok, Err, Some, List};
+ghost use Rattle.std.specs.Result.{ForErr};
+ghost use Rattle.mt_edge.specs.Pieces.{Grows, GrowsBy};
+ghost use Rattle.mutest_engine.specs.declared.status.Status.TheVariants.{Done, Usage, WantOfMemory};
+ghost use Rattle.mutest_engine.specs.StatusText.{line_of};
+ghost use Rattle.mutest_engine.specs.Answers.{command_of, within_limit as within, file_of, refusal_of, spelled_class, list_answer, answer_of, Gives, GivesText, Agrees, AgreesUntold, IsFault, IsRefusal, CountsFaults};
+ghost use Rattle.mutest_engine.specs.Said.{Got, Leaves, text_of_answer, writes_of_answer, FilesAfter};
+
+use crate::class_reader::read_class_file;
+use crate::commands::listed_file;
+use crate::fault::FormFault;
+use crate::mutators::class_mutants;
+use crate::printing::id_lines;
+use crate::status::{Limit, Output, Status, line};
+use class_model::{Bytes, Class, ClassFault, Memory};
+use mt_edge::{EdgeFault, Sink, Tree};
+use std::alloc::Global;
+
+const CLASS_LIMIT: usize = 4_194_304;
+
+// A file within the limit.
+fn within_limit(bytes: Bytes) -> Result<Bytes, Status>
+    ensures { result ≡ within bytes }
+{
+    let length = bytes.len();
+    if length > CLASS_LIMIT {
+        return Err(Status::TooMany {
+            limit: Limit::Class,
+            number: length as u64,
+        });
+    }
+    Ok(bytes)
+}
+
+// The bytes of a file.
+fn read_file<T: Tree>(alloc: Global, tree: &mut T, path: &str) -> Result<Bytes, Status>
+    ensures told { IfSome (T.holds tree.old) (λ files. Gives (file_of path.now files) result) }
+    ensures untold { IfErr result (λ s. s ≢ Usage) }
+    ensures refusal { IfErr result IsRefusal }
+    ensures faults { IfErr result (λ s. CountsFaults (T.reading tree.old) (T.reading tree.new) 0 0 s) }
+    ensures tree { (T.holds tree.new ≡ T.holds tree.old) × (T.writing tree.new ≡ T.writing tree.old) }
+{
+    match tree.read(path) {
+        Ok(Some(bytes)) => within_limit(bytes),
+        Ok(None) => Err(Status::NotFound {
+            path: Bytes::from_slice(alloc, path.as_bytes())?,
+        }),
+        Err(EdgeFault::Failed) => Err(Status::ReadFault { faults: 1 }),
+        Err(EdgeFault::Memory) => Err(Status::WantOfMemory),
+    }
+}
+
+// How a fault of a file is refused, or want of memory.
+fn refusal_of(alloc: Global, path: &str, fault: FormFault) -> Status
+    ensures { (result ≡ refusal_of path.now fault) ⊎ (result ≡ WantOfMemory) }
+{
+    let Ok(path) = Bytes::from_slice(alloc, path.as_bytes()) else {
+        return Status::WantOfMemory;
+    };
+    match fault {
+        FormFault::Short { at, .. } => Status::BadClass {
+            path,
+            fault: ClassFault::Truncated { at },
+        },
+        FormFault::NotYet { at } => Status::NotYet { path, at },
+        FormFault::BadMagic => Status::BadClass {
+            path,
+            fault: ClassFault::BadMagic,
+        },
+        FormFault::BadVersion { major } => Status::BadClass {
+            path,
+            fault: ClassFault::BadVersion { major },
+        },
+        FormFault::Trailing { at } => Status::BadClass {
+            path,
+            fault: ClassFault::TrailingBytes { at },
+        },
+        FormFault::Memory => Status::WantOfMemory,
+    }
+}
+
+// The class of a file.
+fn spelled_class(alloc: Global, path: &str, bytes: &[u8]) -> Result<Class, Status>
+    ensures told { Gives (spelled_class path.now bytes.now) result }
+    ensures file { IfErr result (λ s. IsRefusal s × (s ≢ Usage) × CountsFaults 0 0 0 0 s) }
+{
+    match read_class_file(alloc, bytes) {
+        Ok(class) => Ok(class),
+        Err(fault) => Err(refusal_of(alloc, path, fault)),
+    }
+}
+
+// The text that `list` prints for a file.
+fn list_answer<T: Tree>(alloc: Global, tree: &mut T, path: &str) -> Result<Bytes, Status>
+    ensures told { IfSome (T.holds tree.old) (λ files. Gives (list_answer path.now files) result) }
+    ensures untold { IfErr result (λ s. s ≢ Usage) }
+    ensures refusal { IfErr result IsRefusal }
+    ensures faults { IfErr result (λ s. CountsFaults (T.reading tree.old) (T.reading tree.new) 0 0 s) }
+    ensures tree { (T.holds tree.new ≡ T.holds tree.old) × (T.writing tree.new ≡ T.writing tree.old) }
+{
+    let bytes = read_file(alloc, tree, path)?;
+    let class = spelled_class(alloc, path, bytes.as_slice())?;
+    let mutants = class_mutants(alloc, &class)?;
+    Ok(id_lines(alloc, mutants.as_slice())?)
+}
+
+// What the words ask for: the text that is put where nothing fails.
+fn answer<T: Tree>(alloc: Global, words: &Vec<String>, tree: &mut T) -> Result<Bytes, Status>
+    ensures told { IfSome (T.holds tree.old) (λ files. GivesText (answer_of (map string_bytes words.now.items) files) result) }
+    ensures untold { MatchResult result (λ _. (command : _) × (command_of (map string_bytes words.now.items) ≡ Ok command)) (AgreesUntold (command_of (map string_bytes words.now.items))) }
+    ensures faults { IfErr result (λ s. CountsFaults (T.reading tree.old) (T.reading tree.new) 0 0 s) }
+    ensures refusal { IfErr result IsRefusal }
+    ensures tree { (T.holds tree.new ≡ T.holds tree.old) × (T.writing tree.new ≡ T.writing tree.old) }
+{
+    let Some(file) = listed_file(words) else {
+        return Err(Status::Usage);
+    };
+    list_answer(alloc, tree, file)
+}
+
+// Puts the line of a refusal.
+fn refuse<S: Sink>(alloc: Global, out: &mut S, status: Status) -> Status
+    ensures same { (result ≡ status) ⊎ (result ≡ WantOfMemory) }
+    ensures said { Got (S.faults out.old) (S.faults out.new) (S.written out.old) (S.written out.new) (line_of status) ⊎ ((result ≡ WantOfMemory) × GrowsBy (S.written out.old) (S.written out.new) (line_of status)) }
+    ensures faults { S.faults out.old ≤ S.faults out.new }
+{
+    let Ok(text) = line(alloc, &status) else {
+        return Status::WantOfMemory;
+    };
+    match out.put(text.as_slice()) {
+        Ok(()) => status,
+        Err(EdgeFault::Failed) => status,
+        Err(EdgeFault::Memory) => Status::WantOfMemory,
+    }
+}
+
+// Puts the text of a command.
+fn put_text<S: Sink>(alloc: Global, out: &mut S, text: &Bytes) -> Status
+    ensures status { (result ≡ Done) ⊎ IsFault result }
+    ensures faults { CountsFaults 0 0 (S.faults out.old) (S.faults out.new) result }
+    ensures said { Leaves (S.faults out.old) (S.faults out.new) (S.written out.old) (S.written out.new) text.now result }
+{
+    match out.put(text.as_slice()) {
+        Ok(()) => Status::Done,
+        Err(EdgeFault::Failed) => refuse(
+            alloc,
+            out,
+            Status::WriteFault {
+                which: Output::Output,
+                faults: 1,
+            },
+        ),
+        Err(EdgeFault::Memory) => Status::WantOfMemory,
+    }
+}
+
+// Puts the text, or the line of the refusal.
+fn finish<S: Sink>(alloc: Global, out: &mut S, answer: Result<Bytes, Status>) -> Status
+    requires { ForErr answer IsRefusal }
+    ensures status { MatchResult answer (λ _. (result ≡ Done) ⊎ IsFault result) (λ s. (result ≡ s) ⊎ (result ≡ WantOfMemory)) }
+    ensures faults { IfOk answer (λ _. CountsFaults 0 0 (S.faults out.old) (S.faults out.new) result) }
+    ensures said { MatchResult answer (λ text. Leaves (S.faults out.old) (S.faults out.new) (S.written out.old) (S.written out.new) text result) (λ s. (text : List ℕ) → Leaves (S.faults out.old) (S.faults out.new) (S.written out.old) (S.written out.new) text result) }
+{
+    match answer {
+        Ok(text) => put_text(alloc, out, &text),
+        Err(status) => refuse(alloc, out, status),
+    }
+}
+
+/// Does what the words behind the program's name say: `list FILE` puts the identifiers of the mutants of the class file FILE, one per line.
+pub fn run<T: Tree, S: Sink>(
+    alloc: Global,
+    words: &Vec<String>,
+    tree: &mut T,
+    out: &mut S,
+) -> Status
+    // Where the tree tells its files, each status comes exactly where words and files say so, but for faults and want of memory.
+    ensures told { IfSome (T.holds tree.old) (λ files. Agrees (answer_of (map string_bytes words.now.items) files) result) }
+    // Else what the words alone decide.
+    ensures untold { AgreesUntold (command_of (map string_bytes words.now.items)) result }
+    // A fault comes only where the object's faults rose.
+    ensures faults { CountsFaults (T.reading tree.old) (T.reading tree.new) (S.faults out.old) (S.faults out.new) result }
+    // What the sink got.
+    ensures said { IfSome (T.holds tree.old) (λ files. Leaves (S.faults out.old) (S.faults out.new) (S.written out.old) (S.written out.new) (text_of_answer (answer_of (map string_bytes words.now.items) files)) result) }
+    ensures said_untold { (text : List ℕ) × Leaves (S.faults out.old) (S.faults out.new) (S.written out.old) (S.written out.new) text result }
+    // What the tree holds then.
+    ensures tree { IfSome (T.holds tree.old) (λ files. FilesAfter (writes_of_answer (answer_of (map string_bytes words.now.items) files)) (Some files) (T.holds tree.new) result) }
+    ensures writes_nothing { T.writing tree.new ≡ T.writing tree.old }
+{
+    let answer = answer(alloc, words, tree);
+    finish(alloc, out, answer)
+}
