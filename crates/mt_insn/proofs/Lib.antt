@@ -4,3 +4,6 @@ pub mod Operands
 pub mod Insns
 pub mod Search
 pub mod PlacedLaws
+pub mod Sizes
+pub mod Written
+pub mod Forms

@@ -1,6 +1,8 @@
 -- The code of a method (JVMS 4.7.3, 6.5): its instructions one after the other, and what bounds it has.
-use Rattle.std.specs.Prelude.{◌≡◌, ℕ, ◌+◌, ◌-◌, ◌*◌, ◌<◌, ◌^◌, nat_lt, ℤ, pos, negsuc, ◌-ℤ◌, Bool, true, false, not, ◌&&◌, List, [], ◌∷◌, ◌++◌, length, map, slice_index, Option, Some, None, Result, Ok, Err, if◌then◌else◌}
-use Rattle.std.specs.List.{AllByRecursion, list_all}
+use Rattle.std.specs.Prelude.{◌≡◌, ℕ, ◌+◌, ◌-◌, ◌*◌, ◌<◌, ◌^◌, nat_lt, ℤ, pos, negsuc, ◌-ℤ◌, FitsSigned, Bool, true, false, not, ◌&&◌, List, [], ◌∷◌, ◌++◌, length, map, slice_index, Option, Some, None, Result, Ok, Err, if◌then◌else◌}
+use Rattle.std.specs.Int.{w8, w16, w32}
+use Rattle.std.specs.Int.RustNames.{int_le, int_lt}
+use Rattle.std.specs.List.{AllByRecursion}
 use Rattle.class_model.specs.declared.constant.Const.{Const}
 use Rattle.class_model.specs.declared.instruction.Arg.{Arg}
 use Rattle.class_model.specs.declared.instruction.Arg.TheVariants as arg
@@ -10,8 +12,9 @@ use Rattle.class_model.specs.declared.fault.LayoutFault.TheVariants as layout_fa
 use Rattle.class_model.specs.declared.fault.Bound.TheVariants as bound
 use Rattle.codec_rules.specs.Spelling.{spelled_from}
 use Rattle.mt_insn.specs.Opcode.{form_of}
+use Rattle.mt_insn.specs.Named.{is_array_kind}
 use Rattle.mt_insn.specs.Operands.{padding}
-use Rattle.mt_insn.specs.Spelling.{raw_bytes, IsRaw}
+use Rattle.mt_insn.specs.Spelling.{number_in, index_in, count_in, kind_in, local_in, highest, raw_bytes, IsRaw}
 use Rattle.mt_insn.specs.declared.opcode.Form.{Form}
 use Rattle.mt_insn.specs.declared.opcode.Form.TheVariants as form
 use Rattle.mt_insn.specs.declared.raw.Operand.{Operand}
@@ -29,7 +32,7 @@ abbrev pub lookup_keys : Arg → ℕ
 lookup_keys (arg.Lookup default pairs) = length pairs
 lookup_keys other = 0
 
--- How many bytes stand behind an opcode that ends at a place in the code.
+-- How many bytes stand behind an opcode that ends at a place in the code. An opcode that is refused has no instruction, so none are said of it.
 abbrev pub operand_size : Form → ℕ → Arg → ℕ
 operand_size form.Plain place a = 0
 operand_size form.Float place a = 0
@@ -128,3 +131,89 @@ HasTargets count insn = AllByRecursion (λ n. (n < count) × (n < 2 ^ 32)) (targ
 pub record IsCode (pool : List Const) (insns : List Insn) : Type 0 where
   pub formed : AllByRecursion (IsRaw pool) (raws insns)
   pub targets : AllByRecursion (HasTargets (length insns)) insns
+
+-- ---- writing
+
+abbrev pub target_in : Arg → ℕ
+target_in (arg.To n) = n
+target_in (arg.Table n low ns) = n
+target_in (arg.Lookup n pairs) = n
+target_in other = 0
+
+abbrev pub arg_low : Arg → ℤ
+arg_low (arg.Table n low ns) = low
+arg_low other = pos 0
+
+abbrev pub arg_targets : Arg → List ℕ
+arg_targets (arg.Table n low ns) = ns
+arg_targets other = []
+
+abbrev pub arg_pairs : Arg → List (ℤ × ℕ)
+arg_pairs (arg.Lookup n pairs) = pairs
+arg_pairs other = []
+
+-- Each key is above the one before, and the first is above this one.
+abbrev pub keys_rise_above : ℤ → List (ℤ × ℕ) → Bool
+keys_rise_above key [] = true
+keys_rise_above key (pair ∷ pairs) = int_lt key pair.0 && keys_rise_above pair.0 pairs
+
+abbrev pub keys_ascend : List (ℤ × ℕ) → Bool
+keys_ascend [] = true
+keys_ascend (pair ∷ pairs) = keys_rise_above pair.0 pairs
+
+-- An operand is one of the form of an opcode: it has the parts of that form and no others, and its numbers are in their ranges. What its index names, and where it leads, is said elsewhere.
+abbrev pub IsArg : Form → Arg → Type 0
+IsArg form.Plain a = a ≡ arg.None
+IsArg form.Float a = ⊥
+IsArg form.FloatLocal a = ⊥
+IsArg form.SmallNumber a = (a ≡ arg.Number (number_in (operand.Done a))) × FitsSigned w8 (number_in (operand.Done a))
+IsArg form.Number a = (a ≡ arg.Number (number_in (operand.Done a))) × FitsSigned w16 (number_in (operand.Done a))
+IsArg form.SmallConstant a = (a ≡ arg.Pool (index_in (operand.Done a))) × (index_in (operand.Done a) < 2 ^ 8)
+IsArg form.Local a = (a ≡ arg.Local (local_in (operand.Done a))) × (local_in (operand.Done a) < 2 ^ 8)
+IsArg form.Increment a = (a ≡ arg.Inc (local_in (operand.Done a)) (number_in (operand.Done a))) × (local_in (operand.Done a) < 2 ^ 8) × FitsSigned w8 (number_in (operand.Done a))
+IsArg form.Jump a = a ≡ arg.To (target_in a)
+IsArg form.FarJump a = a ≡ arg.To (target_in a)
+IsArg form.Table a = (a ≡ arg.Table (target_in a) (arg_low a) (arg_targets a)) × FitsSigned w32 (arg_low a) × (0 < length (arg_targets a)) × FitsSigned w32 (highest (arg_low a) (length (arg_targets a)))
+IsArg form.Lookup a = (a ≡ arg.Lookup (target_in a) (arg_pairs a)) × AllByRecursion (λ pair. FitsSigned w32 pair.0) (arg_pairs a) × (keys_ascend (arg_pairs a) ≡ true)
+IsArg form.Interface a = (a ≡ arg.Multi (index_in (operand.Done a)) (count_in (operand.Done a))) × (index_in (operand.Done a) < 2 ^ 16) × (count_in (operand.Done a) < 2 ^ 8)
+IsArg form.Dynamic a = ⊥
+IsArg form.Array a = (a ≡ arg.Kind (kind_in (operand.Done a))) × (kind_in (operand.Done a) < 2 ^ 8) × (is_array_kind (kind_in (operand.Done a)) ≡ true)
+IsArg form.Dimensions a = (a ≡ arg.Multi (index_in (operand.Done a)) (count_in (operand.Done a))) × (index_in (operand.Done a) < 2 ^ 16) × (count_in (operand.Done a) < 2 ^ 8)
+IsArg other a = (a ≡ arg.Pool (index_in (operand.Done a))) × (index_in (operand.Done a) < 2 ^ 16)
+
+-- The same behind wide.
+abbrev pub IsWideArg : Form → Arg → Type 0
+IsWideArg form.Local a = (a ≡ arg.Local (local_in (operand.Done a))) × (local_in (operand.Done a) < 2 ^ 16)
+IsWideArg form.Increment a = (a ≡ arg.Inc (local_in (operand.Done a)) (number_in (operand.Done a))) × (local_in (operand.Done a) < 2 ^ 16) × FitsSigned w16 (number_in (operand.Done a))
+IsWideArg other a = ⊥
+
+abbrev pub IsFormedArg : Option Form → Bool → Arg → Type 0
+IsFormedArg None wide a = ⊥
+IsFormedArg (Some form) true a = IsWideArg form a
+IsFormedArg (Some form) false a = IsArg form a
+
+-- The instruction has an operand of the form of its opcode.
+abbrev pub HasForm : Insn → Type 0
+HasForm insn = (insn.op < 2 ^ 8) × IsFormedArg (form_of insn.op) insn.wide insn.arg
+
+-- ---- bounds
+
+-- An offset has two bytes.
+abbrev pub is_short : ℤ → Bool
+is_short z = int_le (negsuc 32767) z && int_le z (pos 32767)
+
+-- A jump whose offset has two bytes doesn't lead further.
+abbrev pub jump_fits : Option Form → Bool → ℤ → Bool
+jump_fits (Some form.Jump) false z = is_short z
+jump_fits other wide z = true
+
+abbrev pub jumps_fit : List ℕ → ℕ → List Insn → Bool
+jumps_fit starts place [] = true
+jumps_fit starts place (insn ∷ insns) = jump_fits (form_of insn.op) insn.wide (offset starts place (target_in insn.arg)) && jumps_fit starts (place + size_at place insn) insns
+
+-- The bytes of a code of 65,535 bytes at most, whose jumps' offsets have room; a code that is too long is told before a jump that leads too far.
+abbrev pub layout : List Insn → Result (List ℕ) LayoutFault
+layout insns =
+    if nat_lt (code_length insns) (2 ^ 16)
+    then (if jumps_fit (places insns) 0 insns then Ok (code insns) else Err (layout_fault.TooLarge bound.Jump))
+    else Err (layout_fault.TooLarge bound.Code)

@@ -97,30 +97,31 @@ table_bytes items = s4 items.default ++ (s4 items.low ++ (s4 items.high ++ flat_
 abbrev pub lookup_bytes : Operand → List ℕ
 lookup_bytes o = s4 (offset_in o) ++ (u4 (length (pairs_in o)) ++ flat_map pair_bytes (pairs_in o))
 
+-- What stands behind an opcode without targets.
+abbrev pub fixed_bytes : Form → Operand → List ℕ
+fixed_bytes form.SmallNumber o = s1 (number_in o)
+fixed_bytes form.Number o = s2 (number_in o)
+fixed_bytes form.SmallConstant o = u1 (index_in o)
+fixed_bytes form.Constant o = u2 (index_in o)
+fixed_bytes form.LongConstant o = u2 (index_in o)
+fixed_bytes form.Local o = u1 (local_in o)
+fixed_bytes form.Increment o = u1 (local_in o) ++ s1 (number_in o)
+fixed_bytes form.Field o = u2 (index_in o)
+fixed_bytes form.Method o = u2 (index_in o)
+fixed_bytes form.AnyMethod o = u2 (index_in o)
+fixed_bytes form.Interface o = u2 (index_in o) ++ (u1 (count_in o) ++ u1 0)
+fixed_bytes form.Class o = u2 (index_in o)
+fixed_bytes form.Array o = u1 (kind_in o)
+fixed_bytes form.Dimensions o = u2 (index_in o) ++ u1 (count_in o)
+fixed_bytes other o = []
+
 -- What stands behind an opcode of each form, where the opcode ends at a place in the code.
 abbrev pub operand_bytes : Form → ℕ → Operand → List ℕ
-operand_bytes form.Plain at o = []
-operand_bytes form.Float at o = []
-operand_bytes form.FloatLocal at o = []
-operand_bytes form.SmallNumber at o = s1 (number_in o)
-operand_bytes form.Number at o = s2 (number_in o)
-operand_bytes form.SmallConstant at o = u1 (index_in o)
-operand_bytes form.Constant at o = u2 (index_in o)
-operand_bytes form.LongConstant at o = u2 (index_in o)
-operand_bytes form.Local at o = u1 (local_in o)
-operand_bytes form.Increment at o = u1 (local_in o) ++ s1 (number_in o)
 operand_bytes form.Jump at o = s2 (offset_in o)
 operand_bytes form.FarJump at o = s4 (offset_in o)
 operand_bytes form.Table at o = padding_bytes at ++ table_bytes (items_in o)
 operand_bytes form.Lookup at o = padding_bytes at ++ lookup_bytes o
-operand_bytes form.Field at o = u2 (index_in o)
-operand_bytes form.Method at o = u2 (index_in o)
-operand_bytes form.AnyMethod at o = u2 (index_in o)
-operand_bytes form.Interface at o = u2 (index_in o) ++ (u1 (count_in o) ++ u1 0)
-operand_bytes form.Dynamic at o = []
-operand_bytes form.Class at o = u2 (index_in o)
-operand_bytes form.Array at o = u1 (kind_in o)
-operand_bytes form.Dimensions at o = u2 (index_in o) ++ u1 (count_in o)
+operand_bytes other at o = fixed_bytes other o
 
 -- The same behind wide.
 abbrev pub wide_bytes : Form → Operand → List ℕ

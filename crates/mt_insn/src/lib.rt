@@ -5,28 +5,35 @@
 //! (`operand_bytes` and `IsOperand` in `specs/Spelling.antt`), and that the two undo each other (`operand_codec` in `proofs/Insns.antt`).
 #![tactic(auto)]
 
-ghost use Rattle.std.specs.Prelude.{◌≡◌, ◌+◌, ◌<◌, ◌^◌, length};
+ghost use Rattle.std.specs.Prelude.{◌≡◌, ◌+◌, ◌<◌, ◌^◌, ◌++◌, length, All, IfOk, OnOk};
+ghost use Rattle.class_model.specs.declared.fault.LayoutFault.TheVariants as layout_fault;
+ghost use Rattle.mt_insn.specs.Code.{HasForm, HasTargets, code, code_length, layout, places};
 ghost use Rattle.class_model.specs.declared.fault.ClassFault.TheVariants as fault;
 ghost use Rattle.codec_rules.specs.Meets.{Gives};
 ghost use Rattle.mt_insn.specs.Targets.{code_at};
 
-use class_model::{ClassFault, Const, Insn, Seq};
+use class_model::{Bytes, ClassFault, Const, Insn, LayoutFault, Memory, Seq};
 use std::alloc::Global;
 
 mod cursor;
 mod named;
 mod opcode;
 mod operand;
+mod put;
 mod raw;
 mod read;
+mod size;
 mod switch;
 mod target;
 #[cfg(test)]
 mod tests;
 mod whole;
 mod words;
+mod write;
 
+use size::places_of;
 use whole::read_code;
+use write::write_code;
 
 /// The instructions that are the whole of a method's code. `base` is the place in the file of the code's first byte, and faults name places in the file.
 ///
@@ -44,4 +51,26 @@ pub fn read_insns(
     ensures exact { Gives fault.Memory (λ insns. insns) (code_at base pool.now bytes.now) result }
 {
     read_code(alloc, bytes, base, pool.as_slice())
+}
+
+/// The place of each instruction in its code, counted from the code's first byte.
+pub fn places(alloc: Global, insns: &Seq<Insn>) -> Result<Seq<u32>, Memory>
+    requires { code_length insns.now < 2 ^ 32 }
+    ensures { IfOk result (λ p. p ≡ places insns.now) }
+{
+    places_of(alloc, insns.as_slice())
+}
+
+/// Adds the bytes of the instructions at the end. `Code` is too large exactly where they are more than 65,535, and else `Jump` exactly where the offset of a jump of two
+/// bytes has no room; then the list is unchanged.
+pub fn write_insns(insns: &Seq<Insn>, out: &mut Bytes) -> Result<(), LayoutFault>
+    requires forms { All HasForm insns.now }
+    requires targets { All (HasTargets (length insns.now)) insns.now }
+    ensures ok { OnOk result (out.new ≡ out.old ++ code insns.now) }
+
+    // Whether there is room, or what is too large.
+    ensures exact { Gives layout_fault.Memory (λ _. code insns.now) (layout insns.now) result }
+    ensures unchanged { (what : _) → result ≡ Err (layout_fault.TooLarge what) → out.new ≡ out.old }
+{
+    write_code(insns.as_slice(), out)
 }

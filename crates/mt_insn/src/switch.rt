@@ -11,7 +11,7 @@ use class_model::{ClassFault, Seq};
 use std::alloc::Global;
 
 /// The number of bytes from a place up to the next multiple of four.
-fn padding(place: u64) -> u64
+pub fn padding(place: u64) -> u64
     ensures { result ≡ padding place }
 {
     (4 - place % 4) % 4

@@ -1,5 +1,5 @@
-use crate::read_insns;
-use class_model::{Arg, ClassFault, Const, Insn, Seq};
+use crate::{places, read_insns, write_insns};
+use class_model::{Arg, Bound, Bytes, ClassFault, Const, Insn, LayoutFault, Seq};
 use std::test::Fail;
 
 /// What is told of a code whose first byte is at place 1000 of its file, with a pool of a class, an int, a float and a method handle.
@@ -108,5 +108,56 @@ fn faults_of_one_instruction(rt: HostRuntime) -> Result<(), Fail> {
         told(&rt, &[0xba, 0, 1, 0, 0])?,
         Some(ClassFault::DynamicUsed { at: 1000 })
     );
+    Ok(())
+}
+
+#[test]
+fn what_is_read_is_written_again(rt: HostRuntime) -> Result<(), Fail> {
+    // iload_0; tableswitch at 1 to itself and the return; wide iinc 1 by 256; return
+    let bytes = [
+        0x1a, 0xaa, 0, 0, 0, 0, 0, 25, 0, 0, 0, 5, 0, 0, 0, 5, 0, 0, 0, 0, 0xc4, 0x84, 0, 1, 1, 0,
+        0xb1,
+    ];
+    let insns = read_insns(rt.alloc(), &bytes, 0, &Seq::new(rt.alloc()))?;
+    let starts = places(rt.alloc(), &insns)?;
+    assert!(rt; starts.as_slice() == [0, 1, 20, 26].as_slice());
+    let mut out: Bytes = Seq::new(rt.alloc());
+    write_insns(&insns, &mut out)?;
+    assert!(rt; out.as_slice() == bytes.as_slice());
+    Ok(())
+}
+
+#[test]
+fn a_code_and_a_jump_have_bounds(rt: HostRuntime) -> Result<(), Fail> {
+    let mut insns = Seq::new(rt.alloc());
+    insns.push(Insn {
+        op: 0xa7,
+        wide: false,
+        arg: Arg::To(40_000),
+    })?;
+    for _ in 0..40_000 {
+        insns.push(Insn {
+            op: 0x00,
+            wide: false,
+            arg: Arg::None,
+        })?;
+    }
+    let mut out: Bytes = Seq::new(rt.alloc());
+    assert_eq!(rt;
+        write_insns(&insns, &mut out),
+        Err(LayoutFault::TooLarge { what: Bound::Jump })
+    );
+    for _ in 0..30_000 {
+        insns.push(Insn {
+            op: 0x00,
+            wide: false,
+            arg: Arg::None,
+        })?;
+    }
+    assert_eq!(rt;
+        write_insns(&insns, &mut out),
+        Err(LayoutFault::TooLarge { what: Bound::Code })
+    );
+    assert_eq!(rt; out.len(), 0);
     Ok(())
 }
