@@ -1,7 +1,9 @@
 pub mod TextLaws
+pub mod TextReading
 pub mod NameLaws
 pub mod PartingLaws
 pub mod DescriptorLaws
 pub mod MethodLaws
 pub mod ParameterLaws
 pub mod Verdicts
+pub mod PoolLaws

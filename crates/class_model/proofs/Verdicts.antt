@@ -64,8 +64,11 @@ module _ {T K : Type 0} (meaning : T → Option K) where
 means_field : (desc : List ℕ) (value : Option Kind) → Judged kind_of (field_type_of desc) value → MeansField desc value
 means_field desc value j = record { tree = j.tree; spelled = field_takes desc j.tree j.is; means = j.means }
 
+pub read_field_means : (desc : List ℕ) (kind : Kind) → field_kind desc ≡ Ok kind → MeansField desc (Some kind)
+read_field_means desc kind e = means_field desc (Some kind) (ok_from kind_of (field_type_of desc) kind e)
+
 pub field_found : (desc : List ℕ) (r : Result Kind DescFault) → Exact kind_of (field_kind desc) r → IfOk r (λ kind. MeansField desc (Some kind))
-field_found desc (Ok kind) h = means_field desc (Some kind) (ok_from kind_of (field_type_of desc) kind h)
+field_found desc (Ok kind) h = read_field_means desc kind h
 field_found desc (Err fault) h = tt
 
 pub field_float : (desc : List ℕ) (r : Result Kind DescFault) → Exact kind_of (field_kind desc) r → r ≡ Err desc_fault.Float → MeansField desc None
@@ -79,8 +82,11 @@ field_bad desc r h e t is = bad_from kind_of (field_type_of desc) t (answered_ba
 means_method : (desc : List ℕ) (value : Option MethodType) → Judged method_type (method_descriptor_of desc) value → MeansMethod desc value
 means_method desc value j = record { tree = j.tree; spelled = method_takes desc j.tree j.is; means = j.means }
 
+pub read_method_means : (desc : List ℕ) (types : MethodType) → method_kinds desc ≡ Ok types → MeansMethod desc (Some types)
+read_method_means desc types e = means_method desc (Some types) (ok_from method_type (method_descriptor_of desc) types e)
+
 pub method_found : (desc : List ℕ) (r : Result MethodType DescFault) → Exact method_type (method_kinds desc) r → IfOk r (λ types. MeansMethod desc (Some types))
-method_found desc (Ok types) h = means_method desc (Some types) (ok_from method_type (method_descriptor_of desc) types h)
+method_found desc (Ok types) h = read_method_means desc types h
 method_found desc (Err fault) h = tt
 
 pub method_float : (desc : List ℕ) (r : Result MethodType DescFault) → Exact method_type (method_kinds desc) r → r ≡ Err desc_fault.Float → MeansMethod desc None

@@ -1,5 +1,6 @@
 use Rattle.std.proofs.Common.{sym}
-use Rattle.class_model.proofs.TextLaws.{step, is_whole, is_bad, units_of-whole, units_of-bad}
+use Rattle.class_model.proofs.TextLaws.{step, is_whole, is_bad}
+use Rattle.class_model.proofs.TextReading.{units_of-whole, units_of-bad}
 use Rattle.class_model.proofs.text.read_text.Goals as goal
 
 pub loop-rest-preserved : goal.loop-rest-preserved
