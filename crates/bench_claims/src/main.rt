@@ -2,7 +2,7 @@
 //! prints how many nanoseconds that took; with none, the number that would be drawn next.
 #![tactic(auto)]
 
-ghost use Rattle.std.specs.Prelude.{◌≡◌, ◌<◌, ◌+◌, ◌^◌};
+ghost use Rattle.std.specs.Prelude.{◌≡◌};
 ghost use Rattle.mutant_table.specs.Seats.{AreSeats, IsSeatOf, worker_of};
 
 use mutant_table::{ClaimSeat, ClaimTable};

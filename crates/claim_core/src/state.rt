@@ -1,8 +1,8 @@
-ghost use Rattle.std.specs.Prelude.{◌≡◌, ◌==◌, if◌then◌else◌, ◌<◌, ◌+◌, ◌^◌, ℕ, [], ◌↔◌, OnOk, OnErr, IfOk, IfSome, IsNone, length, map, Contains, List, replicate, false, true, slice_set};
-ghost use Rattle.claim_core.specs.Claims.{started, after, reply_of, IsInRange, noted, claimed, looked, detected, is_exhausted, place_in as place_of, list_of, least_of};
+ghost use Rattle.std.specs.Prelude.{◌≡◌, ◌<◌, ◌+◌, ◌^◌, [], ◌↔◌, OnOk, OnErr, IfOk, IfSome, IsNone, length, map, List, replicate, false, true, slice_set};
+ghost use Rattle.claim_core.specs.Claims.{started, after, reply_of, IsInRange, noted, place_in as place_of, least_of};
 ghost use Rattle.claim_core.specs.Agreement.{ClaimsAgree, IsUndetected, IsLeastDetected};
 ghost use Rattle.claim_core.specs.Ending.{Cell as TableCell, IsWholeRun, IsLeastOf};
-ghost use Rattle.claim_core.specs.Held.{entries_of, drained_of, lists_of};
+ghost use Rattle.claim_core.specs.Held.{drained_of, lists_of};
 
 use crate::events::{Entry, Event, Reply};
 use class_model::Memory;
@@ -60,7 +60,8 @@ impl ClaimState {
         })
     }
 
-    /// Does what the event says. A worker that was told that no cell is left is told so again, and draws no more.
+    /// Does what the event says. A worker that was told that no cell is left is told so again, and draws no more. On want
+    /// of memory the state is as it was.
     pub fn step(&mut self, event: &Event) -> Result<Reply, Memory>
         requires { IsInRange self.old event.now }
         ensures state { OnOk result (self.new ≡ after event.now self.old) }
