@@ -124,7 +124,7 @@ detected_agrees c w m p lt in_least small ok =
       ascends = λ v. pairs_noted (Ascends c.cells) c.lists w e v lt (ok.ascends v) rises;
       in_range = λ v n q h. ⊎_elim
           (λ t. let r = ok.in_range v n q t in (rw as_long r.0, r.1))
-          (λ t. let mm : m ≡ n = ap mutant_of t.1 in let pp : p ≡ q = ap number_of t.1 in (rw as_long (omega arith), omega arith))
+          (λ (t : (v ≡ w) × (e ≡ Detected n q)). let mm : m ≡ n = ap mutant_of t.1 in let pp : p ≡ q = ap number_of t.1 in (rw as_long (omega arith), omega arith))
           (contains_noted c.lists w e v (Detected n q) lt h);
       least = λ v n q h. ⊎_elim
           (λ t. let a = ok.least v n q t in let b = falls n in omega arith)
