@@ -7,3 +7,5 @@ pub mod PlacedLaws
 pub mod Sizes
 pub mod Written
 pub mod Forms
+pub mod TargetLaws
+pub mod CodeLaws

@@ -5,10 +5,11 @@
 //! (`operand_bytes` and `IsOperand` in `specs/Spelling.antt`), and that the two undo each other (`operand_codec` in `proofs/Insns.antt`).
 #![tactic(auto)]
 
-ghost use Rattle.std.specs.Prelude.{◌≡◌, ◌+◌, ◌<◌, ◌^◌, ◌++◌, length, All, IfOk, OnOk};
+ghost use Rattle.std.specs.Prelude.{◌≡◌, ◌+◌, ◌<◌, ◌^◌, ◌++◌, List, length, All, IfOk, OnOk, Ok};
 ghost use Rattle.class_model.specs.declared.fault.LayoutFault.TheVariants as layout_fault;
-ghost use Rattle.mt_insn.specs.Code.{HasForm, HasTargets, code, code_length, layout, places};
+ghost use Rattle.mt_insn.specs.Code.{IsCode, HasForm, HasTargets, code, code_length, layout, places};
 ghost use Rattle.class_model.specs.declared.fault.ClassFault.TheVariants as fault;
+ghost use Rattle.class_model.specs.declared.instruction.Insn.{Insn};
 ghost use Rattle.codec_rules.specs.Meets.{Gives};
 ghost use Rattle.mt_insn.specs.Targets.{code_at};
 
@@ -47,7 +48,13 @@ pub fn read_insns(
 ) -> Result<Seq<Insn>, ClassFault>
     requires { base + length bytes.now < 2 ^ 64 }
 
-    // Which instructions they are, or which fault it is.
+    // The bytes spell what is answered.
+    ensures found { IfOk result (λ insns. IsCode pool.now insns × (bytes.now ≡ code insns)) }
+
+    // What the bytes spell is answered, unless memory runs out.
+    ensures only { (insns : List Insn) → IsCode pool.now insns → bytes.now ≡ code insns → Gives fault.Memory (λ read. read) (Ok insns) result }
+
+    // Which fault it is.
     ensures exact { Gives fault.Memory (λ insns. insns) (code_at base pool.now bytes.now) result }
 {
     read_code(alloc, bytes, base, pool.as_slice())
