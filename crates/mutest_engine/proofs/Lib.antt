@@ -1,5 +1,6 @@
 mod CodeLaws
 mod Ends
+mod Lines
 mod ManyFrom
 mod PoolLaws
 mod Turns

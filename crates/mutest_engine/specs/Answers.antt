@@ -13,6 +13,7 @@ use Rattle.mutest_engine.specs.declared.fault.FormFault.TheVariants as fault
 use Rattle.mutest_engine.specs.declared.status.Status.{Status}
 use Rattle.mutest_engine.specs.declared.status.Status.TheVariants.{Done, Usage, NotFound, BadClass, NotYet, ReadFault, WriteFault, TooMany, WantOfMemory}
 use Rattle.mutest_engine.specs.declared.status.Output.{Output}
+use Rattle.mutest_engine.specs.declared.status.Output.TheVariants as output
 use Rattle.mutest_engine.specs.declared.status.Limit.TheVariants as limit
 
 -- ---- steps up to the first refusal
@@ -90,25 +91,25 @@ answer_of words files = and_then (command_of words) (λ command. answer_to comma
 
 -- ---- how a status agrees with the answer
 
--- the statuses that words and files don't decide
-abbrev pub IsFault : Status → Type 0
-IsFault Done = ⊥
-IsFault Usage = ⊥
-IsFault (NotFound path) = ⊥
-IsFault (BadClass path e) = ⊥
-IsFault (NotYet path at) = ⊥
-IsFault (ReadFault faults) = Unit {0}
-IsFault (WriteFault which faults) = Unit {0}
-IsFault (TooMany what number) = ⊥
-IsFault WantOfMemory = Unit {0}
+-- the statuses that words and files don't decide, before anything is written
+abbrev pub IsReading : Status → Type 0
+IsReading Done = ⊥
+IsReading Usage = ⊥
+IsReading (NotFound path) = ⊥
+IsReading (BadClass path e) = ⊥
+IsReading (NotYet path at) = ⊥
+IsReading (ReadFault faults) = Unit {0}
+IsReading (WriteFault which faults) = ⊥
+IsReading (TooMany what number) = ⊥
+IsReading WantOfMemory = Unit {0}
 
--- a step of the code gives what is stated, or a fault
+-- a step of the code gives what is stated, unless reading failed or memory ran out
 abbrev pub Gives : {X : Type 0} → Result X Status → Result X Status → Type 0
-Gives stated result = MatchResult result (λ x. stated ≡ Ok x) (λ s. (stated ≡ Err s) ⊎ IsFault s)
+Gives stated result = MatchResult result (λ x. stated ≡ Ok x) (λ s. (stated ≡ Err s) ⊎ IsReading s)
 
--- the code gives the text of a command that replaces no file, or a fault
+-- the same of the text of a command that replaces no file
 abbrev pub GivesText : Result Answered Status → Result (List ℕ) Status → Type 0
-GivesText stated result = MatchResult result (λ text. stated ≡ Ok (record { writes = []; text = text })) (λ s. (stated ≡ Err s) ⊎ IsFault s)
+GivesText stated result = MatchResult result (λ text. stated ≡ Ok (record { writes = []; text = text })) (λ s. (stated ≡ Err s) ⊎ IsReading s)
 
 -- the statuses that come before anything is written
 abbrev pub IsRefusal : Status → Type 0
@@ -122,10 +123,15 @@ IsRefusal (ReadFault faults) = Unit {0}
 IsRefusal (TooMany what number) = Unit {0}
 IsRefusal WantOfMemory = Unit {0}
 
--- the status is the stated one, or a fault
+-- a fault of writing comes only where there is something to write
+abbrev pub IsFault : Status → Type 0
+IsFault (WriteFault which faults) = Unit {0}
+IsFault s = IsReading s
+
+-- The status is the stated one. In its place there may be a fault of reading or want of memory, and a fault of writing where the command is carried out.
 abbrev pub Agrees : Result Answered Status → Status → Type 0
 Agrees (Ok answered) s = (s ≡ Done) ⊎ IsFault s
-Agrees (Err e) s = (s ≡ e) ⊎ IsFault s
+Agrees (Err e) s = (s ≡ e) ⊎ IsReading s
 
 -- where the files aren't told, the same of what the words alone decide
 abbrev pub AgreesUntold : Result Command Status → Status → Type 0
@@ -137,8 +143,16 @@ AgreesUntold stated s = (stated ≡ Err Usage → (s ≡ Usage) ⊎ (s ≡ WantO
 abbrev pub Failed : ℕ → ℕ → ℕ → Type 0
 Failed before now faults = (0 < faults) × (min (before + faults) (2 ^ 64 - 1) ≤ now)
 
--- A fault of reading was one of the tree, a fault of writing was one of the sink, and they are as many as are told.
-abbrev pub CountsFaults : ℕ → ℕ → ℕ → ℕ → Status → Type 0
-CountsFaults read0 read1 put0 put1 (ReadFault faults) = Failed read0 read1 faults
-CountsFaults read0 read1 put0 put1 (WriteFault which faults) = Failed put0 put1 faults
-CountsFaults read0 read1 put0 put1 s = Unit {0}
+-- A fault of writing was one of the object that it names: the sink for the output, the tree for files. There is no journal yet.
+abbrev pub WritesFailed : ℕ → ℕ → ℕ → ℕ → Output → ℕ → Type 0
+WritesFailed write0 write1 put0 put1 output.Report faults = Failed write0 write1 faults
+WritesFailed write0 write1 put0 put1 output.History faults = Failed write0 write1 faults
+WritesFailed write0 write1 put0 put1 output.Output faults = Failed put0 put1 faults
+WritesFailed write0 write1 put0 put1 output.Journal faults = ⊥
+WritesFailed write0 write1 put0 put1 output.Assembled faults = Failed write0 write1 faults
+
+-- A fault comes only where calls of its kind failed, and they are as many as are told: reading and writing of the tree, and putting to the sink, before and after.
+abbrev pub CountsFaults : ℕ → ℕ → ℕ → ℕ → ℕ → ℕ → Status → Type 0
+CountsFaults read0 read1 write0 write1 put0 put1 (ReadFault faults) = Failed read0 read1 faults
+CountsFaults read0 read1 write0 write1 put0 put1 (WriteFault which faults) = WritesFailed write0 write1 put0 put1 which faults
+CountsFaults read0 read1 write0 write1 put0 put1 s = Unit {0}

@@ -1,5 +1,5 @@
 -- Items of a class file (JVMS 4.1) and the first fault that reading meets, in the order of the file (this project's own).
-use Rattle.std.specs.Prelude.{◌≡◌, ℕ, zero, suc, ◌+◌, Bool, List, [], ◌∷◌, ◌++◌, Option, None, Some, Result, Ok, Err, nat_le, ◌==◌, ◌&&◌, length, take, if◌then◌else◌}
+use Rattle.std.specs.Prelude.{◌≡◌, ℕ, zero, suc, ◌+◌, Bool, List, [], ◌∷◌, ◌++◌, Option, None, Some, Result, Ok, Err, nat_le, nat_lt, ◌==◌, ◌&&◌, length, take, if◌then◌else◌}
 use Rattle.std.specs.Int.{Width, byte_len, w32}
 use Rattle.codec_rules.specs.Input.{Input, behind}
 use Rattle.codec_rules.specs.Sequence.{◌>>=◌, or_fault}
@@ -50,18 +50,27 @@ many_from read known (suc count) input = do
 abbrev pub front : ℕ → Input → Input
 front count input = record { at = input.at; bytes = take count input.bytes }
 
--- The content has to end where the stated length says. An item that crosses that end and stands whole in the file, which ends at `file_end`, is named by the first byte of
--- the attribute; one that the file cuts is short still.
-abbrev pub closed : {A : Type 0} → ℕ → ℕ → Bool → Result (A × Input) FormFault → Result A FormFault
-closed file_end first whole (Ok x) = in_form (whole && (length x.1.bytes == 0)) first x.0
-closed file_end first whole (Err (fault.Short at need)) = if nat_le (at + need) file_end then Err (fault.NotYet first) else Err (fault.Short at need)
-closed file_end first whole (Err other) = Err other
+-- What comes of what was read of content that begins in an attribute, so many bytes being left of it. The content has to end where the stated length says, at `end`. An item that
+-- crosses that end and stands whole in the file, which ends at `file_end`, is named by the first byte of the attribute; one that the file or an attribute around it cuts is short still.
+abbrev pub closing : {A : Type 0} → ℕ → ℕ → ℕ → Bool → ℕ → Result A FormFault → Result A FormFault
+closing file_end first end whole left (Ok value) = in_form (whole && (left == 0)) first value
+closing file_end first end whole left (Err (fault.Short at need)) = if nat_lt end (at + need) && nat_le (at + need) file_end then Err (fault.NotYet first) else Err (fault.Short at need)
+closing file_end first end whole left (Err (fault.NotYet at)) = Err (fault.NotYet at)
+closing file_end first end whole left (Err fault.BadMagic) = Err fault.BadMagic
+closing file_end first end whole left (Err (fault.BadVersion major)) = Err (fault.BadVersion major)
+closing file_end first end whole left (Err (fault.Trailing at)) = Err (fault.Trailing at)
+closing file_end first end whole left (Err fault.Memory) = Err fault.Memory
+
+-- the same of a reading function, with what it left
+abbrev pub closed : {A : Type 0} → ℕ → ℕ → ℕ → Bool → Result (A × Input) FormFault → Result A FormFault
+closed file_end first end whole (Ok x) = closing file_end first end whole (length x.1.bytes) (Ok x.0)
+closed file_end first end whole (Err e) = closing file_end first end whole 0 (Err e)
 
 -- a stated length, and content of that length
 abbrev pub content : {A : Type 0} → ℕ → ℕ → FormReader A → FormReader A
 content file_end first read input = do
   len ← number w32 input
-  value ← closed file_end first (nat_le len.0 (length len.1.bytes)) (read (front len.0 len.1))
+  value ← closed file_end first (len.1.at + len.0) (nat_le len.0 (length len.1.bytes)) (read (front len.0 len.1))
   Ok (value, behind len.0 len.1)
 
 -- A call reads as the definition does, and gives its value seen by `view`; it never runs out of memory.
@@ -73,13 +82,3 @@ ReadsBy view read old new (Err e) = read old ≡ Err e
 abbrev pub ReadsFrom : {S A : Type 0} → (S → Input → Result (A × S × Input) FormFault) → S → S → Input → Input → Result A FormFault → Type 0
 ReadsFrom read before after old new (Ok value) = read before old ≡ Ok (value, after, new)
 ReadsFrom read before after old new (Err e) = Fails fault.Memory e (read before old)
-
--- what `closed` makes of a call's result, where so many bytes are left
-abbrev pub closing : {A : Type 0} → ℕ → ℕ → Bool → ℕ → Result A FormFault → Result A FormFault
-closing file_end first whole left (Ok value) = in_form (whole && (left == 0)) first value
-closing file_end first whole left (Err (fault.Short at need)) = if nat_le (at + need) file_end then Err (fault.NotYet first) else Err (fault.Short at need)
-closing file_end first whole left (Err (fault.NotYet at)) = Err (fault.NotYet at)
-closing file_end first whole left (Err fault.BadMagic) = Err fault.BadMagic
-closing file_end first whole left (Err (fault.BadVersion major)) = Err (fault.BadVersion major)
-closing file_end first whole left (Err (fault.Trailing at)) = Err (fault.Trailing at)
-closing file_end first whole left (Err fault.Memory) = Err fault.Memory

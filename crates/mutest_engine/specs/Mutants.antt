@@ -1,6 +1,6 @@
 -- The mutants of a class (this project's own table, in the manner of PIT): methods in file order, instructions by number, mutators in the order of the table.
-use Rattle.std.specs.Prelude.{ℕ, ◌+◌, Bool, not, ◌&&◌, ◌||◌, nat_le, nat_lt, ◌==◌, bit_and, if◌then◌else◌, List, [], ◌∷◌, ◌++◌, map, Option, None, Some, unwrap_or}
-use Rattle.std.specs.List.{flat_map}
+use Rattle.std.specs.Prelude.{◌≡◌, ℕ, ◌+◌, ◌<◌, ◌≤◌, Bool, not, ◌&&◌, ◌||◌, nat_le, nat_lt, ◌==◌, bit_and, if◌then◌else◌, List, [], ◌∷◌, ◌++◌, map, Option, None, Some, unwrap_or}
+use Rattle.std.specs.List.{flat_map, AllByRecursion}
 use Rattle.std.specs.Option.{option_map}
 use Rattle.class_model.specs.Pool.{text_of, class_name_of}
 use Rattle.class_model.specs.declared.constant.Const.{Const}
@@ -46,6 +46,20 @@ chosen_row at row (Some later) = if nat_le row.0 at && nat_lt later.0 row.0 then
 abbrev pub line_row : ℕ → List (ℕ × ℕ) → Option (ℕ × ℕ)
 line_row at [] = None
 line_row at (row ∷ rows) = chosen_row at row (line_row at rows)
+
+-- The rule: the row has the greatest start at or before the instruction, and it is the last of several such rows.
+pub record IsLineRow (rows : List (ℕ × ℕ)) (at : ℕ) (row : ℕ × ℕ) : Type 0 where
+  pub before : List (ℕ × ℕ)
+  pub after : List (ℕ × ℕ)
+  pub parts : rows ≡ before ++ row ∷ after
+  pub reached : row.0 ≤ at
+  pub greatest : AllByRecursion (λ r. r.0 ≤ at → r.0 ≤ row.0) before
+  pub last : AllByRecursion (λ r. r.0 ≤ at → r.0 < row.0) after
+
+-- a row counts by the rule, or every row starts behind the instruction
+abbrev pub CountsFor : List (ℕ × ℕ) → ℕ → Option (ℕ × ℕ) → Type 0
+CountsFor rows at (Some row) = IsLineRow rows at row
+CountsFor rows at None = AllByRecursion (λ r. at < r.0) rows
 
 -- the line of an instruction, 0 where no row counts for it
 abbrev pub line_at : List (ℕ × ℕ) → ℕ → ℕ

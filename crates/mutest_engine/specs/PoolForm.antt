@@ -15,9 +15,11 @@ use Rattle.mutest_engine.specs.declared.fault.FormFault.TheVariants as fault
 
 -- ---- descriptors of methods over I and Z, with the result I, Z or V (JVMS 4.3.3)
 
+-- I and Z
 abbrev pub is_int_letter : ℕ → Bool
 is_int_letter unit = unit == 73 || unit == 90
 
+-- I, Z or V
 abbrev pub is_form_result : List ℕ → Bool
 is_form_result units = length units == 1 && (is_int_letter (slice_index units 0) || slice_index units 0 == 86)
 
@@ -26,6 +28,7 @@ abbrev pub is_form_tail : List ℕ → Bool
 is_form_tail [] = false
 is_form_tail (unit ∷ units) = if is_int_letter unit then is_form_tail units else unit == 41 && is_form_result units
 
+-- `(`, the parameters, `)` and the result
 abbrev pub is_form_descriptor : List ℕ → Bool
 is_form_descriptor [] = false
 is_form_descriptor (unit ∷ units) = unit == 40 && is_form_tail units

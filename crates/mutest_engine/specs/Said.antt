@@ -26,26 +26,32 @@ pub record Broken (before after : Option (List ℕ)) (text line : List ℕ) : Ty
   pub refused : IsPrefix rest line
   pub grown : Grows before after (part ++ rest)
 
--- the same where memory ran out, at whichever refusal
-pub record Cut (before after : Option (List ℕ)) (text : List ℕ) : Type 0 where
-  pub status : Status
-  pub broken : Broken before after text (line_of status)
+-- Memory ran out: a beginning of what would have been said. That is the text of the command, with the refusal of a failed output behind it; the line of the stated refusal; or that of a
+-- fault of reading.
+abbrev pub Interrupted : Result (List ℕ) Status → Option (List ℕ) → Option (List ℕ) → Type 0
+Interrupted (Ok text) before after = Broken before after text (line_of (WriteFault Printed 1)) ⊎ GrowsBy before after (line_of (ReadFault 1))
+Interrupted (Err e) before after = GrowsBy before after (line_of e) ⊎ GrowsBy before after (line_of (ReadFault 1))
 
--- What a status leaves, where the command's text is `text`.
-abbrev pub Leaves : ℕ → ℕ → Option (List ℕ) → Option (List ℕ) → List ℕ → Status → Type 0
-Leaves put0 put1 before after text Done = Grows before after text
-Leaves put0 put1 before after text (WriteFault which faults) = Broken before after text (line_of (WriteFault which faults))
-Leaves put0 put1 before after text WantOfMemory = Cut before after text
-Leaves put0 put1 before after text Usage = Got put0 put1 before after (line_of Usage)
-Leaves put0 put1 before after text (NotFound path) = Got put0 put1 before after (line_of (NotFound path))
-Leaves put0 put1 before after text (BadClass path fault) = Got put0 put1 before after (line_of (BadClass path fault))
-Leaves put0 put1 before after text (NotYet path at) = Got put0 put1 before after (line_of (NotYet path at))
-Leaves put0 put1 before after text (ReadFault faults) = Got put0 put1 before after (line_of (ReadFault faults))
-Leaves put0 put1 before after text (TooMany what number) = Got put0 put1 before after (line_of (TooMany what number))
+abbrev pub text_of : Result (List ℕ) Status → List ℕ
+text_of (Ok text) = text
+text_of (Err e) = []
 
-abbrev pub text_of_answer : Result Answered Status → List ℕ
-text_of_answer (Ok answered) = answered.text
-text_of_answer (Err status) = []
+-- What a status leaves, where this text or this refusal is stated.
+abbrev pub Leaves : ℕ → ℕ → Option (List ℕ) → Option (List ℕ) → Result (List ℕ) Status → Status → Type 0
+Leaves put0 put1 before after stated Done = Grows before after (text_of stated)
+Leaves put0 put1 before after stated (WriteFault which faults) = Broken before after (text_of stated) (line_of (WriteFault which faults))
+Leaves put0 put1 before after stated WantOfMemory = Interrupted stated before after
+Leaves put0 put1 before after stated Usage = Got put0 put1 before after (line_of Usage)
+Leaves put0 put1 before after stated (NotFound path) = Got put0 put1 before after (line_of (NotFound path))
+Leaves put0 put1 before after stated (BadClass path fault) = Got put0 put1 before after (line_of (BadClass path fault))
+Leaves put0 put1 before after stated (NotYet path at) = Got put0 put1 before after (line_of (NotYet path at))
+Leaves put0 put1 before after stated (ReadFault faults) = Got put0 put1 before after (line_of (ReadFault faults))
+Leaves put0 put1 before after stated (TooMany what number) = Got put0 put1 before after (line_of (TooMany what number))
+
+-- the text of an answer
+abbrev pub text_stated : Result Answered Status → Result (List ℕ) Status
+text_stated (Ok answered) = Ok answered.text
+text_stated (Err status) = Err status
 
 -- ---- the tree
 

@@ -18,12 +18,15 @@ use class_model::{Attr, Body, Code, Const, Frame, Seq, Shape};
 use mt_bytes::Cursor;
 use std::alloc::Global;
 
+/// `Code`
 const CODE: [u16; 4] = [67, 111, 100, 101];
 
+/// `LineNumberTable`
 const LINE_NUMBER_TABLE: [u16; 15] = [
     76, 105, 110, 101, 78, 117, 109, 98, 101, 114, 84, 97, 98, 108, 101,
 ];
 
+/// `StackMapTable`
 const STACK_MAP_TABLE: [u16; 13] = [83, 116, 97, 99, 107, 77, 97, 112, 84, 97, 98, 108, 101];
 
 fn names(pool: &[Const], index: u16, name: &[u16]) -> bool
@@ -145,7 +148,7 @@ fn read_lines(
     let part = opened(cur, len);
     let mut inner = Cursor::new(part.bytes, part.at);
     let rows = read_rows(alloc, places, &mut inner);
-    closed(rows, inner.left(), part.whole, file_end, first)
+    closed(rows, inner.left(), part, file_end, first)
 }
 
 fn read_stack_map(
@@ -162,7 +165,7 @@ fn read_stack_map(
     let part = opened(cur, len);
     let mut inner = Cursor::new(part.bytes, part.at);
     let frames = read_frames(alloc, places, &mut inner);
-    closed(frames, inner.left(), part.whole, file_end, first)
+    closed(frames, inner.left(), part, file_end, first)
 }
 
 #[tactic(auto, unfolding(crate::specs::AttributeForm::inner_at))]
@@ -299,7 +302,7 @@ fn read_code_attribute(
     let part = opened(cur, len);
     let mut inner = Cursor::new(part.bytes, part.at);
     let code = read_code_content(alloc, pool, file_end, first, &mut inner);
-    closed(code, inner.left(), part.whole, file_end, first)
+    closed(code, inner.left(), part, file_end, first)
 }
 
 /// The one attribute of a method: its code.

@@ -19,6 +19,7 @@ use std::alloc::Global;
 
 const MAGIC: u32 = 0xCAFE_BABE;
 
+/// `java/lang/Object`
 const OBJECT: [u16; 16] = [
     106, 97, 118, 97, 47, 108, 97, 110, 103, 47, 79, 98, 106, 101, 99, 116,
 ];

@@ -1,6 +1,6 @@
 //! The content of an attribute, whose length is stated (JVMS 4.7).
 
-ghost use Rattle.std.specs.Prelude.{◌≡◌, ◌+◌, ◌<◌, ◌^◌, length, nat_le, true, IfOk, IfErr};
+ghost use Rattle.std.specs.Prelude.{◌≡◌, ◌+◌, ◌<◌, ◌^◌, length, nat_le, nat_lt, ◌&&◌, true};
 ghost use Rattle.codec_rules.specs.Input.{behind, IsInput};
 ghost use Rattle.mutest_engine.specs.Item.{front, closing};
 ghost use Rattle.mutest_engine.specs.declared.fault.FormFault.TheVariants as form_fault;
@@ -14,6 +14,8 @@ pub struct Content<'a> {
     pub bytes: &'a [u8],
     /// The place of the first byte.
     pub at: u64,
+    /// The stated length.
+    pub len: u32,
     /// Whether all of them are there.
     pub whole: bool,
 }
@@ -21,6 +23,7 @@ pub struct Content<'a> {
 /// Moves behind the content.
 pub fn opened<'a>(cur: &mut Cursor<'a>, len: u32) -> Content<'a>
     ensures bytes { record { at = result.at; bytes = result.bytes.now } ≡ front len cur.old }
+    ensures len { result.len ≡ len }
     ensures fits { result.at + length result.bytes.now < 2 ^ 64 }
     ensures whole { result.whole ≡ nat_le len (length cur.old.bytes) }
     ensures moved { result.whole ≡ true → cur.new ≡ behind len cur.old }
@@ -32,15 +35,23 @@ pub fn opened<'a>(cur: &mut Cursor<'a>, len: u32) -> Content<'a>
     let Ok(bytes) = cur.take(count) else {
         unreachable!()
     };
-    Content { bytes, at, whole }
+    Content {
+        bytes,
+        at,
+        len,
+        whole,
+    }
 }
 
-// Whether an item stands whole in the file.
-fn is_in_file(at: u64, need: u64, file_end: u64) -> bool
-    ensures { result ≡ nat_le (at + need) file_end }
+// Whether an item crosses the end of content that begins at `start`, and stands whole in the file.
+fn crosses(at: u64, need: u64, start: u64, len: u32, file_end: u64) -> bool
+    ensures { result ≡ nat_lt (start + len) (at + need) && nat_le (at + need) file_end }
 {
-    match at.checked_add(need) {
-        Some(end) => end <= file_end,
+    let Some(stop) = at.checked_add(need) else {
+        return false;
+    };
+    match start.checked_add(u64::from(len)) {
+        Some(end) => end < stop && stop <= file_end,
         None => false,
     }
 }
@@ -50,22 +61,22 @@ fn is_in_file(at: u64, need: u64, file_end: u64) -> bool
 pub fn closed<T: Drop>(
     read: Result<T, FormFault>,
     left: u64,
-    whole: bool,
+    part: Content,
     file_end: u64,
     first: u64,
 ) -> Result<T, FormFault>
-    ensures { result ≡ closing file_end first whole left read }
+    ensures { result ≡ closing file_end first (part.entry.at + part.entry.len) part.entry.whole left read }
 {
     match read {
         Ok(value) => {
-            if whole && left == 0 {
+            if part.whole && left == 0 {
                 Ok(value)
             } else {
                 Err(FormFault::NotYet { at: first })
             }
         }
         Err(FormFault::Short { at, need }) => {
-            if is_in_file(at, need, file_end) {
+            if crosses(at, need, part.at, part.len, file_end) {
                 Err(FormFault::NotYet { at: first })
             } else {
                 Err(FormFault::Short { at, need })

@@ -2,7 +2,7 @@
 
 ghost use Rattle.std.specs.Prelude.{◌≡◌, ◌++◌, IfOk, OnOk, [], map, option_copied, unwrap_or};
 ghost use Rattle.std.specs.List.{flat_map};
-ghost use Rattle.mutest_engine.specs.Mutants.{code_of, line_rows, chosen_row, line_row, line_at, is_int_jump, mutators_of, mutant_at, mutants_from, is_synthetic, is_left_out, method_mutants, class_mutants};
+ghost use Rattle.mutest_engine.specs.Mutants.{code_of, line_rows, chosen_row, line_row, CountsFor, line_at, is_int_jump, mutators_of, mutant_at, mutants_from, is_synthetic, is_left_out, method_mutants, class_mutants};
 
 use crate::pool::{class_name_of, text_of};
 use class_model::{Attr, Body, Class, Code, Const, Insn, Member, Memory, Mutator, Name, Seq};
@@ -48,7 +48,8 @@ fn line_rows(alloc: Global, attrs: &[Attr]) -> Result<Seq<(u32, u16)>, Memory>
 
 // The row with the greatest start at or before an instruction, of several such rows the last.
 fn line_row(rows: &[(u32, u16)], at: u32) -> Option<(u32, u16)>
-    ensures { result ≡ line_row at rows.now }
+    ensures row { result ≡ line_row at rows.now }
+    ensures rule { CountsFor rows.now at result }
 {
     let mut best = None;
     let mut left = rows.len();

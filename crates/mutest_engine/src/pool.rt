@@ -17,6 +17,18 @@ use class_model::{Const, DescFault, Memory, Name, Seq, parse_field};
 use mt_bytes::Cursor;
 use std::alloc::Global;
 
+const OPEN: u16 = b'(' as u16;
+
+const CLOSE: u16 = b')' as u16;
+
+const ARRAY: u16 = b'[' as u16;
+
+const INT: u16 = b'I' as u16;
+
+const BOOLEAN: u16 = b'Z' as u16;
+
+const VOID: u16 = b'V' as u16;
+
 fn is_text(bytes: &[u8]) -> bool
     ensures { result ≡ list_all is_plain bytes.now }
 {
@@ -133,13 +145,13 @@ pub fn class_name_of(pool: &[Const], index: u16) -> Option<&Name>
 fn is_int_letter(unit: u16) -> bool
     ensures { result ≡ is_int_letter unit }
 {
-    unit == 73 || unit == 90
+    unit == INT || unit == BOOLEAN
 }
 
 fn is_form_result(units: &[u16]) -> bool
     ensures { result ≡ is_form_result units.now }
 {
-    units.len() == 1 && (is_int_letter(units[0]) || units[0] == 86)
+    units.len() == 1 && (is_int_letter(units[0]) || units[0] == VOID)
 }
 
 // What stands behind the opening parenthesis.
@@ -152,7 +164,7 @@ fn is_form_tail(units: &[u16]) -> bool
             if is_int_letter(*unit) {
                 is_form_tail(rest)
             } else {
-                *unit == 41 && is_form_result(rest)
+                *unit == CLOSE && is_form_result(rest)
             }
         }
     }
@@ -164,7 +176,7 @@ pub fn is_form_descriptor(units: &[u16]) -> bool
 {
     match units {
         [] => false,
-        [open, rest @ ..] => *open == 40 && is_form_tail(rest),
+        [open, rest @ ..] => *open == OPEN && is_form_tail(rest),
     }
 }
 
@@ -172,7 +184,7 @@ fn names_plain_text(pool: &[Const], index: u16) -> bool
     ensures { result ≡ names_plain_text pool.now index }
 {
     match text_of(pool, index) {
-        Some(name) => !name.as_slice().starts_with(&[91]),
+        Some(name) => !name.as_slice().starts_with(&[ARRAY]),
         None => false,
     }
 }

@@ -163,7 +163,10 @@ fn damaged_files_are_refused_at_their_place(rt: HostRuntime) -> Result<(), Fail>
         assert_eq!(rt; told.0, 5);
         assert_eq!(rt; told.1.as_slice(), text.as_bytes());
     }
-    let puts: [(usize, u8, i32, &str); 3] = [
+    let puts: [(usize, u8, i32, &str); 5] = [
+        // An item that crosses the end of Code alone is named by Code, not by the table inside it.
+        (116, 0x28, 16, "mutest: NotYet A.class 111\n"),
+        (116, 0x1d, 16, "mutest: NotYet A.class 111\n"),
         (129, 0x12, 16, "mutest: NotYet A.class 129\n"),
         (7, 0x35, 5, "mutest: BadClass A.class 18 53\n"),
         (0, 0xcb, 5, "mutest: BadClass A.class 17 0\n"),

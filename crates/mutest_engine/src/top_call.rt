@@ -1,12 +1,13 @@
 //! The top call: from the words and the files that are held to what is written.
 
-ghost use Rattle.std.specs.Prelude.{◌≡◌, ◌≢◌, ◌⊎◌, ◌≤◌, ℕ, map, string_bytes, IfSome, IfOk, IfErr, MatchResult, Ok, Err, Some, List};
+ghost use Rattle.std.specs.Prelude.{◌≡◌, ◌≢◌, ◌⊎◌, ◌≤◌, ℕ, map, string_bytes, IfSome, IfOk, IfErr, MatchResult, Ok, Err, Some, List, Result};
 ghost use Rattle.std.specs.Result.{ForErr};
 ghost use Rattle.mt_edge.specs.Pieces.{Grows, GrowsBy};
 ghost use Rattle.mutest_engine.specs.declared.status.Status.TheVariants.{Done, Usage, WantOfMemory};
 ghost use Rattle.mutest_engine.specs.StatusText.{line_of};
-ghost use Rattle.mutest_engine.specs.Answers.{command_of, within_limit as within, file_of, refusal_of, spelled_class, list_answer, answer_of, Gives, GivesText, Agrees, AgreesUntold, IsFault, IsRefusal, CountsFaults};
-ghost use Rattle.mutest_engine.specs.Said.{Got, Leaves, text_of_answer, writes_of_answer, FilesAfter};
+ghost use Rattle.mutest_engine.specs.declared.status.Status.{Status as AnyStatus};
+ghost use Rattle.mutest_engine.specs.Answers.{command_of, within_limit as within, file_of, refusal_of, spelled_class, list_answer, answer_of, Gives, GivesText, Agrees, AgreesUntold, IsReading, IsFault, IsRefusal, CountsFaults};
+ghost use Rattle.mutest_engine.specs.Said.{Got, Leaves, text_stated, writes_of_answer, FilesAfter};
 
 use crate::class_reader::read_class_file;
 use crate::commands::listed_file;
@@ -39,7 +40,7 @@ fn read_file<T: Tree>(alloc: Global, tree: &mut T, path: &str) -> Result<Bytes, 
     ensures told { IfSome (T.holds tree.old) (λ files. Gives (file_of path.now files) result) }
     ensures untold { IfErr result (λ s. s ≢ Usage) }
     ensures refusal { IfErr result IsRefusal }
-    ensures faults { IfErr result (λ s. CountsFaults (T.reading tree.old) (T.reading tree.new) 0 0 s) }
+    ensures faults { IfErr result (λ s. CountsFaults (T.reading tree.old) (T.reading tree.new) 0 0 0 0 s) }
     ensures tree { (T.holds tree.new ≡ T.holds tree.old) × (T.writing tree.new ≡ T.writing tree.old) }
 {
     match tree.read(path) {
@@ -84,7 +85,7 @@ fn refusal_of(alloc: Global, path: &str, fault: FormFault) -> Status
 // The class of a file.
 fn spelled_class(alloc: Global, path: &str, bytes: &[u8]) -> Result<Class, Status>
     ensures told { Gives (spelled_class path.now bytes.now) result }
-    ensures file { IfErr result (λ s. IsRefusal s × (s ≢ Usage) × CountsFaults 0 0 0 0 s) }
+    ensures file { IfErr result (λ s. IsRefusal s × (s ≢ Usage) × CountsFaults 0 0 0 0 0 0 s) }
 {
     match read_class_file(alloc, bytes) {
         Ok(class) => Ok(class),
@@ -97,7 +98,7 @@ fn list_answer<T: Tree>(alloc: Global, tree: &mut T, path: &str) -> Result<Bytes
     ensures told { IfSome (T.holds tree.old) (λ files. Gives (list_answer path.now files) result) }
     ensures untold { IfErr result (λ s. s ≢ Usage) }
     ensures refusal { IfErr result IsRefusal }
-    ensures faults { IfErr result (λ s. CountsFaults (T.reading tree.old) (T.reading tree.new) 0 0 s) }
+    ensures faults { IfErr result (λ s. CountsFaults (T.reading tree.old) (T.reading tree.new) 0 0 0 0 s) }
     ensures tree { (T.holds tree.new ≡ T.holds tree.old) × (T.writing tree.new ≡ T.writing tree.old) }
 {
     let bytes = read_file(alloc, tree, path)?;
@@ -110,7 +111,7 @@ fn list_answer<T: Tree>(alloc: Global, tree: &mut T, path: &str) -> Result<Bytes
 fn answer<T: Tree>(alloc: Global, words: &Vec<String>, tree: &mut T) -> Result<Bytes, Status>
     ensures told { IfSome (T.holds tree.old) (λ files. GivesText (answer_of (map string_bytes words.now.items) files) result) }
     ensures untold { MatchResult result (λ _. (command : _) × (command_of (map string_bytes words.now.items) ≡ Ok command)) (AgreesUntold (command_of (map string_bytes words.now.items))) }
-    ensures faults { IfErr result (λ s. CountsFaults (T.reading tree.old) (T.reading tree.new) 0 0 s) }
+    ensures faults { IfErr result (λ s. CountsFaults (T.reading tree.old) (T.reading tree.new) 0 0 0 0 s) }
     ensures refusal { IfErr result IsRefusal }
     ensures tree { (T.holds tree.new ≡ T.holds tree.old) × (T.writing tree.new ≡ T.writing tree.old) }
 {
@@ -139,8 +140,8 @@ fn refuse<S: Sink>(alloc: Global, out: &mut S, status: Status) -> Status
 // Puts the text of a command.
 fn put_text<S: Sink>(alloc: Global, out: &mut S, text: &Bytes) -> Status
     ensures status { (result ≡ Done) ⊎ IsFault result }
-    ensures faults { CountsFaults 0 0 (S.faults out.old) (S.faults out.new) result }
-    ensures said { Leaves (S.faults out.old) (S.faults out.new) (S.written out.old) (S.written out.new) text.now result }
+    ensures faults { CountsFaults 0 0 0 0 (S.faults out.old) (S.faults out.new) result }
+    ensures said { Leaves (S.faults out.old) (S.faults out.new) (S.written out.old) (S.written out.new) (Ok text.now) result }
 {
     match out.put(text.as_slice()) {
         Ok(()) => Status::Done,
@@ -160,8 +161,8 @@ fn put_text<S: Sink>(alloc: Global, out: &mut S, text: &Bytes) -> Status
 fn finish<S: Sink>(alloc: Global, out: &mut S, answer: Result<Bytes, Status>) -> Status
     requires { ForErr answer IsRefusal }
     ensures status { MatchResult answer (λ _. (result ≡ Done) ⊎ IsFault result) (λ s. (result ≡ s) ⊎ (result ≡ WantOfMemory)) }
-    ensures faults { IfOk answer (λ _. CountsFaults 0 0 (S.faults out.old) (S.faults out.new) result) }
-    ensures said { MatchResult answer (λ text. Leaves (S.faults out.old) (S.faults out.new) (S.written out.old) (S.written out.new) text result) (λ s. (text : List ℕ) → Leaves (S.faults out.old) (S.faults out.new) (S.written out.old) (S.written out.new) text result) }
+    ensures faults { IfOk answer (λ _. CountsFaults 0 0 0 0 (S.faults out.old) (S.faults out.new) result) }
+    ensures said { MatchResult answer (λ text. Leaves (S.faults out.old) (S.faults out.new) (S.written out.old) (S.written out.new) (Ok text) result) (λ s. (stated : Result (List ℕ) AnyStatus) → (stated ≡ Err s) ⊎ IsReading s → Leaves (S.faults out.old) (S.faults out.new) (S.written out.old) (S.written out.new) stated result) }
 {
     match answer {
         Ok(text) => put_text(alloc, out, &text),
@@ -181,13 +182,13 @@ pub fn run<T: Tree, S: Sink>(
     // Else what the words alone decide.
     ensures untold { AgreesUntold (command_of (map string_bytes words.now.items)) result }
     // A fault comes only where the object's faults rose.
-    ensures faults { CountsFaults (T.reading tree.old) (T.reading tree.new) (S.faults out.old) (S.faults out.new) result }
+    ensures faults { CountsFaults (T.reading tree.old) (T.reading tree.new) (T.writing tree.old) (T.writing tree.new) (S.faults out.old) (S.faults out.new) result }
     // What the sink got.
-    ensures said { IfSome (T.holds tree.old) (λ files. Leaves (S.faults out.old) (S.faults out.new) (S.written out.old) (S.written out.new) (text_of_answer (answer_of (map string_bytes words.now.items) files)) result) }
-    ensures said_untold { (text : List ℕ) × Leaves (S.faults out.old) (S.faults out.new) (S.written out.old) (S.written out.new) text result }
+    ensures said { IfSome (T.holds tree.old) (λ files. Leaves (S.faults out.old) (S.faults out.new) (S.written out.old) (S.written out.new) (text_stated (answer_of (map string_bytes words.now.items) files)) result) }
+    ensures said_untold { (stated : Result (List ℕ) AnyStatus) × Leaves (S.faults out.old) (S.faults out.new) (S.written out.old) (S.written out.new) stated result }
     // What the tree holds then.
     ensures tree { IfSome (T.holds tree.old) (λ files. FilesAfter (writes_of_answer (answer_of (map string_bytes words.now.items) files)) (Some files) (T.holds tree.new) result) }
-    ensures writes_nothing { T.writing tree.new ≡ T.writing tree.old }
+    ensures no_write_fault { T.writing tree.new ≡ T.writing tree.old }
 {
     let answer = answer(alloc, words, tree);
     finish(alloc, out, answer)

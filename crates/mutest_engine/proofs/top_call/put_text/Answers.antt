@@ -1,4 +1,4 @@
-use Rattle.std.proofs.Common.{◌≡◌, ◌⊎◌, List, ℕ, sym, ⊎_elim, subst}
+use Rattle.std.proofs.Common.{◌≡◌, ◌⊎◌, List, ℕ, Ok, sym, inl, ⊎_elim, subst}
 use Rattle.mt_edge.specs.Pieces.{GrowsBy}
 use Rattle.mutest_engine.specs.StatusText.{line_of}
 use Rattle.mutest_engine.specs.Said.{Got, Leaves}
@@ -19,16 +19,16 @@ returns-in-Err-Failed-clause-said g c =
     let w1 = g.S.Sink.written c.put.new.self in
     let w2 = g.S.Sink.written c.refuse.new.out in
     let cut : GrowsBy w0 w1 text = subst (GrowsBy w0 w1) c.as_slice.ensures c.in-Err-Failed.ensures.err in
-    let at = λ (s : Status). Leaves f0 f2 w0 w2 text s in
+    let at = λ (s : Status). Leaves f0 f2 w0 w2 (Ok text) s in
     ⊎_elim
     (λ (got : Got f1 f2 w1 w2 (line_of fault)).
     let broken = part_then f1 f2 w0 w1 w2 text (line_of fault) cut got in
     ⊎_elim
     (λ (is : c.refuse.result ≡ fault). subst at (sym is) broken)
-    (λ (is : c.refuse.result ≡ WantOfMemory). subst at (sym is) (record { status = fault; broken = broken }))
+    (λ (is : c.refuse.result ≡ WantOfMemory). subst at (sym is) (inl broken))
     c.refuse.ensures.same)
     (λ (lost : (c.refuse.result ≡ WantOfMemory) × GrowsBy w1 w2 (line_of fault)).
-    subst at (sym lost.0) (record { status = fault; broken = part_then_part w0 w1 w2 text (line_of fault) cut lost.1 }))
+    subst at (sym lost.0) (inl (part_then_part w0 w1 w2 text (line_of fault) cut lost.1)))
     c.refuse.ensures.said
 
 pub returns-in-Err-Memory-clause-said : goal.returns-in-Err-Memory-clause-said
