@@ -1,6 +1,13 @@
+mod ClassLaws
 mod CodeLaws
+mod ContentLaws
 mod Ends
+mod FileLaws
 mod Lines
 mod ManyFrom
+mod MethodLaws
 mod PoolLaws
+mod TableLaws
 mod Turns
+mod WholeCodeLaws
+mod WholePoolLaws

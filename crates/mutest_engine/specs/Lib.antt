@@ -10,3 +10,5 @@ pub mod Answers
 pub mod StatusText
 pub mod Said
 pub mod PoolSpelling
+pub mod Spells
+pub mod SpellingLaws

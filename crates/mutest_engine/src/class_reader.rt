@@ -1,12 +1,13 @@
 //! A class file (JVMS 4.1): the head, the pool, the methods and the end.
 
-ghost use Rattle.std.specs.Prelude.{◌≡◌, ◌==◌, ◌<◌, ◌^◌, length, option_copied};
+ghost use Rattle.std.specs.Prelude.{◌≡◌, ◌==◌, ◌<◌, ◌^◌, length, option_copied, IfOk, MatchResult};
 ghost use Rattle.std.specs.Int.{w16};
 ghost use Rattle.codec_rules.specs.Meets.{Reads, Gives};
 ghost use Rattle.codec_rules.specs.Reading.{many_at};
 ghost use Rattle.mutest_engine.specs.Item.{number_where};
 ghost use Rattle.mutest_engine.specs.PoolForm.{names_form_descriptor as names_descriptor};
 ghost use Rattle.mutest_engine.specs.ClassForm.{names_method_name as is_method_named, method_at, version_at, names_this as is_this, names_parent as is_parent, class_at, class_of_file};
+ghost use Rattle.mutest_engine.specs.Spells.{Spells};
 ghost use Rattle.mutest_engine.specs.declared.fault.FormFault.TheVariants as form_fault;
 
 use crate::attributes::read_method_attribute;
@@ -205,7 +206,9 @@ fn read_class(alloc: Global, file_end: u64, cur: &mut Cursor) -> Result<Class, F
 /// The class that the bytes of a file are, or the first fault in the order of the file.
 #[tactic(auto, unfolding(crate::specs::ClassForm::class_of_file))]
 pub fn read_class_file(alloc: Global, bytes: &[u8]) -> Result<Class, FormFault>
-    ensures { Gives form_fault.Memory (λ class. class) (class_of_file bytes.now) result }
+    ensures found { IfOk result (λ class. Spells bytes.now class) }
+    ensures only { (class : Class) → Spells bytes.now class → MatchResult result (λ c. c ≡ class) (λ e. e ≡ form_fault.Memory) }
+    ensures exact { Gives form_fault.Memory (λ class. class) (class_of_file bytes.now) result }
 {
     let mut cur = Cursor::new(bytes, 0);
     let class = read_class(alloc, bytes.len() as u64, &mut cur)?;

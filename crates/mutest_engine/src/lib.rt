@@ -9,6 +9,7 @@ mod content;
 mod fault;
 mod instructions;
 mod item;
+mod laws;
 mod mutators;
 mod pool;
 mod printing;
@@ -21,6 +22,7 @@ mod unseen;
 
 pub use class_reader::read_class_file;
 pub use fault::FormFault;
+pub use laws::files_are_read_as_spelled;
 pub use mutators::{Mutant, class_mutants};
 pub use printing::id_text;
 pub use status::{Limit, Output, Status};
