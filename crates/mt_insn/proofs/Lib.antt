@@ -9,3 +9,4 @@ pub mod Written
 pub mod Forms
 pub mod TargetLaws
 pub mod CodeLaws
+pub mod LayoutLaws

@@ -1,5 +1,5 @@
 -- The code of a method (JVMS 4.7.3, 6.5): its instructions one after the other, and what bounds it has.
-use Rattle.std.specs.Prelude.{◌≡◌, ℕ, ◌+◌, ◌-◌, ◌*◌, ◌<◌, ◌^◌, nat_lt, ℤ, pos, negsuc, ◌-ℤ◌, FitsSigned, Bool, true, false, not, ◌&&◌, List, [], ◌∷◌, ◌++◌, length, map, slice_index, Option, Some, None, Result, Ok, Err, if◌then◌else◌}
+use Rattle.std.specs.Prelude.{◌≡◌, ℕ, ◌+◌, ◌-◌, ◌*◌, ◌<◌, ◌^◌, nat_lt, ℤ, pos, negsuc, ◌-ℤ◌, FitsSigned, Bool, true, false, not, ◌&&◌, List, [], ◌∷◌, ◌++◌, length, map, slice_index, All, Option, Some, None, Result, Ok, Err, if◌then◌else◌}
 use Rattle.std.specs.Int.{w8, w16, w32}
 use Rattle.std.specs.Int.RustNames.{int_le, int_lt}
 use Rattle.std.specs.List.{AllByRecursion}
@@ -12,7 +12,7 @@ use Rattle.class_model.specs.declared.fault.LayoutFault.TheVariants as layout_fa
 use Rattle.class_model.specs.declared.fault.Bound.TheVariants as bound
 use Rattle.codec_rules.specs.Spelling.{spelled_from}
 use Rattle.mt_insn.specs.Opcode.{form_of}
-use Rattle.mt_insn.specs.Named.{is_array_kind}
+use Rattle.mt_insn.specs.Named.{names, is_loaded, is_long, is_field, is_method, is_any_method, is_interface_method, is_class, is_counted, is_array_kind}
 use Rattle.mt_insn.specs.Operands.{padding}
 use Rattle.mt_insn.specs.Spelling.{number_in, index_in, count_in, kind_in, local_in, highest, raw_bytes, IsRaw}
 use Rattle.mt_insn.specs.declared.opcode.Form.{Form}
@@ -217,3 +217,34 @@ layout insns =
     if nat_lt (code_length insns) (2 ^ 16)
     then (if jumps_fit (places insns) 0 insns then Ok (code insns) else Err (layout_fault.TooLarge bound.Jump))
     else Err (layout_fault.TooLarge bound.Code)
+
+-- ---- both ways
+
+-- Instructions that have a spelling are in the form that writing asks for, and are written as they are spelled, where they take at most 65,535 bytes.
+abbrev pub SpelledIsWritten : Type 0
+SpelledIsWritten = (pool : List Const) (insns : List Insn) → IsCode pool insns → length (code insns) < 2 ^ 16 → All HasForm insns × All (HasTargets (length insns)) insns × (layout insns ≡ Ok (code insns))
+
+-- What an operand names in the pool is what an opcode of its form may name.
+abbrev pub HasNames : List Const → Form → Arg → Type 0
+HasNames pool form.SmallConstant a = names is_loaded pool (index_in (operand.Done a)) ≡ true
+HasNames pool form.Constant a = names is_loaded pool (index_in (operand.Done a)) ≡ true
+HasNames pool form.LongConstant a = names is_long pool (index_in (operand.Done a)) ≡ true
+HasNames pool form.Field a = names is_field pool (index_in (operand.Done a)) ≡ true
+HasNames pool form.Method a = names is_method pool (index_in (operand.Done a)) ≡ true
+HasNames pool form.AnyMethod a = names is_any_method pool (index_in (operand.Done a)) ≡ true
+HasNames pool form.Interface a = (names is_interface_method pool (index_in (operand.Done a)) ≡ true) × (is_counted pool (index_in (operand.Done a)) (count_in (operand.Done a)) ≡ true)
+HasNames pool form.Class a = names is_class pool (index_in (operand.Done a)) ≡ true
+HasNames pool form.Dimensions a = names is_class pool (index_in (operand.Done a)) ≡ true
+HasNames pool other a = Unit {0}
+
+abbrev pub HasFormedNames : List Const → Option Form → Bool → Arg → Type 0
+HasFormedNames pool None wide a = Unit {0}
+HasFormedNames pool (Some form) true a = Unit {0}
+HasFormedNames pool (Some form) false a = HasNames pool form a
+
+abbrev pub NamesRight : List Const → Insn → Type 0
+NamesRight pool insn = HasFormedNames pool (form_of insn.op) insn.wide insn.arg
+
+-- Instructions that are written have a spelling, where they name what their opcodes may name.
+abbrev pub WrittenIsSpelled : Type 0
+WrittenIsSpelled = (pool : List Const) (insns : List Insn) (bytes : List ℕ) → All HasForm insns → All (NamesRight pool) insns → All (HasTargets (length insns)) insns → layout insns ≡ Ok bytes → IsCode pool insns × (bytes ≡ code insns)

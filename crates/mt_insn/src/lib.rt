@@ -7,7 +7,7 @@
 
 ghost use Rattle.std.specs.Prelude.{◌≡◌, ◌+◌, ◌<◌, ◌^◌, ◌++◌, List, length, All, IfOk, OnOk, Ok};
 ghost use Rattle.class_model.specs.declared.fault.LayoutFault.TheVariants as layout_fault;
-ghost use Rattle.mt_insn.specs.Code.{IsCode, HasForm, HasTargets, code, code_length, layout, places};
+ghost use Rattle.mt_insn.specs.Code.{SpelledIsWritten, WrittenIsSpelled, IsCode, HasForm, HasTargets, code, code_length, layout, places};
 ghost use Rattle.class_model.specs.declared.fault.ClassFault.TheVariants as fault;
 ghost use Rattle.class_model.specs.declared.instruction.Insn.{Insn};
 ghost use Rattle.codec_rules.specs.Meets.{Gives};
@@ -81,3 +81,13 @@ pub fn write_insns(insns: &Seq<Insn>, out: &mut Bytes) -> Result<(), LayoutFault
 {
     write_code(insns.as_slice(), out)
 }
+
+/// What was read is written as it was: instructions that have a spelling are ones that `write_insns` takes, and where they are at most 65,535 bytes it gives that spelling.
+pub fn what_is_spelled_is_written()
+    ensures { SpelledIsWritten }
+{}
+
+/// What was written is read again: the bytes that `write_insns` gives are the spelling of the instructions, where these name in the pool what their opcodes may name.
+pub fn what_is_written_is_spelled()
+    ensures { WrittenIsSpelled }
+{}
