@@ -1,5 +1,5 @@
-ghost use Rattle.std.specs.Prelude.{◌≡◌, ◌%◌, ◌^◌, pos, unsigned_abs};
-ghost use Rattle.std.specs.Int.{w8, w16, w32, cast_unsigned, cast_signed, int_rem_euclid, int_wrap};
+ghost use Rattle.std.specs.Prelude.{◌≡◌, pos};
+ghost use Rattle.std.specs.Int.{w8, w16, int_rem_euclid, int_wrap};
 ghost use Rattle.jvm_arith.specs.Arithmetic.{narrowed};
 
 use class_model::Kind;

@@ -1,0 +1,39 @@
+-- The words that objects take of the heap, and what their slots hold at first (this project's own; JVMS 2.3, 2.4).
+use Rattle.std.specs.Prelude.{ℕ, ◌+◌, pos, List, [], length, map, replicate}
+use Rattle.class_model.specs.declared.kind.Kind.{Kind}
+use Rattle.class_model.specs.declared.kind.Kind.TheVariants.{Boolean, Byte, Char, Short, Int as OfInt, Long as OfLong, Ref as OfReference}
+use Rattle.machine_rules.specs.declared.value.Value.{Value}
+use Rattle.machine_rules.specs.declared.value.Value.TheVariants.{Int, Long, Null}
+use Rattle.jvm_values.specs.declared.object.Object.{Object}
+use Rattle.jvm_values.specs.declared.object.ObjKind.TheVariants.{Plain, Array, Text}
+
+-- What a field or an element of a kind holds at first.
+abbrev pub default_of : Kind → Value
+default_of OfLong = Long (pos 0)
+default_of (OfReference name) = Null
+default_of Boolean = Int (pos 0)
+default_of Byte = Int (pos 0)
+default_of Char = Int (pos 0)
+default_of Short = Int (pos 0)
+default_of OfInt = Int (pos 0)
+
+-- A new object of a class with such fields: one word, and one for each field.
+abbrev pub new_object : ℕ → List Kind → Object
+new_object class fields = record { kind = Plain (record { 0 = class }); values = map default_of fields; text = [] }
+
+abbrev pub object_words : List Kind → ℕ
+object_words fields = 1 + length fields
+
+-- A new array of so many such elements: two words, and one for each element.
+abbrev pub new_array : Kind → ℕ → Object
+new_array of len = record { kind = Array of; values = replicate len (default_of of); text = [] }
+
+abbrev pub array_words : ℕ → ℕ
+array_words len = 2 + len
+
+-- A new text: two words, and one for each UTF-16 code unit.
+abbrev pub new_text : List ℕ → Object
+new_text units = record { kind = Text; values = []; text = units }
+
+abbrev pub text_words : List ℕ → ℕ
+text_words units = 2 + length units

@@ -1,0 +1,16 @@
+//! What the machine computes with: values, objects, and the heap that gives them numbers.
+#![tactic(auto)]
+
+mod defaults;
+mod fault;
+mod heap;
+mod kept;
+mod object;
+#[cfg(test)]
+mod tests;
+
+pub use fault::HeapFault;
+pub use heap::Heap;
+pub use kept::Kept;
+pub use machine_rules::Value;
+pub use object::{ArrayKind, ObjKind, Object};

@@ -1,0 +1,26 @@
+use class_model::{ClassId, Kind, Name, Seq};
+use machine_rules::Value;
+
+/// What an array's elements are.
+pub type ArrayKind = Kind;
+
+/// What an object is.
+#[derive(Debug, Drop, PartialEq, Eq)]
+pub enum ObjKind {
+    /// An instance of a class.
+    Plain(ClassId),
+    /// An array of such elements.
+    Array(ArrayKind),
+    /// A `java/lang/String`. The heap knows no class numbers, so its kind says so.
+    Text,
+}
+
+/// An object of the heap (JVMS 2.4, 2.7).
+#[derive(Debug, Drop, PartialEq, Eq)]
+pub struct Object {
+    pub kind: ObjKind,
+    /// The fields, those of the highest superclass first, or the elements.
+    pub values: Seq<Value>,
+    /// The UTF-16 code units that a native class keeps in the object.
+    pub text: Name,
+}
