@@ -179,7 +179,12 @@ IsArg form.Interface a = (a ≡ arg.Multi (index_in (operand.Done a)) (count_in 
 IsArg form.Dynamic a = ⊥
 IsArg form.Array a = (a ≡ arg.Kind (kind_in (operand.Done a))) × (kind_in (operand.Done a) < 2 ^ 8) × (is_array_kind (kind_in (operand.Done a)) ≡ true)
 IsArg form.Dimensions a = (a ≡ arg.Multi (index_in (operand.Done a)) (count_in (operand.Done a))) × (index_in (operand.Done a) < 2 ^ 16) × (count_in (operand.Done a) < 2 ^ 8)
-IsArg other a = (a ≡ arg.Pool (index_in (operand.Done a))) × (index_in (operand.Done a) < 2 ^ 16)
+IsArg form.Constant a = (a ≡ arg.Pool (index_in (operand.Done a))) × (index_in (operand.Done a) < 2 ^ 16)
+IsArg form.LongConstant a = (a ≡ arg.Pool (index_in (operand.Done a))) × (index_in (operand.Done a) < 2 ^ 16)
+IsArg form.Field a = (a ≡ arg.Pool (index_in (operand.Done a))) × (index_in (operand.Done a) < 2 ^ 16)
+IsArg form.Method a = (a ≡ arg.Pool (index_in (operand.Done a))) × (index_in (operand.Done a) < 2 ^ 16)
+IsArg form.AnyMethod a = (a ≡ arg.Pool (index_in (operand.Done a))) × (index_in (operand.Done a) < 2 ^ 16)
+IsArg form.Class a = (a ≡ arg.Pool (index_in (operand.Done a))) × (index_in (operand.Done a) < 2 ^ 16)
 
 -- The same behind wide.
 abbrev pub IsWideArg : Form → Arg → Type 0

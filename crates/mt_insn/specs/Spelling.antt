@@ -97,7 +97,7 @@ table_bytes items = s4 items.default ++ (s4 items.low ++ (s4 items.high ++ flat_
 abbrev pub lookup_bytes : Operand → List ℕ
 lookup_bytes o = s4 (offset_in o) ++ (u4 (length (pairs_in o)) ++ flat_map pair_bytes (pairs_in o))
 
--- What stands behind an opcode without targets.
+-- What stands behind an opcode without targets. An opcode that is refused is never spelled, and those with targets are spelled below.
 abbrev pub fixed_bytes : Form → Operand → List ℕ
 fixed_bytes form.SmallNumber o = s1 (number_in o)
 fixed_bytes form.Number o = s2 (number_in o)
@@ -113,7 +113,14 @@ fixed_bytes form.Interface o = u2 (index_in o) ++ (u1 (count_in o) ++ u1 0)
 fixed_bytes form.Class o = u2 (index_in o)
 fixed_bytes form.Array o = u1 (kind_in o)
 fixed_bytes form.Dimensions o = u2 (index_in o) ++ u1 (count_in o)
-fixed_bytes other o = []
+fixed_bytes form.Plain o = []
+fixed_bytes form.Float o = []
+fixed_bytes form.FloatLocal o = []
+fixed_bytes form.Dynamic o = []
+fixed_bytes form.Jump o = []
+fixed_bytes form.FarJump o = []
+fixed_bytes form.Table o = []
+fixed_bytes form.Lookup o = []
 
 -- What stands behind an opcode of each form, where the opcode ends at a place in the code.
 abbrev pub operand_bytes : Form → ℕ → Operand → List ℕ

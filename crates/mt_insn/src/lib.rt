@@ -1,8 +1,13 @@
 //! Instructions of the profile (JVMS 6.5): one spelling, both ways.
 //!
-//! A new opcode is one row of the table in `src/opcode.rt` and one of that in `specs/Opcode.antt`, where its form is one that another opcode has. A new form is one more
-//! variant of `Form` and one case in each definition over forms: what is read (`operand_at` in `specs/Reading.antt`), what is spelled and what has a spelling
-//! (`operand_bytes` and `IsOperand` in `specs/Spelling.antt`), and that the two undo each other (`operand_codec` in `proofs/Insns.antt`).
+//! A new opcode whose form another opcode has is one row of the table in `src/opcode.rt` and one of that in `specs/Opcode.antt`.
+//!
+//! A new form is one more variant of `Form` and a case in each definition over forms:
+//! - `specs/Reading.antt`: what is read (`operand_at`, and `widened_at` if `wide` may stand before it);
+//! - `specs/Spelling.antt`: its bytes and which operands have some (`fixed_bytes` or `operand_bytes`, `IsOperand`; `wide_bytes`, `IsWideOperand`);
+//! - `specs/Code.antt`: its size, and what may be written (`operand_size`, `IsArg`, `HasNames`; `wide_size`, `IsWideArg`; `jump_fits` if its offset is bounded);
+//!
+//! and an arm in `src/read.rt`, `src/size.rt` and `src/write.rt`, with a line in `operand_codec` of `proofs/Insns.antt`, `arg_formed` and `arg_again` of `proofs/LayoutLaws.antt`.
 #![tactic(auto)]
 
 ghost use Rattle.std.specs.Prelude.{◌≡◌, ◌+◌, ◌<◌, ◌^◌, ◌++◌, List, length, All, IfOk, OnOk, Ok};

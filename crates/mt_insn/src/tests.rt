@@ -1,5 +1,5 @@
 use crate::{places, read_insns, write_insns};
-use class_model::{Arg, Bound, Bytes, ClassFault, Const, Insn, LayoutFault, Seq};
+use class_model::{Arg, Bound, Bytes, ClassFault, Const, Insn, LayoutFault, Name, Seq};
 use std::test::Fail;
 
 /// What is told of a code whose first byte is at place 1000 of its file, with a pool of a class, an int, a float and a method handle.
@@ -69,6 +69,23 @@ fn faults_of_one_instruction(rt: HostRuntime) -> Result<(), Fail> {
     assert_eq!(rt;
         told(&rt, &[0xc4, 0x00])?,
         Some(ClassFault::BadOpcode { at: 1001, op: 0 })
+    );
+    // wide fload, cut and whole; wide invokedynamic; wide at the end
+    assert_eq!(rt;
+        told(&rt, &[0xc4, 0x17, 0])?,
+        Some(ClassFault::BadLength { at: 1000 })
+    );
+    assert_eq!(rt;
+        told(&rt, &[0xc4, 0x17, 0, 1])?,
+        Some(ClassFault::FloatUsed { at: 1001 })
+    );
+    assert_eq!(rt;
+        told(&rt, &[0xc4, 0xba])?,
+        Some(ClassFault::BadOpcode { at: 1001, op: 0xba })
+    );
+    assert_eq!(rt;
+        told(&rt, &[0xc4])?,
+        Some(ClassFault::BadLength { at: 1000 })
     );
     // fload without its local, then with it
     assert_eq!(rt;
@@ -159,5 +176,33 @@ fn a_code_and_a_jump_have_bounds(rt: HostRuntime) -> Result<(), Fail> {
         Err(LayoutFault::TooLarge { what: Bound::Code })
     );
     assert_eq!(rt; out.len(), 0);
+    Ok(())
+}
+
+#[test]
+fn the_count_of_an_interface_call(rt: HostRuntime) -> Result<(), Fail> {
+    let mut name: Name = Seq::new(rt.alloc());
+    name.extend_from_slice(&[109])?;
+    let mut desc: Name = Seq::new(rt.alloc());
+    // (IJ)V
+    desc.extend_from_slice(&[40, 73, 74, 41, 86])?;
+    let mut pool = Seq::new(rt.alloc());
+    pool.push(Const::Utf8(name))?;
+    pool.push(Const::Utf8(desc))?;
+    pool.push(Const::Pair(1, 2))?;
+    pool.push(Const::Class(1))?;
+    pool.push(Const::IMethod(4, 3))?;
+    let insns = read_insns(rt.alloc(), &[0xb9, 0, 5, 4, 0], 1000, &pool)?;
+    assert!(rt; insns.as_slice()[0].arg == Arg::Multi(5, 4));
+    for (bytes, fault) in [
+        ([0xb9, 0, 5, 3, 0], ClassFault::BadLength { at: 1000 }),
+        ([0xb9, 0, 5, 4, 1], ClassFault::BadLength { at: 1000 }),
+        ([0xb9, 0, 4, 3, 1], ClassFault::BadIndex { at: 1001 }),
+    ] {
+        assert_eq!(rt;
+            read_insns(rt.alloc(), &bytes, 1000, &pool).err(),
+            Some(fault)
+        );
+    }
     Ok(())
 }
