@@ -6,3 +6,4 @@ pub mod Whole
 pub mod Loops
 pub mod Meets
 pub mod Skipped
+pub mod Filling

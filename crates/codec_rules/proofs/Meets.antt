@@ -1,7 +1,7 @@
 -- What a call reads, by what it was handed on to read.
-use Rattle.std.proofs.Common.{◌≡◌, ◌≢◌, Result, Ok, Err, ◌∙◌}
+use Rattle.std.proofs.Common.{◌≡◌, Result, Ok, Err, ◌∙◌}
 use Rattle.codec_rules.specs.Input.{Input}
-use Rattle.codec_rules.specs.Meets.{Fails, Reads, Gives}
+use Rattle.codec_rules.specs.Meets.{Reads, Gives}
 use Rattle.codec_rules.specs.Reading.{Reader}
 
 -- A call that ends with another reads what that one reads from there.

@@ -4,7 +4,7 @@ use Rattle.std.specs.Int.{Width, byte_len, to_be_bytes, cast_signed, cast_unsign
 use Rattle.std.specs.List.{AllByRecursion}
 use Rattle.codec_rules.specs.Input.{Input, IsBytes}
 use Rattle.codec_rules.specs.Sequence.{◌>>=◌, or_fault}
-use Rattle.codec_rules.specs.Reading.{Reader, bytes_at, number_at, many_at, whole_at}
+use Rattle.codec_rules.specs.Reading.{Reader, bytes_at, number_at, many_at, whole_at, filling_at}
 use Rattle.codec_rules.specs.Spelling.{Speller, IsCodecAt, IsFilled, IsWhole, input_at, spelled_from}
 
 -- So many bytes are their own spelling.
@@ -63,3 +63,7 @@ WholeIsReadAgain F A P = (read : Reader F A) (spell : Speller A) → IsCodecAt r
 -- Bytes begin with the spelling of at most one value.
 abbrev pub OneIsSpelled : (F A : Type 0) → (A → Type 0) → Type 0
 OneIsSpelled F A P = (read : Reader F A) (spell : Speller A) → IsCodecAt read spell P → (at : ℕ) (x y : A) (behind_x behind_y : List ℕ) → P x → P y → spell at x ++ behind_x ≡ spell at y ++ behind_y → x ≡ y
+
+-- A value whose spelling is the same everywhere, and that fills a part of a stated length.
+abbrev pub FillingComposes : (F A : Type 0) → (A → Type 0) → Type 0
+FillingComposes F A P = (cut : ℕ → F) (more : F) (count : ℕ) (read : Reader F A) (spell : A → List ℕ) → IsCodecAt read (λ at. spell) P → IsCodecAt (filling_at cut more count read) (λ at. spell) (λ x. P x × (length (spell x) ≡ count))

@@ -2,7 +2,7 @@
 use Rattle.std.specs.Prelude.{◌≡◌, ◌<◌, ℕ, zero, suc, List, [], ◌∷◌, ◌++◌, length, take, Result, Ok, Err, nat_lt, ◌==◌, if◌then◌else◌}
 use Rattle.std.specs.Int.{Width, byte_len, from_be_bytes}
 use Rattle.codec_rules.specs.Input.{Input, IsBytes, behind}
-use Rattle.codec_rules.specs.Sequence.{◌>>=◌}
+use Rattle.codec_rules.specs.Sequence.{◌>>=◌, or_fault}
 
 -- A reading function of values A with faults F.
 abbrev pub Reader : Type 0 → Type 0 → Type 0
@@ -47,3 +47,10 @@ with_values front read = read >>= λ values. Ok (front ++ values)
 -- Each value that is read leaves fewer bytes.
 abbrev pub Shortens : {F A : Type 0} → Reader F A → Type 0
 Shortens {F} {A} read = (input : Input) (value : A) (rest : Input) → IsBytes input.bytes → read input ≡ Ok (value, rest) → (length rest.bytes < length input.bytes) × IsBytes rest.bytes
+
+-- A part of a stated length, which a value has to fill: `cut` is the fault where fewer bytes are left, and `more` that where the value ends before its part does.
+unfoldable pub filling_at : {F A : Type 0} → (ℕ → F) → F → ℕ → Reader F A → Reader F A
+filling_at cut more count read input = do
+  part ← or_fault cut (bytes_at count input)
+  value ← read (record { at = input.at; bytes = part.0 })
+  if length value.1.bytes == 0 then Ok (value.0, part.1) else Err more

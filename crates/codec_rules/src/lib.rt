@@ -6,7 +6,7 @@
 #![tactic(auto)]
 
 ghost use Rattle.std.specs.Int.{w8, w16, w32, w64};
-ghost use Rattle.codec_rules.specs.Laws.{BytesCompose, NumberComposes, SignedNumberComposes, ChainComposes, MadeComposes, TestedComposes, EitherComposes, NothingComposes, GivenComposes, ManyCompose, WholeIsTaken, WholeIsReadAgain, OneIsSpelled};
+ghost use Rattle.codec_rules.specs.Laws.{BytesCompose, NumberComposes, SignedNumberComposes, ChainComposes, MadeComposes, TestedComposes, EitherComposes, NothingComposes, GivenComposes, ManyCompose, WholeIsTaken, WholeIsReadAgain, FillingComposes, OneIsSpelled};
 
 /// Values of which some have a spelling.
 pub trait Spelled {
@@ -65,6 +65,11 @@ pub fn lists_are_read_as_spelled<F, A: Spelled>()
 pub fn whole_inputs_are_read_as_spelled<F, A: Spelled>()
     ensures taken { WholeIsTaken F A A.Fits }
     ensures again { WholeIsReadAgain F A A.Fits }
+{}
+
+/// A value that fills a part of a stated length, as the content of an attribute, is read as it is spelled.
+pub fn parts_of_a_stated_length_are_read_as_spelled<F, A: Spelled>()
+    ensures { FillingComposes F A A.Fits }
 {}
 
 /// Bytes begin with the spelling of at most one value.
