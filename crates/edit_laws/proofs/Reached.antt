@@ -1,27 +1,28 @@
--- The edited program reaches the edited line where the program does, and what that says of tests.
+-- The edited program reaches the edited line as the program does, and what that says of tests.
 use Rattle.std.proofs.Common.{◌≡◌, ℕ, zero, suc, Bool, true, false, List, [], ◌∷◌, Option, Some, None, refl, sym, ap, ◌∙◌, subst, arith, ◌⊎◌, inl, inr, ⊎_elim, map}
 use Rattle.std.specs.Prelude.{◌≢◌, nat_eq}
 use Rattle.std.proofs.lemmas.Bool.Decides.{nat_tests}
 use Rattle.std.specs.Cmp.Lexicographic.{same_text, other_text}
 use Rattle.machine_rules.specs.declared.machine.Limits.{Limits}
 use Rattle.machine_rules.specs.Names.{Name, same}
-use Rattle.machine_rules.specs.Linked.{is_from_file}
+use Rattle.machine_rules.specs.Linked.{method_in, is_from_file}
 use Rattle.machine_rules.specs.Programs.{Look, supers}
-use Rattle.machine_rules.specs.State.{ObjectKind, Plain, ArrayOf, Object, Frame, World, MachineState, Test, start}
+use Rattle.machine_rules.specs.State.{Call, ObjectKind, Plain, ArrayOf, Object, Frame, World, MachineState, Test, start}
 use Rattle.machine_rules.specs.Effects.{fault_name, on_some}
 use Rattle.machine_rules.specs.Linked.{is_library}
-use Rattle.machine_rules.specs.Steps.{act, fetch, line_of, reaches, goes, Place, place_of, Stepped, Next, Ended, Stuck, ended, next_or, step_of}
+use Rattle.machine_rules.specs.Steps.{act, fetch, line_of, reaches, goes, Place, method_text, place_with, place_of, Stepped, Next, Ended, Stuck, ended, next_or, step_of}
 use Rattle.machine_rules.specs.Runs.{Ending, With, StuckAt, Ran, then_run, run_from, run_of, limit_of}
 use Rattle.machine_laws.specs.Consulted.{Seen, AllSeen, Hit, HitIf, AllHit, FramesHit, FramesSeen, KindSeen, HeapSeen, IsLibraryWhole}
 use Rattle.machine_laws.specs.FrameLaw.{WentRight, HasEnded}
 use Rattle.machine_laws.proofs.Lines.{Pairs, Grow}
 use Rattle.machine_laws.proofs.Kept.{Fine, fine_some, fine_act, good_reaches}
 use Rattle.machine_laws.proofs.Runs.{kept, same_limits}
-use Rattle.edit_laws.specs.Edit.{Edit, IsEdited, edited_line}
-use Rattle.edit_laws.specs.EditLaws.{moved_frame, moved_state, AreAway, StepFollows, ReachesLine, ReachAlike, RunsReachAlike, TestsAlikeUnreached, TestsReachAlike}
-use Rattle.edit_laws.proofs.Exchange.{class_alike, supers_alike, known_alike, file_alike, line_alike, start_alike}
+use Rattle.edit_laws.specs.Edit.{Edit, moved, is_edited, place_in, IsEdited, edited_line}
+use Rattle.edit_laws.specs.EditLaws.{moved_frame, moved_state, IsAway, AreAway, StepFollows, ReachesLine, edited_place, NotStuckAtEdit, ReachAlike, RunsReachAlike, TestsAlikeUnreached, TestsReachAlike}
+use Rattle.edit_laws.proofs.Places.{place_by}
+use Rattle.edit_laws.proofs.Exchange.{text_alike, class_alike, supers_alike, known_alike, file_alike, line_alike, start_alike}
 use Rattle.edit_laws.proofs.Lockstep.{step_alike, ended_alike}
-use Rattle.edit_laws.proofs.Unreached.{from_file, at_case, all_away, Kept, AfterStep, kept_next, after_kept, grow_right, grow_run, live_step, unreached_alike}
+use Rattle.edit_laws.proofs.Unreached.{from_file, line_there, all_away, Kept, AfterStep, kept_next, after_kept, grow_past, grow_run, live_step, unreached_alike}
 
 -- ---- the edited program keeps the same
 
@@ -90,33 +91,51 @@ none_or (Some x) = inr (λ h. cc)
 
 -- ---- steps
 
--- the top frame is about to reach the line
-abbrev AtLine : Edit → Look → Option ℕ → List Frame → Type 0
-AtLine e p None [] = ⊥
-AtLine e p None (f ∷ fs) = (f.class ≡ e.class) × (line_of p f ≡ edited_line e p)
-AtLine e p (Some x) fs = ⊥
+-- the top frame stands at the edited instruction
+abbrev AtEdit : Edit → Option ℕ → List Frame → Type 0
+AtEdit e None [] = ⊥
+AtEdit e None (f ∷ fs) = (f.class ≡ e.class) × (f.method ≡ e.method) × (f.at ≡ e.at)
+AtEdit e (Some x) fs = ⊥
 
-alone : (b : Bool) (c : Name) (l : ℕ) → HitIf b c l ((c, l) ∷ [])
-alone true c l = inl (refl, refl)
-alone false c l = tt
+away_case : (e : Edit) (f : Frame) (a b c : Bool) → a ≡ same f.class e.class → b ≡ nat_eq f.method e.method → c ≡ nat_eq f.at e.at → IsAway e f ⊎ AtEdit e None (f ∷ [])
+away_case e f true true true ha hb hc = inr (same_text f.class e.class ha, grind (arith, nat_tests), grind (arith, nat_tests))
+away_case e f true true false ha hb hc = inl (λ t i. (let ne : f.at ≢ e.at = λ x. grind (arith, nat_tests) in ne) i)
+away_case e f true false c ha hb hc = inl (λ t i. cc)
+away_case e f false b c ha hb hc = inl (λ t i. cc)
 
-away_or_at : (e : Edit) (p p' : Look) → IsEdited e p p' → (rs : Pairs) (x : Option ℕ) (fs : List Frame) → FramesHit p rs x fs → (Hit e.class (edited_line e p) rs → ⊥) → AreAway e fs ⊎ AtLine e p x fs
+away_or_at : (e : Edit) (p p' : Look) → IsEdited e p p' → (rs : Pairs) (x : Option ℕ) (fs : List Frame) → FramesHit p rs x fs → (Hit e.class (edited_line e p) rs → ⊥) → AreAway e fs ⊎ AtEdit e x fs
 away_or_at e p p' ed rs None [] h miss = inl tt
 away_or_at e p p' ed rs (Some x) fs h miss = inl (all_away e p p' ed rs fs miss h)
 away_or_at e p p' ed rs None (f ∷ fs) h miss =
-    ⊎_elim (λ y. inr y)
-    (λ no. inl ((λ t i. ⊎_elim no (λ z. z) (at_case e p p' ed f ((f.class, line_of p f) ∷ []) (same f.class e.class) (nat_eq f.method e.method) refl refl t i (alone (is_from_file (p f.class)) f.class (line_of p f)))), all_away e p p' ed rs fs miss h))
-    (pair_or f.class e.class (line_of p f) (edited_line e p))
+    ⊎_elim (λ away. inl (away, all_away e p p' ed rs fs miss h)) (λ at. inr at) (away_case e f (same f.class e.class) (nat_eq f.method e.method) (nat_eq f.at e.at) refl refl refl)
+
+moved_edit : (e : Edit) → moved e e.at ≡ e.at
+moved_edit e = grind (arith, nat_tests)
+
+edit_by : (e : Edit) (b : Bool) → place_by e b e.at ≡ e.at
+edit_by e true = moved_edit e
+edit_by e false = refl
+
+-- a frame there stands at the edit on the edited program
+stands_at : (e : Edit) (p p' : Look) → IsEdited e p p' → (f : Frame) (fs : List Frame) (cs : List Call) → f.class ≡ e.class → f.method ≡ e.method → f.at ≡ e.at → place_with p' cs (moved_frame e f ∷ fs) ≡ edited_place e p
+stands_at e p p' ed f fs cs hc hk ha =
+    let place : Name → Name → ℕ → Place = λ c m at. record { class = c; method = m; at = at } in
+    let text : Name → ℕ → Name = λ c k. method_text (method_in (p' c) k) in
+    ap (λ c. place c (text c f.method) (place_in e c f.method f.at)) hc
+    ∙ ap (λ k. place e.class (text e.class k) (place_in e e.class k f.at)) hk
+    ∙ ap (λ at. place e.class (text e.class e.method) (place_in e e.class e.method at)) ha
+    ∙ ap (λ at. place e.class (text e.class e.method) at) (edit_by e (is_edited e e.class e.method))
+    ∙ ap (λ m. place e.class m e.at) (text_alike e p p' ed e.class e.method)
 
 module _ (e : Edit) (p p' : Look) (ed : IsEdited e p p') (whole : IsLibraryWhole p) (q : Limits) where
   whole' : IsLibraryWhole p'
   whole' = whole_moved e p p' ed whole
 
-  -- a state whose top frame is about to reach the line reaches it on the edited program
-  at_line : (place : Place) (n : ℕ) (w : World) (x : Option ℕ) (fs : List Frame) (go' : MachineState → Ran) → Kept p (record { frames = fs; thrown = x; world = w }) → AtLine e p x fs → ((t : MachineState) → Kept p' t → Grow t.world.reached (go' t).reached) → WentRight (then_run (next_or place (goes p' q w x (map (moved_frame e) fs))) n go' w).ending → Hit e.class (edited_line e p) (then_run (next_or place (goes p' q w x (map (moved_frame e) fs))) n go' w).reached
-  at_line place n w None [] go' h at rest right = absurd at
-  at_line place n w (Some x) fs go' h at rest right = absurd at
-  at_line place n w None (f ∷ fs) go' h at rest right =
+  -- a state whose top frame stands at the edited instruction reaches its line on the edited program, unless it is stuck there
+  at_edit : (place : Place) (n : ℕ) (w : World) (x : Option ℕ) (fs : List Frame) (go' : MachineState → Ran) → Kept p (record { frames = fs; thrown = x; world = w }) → AtEdit e x fs → place ≡ place_of p' (record { frames = map (moved_frame e) fs; thrown = x; world = w }) → ((t : MachineState) → Kept p' t → Grow t.world.reached (go' t).reached) → NotStuckAtEdit e p (then_run (next_or place (goes p' q w x (map (moved_frame e) fs))) n go' w) → ReachesLine e p (then_run (next_or place (goes p' q w x (map (moved_frame e) fs))) n go' w)
+  at_edit place n w None [] go' h at i rest past = absurd at
+  at_edit place n w (Some x) fs go' h at i rest past = absurd at
+  at_edit place n w None (f ∷ fs) go' h at i rest past =
       let mf = moved_frame e f in
       let mfs = map (moved_frame e) fs in
       let v = reaches p' mf w in
@@ -124,41 +143,43 @@ module _ (e : Edit) (p p' : Look) (ed : IsEdited e p p') (whole : IsLibraryWhole
       let g = good_reaches p' whole' w.consulted w.reached (Unit {0}) q w mf mfs (kept p' (Unit {0}) (record { frames = mf ∷ mfs; thrown = None; world = w }) k.0 (λ l. k.1)) in
       let d = on_some (fetch p' mf) (λ i. act p' q i.here i.instruction v mf mfs) in
       let fine : Fine p' w.consulted v.reached (Unit {0}) d = fine_some p' w.consulted v.reached (Unit {0}) (fetch p' mf) _ (λ i. fine_act p' whole' w.consulted v.reached (Unit {0}) q i.here i.instruction v mf mfs (g.0, g.1, g.2, λ c l y. y, g.4)) in
-      let grown = grow_right p' whole' q place n w v.reached go' d w.consulted fine rest right in
+      let there : place ≡ edited_place e p = i ∙ stands_at e p p' ed f mfs w.script at.0 at.1 at.2 in
+      let grown = grow_past p' whole' q place n w v.reached go' d w.consulted fine rest (λ stuck. past (stuck ∙ ap StuckAt there)) in
       let here : is_from_file (p' f.class) ≡ true = ap (λ c. is_from_file (p' c)) at.0 ∙ file_alike e p p' ed e.class ∙ from_file e p p' ed in
       let hit : Hit f.class (line_of p' mf) v.reached = subst (λ b. HitIf b f.class (line_of p' mf) v.reached) here (g.4 tt).0 in
-      grown e.class (edited_line e p) (subst (λ c. Hit c (edited_line e p) v.reached) at.0 (subst (λ l. Hit f.class l v.reached) (line_alike e p p' ed f ∙ at.1) hit))
+      let line : line_of p' mf ≡ edited_line e p = line_alike e p p' ed f ∙ line_there e p f at.0 at.1 at.2 in
+      grown e.class (edited_line e p) (subst (λ c. Hit c (edited_line e p) v.reached) at.0 (subst (λ l. Hit f.class l v.reached) line hit))
 
-  goes_on : (n : ℕ) (w : World) (go go' : MachineState → Ran) (d d' : Stepped) → AfterStep p w d → StepFollows e d d' → ((t : MachineState) → Kept p t → WentRight (go t).ending → WentRight (go' (moved_state e t)).ending → ReachesLine e p (go t) → ReachesLine e p (go' (moved_state e t))) → WentRight (then_run d n go w).ending → WentRight (then_run d' n go' w).ending → ReachesLine e p (then_run d n go w) → ReachesLine e p (then_run d' n go' w)
-  goes_on n w go go' (Next t) d' g f rest right right' h =
-      subst (λ x. ReachesLine e p (then_run x n go' w)) (sym f) (rest t (kept_next p w t g) right (subst (λ x. WentRight (then_run x n go' w).ending) f right') h)
-  goes_on n w go go' (Ended o) d' g f rest right right' h = subst (λ x. ReachesLine e p (then_run x n go' w)) (sym f) h
-  goes_on n w go go' (Stuck place) d' g f rest right right' h = absurd right
+  goes_on : (n : ℕ) (w : World) (go go' : MachineState → Ran) (d d' : Stepped) → AfterStep p w d → StepFollows e d d' → ((t : MachineState) → Kept p t → WentRight (go t).ending → NotStuckAtEdit e p (go' (moved_state e t)) → ReachesLine e p (go t) → ReachesLine e p (go' (moved_state e t))) → WentRight (then_run d n go w).ending → NotStuckAtEdit e p (then_run d' n go' w) → ReachesLine e p (then_run d n go w) → ReachesLine e p (then_run d' n go' w)
+  goes_on n w go go' (Next t) d' g f rest right past h =
+      subst (λ x. ReachesLine e p (then_run x n go' w)) (sym f) (rest t (kept_next p w t g) right (subst (λ x. NotStuckAtEdit e p (then_run x n go' w)) f past) h)
+  goes_on n w go go' (Ended o) d' g f rest right past h = subst (λ x. ReachesLine e p (then_run x n go' w)) (sym f) h
+  goes_on n w go go' (Stuck place) d' g f rest right past h = absurd right
 
-  reaches_too : (left n : ℕ) (s : MachineState) → Kept p s → WentRight (run_from p q left s n).ending → WentRight (run_from p' q left (moved_state e s) n).ending → ReachesLine e p (run_from p q left s n) → ReachesLine e p (run_from p' q left (moved_state e s) n)
-  reaches_too zero n s h right right' y = y
-  reaches_too (suc left) n s h right right' y =
+  reaches_too : (left n : ℕ) (s : MachineState) → Kept p s → WentRight (run_from p q left s n).ending → NotStuckAtEdit e p (run_from p' q left (moved_state e s) n) → ReachesLine e p (run_from p q left s n) → ReachesLine e p (run_from p' q left (moved_state e s) n)
+  reaches_too zero n s h right past y = y
+  reaches_too (suc left) n s h right past y =
       let s' = moved_state e s in
       let go : MachineState → Ran = λ t. run_from p q left t (suc n) in
       let go' : MachineState → Ran = λ t. run_from p' q left t (suc n) in
       let stepping : (ended s ≡ None → AreAway e s.frames) → ReachesLine e p (then_run (step_of p' q s') n go' s.world) = λ away.
-      goes_on n s.world go go' (step_of p q s) (step_of p' q s') (after_kept p whole q s h) (step_alike e p p' q s ed away) (λ t. reaches_too left (suc n) t) right right' y in
+      goes_on n s.world go go' (step_of p q s) (step_of p' q s') (after_kept p whole q s h) (step_alike e p p' q s ed away) (λ t. reaches_too left (suc n) t) right past y in
       ⊎_elim (λ z. grow_run p' whole' q (suc left) n s' (kept_moved e p p' ed s h) e.class (edited_line e p) z)
       (λ miss. ⊎_elim
       (λ live. ⊎_elim (λ away. stepping (λ l. away))
       (λ at.
       let j = live_step p' whole' q s' (ended_alike e s ∙ live) in
       subst (λ d. ReachesLine e p (then_run d n go' s.world)) (sym j)
-      (at_line (place_of p' s') n s.world s.thrown s.frames go' h at (λ t. grow_run p' whole' q left (suc n) t) (subst (λ d. WentRight (then_run d n go' s.world).ending) j right')))
+      (at_edit (place_of p' s') n s.world s.thrown s.frames go' h at refl (λ t. grow_run p' whole' q left (suc n) t) (subst (λ d. NotStuckAtEdit e p (then_run d n go' s.world)) j past)))
       (away_or_at e p p' ed s.world.reached s.thrown s.frames h.1 miss))
       (λ over. stepping (λ l. absurd (over l)))
       (none_or (ended s)))
       (hit_or e.class (edited_line e p) s.world.reached)
 
 pub reach_alike : RunsReachAlike
-reach_alike e p p' q left n s ed whole seen lines right right' = (
-  reaches_too e p p' ed whole q left n s (seen, lines) right right',
+reach_alike e p p' q left n s ed whole seen lines right = (
   λ y. ⊎_elim (λ z. z) (λ miss. subst (ReachesLine e p) (unreached_alike e p p' q left n s ed whole seen lines right miss) y) (hit_or e.class (edited_line e p) (run_from p q left s n).reached),
+  reaches_too e p p' ed whole q left n s (seen, lines) right,
 )
 
 -- ---- tests
@@ -181,10 +202,10 @@ tests_unreached e p p' t q limit ed whole h miss =
     ∙ same
 
 pub tests_reach : TestsReachAlike
-tests_reach e p p' t q limit ed whole h right' =
+tests_reach e p p' t q limit ed whole h =
     let r = run_of p t q limit in
     let l = limit_of r.steps in
     let same : run_of p t q l ≡ r = under_limit p t q limit h in
     let begun : run_of p' t q l ≡ run_from p' q l (start p t) 0 = ap (λ s. run_from p' q l s 0) (start_alike e p p' ed t) in
     subst (λ x. ReachAlike e p x (run_of p' t q l)) same (subst (ReachAlike e p (run_of p t q l)) (sym begun)
-    (reach_alike e p p' q l 0 (start p t) ed whole (tt, tt) tt (subst (λ x. WentRight x.ending) (sym same) (ended_right r.ending h)) (subst (λ x. WentRight x.ending) begun right')))
+    (reach_alike e p p' q l 0 (start p t) ed whole (tt, tt) tt (subst (λ x. WentRight x.ending) (sym same) (ended_right r.ending h))))

@@ -1,6 +1,6 @@
 -- A run that doesn't reach the edited line stays away from the edited instruction.
 use Rattle.std.proofs.Common.{◌≡◌, ℕ, zero, suc, Bool, true, false, List, [], ◌∷◌, Option, Some, None, refl, ap, ◌∙◌, subst, arith}
-use Rattle.std.specs.Prelude.{◌&&◌, nat_eq, if◌then◌else◌}
+use Rattle.std.specs.Prelude.{◌≢◌, ◌&&◌, nat_eq, if◌then◌else◌}
 use Rattle.std.proofs.lemmas.Bool.Decides.{nat_tests}
 use Rattle.std.specs.Cmp.Lexicographic.{same_text}
 use Rattle.machine_rules.specs.declared.machine.Outcome.{Outcome}
@@ -11,7 +11,7 @@ use Rattle.machine_rules.specs.Programs.{Look}
 use Rattle.machine_rules.specs.State.{Frame, World, MachineState}
 use Rattle.machine_rules.specs.Effects.{Effect, Goes, NoRow, on_some}
 use Rattle.machine_rules.specs.Steps.{act, fetch, line_in, line_of, reaches, goes, Place, place_of, Stepped, Next, Ended, Stuck, ended, next_or, unless_ended, step_of}
-use Rattle.machine_rules.specs.Runs.{Ran, then_run, run_from}
+use Rattle.machine_rules.specs.Runs.{StuckAt, Ran, then_run, run_from}
 use Rattle.machine_laws.specs.Consulted.{Hit, HitIf, AllHit, IsLibraryWhole, IsConsulted, IsReached}
 use Rattle.machine_laws.specs.FrameLaw.{WentRight, IfNext}
 use Rattle.machine_laws.proofs.Lines.{Pairs, Grow}
@@ -26,11 +26,17 @@ pub from_file : (e : Edit) (p p' : Look) → IsEdited e p p' → is_from_file (p
 from_file e p p' ed = ap is_from_file ed.had ∙ ap (λ b. if b then false else true) ed.from_file
 
 -- where a frame stands at the edited instruction, its line is the edited one
-pub at_case : (e : Edit) (p p' : Look) → IsEdited e p p' → (f : Frame) (rs : Pairs) (b d : Bool) → b ≡ same f.class e.class → d ≡ nat_eq f.method e.method → b && d ≡ true → f.at ≡ e.at → HitIf (is_from_file (p f.class)) f.class (line_of p f) rs → Hit e.class (edited_line e p) rs
+pub line_there : (e : Edit) (p : Look) (f : Frame) → f.class ≡ e.class → f.method ≡ e.method → f.at ≡ e.at → line_of p f ≡ edited_line e p
+line_there e p f hc hk ha =
+    ap (λ c. line_in (code_of (method_in (p c) f.method)) f.at) hc
+    ∙ ap (λ k. line_in (code_of (method_in (p e.class) k)) f.at) hk
+    ∙ ap (line_in (code_of (method_in (p e.class) e.method))) ha
+
+at_case : (e : Edit) (p p' : Look) → IsEdited e p p' → (f : Frame) (rs : Pairs) (b d : Bool) → b ≡ same f.class e.class → d ≡ nat_eq f.method e.method → b && d ≡ true → f.at ≡ e.at → HitIf (is_from_file (p f.class)) f.class (line_of p f) rs → Hit e.class (edited_line e p) rs
 at_case e p p' ed f rs true true hb hd t i h =
     let hc : f.class ≡ e.class = same_text f.class e.class hb in
     let hk : f.method ≡ e.method = grind (arith, nat_tests) in
-    let l : line_of p f ≡ edited_line e p = ap (λ c. line_in (code_of (method_in (p c) f.method)) f.at) hc ∙ ap (λ k. line_in (code_of (method_in (p e.class) k)) f.at) hk ∙ ap (line_in (code_of (method_in (p e.class) e.method))) i in
+    let l = line_there e p f hc hk i in
     let here : is_from_file (p f.class) ≡ true = ap (λ c. is_from_file (p c)) hc ∙ from_file e p p' ed in
     let found : Hit f.class (line_of p f) rs = subst (λ x. HitIf x f.class (line_of p f) rs) here h in
     subst (λ c. Hit c (edited_line e p) rs) hc (subst (λ m. Hit f.class m rs) l found)
@@ -55,10 +61,10 @@ pub after_kept : (p : Look) → IsLibraryWhole p → (q : Limits) (s : MachineSt
 after_kept p whole q s h = after_step p whole (Unit {0}) q s h.0 (λ l. h.1)
 
 module _ (p : Look) (whole : IsLibraryWhole p) (q : Limits) where
-  -- what an effect has reached, the run from it has reached
-  pub grow_right : (place : Place) (n : ℕ) (w : World) (rs : Pairs) (go : MachineState → Ran) (d : Effect) (ns : List Name) → Fine p ns rs (Unit {0}) d → ((t : MachineState) → Kept p t → Grow t.world.reached (go t).reached) → WentRight (then_run (next_or place d) n go w).ending → Grow rs (then_run (next_or place d) n go w).reached
-  grow_right place n w rs go (Goes t) ns g rest right = λ c l x. rest t ((g.1, g.2), g.4 tt) c l (g.3 c l x)
-  grow_right place n w rs go NoRow ns g rest right = absurd right
+  -- what an effect has reached, the run from it has reached, unless it is stuck there
+  pub grow_past : (place : Place) (n : ℕ) (w : World) (rs : Pairs) (go : MachineState → Ran) (d : Effect) (ns : List Name) → Fine p ns rs (Unit {0}) d → ((t : MachineState) → Kept p t → Grow t.world.reached (go t).reached) → (then_run (next_or place d) n go w).ending ≢ StuckAt place → Grow rs (then_run (next_or place d) n go w).reached
+  grow_past place n w rs go (Goes t) ns g rest past = λ c l x. rest t ((g.1, g.2), g.4 tt) c l (g.3 c l x)
+  grow_past place n w rs go NoRow ns g rest past = absurd (past refl)
 
   pub grow_any : (n : ℕ) (w : World) (go : MachineState → Ran) (d : Stepped) → AfterStep p w d → ((t : MachineState) → Kept p t → Grow t.world.reached (go t).reached) → Grow w.reached (then_run d n go w).reached
   grow_any n w go (Next t) g rest = λ c l x. rest t (kept_next p w t g) c l (g.3 c l x)
@@ -90,7 +96,7 @@ module _ (e : Edit) (p p' : Look) (ed : IsEdited e p p') (whole : IsLibraryWhole
       let h = good_reaches p whole w.consulted w.reached (Unit {0}) q w f fs g in
       let d = on_some (fetch p f) (λ i. act p q i.here i.instruction v f fs) in
       let fine : Fine p w.consulted v.reached (Unit {0}) d = fine_some p w.consulted v.reached (Unit {0}) (fetch p f) _ (λ i. fine_act p whole w.consulted v.reached (Unit {0}) q i.here i.instruction v f fs (h.0, h.1, h.2, λ c l y. y, h.4)) in
-      all_away e p p' ed v.reached (f ∷ fs) (λ i. miss (grow_right p whole q place n w v.reached go d w.consulted fine rest right e.class (edited_line e p) i)) (h.4 tt)
+      all_away e p p' ed v.reached (f ∷ fs) (λ i. miss (grow_past p whole q place n w v.reached go d w.consulted fine rest (λ stuck. subst WentRight stuck right) e.class (edited_line e p) i)) (h.4 tt)
 
   away_next : (n : ℕ) (w : World) (go : MachineState → Ran) (P : MachineState → Type 0) (d : Stepped) → AfterStep p w d → WentRight (then_run d n go w).ending → Missed (then_run d n go w) → ((t : MachineState) → Kept p t → WentRight (go t).ending → Missed (go t) → P t) → IfNext d P
   away_next n w go P (Next t) g right miss rest = rest t (kept_next p w t g) right miss

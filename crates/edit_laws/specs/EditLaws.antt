@@ -1,10 +1,11 @@
 -- Until the edited instruction is reached, the edited program runs as the program.
 use Rattle.std.specs.Prelude.{◌≡◌, ◌≢◌, ℕ, zero, suc, true, List, [], ◌∷◌, map, None}
 use Rattle.machine_rules.specs.declared.machine.Limits.{Limits}
+use Rattle.machine_rules.specs.Linked.{method_in}
 use Rattle.machine_rules.specs.Programs.{Look}
 use Rattle.machine_rules.specs.State.{Test, Frame, MachineState}
-use Rattle.machine_rules.specs.Steps.{Stepped, Next, Ended, Stuck, ended, step_of}
-use Rattle.machine_rules.specs.Runs.{Ran, run_from, run_of, limit_of}
+use Rattle.machine_rules.specs.Steps.{Stepped, Next, Ended, Stuck, Place, method_text, ended, step_of}
+use Rattle.machine_rules.specs.Runs.{StuckAt, Ran, run_from, run_of, limit_of}
 use Rattle.machine_laws.specs.Consulted.{Hit, IsLibraryWhole, IsConsulted, IsReached}
 use Rattle.machine_laws.specs.FrameLaw.{WentRight, IfNext, HasEnded}
 use Rattle.edit_laws.specs.Edit.{Edit, is_edited, place_in, IsEdited, edited_line}
@@ -62,14 +63,23 @@ abbrev pub RunsAlikeUnreached : Type 0
 RunsAlikeUnreached =
     (e : Edit) (p p' : Look) (q : Limits) (left n : ℕ) (s : MachineState) → IsEdited e p p' → IsLibraryWhole p → IsConsulted p s → IsReached p s → WentRight (run_from p q left s n).ending → (ReachesLine e p (run_from p q left s n) → ⊥) → run_from p' q left (moved_state e s) n ≡ run_from p q left s n
 
--- Both of two runs reach the edited line, or neither does.
-abbrev pub ReachAlike : Edit → Look → Ran → Ran → Type 0
-ReachAlike e p r r' = (ReachesLine e p r → ReachesLine e p r') × (ReachesLine e p r' → ReachesLine e p r)
+-- Where the edited program stands at the edit: the place of the first instruction that replaces, which is that of the replaced one.
+abbrev pub edited_place : Edit → Look → Place
+edited_place e p = record { class = e.class; method = method_text (method_in (p e.class) e.method); at = e.at }
 
--- Where neither run is stuck, the one reaches the edited line exactly where the other does.
+-- The run isn't stuck right at the edit. It may be stuck at any other place.
+abbrev pub NotStuckAtEdit : Edit → Look → Ran → Type 0
+NotStuckAtEdit e p r = r.ending ≢ StuckAt (edited_place e p)
+
+-- Of a run on the program and one on the edited program: where the second reaches the edited line so does the first, however the second ends; and where the first reaches it so does the second, unless it
+-- is stuck right at the edit. (A step that is stuck reaches no line.)
+abbrev pub ReachAlike : Edit → Look → Ran → Ran → Type 0
+ReachAlike e p r r' = (ReachesLine e p r' → ReachesLine e p r) × (NotStuckAtEdit e p r' → ReachesLine e p r → ReachesLine e p r')
+
+-- Where the run on the program isn't stuck, the one reaches the edited line as the other does.
 abbrev pub RunsReachAlike : Type 0
 RunsReachAlike =
-    (e : Edit) (p p' : Look) (q : Limits) (left n : ℕ) (s : MachineState) → IsEdited e p p' → IsLibraryWhole p → IsConsulted p s → IsReached p s → WentRight (run_from p q left s n).ending → WentRight (run_from p' q left (moved_state e s) n).ending → ReachAlike e p (run_from p q left s n) (run_from p' q left (moved_state e s) n)
+    (e : Edit) (p p' : Look) (q : Limits) (left n : ℕ) (s : MachineState) → IsEdited e p p' → IsLibraryWhole p → IsConsulted p s → IsReached p s → WentRight (run_from p q left s n).ending → ReachAlike e p (run_from p q left s n) (run_from p' q left (moved_state e s) n)
 
 -- ---- tests, each mutant's run under the limit that its original run gives
 
@@ -82,7 +92,7 @@ abbrev pub TestsAlikeUnreached : Type 0
 TestsAlikeUnreached =
     (e : Edit) (p p' : Look) (t : Test) (q : Limits) (limit : ℕ) → IsEdited e p p' → IsLibraryWhole p → HasEnded (run_of p t q limit).ending → (ReachesLine e p (run_of p t q limit) → ⊥) → mutant_run p' t q (run_of p t q limit) ≡ run_of p t q limit
 
--- A test that ended reaches the edited line on the program exactly where it does on the edited program, if it isn't stuck there.
+-- A test that ended reaches the edited line on the program as it does on the edited program.
 abbrev pub TestsReachAlike : Type 0
 TestsReachAlike =
-    (e : Edit) (p p' : Look) (t : Test) (q : Limits) (limit : ℕ) → IsEdited e p p' → IsLibraryWhole p → HasEnded (run_of p t q limit).ending → WentRight (mutant_run p' t q (run_of p t q limit)).ending → ReachAlike e p (run_of p t q limit) (mutant_run p' t q (run_of p t q limit))
+    (e : Edit) (p p' : Look) (t : Test) (q : Limits) (limit : ℕ) → IsEdited e p p' → IsLibraryWhole p → HasEnded (run_of p t q limit).ending → ReachAlike e p (run_of p t q limit) (mutant_run p' t q (run_of p t q limit))

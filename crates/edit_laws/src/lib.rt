@@ -23,7 +23,8 @@ pub fn unreached_runs_are_alike()
     ensures tests { TestsAlikeUnreached }
 {}
 
-/// A run reaches the edited line exactly where the run of the edited program does, as long as neither is stuck. For tests this is said under the limit of a mutant's run.
+/// Of a run that isn't stuck: where the run of the edited program reaches the edited line, this one does, however the other ends; and where this one reaches it, so does the run of the edited program,
+/// unless that is stuck right at the edit. For tests this is said under the limit of a mutant's run.
 pub fn runs_reach_the_line_alike()
     ensures runs { RunsReachAlike }
     ensures tests { TestsReachAlike }

@@ -1,4 +1,4 @@
-use Rattle.std.proofs.Common.{◌≡◌, inl, inr, ⊎_elim, Bool, true, false, [], ◌∷◌, codes, refl, sym, subst, arith}
+use Rattle.std.proofs.Common.{◌≡◌, ◌∙◌, inl, inr, ⊎_elim, Bool, true, false, [], ◌∷◌, codes, refl, sym, subst, arith}
 use Rattle.std.specs.Prelude.{◌≢◌, if◌then◌else◌, Option, Some}
 use Rattle.std.specs.Cmp.Lexicographic.{same_text}
 use Rattle.machine_rules.specs.declared.machine.Outcome.TheVariants.{Passed, Failed}
@@ -10,7 +10,7 @@ use Rattle.machine_rules.specs.Steps.{act, step_of}
 use Rattle.machine_rules.specs.Runs.{With, run_of}
 use Rattle.machine_rules.specs.Worked.{class_t, f_code, roomy}
 use Rattle.machine_laws.specs.Consulted.{IsLibraryWhole}
-use Rattle.machine_laws.specs.FrameLaw.{WentRight, HasEnded}
+use Rattle.machine_laws.specs.FrameLaw.{HasEnded}
 use Rattle.machine_laws.proofs.Witness.{whole}
 use Rattle.edit_laws.specs.Edit.{IsEdited}
 use Rattle.edit_laws.specs.EditLaws.{ReachesLine, mutant_run}
@@ -52,6 +52,6 @@ returns c = record {
   whole = library;
   unreached = tests_unreached last_return_edit original mutant neg_test roomy 1000000000 edited library (subst (λ r. HasEnded r.ending) (sym neg_run) tt)
       (λ h. missed (subst (ReachesLine last_return_edit original) neg_run h));
-  reached = (tests_reach last_return_edit original mutant zero_test roomy 1000000000 edited library (subst (λ r. HasEnded r.ending) (sym zero_run) tt) (subst WentRight (sym mutant_ending) tt)).0
-      (subst (ReachesLine last_return_edit original) (sym zero_run) (inr (inr (inl (refl, refl)))));
+  reached = (tests_reach last_return_edit original mutant zero_test roomy 1000000000 edited library (subst (λ r. HasEnded r.ending) (sym zero_run) tt)).1
+      (λ stuck. let x = sym mutant_ending ∙ stuck in cc) (subst (ReachesLine last_return_edit original) (sym zero_run) (inr (inr (inl (refl, refl)))));
 }
