@@ -281,3 +281,9 @@ written_is_spelled pool insns bytes forms named targets e =
       },
       sym g.2,
     )
+
+-- what was read from few bytes takes as few
+pub read_length : (insns : List Insn) (bytes : List ℕ) → bytes ≡ code insns → code_length insns ≡ length bytes
+read_length insns bytes same =
+    let long : code_length insns ≡ 0 + length (code insns) = length_is (places insns) 0 insns in
+    omega (arith, long, ap (λ (x : List ℕ). length x) same)

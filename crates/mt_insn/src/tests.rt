@@ -1,5 +1,5 @@
 use crate::{places, read_insns, write_insns};
-use class_model::{Arg, Bound, Bytes, ClassFault, Const, Insn, LayoutFault, Name, Seq};
+use class_model::{Arg, Bytes, ClassFault, Const, Insn, Name, Seq};
 use std::test::Fail;
 
 /// What is told of a code whose first byte is at place 1000 of its file, with a pool of a class, an int, a float and a method handle.
@@ -141,41 +141,6 @@ fn what_is_read_is_written_again(rt: HostRuntime) -> Result<(), Fail> {
     let mut out: Bytes = Seq::new(rt.alloc());
     write_insns(&insns, &mut out)?;
     assert!(rt; out.as_slice() == bytes.as_slice());
-    Ok(())
-}
-
-#[test]
-fn a_code_and_a_jump_have_bounds(rt: HostRuntime) -> Result<(), Fail> {
-    let mut insns = Seq::new(rt.alloc());
-    insns.push(Insn {
-        op: 0xa7,
-        wide: false,
-        arg: Arg::To(40_000),
-    })?;
-    for _ in 0..40_000 {
-        insns.push(Insn {
-            op: 0x00,
-            wide: false,
-            arg: Arg::None,
-        })?;
-    }
-    let mut out: Bytes = Seq::new(rt.alloc());
-    assert_eq!(rt;
-        write_insns(&insns, &mut out),
-        Err(LayoutFault::TooLarge { what: Bound::Jump })
-    );
-    for _ in 0..30_000 {
-        insns.push(Insn {
-            op: 0x00,
-            wide: false,
-            arg: Arg::None,
-        })?;
-    }
-    assert_eq!(rt;
-        write_insns(&insns, &mut out),
-        Err(LayoutFault::TooLarge { what: Bound::Code })
-    );
-    assert_eq!(rt; out.len(), 0);
     Ok(())
 }
 
