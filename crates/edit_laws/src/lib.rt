@@ -3,12 +3,13 @@
 #![tactic(auto)]
 
 ghost use Rattle.std.specs.Prelude.{◌≡◌};
-ghost use Rattle.machine_rules.specs.Runs.{run_of};
-ghost use Rattle.machine_rules.specs.Worked.{roomy};
+ghost use Rattle.machine_rules.specs.declared.machine.Outcome.TheVariants.{Failed};
+ghost use Rattle.machine_rules.specs.Runs.{With};
 ghost use Rattle.machine_laws.specs.Consulted.{IsLibraryWhole};
+ghost use Rattle.machine_laws.specs.FrameLaw.{WentRight, HasEnded};
 ghost use Rattle.edit_laws.specs.Edit.{IsEdited};
-ghost use Rattle.edit_laws.specs.EditLaws.{StepsAlike, RunsAlike, RunsAlikeUnreached, RunsReachAlike, TestsAlikeUnreached, TestsReachAlike, ReachesLine, mutant_run};
-ghost use Rattle.edit_laws.specs.Witness.{last_return_edit, original, mutant, neg_test, zero_test};
+ghost use Rattle.edit_laws.specs.EditLaws.{StepsAlike, RunsAlike, RunsAlikeUnreached, RunsReachAlike, TestsAlikeUnreached, TestsReachAlike, ReachesLine, NotStuckAtEdit};
+ghost use Rattle.edit_laws.specs.Witness.{first_return_edit, original, mutant, zero_test, neg_test, original_run, edited_run};
 
 /// The lockstep: as long as no frame stands at the edited instruction, one step of the program is one step of the edited program, and so a run is the same on both. The states differ only in the
 /// instruction numbers of the edited method's frames, by the place map.
@@ -30,10 +31,18 @@ pub fn runs_reach_the_line_alike()
     ensures tests { TestsReachAlike }
 {}
 
-/// The premises of these laws are met: of two tests the one never reaches the edited line and runs as it did, and the other reaches it on both programs.
+/// The premises of these laws are met. The edit stands before instructions that run, before a jump's target and before a row of lines, and all of them move. One test ends on the program without
+/// reaching the edited line, and runs behind the edit as it did. The other ends, reaches the line on both programs, and fails on the edited one.
 pub fn edit_laws_are_of_use()
-    ensures edited { IsEdited last_return_edit original mutant }
+    ensures edited { IsEdited first_return_edit original mutant }
     ensures whole { IsLibraryWhole original }
-    ensures unreached { mutant_run mutant neg_test roomy (run_of original neg_test roomy 1000000000) ≡ run_of original neg_test roomy 1000000000 }
-    ensures reached { ReachesLine last_return_edit original (mutant_run mutant zero_test roomy (run_of original zero_test roomy 1000000000)) }
+    ensures zero_ended { HasEnded (original_run zero_test).ending }
+    ensures zero_misses { ReachesLine first_return_edit original (original_run zero_test) → ⊥ }
+    ensures zero_same { edited_run zero_test ≡ original_run zero_test }
+    ensures neg_ended { HasEnded (original_run neg_test).ending }
+    ensures neg_reaches { ReachesLine first_return_edit original (original_run neg_test) }
+    ensures neg_right { WentRight (edited_run neg_test).ending }
+    ensures neg_not_stuck { NotStuckAtEdit first_return_edit original (edited_run neg_test) }
+    ensures neg_reaches_too { ReachesLine first_return_edit original (edited_run neg_test) }
+    ensures neg_fails { (edited_run neg_test).ending ≡ With Failed }
 {}
