@@ -1,5 +1,8 @@
 //! Laws of a program and of the same program with one instruction of one method replaced by a list of instructions, over the definitions of `machine_rules` alone. Each law is the contract of a function
 //! that does nothing.
+//!
+//! Where the program as it was is stuck they say nothing: its stack may have had no room, and the edited one more. The laws of the edited line are about programs whose library is whole: the classes
+//! above a library class, and the exceptions that the machine makes, are of the library.
 #![tactic(auto)]
 
 ghost use Rattle.std.specs.Prelude.{◌≡◌};
@@ -11,21 +14,22 @@ ghost use Rattle.edit_laws.specs.Edit.{IsEdited};
 ghost use Rattle.edit_laws.specs.EditLaws.{StepsAlike, RunsAlike, RunsAlikeUnreached, RunsReachAlike, TestsAlikeUnreached, TestsReachAlike, ReachesLine, NotStuckAtEdit};
 ghost use Rattle.edit_laws.specs.Witness.{first_return_edit, original, mutant, zero_test, neg_test, original_run, edited_run};
 
-/// The lockstep: as long as no frame stands at the edited instruction, one step of the program is one step of the edited program, and so a run is the same on both. The states differ only in the
-/// instruction numbers of the edited method's frames, by the place map.
+/// The lockstep: as long as no frame stands at the edited instruction and the program isn't stuck, one step of it is one step of the edited program, and so a run is the same on both. The states differ
+/// only in the instruction numbers of the edited method's frames, by the place map.
 pub fn runs_are_alike_until_the_edit()
     ensures steps { StepsAlike }
     ensures runs { RunsAlike }
 {}
 
-/// A run that never reached the edited line is the same on the edited program: outcome, steps, consulted names and reached lines. For tests this is said under the limit of a mutant's run.
+/// A run that isn't stuck and never reached the edited line is the same on the edited program, where the library is whole: outcome, steps, consulted names and reached lines. For tests that ended this is
+/// said under the limit of a mutant's run.
 pub fn unreached_runs_are_alike()
     ensures runs { RunsAlikeUnreached }
     ensures tests { TestsAlikeUnreached }
 {}
 
-/// Of a run that isn't stuck: where the run of the edited program reaches the edited line, this one does, however the other ends; and where this one reaches it, so does the run of the edited program,
-/// unless that is stuck right at the edit. For tests this is said under the limit of a mutant's run.
+/// Of a run that isn't stuck, where the library is whole: if the run of the edited program reaches the edited line, this one does, however the other ends; and if this one reaches it, so does the run of
+/// the edited program, unless that is stuck right at the edit. For tests that ended this is said under the limit of a mutant's run.
 pub fn runs_reach_the_line_alike()
     ensures runs { RunsReachAlike }
     ensures tests { TestsReachAlike }

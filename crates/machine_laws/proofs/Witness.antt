@@ -1,16 +1,16 @@
 -- The premises of the frame law are met.
-use Rattle.std.proofs.Common.{◌≡◌, Bool, true, false, List, [], ◌∷◌, Option, Some, None, codes, refl, subst}
+use Rattle.std.proofs.Common.{◌≡◌, ◌∙◌, Bool, true, false, List, [], ◌∷◌, Option, Some, None, codes, refl, sym, ap, subst}
 use Rattle.std.specs.Prelude.{is_some, if◌then◌else◌}
 use Rattle.std.specs.Cmp.Lexicographic.{same_text}
 use Rattle.machine_rules.specs.Names.{Name, same}
-use Rattle.machine_rules.specs.Instructions.{Instruction}
+use Rattle.machine_rules.specs.Instructions.{IsLess}
 use Rattle.machine_rules.specs.Linked.{Linked, is_library}
-use Rattle.machine_rules.specs.Programs.{Look, supers}
+use Rattle.machine_rules.specs.Programs.{supers}
 use Rattle.machine_rules.specs.Effects.{Fault, StackOverflow, AssertionFailed, fault_name}
 use Rattle.machine_rules.specs.Library.{library_classes, class_among, first_of, with_library}
-use Rattle.machine_rules.specs.Worked.{program_with, class_a, class_t, class_d}
+use Rattle.machine_rules.specs.Worked.{class_a, class_t, class_d, class_u, f_code, f_jumping}
 use Rattle.machine_laws.specs.Consulted.{Seen, AllSeen, Agree, IsLibraryWhole}
-use Rattle.machine_laws.specs.Witness.{wider_program}
+use Rattle.machine_laws.specs.Witness.{first_program, second_program}
 
 -- a fact of each name in a list of classes
 abbrev Every : (Name → Type 0) → List (Name × Linked) → Type 0
@@ -42,31 +42,67 @@ from_library : (cs : List (Name × Linked)) → NoLibrary cs → (n : Name) (oth
 from_library [] h n other s = s
 from_library (c ∷ cs) h n other s = file_case c.1 (class_among cs n) other (same c.0 n) h.0 (from_library cs h.1 n other) s
 
+whole_faults : (cs : List (Name × Linked)) → (x : Fault) → class_among cs (fault_name x) ≡ None → is_library (with_library cs (fault_name x)) ≡ true
+whole_faults cs StackOverflow e = ap (λ o. is_library (first_of o (class_among library_classes (fault_name StackOverflow)))) e
+whole_faults cs AssertionFailed e = ap (λ o. is_library (first_of o (class_among library_classes (fault_name AssertionFailed)))) e
+
+-- the library beside classes that are none of it is whole, where the supers of its classes are its own
+module _ (cs : List (Name × Linked)) (outside : NoLibrary cs) (each : Every (λ n. AllSeen (with_library cs) [] (supers (with_library cs) n)) library_classes) (free : (x : Fault) → class_among cs (fault_name x) ≡ None) where
+  beside_supers : (n : Name) → is_library (with_library cs n) ≡ true → AllSeen (with_library cs) [] (supers (with_library cs) n)
+  beside_supers n h =
+      every_name (λ m. AllSeen (with_library cs) [] (supers (with_library cs) m)) library_classes each n
+      (some_library (class_among library_classes n) (from_library cs outside n (class_among library_classes n) h))
+
+  pub beside : IsLibraryWhole (with_library cs)
+  beside = record { supers = beside_supers; faults = λ x. whole_faults cs x (free x) }
+
 -- a program of a class A and a class T, neither of them of the library
 module _ (a t : Linked) (ha : a.library ≡ false) (ht : t.library ≡ false) where
-  abbrev pub pair_program : Look
-  pair_program = with_library ((codes "A", a) ∷ (codes "T", t) ∷ [])
+  abbrev pair : List (Name × Linked)
+  pair = (codes "A", a) ∷ (codes "T", t) ∷ []
 
-  each_seen : Every (λ n. AllSeen pair_program [] (supers pair_program n)) library_classes
+  pair_seen : Every (λ n. AllSeen (with_library pair) [] (supers (with_library pair) n)) library_classes
   unfolding supers
-  each_seen = ((refl, tt), ((refl, (refl, tt)), ((refl, (refl, (refl, tt))), ((refl, (refl, (refl, (refl, tt)))), ((refl, (refl, (refl, (refl, tt)))), ((refl, (refl, (refl, (refl, (refl, tt))))), ((refl, (refl, tt)), tt)))))))
+  pair_seen = ((refl, tt), ((refl, (refl, tt)), ((refl, (refl, (refl, tt))), ((refl, (refl, (refl, (refl, tt)))), ((refl, (refl, (refl, (refl, tt)))), ((refl, (refl, (refl, (refl, (refl, tt))))), ((refl, (refl, tt)), tt)))))))
 
-  whole_supers : (n : Name) → is_library (pair_program n) ≡ true → AllSeen pair_program [] (supers pair_program n)
-  whole_supers n h =
-      every_name (λ m. AllSeen pair_program [] (supers pair_program m)) library_classes each_seen n
-      (some_library (class_among library_classes n) (from_library ((codes "A", a) ∷ (codes "T", t) ∷ []) (ha, (ht, tt)) n (class_among library_classes n) h))
+  pair_free : (x : Fault) → class_among pair (fault_name x) ≡ None
+  pair_free StackOverflow = refl
+  pair_free AssertionFailed = refl
 
-  whole_faults : (x : Fault) → is_library (pair_program (fault_name x)) ≡ true
-  whole_faults StackOverflow = refl
-  whole_faults AssertionFailed = refl
+  pub whole : IsLibraryWhole (with_library pair)
+  whole = beside pair (ha, (ht, tt)) pair_seen pair_free
 
-  pub whole : IsLibraryWhole pair_program
-  whole = record { supers = whole_supers; faults = whole_faults }
+-- ---- the first program
 
-module _ (code : List Instruction) where
-  further_case : (c : Linked) (other : Name → Option Linked) (n : Name) (b : Bool) → b ≡ same (codes "B") n → Seen (program_with code) (codes "T" ∷ codes "A" ∷ []) n → first_of (if b then Some c else other n) (class_among library_classes n) ≡ first_of (other n) (class_among library_classes n)
-  further_case c other n true e s = absurd (subst (λ m. Seen (program_with code) (codes "T" ∷ codes "A" ∷ []) m → ⊥) (same_text (codes "B") n e) (λ h. cc) s)
-  further_case c other n false e s = refl
+abbrev first_classes : List (Name × Linked)
+first_classes = (codes "B", class_a f_code) ∷ (codes "D", class_d) ∷ (codes "A", class_a f_code) ∷ (codes "T", class_t) ∷ []
 
-  pub wider_agrees : Agree (program_with code) (wider_program code) (codes "T" ∷ codes "A" ∷ [])
-  wider_agrees n s = further_case class_d (class_among ((codes "A", class_a code) ∷ (codes "T", class_t) ∷ [])) n (same (codes "B") n) refl s
+first_seen : Every (λ n. AllSeen first_program [] (supers first_program n)) library_classes
+unfolding supers
+first_seen = ((refl, tt), ((refl, (refl, tt)), ((refl, (refl, (refl, tt))), ((refl, (refl, (refl, (refl, tt)))), ((refl, (refl, (refl, (refl, tt)))), ((refl, (refl, (refl, (refl, (refl, tt))))), ((refl, (refl, tt)), tt)))))))
+
+first_free : (x : Fault) → class_among first_classes (fault_name x) ≡ None
+first_free StackOverflow = refl
+first_free AssertionFailed = refl
+
+pub first_whole : IsLibraryWhole first_program
+first_whole = beside first_classes (refl, (refl, (refl, (refl, tt)))) first_seen first_free
+
+-- ---- the two agree
+
+skipped : (m n : Name) (c : Linked) (rest : Option Linked) (b : Bool) → b ≡ same m n → (m ≡ n → ⊥) → (if b then Some c else rest) ≡ rest
+skipped m n c rest true e apart = absurd (apart (same_text m n e))
+skipped m n c rest false e apart = refl
+
+abbrev used : List Name
+used = codes "T" ∷ codes "A" ∷ []
+
+unused : (m n : Name) → (Seen first_program used m → ⊥) → Seen first_program used n → m ≡ n → ⊥
+unused m n out s e = out (subst (Seen first_program used) (sym e) s)
+
+pub programs_agree : Agree first_program second_program used
+programs_agree n s =
+    let both = class_among ((codes "A", class_a f_code) ∷ (codes "T", class_t) ∷ []) n in
+    let skip : (m : Name) (c : Linked) (rest : Option Linked) → (Seen first_program used m → ⊥) → (if same m n then Some c else rest) ≡ rest = λ m c rest out. skipped m n c rest (same m n) refl (unused m n out s) in
+    ap (λ o. first_of o (class_among library_classes n))
+    (skip (codes "B") (class_a (f_jumping IsLess)) _ (λ h. cc) ∙ skip (codes "U") class_u both (λ h. cc) ∙ sym (skip (codes "B") (class_a f_code) _ (λ h. cc) ∙ skip (codes "D") class_d both (λ h. cc)))
