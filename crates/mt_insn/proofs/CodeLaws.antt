@@ -1,6 +1,6 @@
 -- The code of a method is read as it is spelled.
-use Rattle.std.proofs.Common.{◌≡◌, ℕ, zero, suc, ◌+◌, ◌^◌, ◌<◌, ◌≤◌, Bool, true, false, cond, eqb, List, [], ◌∷◌, ◌++◌, length, get_or, map, Option, Some, None, Result, Ok, Err, refl, sym, ap, subst, ◌∙◌, append_assoc, arith}
-use Rattle.std.specs.Prelude.{ℤ, option_and_then, IfOk, ok_or}
+use Rattle.std.proofs.Common.{◌≡◌, ℕ, zero, suc, ◌+◌, ◌<◌, ◌≤◌, Bool, true, false, eqb, List, [], ◌∷◌, ◌++◌, length, get_or, map, Option, Some, None, Result, Ok, Err, refl, sym, ap, subst, ◌∙◌, arith}
+use Rattle.std.specs.Prelude.{ℤ, IfOk, ok_or}
 use Rattle.std.specs.Option.{option_map}
 use Rattle.std.specs.List.{AllByRecursion}
 use Rattle.std.proofs.lemmas.Bool.{ne_eqb}
@@ -21,7 +21,6 @@ use Rattle.codec_rules.proofs.Whole.{whole_all}
 use Rattle.codec_rules.proofs.Meets.{Gives-along}
 use Rattle.mt_insn.specs.Opcode.{form_of}
 use Rattle.mt_insn.specs.Order.{Ascends}
-use Rattle.mt_insn.specs.Reading.{insn_at}
 use Rattle.mt_insn.specs.Spelling.{raw_bytes, IsRaw, IsFormed}
 use Rattle.mt_insn.specs.Targets.{placed_at, starts_of, target, targets, pair_targets, arg_of, insn_of, resolved, code_at}
 use Rattle.mt_insn.specs.Code.{size_at, places_from, places, offset, operand_of, raw_of, raws_from, raws, code, targets_in, HasTargets, IsCode}
@@ -34,7 +33,7 @@ use Rattle.mt_insn.specs.declared.raw.Placed.{Placed}
 use Rattle.mt_insn.proofs.Insns.{insn_codec, insn_filled}
 use Rattle.mt_insn.proofs.PlacedLaws.{placed, placed_parts, placed_shortens}
 use Rattle.mt_insn.proofs.Sizes.{raw_sized, length-places_from}
-use Rattle.mt_insn.proofs.TargetLaws.{some, some_is, and_then_some, map_some, IsTarget, target_back, target_again, targets_back, targets_again, offsets_of, numbers_of, pair_targets_back, pair_targets_again}
+use Rattle.mt_insn.proofs.TargetLaws.{some, some_is, and_then_some, map_some, IsTarget, target_back, target_again, targets_back, targets_again, offsets_of, pair_targets_back, pair_targets_again}
 
 -- ---- operands
 

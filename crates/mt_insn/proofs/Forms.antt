@@ -1,10 +1,9 @@
 -- Operands of the form of their opcode.
-use Rattle.std.proofs.Common.{◌≡◌, ℕ, ◌+◌, ◌*◌, ◌^◌, ◌<◌, Bool, true, false, cond, List, ◌++◌, Option, Some, None, refl, sym, ap, subst, ◌∙◌, arith}
+use Rattle.std.proofs.Common.{◌≡◌, ℕ, ◌+◌, ◌^◌, ◌<◌, Bool, true, false, cond, List, ◌++◌, Option, Some, None, refl, sym, ap, subst, ◌∙◌, arith}
 use Rattle.class_model.specs.declared.instruction.Arg.{Arg}
-use Rattle.class_model.specs.declared.instruction.Arg.TheVariants as arg
 use Rattle.class_model.specs.declared.instruction.Insn.{Insn}
 use Rattle.mt_insn.specs.Opcode.{form_of}
-use Rattle.mt_insn.specs.Code.{IsArg, IsWideArg, IsFormedArg, HasForm, lookup_keys, formed_size, size_at, operand_of, raw_of}
+use Rattle.mt_insn.specs.Code.{IsWideArg, IsFormedArg, HasForm, lookup_keys, formed_size, size_at, operand_of, raw_of}
 use Rattle.mt_insn.specs.Spelling.{local_in, u1, u2, wide_bytes, formed_bytes, raw_bytes}
 use Rattle.mt_insn.specs.declared.raw.Operand.TheVariants as operand
 use Rattle.mt_insn.specs.declared.opcode.Form.{Form}

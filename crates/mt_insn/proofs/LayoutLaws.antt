@@ -1,5 +1,5 @@
 -- Instructions that have a spelling are written as they are spelled.
-use Rattle.std.proofs.Common.{◌≡◌, ℕ, zero, suc, ◌+◌, ◌^◌, ◌<◌, Bool, true, false, cond, ltb, List, [], ◌∷◌, ◌++◌, length, map, Option, Some, None, slice_index_or, Result, Ok, Err, refl, sym, ap, subst, ◌∙◌, arith}
+use Rattle.std.proofs.Common.{◌≡◌, ℕ, zero, suc, ◌+◌, ◌^◌, ◌<◌, Bool, true, false, cond, ltb, List, [], ◌∷◌, ◌++◌, length, map, Option, Some, None, slice_index_or, Ok, Err, refl, sym, ap, subst, ◌∙◌, arith}
 use Rattle.std.specs.Prelude.{ℤ, pos, negsuc, FitsSigned, ◌&&◌, All}
 use Rattle.std.specs.Int.{w16, w32}
 use Rattle.std.specs.List.{AllByRecursion}
@@ -13,8 +13,8 @@ use Rattle.class_model.specs.declared.instruction.Insn.{Insn}
 use Rattle.codec_rules.specs.Spelling.{spelled_from}
 use Rattle.mt_insn.specs.Opcode.{form_of}
 use Rattle.mt_insn.specs.Operands.{rise_above, ascend}
-use Rattle.mt_insn.specs.Spelling.{index_in, offset_in, low_in, offsets_in, pairs_in, highest, raw_bytes, IsPair, IsOperand, IsWideOperand, IsFormed, IsRaw}
-use Rattle.mt_insn.specs.Code.{size_at, end_from, code_length, places, offset, operand_of, raw_of, raws_from, raws, code, HasTargets, IsCode, target_in, arg_low, arg_targets, arg_pairs, keys_rise_above, keys_ascend, IsArg, IsWideArg, IsFormedArg, HasForm, is_short, jump_fits, jumps_fit, layout, lookup_keys, HasNames, HasFormedNames, NamesRight, WrittenIsSpelled}
+use Rattle.mt_insn.specs.Spelling.{offset_in, low_in, offsets_in, pairs_in, highest, raw_bytes, IsPair, IsOperand, IsWideOperand, IsFormed, IsRaw}
+use Rattle.mt_insn.specs.Code.{size_at, end_from, code_length, places, offset, operand_of, raw_of, raws_from, code, HasTargets, IsCode, target_in, arg_low, arg_targets, arg_pairs, keys_rise_above, keys_ascend, IsArg, IsWideArg, IsFormedArg, HasForm, is_short, jump_fits, jumps_fit, layout, lookup_keys, HasNames, HasFormedNames, NamesRight, WrittenIsSpelled}
 use Rattle.mt_insn.specs.declared.opcode.Form.{Form}
 use Rattle.mt_insn.specs.declared.opcode.Form.TheVariants as form
 use Rattle.mt_insn.specs.declared.raw.Operand.{Operand}

@@ -1,5 +1,5 @@
 -- The code of a method (JVMS 4.7.3, 6.5): its instructions one after the other, and what bounds it has.
-use Rattle.std.specs.Prelude.{◌≡◌, ℕ, ◌+◌, ◌-◌, ◌*◌, ◌<◌, ◌^◌, nat_lt, ℤ, pos, negsuc, ◌-ℤ◌, FitsSigned, Bool, true, false, not, ◌&&◌, List, [], ◌∷◌, ◌++◌, length, map, slice_index, All, Option, Some, None, Result, Ok, Err, if◌then◌else◌}
+use Rattle.std.specs.Prelude.{◌≡◌, ℕ, ◌+◌, ◌*◌, ◌<◌, ◌^◌, nat_lt, ℤ, pos, negsuc, ◌-ℤ◌, FitsSigned, Bool, true, false, ◌&&◌, List, [], ◌∷◌, length, map, slice_index, All, Option, Some, None, Result, Ok, Err, if◌then◌else◌}
 use Rattle.std.specs.Int.{w8, w16, w32}
 use Rattle.std.specs.Int.RustNames.{int_le, int_lt}
 use Rattle.std.specs.List.{AllByRecursion}

@@ -1,5 +1,5 @@
-use Rattle.std.proofs.Common.{◌≡◌, ◌+◌, ◌++◌, ◌∷◌, [], ◌<◌, ◌^◌, ℕ, List, drop, ap, subst, sym, ◌∙◌, arith}
-use Rattle.mt_insn.specs.Code.{code_length, size_at, end_from, places_from, places}
+use Rattle.std.proofs.Common.{◌≡◌, ◌+◌, arith}
+use Rattle.mt_insn.specs.Code.{code_length, size_at, places}
 use Rattle.mt_insn.proofs.Sizes.{cut_at, end_moves, places_move}
 use Rattle.mt_insn.proofs.size.places_of.Goals as goal
 
