@@ -1,5 +1,5 @@
 //! The real files and the real output. They are the trusted edge: they tell nothing of what they hold, and count their faults.
-ghost use Rattle.std.specs.Prelude.{None};
+ghost use Rattle.std.specs.Prelude.{◌≡◌, None};
 ghost use Rattle.mt_edge.specs.Causes.{HasCause};
 
 use crate::outside::{EdgeFault, Sink, Tree};
@@ -19,7 +19,9 @@ pub struct HostTree<'a, R: Files + AllocGlobal> {
 
 impl<'a, R: Files + AllocGlobal> HostTree<'a, R> {
     /// The files that the runtime reaches, with no fault counted yet.
-    pub fn new(rt: &'a R) -> HostTree<'a, R> {
+    pub fn new(rt: &'a R) -> HostTree<'a, R>
+        ensures { (result.reading ≡ 0) × (result.writing ≡ 0) }
+    {
         HostTree {
             rt,
             reading: 0,
@@ -143,7 +145,9 @@ pub struct HostSink<'a, R: Print> {
 
 impl<'a, R: Print> HostSink<'a, R> {
     /// The output that the runtime reaches, with no fault counted yet.
-    pub fn new(rt: &'a R) -> HostSink<'a, R> {
+    pub fn new(rt: &'a R) -> HostSink<'a, R>
+        ensures { result.faults ≡ 0 }
+    {
         HostSink { rt, faults: 0 }
     }
 }
