@@ -1,0 +1,52 @@
+//! How many bytes entries have.
+
+ghost use Rattle.std.specs.Prelude.{◌≡◌, ◌<◌, ◌^◌, length};
+ghost use Rattle.class_model.specs.Text.{text, unit_bytes};
+ghost use Rattle.mt_pool.specs.Spelling.{entry_bytes};
+
+use class_model::Const;
+
+/// How many bytes a code unit has.
+fn unit_size(unit: u16) -> u64
+    ensures { result ≡ length (unit_bytes unit) }
+{
+    if 0 < unit && unit < 0x80 {
+        1
+    } else if unit < 0x800 {
+        2
+    } else {
+        3
+    }
+}
+
+/// How many bytes a text has.
+pub fn text_size(units: &[u16]) -> u64
+    requires { length (text units.now) < 2 ^ 64 }
+    ensures { result ≡ length (text units.now) }
+{
+    let mut size = 0;
+    for unit in units {
+        size += unit_size(*unit);
+    }
+    size
+}
+
+/// How many bytes an entry has.
+pub fn size(entry: &Const) -> u64
+    requires { length (entry_bytes entry.now) < 2 ^ 64 }
+    ensures { result ≡ length (entry_bytes entry.now) }
+{
+    match entry {
+        Const::Utf8(units) => 3 + text_size(units.as_slice()),
+        Const::Integer(_) | Const::Float(_) => 5,
+        Const::Long(_) | Const::Double(_) => 9,
+        Const::Class(_) | Const::Text(_) | Const::MethodKind(_) => 3,
+        Const::Field(_, _)
+        | Const::Method(_, _)
+        | Const::IMethod(_, _)
+        | Const::Pair(_, _)
+        | Const::Dynamic(_, _) => 5,
+        Const::Handle(_, _) => 4,
+        Const::Second => 0,
+    }
+}
