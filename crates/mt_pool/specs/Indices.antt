@@ -1,5 +1,5 @@
 -- The indices inside the entries of a constant pool (JVMS 4.4), and what is told of the first that is wrong (this project's own). They are looked at once all entries are read, in the order of the entries.
-use Rattle.std.specs.Prelude.{ℕ, ◌+◌, Bool, true, false, is_some, not, nat_eq, List, [], ◌∷◌, length, codes, Option, Some, None, option_and_then, Result, Ok, Err, if◌then◌else◌}
+use Rattle.std.specs.Prelude.{ℕ, ◌+◌, Bool, false, is_some, not, nat_eq, List, [], ◌∷◌, length, codes, Option, Some, None, option_and_then, Result, Ok, Err, if◌then◌else◌}
 use Rattle.std.specs.Prelude.{⊤}
 use Rattle.std.specs.List.{starts_with}
 use Rattle.class_model.specs.Pool.{entry_of, text_of, class_in, pair_in, is_handle}

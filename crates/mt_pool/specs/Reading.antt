@@ -8,7 +8,6 @@ use Rattle.class_model.specs.declared.constant.Const.{Const}
 use Rattle.class_model.specs.declared.constant.Const.TheVariants as const
 use Rattle.class_model.specs.declared.fault.ClassFault.{ClassFault}
 use Rattle.class_model.specs.declared.fault.ClassFault.TheVariants as fault
-use Rattle.codec_rules.specs.Input.{Input}
 use Rattle.codec_rules.specs.Sequence.{◌>>=◌}
 use Rattle.mt_bytes.specs.Items.{ItemReader, u1_at, u2_at, u4_at, take_at}
 

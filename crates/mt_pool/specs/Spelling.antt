@@ -1,5 +1,5 @@
 -- The bytes of a constant pool (JVMS 4.4).
-use Rattle.std.specs.Prelude.{ℕ, ◌+◌, ◌/◌, ◌%◌, ◌^◌, List, [], ◌∷◌, ◌++◌, length}
+use Rattle.std.specs.Prelude.{ℕ, ◌+◌, ◌/◌, ◌%◌, ◌^◌, List, [], ◌++◌, length}
 use Rattle.std.specs.Int.{w8, w16, w32, w64, to_be_bytes, cast_unsigned}
 use Rattle.std.specs.List.{flat_map}
 use Rattle.class_model.specs.Text.{text}

@@ -1,5 +1,5 @@
 -- The constant pool of a class file (JVMS 4.4), read and written.
-use Rattle.std.specs.Prelude.{◌≡◌, ℕ, ◌+◌, ◌-◌, ◌<◌, ◌^◌, ◌⊎◌, Bool, true, false, nat_lt, List, [], length, Result, Ok, Err, if◌then◌else◌}
+use Rattle.std.specs.Prelude.{◌≡◌, ℕ, ◌+◌, ◌-◌, ◌^◌, ◌⊎◌, Bool, true, false, nat_lt, List, [], length, Result, Ok, Err, if◌then◌else◌}
 use Rattle.std.specs.List.{list_all}
 use Rattle.class_model.specs.Text.{text}
 use Rattle.class_model.specs.Pool.{IsPool, IsPoolForm}
