@@ -3,11 +3,13 @@ use Rattle.std.proofs.Common.{◌≡◌, ℕ, zero, suc, ◌+◌, ◌-◌, ◌^�
 use Rattle.std.specs.Prelude.{◌↔◌, ◌&&◌, ⊤, IsTrue, IsSomeAnd, slice_get}
 use Rattle.std.specs.List.{flat_map, AllByRecursion}
 use Rattle.std.proofs.lemmas.Bool.{ne_eqb}
+use Rattle.std.proofs.lemmas.List.{length-append}
 use Rattle.std.proofs.lemmas.List.Concat.{flat_map-cons}
 use Rattle.class_model.specs.Pool.{entry_of, is_wide}
 use Rattle.class_model.specs.declared.constant.Const.{Const}
 use Rattle.class_model.specs.declared.constant.Const.TheVariants as const
 use Rattle.class_model.specs.declared.fault.ClassFault.TheVariants as fault
+use Rattle.codec_rules.specs.Input.{Input, IsInput}
 use Rattle.codec_rules.specs.Sequence.{◌>>=◌}
 use Rattle.codec_rules.specs.Spelling.{IsCodecAt}
 use Rattle.codec_rules.proofs.Codec.{chain, made, given, respelled}
@@ -178,3 +180,10 @@ seconds_of_places pool p index =
 
 pub places_of_seconds : (pool : List Const) → AllByRecursion HoldsFit pool → PoolSeconds pool → ArePlaces false pool
 places_of_seconds pool h s = places_from none_before pool h (λ index. (λ e. (entry_there pool index).0 ((s index).0 (entry_behind pool index ∙ e)), λ e. sym (entry_behind pool index) ∙ (s index).1 ((entry_there pool index).1 e)))
+
+-- the entries fit where the bytes that they were read from do
+pub room : (count : ℕ) (input rest : Input) (pool : List Const) → IsInput input → places_at count false input ≡ Ok (pool, rest) → input.at + length (flat_map entry_bytes pool) < 2 ^ 64
+room count input rest pool known e =
+    let t = (places_codec count false).takes input pool rest known.bytes e in
+    let len : length input.bytes ≡ length (flat_map entry_bytes pool) + length rest.bytes = ap (λ (x : List ℕ). length x) t.0.parts ∙ length-append (flat_map entry_bytes pool) rest.bytes in
+    omega (arith, known.fits, len)

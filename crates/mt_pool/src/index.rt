@@ -9,7 +9,7 @@ ghost use Rattle.codec_rules.specs.Meets.{Gives};
 ghost use Rattle.mt_pool.specs.Spelling.{entry_bytes};
 ghost use Rattle.mt_pool.specs.Indices.{asked, told, judged, method_text_fault, member_text_fault, class_text_fault, any_text_fault, is_of_field, is_of_method, text_fault, class_fault, pair_fault, member_fault, is_some_and, entry_fault, first_fault};
 
-use crate::named::{entry, names_class, pair, text};
+use crate::named::{entry_of, names_class, pair_of, text_of};
 use crate::size::size;
 use class_model::{ClassFault, Const, DescFault, Memory, Name, parse_field, parse_method};
 use std::alloc::Global;
@@ -73,7 +73,7 @@ fn check_class_text(alloc: Global, at: u64, name: &Name) -> Result<(), ClassFaul
 fn check_text(pool: &[Const], at: u64, index: u16) -> Result<(), ClassFault>
     ensures { Gives fault.Memory (λ u. u) (text_fault any_text_fault at (text_of pool.now index)) result }
 {
-    match text(pool, index) {
+    match text_of(pool, index) {
         Some(_) => Ok(()),
         None => Err(ClassFault::BadIndex { at }),
     }
@@ -83,7 +83,7 @@ fn check_text(pool: &[Const], at: u64, index: u16) -> Result<(), ClassFault>
 fn check_class_name(alloc: Global, pool: &[Const], at: u64, index: u16) -> Result<(), ClassFault>
     ensures { Gives fault.Memory (λ u. u) (text_fault class_text_fault at (text_of pool.now index)) result }
 {
-    match text(pool, index) {
+    match text_of(pool, index) {
         Some(name) => check_class_text(alloc, at, name),
         None => Err(ClassFault::BadIndex { at }),
     }
@@ -93,7 +93,7 @@ fn check_class_name(alloc: Global, pool: &[Const], at: u64, index: u16) -> Resul
 fn check_method_type(alloc: Global, pool: &[Const], at: u64, index: u16) -> Result<(), ClassFault>
     ensures { Gives fault.Memory (λ u. u) (text_fault method_text_fault at (text_of pool.now index)) result }
 {
-    match text(pool, index) {
+    match text_of(pool, index) {
         Some(desc) => check_method_text(alloc, at, desc),
         None => Err(ClassFault::BadIndex { at }),
     }
@@ -103,7 +103,7 @@ fn check_method_type(alloc: Global, pool: &[Const], at: u64, index: u16) -> Resu
 fn check_descriptor(alloc: Global, pool: &[Const], at: u64, index: u16) -> Result<(), ClassFault>
     ensures { Gives fault.Memory (λ u. u) (text_fault member_text_fault at (text_of pool.now index)) result }
 {
-    match text(pool, index) {
+    match text_of(pool, index) {
         Some(desc) => check_member_text(alloc, at, desc),
         None => Err(ClassFault::BadIndex { at }),
     }
@@ -146,10 +146,10 @@ fn is_of_method(alloc: Global, desc: &Name) -> Result<bool, Memory>
 fn check_field_pair(alloc: Global, pool: &[Const], at: u64, index: u16) -> Result<(), ClassFault>
     ensures { Gives fault.Memory (λ u. u) (pair_fault is_of_method pool.now at (option_and_then pair_in (entry_of pool.now index))) result }
 {
-    let Some((_, desc)) = pair(pool, index) else {
+    let Some((_, desc)) = pair_of(pool, index) else {
         return Err(ClassFault::BadIndex { at });
     };
-    match text(pool, desc) {
+    match text_of(pool, desc) {
         Some(desc) if is_of_method(alloc, desc)? => Err(ClassFault::BadText { at }),
         _ => Ok(()),
     }
@@ -159,10 +159,10 @@ fn check_field_pair(alloc: Global, pool: &[Const], at: u64, index: u16) -> Resul
 fn check_method_pair(alloc: Global, pool: &[Const], at: u64, index: u16) -> Result<(), ClassFault>
     ensures { Gives fault.Memory (λ u. u) (pair_fault is_of_field pool.now at (option_and_then pair_in (entry_of pool.now index))) result }
 {
-    let Some((_, desc)) = pair(pool, index) else {
+    let Some((_, desc)) = pair_of(pool, index) else {
         return Err(ClassFault::BadIndex { at });
     };
-    match text(pool, desc) {
+    match text_of(pool, desc) {
         Some(desc) if is_of_field(alloc, desc)? => Err(ClassFault::BadText { at }),
         _ => Ok(()),
     }
@@ -184,7 +184,7 @@ fn is_handle(kind: u8, entry: &Const) -> bool
 fn check_handle(pool: &[Const], at: u64, kind: u8, index: u16) -> Result<(), ClassFault>
     ensures { Gives fault.Memory (λ u. u) (asked (is_some_and (is_handle kind) (entry_of pool.now index)) (fault.BadIndex at)) result }
 {
-    match entry(pool, index) {
+    match entry_of(pool, index) {
         Some(member) if is_handle(kind, member) => Ok(()),
         _ => Err(ClassFault::BadIndex { at }),
     }

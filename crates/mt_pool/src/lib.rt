@@ -18,6 +18,35 @@ use std::alloc::Global;
 mod entry;
 mod index;
 mod named;
+mod put;
 mod size;
+mod whole;
 
+pub use named::{class_name_of, entry_of, names_class, pair_of, text_of};
+use whole::{read_whole, write_whole};
 
+/// The pool at the cursor: its count, its entries and then the indices inside them, in the order of the entries. The first fault is answered. A count of 0 is read as that
+/// of an empty pool.
+///
+/// `Truncated`: too few bytes remain for the item that begins there. `BadTag`: a tag or the kind of a handle isn't one of the standard's. `BadText`: a text isn't modified
+/// UTF-8 in its shortest form, told at its entry; or a text that an index uses as a descriptor is outside the grammar, or is one of the other kind of member, told at the
+/// index. `FloatUsed`: a descriptor has a float or a double, told at the index. `BadIndex`: an index is 0, past the pool, or on an entry of the wrong kind; or no place is
+/// left for the second half of a long or a double, told at its entry.
+pub fn read_pool(alloc: Global, cur: &mut Cursor) -> Result<Seq<Const>, ClassFault>
+    // Which fault it is.
+    ensures exact { ReadsItem pool_at cur.old cur.new result }
+{
+    read_whole(alloc, cur)
+}
+
+/// Adds the bytes of the pool at the end. `Pool` is too large exactly where it has more than 65,534 places, and else `Text` exactly where one of its texts has more than
+/// 65,535 bytes; then the list is unchanged.
+pub fn write_pool(pool: &Seq<Const>, out: &mut Bytes) -> Result<(), LayoutFault>
+    ensures ok { OnOk result (out.new ≡ out.old ++ pool_bytes pool.now) }
+
+    // Whether there is room, or what is too large.
+    ensures exact { Gives layout_fault.Memory (λ _. pool_bytes pool.now) (layout pool.now) result }
+    ensures unchanged { (what : _) → result ≡ Err (layout_fault.TooLarge what) → out.new ≡ out.old }
+{
+    write_whole(pool.as_slice(), out)
+}
