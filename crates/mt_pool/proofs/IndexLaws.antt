@@ -23,7 +23,7 @@ use Rattle.mt_pool.specs.Indices.{Verdict, asked, told, judged, either_judged, m
 use Rattle.mt_pool.proofs.EntryLaws.{Fits}
 use Rattle.mt_pool.proofs.PlaceLaws.{HoldsFit}
 
-abbrev good : Verdict
+abbrev pub good : Verdict
 good = Ok tt
 
 -- ---- what passed
@@ -56,21 +56,21 @@ not_true false e = refl
 
 -- ---- options
 
-some_from : {A : Type 0} (o : Option A) → is_some o ≡ true → (a : A) × (o ≡ Some a)
+pub some_from : {A : Type 0} (o : Option A) → is_some o ≡ true → (a : A) × (o ≡ Some a)
 some_from (Some a) e = (a, refl)
 some_from None e = absurd cc
 
-some_and : {A : Type 0} (o : Option A) (P : A → Type 0) → IsSomeAnd o P → (a : A) × (o ≡ Some a) × P a
+pub some_and : {A : Type 0} (o : Option A) (P : A → Type 0) → IsSomeAnd o P → (a : A) × (o ≡ Some a) × P a
 some_and (Some a) P h = (a, refl, h)
 some_and None P h = absurd h
 
-and_some : {A : Type 0} (o : Option A) (P : A → Type 0) (a : A) → o ≡ Some a → P a → IsSomeAnd o P
+pub and_some : {A : Type 0} (o : Option A) (P : A → Type 0) (a : A) → o ≡ Some a → P a → IsSomeAnd o P
 and_some o P a e h = subst (λ z. IsSomeAnd z P) (sym e) h
 
 is_there : {A : Type 0} (o : Option A) (a : A) → o ≡ Some a → IsSome o
 is_there o a e = subst IsSome (sym e) refl
 
-then_some : {A B : Type 0} (f : A → Option B) (o : Option A) (b : B) → option_and_then f o ≡ Some b → (a : A) × (o ≡ Some a) × (f a ≡ Some b)
+pub then_some : {A B : Type 0} (f : A → Option B) (o : Option A) (b : B) → option_and_then f o ≡ Some b → (a : A) × (o ≡ Some a) × (f a ≡ Some b)
 then_some f (Some a) b e = (a, refl, e)
 then_some f None b e = absurd cc
 
@@ -100,7 +100,7 @@ of_entry : (P : Const → Type 0) (pool : List Const) (index : ℕ) (c : Const) 
 of_entry P pool index c h e = got P pool (index - 1) c h (placed pool index c (eqb index 0) refl e).1
 
 -- an index that names an entry has two bytes
-below : (pool : List Const) → length pool + 1 < 2 ^ 16 → (index : ℕ) (c : Const) → entry_of pool index ≡ Some c → index < 2 ^ 16
+pub below : (pool : List Const) → length pool + 1 < 2 ^ 16 → (index : ℕ) (c : Const) → entry_of pool index ≡ Some c → index < 2 ^ 16
 below pool few index c e = let lt = slice_get_within pool (index - 1) c (placed pool index c (eqb index 0) refl e).1 in omega (arith, lt, few)
 
 -- ---- descriptors
@@ -116,11 +116,11 @@ apart (first ∷ units) t m e f = by (eqb first 40) refl
     by true is = let same : first ≡ 40 = eqb-true first 40 is in let none : field_type_of (first ∷ units) ≡ None = ap (λ (n : ℕ). field_type_of (n ∷ units)) same ∙ open_is_none units in absurd cc
     by false is = let none : method_descriptor_of (first ∷ units) ≡ None = rw is refl in absurd cc
 
-no_field : (desc : List ℕ) → HasMethodType desc → (o : Option FieldType) → field_type_of desc ≡ o → is_some o ≡ false
+pub no_field : (desc : List ℕ) → HasMethodType desc → (o : Option FieldType) → field_type_of desc ≡ o → is_some o ≡ false
 no_field desc h (Some t) e = absurd (apart desc t h.tree e (method_again desc h.tree h.spelled))
 no_field desc h None e = refl
 
-no_method : (desc : List ℕ) → HasKind desc → (o : Option MethodDescriptor) → method_descriptor_of desc ≡ o → is_some o ≡ false
+pub no_method : (desc : List ℕ) → HasKind desc → (o : Option MethodDescriptor) → method_descriptor_of desc ≡ o → is_some o ≡ false
 no_method desc h (Some m) e = absurd (apart desc h.tree m (field_again desc h.tree h.spelled) e)
 no_method desc h None e = refl
 
