@@ -1,5 +1,6 @@
 -- A pool is read as it is spelled.
 use Rattle.std.proofs.Common.{◌≡◌, ℕ, ◌+◌, ◌-◌, ◌^◌, ◌<◌, ◌⊎◌, inl, inr, Bool, true, false, cond, eqb, List, [], ◌∷◌, ◌++◌, length, Result, Ok, Err, refl, sym, ap, subst, ◌∙◌, append_assoc, arith}
+use Rattle.std.specs.Prelude.{IfOk}
 use Rattle.std.specs.List.{flat_map, AllByRecursion}
 use Rattle.std.proofs.lemmas.Bool.{eqb-true, eqb-false}
 use Rattle.std.proofs.lemmas.List.{length-append, nil_from_length}
@@ -8,12 +9,14 @@ use Rattle.class_model.specs.Pool.{IsPool, IsPoolForm, IsEntry, HasTextSize}
 use Rattle.class_model.specs.declared.constant.Const.{Const}
 use Rattle.class_model.specs.declared.constant.Const.TheVariants as const
 use Rattle.class_model.specs.declared.fault.ClassFault.{ClassFault}
+use Rattle.class_model.specs.declared.fault.ClassFault.TheVariants as fault
 use Rattle.codec_rules.specs.Input.{Input, IsBytes}
 use Rattle.codec_rules.specs.Sequence.{◌>>=◌}
 use Rattle.codec_rules.specs.Spelling.{Speller, Takes, IsCodecAt, input_at}
 use Rattle.codec_rules.proofs.Sequence.{bind_ok, ok_is}
 use Rattle.codec_rules.proofs.Codec.{Takes-then}
-use Rattle.mt_bytes.specs.Items.{ItemReader, u2_at}
+use Rattle.codec_rules.proofs.Meets.{Reads-along}
+use Rattle.mt_bytes.specs.Items.{ItemReader, ReadsItem, u2_at}
 use Rattle.mt_pool.specs.Spelling.{u2, entry_bytes, pool_bytes}
 use Rattle.mt_pool.specs.Reading.{places_at}
 use Rattle.mt_pool.specs.Indices.{first_fault}
@@ -131,3 +134,37 @@ pool_read input pool rest bytes e =
       where
         positive : (n : ℕ) → (n ≡ 0 → ⊥) → 0 < n
         positive n not_zero = omega (arith, not_zero)
+
+-- A pool, and behind it another value that is read only where the pool has an entry, as a class whose own index names one.
+pub pool_chain : {B : Type 0} (second : Input → List Const → ItemReader B) (front : B → List Const) (spell_second : Speller B) (Q : B → Type 0)
+    → ((start : Input) (pool : List Const) (input : Input) (whole : B) (rest : Input) → second start pool input ≡ Ok (whole, rest) → 0 < length pool)
+    → ((input : Input) (pool : List Const) → IsPool pool → IsCodecAt (second input pool) spell_second (λ whole. Q whole × (front whole ≡ pool))) → ((whole : B) → Q whole → IsPool (front whole))
+    → IsCodecAt (λ input. pool_at input >>= λ x. second input x.0 x.1) (λ at whole. pool_bytes (front whole) ++ spell_second (at + length (pool_bytes (front whole))) whole) Q
+pool_chain {B} second front spell Q known codec fits = record {
+  takes = λ input y rest bytes e.
+      let a = bind_ok (pool_at input) (λ x. second input x.0 x.1) (y, rest) e in
+      let t = pool_takes input a.0.0 a.0.1 bytes a.1 (known input a.0.0 a.0.1 y rest a.2) in
+      let u = (codec input a.0.0 t.1).takes a.0.1 y rest t.0.rest_fits a.2 in
+      let both : Takes input (pool_bytes a.0.0 ++ spell (input.at + length (pool_bytes a.0.0)) y) rest = subst (λ (n : ℕ). Takes input (pool_bytes a.0.0 ++ spell n y) rest) t.0.place (Takes-then input (pool_bytes a.0.0) a.0.1 (spell a.0.1.at y) rest t.0 u.0) in
+      (subst (λ (z : List Const). Takes input (pool_bytes z ++ spell (input.at + length (pool_bytes z)) y) rest) (sym u.1.1) both, u.1.0);
+  again = λ y at rest q.
+      let top = pool_bytes (front y) in
+      let back = spell (at + length top) y in
+      let start : Input = input_at at ((top ++ back) ++ rest) in
+      let one = pool_again (front y) at (back ++ rest) (fits y q) in
+      let two = (codec start (front y) (fits y q)).again y (at + length top) rest (q, refl) in
+      let place : at + length top + length back ≡ at + length (top ++ back) = omega (arith, length-append top back) in
+      ap (λ (t : List ℕ). pool_at (input_at at t) >>= λ x. second start x.0 x.1) (append_assoc top back rest) ∙ ap (λ (z : Result (List Const × Input) ClassFault). z >>= λ x. second start x.0 x.1) one ∙ two ∙ ap (λ (n : ℕ). Ok (y, input_at n rest)) place;
+}
+
+-- ---- what the answers of a call say
+
+pub is_found : (old new : Input) (result : Result (List Const) ClassFault) → IsBytes old.bytes → ReadsItem pool_at old new result → IfOk result (λ pool. IsPoolRead old pool new)
+is_found old new (Ok pool) bytes h = pool_read old pool new bytes h
+is_found old new (Err e) bytes h = tt
+
+pub is_only : (old new : Input) (result : Result (List Const) ClassFault) → ReadsItem pool_at old new result → (pool : List Const) (rest : List ℕ) → IsPool pool → old.bytes ≡ pool_bytes pool ++ rest
+    → ReadsItem (λ input. Ok (pool, input_at (input.at + length (pool_bytes pool)) rest)) old new result
+is_only old new result h pool rest q e =
+    Reads-along fault.Memory (λ input. Ok (pool, input_at (input.at + length (pool_bytes pool)) rest)) pool_at old old new result
+    (sym (pool_again pool old.at rest q) ∙ ap (λ (bytes : List ℕ). pool_at (input_at old.at bytes)) (sym e)) h

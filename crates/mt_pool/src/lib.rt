@@ -33,6 +33,13 @@ use whole::{read_whole, write_whole};
 /// index. `FloatUsed`: a descriptor has a float or a double, told at the index. `BadIndex`: an index is 0, past the pool, or on an entry of the wrong kind; or no place is
 /// left for the second half of a long or a double, told at its entry.
 pub fn read_pool(alloc: Global, cur: &mut Cursor) -> Result<Seq<Const>, ClassFault>
+    // The bytes spell what is answered, but that an empty pool may have the count 0.
+    ensures found { IfOk result (λ pool. IsPoolRead cur.old pool cur.new) }
+
+    // What the bytes spell is answered, unless memory runs out.
+    ensures only { (pool : List Const) (rest : List ℕ) → IsPool pool → cur.old.bytes ≡ pool_bytes pool ++ rest
+        → ReadsItem (λ input. Ok (pool, input_at (input.at + length (pool_bytes pool)) rest)) cur.old cur.new result }
+
     // Which fault it is.
     ensures exact { ReadsItem pool_at cur.old cur.new result }
 {
@@ -50,3 +57,13 @@ pub fn write_pool(pool: &Seq<Const>, out: &mut Bytes) -> Result<(), LayoutFault>
 {
     write_whole(pool.as_slice(), out)
 }
+
+/// What was read is written as it was: `write_pool` takes each pool that has a spelling, and gives that spelling.
+pub fn what_is_read_is_written()
+    ensures { ReadIsWritten }
+{}
+
+/// What was written is read again: the bytes that `write_pool` gives for a pool of the form are its spelling.
+pub fn what_is_written_is_read()
+    ensures { WrittenIsRead }
+{}
