@@ -1,5 +1,5 @@
 -- Of an entry whose indices are right nothing is told, and its numbers are in their ranges.
-use Rattle.std.proofs.Common.{◌≡◌, ℕ, ◌+◌, ◌^◌, ◌<◌, ◌≤◌, ◌⊎◌, inl, inr, Bool, true, false, not, cond, eqb, List, [], ◌∷◌, length, Option, Some, None, Result, Ok, Err, refl, sym, ap, subst, ◌∙◌, arith}
+use Rattle.std.proofs.Common.{◌≡◌, ℕ, ◌+◌, ◌^◌, ◌<◌, ◌≤◌, ◌⊎◌, inl, inr, Bool, true, false, not, eqb, List, [], ◌∷◌, length, Option, Some, None, Result, Err, refl, ap, ◌∙◌, arith}
 use Rattle.std.specs.Prelude.{◌&&◌, ◌||◌, nat_eq, nat_le, IsTrue, IsSome, IsSomeAnd, is_some, option_and_then, codes}
 use Rattle.std.specs.List.{AllByRecursion, starts_with}
 use Rattle.std.proofs.lemmas.Bool.{eqb-true, le-leb, leb-true}
@@ -9,16 +9,13 @@ use Rattle.class_model.specs.Descriptor.{FieldType}
 use Rattle.class_model.specs.declared.kind.Kind.{Kind}
 use Rattle.class_model.specs.declared.constant.Const.{Const}
 use Rattle.class_model.specs.declared.constant.Const.TheVariants as const
-use Rattle.class_model.specs.declared.fault.ClassFault.{ClassFault}
-use Rattle.class_model.specs.declared.fault.ClassFault.TheVariants as fault
 use Rattle.class_model.specs.declared.fault.DescFault.{DescFault}
 use Rattle.class_model.specs.declared.fault.DescFault.TheVariants as desc_fault
 use Rattle.class_model.proofs.PoolLaws.{read_from_HasKind, read_from_HasMethodType}
 use Rattle.codec_rules.specs.Sequence.{◌>>=◌}
 use Rattle.mt_pool.specs.Spelling.{entry_bytes}
 use Rattle.mt_pool.specs.Reading.{is_handle_kind}
-use Rattle.mt_pool.specs.Indices.{Verdict, asked, told, judged, either_judged, method_text_fault, member_text_fault, class_text_fault, any_text_fault, text_fault, class_fault, is_of_field, is_of_method, is_some_and, pair_fault, member_fault, entry_fault, first_fault}
-use Rattle.mt_pool.proofs.EntryLaws.{Fits}
+use Rattle.mt_pool.specs.Indices.{Verdict, judged, either_judged, method_text_fault, member_text_fault, class_text_fault, any_text_fault, text_fault, class_fault, is_of_field, is_of_method, is_some_and, pair_fault, member_fault, entry_fault, first_fault}
 use Rattle.mt_pool.proofs.PlaceLaws.{HoldsFit}
 use Rattle.mt_pool.proofs.IndexLaws.{good, some_from, some_and, then_some, below, no_field, no_method}
 
@@ -138,12 +135,12 @@ handle_kind : (kind : ℕ) (c : Const) → is_handle kind c ≡ true → (kind <
 handle_kind kind (const.Field class pair) e = between 1 4 kind (omega arith) (omega arith) e
 handle_kind kind (const.Method class pair) e = between 5 8 kind (omega arith) (omega arith) e
 handle_kind kind (const.IMethod class pair) e = elim (either_true (eqb kind 6) (eqb kind 7 || eqb kind 9) e) [
-      | inl six ↦ let is = eqb-true kind 6 six in kind_is kind (omega (arith, is)) (omega (arith, is))
-      | inr other ↦ elim (either_true (eqb kind 7) (eqb kind 9) other) [
-          | inl seven ↦ let is = eqb-true kind 7 seven in kind_is kind (omega (arith, is)) (omega (arith, is))
-          | inr nine ↦ let is = eqb-true kind 9 nine in kind_is kind (omega (arith, is)) (omega (arith, is))
-        ]
-    ]
+  | inl six ↦ let is = eqb-true kind 6 six in kind_is kind (omega (arith, is)) (omega (arith, is))
+  | inr other ↦ elim (either_true (eqb kind 7) (eqb kind 9) other) [
+    | inl seven ↦ let is = eqb-true kind 7 seven in kind_is kind (omega (arith, is)) (omega (arith, is))
+    | inr nine ↦ let is = eqb-true kind 9 nine in kind_is kind (omega (arith, is)) (omega (arith, is))
+  ]
+]
 handle_kind kind other e = absurd cc
 
 module _ (pool : List Const) (few : length pool + 1 < 2 ^ 16) where

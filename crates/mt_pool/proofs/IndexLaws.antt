@@ -1,11 +1,11 @@
 -- Nothing is told of the entries of a pool exactly where their indices are right.
-use Rattle.std.proofs.Common.{◌≡◌, ℕ, zero, suc, ◌+◌, ◌-◌, ◌^◌, ◌<◌, ◌≤◌, ◌⊎◌, inl, inr, Bool, true, false, not, cond, eqb, List, [], ◌∷◌, length, Option, Some, None, Result, Ok, Err, refl, sym, ap, subst, ◌∙◌, arith}
-use Rattle.std.specs.Prelude.{◌&&◌, ◌||◌, nat_eq, nat_le, IsTrue, IsSome, IsSomeAnd, is_some, slice_get, option_and_then, codes}
-use Rattle.std.specs.List.{AllByRecursion, starts_with}
+use Rattle.std.proofs.Common.{◌≡◌, ℕ, zero, suc, ◌+◌, ◌-◌, ◌^◌, ◌<◌, ◌⊎◌, inl, inr, Bool, true, false, not, eqb, List, [], ◌∷◌, length, Option, Some, None, Result, Ok, Err, refl, sym, ap, subst, ◌∙◌, arith}
+use Rattle.std.specs.Prelude.{IsTrue, IsSome, IsSomeAnd, is_some, slice_get, option_and_then}
+use Rattle.std.specs.List.{AllByRecursion}
 use Rattle.std.proofs.lemmas.Bool.{eqb-true}
 use Rattle.std.proofs.lemmas.Option.{slice_get_within}
 use Rattle.class_model.specs.DescriptorReading.{field_type_of, method_descriptor_of, field_kind, method_kinds}
-use Rattle.class_model.specs.Pool.{entry_of, text_in, class_in, pair_in, text_of, class_name_of, pair_desc_of, HasKind, HasMethodType, is_handle, IsClassEntryName, IsEntry, HasTextSize}
+use Rattle.class_model.specs.Pool.{entry_of, class_in, pair_in, text_of, class_name_of, pair_desc_of, HasKind, HasMethodType, is_handle, IsClassEntryName, IsEntry}
 use Rattle.class_model.specs.Descriptor.{FieldType, MethodDescriptor}
 use Rattle.class_model.specs.declared.constant.Const.{Const}
 use Rattle.class_model.specs.declared.constant.Const.TheVariants as const
@@ -15,12 +15,10 @@ use Rattle.class_model.specs.declared.fault.DescFault.{DescFault}
 use Rattle.class_model.specs.declared.fault.DescFault.TheVariants as desc_fault
 use Rattle.class_model.proofs.DescriptorLaws.{field_again}
 use Rattle.class_model.proofs.MethodLaws.{method_again}
-use Rattle.class_model.proofs.PoolLaws.{HasKind-from_read, read_from_HasKind, HasMethodType-from_read, read_from_HasMethodType}
-use Rattle.codec_rules.specs.Sequence.{◌>>=◌}
+use Rattle.class_model.proofs.PoolLaws.{HasKind-from_read, HasMethodType-from_read}
 use Rattle.codec_rules.proofs.Sequence.{bind_ok}
 use Rattle.mt_pool.specs.Spelling.{entry_bytes}
-use Rattle.mt_pool.specs.Indices.{Verdict, asked, told, judged, either_judged, method_text_fault, member_text_fault, class_text_fault, any_text_fault, text_fault, class_fault, is_of_field, is_of_method, is_some_and, pair_fault, member_fault, entry_fault, first_fault}
-use Rattle.mt_pool.proofs.EntryLaws.{Fits}
+use Rattle.mt_pool.specs.Indices.{Verdict, asked, judged, either_judged, method_text_fault, member_text_fault, class_text_fault, any_text_fault, text_fault, class_fault, is_of_field, is_of_method, is_some_and, pair_fault, member_fault, entry_fault, first_fault}
 use Rattle.mt_pool.proofs.PlaceLaws.{HoldsFit}
 
 abbrev pub good : Verdict
@@ -126,9 +124,9 @@ no_method desc h None e = refl
 
 member_passed : (place : ℕ) (desc : List ℕ) → member_text_fault place desc ≡ good → HasKind desc ⊎ HasMethodType desc
 member_passed place desc e = elim (one_passed place (field_kind desc) (method_kinds desc) e) [
-      | inl k ↦ inl (HasKind-from_read desc k.0 k.1)
-      | inr m ↦ inr (HasMethodType-from_read desc m.0 m.1)
-    ]
+  | inl k ↦ inl (HasKind-from_read desc k.0 k.1)
+  | inr m ↦ inr (HasMethodType-from_read desc m.0 m.1)
+]
 
 only_kind : (desc : List ℕ) → HasKind desc ⊎ HasMethodType desc → is_of_method desc ≡ false → HasKind desc
 only_kind desc (inl h) e = h

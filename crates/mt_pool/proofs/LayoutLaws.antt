@@ -1,10 +1,10 @@
 -- A pool of the form has room exactly where it has a spelling.
-use Rattle.std.proofs.Common.{◌≡◌, ℕ, ◌+◌, ◌^◌, ◌<◌, Bool, true, false, List, [], ◌∷◌, length, Result, Ok, Err, refl, sym, ◌∙◌, arith}
+use Rattle.std.proofs.Common.{◌≡◌, ℕ, ◌+◌, ◌^◌, Bool, true, false, List, [], ◌∷◌, length, Ok, Err, refl, sym}
 use Rattle.std.specs.Prelude.{◌&&◌, nat_lt, if◌then◌else◌}
 use Rattle.std.specs.List.{list_all, AllByRecursion}
 use Rattle.std.proofs.lemmas.Bool.{ltb-true, lt-ltb}
 use Rattle.class_model.specs.Text.{text}
-use Rattle.class_model.specs.Pool.{IsPool, IsPoolForm, HasTextSize}
+use Rattle.class_model.specs.Pool.{HasTextSize}
 use Rattle.class_model.specs.declared.constant.Const.{Const}
 use Rattle.class_model.specs.declared.constant.Const.TheVariants as const
 use Rattle.class_model.specs.declared.fault.LayoutFault.{LayoutFault}
@@ -12,7 +12,7 @@ use Rattle.class_model.specs.declared.fault.LayoutFault.TheVariants as layout_fa
 use Rattle.class_model.specs.declared.fault.Bound.TheVariants as bound
 use Rattle.codec_rules.proofs.Sequence.{ok_is}
 use Rattle.mt_pool.specs.Spelling.{pool_bytes}
-use Rattle.mt_pool.specs.Whole.{has_text_size, layout, ReadIsWritten, WrittenIsRead}
+use Rattle.mt_pool.specs.Whole.{has_text_size, ReadIsWritten, WrittenIsRead}
 
 sized : (c : Const) → HasTextSize c → has_text_size c ≡ true
 sized (const.Utf8 units) h = lt-ltb (length (text units)) (2 ^ 16) h

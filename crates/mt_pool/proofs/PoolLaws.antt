@@ -1,11 +1,10 @@
 -- A pool is read as it is spelled.
-use Rattle.std.proofs.Common.{◌≡◌, ℕ, ◌+◌, ◌-◌, ◌^◌, ◌<◌, ◌⊎◌, inl, inr, Bool, true, false, cond, eqb, List, [], ◌∷◌, ◌++◌, length, Result, Ok, Err, refl, sym, ap, subst, ◌∙◌, append_assoc, arith}
+use Rattle.std.proofs.Common.{◌≡◌, ℕ, ◌+◌, ◌-◌, ◌^◌, ◌<◌, ◌⊎◌, inl, inr, Bool, true, false, eqb, List, [], ◌∷◌, ◌++◌, length, Result, Ok, Err, refl, sym, ap, subst, ◌∙◌, append_assoc, arith}
 use Rattle.std.specs.Prelude.{IfOk}
 use Rattle.std.specs.List.{flat_map, AllByRecursion}
 use Rattle.std.proofs.lemmas.Bool.{eqb-true, eqb-false}
 use Rattle.std.proofs.lemmas.List.{length-append, nil_from_length}
-use Rattle.class_model.specs.Text.{text}
-use Rattle.class_model.specs.Pool.{IsPool, IsPoolForm, IsEntry, HasTextSize}
+use Rattle.class_model.specs.Pool.{IsPool, HasTextSize}
 use Rattle.class_model.specs.declared.constant.Const.{Const}
 use Rattle.class_model.specs.declared.constant.Const.TheVariants as const
 use Rattle.class_model.specs.declared.fault.ClassFault.{ClassFault}
@@ -22,8 +21,7 @@ use Rattle.mt_pool.specs.Reading.{places_at}
 use Rattle.mt_pool.specs.Indices.{first_fault}
 use Rattle.mt_pool.specs.Whole.{pool_at, IsPoolRead}
 use Rattle.mt_pool.proofs.Items.{u2_codec}
-use Rattle.mt_pool.proofs.EntryLaws.{Fits}
-use Rattle.mt_pool.proofs.PlaceLaws.{HoldsFit, ArePlaces, Places, places_codec, all_hold_fit, seconds_of_places, places_of_seconds}
+use Rattle.mt_pool.proofs.PlaceLaws.{HoldsFit, ArePlaces, places_codec, all_hold_fit, seconds_of_places, places_of_seconds}
 use Rattle.mt_pool.proofs.IndexLaws.{all_checked, entries_good}
 use Rattle.mt_pool.proofs.IndexAgain.{entries_again, entries_fit}
 
@@ -44,7 +42,7 @@ is_pool pool place places e few =
     record {
       form = record { entries = entries_good pool (all_checked pool place pool e) pool fit (all_checked pool place pool e); seconds = seconds_of_places pool places };
       few = few;
-      texts = texts_sized pool fit
+      texts = texts_sized pool fit;
     }
 
 pool_places : (pool : List Const) → IsPool pool → ArePlaces false pool
@@ -92,7 +90,7 @@ counted input pool rest bytes e =
       count = a.0.0;
       taken = Takes-then input (u2 a.0.0) a.0.1 (flat_map entry_bytes pool) rest t.0 u.taken;
       many = u.many;
-      form = u.form (omega (arith, u.many, t.1))
+      form = u.form (omega (arith, u.many, t.1));
     }
 
 -- A count of 0 is that of an empty pool too, so what is read is a pool's spelling where the pool has entries.
