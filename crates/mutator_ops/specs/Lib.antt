@@ -1,0 +1,4 @@
+pub mod Lines
+pub mod Edits
+pub mod Mutants
+pub mod Printing
