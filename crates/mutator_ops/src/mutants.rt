@@ -9,9 +9,10 @@ ghost use Rattle.mutator_ops.specs.Mutants.{mutant_at, mutants_from, is_syntheti
 use crate::edits::{bound_moving_edit, is_int_jump, is_ordered_jump, negating_edit};
 use crate::lines::line_at as line_of;
 use crate::mutant::Mutant;
-use crate::parts::{class_name_of, code_of, line_rows, text_of, text_or_empty};
+use crate::parts::{code_of, line_rows, text_or_empty};
 use crate::place::Place;
 use class_model::{Class, Const, Edit, Insn, Member, Memory, Mutator, Name, Seq};
+use mt_pool::{class_name_of, text_of};
 use std::alloc::Global;
 
 fn mutant_by(place: &Place, at: u32, mutator: Mutator, edit: Edit) -> Result<Mutant, Memory>

@@ -1,40 +1,10 @@
 //! Parts of a class that mutants are made of.
 
 ghost use Rattle.std.specs.Prelude.{◌≡◌, IfOk, [], option_copied, unwrap_or};
-ghost use Rattle.class_model.specs.Pool.{entry_of, text_of, class_name_of};
 ghost use Rattle.mutator_ops.specs.Mutants.{code_of, line_rows};
 
-use class_model::{Attr, Body, Code, Const, Memory, Name, Seq};
+use class_model::{Attr, Body, Code, Memory, Name, Seq};
 use std::alloc::Global;
-
-fn entry(pool: &[Const], index: u16) -> Option<&Const>
-    ensures { option_copied result ≡ entry_of pool.now index }
-{
-    if index == 0 {
-        return None;
-    }
-    pool.get(usize::from(index) - 1)
-}
-
-/// The text that an index names.
-pub fn text_of(pool: &[Const], index: u16) -> Option<&Name>
-    ensures { option_copied result ≡ text_of pool.now index }
-{
-    match entry(pool, index) {
-        Some(Const::Utf8(units)) => Some(units),
-        _ => None,
-    }
-}
-
-/// The name of the class that an index names.
-pub fn class_name_of(pool: &[Const], index: u16) -> Option<&Name>
-    ensures { option_copied result ≡ class_name_of pool.now index }
-{
-    match entry(pool, index) {
-        Some(Const::Class(name)) => text_of(pool, *name),
-        _ => None,
-    }
-}
 
 /// The code of a method: its first attribute that is Code.
 pub fn code_of(attrs: &[Attr]) -> Option<&Code>
