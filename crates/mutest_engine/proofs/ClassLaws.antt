@@ -25,7 +25,8 @@ use Rattle.mutest_engine.specs.declared.fault.FormFault.{FormFault}
 use Rattle.mutest_engine.specs.declared.fault.FormFault.TheVariants as fault
 use Rattle.mutest_engine.proofs.ContentLaws.{made_by}
 use Rattle.mutest_engine.proofs.WholePoolLaws.{pool_takes, pool_again}
-use Rattle.mutest_engine.proofs.MethodLaws.{short_codec, where_codec, regrouped, method_codec}
+use Rattle.mutest_engine.proofs.CodeAttributeLaws.{short_codec, where_codec, regrouped}
+use Rattle.mutest_engine.proofs.MethodLaws.{method_codec}
 
 abbrev Short : ℕ → Type 0
 Short n = n < 2 ^ (8 * byte_len w16)

@@ -1,4 +1,5 @@
 mod ClassLaws
+mod CodeAttributeLaws
 mod CodeLaws
 mod ContentLaws
 mod Ends
@@ -6,6 +7,7 @@ mod FileLaws
 mod Lines
 mod ManyFrom
 mod MethodLaws
+mod NoteLaws
 mod PoolLaws
 mod TableLaws
 mod Turns

@@ -1,298 +1,328 @@
--- Code and methods are read as they are spelled.
-use Rattle.std.proofs.Common.{◌≡◌, ℕ, ◌*◌, ◌^◌, ◌<◌, Bool, true, false, eqb, ltb, leb, List, [], ◌∷◌, ◌++◌, length, Result, Ok, Err, refl, sym, ap, subst, ◌∙◌, append_assoc, arith}
-use Rattle.std.specs.Prelude.{codes, ◌&&◌}
-use Rattle.std.specs.Int.{w16, w32, byte_len, to_be_bytes}
+-- The attributes of a method, and methods, are read as they are spelled.
+use Rattle.std.proofs.Common.{◌≡◌, ℕ, ◌+◌, ◌*◌, ◌^◌, ◌<◌, ◌≤◌, Bool, true, false, cond, eqb, inl, inr, List, [], ◌∷◌, ◌++◌, length, Option, Some, None, Result, Ok, Err, refl, sym, ap, subst, ◌∙◌, append_assoc, arith}
+use Rattle.std.specs.Prelude.{codes, nat_eq, ◌&&◌, ◌||◌}
+use Rattle.std.specs.Cmp.Lexicographic.{pointwise, same_text}
+use Rattle.std.specs.Int.{w16, byte_len, to_be_bytes}
 use Rattle.std.specs.List.{flat_map, AllByRecursion}
-use Rattle.std.proofs.lemmas.Bool.{ltb-true, lt-ltb, le-leb, eqb-true, eq-eqb}
-use Rattle.std.proofs.lemmas.List.{append-nil}
+use Rattle.std.proofs.lemmas.Bool.{eqb-true, eq-eqb, cases_lt}
+use Rattle.std.proofs.lemmas.List.{length-append}
 use Rattle.std.proofs.lemmas.List.Concat.{flat_map-cons}
+use Rattle.class_model.specs.Pool.{text_of}
 use Rattle.class_model.specs.declared.constant.Const.{Const}
-use Rattle.class_model.specs.declared.instruction.Insn.{Insn}
+use Rattle.class_model.specs.declared.annotation.Note.{Note}
 use Rattle.class_model.specs.declared.attribute.Attr.{Attr, roll-Attr, out-Attr}
-use Rattle.class_model.specs.declared.attribute.Code.{Code, roll-Code, out-Code}
+use Rattle.class_model.specs.declared.attribute.Code.{Code}
 use Rattle.class_model.specs.declared.attribute.Body.{Body, out-Body}
 use Rattle.class_model.specs.declared.attribute.Body.TheVariants as body
-use Rattle.class_model.specs.declared.attribute.Body.TheOpen.{Body-F, Code-F}
-use Rattle.class_model.specs.declared.attribute.Body.TheViews.{out-roll-Code, roll-out-Code}
+use Rattle.class_model.specs.declared.attribute.Body.TheOpen.{Body-F}
 use Rattle.class_model.specs.declared.class.Member.{Member}
-use Rattle.codec_rules.specs.Input.{Input}
+use Rattle.codec_rules.specs.Input.{Input, IsBytes}
 use Rattle.codec_rules.specs.Sequence.{◌>>=◌}
-use Rattle.codec_rules.specs.Spelling.{IsCodecAt}
-use Rattle.codec_rules.proofs.Codec.{chain, tested, reread, respelled}
-use Rattle.codec_rules.proofs.Numbers.{number_codec, wide16, wide32}
-use Rattle.mutest_engine.specs.Item.{FormReader, number, number_where, some_bytes, in_form, content, many_from}
-use Rattle.mutest_engine.specs.CodeForm.{code_at}
-use Rattle.mutest_engine.specs.PoolForm.{names_form_descriptor}
-use Rattle.mutest_engine.specs.AttributeForm.{names, inner_at, is_code_length, code_content_at, method_attribute_at}
+use Rattle.codec_rules.specs.Spelling.{IsCodecAt, Takes, input_at}
+use Rattle.codec_rules.proofs.Sequence.{bind_ok, ok_is}
+use Rattle.codec_rules.proofs.Codec.{Takes-then, chain, renamed, respelled}
+use Rattle.codec_rules.proofs.Numbers.{number_codec, wide16}
+use Rattle.mutest_engine.specs.Item.{FormReader, number, number_where, content, many_from}
+use Rattle.mutest_engine.specs.PoolForm.{is_some_and, names_form_descriptor}
+use Rattle.mutest_engine.specs.AttributeForm.{names, with_state, code_content_at, notes_at, code_attribute_at, notes_attribute_at, either_attribute, method_attribute_at, is_attribute_count, awaited_of, method_attributes_at}
 use Rattle.mutest_engine.specs.ClassForm.{names_method_name, method_at}
-use Rattle.mutest_engine.specs.Spells.{insn_places, insns_bytes, AreFormInsns, table_bytes, IsFormTable, code_content, IsFormCode, body_content, method_attribute_bytes, IsFormBody, IsFormAttribute, method_bytes, IsFormAttributes, IsFormMethod}
+use Rattle.mutest_engine.specs.declared.unseen.Awaited.{Awaited}
+use Rattle.mutest_engine.specs.Spells.{code_content, IsFormCode, IsFormNote, body_content, method_attribute_bytes, IsFormBody, IsFormAttribute, one_if_code, one_if_notes, codes_count, notes_count, method_bytes, IsFormAttributes, IsFormMethod}
 use Rattle.mutest_engine.specs.declared.fault.FormFault.{FormFault}
 use Rattle.mutest_engine.specs.declared.fault.FormFault.TheVariants as fault
-use Rattle.mutest_engine.proofs.PoolLaws.{judged}
-use Rattle.mutest_engine.proofs.WholeCodeLaws.{number_again, IsCodeOf, sized_code_at, code_codec}
-use Rattle.mutest_engine.proofs.ContentLaws.{sized, made_by, content_codec}
-use Rattle.mutest_engine.proofs.TableLaws.{Numbered, AreFormTables, few_tables, all_unseen, tables_codec}
+use Rattle.mutest_engine.proofs.ContentLaws.{sized, made_by, content_codec, IsStep, AllFrom, spelled_by, from_codec}
+use Rattle.mutest_engine.proofs.CodeAttributeLaws.{Short, short_codec, where_codec, code_content_codec}
+use Rattle.mutest_engine.proofs.NoteLaws.{notes_bytes, notes_codec}
 
-abbrev Short : ℕ → Type 0
-Short n = n < 2 ^ (8 * byte_len w16)
+-- ---- one attribute
 
-pub short_codec : IsCodecAt (number w16) (λ at. to_be_bytes w16) (λ n. n < 2 ^ (8 * byte_len w16))
-short_codec = number_codec (λ at. fault.Short at 2) w16 wide16
-
-pub where_codec : (test : ℕ → Bool) → IsCodecAt (number_where w16 test) (λ at. to_be_bytes w16) (λ n. (n < 2 ^ (8 * byte_len w16)) × (test n ≡ true))
-where_codec test = judged (number w16) (λ at. to_be_bytes w16) Short test short_codec
-
--- ---- Code, item by item from its end
-
-abbrev Coded : Type 0
-Coded = List Insn × List ℕ
-
-abbrev code_in : Code → Coded
-code_in c = ((out-Code c).insns, insn_places 0 (out-Code c).insns)
-
-abbrev made_code : ℕ → ℕ → Coded → List Attr → Code
-made_code stack locals x attrs = roll-Code (record { max_stack = stack; max_locals = locals; insns = x.0; rows = []; attrs = attrs })
-
-abbrev from_tables : List Const → ℕ → ℕ → ℕ → Coded → ℕ → FormReader Code
-from_tables pool file_end stack locals x count input = many_from (inner_at pool file_end x.1) all_unseen count input >>= λ attrs. Ok (made_code stack locals x attrs.0, attrs.1)
-
-abbrev from_count : List Const → ℕ → ℕ → ℕ → Coded → FormReader Code
-from_count pool file_end stack locals x input = number_where w16 (λ n. leb n 2) input >>= λ count. from_tables pool file_end stack locals x count.0 count.1
-
-abbrev from_rows : List Const → ℕ → ℕ → ℕ → Coded → FormReader Code
-from_rows pool file_end stack locals x input = number_where w16 (λ n. eqb n 0) input >>= λ rows. from_count pool file_end stack locals x rows.1
-
-abbrev from_code : List Const → ℕ → ℕ → ℕ → ℕ → FormReader Code
-from_code pool file_end stack locals n input = some_bytes n input >>= λ bytes. code_at (record { at = input.at; bytes = bytes.0 }) >>= λ x. from_rows pool file_end stack locals x bytes.1
-
-abbrev from_length : List Const → ℕ → ℕ → ℕ → ℕ → FormReader Code
-from_length pool file_end first stack locals input = number w32 input >>= λ len. in_form (is_code_length len.0) first len >>= λ len. from_code pool file_end stack locals len.0 len.1
-
-abbrev from_locals : List Const → ℕ → ℕ → ℕ → FormReader Code
-from_locals pool file_end first stack input = number w16 input >>= λ locals. from_length pool file_end first stack locals.0 locals.1
-
-abbrev tables_bytes : Code → List ℕ
-tables_bytes c = flat_map (table_bytes (insn_places 0 (out-Code c).insns)) (out-Code c).attrs
-
-abbrev count_bytes : Code → List ℕ
-count_bytes c = to_be_bytes w16 (length (out-Code c).attrs) ++ tables_bytes c
-
-abbrev rows_bytes : Code → List ℕ
-rows_bytes c = to_be_bytes w16 (length (out-Code c).rows) ++ count_bytes c
-
-abbrev code_bytes : Code → List ℕ
-code_bytes c = insns_bytes (out-Code c).insns ++ rows_bytes c
-
-abbrev length_bytes : Code → List ℕ
-length_bytes c = to_be_bytes w32 (length (insns_bytes (out-Code c).insns)) ++ code_bytes c
-
-abbrev locals_bytes : Code → List ℕ
-locals_bytes c = to_be_bytes w16 (out-Code c).max_locals ++ length_bytes c
-
--- what is known of a code where so much was read of it
-abbrev Of-stack : List Const → ℕ → Code → Type 0
-Of-stack pool stack c = IsFormCode pool c × ((out-Code c).max_stack ≡ stack)
-
-abbrev Of-locals : List Const → ℕ → ℕ → Code → Type 0
-Of-locals pool stack locals c = Of-stack pool stack c × ((out-Code c).max_locals ≡ locals)
-
-abbrev Of-length : List Const → ℕ → ℕ → ℕ → Code → Type 0
-Of-length pool stack locals n c = Of-locals pool stack locals c × (length (insns_bytes (out-Code c).insns) ≡ n)
-
-abbrev Of-code : List Const → ℕ → ℕ → ℕ → Coded → Code → Type 0
-Of-code pool stack locals n x c = Of-length pool stack locals n c × (code_in c ≡ x)
-
-abbrev Of-rows : List Const → ℕ → ℕ → ℕ → Coded → ℕ → Code → Type 0
-Of-rows pool stack locals n x rows c = Of-code pool stack locals n x c × (length (out-Code c).rows ≡ rows)
-
-abbrev Of-count : List Const → ℕ → ℕ → ℕ → Coded → ℕ → ℕ → Code → Type 0
-Of-count pool stack locals n x rows count c = Of-rows pool stack locals n x rows c × (length (out-Code c).attrs ≡ count)
-
-len_test : (n : ℕ) → is_code_length n ≡ true → (0 < n) × (n < 2 ^ 16)
-len_test n e = by_parts (ltb 0 n) (ltb n (2 ^ 16)) refl refl e
-  where
-    by_parts : (a b : Bool) → ltb 0 n ≡ a → ltb n (2 ^ 16) ≡ b → a && b ≡ true → (0 < n) × (n < 2 ^ 16)
-    by_parts true true p q e = (ltb-true _ _ p, ltb-true _ _ q)
-    by_parts true false p q e = absurd cc
-    by_parts false b p q e = absurd cc
-
-len_again : (n : ℕ) → 0 < n → n < 2 ^ 16 → is_code_length n ≡ true
-len_again n some few =
-    let a : ltb 0 n ≡ true = lt-ltb _ _ some in
-    let b : ltb n (2 ^ 16) ≡ true = lt-ltb _ _ few in
-    rw (a, b) refl
-
--- what is known of the parts of a code
-abbrev Known : List Const → ℕ → ℕ → ℕ → Coded → ℕ → ℕ → Code-F Body Attr Code → Type 0
-Known pool stack locals n x rows count z =
-    (z.max_stack < 2 ^ 16) × (z.max_locals < 2 ^ 16) × (0 < length (insns_bytes z.insns)) × (length (insns_bytes z.insns) < 2 ^ 16) × AreFormInsns (insn_places 0 z.insns) 0 z.insns × (z.rows ≡ []) × AreFormTables pool (insn_places 0 z.insns) z.attrs
-    × (z.max_stack ≡ stack) × (z.max_locals ≡ locals) × (length (insns_bytes z.insns) ≡ n) × ((z.insns, insn_places 0 z.insns) ≡ x) × (length z.rows ≡ rows) × (length z.attrs ≡ count)
-    × (flat_map (table_bytes (insn_places 0 z.insns)) z.attrs ≡ flat_map (table_bytes x.1) z.attrs)
-
-known_code : (pool : List Const) (stack locals n : ℕ) (x : Coded) (rows count : ℕ) (c : Code) → Known pool stack locals n x rows count (out-Code c) → Of-count pool stack locals n x rows count c
-known_code pool stack locals n x rows count c k =
-    ((((((record { max_stack = k.0; max_locals = k.1; some = k.2; few = k.3; insns = k.4; rows = k.5; tables = k.6.0; one_lines = k.6.1; one_frames = k.6.2 }, k.7), k.8), k.9), k.10), k.11), k.12)
-
-tables_of : (pool : List Const) (file_end stack locals n : ℕ) (x : Coded) (rows count : ℕ) → Short stack → Short locals → is_code_length n ≡ true → IsCodeOf n x → eqb rows 0 ≡ true
-    → IsCodecAt (from_tables pool file_end stack locals x count) (λ at. tables_bytes) (Of-count pool stack locals n x rows count)
-tables_of pool file_end stack locals n x rows count ls ll ln lx lr =
-    let known : Numbered x.1 = subst Numbered lx.2 (number_again 0 x.0) in
-    let len = len_test n ln in
-    let none : rows ≡ 0 = eqb-true _ _ lr in
-    made_by (many_from (inner_at pool file_end x.1) all_unseen count) (flat_map (table_bytes x.1)) (λ attrs. AreFormTables pool x.1 attrs × (length attrs ≡ count)) (made_code stack locals x) tables_bytes (Of-count pool stack locals n x rows count)
-    (tables_codec pool file_end x.1 known count)
-    (λ attrs p.
-    let parts : Code-F Body Attr Code = record { max_stack = stack; max_locals = locals; insns = x.0; rows = []; attrs = attrs } in
-    let tables : AreFormTables pool (insn_places 0 x.0) attrs = subst (λ (z : List ℕ). AreFormTables pool z attrs) (sym lx.2) p.0 in
-    let known : Known pool stack locals n x rows count parts =
-    (ls, ll, subst (λ (k : ℕ). 0 < k) (sym lx.0) len.0, subst (λ (k : ℕ). k < 2 ^ 16) (sym lx.0) len.1, lx.1, refl, tables, refl, refl, lx.0, λ i. (x.0, lx.2 i), sym none, p.1, ap (λ (z : List ℕ). flat_map (table_bytes z) attrs) lx.2) in
-    let k : Known pool stack locals n x rows count (out-Code (made_code stack locals x attrs)) = subst (Known pool stack locals n x rows count) (sym (out-roll-Code parts)) known in
-    (known_code pool stack locals n x rows count (made_code stack locals x attrs) k, k.13 ∙ ap (λ (z : Code-F Body Attr Code). flat_map (table_bytes x.1) z.attrs) (out-roll-Code parts)))
-    (λ c q.
-    let form = q.0.0.0.0.0.0 in
-    let code = q.0.0.1 in
-    let parts : Code-F Body Attr Code = record { max_stack = stack; max_locals = locals; insns = x.0; rows = []; attrs = (out-Code c).attrs } in
-    let same : parts ≡ out-Code c = λ i. record { max_stack = sym q.0.0.0.0.0.1 i; max_locals = sym q.0.0.0.0.1 i; insns = (sym code i).0; rows = sym form.rows i; attrs = (out-Code c).attrs } in (
-      (out-Code c).attrs,
-      ((subst (λ (z : List ℕ). AllByRecursion (IsFormTable pool z) (out-Code c).attrs) (ap (λ (z : Coded). z.1) code) form.tables, form.one_lines, form.one_frames), q.1),
-      ap roll-Code same ∙ roll-out-Code c,
-    ))
-
-count_of : (pool : List Const) (file_end stack locals n : ℕ) (x : Coded) (rows : ℕ) → Short stack → Short locals → is_code_length n ≡ true → IsCodeOf n x → eqb rows 0 ≡ true
-    → IsCodecAt (from_count pool file_end stack locals x) (λ at. count_bytes) (Of-rows pool stack locals n x rows)
-count_of pool file_end stack locals n x rows ls ll ln lx lr =
-    chain (number_where w16 (λ n. leb n 2)) (λ at. to_be_bytes w16) (λ n. Short n × (leb n 2 ≡ true)) (λ i count j. from_tables pool file_end stack locals x count j) (λ c. length (out-Code c).attrs) (λ at. tables_bytes) (Of-rows pool stack locals n x rows)
-    (where_codec (λ n. leb n 2))
-    (λ i count p. tables_of pool file_end stack locals n x rows count ls ll ln lx lr)
-    (λ c q.
-    let form = q.0.0.0.0.0 in
-    let few = few_tables pool (insn_places 0 (out-Code c).insns) (out-Code c).attrs (form.tables, form.one_lines, form.one_frames) in
-    (omega (arith, few), le-leb _ _ few))
-
-rows_of : (pool : List Const) (file_end stack locals n : ℕ) (x : Coded) → Short stack → Short locals → is_code_length n ≡ true → IsCodeOf n x
-    → IsCodecAt (from_rows pool file_end stack locals x) (λ at. rows_bytes) (Of-code pool stack locals n x)
-rows_of pool file_end stack locals n x ls ll ln lx =
-    chain (number_where w16 (λ n. eqb n 0)) (λ at. to_be_bytes w16) (λ n. Short n × (eqb n 0 ≡ true)) (λ i rows j. from_count pool file_end stack locals x j) (λ c. length (out-Code c).rows) (λ at. count_bytes) (Of-code pool stack locals n x)
-    (where_codec (λ n. eqb n 0))
-    (λ i rows p. count_of pool file_end stack locals n x rows ls ll ln lx p.1)
-    (λ c q.
-    let none : length (out-Code c).rows ≡ 0 = ap length q.0.0.0.0.rows in
-    (omega (arith, none), eq-eqb _ _ none))
-
-abbrev pair_of : {X : Type 0} → X → Input → Result (X × Input) FormFault
-pair_of x j = Ok (x, j)
-
-along_one : {X B : Type 0} (read : Result X FormFault) (j : Input) (next : X → Input → Result B FormFault) → (read >>= λ x. next x j) ≡ ((read >>= λ x. pair_of x j) >>= λ x. next x.0 x.1)
-along_one (Ok x) j next = refl
-along_one (Err e) j next = refl
-
-along : {X B : Type 0} (bytes : Result (List ℕ × Input) FormFault) (read : List ℕ → Result X FormFault) (next : X → Input → Result B FormFault) → (bytes >>= λ b. read b.0 >>= λ x. next x b.1) ≡ ((bytes >>= λ b. read b.0 >>= λ x. pair_of x b.1) >>= λ x. next x.0 x.1)
-along (Ok b) read next = along_one (read b.0) b.1 next
-along (Err e) read next = refl
-
-pub regrouped : {X Y B : Type 0} (read : Result X FormFault) (then : X → Result Y FormFault) (next : Y → Result B FormFault) → (read >>= λ x. then x >>= next) ≡ ((read >>= then) >>= next)
-regrouped (Ok x) then next = refl
-regrouped (Err e) then next = refl
-
-code_of : (pool : List Const) (file_end stack locals n : ℕ) → Short stack → Short locals → is_code_length n ≡ true
-    → IsCodecAt (from_code pool file_end stack locals n) (λ at. code_bytes) (Of-length pool stack locals n)
-code_of pool file_end stack locals n ls ll ln =
-    reread (λ input. sized_code_at n input >>= λ x. from_rows pool file_end stack locals x.0 x.1) (from_code pool file_end stack locals n) (λ at. code_bytes) (Of-length pool stack locals n)
-    (λ input. along (some_bytes n input) (λ b. code_at (record { at = input.at; bytes = b })) (λ x j. from_rows pool file_end stack locals x j))
-    (chain (sized_code_at n) (λ at x. insns_bytes x.0) (IsCodeOf n) (λ i x j. from_rows pool file_end stack locals x j) code_in (λ at. rows_bytes) (Of-length pool stack locals n)
-    (code_codec n)
-    (λ i x p. rows_of pool file_end stack locals n x ls ll ln p)
-    (λ c q. (q.1, q.0.0.0.insns, refl)))
-
-length_of : (pool : List Const) (file_end first stack locals : ℕ) → Short stack → Short locals
-    → IsCodecAt (from_length pool file_end first stack locals) (λ at. length_bytes) (Of-locals pool stack locals)
-length_of pool file_end first stack locals ls ll =
-    reread (λ input. (number w32 input >>= λ len. in_form (is_code_length len.0) first len) >>= λ len. from_code pool file_end stack locals len.0 len.1) (from_length pool file_end first stack locals) (λ at. length_bytes) (Of-locals pool stack locals)
-    (λ input. regrouped (number w32 input) (λ len. in_form (is_code_length len.0) first len) (λ len. from_code pool file_end stack locals len.0 len.1))
-    (chain (λ input. number w32 input >>= λ len. in_form (is_code_length len.0) first len) (λ at. to_be_bytes w32) (λ n. (n < 2 ^ (8 * byte_len w32)) × (is_code_length n ≡ true)) (λ i n j. from_code pool file_end stack locals n j) (λ c. length (insns_bytes (out-Code c).insns)) (λ at. code_bytes) (Of-locals pool stack locals)
-    (tested (number w32) (λ at. to_be_bytes w32) (λ n. n < 2 ^ (8 * byte_len w32)) is_code_length (fault.NotYet first) (number_codec (λ at. fault.Short at 4) w32 wide32))
-    (λ i n p. code_of pool file_end stack locals n ls ll p.1)
-    (λ c q. let form = q.0.0 in let few = form.few in (omega (arith, few), len_again _ form.some few)))
-
-locals_of : (pool : List Const) (file_end first stack : ℕ) → Short stack → IsCodecAt (from_locals pool file_end first stack) (λ at. locals_bytes) (Of-stack pool stack)
-locals_of pool file_end first stack ls =
-    chain (number w16) (λ at. to_be_bytes w16) Short (λ i locals j. from_length pool file_end first stack locals j) (λ c. (out-Code c).max_locals) (λ at. length_bytes) (Of-stack pool stack)
-    short_codec
-    (λ i locals ll. length_of pool file_end first stack locals ls ll)
-    (λ c q. q.0.max_locals)
-
-content_same : (c : Code) → to_be_bytes w16 (out-Code c).max_stack ++ locals_bytes c ≡ code_content c
-content_same c = simp append_assoc
-
-pub code_content_codec : (pool : List Const) (file_end first : ℕ) → IsCodecAt (code_content_at pool file_end first) (λ at. code_content) (IsFormCode pool)
-unfolding code_content_at
-code_content_codec pool file_end first =
-    respelled (code_content_at pool file_end first) (λ at c. to_be_bytes w16 (out-Code c).max_stack ++ locals_bytes c) (λ at. code_content) (IsFormCode pool)
-    (chain (number w16) (λ at. to_be_bytes w16) Short (λ i stack j. from_locals pool file_end first stack j) (λ c. (out-Code c).max_stack) (λ at. locals_bytes) (IsFormCode pool)
-    short_codec
-    (λ i stack ls. locals_of pool file_end first stack ls)
-    (λ c q. q.max_stack))
-    (λ c q at. content_same c)
-
--- ---- the attribute of a method
-
+-- a body that is known is made again
 body_code : (b : Body) (c : Code) → out-Body b ≡ Body-F.Code c → body.Code c ≡ b
 unfolding out-Body denote.Hole.Carrier.out
 body_code (body.Code d) c e = let same : c ≡ d = cc in ap body.Code same
 body_code other c e = absurd cc
 
+body_notes : (b : Body) (notes : List Note) → out-Body b ≡ Body-F.Notes notes → body.Notes notes ≡ b
+unfolding out-Body denote.Hole.Carrier.out
+body_notes (body.Notes n) notes e = let same : notes ≡ n = cc in ap body.Notes same
+body_notes other notes e = absurd cc
+
 out_code : (c : Code) → out-Body (body.Code c) ≡ Body-F.Code c
 unfolding out-Body denote.Hole.Carrier.out
 out_code c = refl
 
-abbrev code_attr : ℕ → Code → Attr
-code_attr name c = roll-Attr (record { name = name; body = body.Code c })
+out_notes : (notes : List Note) → out-Body (body.Notes notes) ≡ Body-F.Notes notes
+unfolding out-Body denote.Hole.Carrier.out
+out_notes notes = refl
 
-abbrev Of-name : List Const → ℕ → Attr → Type 0
-Of-name pool name attr = IsFormAttribute pool attr × ((out-Attr attr).name ≡ name)
+abbrev attr_of : ℕ → Body → Attr
+attr_of name b = roll-Attr (record { name = name; body = b })
+
+abbrev content_of : Attr → List ℕ
+content_of attr = body_content (out-Body (out-Attr attr).body)
+
+-- an attribute whose content has this form, under this name
+abbrev IsContent : (name : ℕ) (Form : Body-F Body Attr Code → Type 0) → Attr → Type 0
+IsContent name Form attr = ((out-Attr attr).name ≡ name) × Form (out-Body (out-Attr attr).body) × (length (content_of attr) < 2 ^ 32)
+
+abbrev CodeForm : List Const → Body-F Body Attr Code → Type 0
+CodeForm pool (Body-F.Code code) = IsFormCode pool code
+CodeForm pool other = ⊥
+
+abbrev NotesForm : List Const → Body-F Body Attr Code → Type 0
+NotesForm pool (Body-F.Notes notes) = (length notes < 2 ^ 16) × AllByRecursion (IsFormNote pool) notes
+NotesForm pool other = ⊥
 
 abbrev SizedCode : List Const → Code → Type 0
 SizedCode pool c = IsFormCode pool c × (length (code_content c) < 2 ^ 32)
 
-code_back : (pool : List Const) (name : ℕ) (attr : Attr) (b : Body-F Body Attr Code) → out-Body (out-Attr attr).body ≡ b → (out-Attr attr).name ≡ name → IsFormBody pool b → length (body_content b) < 2 ^ 32 → (c : Code) × SizedCode pool c × (code_attr name c ≡ attr)
-code_back pool name attr (Body-F.Code c) e n q size = (c, (q, size), λ i. roll-Attr (record { name = sym n i; body = body_code (out-Attr attr).body c e i }))
+abbrev SizedNotes : List Const → List Note → Type 0
+SizedNotes pool notes = ((length notes < 2 ^ 16) × AllByRecursion (IsFormNote pool) notes) × (length (notes_bytes notes) < 2 ^ 32)
+
+code_back : (pool : List Const) (name : ℕ) (attr : Attr) (b : Body-F Body Attr Code) → out-Body (out-Attr attr).body ≡ b → (out-Attr attr).name ≡ name → CodeForm pool b → length (body_content b) < 2 ^ 32
+    → (c : Code) × SizedCode pool c × (attr_of name (body.Code c) ≡ attr)
+code_back pool name attr (Body-F.Code c) e n q size = (c, (q, size), λ i. attr_of (sym n i) (body_code (out-Attr attr).body c e i))
 code_back pool name attr other e n q size = absurd q
 
-named_of : (pool : List Const) (file_end first name : ℕ) → Short name → names pool name (codes "Code") ≡ true
-    → IsCodecAt (λ input. content file_end first (code_content_at pool file_end first) input >>= λ c. Ok (code_attr name c.0, c.1)) (λ at attr. sized (body_content (out-Body (out-Attr attr).body))) (Of-name pool name)
-named_of pool file_end first name ln named =
-    made_by (content file_end first (code_content_at pool file_end first)) (λ c. sized (code_content c)) (SizedCode pool) (code_attr name) (λ attr. sized (body_content (out-Body (out-Attr attr).body))) (Of-name pool name)
-    (content_codec file_end first (code_content_at pool file_end first) code_content (IsFormCode pool) (code_content_codec pool file_end first))
-    (λ c p. (
-      (
-        record {
-          name = ln;
-          named = named;
-          body = subst (IsFormBody pool) (sym (out_code c)) p.0;
-          size = subst (λ (b : Body-F Body Attr Code). length (body_content b) < 2 ^ 32) (sym (out_code c)) p.1;
-        },
-        refl,
-      ),
-      ap (λ (b : Body-F Body Attr Code). sized (body_content b)) (out_code c),
-    ))
-    (λ attr q. code_back pool name attr (out-Body (out-Attr attr).body) refl q.1 q.0.body q.0.size)
+notes_back : (pool : List Const) (name : ℕ) (attr : Attr) (b : Body-F Body Attr Code) → out-Body (out-Attr attr).body ≡ b → (out-Attr attr).name ≡ name → NotesForm pool b → length (body_content b) < 2 ^ 32
+    → (notes : List Note) × SizedNotes pool notes × (attr_of name (body.Notes notes) ≡ attr)
+notes_back pool name attr (Body-F.Notes notes) e n q size = (notes, (q, size), λ i. attr_of (sym n i) (body_notes (out-Attr attr).body notes e i))
+notes_back pool name attr other e n q size = absurd q
 
-method_attribute_codec : (pool : List Const) (file_end : ℕ) → IsCodecAt (method_attribute_at pool file_end) (λ at. method_attribute_bytes) (IsFormAttribute pool)
+code_attribute_codec : (pool : List Const) (file_end first name : ℕ) → IsCodecAt (code_attribute_at pool file_end first name) (λ at attr. sized (content_of attr)) (IsContent name (CodeForm pool))
+code_attribute_codec pool file_end first name =
+    made_by (content file_end first (code_content_at pool file_end first)) (λ c. sized (code_content c)) (SizedCode pool) (λ c. attr_of name (body.Code c)) (λ attr. sized (content_of attr)) (IsContent name (CodeForm pool))
+    (content_codec file_end first (code_content_at pool file_end first) code_content (IsFormCode pool) (code_content_codec pool file_end first))
+    (λ c p. ((refl, subst (CodeForm pool) (sym (out_code c)) p.0, subst (λ (b : Body-F Body Attr Code). length (body_content b) < 2 ^ 32) (sym (out_code c)) p.1), ap (λ (b : Body-F Body Attr Code). sized (body_content b)) (out_code c)))
+    (λ attr q. code_back pool name attr (out-Body (out-Attr attr).body) refl q.0 q.1 q.2)
+
+notes_attribute_codec : (pool : List Const) (file_end first name : ℕ) → IsCodecAt (notes_attribute_at pool file_end first name) (λ at attr. sized (content_of attr)) (IsContent name (NotesForm pool))
+notes_attribute_codec pool file_end first name =
+    made_by (content file_end first (notes_at pool)) (λ notes. sized (notes_bytes notes)) (SizedNotes pool) (λ notes. attr_of name (body.Notes notes)) (λ attr. sized (content_of attr)) (IsContent name (NotesForm pool))
+    (content_codec file_end first (notes_at pool) notes_bytes (λ notes. (length notes < 2 ^ 16) × AllByRecursion (IsFormNote pool) notes) (notes_codec pool))
+    (λ notes p. ((refl, subst (NotesForm pool) (sym (out_notes notes)) p.0, subst (λ (b : Body-F Body Attr Code). length (body_content b) < 2 ^ 32) (sym (out_notes notes)) p.1), ap (λ (b : Body-F Body Attr Code). sized (body_content b)) (out_notes notes)))
+    (λ attr q. notes_back pool name attr (out-Body (out-Attr attr).body) refl q.0 q.1 q.2)
+
+-- ---- each kind at most once
+
+abbrev seen : Awaited → Body-F Body Attr Code → Awaited
+seen awaited (Body-F.Code code) = record { code = false; notes = awaited.notes }
+seen awaited (Body-F.Notes notes) = record { code = awaited.code; notes = false }
+seen awaited other = awaited
+
+abbrev Allowed : Awaited → Body-F Body Attr Code → Type 0
+Allowed awaited (Body-F.Code code) = awaited.code ≡ true
+Allowed awaited (Body-F.Notes notes) = awaited.notes ≡ true
+Allowed awaited other = ⊥
+
+abbrev seen_by : Awaited → Attr → Awaited
+seen_by awaited attr = seen awaited (out-Body (out-Attr attr).body)
+
+abbrev IsNext : List Const → Awaited → Attr → Type 0
+IsNext pool awaited attr = IsFormAttribute pool attr × Allowed awaited (out-Body (out-Attr attr).body)
+
+both_true : (a b : Bool) → a && b ≡ true → (a ≡ true) × (b ≡ true)
+both_true true b e = (refl, e)
+both_true false b e = absurd cc
+
+-- what stands behind a name
+record Behind (pool : List Const) (awaited : Awaited) (name : ℕ) (input : Input) (attr : Attr) (after : Awaited) (rest : Input) : Type 0 where
+  taken : Takes input (sized (content_of attr)) rest
+  name_is : (out-Attr attr).name ≡ name
+  body_is : IsFormBody pool name (out-Body (out-Attr attr).body)
+  size : length (content_of attr) < 2 ^ 32
+  allowed : Allowed awaited (out-Body (out-Attr attr).body)
+  marked : seen_by awaited attr ≡ after
+
+code_named : (pool : List Const) (name : ℕ) (awaited : Awaited) (b : Body-F Body Attr Code) → names pool name (codes "Code") ≡ true → awaited.code ≡ true → CodeForm pool b
+    → IsFormBody pool name b × Allowed awaited b × (seen awaited b ≡ record { code = false; notes = awaited.notes })
+code_named pool name awaited (Body-F.Code code) n u q = ((n, q), u, refl)
+code_named pool name awaited other n u q = absurd q
+
+notes_named : (pool : List Const) (name : ℕ) (awaited : Awaited) (b : Body-F Body Attr Code) → names pool name (codes "RuntimeVisibleAnnotations") ≡ true → awaited.notes ≡ true → NotesForm pool b
+    → IsFormBody pool name b × Allowed awaited b × (seen awaited b ≡ record { code = awaited.code; notes = false })
+notes_named pool name awaited (Body-F.Notes notes) n u q = ((n, q.0, q.1), u, refl)
+notes_named pool name awaited other n u q = absurd q
+
+by_tests : (pool : List Const) (file_end : ℕ) (awaited : Awaited) (first name : ℕ) (input : Input) (attr : Attr) (after : Awaited) (rest : Input) → IsBytes input.bytes
+    → (is_code is_notes : Bool) → awaited.code && names pool name (codes "Code") ≡ is_code → awaited.notes && names pool name (codes "RuntimeVisibleAnnotations") ≡ is_notes
+    → cond is_code (with_state (record { code = false; notes = awaited.notes }) (code_attribute_at pool file_end first name input)) (cond is_notes (with_state (record { code = awaited.code; notes = false }) (notes_attribute_at pool file_end first name input)) (Err (fault.NotYet first))) ≡ Ok (attr, after, rest)
+    → Behind pool awaited name input attr after rest
+by_tests pool file_end awaited first name input attr after rest bytes true is_notes tl tf e =
+    let state : Awaited = record { code = false; notes = awaited.notes } in
+    let t = both_true _ _ tl in
+    let a = bind_ok (code_attribute_at pool file_end first name input) (λ x. Ok (x.0, state, x.1)) (attr, after, rest) e in
+    let m : Attr × Awaited × Input = (a.0.0, state, a.0.1) in
+    let w : Attr × Awaited × Input = (attr, after, rest) in
+    let u = (code_attribute_codec pool file_end first name).takes input a.0.0 a.0.1 bytes a.1 in
+    let f = code_named pool name awaited (out-Body (out-Attr a.0.0).body) t.1 t.0 u.1.1 in
+    subst (λ (z : Attr × Awaited × Input). Behind pool awaited name input z.0 z.1 z.2) (ok_is {F = FormFault} m w a.2) (record { taken = u.0; name_is = u.1.0; body_is = f.0; size = u.1.2; allowed = f.1; marked = f.2 })
+by_tests pool file_end awaited first name input attr after rest bytes false true tl tf e =
+    let state : Awaited = record { code = awaited.code; notes = false } in
+    let t = both_true _ _ tf in
+    let a = bind_ok (notes_attribute_at pool file_end first name input) (λ x. Ok (x.0, state, x.1)) (attr, after, rest) e in
+    let m : Attr × Awaited × Input = (a.0.0, state, a.0.1) in
+    let w : Attr × Awaited × Input = (attr, after, rest) in
+    let u = (notes_attribute_codec pool file_end first name).takes input a.0.0 a.0.1 bytes a.1 in
+    let f = notes_named pool name awaited (out-Body (out-Attr a.0.0).body) t.1 t.0 u.1.1 in
+    subst (λ (z : Attr × Awaited × Input). Behind pool awaited name input z.0 z.1 z.2) (ok_is {F = FormFault} m w a.2) (record { taken = u.0; name_is = u.1.0; body_is = f.0; size = u.1.2; allowed = f.1; marked = f.2 })
+by_tests pool file_end awaited first name input attr after rest bytes false false tl tf e = absurd cc
+
+-- no text is both names
+apart : (text : Option (List ℕ)) → is_some_and (λ text. pointwise nat_eq text (codes "RuntimeVisibleAnnotations")) text ≡ true → is_some_and (λ text. pointwise nat_eq text (codes "Code")) text ≡ false
+apart None e = absurd cc
+apart (Some text) e = let same = same_text text (codes "RuntimeVisibleAnnotations") (sym e) in rw same refl
+
+no_code : (a b : Bool) → b ≡ false → a && b ≡ false
+no_code true b e = e
+no_code false b e = refl
+
+attribute_again : (pool : List Const) (file_end : ℕ) (awaited : Awaited) (first : ℕ) (attr : Attr) (at : ℕ) (rest : List ℕ) (b : Body-F Body Attr Code) → out-Body (out-Attr attr).body ≡ b
+    → IsFormBody pool (out-Attr attr).name b → length (content_of attr) < 2 ^ 32 → Allowed awaited b
+    → either_attribute pool file_end awaited first (out-Attr attr).name (input_at at (sized (content_of attr) ++ rest)) ≡ Ok (attr, seen awaited b, input_at (at + length (sized (content_of attr))) rest)
+attribute_again pool file_end awaited first attr at rest (Body-F.Code code) e q size u =
+    let name = (out-Attr attr).name in
+    let form : CodeForm pool (out-Body (out-Attr attr).body) = subst (CodeForm pool) (sym e) q.1 in
+    let read = (code_attribute_codec pool file_end first name).again attr at rest (refl, form, size) in
+    rw (u, q.0, read) refl
+attribute_again pool file_end awaited first attr at rest (Body-F.Notes notes) e q size u =
+    let name = (out-Attr attr).name in
+    let form : NotesForm pool (out-Body (out-Attr attr).body) = subst (NotesForm pool) (sym e) (q.1, q.2) in
+    let read = (notes_attribute_codec pool file_end first name).again attr at rest (refl, form, size) in
+    let other : awaited.code && names pool name (codes "Code") ≡ false = no_code awaited.code _ (apart (text_of pool name) q.0) in
+    rw (other, u, q.0, read) refl
+attribute_again pool file_end awaited first attr at rest other e q size u = absurd q
+
+attribute_step : (pool : List Const) (file_end : ℕ) → IsStep (method_attribute_at pool file_end) (λ awaited attr. method_attribute_bytes attr) seen_by (IsNext pool)
 unfolding method_attribute_at
-method_attribute_codec pool file_end =
-    chain (number_where w16 (λ n. names pool n (codes "Code"))) (λ at. to_be_bytes w16) (λ n. Short n × (names pool n (codes "Code") ≡ true)) (λ i name j. content file_end i.at (code_content_at pool file_end i.at) j >>= λ c. Ok (code_attr name c.0, c.1))
-    (λ attr. (out-Attr attr).name) (λ at attr. sized (body_content (out-Body (out-Attr attr).body))) (IsFormAttribute pool)
-    (where_codec (λ n. names pool n (codes "Code")))
-    (λ i name p. named_of pool file_end i.at name p.0 p.1)
-    (λ attr q. (q.name, q.named))
+attribute_step pool file_end = record {
+  takes = λ awaited input attr after rest bytes e.
+      let a = bind_ok (number w16 input) (λ name. either_attribute pool file_end awaited input.at name.0 name.1) (attr, after, rest) e in
+      let t = (number_codec (λ at. fault.Short at 2) w16 wide16).takes input a.0.0 a.0.1 bytes a.1 in
+      let b = by_tests pool file_end awaited input.at a.0.0 a.0.1 attr after rest t.0.rest_fits _ _ refl refl a.2 in
+      let both = Takes-then input (to_be_bytes w16 a.0.0) a.0.1 (sized (content_of attr)) rest t.0 b.taken in
+      let name = sym b.name_is in (
+        subst (λ (n : ℕ). Takes input (to_be_bytes w16 n ++ sized (content_of attr)) rest) name both,
+        (record { name = subst (λ (n : ℕ). n < 2 ^ 16) name t.1; body = subst (λ (n : ℕ). IsFormBody pool n (out-Body (out-Attr attr).body)) name b.body_is; size = b.size }, b.allowed),
+        b.marked,
+      );
+  again = λ awaited attr at rest q.
+      let name = (out-Attr attr).name in
+      let top = to_be_bytes w16 name in
+      let back = sized (content_of attr) in
+      let one = (number_codec (λ at. fault.Short at 2) w16 wide16).again name at (back ++ rest) q.0.name in
+      let two = attribute_again pool file_end awaited at attr (at + length top) rest (out-Body (out-Attr attr).body) refl q.0.body q.0.size q.1 in
+      let place : at + length top + length back ≡ at + length (top ++ back) = omega (arith, length-append top back) in
+      ap (λ (t : List ℕ). method_attribute_at pool file_end awaited (input_at at t)) (append_assoc top back rest)
+      ∙ ap (λ (z : Result (ℕ × Input) FormFault). z >>= λ name. either_attribute pool file_end awaited at name.0 name.1) one
+      ∙ two
+      ∙ ap (λ (n : ℕ). Ok (attr, seen_by awaited attr, input_at n rest)) place;
+}
+
+-- ---- all attributes
+
+abbrev most : Bool → ℕ
+most true = 1
+most false = 0
+
+one_there : (pool : List Const) (awaited : Awaited) (name l f : ℕ) (b : Body-F Body Attr Code) → IsFormBody pool name b → Allowed awaited b → l ≤ most (seen awaited b).code → f ≤ most (seen awaited b).notes
+    → (one_if_code b + l ≤ most awaited.code) × (one_if_notes b + f ≤ most awaited.notes)
+one_there pool awaited name l f (Body-F.Code code) q u hl hf = (rw u (omega (arith, hl)), omega (arith, hf))
+one_there pool awaited name l f (Body-F.Notes notes) q u hl hf = (omega (arith, hl), rw u (omega (arith, hf)))
+one_there pool awaited name l f other q u hl hf = absurd q
+
+attributes_there : (pool : List Const) (awaited : Awaited) (attrs : List Attr) → AllFrom seen_by (IsNext pool) awaited attrs → AllByRecursion (IsFormAttribute pool) attrs × (codes_count attrs ≤ most awaited.code) × (notes_count attrs ≤ most awaited.notes)
+attributes_there pool awaited [] q = (tt, omega arith, omega arith)
+attributes_there pool awaited (a ∷ attrs) q =
+    let u = attributes_there pool (seen_by awaited a) attrs q.1 in
+    let v = one_there pool awaited (out-Attr a).name (codes_count attrs) (notes_count attrs) (out-Body (out-Attr a).body) q.0.0.body q.0.1 u.1 u.2 in
+    ((q.0.0, u.0), v.0, v.1)
+
+some_left : (l : ℕ) (b : Bool) → 1 + l ≤ most b → (b ≡ true) × (l ≤ 0)
+some_left l true h = (refl, omega arith)
+some_left l false h = absurd (omega (arith, h))
+
+one_back : (pool : List Const) (awaited : Awaited) (name l f : ℕ) (b : Body-F Body Attr Code) → IsFormBody pool name b → one_if_code b + l ≤ most awaited.code → one_if_notes b + f ≤ most awaited.notes
+    → Allowed awaited b × (l ≤ most (seen awaited b).code) × (f ≤ most (seen awaited b).notes)
+one_back pool awaited name l f (Body-F.Code code) q hl hf = let s = some_left l awaited.code hl in (s.0, s.1, omega (arith, hf))
+one_back pool awaited name l f (Body-F.Notes notes) q hl hf = let s = some_left f awaited.notes hf in (s.0, omega (arith, hl), s.1)
+one_back pool awaited name l f other q hl hf = absurd q
+
+attributes_back : (pool : List Const) (awaited : Awaited) (attrs : List Attr) → AllByRecursion (IsFormAttribute pool) attrs → codes_count attrs ≤ most awaited.code → notes_count attrs ≤ most awaited.notes → AllFrom seen_by (IsNext pool) awaited attrs
+attributes_back pool awaited [] q hl hf = tt
+attributes_back pool awaited (a ∷ attrs) q hl hf =
+    let v = one_back pool awaited (out-Attr a).name (codes_count attrs) (notes_count attrs) (out-Body (out-Attr a).body) q.0.body hl hf in
+    ((q.0, v.0), attributes_back pool (seen_by awaited a) attrs q.1 v.1 v.2)
+
+one_kind : (pool : List Const) (name : ℕ) (b : Body-F Body Attr Code) → IsFormBody pool name b → one_if_code b + one_if_notes b ≡ 1
+one_kind pool name (Body-F.Code code) q = refl
+one_kind pool name (Body-F.Notes notes) q = refl
+one_kind pool name other q = absurd q
+
+counted : (pool : List Const) (attrs : List Attr) → AllByRecursion (IsFormAttribute pool) attrs → length attrs ≡ codes_count attrs + notes_count attrs
+counted pool [] q = refl
+counted pool (a ∷ attrs) q =
+    let k = one_kind pool (out-Attr a).name (out-Body (out-Attr a).body) q.0.body in
+    let t = counted pool attrs q.1 in
+    omega (arith, k, t)
+
+attributes_same : (awaited : Awaited) (attrs : List Attr) → spelled_by (λ awaited attr. method_attribute_bytes attr) seen_by awaited attrs ≡ flat_map method_attribute_bytes attrs
+attributes_same awaited [] = refl
+attributes_same awaited (a ∷ attrs) = rw (attributes_same (seen_by awaited a) attrs, flat_map-cons) refl
+
+-- so many attributes, where one alone is Code
+right_counts : (n codes notes : ℕ) (one two : Bool) → eqb n 1 ≡ one → eqb n 2 ≡ two → one || two ≡ true → codes ≤ 1 → notes ≤ most two → n ≡ codes + notes → (codes ≡ 1) × (notes ≤ 1)
+right_counts n codes notes true true one two is hc hn sum = absurd (omega (arith, eqb-true _ _ one, eqb-true _ _ two))
+right_counts n codes notes true false one two is hc hn sum = let k = eqb-true _ _ one in (omega (arith, k, hn, sum), omega (arith, hn))
+right_counts n codes notes false true one two is hc hn sum = let k = eqb-true _ _ two in (omega (arith, k, hc, hn, sum), hn)
+right_counts n codes notes false false one two is hc hn sum = absurd cc
+
+or_true : (a b : Bool) → b ≡ true → a || b ≡ true
+or_true true b e = refl
+or_true false b e = e
+
+counts_again : (n notes : ℕ) → notes ≤ 1 → n ≡ 1 + notes → (notes ≤ most (eqb n 2)) × (is_attribute_count n ≡ true)
+counts_again n notes few sum =
+    elim (cases_lt notes 1) [
+      | inl lt ↦ let one : eqb n 1 ≡ true = eq-eqb _ _ (omega (arith, lt, sum)) in (omega (arith, lt), rw one refl)
+      | inr le ↦ let two : eqb n 2 ≡ true = eq-eqb _ _ (omega (arith, few, le, sum)) in (rw two few, or_true (eqb n 1) (eqb n 2) two)
+    ]
+
+abbrev attrs_bytes : List Attr → List ℕ
+attrs_bytes attrs = flat_map method_attribute_bytes attrs
+
+counted_codec : (pool : List Const) (file_end n : ℕ) → is_attribute_count n ≡ true → IsCodecAt (many_from (method_attribute_at pool file_end) (awaited_of n) n) (λ at. attrs_bytes) (λ attrs. IsFormAttributes pool attrs × (length attrs ≡ n))
+counted_codec pool file_end n known =
+    let read = many_from (method_attribute_at pool file_end) (awaited_of n) n in
+    renamed read (λ at. attrs_bytes) (λ attrs. AllFrom seen_by (IsNext pool) (awaited_of n) attrs × (length attrs ≡ n)) (λ attrs. IsFormAttributes pool attrs × (length attrs ≡ n))
+    (respelled read (λ at. spelled_by (λ awaited attr. method_attribute_bytes attr) seen_by (awaited_of n)) (λ at. attrs_bytes) (λ attrs. AllFrom seen_by (IsNext pool) (awaited_of n) attrs × (length attrs ≡ n))
+    (from_codec (method_attribute_at pool file_end) (λ awaited attr. method_attribute_bytes attr) seen_by (IsNext pool) (attribute_step pool file_end) (awaited_of n) n)
+    (λ attrs q at. attributes_same (awaited_of n) attrs))
+    (λ attrs q.
+    let t = attributes_there pool (awaited_of n) attrs q.0 in
+    let c = right_counts n (codes_count attrs) (notes_count attrs) _ _ refl refl known t.1 t.2 (sym q.1 ∙ counted pool attrs t.0) in
+    (record { all = t.0; one_code = c.0; one_notes = c.1 }, q.1))
+    (λ attrs q.
+    let c = counts_again n (notes_count attrs) q.0.one_notes (sym q.1 ∙ counted pool attrs q.0.all ∙ ap (λ (k : ℕ). k + notes_count attrs) q.0.one_code) in
+    (attributes_back pool (awaited_of n) attrs q.0.all (omega (arith, q.0.one_code)) c.0, q.1))
+
+abbrev attributes_bytes : List Attr → List ℕ
+attributes_bytes attrs = to_be_bytes w16 (length attrs) ++ attrs_bytes attrs
+
+attributes_codec : (pool : List Const) (file_end : ℕ) → IsCodecAt (method_attributes_at pool file_end) (λ at. attributes_bytes) (IsFormAttributes pool)
+unfolding method_attributes_at
+attributes_codec pool file_end =
+    chain (number_where w16 is_attribute_count) (λ at. to_be_bytes w16) (λ n. Short n × (is_attribute_count n ≡ true)) (λ i n j. many_from (method_attribute_at pool file_end) (awaited_of n) n j) (λ attrs. length attrs) (λ at. attrs_bytes) (IsFormAttributes pool)
+    (where_codec is_attribute_count)
+    (λ i n p. counted_codec pool file_end n p.1)
+    (λ attrs q.
+    let sum : length attrs ≡ 1 + notes_count attrs = counted pool attrs q.all ∙ ap (λ (k : ℕ). k + notes_count attrs) q.one_code in
+    (omega (arith, sum, q.one_notes), (counts_again (length attrs) (notes_count attrs) q.one_notes sum).1))
 
 -- ---- methods
 
-abbrev from_attribute : List Const → ℕ → ℕ → ℕ → ℕ → FormReader Member
-from_attribute pool file_end flags name desc input = method_attribute_at pool file_end input >>= λ code. Ok (record { flags = flags; name = name; desc = desc; attrs = code.0 ∷ [] }, code.1)
-
 abbrev from_attributes : List Const → ℕ → ℕ → ℕ → ℕ → FormReader Member
-from_attributes pool file_end flags name desc input = number_where w16 (λ n. eqb n 1) input >>= λ count. from_attribute pool file_end flags name desc count.1
+from_attributes pool file_end flags name desc input = method_attributes_at pool file_end input >>= λ attrs. Ok (record { flags = flags; name = name; desc = desc; attrs = attrs.0 }, attrs.1)
 
 abbrev from_desc : List Const → ℕ → ℕ → ℕ → FormReader Member
 from_desc pool file_end flags name input = number_where w16 (names_form_descriptor pool) input >>= λ desc. from_attributes pool file_end flags name desc.0 desc.1
@@ -300,14 +330,11 @@ from_desc pool file_end flags name input = number_where w16 (names_form_descript
 abbrev from_name : List Const → ℕ → ℕ → FormReader Member
 from_name pool file_end flags input = number_where w16 (names_method_name pool) input >>= λ name. from_desc pool file_end flags name.0 name.1
 
-abbrev attrs_bytes : Member → List ℕ
-attrs_bytes m = flat_map method_attribute_bytes m.attrs
-
-abbrev attributes_bytes : Member → List ℕ
-attributes_bytes m = to_be_bytes w16 (length m.attrs) ++ attrs_bytes m
+abbrev behind_desc_bytes : Member → List ℕ
+behind_desc_bytes m = attributes_bytes m.attrs
 
 abbrev desc_bytes : Member → List ℕ
-desc_bytes m = to_be_bytes w16 m.desc ++ attributes_bytes m
+desc_bytes m = to_be_bytes w16 m.desc ++ behind_desc_bytes m
 
 abbrev name_bytes : Member → List ℕ
 name_bytes m = to_be_bytes w16 m.name ++ desc_bytes m
@@ -321,41 +348,17 @@ Of-named pool flags name m = Of-flags pool flags m × (m.name ≡ name)
 abbrev Of-desc : List Const → ℕ → ℕ → ℕ → Member → Type 0
 Of-desc pool flags name desc m = Of-named pool flags name m × (m.desc ≡ desc)
 
-abbrev Of-attributes : List Const → ℕ → ℕ → ℕ → ℕ → Member → Type 0
-Of-attributes pool flags name desc count m = Of-desc pool flags name desc m × (length m.attrs ≡ count)
-
-one_attr : (pool : List Const) (attrs : List Attr) → IsFormAttributes pool attrs → (attr : Attr) × IsFormAttribute pool attr × (attr ∷ [] ≡ attrs)
-one_attr pool [] q = absurd q
-one_attr pool (attr ∷ []) q = (attr, q, refl)
-one_attr pool (attr ∷ other ∷ attrs) q = absurd q
-
-one_bytes : (attr : Attr) → flat_map method_attribute_bytes (attr ∷ []) ≡ method_attribute_bytes attr
-one_bytes attr = rw flat_map-cons (append-nil (method_attribute_bytes attr))
-
-attribute_of : (pool : List Const) (file_end flags name desc count : ℕ) → Short flags → Short name → names_method_name pool name ≡ true → Short desc → names_form_descriptor pool desc ≡ true → eqb count 1 ≡ true
-    → IsCodecAt (from_attribute pool file_end flags name desc) (λ at. attrs_bytes) (Of-attributes pool flags name desc count)
-attribute_of pool file_end flags name desc count lf ln named ld typed one =
-    made_by (method_attribute_at pool file_end) method_attribute_bytes (IsFormAttribute pool) (λ code. record { flags = flags; name = name; desc = desc; attrs = code ∷ [] }) attrs_bytes (Of-attributes pool flags name desc count)
-    (method_attribute_codec pool file_end)
-    (λ attr p. (((((record { flags = lf; name = ln; named = named; desc = ld; typed = typed; attrs = p }, refl), refl), refl), sym (eqb-true _ _ one)), one_bytes attr))
-    (λ m q.
-    let k = one_attr pool m.attrs q.0.0.0.0.attrs in
-    (k.0, k.1, λ i. record { flags = sym q.0.0.0.1 i; name = sym q.0.0.1 i; desc = sym q.0.1 i; attrs = k.2 i }))
-
 attributes_of : (pool : List Const) (file_end flags name desc : ℕ) → Short flags → Short name → names_method_name pool name ≡ true → Short desc → names_form_descriptor pool desc ≡ true
-    → IsCodecAt (from_attributes pool file_end flags name desc) (λ at. attributes_bytes) (Of-desc pool flags name desc)
+    → IsCodecAt (from_attributes pool file_end flags name desc) (λ at. behind_desc_bytes) (Of-desc pool flags name desc)
 attributes_of pool file_end flags name desc lf ln named ld typed =
-    chain (number_where w16 (λ n. eqb n 1)) (λ at. to_be_bytes w16) (λ n. Short n × (eqb n 1 ≡ true)) (λ i count j. from_attribute pool file_end flags name desc j) (λ m. length m.attrs) (λ at. attrs_bytes) (Of-desc pool flags name desc)
-    (where_codec (λ n. eqb n 1))
-    (λ i count p. attribute_of pool file_end flags name desc count lf ln named ld typed p.1)
-    (λ m q.
-    let k = one_attr pool m.attrs q.0.0.0.attrs in
-    let one : length m.attrs ≡ 1 = ap length (sym k.2) in
-    (omega (arith, one), eq-eqb _ _ one))
+    made_by (method_attributes_at pool file_end) attributes_bytes (IsFormAttributes pool) (λ attrs. record { flags = flags; name = name; desc = desc; attrs = attrs }) behind_desc_bytes (Of-desc pool flags name desc)
+    (attributes_codec pool file_end)
+    (λ attrs p. ((((record { flags = lf; name = ln; named = named; desc = ld; typed = typed; attrs = p }, refl), refl), refl), refl))
+    (λ m q. (m.attrs, q.0.0.0.attrs, λ i. record { flags = sym q.0.0.1 i; name = sym q.0.1 i; desc = sym q.1 i; attrs = m.attrs }))
 
 desc_of : (pool : List Const) (file_end flags name : ℕ) → Short flags → Short name → names_method_name pool name ≡ true → IsCodecAt (from_desc pool file_end flags name) (λ at. desc_bytes) (Of-named pool flags name)
 desc_of pool file_end flags name lf ln named =
-    chain (number_where w16 (names_form_descriptor pool)) (λ at. to_be_bytes w16) (λ n. Short n × (names_form_descriptor pool n ≡ true)) (λ i desc j. from_attributes pool file_end flags name desc j) (λ m. m.desc) (λ at. attributes_bytes) (Of-named pool flags name)
+    chain (number_where w16 (names_form_descriptor pool)) (λ at. to_be_bytes w16) (λ n. Short n × (names_form_descriptor pool n ≡ true)) (λ i desc j. from_attributes pool file_end flags name desc j) (λ m. m.desc) (λ at. behind_desc_bytes) (Of-named pool flags name)
     (where_codec (names_form_descriptor pool))
     (λ i desc p. attributes_of pool file_end flags name desc lf ln named p.0 p.1)
     (λ m q. (q.0.0.desc, q.0.0.typed))

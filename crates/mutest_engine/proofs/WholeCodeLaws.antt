@@ -6,6 +6,7 @@ use Rattle.std.proofs.lemmas.Bool.{eqb-true, eq-eqb, ne_eqb, ltb-true, lt-ltb, c
 use Rattle.std.proofs.lemmas.Int.{ints}
 use Rattle.std.proofs.lemmas.List.{get_or_past, get_or_append_left}
 use Rattle.std.proofs.lemmas.List.Quantifiers.{position-Some}
+use Rattle.class_model.specs.declared.constant.Const.{Const}
 use Rattle.class_model.specs.declared.instruction.Insn.{Insn}
 use Rattle.class_model.specs.declared.instruction.Arg.{Arg}
 use Rattle.class_model.specs.declared.instruction.Arg.TheVariants as arg
@@ -92,6 +93,7 @@ raw_size op (raw_arg.Byte n) e = rw e refl
 raw_size op (raw_arg.Short n) e = rw e refl
 raw_size op (raw_arg.Local n) e = rw e refl
 raw_size op (raw_arg.Jump n) e = rw e refl
+raw_size op (raw_arg.Method n) e = rw e refl
 
 -- ---- one instruction
 
@@ -124,6 +126,7 @@ means places base at op raw_arg.None insn k e = subst (Means places at op raw_ar
 means places base at op (raw_arg.Byte n) insn k e = subst (Means places at op (raw_arg.Byte n)) (ok_is {F = FormFault} _ _ e) (refl, refl, tt, number_raw op n _ k (inl refl))
 means places base at op (raw_arg.Short n) insn k e = subst (Means places at op (raw_arg.Short n)) (ok_is {F = FormFault} _ _ e) (refl, refl, tt, number_raw op n _ k (inr refl))
 means places base at op (raw_arg.Local n) insn k e = subst (Means places at op (raw_arg.Local n)) (ok_is {F = FormFault} _ _ e) (refl, refl, tt, refl)
+means places base at op (raw_arg.Method n) insn k e = subst (Means places at op (raw_arg.Method n)) (ok_is {F = FormFault} _ _ e) (refl, refl, tt, refl)
 means places base at op (raw_arg.Jump n) insn k e = jump_means places base at op n (target_of places at n) refl insn e
 
 -- a value of the form is spelled by a raw instruction that means it
@@ -135,79 +138,80 @@ resolved_again : (places : List ℕ) (base at op : ℕ) (a : Arg) → ((k : ℕ)
 resolved_again places base at op arg.None known q = refl
 resolved_again places base at op (arg.Number n) known q = number_again_raw places base at op n (operand_of op)
 resolved_again places base at op (arg.Local n) known q = refl
+resolved_again places base at op (arg.Pool n) known q = refl
 resolved_again places base at op (arg.To target) known q = rw (behind_again at (slice_index places target), known target q) refl
 resolved_again places base at op other known q = absurd q
 
 -- ---- all instructions
 
-insn_len : (raw : RawInsn) → IsRaw raw → size_of raw ≡ operand_size (operand_of raw.op) + 1
-insn_len raw q = ap (λ (n : ℕ). n + 1) (raw_size raw.op raw.arg q.kind)
+insn_len : (pool : List Const) (raw : RawInsn) → IsRaw pool raw → size_of raw ≡ operand_size (operand_of raw.op) + 1
+insn_len pool raw q = ap (λ (n : ℕ). n + 1) (raw_size raw.op raw.arg q.kind)
 
-all_mean : (places : List ℕ) (base at : ℕ) (raws : List RawInsn) (insns : List Insn) → AllByRecursion IsRaw raws → resolved_from places base at raws ≡ Ok insns
-    → (spelled_insns places at insns ≡ raws) × AreFormInsns places at insns × (insn_places at insns ≡ places_from at raws)
-all_mean places base at [] insns q e =
-    subst (λ (z : List Insn). (spelled_insns places at z ≡ []) × AreFormInsns places at z × (insn_places at z ≡ [])) (ok_is {F = FormFault} [] insns e) (refl, tt, refl)
-all_mean places base at (raw ∷ raws) insns q e =
+all_mean : (pool : List Const) (places : List ℕ) (base at : ℕ) (raws : List RawInsn) (insns : List Insn) → AllByRecursion (IsRaw pool) raws → resolved_from places base at raws ≡ Ok insns
+    → (spelled_insns places at insns ≡ raws) × AreFormInsns pool places at insns × (insn_places at insns ≡ places_from at raws)
+all_mean pool places base at [] insns q e =
+    subst (λ (z : List Insn). (spelled_insns places at z ≡ []) × AreFormInsns pool places at z × (insn_places at z ≡ [])) (ok_is {F = FormFault} [] insns e) (refl, tt, refl)
+all_mean pool places base at (raw ∷ raws) insns q e =
     let a = bind_ok (resolved places base at raw.op raw.arg) (λ first. resolved_from places base (at + size_of raw) raws >>= λ others. Ok (first ∷ others)) insns e in
     let b = bind_ok (resolved_from places base (at + size_of raw) raws) (λ others. Ok (a.0 ∷ others)) insns a.2 in
     let m = means places base at raw.op raw.arg a.0 q.0.kind a.1 in
-    let size : size_of raw ≡ insn_size a.0 = insn_len raw q.0 ∙ ap (λ (n : ℕ). operand_size (operand_of n) + 1) (sym m.0) in
+    let size : size_of raw ≡ insn_size a.0 = insn_len pool raw q.0 ∙ ap (λ (n : ℕ). operand_size (operand_of n) + 1) (sym m.0) in
     let same : spelled_insn places at a.0 ≡ raw = ap (λ (n : ℕ). record { op = n; arg = spelled_arg places at n a.0.arg }) m.0 ∙ ap (λ (r : RawArg). record { op = raw.op; arg = r }) m.3 in
-    let form : IsFormInsn places at a.0 = record { plain = m.1; target = m.2; fits = subst IsRaw (sym same) q.0 } in
-    let u = all_mean places base (at + size_of raw) raws b.0 q.1 b.1 in
-    let v = subst (λ (n : ℕ). (spelled_insns places n b.0 ≡ raws) × AreFormInsns places n b.0 × (insn_places n b.0 ≡ places_from (at + size_of raw) raws)) (ap (λ (n : ℕ). at + n) size) u in
-    subst (λ (z : List Insn). (spelled_insns places at z ≡ raw ∷ raws) × AreFormInsns places at z × (insn_places at z ≡ places_from at (raw ∷ raws))) (ok_is {F = FormFault} (a.0 ∷ b.0) insns b.2)
+    let form : IsFormInsn pool places at a.0 = record { plain = m.1; target = m.2; fits = subst (IsRaw pool) (sym same) q.0 } in
+    let u = all_mean pool places base (at + size_of raw) raws b.0 q.1 b.1 in
+    let v = subst (λ (n : ℕ). (spelled_insns places n b.0 ≡ raws) × AreFormInsns pool places n b.0 × (insn_places n b.0 ≡ places_from (at + size_of raw) raws)) (ap (λ (n : ℕ). at + n) size) u in
+    subst (λ (z : List Insn). (spelled_insns places at z ≡ raw ∷ raws) × AreFormInsns pool places at z × (insn_places at z ≡ places_from at (raw ∷ raws))) (ok_is {F = FormFault} (a.0 ∷ b.0) insns b.2)
     ((λ i. same i ∷ v.0 i), (form, v.1), ap (λ (z : List ℕ). at ∷ z) v.2)
 
-spelled_raw : (places : List ℕ) (at : ℕ) (insns : List Insn) → AreFormInsns places at insns → AllByRecursion IsRaw (spelled_insns places at insns)
-spelled_raw places at [] q = tt
-spelled_raw places at (insn ∷ insns) q = (q.0.fits, spelled_raw places (at + insn_size insn) insns q.1)
+spelled_raw : (pool : List Const) (places : List ℕ) (at : ℕ) (insns : List Insn) → AreFormInsns pool places at insns → AllByRecursion (IsRaw pool) (spelled_insns places at insns)
+spelled_raw pool places at [] q = tt
+spelled_raw pool places at (insn ∷ insns) q = (q.0.fits, spelled_raw pool places (at + insn_size insn) insns q.1)
 
-same_places : (places : List ℕ) (at : ℕ) (insns : List Insn) → AreFormInsns places at insns → places_from at (spelled_insns places at insns) ≡ insn_places at insns
-same_places places at [] q = refl
-same_places places at (insn ∷ insns) q =
-    let size : size_of (spelled_insn places at insn) ≡ insn_size insn = insn_len (spelled_insn places at insn) q.0.fits in
-    ap (λ (n : ℕ). at ∷ places_from (at + n) (spelled_insns places (at + insn_size insn) insns)) size ∙ ap (λ (z : List ℕ). at ∷ z) (same_places places (at + insn_size insn) insns q.1)
+same_places : (pool : List Const) (places : List ℕ) (at : ℕ) (insns : List Insn) → AreFormInsns pool places at insns → places_from at (spelled_insns places at insns) ≡ insn_places at insns
+same_places pool places at [] q = refl
+same_places pool places at (insn ∷ insns) q =
+    let size : size_of (spelled_insn places at insn) ≡ insn_size insn = insn_len pool (spelled_insn places at insn) q.0.fits in
+    ap (λ (n : ℕ). at ∷ places_from (at + n) (spelled_insns places (at + insn_size insn) insns)) size ∙ ap (λ (z : List ℕ). at ∷ z) (same_places pool places (at + insn_size insn) insns q.1)
 
 plain_insn : (insn : Insn) → insn.wide ≡ false → insn_of insn.op insn.arg ≡ insn
 plain_insn insn e = ap (λ (b : Bool). record { op = insn.op; wide = b; arg = insn.arg }) (sym e)
 
-all_again : (places : List ℕ) (base at : ℕ) (insns : List Insn) → ((k : ℕ) → k < length places → number_at_place places (slice_index places k) ≡ Some k) → AreFormInsns places at insns → resolved_from places base at (spelled_insns places at insns) ≡ Ok insns
-all_again places base at [] known q = refl
-all_again places base at (insn ∷ insns) known q =
-    let size : size_of (spelled_insn places at insn) ≡ insn_size insn = insn_len (spelled_insn places at insn) q.0.fits in
+all_again : (pool : List Const) (places : List ℕ) (base at : ℕ) (insns : List Insn) → ((k : ℕ) → k < length places → number_at_place places (slice_index places k) ≡ Some k) → AreFormInsns pool places at insns → resolved_from places base at (spelled_insns places at insns) ≡ Ok insns
+all_again pool places base at [] known q = refl
+all_again pool places base at (insn ∷ insns) known q =
+    let size : size_of (spelled_insn places at insn) ≡ insn_size insn = insn_len pool (spelled_insn places at insn) q.0.fits in
     let one : resolved places base at insn.op (spelled_arg places at insn.op insn.arg) ≡ Ok insn = resolved_again places base at insn.op insn.arg known q.0.target ∙ ap (λ (z : Insn). Ok z) (plain_insn insn q.0.plain) in
-    rw (one, size, all_again places base (at + insn_size insn) insns known q.1) refl
+    rw (one, size, all_again pool places base (at + insn_size insn) insns known q.1) refl
 
 -- ---- a code
 
 -- what is read as a code is spelled so
-pub code_takes : (input : Input) (x : List Insn × List ℕ) → IsBytes input.bytes → code_at input ≡ Ok x → (insns_bytes x.0 ≡ input.bytes) × AreFormInsns (insn_places 0 x.0) 0 x.0 × (insn_places 0 x.0 ≡ x.1)
+pub code_takes : (pool : List Const) (input : Input) (x : List Insn × List ℕ) → IsBytes input.bytes → code_at pool input ≡ Ok x → (insns_bytes x.0 ≡ input.bytes) × AreFormInsns pool (insn_places 0 x.0) 0 x.0 × (insn_places 0 x.0 ≡ x.1)
 unfolding code_at
-code_takes input x bytes e =
-    let a = bind_ok (until_end insn_at input) (λ raws. resolved_from (places_from 0 raws) input.at 0 raws >>= λ insns. Ok (insns, places_from 0 raws)) x e in
+code_takes pool input x bytes e =
+    let a = bind_ok (until_end (insn_at pool) input) (λ raws. resolved_from (places_from 0 raws) input.at 0 raws >>= λ insns. Ok (insns, places_from 0 raws)) x e in
     let b = bind_ok (resolved_from (places_from 0 a.0) input.at 0 a.0) (λ insns. Ok (insns, places_from 0 a.0)) x a.2 in
     let is : (b.0, places_from 0 a.0) ≡ x = ok_is {F = FormFault} (b.0, places_from 0 a.0) x b.2 in
     let le : length input.bytes ≤ length input.bytes = omega arith in
-    let w = whole_takes insn_at (λ at. raw_bytes) IsRaw insn_codec insn_filled (length input.bytes) input a.0 le bytes a.1 in
-    let m = all_mean (places_from 0 a.0) input.at 0 a.0 b.0 w.1 b.1 in
+    let w = whole_takes (insn_at pool) (λ at. raw_bytes) (IsRaw pool) (insn_codec pool) (insn_filled pool) (length input.bytes) input a.0 le bytes a.1 in
+    let m = all_mean pool (places_from 0 a.0) input.at 0 a.0 b.0 w.1 b.1 in
     let place : places_from 0 a.0 ≡ insn_places 0 b.0 = sym m.2 in
     let spelled : spelled_insns (insn_places 0 b.0) 0 b.0 ≡ a.0 = subst (λ (p : List ℕ). spelled_insns p 0 b.0 ≡ a.0) place m.0 in
     let all : insns_bytes b.0 ≡ input.bytes = ap (flat_map raw_bytes) spelled ∙ sym (spelled_from-flat_map raw_bytes a.0 input.at) ∙ sym w.0 in
-    subst (λ (z : List Insn × List ℕ). (insns_bytes z.0 ≡ input.bytes) × AreFormInsns (insn_places 0 z.0) 0 z.0 × (insn_places 0 z.0 ≡ z.1)) is (all, subst (λ (p : List ℕ). AreFormInsns p 0 b.0) place m.1, m.2)
+    subst (λ (z : List Insn × List ℕ). (insns_bytes z.0 ≡ input.bytes) × AreFormInsns pool (insn_places 0 z.0) 0 z.0 × (insn_places 0 z.0 ≡ z.1)) is (all, subst (λ (p : List ℕ). AreFormInsns pool p 0 b.0) place m.1, m.2)
 
 -- what is spelled as a code is read so
-pub code_again : (at : ℕ) (insns : List Insn) → AreFormInsns (insn_places 0 insns) 0 insns → code_at (input_at at (insns_bytes insns)) ≡ Ok (insns, insn_places 0 insns)
+pub code_again : (pool : List Const) (at : ℕ) (insns : List Insn) → AreFormInsns pool (insn_places 0 insns) 0 insns → code_at pool (input_at at (insns_bytes insns)) ≡ Ok (insns, insn_places 0 insns)
 unfolding code_at
-code_again at insns q =
+code_again pool at insns q =
     let places = insn_places 0 insns in
     let raws = spelled_insns places 0 insns in
     let same : spelled_from (λ at. raw_bytes) at raws ≡ insns_bytes insns = spelled_from-flat_map raw_bytes raws at in
     let le : length (spelled_from (λ at. raw_bytes) at raws) ≤ length (insns_bytes insns) = subst (λ (b : List ℕ). length b ≤ length (insns_bytes insns)) (sym same) (omega arith) in
-    let read = whole_again insn_at (λ at. raw_bytes) IsRaw insn_codec insn_filled (length (insns_bytes insns)) raws at le (spelled_raw places 0 insns q) in
-    let whole : until_end insn_at (input_at at (insns_bytes insns)) ≡ Ok raws = subst (λ (b : List ℕ). whole_at insn_at (length (insns_bytes insns)) (input_at at b) ≡ Ok raws) same read in
-    let place : places_from 0 raws ≡ places = same_places places 0 insns q in
-    rw (whole, place, all_again places at 0 insns (number_again 0 insns) q) refl
+    let read = whole_again (insn_at pool) (λ at. raw_bytes) (IsRaw pool) (insn_codec pool) (insn_filled pool) (length (insns_bytes insns)) raws at le (spelled_raw pool places 0 insns q) in
+    let whole : until_end (insn_at pool) (input_at at (insns_bytes insns)) ≡ Ok raws = subst (λ (b : List ℕ). whole_at (insn_at pool) (length (insns_bytes insns)) (input_at at b) ≡ Ok raws) same read in
+    let place : places_from 0 raws ≡ places = same_places pool places 0 insns q in
+    rw (whole, place, all_again pool places at 0 insns (number_again 0 insns) q) refl
 
 -- the bytes of a code, as so many bytes of a file
 front_fits : (whole front back : List ℕ) → IsBytes whole → whole ≡ front ++ back → IsBytes front
@@ -217,25 +221,25 @@ front_fits whole front back bytes e i =
       | inr le ↦ rw (get_or_past front i 0 le) (omega arith)
     ]
 
-abbrev pub IsCodeOf : ℕ → List Insn × List ℕ → Type 0
-IsCodeOf n x = (length (insns_bytes x.0) ≡ n) × AreFormInsns (insn_places 0 x.0) 0 x.0 × (insn_places 0 x.0 ≡ x.1)
+abbrev pub IsCodeOf : List Const → ℕ → List Insn × List ℕ → Type 0
+IsCodeOf pool n x = (length (insns_bytes x.0) ≡ n) × AreFormInsns pool (insn_places 0 x.0) 0 x.0 × (insn_places 0 x.0 ≡ x.1)
 
-abbrev pub sized_code_at : ℕ → FormReader (List Insn × List ℕ)
-sized_code_at n input = some_bytes n input >>= λ bytes. code_at (record { at = input.at; bytes = bytes.0 }) >>= λ insns. Ok (insns, bytes.1)
+abbrev pub sized_code_at : List Const → ℕ → FormReader (List Insn × List ℕ)
+sized_code_at pool n input = some_bytes n input >>= λ bytes. code_at pool (record { at = input.at; bytes = bytes.0 }) >>= λ insns. Ok (insns, bytes.1)
 
-pub code_codec : (n : ℕ) → IsCodecAt (sized_code_at n) (λ at x. insns_bytes x.0) (IsCodeOf n)
-code_codec n = record {
+pub code_codec : (pool : List Const) (n : ℕ) → IsCodecAt (sized_code_at pool n) (λ at x. insns_bytes x.0) (IsCodeOf pool n)
+code_codec pool n = record {
   takes = λ input x rest bytes e.
-      let a = bind_ok (some_bytes n input) (λ b. code_at (record { at = input.at; bytes = b.0 }) >>= λ insns. Ok (insns, b.1)) (x, rest) e in
+      let a = bind_ok (some_bytes n input) (λ b. code_at pool (record { at = input.at; bytes = b.0 }) >>= λ insns. Ok (insns, b.1)) (x, rest) e in
       let t = (bytes_codec (λ at. fault.Short at n) n).takes input a.0.0 a.0.1 bytes a.1 in
-      let b = bind_ok (code_at (record { at = input.at; bytes = a.0.0 })) (λ insns. Ok (insns, a.0.1)) (x, rest) a.2 in
+      let b = bind_ok (code_at pool (record { at = input.at; bytes = a.0.0 })) (λ insns. Ok (insns, a.0.1)) (x, rest) a.2 in
       let is : (b.0, a.0.1) ≡ (x, rest) = ok_is {F = FormFault} (b.0, a.0.1) (x, rest) b.2 in
-      let c = code_takes (record { at = input.at; bytes = a.0.0 }) b.0 (front_fits input.bytes a.0.0 a.0.1.bytes bytes t.0.parts) b.1 in
+      let c = code_takes pool (record { at = input.at; bytes = a.0.0 }) b.0 (front_fits input.bytes a.0.0 a.0.1.bytes bytes t.0.parts) b.1 in
       let taken : Takes input (insns_bytes b.0.0) a.0.1 = subst (λ (z : List ℕ). Takes input z a.0.1) (sym c.0) t.0 in
       let len : length (insns_bytes b.0.0) ≡ n = ap (λ (z : List ℕ). length z) c.0 ∙ t.1 in
-      subst (λ (z : (List Insn × List ℕ) × Input). Takes input (insns_bytes z.0.0) z.1 × IsCodeOf n z.0) is (taken, (len, c.1, c.2));
+      subst (λ (z : (List Insn × List ℕ) × Input). Takes input (insns_bytes z.0.0) z.1 × IsCodeOf pool n z.0) is (taken, (len, c.1, c.2));
   again = λ x at rest q.
       let one = (bytes_codec (λ at. fault.Short at n) n).again (insns_bytes x.0) at rest q.0 in
-      let two : code_at (input_at at (insns_bytes x.0)) ≡ Ok x = code_again at x.0 q.1 ∙ ap (λ (p : List ℕ). Ok (x.0, p)) q.2 in
+      let two : code_at pool (input_at at (insns_bytes x.0)) ≡ Ok x = code_again pool at x.0 q.1 ∙ ap (λ (p : List ℕ). Ok (x.0, p)) q.2 in
       rw (one, two) refl;
 }

@@ -1,4 +1,4 @@
--- A class file in the form that is read so far (JVMS 4.1): no interface, no field, no attribute of the class, and methods with one attribute, Code.
+-- A class file in the form that is read so far (JVMS 4.1): no interface, no field, no attribute of the class, and methods with Code and at most RuntimeVisibleAnnotations beside it.
 use Rattle.std.specs.Prelude.{ℕ, Bool, true, false, ◌&&◌, ◌||◌, nat_eq, ◌==◌, if◌then◌else◌, List, [], ◌∷◌, ◌+◌, length, codes, Option, Some, None, Result, Ok, Err}
 use Rattle.std.specs.Int.{w16, w32}
 use Rattle.std.specs.Cmp.Lexicographic.{pointwise}
@@ -12,7 +12,7 @@ use Rattle.codec_rules.specs.Sequence.{◌>>=◌}
 use Rattle.codec_rules.specs.Reading.{many_at}
 use Rattle.mutest_engine.specs.Item.{FormReader, number, number_where}
 use Rattle.mutest_engine.specs.PoolForm.{is_some_and, names_class, names_form_descriptor, pool_at}
-use Rattle.mutest_engine.specs.AttributeForm.{method_attribute_at}
+use Rattle.mutest_engine.specs.AttributeForm.{method_attributes_at}
 use Rattle.mutest_engine.specs.declared.fault.FormFault.{FormFault}
 use Rattle.mutest_engine.specs.declared.fault.FormFault.TheVariants as fault
 
@@ -26,9 +26,8 @@ method_at pool file_end input = do
   flags ← number w16 input
   name ← number_where w16 (names_method_name pool) flags.1
   desc ← number_where w16 (names_form_descriptor pool) name.1
-  count ← number_where w16 (λ n. n == 1) desc.1
-  code ← method_attribute_at pool file_end count.1
-  Ok (record { flags = flags.0; name = name.0; desc = desc.0; attrs = code.0 ∷ [] }, code.1)
+  attrs ← method_attributes_at pool file_end desc.1
+  Ok (record { flags = flags.0; name = name.0; desc = desc.0; attrs = attrs.0 }, attrs.1)
 
 -- ---- the head
 

@@ -1,13 +1,15 @@
 -- Instructions in the form that is read so far (JVMS 6.5). They are read one by one, with the offsets of their jumps; once all are known, offsets become instruction numbers.
 use Rattle.std.specs.Prelude.{ℕ, ℤ, pos, negsuc, nat_lt, ◌+◌, ◌-◌, Bool, false, ◌&&◌, ◌||◌, nat_le, ◌==◌, if◌then◌else◌, List, [], ◌∷◌, ◌++◌, length, position, Option, Some, None, option_and_then, Result, Ok, Err}
 use Rattle.std.specs.Int.{w8, w16, to_be_bytes, cast_signed, cast_unsigned}
+use Rattle.class_model.specs.declared.constant.Const.{Const}
 use Rattle.class_model.specs.declared.instruction.Insn.{Insn}
 use Rattle.class_model.specs.declared.instruction.Arg.{Arg}
 use Rattle.class_model.specs.declared.instruction.Arg.TheVariants as arg
 use Rattle.codec_rules.specs.Input.{Input}
 use Rattle.codec_rules.specs.Sequence.{◌>>=◌}
 use Rattle.codec_rules.specs.Reading.{until_end}
-use Rattle.mutest_engine.specs.Item.{FormReader, number, wanted}
+use Rattle.mutest_engine.specs.Item.{FormReader, number, number_where, wanted}
+use Rattle.mutest_engine.specs.PoolForm.{names_method}
 use Rattle.mutest_engine.specs.declared.fault.FormFault.{FormFault}
 use Rattle.mutest_engine.specs.declared.fault.FormFault.TheVariants as fault
 use Rattle.mutest_engine.specs.declared.raw.Operand.{Operand}
@@ -30,6 +32,8 @@ operand_of op =
     else if op == 0x15 || op == 0x36 then Some operand.Local
     -- iload_0 to iload_3
     else if nat_le 0x1a op && nat_le op 0x1d then Some operand.Nothing
+    -- aload_0
+    else if op == 0x2a then Some operand.Nothing
     -- istore_0 to istore_3
     else if nat_le 0x3b op && nat_le op 0x3e then Some operand.Nothing
     -- iadd, isub
@@ -40,22 +44,26 @@ operand_of op =
     else if op == 0xa7 then Some operand.Jump
     -- ireturn, return
     else if op == 0xac || op == 0xb1 then Some operand.Nothing
+    -- invokespecial, invokestatic
+    else if op == 0xb7 || op == 0xb8 then Some operand.Method
     else None
 
 -- ---- one by one
 
-abbrev pub arg_at : Operand → FormReader RawArg
-arg_at operand.Nothing input = Ok (raw_arg.None, input)
-arg_at operand.Byte input = number w8 input >>= λ n. Ok (raw_arg.Byte (cast_signed w8 n.0), n.1)
-arg_at operand.Short input = number w16 input >>= λ n. Ok (raw_arg.Short (cast_signed w16 n.0), n.1)
-arg_at operand.Local input = number w8 input >>= λ n. Ok (raw_arg.Local n.0, n.1)
-arg_at operand.Jump input = number w16 input >>= λ n. Ok (raw_arg.Jump (cast_signed w16 n.0), n.1)
+-- An index of a method is judged at its own place.
+abbrev pub arg_at : List Const → Operand → FormReader RawArg
+arg_at pool operand.Nothing input = Ok (raw_arg.None, input)
+arg_at pool operand.Byte input = number w8 input >>= λ n. Ok (raw_arg.Byte (cast_signed w8 n.0), n.1)
+arg_at pool operand.Short input = number w16 input >>= λ n. Ok (raw_arg.Short (cast_signed w16 n.0), n.1)
+arg_at pool operand.Local input = number w8 input >>= λ n. Ok (raw_arg.Local n.0, n.1)
+arg_at pool operand.Jump input = number w16 input >>= λ n. Ok (raw_arg.Jump (cast_signed w16 n.0), n.1)
+arg_at pool operand.Method input = number_where w16 (names_method pool) input >>= λ n. Ok (raw_arg.Method n.0, n.1)
 
-unfoldable pub raw_at : FormReader RawInsn
-raw_at input = do
+unfoldable pub raw_at : List Const → FormReader RawInsn
+raw_at pool input = do
   op ← number w8 input
   kind ← wanted input.at (operand_of op.0)
-  arg ← arg_at kind op.1
+  arg ← arg_at pool kind op.1
   Ok (record { op = op.0; arg = arg.0 }, arg.1)
 
 -- An instruction that passes the end of the code is named itself.
@@ -64,8 +72,8 @@ within_code at (Ok value) = Ok value
 within_code at (Err (fault.Short place need)) = Err (fault.NotYet at)
 within_code at (Err other) = Err other
 
-abbrev pub insn_at : FormReader RawInsn
-insn_at input = within_code input.at (raw_at input)
+abbrev pub insn_at : List Const → FormReader RawInsn
+insn_at pool input = within_code input.at (raw_at pool input)
 
 -- ---- from offsets to instruction numbers
 
@@ -76,6 +84,7 @@ arg_size (raw_arg.Byte n) = 1
 arg_size (raw_arg.Short n) = 2
 arg_size (raw_arg.Local n) = 1
 arg_size (raw_arg.Jump n) = 2
+arg_size (raw_arg.Method n) = 2
 
 abbrev pub size_of : RawInsn → ℕ
 size_of raw = arg_size raw.arg + 1
@@ -112,6 +121,7 @@ resolved places base at op raw_arg.None = Ok (insn_of op arg.None)
 resolved places base at op (raw_arg.Byte n) = Ok (insn_of op (arg.Number n))
 resolved places base at op (raw_arg.Short n) = Ok (insn_of op (arg.Number n))
 resolved places base at op (raw_arg.Local n) = Ok (insn_of op (arg.Local n))
+resolved places base at op (raw_arg.Method n) = Ok (insn_of op (arg.Pool n))
 resolved places base at op (raw_arg.Jump offset) = wanted (base + at) (target_of places at offset) >>= λ number. Ok (insn_of op (arg.To number))
 
 abbrev pub resolved_from : List ℕ → ℕ → ℕ → List RawInsn → Result (List Insn) FormFault
@@ -120,8 +130,8 @@ resolved_from places base at (raw ∷ raws) =
     resolved places base at raw.op raw.arg >>= λ first. resolved_from places base (at + size_of raw) raws >>= λ others. Ok (first ∷ others)
 
 -- the instructions of a code, and where they begin in it
-unfoldable pub code_at : Input → Result (List Insn × List ℕ) FormFault
-code_at input = do
-  raws ← until_end insn_at input
+unfoldable pub code_at : List Const → Input → Result (List Insn × List ℕ) FormFault
+code_at pool input = do
+  raws ← until_end (insn_at pool) input
   insns ← resolved_from (places_from 0 raws) input.at 0 raws
   Ok (insns, places_from 0 raws)

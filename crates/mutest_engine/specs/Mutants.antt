@@ -71,8 +71,15 @@ line_at rows at = unwrap_or (option_map (λ row. row.1) (line_row at rows)) 0
 abbrev pub is_int_jump : ℕ → Bool
 is_int_jump op = nat_le 0x99 op && nat_le op 0xa4
 
+-- one of these that compares by order: iflt to ifle, if_icmplt to if_icmple
+abbrev pub is_ordered_jump : ℕ → Bool
+is_ordered_jump op = nat_le 0x9b op && nat_le op 0x9e || nat_le 0xa1 op && nat_le op 0xa4
+
+abbrev pub if_so : Bool → Mutator → List Mutator
+if_so applies mutator = if applies then mutator ∷ [] else []
+
 abbrev pub mutators_of : Insn → List Mutator
-mutators_of insn = if is_int_jump insn.op then mutator.NegateConditionals ∷ [] else []
+mutators_of insn = if_so (is_ordered_jump insn.op) mutator.ConditionalsBoundary ++ if_so (is_int_jump insn.op) mutator.NegateConditionals
 
 -- ---- mutants
 

@@ -1,9 +1,9 @@
 -- The constant pool in the form that is read so far (JVMS 4.4): texts in ASCII without byte 0, classes, methods and pairs.
-use Rattle.std.specs.Prelude.{ℕ, zero, suc, ◌+◌, ◌-◌, Bool, true, false, ◌&&◌, ◌||◌, not, nat_lt, nat_eq, ◌==◌, is_some, if◌then◌else◌, List, [], ◌∷◌, ◌++◌, length, slice_index, codes, Option, Some, None, option_and_then, Result, Ok, Err}
+use Rattle.std.specs.Prelude.{ℕ, zero, suc, ◌+◌, ◌-◌, Bool, true, false, ◌&&◌, ◌||◌, not, nat_lt, nat_eq, ◌==◌, is_some, is_ok, if◌then◌else◌, List, [], ◌∷◌, ◌++◌, length, slice_index, codes, Option, Some, None, option_and_then, Result, Ok, Err}
 use Rattle.std.specs.List.{list_all, flat_map, starts_with}
 use Rattle.std.specs.Int.{w8, w16, to_be_bytes}
 use Rattle.class_model.specs.Pool.{entry_of, text_of, class_in, pair_in}
-use Rattle.class_model.specs.DescriptorReading.{field_type_of}
+use Rattle.class_model.specs.DescriptorReading.{field_type_of, field_kind}
 use Rattle.class_model.specs.declared.constant.Const.{Const}
 use Rattle.class_model.specs.declared.constant.Const.TheVariants as const
 use Rattle.codec_rules.specs.Input.{Input}
@@ -106,6 +106,17 @@ names_field_descriptor pool index = is_some_and (λ desc. is_some (field_type_of
 -- A method's pair has no field's descriptor. Whether its descriptor is in the form is asked of the pair itself.
 abbrev pub names_method_pair : List Const → ℕ → Bool
 names_method_pair pool index = is_some_and (λ pair. not (names_field_descriptor pool pair.1)) (option_and_then pair_in (entry_of pool index))
+
+-- a field's descriptor without floats
+abbrev pub names_kind : List Const → ℕ → Bool
+names_kind pool index = is_some_and (λ desc. is_ok (field_kind desc)) (text_of pool index)
+
+abbrev pub is_method : Const → Bool
+is_method (const.Method class pair) = true
+is_method other = false
+
+abbrev pub names_method : List Const → ℕ → Bool
+names_method pool index = is_some_and is_method (entry_of pool index)
 
 -- the place of the first index in an entry at a place that isn't in the form
 abbrev pub bad_index : List Const → ℕ → Const → Option ℕ

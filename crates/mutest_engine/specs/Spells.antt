@@ -7,6 +7,7 @@ use Rattle.class_model.specs.declared.constant.Const.TheVariants as const
 use Rattle.class_model.specs.declared.instruction.Insn.{Insn}
 use Rattle.class_model.specs.declared.instruction.Arg.{Arg}
 use Rattle.class_model.specs.declared.instruction.Arg.TheVariants as arg
+use Rattle.class_model.specs.declared.annotation.Note.{Note, out-Note}
 use Rattle.class_model.specs.declared.frame.Frame.{Frame}
 use Rattle.class_model.specs.declared.frame.Shape.TheVariants as shape
 use Rattle.class_model.specs.declared.attribute.Attr.{Attr, out-Attr}
@@ -15,7 +16,7 @@ use Rattle.class_model.specs.declared.attribute.Body.{Body, out-Body}
 use Rattle.class_model.specs.declared.attribute.Body.TheOpen.{Body-F}
 use Rattle.class_model.specs.declared.class.Class.{Class}
 use Rattle.class_model.specs.declared.class.Member.{Member}
-use Rattle.mutest_engine.specs.PoolForm.{entry, is_plain, names_plain_text, names_text, names_class, names_form_descriptor, names_method_pair}
+use Rattle.mutest_engine.specs.PoolForm.{entry, is_plain, names_plain_text, names_text, names_class, names_kind, names_form_descriptor, names_method_pair}
 use Rattle.mutest_engine.specs.CodeForm.{operand_of}
 use Rattle.mutest_engine.specs.CodeSpelling.{raw_bytes, IsRaw}
 use Rattle.mutest_engine.specs.AttributeForm.{names}
@@ -52,6 +53,7 @@ operand_size (Some operand.Byte) = 1
 operand_size (Some operand.Short) = 2
 operand_size (Some operand.Local) = 1
 operand_size (Some operand.Jump) = 2
+operand_size (Some operand.Method) = 2
 operand_size None = 0
 
 abbrev pub insn_size : Insn → ℕ
@@ -71,6 +73,7 @@ spelled_number other n = raw_arg.Short n
 abbrev pub spelled_arg : List ℕ → ℕ → ℕ → Arg → RawArg
 spelled_arg places at op (arg.Number n) = spelled_number (operand_of op) n
 spelled_arg places at op (arg.Local n) = raw_arg.Local n
+spelled_arg places at op (arg.Pool n) = raw_arg.Method n
 spelled_arg places at op (arg.To target) = raw_arg.Jump (pos (slice_index places target) -ℤ pos at)
 spelled_arg places at op other = raw_arg.None
 
@@ -90,18 +93,19 @@ abbrev pub IsFormArg : List ℕ → Arg → Type 0
 IsFormArg places arg.None = ⊤
 IsFormArg places (arg.Number n) = ⊤
 IsFormArg places (arg.Local n) = ⊤
+IsFormArg places (arg.Pool n) = ⊤
 IsFormArg places (arg.To target) = target < length places
 IsFormArg places other = ⊥
 
--- The operand is the opcode's, and its number, which of a jump is how far its target is, is in the operand's range.
-pub record IsFormInsn (places : List ℕ) (at : ℕ) (insn : Insn) : Type 0 where
+-- The operand is the opcode's, and its number, which of a jump is how far its target is, is in the operand's range. An index names a method.
+pub record IsFormInsn (pool : List Const) (places : List ℕ) (at : ℕ) (insn : Insn) : Type 0 where
   pub plain : insn.wide ≡ false
   pub target : IsFormArg places insn.arg
-  pub fits : IsRaw (spelled_insn places at insn)
+  pub fits : IsRaw pool (spelled_insn places at insn)
 
-abbrev pub AreFormInsns : List ℕ → ℕ → List Insn → Type 0
-AreFormInsns places at [] = ⊤
-AreFormInsns places at (insn ∷ insns) = IsFormInsn places at insn × AreFormInsns places (at + insn_size insn) insns
+abbrev pub AreFormInsns : List Const → List ℕ → ℕ → List Insn → Type 0
+AreFormInsns pool places at [] = ⊤
+AreFormInsns pool places at (insn ∷ insns) = IsFormInsn pool places at insn × AreFormInsns pool places (at + insn_size insn) insns
 
 -- ---- lines (JVMS 4.7.12): where each line begins, and the line
 
@@ -192,30 +196,60 @@ pub record IsFormCode (pool : List Const) (code : Code) : Type 0 where
   pub max_locals : (out-Code code).max_locals < 2 ^ 16
   pub some : 0 < length (insns_bytes (out-Code code).insns)
   pub few : length (insns_bytes (out-Code code).insns) < 2 ^ 16
-  pub insns : AreFormInsns (insn_places 0 (out-Code code).insns) 0 (out-Code code).insns
+  pub insns : AreFormInsns pool (insn_places 0 (out-Code code).insns) 0 (out-Code code).insns
   pub rows : (out-Code code).rows ≡ []
   pub tables : AllByRecursion (IsFormTable pool (insn_places 0 (out-Code code).insns)) (out-Code code).attrs
   pub one_lines : lines_count (out-Code code).attrs ≤ 1
   pub one_frames : frames_count (out-Code code).attrs ≤ 1
 
--- ---- the attribute of a method
+-- ---- annotations without elements (JVMS 4.7.16)
+
+abbrev pub note_bytes : Note → List ℕ
+note_bytes note = to_be_bytes w16 (out-Note note).kind ++ to_be_bytes w16 (length (out-Note note).pairs)
+
+-- Its type is a field's descriptor without floats.
+pub record IsFormNote (pool : List Const) (note : Note) : Type 0 where
+  pub kind : (out-Note note).kind < 2 ^ 16
+  pub named : IsTrue (names_kind pool (out-Note note).kind)
+  pub pairs : (out-Note note).pairs ≡ []
+
+-- ---- an attribute of a method
 
 abbrev pub body_content : Body-F Body Attr Code → List ℕ
 body_content (Body-F.Code code) = code_content code
+body_content (Body-F.Notes notes) = to_be_bytes w16 (length notes) ++ flat_map note_bytes notes
 body_content other = []
 
 abbrev pub method_attribute_bytes : Attr → List ℕ
 method_attribute_bytes attr = attribute_bytes (out-Attr attr).name (body_content (out-Body (out-Attr attr).body))
 
-abbrev pub IsFormBody : List Const → Body-F Body Attr Code → Type 0
-IsFormBody pool (Body-F.Code code) = IsFormCode pool code
-IsFormBody pool other = ⊥
+abbrev pub IsFormBody : List Const → ℕ → Body-F Body Attr Code → Type 0
+IsFormBody pool name (Body-F.Code code) = IsTrue (names pool name (codes "Code")) × IsFormCode pool code
+IsFormBody pool name (Body-F.Notes notes) = IsTrue (names pool name (codes "RuntimeVisibleAnnotations")) × (length notes < 2 ^ 16) × AllByRecursion (IsFormNote pool) notes
+IsFormBody pool name other = ⊥
 
 pub record IsFormAttribute (pool : List Const) (attr : Attr) : Type 0 where
   pub name : (out-Attr attr).name < 2 ^ 16
-  pub named : IsTrue (names pool (out-Attr attr).name (codes "Code"))
-  pub body : IsFormBody pool (out-Body (out-Attr attr).body)
+  pub body : IsFormBody pool (out-Attr attr).name (out-Body (out-Attr attr).body)
   pub size : length (body_content (out-Body (out-Attr attr).body)) < 2 ^ 32
+
+abbrev pub one_if_code : Body-F Body Attr Code → ℕ
+one_if_code (Body-F.Code code) = 1
+one_if_code other = 0
+
+abbrev pub one_if_notes : Body-F Body Attr Code → ℕ
+one_if_notes (Body-F.Notes notes) = 1
+one_if_notes other = 0
+
+-- how many attributes are Code
+abbrev pub codes_count : List Attr → ℕ
+codes_count [] = 0
+codes_count (attr ∷ attrs) = one_if_code (out-Body (out-Attr attr).body) + codes_count attrs
+
+-- how many are RuntimeVisibleAnnotations
+abbrev pub notes_count : List Attr → ℕ
+notes_count [] = 0
+notes_count (attr ∷ attrs) = one_if_notes (out-Body (out-Attr attr).body) + notes_count attrs
 
 -- ---- methods (JVMS 4.6)
 
@@ -227,10 +261,11 @@ method_bytes method =
     ++ to_be_bytes w16 (length method.attrs)
     ++ flat_map method_attribute_bytes method.attrs
 
--- A method has one attribute.
-abbrev pub IsFormAttributes : List Const → List Attr → Type 0
-IsFormAttributes pool (attr ∷ []) = IsFormAttribute pool attr
-IsFormAttributes pool other = ⊥
+-- A method has Code once, and RuntimeVisibleAnnotations at most once, in either order.
+pub record IsFormAttributes (pool : List Const) (attrs : List Attr) : Type 0 where
+  pub all : AllByRecursion (IsFormAttribute pool) attrs
+  pub one_code : codes_count attrs ≡ 1
+  pub one_notes : notes_count attrs ≤ 1
 
 pub record IsFormMethod (pool : List Const) (method : Member) : Type 0 where
   pub flags : method.flags < 2 ^ 16

@@ -1,11 +1,11 @@
-//! Attributes: Code (JVMS 4.7.3), LineNumberTable (JVMS 4.7.12) and StackMapTable (JVMS 4.7.4).
+//! The content of Code (JVMS 4.7.3), with LineNumberTable (JVMS 4.7.12) and StackMapTable (JVMS 4.7.4).
 
 ghost use Rattle.std.specs.Prelude.{◌≡◌, ◌+◌, ◌<◌, ◌≤◌, ◌^◌, ◌==◌, nat_le, length, true};
 ghost use Rattle.std.specs.Int.{w16};
 ghost use Rattle.codec_rules.specs.Meets.{Reads};
 ghost use Rattle.codec_rules.specs.Reading.{many_at};
 ghost use Rattle.mutest_engine.specs.Item.{content, many_from, number_where, ReadsFrom};
-ghost use Rattle.mutest_engine.specs.AttributeForm.{row_at, rows_at, frame_at, frames_at, names, lines_at, stack_map_at, inner_at, is_code_length, code_content_at, method_attribute_at};
+ghost use Rattle.mutest_engine.specs.AttributeForm.{row_at, rows_at, frame_at, frames_at, names, lines_at, stack_map_at, inner_at, is_code_length, code_content_at};
 ghost use Rattle.mutest_engine.specs.declared.fault.FormFault.TheVariants as form_fault;
 
 use crate::content::{closed, opened};
@@ -18,9 +18,6 @@ use class_model::{Attr, Body, Code, Const, Frame, Seq, Shape};
 use mt_bytes::Cursor;
 use std::alloc::Global;
 
-/// `Code`
-const CODE: [u16; 4] = [67, 111, 100, 101];
-
 /// `LineNumberTable`
 const LINE_NUMBER_TABLE: [u16; 15] = [
     76, 105, 110, 101, 78, 117, 109, 98, 101, 114, 84, 97, 98, 108, 101,
@@ -29,7 +26,8 @@ const LINE_NUMBER_TABLE: [u16; 15] = [
 /// `StackMapTable`
 const STACK_MAP_TABLE: [u16; 13] = [83, 116, 97, 99, 107, 77, 97, 112, 84, 97, 98, 108, 101];
 
-fn names(pool: &[Const], index: u16, name: &[u16]) -> bool
+/// Whether an index names this text.
+pub fn names(pool: &[Const], index: u16, name: &[u16]) -> bool
     ensures { result ≡ names pool.now index name.now }
 {
     match text_of(pool, index) {
@@ -239,8 +237,8 @@ fn at_most(cur: &mut Cursor, most: u16) -> Result<u16, FormFault>
     }
 }
 
-// A count that has to be 0.
-fn none(cur: &mut Cursor) -> Result<u16, FormFault>
+/// A count that has to be 0.
+pub fn none(cur: &mut Cursor) -> Result<u16, FormFault>
     ensures { Reads form_fault.Memory (number_where w16 (λ n. n == 0)) cur.old cur.new result }
 {
     let at = cur.at();
@@ -258,8 +256,9 @@ fn is_code_length(len: u32) -> bool
     0 < len && len < 0x1_0000
 }
 
+/// The content of Code, in the attribute that begins at `first`.
 #[tactic(auto, unfolding(crate::specs::AttributeForm::code_content_at))]
-fn read_code_content(
+pub fn read_code_content(
     alloc: Global,
     pool: &[Const],
     file_end: u64,
@@ -276,7 +275,7 @@ fn read_code_content(
     }
     let base = cur.at();
     let bytes = take(cur, len)?;
-    let (insns, places) = read_code(alloc, bytes, base)?;
+    let (insns, places) = read_code(alloc, pool, bytes, base)?;
     none(cur)?;
     let count = at_most(cur, 2)?;
     let attrs = read_counted_inner(alloc, pool, file_end, places.as_slice(), count, cur)?;
@@ -289,40 +288,3 @@ fn read_code_content(
     })
 }
 
-fn read_code_attribute(
-    alloc: Global,
-    pool: &[Const],
-    file_end: u64,
-    first: u64,
-    cur: &mut Cursor,
-) -> Result<Code, FormFault>
-    ensures { Reads form_fault.Memory (content file_end first (code_content_at pool.now file_end first)) cur.old cur.new result }
-{
-    let len = u4(cur)?;
-    let part = opened(cur, len);
-    let mut inner = Cursor::new(part.bytes, part.at);
-    let code = read_code_content(alloc, pool, file_end, first, &mut inner);
-    closed(code, inner.left(), part, file_end, first)
-}
-
-/// The one attribute of a method: its code.
-#[tactic(auto, unfolding(crate::specs::AttributeForm::method_attribute_at))]
-pub fn read_method_attribute(
-    alloc: Global,
-    pool: &[Const],
-    file_end: u64,
-    cur: &mut Cursor,
-) -> Result<Attr, FormFault>
-    ensures { Reads form_fault.Memory (method_attribute_at pool.now file_end) cur.old cur.new result }
-{
-    let first = cur.at();
-    let name = u2(cur)?;
-    if !names(pool, name, &CODE) {
-        return Err(FormFault::NotYet { at: first });
-    }
-    let code = read_code_attribute(alloc, pool, file_end, first, cur)?;
-    Ok(Attr {
-        name,
-        body: Body::Code(code),
-    })
-}

@@ -10,7 +10,7 @@ ghost use Rattle.mutest_engine.specs.ClassForm.{names_method_name as is_method_n
 ghost use Rattle.mutest_engine.specs.Spells.{Spells};
 ghost use Rattle.mutest_engine.specs.declared.fault.FormFault.TheVariants as form_fault;
 
-use crate::attributes::read_method_attribute;
+use crate::methods::read_method_attributes;
 use crate::fault::FormFault;
 use crate::item::{u2, u4};
 use crate::pool::{class_name_of, names_class, names_form_descriptor, read_pool, text_of};
@@ -83,10 +83,7 @@ fn read_method(
     let flags = u2(cur)?;
     let name = method_name(pool, cur)?;
     let desc = descriptor(pool, cur)?;
-    exactly(1, cur)?;
-    let code = read_method_attribute(alloc, pool, file_end, cur)?;
-    let mut attrs = Seq::new(alloc);
-    attrs.push(code)?;
+    let attrs = read_method_attributes(alloc, pool, file_end, cur)?;
     Ok(Member {
         flags,
         name,

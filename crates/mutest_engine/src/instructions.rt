@@ -4,13 +4,17 @@ ghost use Rattle.std.specs.Prelude.{◌≡◌, ◌+◌, ◌<◌, ◌≤◌, ◌^
 ghost use Rattle.codec_rules.specs.Meets.{Reads, Fails, Gives};
 ghost use Rattle.codec_rules.specs.Reading.{until_end};
 ghost use Rattle.codec_rules.specs.Input.{Input};
+ghost use Rattle.std.specs.Int.{w16};
+ghost use Rattle.mutest_engine.specs.Item.{number_where};
+ghost use Rattle.mutest_engine.specs.PoolForm.{names_method as is_method_named};
 ghost use Rattle.mutest_engine.specs.CodeForm.{operand_of, arg_at, raw_at, insn_at, size_of, total_size, places_from, number_at_place, place_behind, target_of, insn_of, resolved, resolved_from, code_at};
 ghost use Rattle.mutest_engine.specs.declared.fault.FormFault.TheVariants as form_fault;
 
 use crate::fault::FormFault;
 use crate::item::{u1, u2};
+use crate::pool::names_method;
 use crate::raw::{Operand, RawArg, RawInsn};
-use class_model::{Arg, Insn, Memory, Seq};
+use class_model::{Arg, Const, Insn, Memory, Seq};
 use mt_bytes::Cursor;
 use std::alloc::Global;
 
@@ -24,17 +28,32 @@ fn operand_of(op: u8) -> Option<Operand>
         0x11 => Some(Operand::Short),
         0x15 | 0x36 => Some(Operand::Local),
         0x1a..=0x1d => Some(Operand::Nothing),
+        0x2a => Some(Operand::Nothing),
         0x3b..=0x3e => Some(Operand::Nothing),
         0x60 | 0x64 => Some(Operand::Nothing),
         0x99..=0xa4 => Some(Operand::Jump),
         0xa7 => Some(Operand::Jump),
         0xac | 0xb1 => Some(Operand::Nothing),
+        0xb7 | 0xb8 => Some(Operand::Method),
         _ => None,
     }
 }
 
-fn read_arg(operand: Operand, cur: &mut Cursor) -> Result<RawArg, FormFault>
-    ensures { Reads form_fault.Memory (arg_at operand) cur.old cur.new result }
+// The index of a method.
+fn method_index(pool: &[Const], cur: &mut Cursor) -> Result<u16, FormFault>
+    ensures { Reads form_fault.Memory (number_where w16 (is_method_named pool.now)) cur.old cur.new result }
+{
+    let at = cur.at();
+    let index = u2(cur)?;
+    if names_method(pool, index) {
+        Ok(index)
+    } else {
+        Err(FormFault::NotYet { at })
+    }
+}
+
+fn read_arg(pool: &[Const], operand: Operand, cur: &mut Cursor) -> Result<RawArg, FormFault>
+    ensures { Reads form_fault.Memory (arg_at pool.now operand) cur.old cur.new result }
 {
     match operand {
         Operand::Nothing => Ok(RawArg::None),
@@ -54,28 +73,32 @@ fn read_arg(operand: Operand, cur: &mut Cursor) -> Result<RawArg, FormFault>
             let n = u2(cur)?;
             Ok(RawArg::Jump(n.cast_signed()))
         }
+        Operand::Method => {
+            let index = method_index(pool, cur)?;
+            Ok(RawArg::Method(index))
+        }
     }
 }
 
 #[tactic(auto, unfolding(crate::specs::CodeForm::raw_at))]
-fn read_raw(cur: &mut Cursor) -> Result<RawInsn, FormFault>
-    ensures { Reads form_fault.Memory raw_at cur.old cur.new result }
+fn read_raw(pool: &[Const], cur: &mut Cursor) -> Result<RawInsn, FormFault>
+    ensures { Reads form_fault.Memory (raw_at pool.now) cur.old cur.new result }
 {
     let at = cur.at();
     let op = u1(cur)?;
     let Some(operand) = operand_of(op) else {
         return Err(FormFault::NotYet { at });
     };
-    let arg = read_arg(operand, cur)?;
+    let arg = read_arg(pool, operand, cur)?;
     Ok(RawInsn { op, arg })
 }
 
 // An instruction that passes the end of the code is named itself.
-fn read_insn(cur: &mut Cursor) -> Result<RawInsn, FormFault>
-    ensures { Reads form_fault.Memory insn_at cur.old cur.new result }
+fn read_insn(pool: &[Const], cur: &mut Cursor) -> Result<RawInsn, FormFault>
+    ensures { Reads form_fault.Memory (insn_at pool.now) cur.old cur.new result }
 {
     let at = cur.at();
-    match read_raw(cur) {
+    match read_raw(pool, cur) {
         Ok(raw) => Ok(raw),
         Err(FormFault::Short { .. }) => Err(FormFault::NotYet { at }),
         Err(FormFault::NotYet { at }) => Err(FormFault::NotYet { at }),
@@ -87,29 +110,34 @@ fn read_insn(cur: &mut Cursor) -> Result<RawInsn, FormFault>
 }
 
 // Reads instructions until no byte is left. No instruction is empty, so as many turns as there are bytes are enough.
-fn read_raws(alloc: Global, cur: &mut Cursor) -> Result<Seq<RawInsn>, FormFault>
-    ensures { Gives form_fault.Memory (λ raws. raws) (until_end insn_at cur.old) result }
+fn read_raws(alloc: Global, pool: &[Const], cur: &mut Cursor) -> Result<Seq<RawInsn>, FormFault>
+    ensures { Gives form_fault.Memory (λ raws. raws) (until_end (insn_at pool.now) cur.old) result }
 {
     let mut raws = Seq::new(alloc);
     for _ in 0..cur.left() {
         if cur.left() == 0 {
             return Ok(raws);
         }
-        let raw = read_insn(cur)?;
+        let raw = read_insn(pool, cur)?;
         raws.push(raw)?;
     }
     Ok(raws)
 }
 
 // The instructions that the bytes of a code are, and that they fill it.
-fn read_all(alloc: Global, bytes: &[u8], base: u64) -> Result<Seq<RawInsn>, FormFault>
+fn read_all(
+    alloc: Global,
+    pool: &[Const],
+    bytes: &[u8],
+    base: u64,
+) -> Result<Seq<RawInsn>, FormFault>
     requires { base + length bytes.now < 2 ^ 64 }
-    ensures read { Gives form_fault.Memory (λ raws. raws) (until_end insn_at (record { at = base; bytes = bytes.now })) result }
+    ensures read { Gives form_fault.Memory (λ raws. raws) (until_end (insn_at pool.now) (record { at = base; bytes = bytes.now })) result }
     ensures filled { IfOk result (λ raws. total_size raws ≡ length bytes.now) }
 {
     let mut cur = Cursor::new(bytes, base);
     let _at = cur.at();
-    let raws = read_raws(alloc, &mut cur)?;
+    let raws = read_raws(alloc, pool, &mut cur)?;
     Ok(raws)
 }
 
@@ -119,7 +147,7 @@ fn size_of(raw: &RawInsn) -> u32
     match raw.arg {
         RawArg::None => 1,
         RawArg::Byte(_) | RawArg::Local(_) => 2,
-        RawArg::Short(_) | RawArg::Jump(_) => 3,
+        RawArg::Short(_) | RawArg::Jump(_) | RawArg::Method(_) => 3,
     }
 }
 
@@ -203,6 +231,7 @@ fn resolved(places: &[u32], base: u64, at: u32, raw: &RawInsn) -> Result<Insn, F
         RawArg::Byte(n) => Ok(insn(raw.op, Arg::Number(i16::from(n)))),
         RawArg::Short(n) => Ok(insn(raw.op, Arg::Number(n))),
         RawArg::Local(n) => Ok(insn(raw.op, Arg::Local(u16::from(n)))),
+        RawArg::Method(index) => Ok(insn(raw.op, Arg::Pool(index))),
         RawArg::Jump(offset) => match target_of(places, at, offset) {
             Some(number) => Ok(insn(raw.op, Arg::To(number))),
             None => Err(FormFault::NotYet {
@@ -235,13 +264,18 @@ fn resolve_all(
 
 /// The instructions of a code that begins at a place in the file, and where they begin in it.
 #[tactic(auto, unfolding(crate::specs::CodeForm::code_at))]
-pub fn read_code(alloc: Global, bytes: &[u8], base: u64) -> Result<(Seq<Insn>, Seq<u32>), FormFault>
+pub fn read_code(
+    alloc: Global,
+    pool: &[Const],
+    bytes: &[u8],
+    base: u64,
+) -> Result<(Seq<Insn>, Seq<u32>), FormFault>
     requires small { length bytes.now < 2 ^ 16 }
     requires fits { base + length bytes.now < 2 ^ 64 }
     ensures few { IfOk result (λ code. length code.1 < 2 ^ 16) }
-    ensures read { Gives form_fault.Memory (λ code. code) (code_at (record { at = base; bytes = bytes.now })) result }
+    ensures read { Gives form_fault.Memory (λ code. code) (code_at pool.now (record { at = base; bytes = bytes.now })) result }
 {
-    let raws = read_all(alloc, bytes, base)?;
+    let raws = read_all(alloc, pool, bytes, base)?;
     let places = places_of(alloc, raws.as_slice())?;
     let insns = resolve_all(alloc, places.as_slice(), base, raws.as_slice())?;
     Ok((insns, places))

@@ -10,6 +10,7 @@ mod fault;
 mod instructions;
 mod item;
 mod laws;
+mod methods;
 mod mutators;
 mod pool;
 mod printing;

@@ -1,8 +1,8 @@
 //! Which instructions have which mutants.
 
-ghost use Rattle.std.specs.Prelude.{◌≡◌, ◌++◌, IfOk, OnOk, [], map, option_copied, unwrap_or};
+ghost use Rattle.std.specs.Prelude.{◌≡◌, ◌++◌, ◌∷◌, IfOk, OnOk, [], map, option_copied, unwrap_or};
 ghost use Rattle.std.specs.List.{flat_map};
-ghost use Rattle.mutest_engine.specs.Mutants.{code_of, line_rows, chosen_row, line_row, CountsFor, line_at, is_int_jump, mutators_of, mutant_at, mutants_from, is_synthetic, is_left_out, method_mutants, class_mutants};
+ghost use Rattle.mutest_engine.specs.Mutants.{code_of, line_rows, chosen_row, line_row, CountsFor, line_at, is_int_jump, is_ordered_jump, mutators_of, mutant_at, mutants_from, is_synthetic, is_left_out, method_mutants, class_mutants};
 
 use crate::pool::{class_name_of, text_of};
 use class_model::{Attr, Body, Class, Code, Const, Insn, Member, Memory, Mutator, Name, Seq};
@@ -92,6 +92,35 @@ fn is_int_jump(op: u8) -> bool
     0x99 <= op && op <= 0xa4
 }
 
+// Whether it is one of these that compares by order.
+fn is_ordered_jump(op: u8) -> bool
+    ensures { result ≡ is_ordered_jump op }
+{
+    (0x9b <= op && op <= 0x9e) || (0xa1 <= op && op <= 0xa4)
+}
+
+fn push_mutant(
+    mutants: &mut Seq<Mutant>,
+    class: &Name,
+    method: &Name,
+    desc: &Name,
+    rows: &[(u32, u16)],
+    at: u32,
+    mutator: Mutator,
+) -> Result<(), Memory>
+    ensures { OnOk result (mutants.new ≡ mutants.old ++ mutant_at (record { class = class.now; method = method.now; desc = desc.now; rows = rows.now }) at mutator ∷ []) }
+{
+    mutants.push(Mutant {
+        class: class.copy()?,
+        method: method.copy()?,
+        desc: desc.copy()?,
+        at,
+        mutator,
+        line: line_at(rows, at),
+    })?;
+    Ok(())
+}
+
 // The mutants of one instruction.
 fn push_insn_mutants(
     mutants: &mut Seq<Mutant>,
@@ -104,16 +133,27 @@ fn push_insn_mutants(
 ) -> Result<(), Memory>
     ensures { OnOk result (mutants.new ≡ mutants.old ++ map (mutant_at (record { class = class.now; method = method.now; desc = desc.now; rows = rows.now }) at) (mutators_of insn.now)) }
 {
-    if is_int_jump(insn.op) {
-        let mutant = Mutant {
-            class: class.copy()?,
-            method: method.copy()?,
-            desc: desc.copy()?,
+    if is_ordered_jump(insn.op) {
+        push_mutant(
+            mutants,
+            class,
+            method,
+            desc,
+            rows,
             at,
-            mutator: Mutator::NegateConditionals,
-            line: line_at(rows, at),
-        };
-        mutants.push(mutant)?;
+            Mutator::ConditionalsBoundary,
+        )?;
+    }
+    if is_int_jump(insn.op) {
+        push_mutant(
+            mutants,
+            class,
+            method,
+            desc,
+            rows,
+            at,
+            Mutator::NegateConditionals,
+        )?;
     }
     Ok(())
 }

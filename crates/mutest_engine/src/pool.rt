@@ -1,14 +1,14 @@
 //! The constant pool (JVMS 4.4): first all entries, then their indices, in the order of the entries.
 
-ghost use Rattle.std.specs.Prelude.{◌≡◌, ◌+◌, ◌<◌, ◌^◌, ◌-◌, length, option_copied, IfOk, IfErr, is_some, MatchOption, MatchResult, None, Some};
+ghost use Rattle.std.specs.Prelude.{◌≡◌, ◌+◌, ◌<◌, ◌^◌, ◌-◌, length, option_copied, IfOk, IfErr, is_some, is_ok, MatchOption, MatchResult, None, Some};
 ghost use Rattle.std.specs.List.{flat_map, list_all};
 ghost use Rattle.class_model.specs.declared.constant.Const.TheVariants as const;
 ghost use Rattle.class_model.specs.Pool.{entry_of, text_of, class_name_of};
-ghost use Rattle.class_model.specs.DescriptorReading.{field_type_of};
+ghost use Rattle.class_model.specs.DescriptorReading.{field_type_of, field_kind};
 ghost use Rattle.codec_rules.specs.Input.{IsInput};
 ghost use Rattle.codec_rules.specs.Meets.{Reads, Gives};
 ghost use Rattle.codec_rules.specs.Reading.{many_at};
-ghost use Rattle.mutest_engine.specs.PoolForm.{is_int_letter, is_form_result, is_plain, names_field_descriptor, is_form_descriptor, is_form_tail, text_at, class_entry_at, two_at, entry_at, entry, names_plain_text, names_text, names_class, names_form_descriptor, names_method_pair, bad_index, first_bad, pool_at};
+ghost use Rattle.mutest_engine.specs.PoolForm.{is_int_letter, is_form_result, is_plain, names_field_descriptor, is_form_descriptor, is_form_tail, text_at, class_entry_at, two_at, entry_at, entry, names_plain_text, names_text, names_class, names_kind, names_method, names_form_descriptor, names_method_pair, bad_index, first_bad, pool_at};
 ghost use Rattle.mutest_engine.specs.declared.fault.FormFault.TheVariants as form_fault;
 
 use crate::fault::FormFault;
@@ -209,6 +209,36 @@ pub fn names_form_descriptor(pool: &[Const], index: u16) -> bool
     match text_of(pool, index) {
         Some(desc) => is_form_descriptor(desc.as_slice()),
         None => false,
+    }
+}
+
+/// Whether an index names a method.
+pub fn names_method(pool: &[Const], index: u16) -> bool
+    ensures { result ≡ names_method pool.now index }
+{
+    matches!(entry_of(pool, index), Some(Const::Method(_, _)))
+}
+
+// A field's descriptor without floats.
+fn is_kind(alloc: Global, desc: &Name) -> Result<bool, FormFault>
+    ensures ok { IfOk result (λ is_one. is_one ≡ is_ok (field_kind desc.now)) }
+    ensures err { IfErr result (λ e. e ≡ form_fault.Memory) }
+{
+    match parse_field(alloc, desc) {
+        Ok(_) => Ok(true),
+        Err(DescFault::Float | DescFault::Bad) => Ok(false),
+        Err(DescFault::Memory) => Err(FormFault::Memory),
+    }
+}
+
+/// Whether an index names a field's descriptor without floats.
+pub fn names_kind(alloc: Global, pool: &[Const], index: u16) -> Result<bool, FormFault>
+    ensures ok { IfOk result (λ is_one. is_one ≡ names_kind pool.now index) }
+    ensures err { IfErr result (λ e. e ≡ form_fault.Memory) }
+{
+    match text_of(pool, index) {
+        Some(desc) => is_kind(alloc, desc),
+        None => Ok(false),
     }
 }
 

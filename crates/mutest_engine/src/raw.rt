@@ -10,6 +10,8 @@ pub enum Operand {
     Local,
     /// The signed offset of a jump, in two bytes.
     Jump,
+    /// The index of a method, in two bytes.
+    Method,
 }
 
 /// An operand as it stands in the code.
@@ -21,6 +23,7 @@ pub enum RawArg {
     Local(u8),
     /// From the place of the jump to that of its target.
     Jump(i16),
+    Method(u16),
 }
 
 /// An instruction as it stands in the code.

@@ -4,3 +4,10 @@ pub struct Unseen {
     pub lines: bool,
     pub frames: bool,
 }
+
+/// Which attributes a method may still have.
+#[derive(Clone, Copy)]
+pub struct Awaited {
+    pub code: bool,
+    pub notes: bool,
+}
