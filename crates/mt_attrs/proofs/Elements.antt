@@ -1,0 +1,20 @@
+-- Reading an element goes on behind its tag.
+use Rattle.std.proofs.Common.{◌≡◌, ℕ, suc, ◌-◌, ◌<◌, List, Result, Ok, refl, sym, ap, subst, ◌∙◌, arith}
+use Rattle.std.specs.Int.{w8}
+use Rattle.class_model.specs.declared.constant.Const.{Const}
+use Rattle.class_model.specs.declared.annotation.Elem.{Elem}
+use Rattle.codec_rules.specs.Input.{Input}
+use Rattle.codec_rules.specs.Sequence.{◌>>=◌}
+use Rattle.mt_attrs.specs.Item.{number, want_of_memory}
+use Rattle.mt_attrs.specs.Notes.{element_at, elem_with, inner_at, elem_at}
+use Rattle.mt_attrs.specs.declared.fault.ItemFault.{ItemFault}
+
+turn : (pool : List Const) (n depth : ℕ) (input : Input) (tag : ℕ) (behind : Input) → number w8 input ≡ Ok (tag, behind) → elem_at pool (suc n) depth input ≡ element_at pool (elem_at pool n depth) (inner_at pool (elem_at pool n) depth) input.at tag behind
+unfolding elem_at elem_with
+turn pool n depth input tag behind e = rw e refl
+
+pub elem_turn : (pool : List Const) (turns depth : ℕ) (input : Input) (tag : ℕ) (behind : Input) → 0 < turns → number w8 input ≡ Ok (tag, behind)
+    → elem_at pool turns depth input ≡ element_at pool (elem_at pool (turns - 1) depth) (inner_at pool (elem_at pool (turns - 1)) depth) input.at tag behind
+elem_turn pool turns depth input tag behind some e =
+    let k : turns ≡ suc (turns - 1) = omega arith in
+    ap (λ (n : ℕ). elem_at pool n depth input) k ∙ turn pool (turns - 1) depth input tag behind e

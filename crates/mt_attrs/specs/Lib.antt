@@ -1,0 +1,10 @@
+pub mod Item
+pub mod Named
+pub mod Places
+pub mod Lines
+pub mod Rows
+pub mod Frames
+pub mod Notes
+pub mod Kinds
+pub mod CodeParts
+pub mod Attributes

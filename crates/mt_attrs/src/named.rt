@@ -1,0 +1,188 @@
+//! Indices of the constant pool, with what each may name.
+
+ghost use Rattle.std.specs.Prelude.{◌≡◌};
+ghost use Rattle.std.specs.Option.{option_copied};
+ghost use Rattle.class_model.specs.Pool.{entry_of, text_of};
+ghost use Rattle.mt_insn.specs.Named.{names, is_class};
+ghost use Rattle.mt_attrs.specs.Item.{ReadsPart};
+ghost use Rattle.mt_attrs.specs.Named.{is_text, is_value, is_constant, is_caught, names_text, index_at, caught_at, type_at, result_at, Described, described_by};
+
+use crate::fault::ItemFault;
+use crate::item::u2;
+use class_model::{ClassFault, Const, DescFault, Name, Seq, parse_field};
+use mt_bytes::Cursor;
+use std::alloc::Global;
+
+/// The entry of an index: it counts the entries from 1.
+fn entry(pool: &Seq<Const>, index: u16) -> Option<&Const>
+    ensures { option_copied result ≡ entry_of pool.now index }
+{
+    if index == 0 {
+        return None;
+    }
+    pool.get(usize::from(index) - 1)
+}
+
+fn text_of(pool: &Seq<Const>, index: u16) -> Option<&Name>
+    ensures { option_copied result ≡ text_of pool.now index }
+{
+    match entry(pool, index) {
+        Some(Const::Utf8(units)) => Some(units),
+        _ => None,
+    }
+}
+
+/// The index names this text.
+pub fn names_text(pool: &Seq<Const>, index: u16, name: &[u16]) -> bool
+    ensures { result ≡ names_text pool.now index name.now }
+{
+    match text_of(pool, index) {
+        Some(text) => text.as_slice() == name,
+        None => false,
+    }
+}
+
+fn is_text(pool: &Seq<Const>, index: u16) -> bool
+    ensures { result ≡ names is_text pool.now index }
+{
+    matches!(entry(pool, index), Some(Const::Utf8(_)))
+}
+
+fn is_class(pool: &Seq<Const>, index: u16) -> bool
+    ensures { result ≡ names is_class pool.now index }
+{
+    matches!(entry(pool, index), Some(Const::Class(_)))
+}
+
+/// The index names what a constant field may have.
+fn is_value(pool: &Seq<Const>, index: u16) -> bool
+    ensures { result ≡ names is_value pool.now index }
+{
+    matches!(
+        entry(pool, index),
+        Some(
+            Const::Integer(_) | Const::Float(_) | Const::Long(_) | Const::Double(_) | Const::Text(_)
+        )
+    )
+}
+
+/// The index names a constant of an annotation's element with this tag.
+fn is_constant(pool: &Seq<Const>, tag: u8, index: u16) -> bool
+    ensures { result ≡ names (is_constant tag) pool.now index }
+{
+    match entry(pool, index) {
+        Some(Const::Integer(_)) => tag == 66 || tag == 67 || tag == 73 || tag == 83 || tag == 90,
+        Some(Const::Double(_)) => tag == 68,
+        Some(Const::Float(_)) => tag == 70,
+        Some(Const::Long(_)) => tag == 74,
+        Some(Const::Utf8(_)) => tag == 115,
+        _ => false,
+    }
+}
+
+fn is_caught(pool: &Seq<Const>, index: u16) -> bool
+    ensures { result ≡ is_caught pool.now index }
+{
+    index == 0 || is_class(pool, index)
+}
+
+/// The text that an index at a place names has to be a field's descriptor without floats.
+fn described(alloc: Global, pool: &Seq<Const>, at: u64, index: u16) -> Result<(), ClassFault>
+    ensures { Described at (described_by pool.now index) result }
+{
+    let Some(desc) = text_of(pool, index) else {
+        return Err(ClassFault::BadIndex { at });
+    };
+    match parse_field(alloc, desc) {
+        Ok(_) => Ok(()),
+        Err(DescFault::Bad) => Err(ClassFault::BadText { at }),
+        Err(DescFault::Float) => Err(ClassFault::FloatUsed { at }),
+        Err(DescFault::Memory) => Err(ClassFault::Memory),
+    }
+}
+
+/// The index of a text.
+pub fn read_text(pool: &Seq<Const>, cur: &mut Cursor) -> Result<u16, ItemFault>
+    ensures { ReadsPart (index_at is_text pool.now) cur.old cur.new result }
+{
+    let at = cur.at();
+    let index = u2(cur)?;
+    if !is_text(pool, index) {
+        return Err(ItemFault::Bad(ClassFault::BadIndex { at }));
+    }
+    Ok(index)
+}
+
+/// The index of a class.
+pub fn read_class(pool: &Seq<Const>, cur: &mut Cursor) -> Result<u16, ItemFault>
+    ensures { ReadsPart (index_at is_class pool.now) cur.old cur.new result }
+{
+    let at = cur.at();
+    let index = u2(cur)?;
+    if !is_class(pool, index) {
+        return Err(ItemFault::Bad(ClassFault::BadIndex { at }));
+    }
+    Ok(index)
+}
+
+/// The index of the value of a constant field.
+pub fn read_value(pool: &Seq<Const>, cur: &mut Cursor) -> Result<u16, ItemFault>
+    ensures { ReadsPart (index_at is_value pool.now) cur.old cur.new result }
+{
+    let at = cur.at();
+    let index = u2(cur)?;
+    if !is_value(pool, index) {
+        return Err(ItemFault::Bad(ClassFault::BadIndex { at }));
+    }
+    Ok(index)
+}
+
+/// The index of the constant of an annotation's element with this tag.
+pub fn read_constant(pool: &Seq<Const>, tag: u8, cur: &mut Cursor) -> Result<u16, ItemFault>
+    ensures { ReadsPart (index_at (is_constant tag) pool.now) cur.old cur.new result }
+{
+    let at = cur.at();
+    let index = u2(cur)?;
+    if !is_constant(pool, tag, index) {
+        return Err(ItemFault::Bad(ClassFault::BadIndex { at }));
+    }
+    Ok(index)
+}
+
+/// The index of the class that a handler catches, or 0.
+pub fn read_caught(pool: &Seq<Const>, cur: &mut Cursor) -> Result<u16, ItemFault>
+    ensures { ReadsPart (caught_at pool.now) cur.old cur.new result }
+{
+    let at = cur.at();
+    let index = u2(cur)?;
+    if !is_caught(pool, index) {
+        return Err(ItemFault::Bad(ClassFault::BadIndex { at }));
+    }
+    Ok(index)
+}
+
+/// The index of a field's descriptor.
+pub fn read_type(alloc: Global, pool: &Seq<Const>, cur: &mut Cursor) -> Result<u16, ItemFault>
+    ensures { ReadsPart (type_at pool.now) cur.old cur.new result }
+{
+    let at = cur.at();
+    let index = u2(cur)?;
+    described(alloc, pool, at, index)?;
+    Ok(index)
+}
+
+/// `V`
+const VOID: [u16; 1] = [86];
+
+/// The index of a result's descriptor.
+pub fn read_result(alloc: Global, pool: &Seq<Const>, cur: &mut Cursor) -> Result<u16, ItemFault>
+    ensures { ReadsPart (result_at pool.now) cur.old cur.new result }
+{
+    let at = cur.at();
+    let index = u2(cur)?;
+    if names_text(pool, index, &VOID) {
+        return Ok(index);
+    }
+    described(alloc, pool, at, index)?;
+    Ok(index)
+}

@@ -1,0 +1,7 @@
+/// Whose attributes they are.
+#[derive(Clone, Copy, Debug, PartialEq, Eq)]
+pub enum Owner {
+    OfClass,
+    OfField,
+    OfMethod,
+}
