@@ -8,7 +8,9 @@ use Rattle.codec_rules.specs.Sequence.{or_fault}
 use Rattle.codec_rules.proofs.Sequence.{ok_is}
 use Rattle.mt_insn.specs.Order.{Ascends}
 use Rattle.mt_insn.specs.Opcode.{form_of}
-use Rattle.mt_insn.specs.Code.{formed_size, size_at, places_from, places}
+use Rattle.mt_insn.specs.Code.{formed_size, size_at, places_from, places, end_from, code}
+use Rattle.mt_insn.proofs.Sizes.{end_is_behind}
+use Rattle.mt_insn.proofs.LayoutLaws.{read_length}
 use Rattle.mt_attrs.specs.Item.{some_bytes}
 use Rattle.mt_attrs.specs.declared.fault.ItemFault.{ItemFault}
 use Rattle.mt_attrs.specs.declared.fault.ItemFault.TheVariants as item_fault
@@ -48,3 +50,12 @@ taken_by false count input x test e =
 -- so many bytes were read
 pub taken : (count : ℕ) (input : Input) (bytes : List ℕ) (rest : Input) → some_bytes count input ≡ Ok (bytes, rest) → length bytes ≡ count
 taken count input bytes rest e = taken_by _ count input (bytes, rest) refl e
+
+ends_from : (place : ℕ) (insns : List Insn) (i : ℕ) → i < length (places_from place insns) → get_or (places_from place insns) i 0 < end_from place insns
+ends_from place [] i lt = absurd (omega (arith, lt))
+ends_from place (insn ∷ insns) zero lt = omega (arith, takes place insn, end_is_behind (place + size_at place insn) insns)
+ends_from place (insn ∷ insns) (suc i) lt = ends_from (place + size_at place insn) insns i (omega (arith, lt))
+
+-- each instruction begins before the code's end
+pub starts_before : (insns : List Insn) (i : ℕ) → i < length (places insns) → get_or (places insns) i 0 < length (code insns)
+starts_before insns i lt = omega (arith, ends_from 0 insns i lt, read_length insns (code insns) refl)

@@ -8,7 +8,7 @@ use Rattle.class_model.specs.declared.attribute.Attr.{Attr, roll-Attr, out-Attr}
 use Rattle.class_model.specs.declared.attribute.Code.{Code, roll-Code, out-Code}
 use Rattle.class_model.specs.declared.attribute.Body.{Body, out-Body}
 use Rattle.class_model.specs.declared.attribute.Body.TheVariants as body
-use Rattle.class_model.specs.declared.attribute.Body.TheOpen.{Body-F}
+use Rattle.class_model.specs.declared.attribute.Body.TheOpen.{Body-F, Code-F}
 use Rattle.class_model.specs.declared.fault.ClassFault.TheVariants as fault
 use Rattle.codec_rules.specs.Sequence.{◌>>=◌, or_fault}
 use Rattle.mt_insn.specs.Code.{IsCode, code, places}
@@ -96,13 +96,16 @@ table_content starts other = []
 abbrev pub table_bytes : List ℕ → Attr → List ℕ
 table_bytes starts attr = attribute_bytes (name_of attr) (table_content starts (body_of attr))
 
+abbrev pub parts_bytes : Code-F Body Attr Code → List ℕ
+parts_bytes c =
+    u2 c.max_stack
+    ++ (u2 c.max_locals
+    ++ (sized (code c.insns)
+    ++ (counted (row_bytes (places c.insns) (length (code c.insns))) c.rows
+    ++ counted (table_bytes (places c.insns)) c.attrs)))
+
 abbrev pub code_content : Code → List ℕ
-code_content c =
-    u2 (out-Code c).max_stack
-    ++ (u2 (out-Code c).max_locals
-    ++ (sized (code (out-Code c).insns)
-    ++ (counted (row_bytes (places (out-Code c).insns) (length (code (out-Code c).insns))) (out-Code c).rows
-    ++ counted (table_bytes (places (out-Code c).insns)) (out-Code c).attrs)))
+code_content c = parts_bytes (out-Code c)
 
 -- ---- which of them have bytes
 
@@ -122,11 +125,14 @@ pub record IsTable (pool : List Const) (starts : List ℕ) (unseen : Bool) (attr
 abbrev pub AreTables : List Const → List ℕ → List Attr → Type 0
 AreTables pool starts attrs = (length attrs < 2 ^ 16) × AllBy (IsTable pool starts) (table_after pool) true attrs
 
-pub record IsCodeBody (pool : List Const) (c : Code) : Type 0 where
-  pub stack : (out-Code c).max_stack < 2 ^ 16
-  pub locals : (out-Code c).max_locals < 2 ^ 16
-  pub some : 0 < length (code (out-Code c).insns)
-  pub few : length (code (out-Code c).insns) < 2 ^ 16
-  pub insns : IsCode pool (out-Code c).insns
-  pub rows : AreRows pool (places (out-Code c).insns) (length (code (out-Code c).insns)) (out-Code c).rows
-  pub attrs : AreTables pool (places (out-Code c).insns) (out-Code c).attrs
+pub record AreParts (pool : List Const) (c : Code-F Body Attr Code) : Type 0 where
+  pub stack : c.max_stack < 2 ^ 16
+  pub locals : c.max_locals < 2 ^ 16
+  pub some : 0 < length (code c.insns)
+  pub few : length (code c.insns) < 2 ^ 16
+  pub insns : IsCode pool c.insns
+  pub rows : AreRows pool (places c.insns) (length (code c.insns)) c.rows
+  pub attrs : AreTables pool (places c.insns) c.attrs
+
+abbrev pub IsCodeBody : List Const → Code → Type 0
+IsCodeBody pool c = AreParts pool (out-Code c)
