@@ -1,5 +1,6 @@
 -- The attributes of a class, a field or a method are read as they are spelled.
 use Rattle.std.proofs.Common.{◌≡◌, ℕ, ◌+◌, ◌^◌, ◌<◌, List, ◌++◌, length, Option, Some, None, Result, Ok, Err, refl, sym, ap, subst, ◌∙◌}
+use Rattle.std.specs.Prelude.{IfOk}
 use Rattle.class_model.specs.declared.constant.Const.{Const}
 use Rattle.class_model.specs.declared.annotation.Note.{Note}
 use Rattle.class_model.specs.declared.attribute.Attr.{Attr, roll-Attr, out-Attr}
@@ -8,7 +9,11 @@ use Rattle.class_model.specs.declared.attribute.Body.{Body, out-Body}
 use Rattle.class_model.specs.declared.attribute.Body.TheVariants as body
 use Rattle.class_model.specs.declared.attribute.Body.TheOpen.{Body-F}
 use Rattle.class_model.specs.declared.attribute.Body.TheViews.{the_lemmas}
-use Rattle.codec_rules.specs.Input.{Input}
+use Rattle.class_model.specs.declared.fault.ClassFault.{ClassFault}
+use Rattle.class_model.specs.declared.fault.ClassFault.TheVariants as class_fault
+use Rattle.codec_rules.specs.Input.{Input, IsBytes}
+use Rattle.codec_rules.specs.Meets.{Reads}
+use Rattle.codec_rules.proofs.Meets.{Reads-along}
 use Rattle.codec_rules.specs.Sequence.{◌>>=◌, or_fault}
 use Rattle.codec_rules.specs.Spelling.{IsCodecAt, input_at}
 use Rattle.codec_rules.proofs.Sequence.{or_fault_ok}
@@ -120,3 +125,16 @@ attrs_codec owner pool = record {
   takes = λ input attrs rest bytes e. (all_codec (input.at + length input.bytes) pool owner).takes input attrs rest bytes (or_fault_ok fault_of (all_at (input.at + length input.bytes) pool owner input) (attrs, rest) e);
   again = λ attrs at rest q. ap (or_fault fault_of) ((all_codec (at + length (attrs_bytes attrs ++ rest)) pool owner).again attrs at rest q);
 }
+
+-- ---- the clauses of a call that follow from which fault it is
+
+pub is_found : (owner : Owner) (pool : List Const) (input rest : Input) (result : Result (List Attr) ClassFault) → IsBytes input.bytes → Reads class_fault.Memory (attrs_at owner pool) input rest result
+    → IfOk result (λ attrs. AreAttrs pool owner attrs × (input.bytes ≡ attrs_bytes attrs ++ rest.bytes) × (rest.at ≡ input.at + length (attrs_bytes attrs)))
+is_found owner pool input rest (Ok attrs) known e = let t = (attrs_codec owner pool).takes input attrs rest known e in (t.1, t.0.parts, t.0.place)
+is_found owner pool input rest (Err fault) known e = tt
+
+pub is_only : (owner : Owner) (pool : List Const) (input rest : Input) (result : Result (List Attr) ClassFault) → Reads class_fault.Memory (attrs_at owner pool) input rest result → (attrs : List Attr) (behind : List ℕ) → AreAttrs pool owner attrs → input.bytes ≡ attrs_bytes attrs ++ behind
+    → Reads class_fault.Memory (λ i. Ok (attrs, input_at (input.at + length (attrs_bytes attrs)) behind)) input rest result
+is_only owner pool input rest result given attrs behind q same =
+    let read : attrs_at owner pool input ≡ Ok (attrs, input_at (input.at + length (attrs_bytes attrs)) behind) = ap (λ (z : List ℕ). attrs_at owner pool (input_at input.at z)) same ∙ (attrs_codec owner pool).again attrs input.at behind q in
+    Reads-along class_fault.Memory (λ i. Ok (attrs, input_at (input.at + length (attrs_bytes attrs)) behind)) (attrs_at owner pool) input input rest result (sym read) given

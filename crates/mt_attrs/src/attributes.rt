@@ -1,13 +1,15 @@
 //! The attributes of a class, a field or a method (JVMS 4.7).
 
 ghost use Rattle.std.specs.Prelude.{◌≡◌, ◌+◌};
+ghost use Rattle.codec_rules.specs.Input.{IsInput};
+ghost use Rattle.mt_bytes.specs.Items.{ReadsItem};
 ghost use Rattle.mt_insn.specs.Named.{names};
 ghost use Rattle.mt_attrs.specs.Item.{ReadsPart, content, many_by};
 ghost use Rattle.mt_attrs.specs.Named.{is_text, is_value, index_at};
 ghost use Rattle.mt_attrs.specs.Notes.{notes_at};
 ghost use Rattle.mt_attrs.specs.Kinds.{known_of, is_free, all_unseen};
 ghost use Rattle.mt_attrs.specs.CodeParts.{name_at};
-ghost use Rattle.mt_attrs.specs.Attributes.{body_at, attr_at, attr_after, all_at, fault_of};
+ghost use Rattle.mt_attrs.specs.Attributes.{body_at, attr_at, attr_after, all_at, fault_of, attrs_at};
 
 use crate::code::read_code;
 use crate::content::{closed, opened};
@@ -170,7 +172,7 @@ fn read_counted_attrs(
 }
 
 /// The attributes in a file that ends at `file_end`.
-pub fn read_all(
+fn read_all(
     alloc: Global,
     pool: &Seq<Const>,
     owner: Owner,
@@ -184,11 +186,28 @@ pub fn read_all(
 }
 
 /// An item that no attribute's end cuts is cut by the file's.
-pub fn fault_of(fault: ItemFault) -> ClassFault
+fn fault_of(fault: ItemFault) -> ClassFault
     ensures { result ≡ fault_of fault }
 {
     match fault {
         ItemFault::Short { at, .. } => ClassFault::Truncated { at },
         ItemFault::Bad(fault) => fault,
+    }
+}
+
+/// The attributes in a file that ends where the cursor does.
+pub fn read_whole(
+    alloc: Global,
+    pool: &Seq<Const>,
+    owner: Owner,
+    cur: &mut Cursor,
+) -> Result<Seq<Attr>, ClassFault>
+    ensures known { IsInput cur.old }
+    ensures reads { ReadsItem (attrs_at owner pool.now) cur.old cur.new result }
+{
+    let file_end = cur.at() + cur.left();
+    match read_all(alloc, pool, owner, file_end, cur) {
+        Ok(attrs) => Ok(attrs),
+        Err(fault) => Err(fault_of(fault)),
     }
 }

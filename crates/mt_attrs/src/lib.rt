@@ -1,8 +1,13 @@
 //! The attributes of classes, fields and methods (JVMS 4.7): one spelling, both ways.
 #![tactic(auto)]
 
+ghost use Rattle.std.specs.Prelude.{◌≡◌, ℕ, ◌+◌, List, ◌++◌, length, IfOk, Ok};
+ghost use Rattle.class_model.specs.declared.attribute.Attr.{Attr};
+ghost use Rattle.class_model.specs.declared.fault.ClassFault.TheVariants as fault;
+ghost use Rattle.codec_rules.specs.Meets.{Reads};
+ghost use Rattle.codec_rules.specs.Spelling.{input_at};
 ghost use Rattle.mt_bytes.specs.Items.{ReadsItem};
-ghost use Rattle.mt_attrs.specs.Attributes.{attrs_at};
+ghost use Rattle.mt_attrs.specs.Attributes.{attrs_at, attrs_bytes, AreAttrs};
 
 use class_model::{Attr, ClassFault, Const, Seq};
 use mt_bytes::Cursor;
@@ -22,7 +27,7 @@ mod owner;
 mod place;
 mod rows;
 
-use attributes::{fault_of, read_all};
+use attributes::read_whole;
 pub use owner::Owner;
 
 /// The attributes of an owner, from their count on. The cursor has all that is left of the file.
@@ -32,12 +37,14 @@ pub fn read_attrs(
     owner: Owner,
     pool: &Seq<Const>,
 ) -> Result<Seq<Attr>, ClassFault>
+    // The bytes that were read spell what is answered.
+    ensures found { IfOk result (λ attrs. AreAttrs pool.now owner attrs × (cur.old.bytes ≡ attrs_bytes attrs ++ cur.new.bytes) × (cur.new.at ≡ cur.old.at + length (attrs_bytes attrs))) }
+
+    // What the bytes begin with the spelling of is answered, unless memory runs out.
+    ensures only { (attrs : List Attr) (behind : List ℕ) → AreAttrs pool.now owner attrs → cur.old.bytes ≡ attrs_bytes attrs ++ behind → Reads fault.Memory (λ i. Ok (attrs, input_at (cur.old.at + length (attrs_bytes attrs)) behind)) cur.old cur.new result }
+
     // Which fault it is.
     ensures exact { ReadsItem (attrs_at owner pool.now) cur.old cur.new result }
 {
-    let file_end = cur.at() + cur.left();
-    match read_all(alloc, pool, owner, file_end, cur) {
-        Ok(attrs) => Ok(attrs),
-        Err(fault) => Err(fault_of(fault)),
-    }
+    read_whole(alloc, pool, owner, cur)
 }
