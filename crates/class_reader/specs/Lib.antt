@@ -1,0 +1,4 @@
+pub mod Indices
+pub mod Reading
+pub mod Spells
+pub mod SpellingLaws
