@@ -1,7 +1,15 @@
 //! The constant pool of a class file (JVMS 4.4): one spelling, both ways.
+//!
+//! A new kind of entry is one more variant of `Const` and a case in:
+//! - `specs/Spelling.antt`: its tag, and what stands behind it (`tag_of`, `content`);
+//! - `specs/Reading.antt`: what is read behind the tag (`tagged_at`);
+//! - `specs/Indices.antt`: what is told of its indices, if it has any (`entry_fault`);
+//!
+//! and an arm in `src/entry.rt`, `src/index.rt`, `src/size.rt` and `src/put.rt`, with a case in `Fits` and a line in `tagged_codec` of `proofs/EntryLaws.antt`, and one in
+//! `entry_good` and `entry_again` of `proofs/IndexLaws.antt` and `proofs/IndexAgain.antt`. Which entries are right is `IsEntry` of `class_model`.
 #![tactic(auto)]
 
-ghost use Rattle.std.specs.Prelude.{◌≡◌, ◌++◌, ◌+◌, List, ℕ, length, IfOk, OnOk, OnErr, Ok};
+ghost use Rattle.std.specs.Prelude.{◌≡◌, ◌++◌, ◌+◌, List, ℕ, length, IfOk, OnOk, Ok};
 ghost use Rattle.class_model.specs.Pool.{IsPool};
 ghost use Rattle.class_model.specs.declared.constant.Const.{Const};
 ghost use Rattle.class_model.specs.declared.fault.LayoutFault.TheVariants as layout_fault;
