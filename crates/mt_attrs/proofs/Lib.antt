@@ -8,3 +8,4 @@ pub mod FrameLaws
 pub mod NoteLaws
 pub mod CodeLaws
 pub mod AttrsLaws
+pub mod Writing

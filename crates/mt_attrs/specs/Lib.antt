@@ -8,3 +8,4 @@ pub mod Notes
 pub mod Kinds
 pub mod CodeParts
 pub mod Attributes
+pub mod Layout

@@ -1,15 +1,17 @@
 //! The attributes of classes, fields and methods (JVMS 4.7): one spelling, both ways.
 #![tactic(auto)]
 
-ghost use Rattle.std.specs.Prelude.{◌≡◌, ℕ, ◌+◌, List, ◌++◌, length, IfOk, Ok};
+ghost use Rattle.std.specs.Prelude.{◌≡◌, ℕ, ◌+◌, List, ◌++◌, length, All, IfOk, OnOk, Ok};
 ghost use Rattle.class_model.specs.declared.attribute.Attr.{Attr};
 ghost use Rattle.class_model.specs.declared.fault.ClassFault.TheVariants as fault;
-ghost use Rattle.codec_rules.specs.Meets.{Reads};
+ghost use Rattle.class_model.specs.declared.fault.LayoutFault.TheVariants as layout_fault;
+ghost use Rattle.codec_rules.specs.Meets.{Reads, Gives};
 ghost use Rattle.codec_rules.specs.Spelling.{input_at};
 ghost use Rattle.mt_bytes.specs.Items.{ReadsItem};
 ghost use Rattle.mt_attrs.specs.Attributes.{attrs_at, attrs_bytes, AreAttrs};
+ghost use Rattle.mt_attrs.specs.Layout.{attrs_layout, HasAttrForm};
 
-use class_model::{Attr, ClassFault, Const, Seq};
+use class_model::{Attr, Bytes, ClassFault, Const, LayoutFault, Seq};
 use mt_bytes::Cursor;
 use std::alloc::Global;
 
@@ -25,10 +27,15 @@ mod named;
 mod notes;
 mod owner;
 mod place;
+mod put;
 mod rows;
+mod write;
+mod write_notes;
+mod write_tables;
 
 use attributes::read_whole;
 pub use owner::Owner;
+use write::write_all;
 
 /// The attributes of an owner, from their count on. The cursor has all that is left of the file.
 pub fn read_attrs(
@@ -47,4 +54,16 @@ pub fn read_attrs(
     ensures exact { ReadsItem (attrs_at owner pool.now) cur.old cur.new result }
 {
     read_whole(alloc, pool, owner, cur)
+}
+
+/// Adds the count of the attributes and the attributes at the end. `List` is too large exactly where a list has more than 65,535 items, `Attribute` where the content of an
+/// attribute has 2^32 bytes or more, and `Code` and `Jump` where a code is too long or a jump leads too far; of several bounds that are passed the first in the file is told.
+pub fn write_attrs(attrs: &Seq<Attr>, out: &mut Bytes) -> Result<(), LayoutFault>
+    requires { All HasAttrForm attrs.now }
+    ensures ok { OnOk result (out.new ≡ out.old ++ attrs_bytes attrs.now) }
+
+    // Whether there is room, or what is too large.
+    ensures exact { Gives layout_fault.Memory (λ _. attrs_bytes attrs.now) (attrs_layout attrs.now) result }
+{
+    write_all(attrs.as_slice(), out)
 }
