@@ -9,3 +9,4 @@ pub mod NoteLaws
 pub mod CodeLaws
 pub mod AttrsLaws
 pub mod Writing
+pub mod LayoutLaws

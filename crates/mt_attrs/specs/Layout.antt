@@ -26,7 +26,9 @@ use Rattle.mt_attrs.specs.Places.{start_of, IsBehind}
 use Rattle.mt_attrs.specs.Frames.{next_behind, room_of}
 use Rattle.mt_attrs.specs.Notes.{most_turns}
 use Rattle.mt_attrs.specs.CodeParts.{body_of, table_content}
-use Rattle.mt_attrs.specs.Attributes.{body_content, attrs_bytes}
+use Rattle.class_model.specs.declared.constant.Const.{Const}
+use Rattle.mt_attrs.specs.declared.owner.Owner.{Owner}
+use Rattle.mt_attrs.specs.Attributes.{body_content, attrs_bytes, AreAttrs}
 
 -- ---- which bound is passed first, in the order of the file
 
@@ -193,3 +195,9 @@ HasBodyForm (Body-F.Frames frames) = ⊥
 
 abbrev pub HasAttrForm : Attr → Type 0
 HasAttrForm attr = HasBodyForm (body_of attr)
+
+-- ---- both ways
+
+-- Attributes that have a spelling are in the form that writing asks for, and are written as they are spelled.
+abbrev pub SpelledIsWritten : Type 0
+SpelledIsWritten = (pool : List Const) (owner : Owner) (attrs : List Attr) → AreAttrs pool owner attrs → All HasAttrForm attrs × (attrs_layout attrs ≡ Ok (attrs_bytes attrs))

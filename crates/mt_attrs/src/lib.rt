@@ -9,7 +9,7 @@ ghost use Rattle.codec_rules.specs.Meets.{Reads, Gives};
 ghost use Rattle.codec_rules.specs.Spelling.{input_at};
 ghost use Rattle.mt_bytes.specs.Items.{ReadsItem};
 ghost use Rattle.mt_attrs.specs.Attributes.{attrs_at, attrs_bytes, AreAttrs};
-ghost use Rattle.mt_attrs.specs.Layout.{attrs_layout, HasAttrForm};
+ghost use Rattle.mt_attrs.specs.Layout.{attrs_layout, HasAttrForm, SpelledIsWritten};
 
 use class_model::{Attr, Bytes, ClassFault, Const, LayoutFault, Seq};
 use mt_bytes::Cursor;
@@ -29,6 +29,8 @@ mod owner;
 mod place;
 mod put;
 mod rows;
+#[cfg(test)]
+mod tests;
 mod write;
 mod write_notes;
 mod write_tables;
@@ -67,3 +69,8 @@ pub fn write_attrs(attrs: &Seq<Attr>, out: &mut Bytes) -> Result<(), LayoutFault
 {
     write_all(attrs.as_slice(), out)
 }
+
+/// What was read is written as it was: attributes that have a spelling are ones that `write_attrs` takes, and it gives that spelling.
+pub fn what_is_spelled_is_written()
+    ensures { SpelledIsWritten }
+{}
