@@ -1,8 +1,7 @@
 -- Code and the attributes inside it are read as they are spelled.
-use Rattle.std.proofs.Common.{◌≡◌, ℕ, ◌^◌, ◌<◌, Bool, true, false, cond, ltb, List, ◌++◌, length, take, Option, Some, None, Result, Ok, Err, refl, sym, ap, subst, ◌∙◌, append_assoc, arith}
+use Rattle.std.proofs.Common.{◌≡◌, ℕ, ◌^◌, ◌<◌, Bool, true, false, ltb, List, ◌++◌, length, take, Option, Some, None, Ok, refl, sym, ap, subst, ◌∙◌, append_assoc, arith}
 use Rattle.std.specs.Prelude.{◌&&◌}
 use Rattle.std.specs.Int.{w16, w32}
-use Rattle.std.specs.List.{flat_map}
 use Rattle.std.proofs.lemmas.Bool.{ltb-true, lt-ltb}
 use Rattle.std.proofs.lemmas.List.{take_at}
 use Rattle.class_model.specs.declared.constant.Const.{Const}
@@ -27,7 +26,7 @@ use Rattle.mt_insn.specs.Code.{IsCode, code, places}
 use Rattle.mt_insn.specs.Named.{names}
 use Rattle.mt_insn.specs.Targets.{code_at}
 use Rattle.mt_insn.proofs.CodeLaws.{code_takes, code_again}
-use Rattle.mt_attrs.specs.Item.{PartReader, number, some_bytes, content, carried_at, many_by, spelled_by, AllBy, sized, counted, u2, u4}
+use Rattle.mt_attrs.specs.Item.{PartReader, number, some_bytes, content, carried_at, spelled_by, sized, counted, u2, u4}
 use Rattle.mt_attrs.specs.Named.{is_text, index_refusal, index_at, IsIndex}
 use Rattle.mt_attrs.specs.Lines.{lines_at, lines_bytes, AreLines}
 use Rattle.mt_attrs.specs.Rows.{rows_at, row_bytes, AreRows}

@@ -1,14 +1,14 @@
 -- Items, contents of a stated length and lists of an attribute are read as they are spelled.
-use Rattle.std.proofs.Common.{◌≡◌, ℕ, zero, suc, ◌+◌, ◌*◌, ◌^◌, ◌<◌, ◌≤◌, Bool, true, false, cond, eqb, ltb, leb, List, [], ◌∷◌, ◌++◌, length, take, drop, Option, Some, None, Result, Ok, Err, refl, sym, ap, subst, ◌∙◌, append_assoc, arith}
+use Rattle.std.proofs.Common.{◌≡◌, ℕ, zero, suc, ◌+◌, ◌^◌, ◌<◌, ◌≤◌, Bool, true, false, cond, eqb, ltb, leb, List, [], ◌∷◌, ◌++◌, length, take, drop, Option, Some, None, Result, Ok, Err, refl, sym, ap, subst, ◌∙◌, append_assoc, arith}
 use Rattle.std.specs.Prelude.{◌&&◌, ok_or}
-use Rattle.std.specs.Int.{w8, w16, w32, byte_len}
+use Rattle.std.specs.Int.{w8, w16, w32}
 use Rattle.std.specs.List.{flat_map, AllByRecursion}
 use Rattle.std.proofs.lemmas.Bool.{eqb-true, leb-true, le-leb}
 use Rattle.std.proofs.lemmas.List.{length-append, append-nil, take_at, drop_at, take-append-drop, length-take, nil_from_length}
 use Rattle.class_model.specs.declared.fault.ClassFault.{ClassFault}
 use Rattle.class_model.specs.declared.fault.ClassFault.TheVariants as class_fault
 use Rattle.codec_rules.specs.Input.{Input, IsBytes, behind}
-use Rattle.codec_rules.specs.Sequence.{◌>>=◌, or_fault}
+use Rattle.codec_rules.specs.Sequence.{◌>>=◌}
 use Rattle.codec_rules.specs.Reading.{many_at}
 use Rattle.codec_rules.specs.Spelling.{Speller, IsCodecAt, Takes, input_at}
 use Rattle.codec_rules.proofs.Sequence.{bind_ok, guard_passed, ok_is, done}

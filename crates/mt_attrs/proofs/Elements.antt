@@ -1,13 +1,10 @@
 -- Reading an element goes on behind its tag.
-use Rattle.std.proofs.Common.{◌≡◌, ℕ, suc, ◌-◌, ◌<◌, List, Result, Ok, refl, sym, ap, subst, ◌∙◌, arith}
+use Rattle.std.proofs.Common.{◌≡◌, ℕ, suc, ◌-◌, ◌<◌, List, Ok, refl, ap, ◌∙◌, arith}
 use Rattle.std.specs.Int.{w8}
 use Rattle.class_model.specs.declared.constant.Const.{Const}
-use Rattle.class_model.specs.declared.annotation.Elem.{Elem}
 use Rattle.codec_rules.specs.Input.{Input}
-use Rattle.codec_rules.specs.Sequence.{◌>>=◌}
-use Rattle.mt_attrs.specs.Item.{number, want_of_memory}
+use Rattle.mt_attrs.specs.Item.{number}
 use Rattle.mt_attrs.specs.Notes.{element_at, elem_with, inner_at, elem_at}
-use Rattle.mt_attrs.specs.declared.fault.ItemFault.{ItemFault}
 
 turn : (pool : List Const) (n depth : ℕ) (input : Input) (tag : ℕ) (behind : Input) → number w8 input ≡ Ok (tag, behind) → elem_at pool (suc n) depth input ≡ element_at pool (elem_at pool n depth) (inner_at pool (elem_at pool n) depth) input.at tag behind
 unfolding elem_at elem_with

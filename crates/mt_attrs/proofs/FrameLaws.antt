@@ -1,7 +1,7 @@
 -- Frames are read as they are spelled.
-use Rattle.std.proofs.Common.{◌≡◌, ℕ, zero, suc, ◌+◌, ◌-◌, ◌*◌, ◌^◌, ◌<◌, ◌≤◌, Bool, true, false, cond, eqb, ltb, List, [], ◌∷◌, ◌++◌, length, Option, Some, None, Result, Ok, Err, refl, sym, ap, subst, ◌∙◌, arith, inl, inr}
+use Rattle.std.proofs.Common.{◌≡◌, ℕ, ◌+◌, ◌-◌, ◌^◌, ◌<◌, ◌≤◌, Bool, true, false, cond, eqb, ltb, List, [], ◌++◌, length, Option, Some, None, Ok, Err, refl, sym, ap, subst, ◌∙◌, arith, inl, inr}
 use Rattle.std.specs.Prelude.{◌||◌, ok_or}
-use Rattle.std.specs.Int.{w8, w16}
+use Rattle.std.specs.Int.{w8}
 use Rattle.std.specs.List.{flat_map, AllByRecursion}
 use Rattle.std.proofs.lemmas.Bool.{eqb-true, eq-eqb, ltb-true, ltb-false, cases_lt}
 use Rattle.class_model.specs.declared.constant.Const.{Const}
@@ -19,13 +19,12 @@ use Rattle.codec_rules.proofs.Many.{many_flat}
 use Rattle.mt_insn.specs.Order.{Ascends}
 use Rattle.mt_insn.specs.Named.{names, is_class}
 use Rattle.mt_insn.specs.Targets.{number_of}
-use Rattle.mt_attrs.specs.Item.{PartReader, number, found_or, counted_at, many_by, counted, u1, u2}
+use Rattle.mt_attrs.specs.Item.{PartReader, number, counted_at, counted, u1, u2}
 use Rattle.mt_attrs.specs.Named.{index_refusal, index_at, IsIndex}
 use Rattle.mt_attrs.specs.Places.{place_at, delta_at, start_of, IsPlace, IsBehind}
 use Rattle.mt_attrs.specs.Frames.{tagged_at, vitem_at, frame_of, full_at, shape_at, far_at, same_at, one_at, kind_at, frame_at, next_behind, frames_at, vitem_tag, tagged_bytes, vitem_bytes, kind_of, shape_bytes, delta_bytes, delta_of, frame_bytes, frames_bytes, IsVItem, room_of, IsShape, IsFrame, AreFrames}
-use Rattle.mt_attrs.specs.declared.fault.ItemFault.{ItemFault}
 use Rattle.mt_attrs.specs.declared.fault.ItemFault.TheVariants as item_fault
-use Rattle.mt_attrs.proofs.Codecs.{one_codec, two_codec, placed, index_codec, counted_codec, by_codec}
+use Rattle.mt_attrs.proofs.Codecs.{one_codec, index_codec, counted_codec, by_codec}
 use Rattle.mt_attrs.proofs.PlaceLaws.{number_back, number_again, place_codec, delta_codec}
 
 -- ---- verification types

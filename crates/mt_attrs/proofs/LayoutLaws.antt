@@ -1,5 +1,5 @@
 -- Attributes that have a spelling are written as they are spelled.
-use Rattle.std.proofs.Common.{◌≡◌, ℕ, zero, suc, ◌^◌, ◌<◌, Bool, true, false, cond, ltb, List, [], ◌∷◌, length, Option, Some, None, Result, Ok, Err, refl, sym, ap, subst, ◌∙◌, arith}
+use Rattle.std.proofs.Common.{◌≡◌, ℕ, zero, suc, ◌^◌, ◌<◌, true, ltb, List, [], ◌∷◌, length, Option, Some, None, refl, ap, ◌∙◌}
 use Rattle.std.specs.Prelude.{All}
 use Rattle.std.specs.Option.{option_map}
 use Rattle.std.specs.List.{AllByRecursion}
@@ -13,7 +13,6 @@ use Rattle.class_model.specs.declared.attribute.Attr.{Attr}
 use Rattle.class_model.specs.declared.attribute.Code.{Code, out-Code}
 use Rattle.class_model.specs.declared.attribute.Body.{Body}
 use Rattle.class_model.specs.declared.attribute.Body.TheOpen.{Body-F, Code-F}
-use Rattle.class_model.specs.declared.frame.Frame.{Frame}
 use Rattle.class_model.specs.declared.frame.Shape.{Shape}
 use Rattle.class_model.specs.declared.frame.Shape.TheVariants as shape
 use Rattle.class_model.specs.declared.frame.VItem.{VItem}
@@ -21,7 +20,7 @@ use Rattle.class_model.specs.declared.frame.VItem.TheVariants as vitem
 use Rattle.class_model.specs.declared.fault.Bound.{Bound}
 use Rattle.class_model.specs.declared.fault.LayoutFault.TheVariants as layout_fault
 use Rattle.codec_rules.specs.Sequence.{unless}
-use Rattle.mt_insn.specs.Code.{HasForm, HasTargets, places, code, layout}
+use Rattle.mt_insn.specs.Code.{HasForm, HasTargets, places, code}
 use Rattle.mt_insn.proofs.LayoutLaws.{has_layout, code_has_form, all_of}
 use Rattle.mt_attrs.specs.Item.{AllBy}
 use Rattle.mt_attrs.specs.Lines.{IsLine}
@@ -31,7 +30,7 @@ use Rattle.mt_attrs.specs.Notes.{most_turns, IsPair, IsNoteBy, IsElemBy, IsInner
 use Rattle.mt_attrs.specs.Kinds.{all_unseen}
 use Rattle.mt_attrs.specs.CodeParts.{body_of, table_content, table_after, IsTableBody, IsTable, AreParts}
 use Rattle.mt_attrs.specs.Attributes.{attr_after, body_content, attrs_bytes, IsBody, IsAttr, AreAttrs}
-use Rattle.mt_attrs.specs.Layout.{or_bound, count_bound, first_of, list_bound, size_bound, content_bound, shape_bound, frame_bound, pair_bound, note_bound_by, elem_bound_by, elem_bound, note_bound, bound_in, insns_bound, table_bound, inner_bound, parts_bound, body_bound, attr_bound, attrs_bound, attrs_layout, HasLineForm, HasRowForm, HasVItemForm, HasShapeForm, HasFrameForm, HasElemFormBy, HasElemForm, HasNoteFormIn, HasNoteForm, HasTableForm, HasCodeForm, HasBodyForm, HasAttrForm, SpelledIsWritten}
+use Rattle.mt_attrs.specs.Layout.{or_bound, count_bound, first_of, list_bound, size_bound, content_bound, shape_bound, frame_bound, pair_bound, note_bound_by, elem_bound_by, elem_bound, note_bound, bound_in, insns_bound, table_bound, inner_bound, parts_bound, body_bound, attr_bound, attrs_bound, HasLineForm, HasRowForm, HasVItemForm, HasShapeForm, HasFrameForm, HasElemFormBy, HasElemForm, HasNoteForm, HasTableForm, HasCodeForm, HasBodyForm, HasAttrForm, SpelledIsWritten}
 use Rattle.mt_attrs.specs.declared.owner.Owner.{Owner}
 use Rattle.mt_attrs.specs.declared.kinds.Known.{Known}
 use Rattle.mt_attrs.specs.declared.kinds.Known.TheVariants as known

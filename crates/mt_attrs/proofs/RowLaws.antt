@@ -1,7 +1,6 @@
 -- The rows of line tables and exception tables are read as they are spelled.
-use Rattle.std.proofs.Common.{◌≡◌, ℕ, ◌^◌, ◌<◌, List, ◌++◌, length, Ok, refl, sym, ap, subst, ◌∙◌}
+use Rattle.std.proofs.Common.{◌≡◌, ℕ, ◌^◌, ◌<◌, List, ◌++◌, Ok, refl, sym, ap, subst}
 use Rattle.std.specs.Int.{w16}
-use Rattle.std.specs.List.{AllByRecursion}
 use Rattle.class_model.specs.declared.constant.Const.{Const}
 use Rattle.class_model.specs.declared.attribute.Row.{Row}
 use Rattle.codec_rules.specs.Sequence.{◌>>=◌}

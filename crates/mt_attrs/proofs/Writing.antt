@@ -8,7 +8,6 @@ use Rattle.std.proofs.lemmas.List.Concat.{flat_map-cons}
 use Rattle.class_model.specs.declared.fault.Bound.{Bound}
 use Rattle.class_model.specs.declared.fault.LayoutFault.{LayoutFault}
 use Rattle.class_model.specs.declared.fault.LayoutFault.TheVariants as layout_fault
-use Rattle.mt_attrs.specs.Item.{spelled_by, AllBy}
 use Rattle.class_model.specs.declared.annotation.Elem.{Elem, out-Elem}
 use Rattle.class_model.specs.declared.instruction.Insn.{Insn}
 use Rattle.class_model.specs.declared.fault.Bound.TheVariants as bound

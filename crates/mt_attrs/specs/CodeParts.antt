@@ -1,7 +1,6 @@
 -- Code (JVMS 4.7.3) and the attributes inside it.
 use Rattle.std.specs.Prelude.{◌≡◌, ℕ, ◌<◌, ◌^◌, nat_lt, Bool, true, ◌&&◌, List, [], ◌++◌, length, Option, Some, None, Ok, Err, if◌then◌else◌}
 use Rattle.std.specs.Int.{w16, w32}
-use Rattle.std.specs.List.{flat_map}
 use Rattle.class_model.specs.declared.constant.Const.{Const}
 use Rattle.class_model.specs.declared.instruction.Insn.{Insn}
 use Rattle.class_model.specs.declared.attribute.Attr.{Attr, roll-Attr, out-Attr}
@@ -14,7 +13,7 @@ use Rattle.codec_rules.specs.Sequence.{◌>>=◌, or_fault}
 use Rattle.mt_insn.specs.Code.{IsCode, code, places}
 use Rattle.mt_insn.specs.Named.{names}
 use Rattle.mt_insn.specs.Targets.{code_at}
-use Rattle.mt_attrs.specs.Item.{PartReader, number, some_bytes, content, carried_at, many_by, AllBy, sized, counted, u2, u4}
+use Rattle.mt_attrs.specs.Item.{PartReader, number, some_bytes, content, carried_at, many_by, AllBy, sized, counted, u2}
 use Rattle.mt_attrs.specs.Named.{is_text, index_at, IsIndex}
 use Rattle.mt_attrs.specs.Lines.{lines_at, lines_bytes, AreLines}
 use Rattle.mt_attrs.specs.Rows.{rows_at, row_bytes, AreRows}

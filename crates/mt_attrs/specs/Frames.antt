@@ -1,5 +1,5 @@
 -- StackMapTable (JVMS 4.7.4). A frame whose place, or whose `new` places, are no instructions is told at its first byte; its place is tested before its verification types.
-use Rattle.std.specs.Prelude.{◌≡◌, ℕ, ◌+◌, ◌-◌, ◌≤◌, ◌<◌, ◌^◌, nat_lt, Bool, true, false, ◌||◌, ◌==◌, List, [], ◌∷◌, ◌++◌, length, Ok, Err, if◌then◌else◌}
+use Rattle.std.specs.Prelude.{ℕ, ◌+◌, ◌-◌, ◌≤◌, ◌<◌, ◌^◌, nat_lt, true, false, ◌||◌, ◌==◌, List, [], ◌++◌, length, Ok, Err, if◌then◌else◌}
 use Rattle.std.specs.Int.{w8, w16}
 use Rattle.std.specs.List.{flat_map, AllByRecursion}
 use Rattle.class_model.specs.declared.constant.Const.{Const}

@@ -1,5 +1,5 @@
 -- Writing attributes: what has no room, and what is written (JVMS 4.7). A list has at most 65,535 items, a code 65,535 bytes, and an attribute's content fewer than 2^32 bytes.
-use Rattle.std.specs.Prelude.{◌≡◌, ◌≢◌, ℕ, zero, suc, ◌+◌, ◌≤◌, ◌<◌, ◌^◌, nat_lt, Bool, true, false, List, [], ◌∷◌, ◌++◌, length, All, Option, Some, None, Result, Ok, Err, if◌then◌else◌}
+use Rattle.std.specs.Prelude.{◌≡◌, ◌≢◌, ℕ, zero, suc, ◌≤◌, ◌<◌, ◌^◌, nat_lt, List, [], ◌∷◌, ◌++◌, length, All, Option, Some, None, Result, Ok, Err, if◌then◌else◌}
 use Rattle.std.specs.Option.{option_map}
 use Rattle.class_model.specs.declared.attribute.Row.{Row}
 use Rattle.class_model.specs.declared.attribute.Attr.{Attr}
@@ -22,7 +22,7 @@ use Rattle.class_model.specs.declared.fault.LayoutFault.TheVariants as layout_fa
 use Rattle.codec_rules.specs.Sequence.{unless}
 use Rattle.mt_insn.specs.Code.{HasForm, HasTargets, places, layout}
 use Rattle.mt_attrs.specs.Item.{AllBy}
-use Rattle.mt_attrs.specs.Places.{start_of, IsBehind}
+use Rattle.mt_attrs.specs.Places.{IsBehind}
 use Rattle.mt_attrs.specs.Frames.{next_behind, room_of}
 use Rattle.mt_attrs.specs.Notes.{most_turns}
 use Rattle.mt_attrs.specs.CodeParts.{body_of, table_content}

@@ -1,7 +1,7 @@
 -- RuntimeVisibleAnnotations and RuntimeInvisibleAnnotations (JVMS 4.7.16, 4.7.17). Annotations stand in one another 32 deep at most, which is this project's own bound.
-use Rattle.std.specs.Prelude.{◌≡◌, ℕ, zero, suc, ◌<◌, ◌^◌, Bool, true, false, ◌||◌, ◌==◌, List, [], ◌∷◌, ◌++◌, length, Ok, Err, if◌then◌else◌}
+use Rattle.std.specs.Prelude.{◌≡◌, ℕ, zero, suc, ◌<◌, ◌^◌, Bool, true, ◌||◌, ◌==◌, List, [], ◌++◌, length, Ok, Err, if◌then◌else◌}
 use Rattle.std.specs.Int.{w8, w16}
-use Rattle.std.specs.List.{flat_map, AllByRecursion}
+use Rattle.std.specs.List.{AllByRecursion}
 use Rattle.class_model.specs.declared.constant.Const.{Const}
 use Rattle.class_model.specs.declared.annotation.Note.{Note}
 use Rattle.class_model.specs.declared.annotation.Elem.{Elem, out-Elem}

@@ -1,5 +1,5 @@
 -- Places in the code of a method, which are numbers of instructions in what is read (this project's own). `starts` has the place of each instruction, and a place takes two bytes.
-use Rattle.std.specs.Prelude.{◌≡◌, ℕ, ◌+◌, ◌-◌, ◌≤◌, ◌<◌, ◌^◌, nat_lt, ◌==◌, List, [], ◌∷◌, ◌++◌, length, slice_index, Option, Some, None, option_and_then, Ok, if◌then◌else◌}
+use Rattle.std.specs.Prelude.{ℕ, ◌+◌, ◌≤◌, ◌<◌, ◌^◌, nat_lt, ◌==◌, List, [], ◌∷◌, ◌++◌, length, slice_index, Option, Some, None, option_and_then, Ok, if◌then◌else◌}
 use Rattle.std.specs.Int.{w16}
 use Rattle.class_model.specs.declared.fault.ClassFault.TheVariants as fault
 use Rattle.codec_rules.specs.Sequence.{◌>>=◌}

@@ -4,7 +4,7 @@ use Rattle.std.specs.List.{AllByRecursion}
 use Rattle.class_model.specs.declared.attribute.Row.{Row}
 use Rattle.class_model.specs.declared.constant.Const.{Const}
 use Rattle.codec_rules.specs.Sequence.{◌>>=◌}
-use Rattle.mt_attrs.specs.Item.{PartReader, counted_at, counted, u2}
+use Rattle.mt_attrs.specs.Item.{PartReader, counted_at, u2}
 use Rattle.mt_attrs.specs.Named.{is_caught, caught_at, IsIndex}
 use Rattle.mt_attrs.specs.Places.{place_at, end_at, start_of, bound_of, IsPlace, IsEnd}
 

@@ -1,4 +1,4 @@
-use Rattle.std.proofs.Common.{◌≡◌, ◌-◌, ◌≤◌, ◌^◌, true}
+use Rattle.std.proofs.Common.{◌≡◌, ◌-◌}
 use Rattle.codec_rules.specs.Reading.{with_front}
 use Rattle.mt_attrs.specs.Item.{many_by}
 use Rattle.mt_attrs.specs.Attributes.{attr_at, attr_after}

@@ -1,4 +1,3 @@
-use Rattle.std.proofs.Common.{true}
 use Rattle.std.proofs.lemmas.Result.{err_from_is_err_and}
 use Rattle.mt_attrs.specs.Item.{want_of_memory, many_by}
 use Rattle.mt_attrs.proofs.Loops.{goes_by, ends_by, is_done_by}

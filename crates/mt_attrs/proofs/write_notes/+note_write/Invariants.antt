@@ -1,4 +1,4 @@
-use Rattle.std.proofs.Common.{◌≡◌, ◌+◌, ◌*◌}
+use Rattle.std.proofs.Common.{◌+◌, ◌*◌}
 use Rattle.mt_attrs.specs.Notes.{elem_bytes, pair_by}
 use Rattle.mt_attrs.specs.Layout.{elem_bound, pair_bound}
 use Rattle.mt_attrs.proofs.Writing.{Written}
