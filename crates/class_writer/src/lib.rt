@@ -1,0 +1,10 @@
+//! A class file (JVMS 4.1), written.
+#![tactic(auto)]
+
+mod laws;
+#[cfg(test)]
+mod tests;
+mod write;
+
+pub use laws::what_is_spelled_is_written;
+pub use write::write_class;
