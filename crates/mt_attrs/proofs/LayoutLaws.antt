@@ -56,7 +56,7 @@ by_each P Q next h s (x ∷ xs) q = (h s x q.0, by_each P Q next h (next s x) xs
 
 -- ---- no bound is passed
 
-abbrev Free : {A : Type 0} → (A → Option Bound) → A → Type 0
+abbrev pub Free : {A : Type 0} → (A → Option Bound) → A → Type 0
 Free passed x = passed x ≡ None
 
 both_free : (a b : Option Bound) → a ≡ None → b ≡ None → or_bound a b ≡ None

@@ -10,3 +10,4 @@ pub mod CodeLaws
 pub mod AttrsLaws
 pub mod Writing
 pub mod LayoutLaws
+pub mod WrittenLaws

@@ -68,12 +68,12 @@ above_back start n m e = above_by start n m _ refl e
 above_again : (start n : ℕ) → start < n → above start n ≡ Some n
 above_again start n lt = let t : ltb start n ≡ true = lt-ltb _ _ lt in rw t refl
 
-bound_start : (starts : List ℕ) (end n : ℕ) → n < length starts → get_or (starts ++ end ∷ []) n 0 ≡ get_or starts n 0
+pub bound_start : (starts : List ℕ) (end n : ℕ) → n < length starts → get_or (starts ++ end ∷ []) n 0 ≡ get_or starts n 0
 bound_start [] end n lt = absurd (omega (arith, lt))
 bound_start (s ∷ ss) end zero lt = refl
 bound_start (s ∷ ss) end (suc n) lt = bound_start ss end n (omega (arith, lt))
 
-bound_end : (starts : List ℕ) (end : ℕ) → get_or (starts ++ end ∷ []) (length starts) 0 ≡ end
+pub bound_end : (starts : List ℕ) (end : ℕ) → get_or (starts ++ end ∷ []) (length starts) 0 ≡ end
 bound_end [] end = refl
 bound_end (s ∷ ss) end = bound_end ss end
 

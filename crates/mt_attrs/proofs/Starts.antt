@@ -20,7 +20,7 @@ sized : (wide : Bool) (n m : ℕ) → 0 < cond wide (2 + n) (1 + m)
 sized true n m = omega arith
 sized false n m = omega arith
 
-takes : (place : ℕ) (insn : Insn) → place < place + size_at place insn
+pub takes : (place : ℕ) (insn : Insn) → place < place + size_at place insn
 takes place insn = omega (arith, sized insn.wide (formed_size (form_of insn.op) true (place + 2) insn.arg) (formed_size (form_of insn.op) false (place + 1) insn.arg))
 
 from_there : (place : ℕ) (insns : List Insn) (i : ℕ) → i < length (places_from place insns) → place ≤ get_or (places_from place insns) i 0

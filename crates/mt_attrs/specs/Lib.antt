@@ -9,3 +9,4 @@ pub mod Kinds
 pub mod CodeParts
 pub mod Attributes
 pub mod Layout
+pub mod Naming

@@ -9,6 +9,7 @@ ghost use Rattle.codec_rules.specs.Meets.{Reads, Gives};
 ghost use Rattle.codec_rules.specs.Spelling.{input_at};
 ghost use Rattle.mt_bytes.specs.Items.{ReadsItem};
 ghost use Rattle.mt_attrs.specs.Attributes.{attrs_at, attrs_bytes, AreAttrs};
+ghost use Rattle.mt_attrs.specs.Naming.{WrittenIsSpelled};
 ghost use Rattle.mt_attrs.specs.Layout.{attrs_layout, HasAttrForm, SpelledIsWritten};
 
 use class_model::{Attr, Bytes, ClassFault, Const, LayoutFault, Seq};
@@ -73,4 +74,9 @@ pub fn write_attrs(attrs: &Seq<Attr>, out: &mut Bytes) -> Result<(), LayoutFault
 /// What was read is written as it was: attributes that have a spelling are ones that `write_attrs` takes, and it gives that spelling.
 pub fn what_is_spelled_is_written()
     ensures { SpelledIsWritten }
+{}
+
+/// What was written is read again: the bytes that `write_attrs` gives are the spelling of the attributes, where these are named under a pool as they have to be.
+pub fn what_is_written_is_spelled()
+    ensures { WrittenIsSpelled }
 {}

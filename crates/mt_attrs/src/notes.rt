@@ -15,6 +15,9 @@ use std::alloc::Global;
 /// Elements can stand in one another as often as content of fewer than 2^32 bytes has room for.
 const MOST_TURNS: u32 = u32::MAX;
 
+/// How many elements may be open at once. Each takes a part of the stack, which is memory too: beyond that number there is none.
+const MOST_OPEN: u32 = 1000;
+
 /// The tags of constants: `B C D F I J S Z s`.
 fn is_constant_tag(tag: u8) -> bool
     ensures { result ≡ is_constant_tag tag }
@@ -181,10 +184,10 @@ fn read_elem(
 ) -> Result<Elem, ItemFault>
     ensures { ReadsPart (elem_at pool.now turns depth) cur.old cur.new result }
 {
-    let at = cur.at();
-    if turns == 0 {
-        return Err(ItemFault::Bad(ClassFault::BadLength { at }));
+    if turns <= MOST_TURNS - MOST_OPEN {
+        return Err(ItemFault::Bad(ClassFault::Memory));
     }
+    let at = cur.at();
     let tag = u1(cur)?;
     read_element(alloc, pool, turns - 1, depth, at, tag, cur)
 }

@@ -1,6 +1,8 @@
+ghost use Rattle.std.specs.Prelude.{◌<◌};
+
 use crate::{Owner, read_attrs, write_attrs};
 use class_model::{Attr, Body, Bound, Bytes, ClassFault, Const, LayoutFault, Seq, read_text};
-use mt_bytes::Cursor;
+use mt_bytes::{Cursor, put_u4};
 use std::test::Fail;
 
 /// A pool of texts, then an int and a class.
@@ -113,5 +115,38 @@ fn too_many_attributes(rt: HostRuntime) -> Result<(), Fail> {
         write_attrs(&attrs, &mut out),
         Err(LayoutFault::TooLarge { what: Bound::List })
     );
+    Ok(())
+}
+
+/// What is told of an annotation with so many arrays in each other.
+fn told_of_arrays(rt: &HostRuntime, count: u32) -> Result<Option<ClassFault>, Fail>
+    requires { count < 10000 }
+{
+    let mut bytes: Bytes = Seq::new(rt.alloc());
+    // one RuntimeVisibleAnnotations, whose content has 11 bytes beside those of the arrays
+    bytes.extend_from_slice(&[0, 1, 0, 2])?;
+    put_u4(&mut bytes, 11 + 3 * count)?;
+    bytes.extend_from_slice(&[0, 1, 0, 4, 0, 1, 0, 1])?;
+    for _ in 0..count {
+        bytes.extend_from_slice(&[91, 0, 1])?;
+    }
+    bytes.extend_from_slice(&[115, 0, 1])?;
+    let pool = pool_of(
+        rt,
+        &[
+            "SourceFile",
+            "RuntimeVisibleAnnotations",
+            "Signature",
+            "LT;",
+        ],
+    )?;
+    let mut cur = Cursor::new(bytes.as_slice(), 0);
+    Ok(read_attrs(rt.alloc(), &mut cur, Owner::OfClass, &pool).err())
+}
+
+#[test]
+fn arrays_in_each_other(rt: HostRuntime) -> Result<(), Fail> {
+    assert_eq!(rt; told_of_arrays(&rt, 900)?, None);
+    assert_eq!(rt; told_of_arrays(&rt, 2000)?, Some(ClassFault::Memory));
     Ok(())
 }

@@ -12,7 +12,7 @@ pub read_elem-returns : goal.read_elem-returns
 read_elem-returns t c =
     let turns = c.args.turns - 1 in
     Reads-along want_of_memory (elem_at c.args.pool.now c.args.turns c.args.depth) (element_at c.args.pool.now (elem_at c.args.pool.now turns c.args.depth) (inner_at c.args.pool.now (elem_at c.args.pool.now turns) c.args.depth) c.args.cur.now.at c.in_ok-tag.tag) c.args.cur.now c.u1.new.cur c.read_element.new.cur c.read_element.result
-    (elem_turn c.args.pool.now c.args.turns c.args.depth c.args.cur.now c.in_ok-tag.tag c.u1.new.cur (omega (arith, c.if-turns-eq0.false)) c.in_ok-tag.ensures)
+    (elem_turn c.args.pool.now c.args.turns c.args.depth c.args.cur.now c.in_ok-tag.tag c.u1.new.cur (omega (arith, c.if-turns.false)) c.in_ok-tag.ensures)
     (subst (λ (n : ℕ). ReadsPart (element_at c.args.pool.now (elem_at c.args.pool.now turns c.args.depth) (inner_at c.args.pool.now (elem_at c.args.pool.now turns) c.args.depth) n c.in_ok-tag.tag) c.u1.new.cur c.read_element.new.cur c.read_element.result) c.at-at.ensures.place c.read_element.ensures)
 
 pub read_elems-returns-in_err-elem : goal.read_elems-returns-in_err-elem
