@@ -6,5 +6,5 @@ mod laws;
 mod tests;
 mod write;
 
-pub use laws::what_is_spelled_is_written;
+pub use laws::{what_is_spelled_is_written, what_is_written_is_spelled};
 pub use write::write_class;
