@@ -1,0 +1,133 @@
+-- The classes of a program by number and by name.
+use Rattle.std.specs.Prelude.{◌≡◌, ◌≢◌, ℕ, zero, suc, ◌<◌, ◌^◌, if◌then◌else◌, List, [], ◌∷◌, ◌++◌, length, map, Option, Some, None, slice_get, option_and_then, IsSomeAnd, ⊤}
+use Rattle.std.specs.Option.{option_map}
+use Rattle.std.specs.Ordering.{nat_cmp}
+use Rattle.std.specs.declared.cmp.Ordering.TheVariants.{Greater}
+use Rattle.std.specs.Cmp.Lexicographic.{slice_cmp}
+use Rattle.class_model.specs.Text.{text}
+use Rattle.machine_rules.specs.Names.{Name, same}
+use Rattle.machine_rules.specs.Linked.{Linked, method_place}
+use Rattle.machine_rules.specs.Programs.{Look}
+use Rattle.class_table.specs.declared.loaded.Loaded.{Loaded}
+use Rattle.class_table.specs.declared.loaded.LibClass.{LibClass}
+use Rattle.class_table.specs.declared.loaded.ClassBody.{ClassBody}
+use Rattle.class_table.specs.declared.loaded.ClassBody.TheVariants as body
+use Rattle.class_table.specs.declared.linked.Entry.{Entry}
+use Rattle.class_table.specs.declared.linked.MethodRef.{MethodRef}
+use Rattle.class_table.specs.declared.linked.LinkedMethod.{LinkedMethod}
+use Rattle.class_table.specs.Info.{Info, body_name, class_of}
+use Rattle.class_table.specs.View.{method_ref_at}
+
+-- ---- names
+
+-- The place of the first of these names that is this one, counted from i.
+abbrev pub place_from : Name → ℕ → List Name → Option ℕ
+place_from n i [] = None
+place_from n i (m ∷ ms) = if same n m then Some i else place_from n (suc i) ms
+
+abbrev pub place_in : List Name → Name → Option ℕ
+place_in ns n = place_from n 0 ns
+
+abbrev pub name_or_none : Option Name → Name
+name_or_none None = []
+name_or_none (Some n) = n
+
+-- Each name stands at no place but its own.
+abbrev pub AreDistinct : List Name → Type 0
+AreDistinct ns = (i : ℕ) → i < length ns → place_in ns (name_or_none (slice_get ns i)) ≡ Some i
+
+-- A name stands at two places.
+pub record IsDuplicate (ns : List Name) (n : Name) : Type 0 where
+  pub first : ℕ
+  pub second : ℕ
+  pub apart : first < second
+  pub one : slice_get ns first ≡ Some n
+  pub two : slice_get ns second ≡ Some n
+
+-- Of all such names the least, in the order of their bytes in modified UTF-8.
+pub record IsLeastDuplicate (ns : List Name) (n : Name) : Type 0 where
+  pub duplicate : IsDuplicate ns n
+  pub least : (m : Name) → IsDuplicate ns m → slice_cmp nat_cmp (text n) (text m) ≢ Greater
+
+-- ---- programs
+
+-- The classes that a program is made of, in the order of their numbers: those of class files, then those of the library.
+abbrev pub bodies_of : List Loaded → List LibClass → List ClassBody
+bodies_of classes library = map body.File classes ++ map body.Library library
+
+abbrev pub names_of : List Loaded → List LibClass → List Name
+names_of classes library = map body_name (bodies_of classes library)
+
+-- The names of the classes by their numbers.
+abbrev pub names : List Info → List Name
+names p = map (λ i. i.name) p
+
+-- There are fewer classes than numbers, and no two have one name.
+pub record IsProgram (p : List Info) : Type 0 where
+  pub few : length p < 2 ^ 32
+  pub distinct : AreDistinct (names p)
+
+-- The number of the class of a name.
+abbrev pub number_of : List Info → Name → Option ℕ
+number_of p n = place_in (names p) n
+
+-- The class of a number.
+abbrev pub class_at : List Info → ℕ → Option Linked
+class_at p id = option_map class_of (slice_get p id)
+
+-- The name of the class of a number.
+abbrev pub name_at : List Info → ℕ → Name
+name_at p id = name_or_none (slice_get (names p) id)
+
+-- A program as the machine's definitions ask it: the class of each name.
+abbrev pub look : List Info → Look
+look p n = option_and_then (class_at p) (number_of p n)
+
+-- ---- what a class names, by number
+
+abbrev pub entries_in : Option Info → List Entry
+entries_in None = []
+entries_in (Some i) = i.linked.entries
+
+abbrev pub entries_at : List Info → ℕ → List Entry
+entries_at p class = entries_in (slice_get p class)
+
+abbrev pub methods_in : Option Info → List LinkedMethod
+methods_in None = []
+methods_in (Some i) = i.linked.methods
+
+abbrev pub methods_at : List Info → ℕ → List LinkedMethod
+methods_at p class = methods_in (slice_get p class)
+
+-- The method that an index of this class's constant pool names.
+abbrev pub reference_at : List Info → ℕ → ℕ → Option MethodRef
+reference_at p class index = option_and_then (λ i. method_ref_at i.linked index) (slice_get p class)
+
+-- The number of the class that it names.
+abbrev pub named_number : List Info → ℕ → ℕ → Option ℕ
+named_number p class index = option_and_then (λ r. number_of p r.class) (reference_at p class index)
+
+-- The place that the method of this name and descriptor has in another class.
+abbrev pub place_at : List Info → MethodRef → ℕ → Option ℕ
+place_at p r target = option_and_then (λ i. method_place r.name r.desc (class_of i).methods) (slice_get p target)
+
+abbrev pub named_place : List Info → ℕ → ℕ → ℕ → Option ℕ
+named_place p class index target = option_and_then (λ r. place_at p r target) (reference_at p class index)
+
+-- ---- one class in the place of another
+
+abbrev pub IsFile : ClassBody → Type 0
+IsFile (body.File loaded) = ⊤
+IsFile (body.Library c) = ⊥
+
+-- Two classes of class files have one name, one superclass and the same interfaces.
+pub record IsAlike (old new : Info) : Type 0 where
+  pub old_file : IsFile old.body
+  pub new_file : IsFile new.body
+  pub name : new.name ≡ old.name
+  pub parent : (class_of new).parent ≡ (class_of old).parent
+  pub interfaces : (class_of new).interfaces ≡ (class_of old).interfaces
+
+-- A class may stand in the place of the one of this number.
+abbrev pub CanSwap : List Info → ℕ → Info → Type 0
+CanSwap p id new = IsSomeAnd (slice_get p id) (λ old. IsAlike old new)

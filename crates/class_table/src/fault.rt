@@ -1,0 +1,41 @@
+ghost use Rattle.std.specs.Prelude.{◌≡◌};
+ghost use Rattle.class_table.specs.declared.fault.TableFault.TheVariants.{Memory as NoMemory};
+
+use class_model::{Memory, Name};
+use std::alloc::{AllocError, AllocFailed};
+use thiserror::Error;
+
+/// Why there is no program of these classes.
+#[derive(Debug, Drop, PartialEq, Error)]
+pub enum TableFault {
+    /// Two classes have this name.
+    #[error("two classes have one name")]
+    Duplicate { name: Name },
+    /// Memory has run out.
+    #[error("out of memory")]
+    Memory,
+}
+
+impl From<Memory> for TableFault {
+    ghost from_gives = { λ _ e. e ≡ NoMemory };
+
+    fn from(_: Memory) -> Self {
+        TableFault::Memory
+    }
+}
+
+impl From<AllocError> for TableFault {
+    ghost from_gives = { λ _ e. e ≡ NoMemory };
+
+    fn from(_: AllocError) -> Self {
+        TableFault::Memory
+    }
+}
+
+impl<T: Drop> From<AllocFailed<T>> for TableFault {
+    ghost from_gives = { λ _ e. e ≡ NoMemory };
+
+    fn from(_: AllocFailed<T>) -> Self {
+        TableFault::Memory
+    }
+}

@@ -1,0 +1,65 @@
+ghost use Rattle.std.specs.Prelude.{◌≡◌, IfOk};
+ghost use Rattle.class_table.specs.Info.{body_name, link_body, class_of};
+
+use crate::linked::LinkedClass;
+use crate::loaded::ClassBody;
+use class_model::{Memory, Name};
+use std::alloc::Global;
+use std::marker::Model;
+
+/// A class of a program: its name, where it comes from, and what it means.
+#[derive(Drop)]
+pub struct ClassInfo {
+    name: Name,
+    body: ClassBody,
+    linked: LinkedClass,
+}
+
+impl Model for ClassInfo {
+    ghost use Rattle.std.specs.Coded.{codes};
+    ghost use Rattle.class_model.specs.contracts.attribute.Body as content;
+    ghost use Rattle.class_model.specs.contracts.attribute.Code as written;
+    ghost use Rattle.class_table.specs.Info.{Info, IsInfo};
+
+    ghost Value = { Info };
+
+    ghost coded = { Prim.hlevel (codes, content.the_row.coded, written.the_row.coded) };
+
+    ghost view = { λ i. record { name = i.name; body = i.body; linked = i.linked } };
+
+    ghost invariant = { λ i. IsInfo (record { name = i.name; body = i.body; linked = i.linked }) };
+}
+
+impl ClassInfo {
+    pub fn new(_alloc: Global, body: ClassBody) -> Result<ClassInfo, Memory>
+        ensures body { IfOk result (λ info. info.body ≡ body) }
+        ensures name { IfOk result (λ info. info.name ≡ body_name body) }
+        ensures class { IfOk result (λ info. class_of info ≡ link_body body) }
+    {
+        let _body = body;
+        Err(Memory)
+    }
+
+    /// The class's name.
+    pub fn name(&self) -> &Name
+        ensures value { result.now ≡ self.now.name }
+        ensures of_body { result.now ≡ body_name self.now.body }
+    {
+        &self.name
+    }
+
+    /// Where the class comes from.
+    pub fn body(&self) -> &ClassBody
+        ensures { result.now ≡ self.now.body }
+    {
+        &self.body
+    }
+
+    /// What the class means.
+    pub fn linked(&self) -> &LinkedClass
+        ensures value { result.now ≡ self.now.linked }
+        ensures of_body { class_of self.now ≡ link_body self.now.body }
+    {
+        &self.linked
+    }
+}

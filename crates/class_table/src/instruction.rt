@@ -1,0 +1,124 @@
+/// Operations on two ints or two longs (JVMS 6.5).
+#[derive(Clone, Copy, PartialEq, Eq, Debug)]
+pub enum Operation {
+    Plus,
+    Minus,
+    Times,
+    Divide,
+    Remainder,
+    BitAnd,
+    BitOr,
+    BitXor,
+}
+
+#[derive(Clone, Copy, PartialEq, Eq, Debug)]
+pub enum ShiftKind {
+    Left,
+    Right,
+    Unsigned,
+}
+
+/// How a jump compares an int with 0, or two ints.
+#[derive(Clone, Copy, PartialEq, Eq, Debug)]
+pub enum Comparison {
+    Equal,
+    Unequal,
+    Less,
+    AtLeast,
+    Greater,
+    AtMost,
+}
+
+#[derive(Clone, Copy, PartialEq, Eq, Debug)]
+pub enum Conversion {
+    IntToLong,
+    LongToInt,
+    IntToByte,
+    IntToChar,
+    IntToShort,
+}
+
+/// What an array's elements are to the instructions that read and write them: one kind serves bytes and booleans.
+#[derive(Clone, Copy, PartialEq, Eq, Debug)]
+pub enum Element {
+    Int,
+    Long,
+    Reference,
+    Byte,
+    Char,
+    Short,
+}
+
+/// An instruction, one for each kind of the profile, whichever opcode or `wide` form it was spelled by (JVMS 6.5).
+///
+/// A place in the code is an instruction number. What names a text, a class, a field or a method has the index of the class's constant pool, counted from 1, and a switch has its number among those of its code: `LinkedClass` and `LinkedCode` say
+/// what is there. Where nothing of the kind that is needed is there, the instruction means nothing, and no row of the machine applies to it.
+#[derive(Clone, Copy, PartialEq, Eq, Debug)]
+pub enum Instruction {
+    Nop,
+    NullConstant,
+    IntConstant(i32),
+    LongConstant(i64),
+    TextConstant(u32),
+    ClassConstant(u32),
+    IntLoad(u16),
+    LongLoad(u16),
+    ReferenceLoad(u16),
+    IntStore(u16),
+    LongStore(u16),
+    ReferenceStore(u16),
+    ArrayLoad(Element),
+    ArrayStore(Element),
+    Pop,
+    Pop2,
+    Dup,
+    DupX1,
+    DupX2,
+    Dup2,
+    Dup2X1,
+    Dup2X2,
+    Swap,
+    IntOperation(Operation),
+    LongOperation(Operation),
+    IntNegate,
+    LongNegate,
+    IntShift(ShiftKind),
+    LongShift(ShiftKind),
+    Increment(u16, i16),
+    Convert(Conversion),
+    LongCompare,
+    IfInt(Comparison, u32),
+    IfInts(Comparison, u32),
+    IfSame(u32),
+    IfNotSame(u32),
+    IfNull(u32),
+    IfNotNull(u32),
+    Goto(u32),
+    TableSwitch(u32),
+    LookupSwitch(u32),
+    IntReturn,
+    LongReturn,
+    ReferenceReturn,
+    PlainReturn,
+    GetStatic(u32),
+    PutStatic(u32),
+    GetField(u32),
+    PutField(u32),
+    InvokeVirtual(u32),
+    InvokeInterface(u32),
+    InvokeSpecial(u32),
+    InvokeStatic(u32),
+    New(u32),
+    /// An array of elements of this number: 4 boolean, 5 char, 8 byte, 9 short, 10 int, 11 long (JVMS 6.5, newarray).
+    NewArray(u8),
+    NewReferenceArray(u32),
+    /// The index of the array's class, and its dimensions.
+    NewMultiArray(u32, u8),
+    ArrayLength,
+    Throw,
+    CheckCast(u32),
+    InstanceOf(u32),
+    MonitorEnter,
+    MonitorExit,
+    Unlinked,
+}

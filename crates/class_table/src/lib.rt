@@ -1,0 +1,24 @@
+//! The classes of a program by name and by number, each with what its class file means once pool indices are resolved to names.
+#![tactic(auto)]
+
+mod consulted;
+mod fault;
+mod info;
+mod instruction;
+mod linked;
+mod loaded;
+mod program;
+mod scripted;
+
+pub use consulted::Consulted;
+pub use fault::TableFault;
+pub use info::ClassInfo;
+pub use instruction::{Comparison, Conversion, Element, Instruction, Operation, ShiftKind};
+pub use linked::{
+    Entry, FieldConstant, FieldRef, LinkedBody, LinkedClass, LinkedCode, LinkedField, LinkedLine,
+    LinkedMethod, LinkedRow, MethodRef, Native, Switch,
+};
+pub use loaded::{ClassBody, LibBody, LibClass, LibField, LibMethod, Loaded};
+pub use machine_rules::CallKind;
+pub use program::Program;
+pub use scripted::{Call, Test};

@@ -1,0 +1,51 @@
+use class_model::{Class, Code, Const, Name, Seq, SharedBytes};
+
+/// A class file and what it says.
+#[derive(Debug, Drop, PartialEq)]
+pub struct Loaded {
+    pub bytes: SharedBytes,
+    pub class: Class,
+}
+
+/// What stands behind the head of a method of the library.
+#[derive(Debug, Drop, PartialEq)]
+pub enum LibBody {
+    /// A native method by its number.
+    Native(u16),
+    /// Code, and the constant pool that its indices count in, from 1.
+    Written(Seq<Const>, Code),
+    Abstract,
+}
+
+#[derive(Debug, Drop, PartialEq)]
+pub struct LibField {
+    pub name: Name,
+    pub desc: Name,
+    pub flags: u16,
+}
+
+#[derive(Debug, Drop, PartialEq)]
+pub struct LibMethod {
+    pub name: Name,
+    pub desc: Name,
+    pub flags: u16,
+    pub body: LibBody,
+}
+
+/// A class that comes with the machine.
+#[derive(Debug, Drop, PartialEq)]
+pub struct LibClass {
+    pub name: Name,
+    pub parent: Option<Name>,
+    pub interfaces: Seq<Name>,
+    pub flags: u16,
+    pub fields: Seq<LibField>,
+    pub methods: Seq<LibMethod>,
+}
+
+/// Where a class comes from.
+#[derive(Debug, Drop, PartialEq)]
+pub enum ClassBody {
+    File(Loaded),
+    Library(LibClass),
+}

@@ -1,0 +1,168 @@
+ghost use Rattle.std.specs.Prelude.{◌≡◌, ◌≢◌, ◌<◌, ℕ, List, map, length, slice_get, slice_set, Some, None, Err, IfOk, OnOk, IfSome, IfNone, IsSomeAnd};
+ghost use Rattle.std.specs.Option.{option_map, option_copied};
+ghost use Rattle.std.specs.Arc.{arc_value};
+ghost use Rattle.machine_rules.specs.Linked.{method_in};
+ghost use Rattle.class_table.specs.View.{method_of};
+ghost use Rattle.class_table.specs.Info.{class_of, link_body};
+ghost use Rattle.class_table.specs.Table.{AreDistinct, IsLeastDuplicate, bodies_of, names_of, number_of, CanSwap, class_at, name_at, look, entries_at, methods_at, named_number, named_place, IsProgram};
+ghost use Rattle.class_table.specs.declared.fault.TableFault.TheVariants.{Duplicate};
+
+use crate::fault::TableFault;
+use crate::info::ClassInfo;
+use crate::linked::LinkedMethod;
+use crate::loaded::{LibClass, Loaded};
+use class_model::{ClassId, Memory, Name, Seq};
+use std::alloc::Global;
+use std::collections::HashMap;
+use std::marker::Model;
+use std::mem;
+use std::sync::Arc;
+
+/// The classes of a program. Each has a number: first those of class files in the order in which they were handed in, then those of the library.
+#[derive(Drop)]
+pub struct Program {
+    classes: Vec<Arc<ClassInfo, Global>>,
+    numbers: Arc<HashMap<Name, u32>, Global>,
+}
+
+impl Model for Program {
+    ghost use Rattle.std.specs.Prelude.{◌≡◌, ℕ, List, map};
+    ghost use Rattle.std.specs.Coded.{codes};
+    ghost use Rattle.std.specs.Arc.{arc_value};
+    ghost use Rattle.class_model.specs.contracts.attribute.Body as content;
+    ghost use Rattle.class_model.specs.contracts.attribute.Code as written;
+    ghost use Rattle.class_table.specs.Info.{Info};
+    ghost use Rattle.class_table.specs.Table.{IsProgram};
+    ghost use Rattle.class_table.specs.Numbers.{IsNumbering};
+
+    ghost Value = { List Info };
+
+    ghost coded = { Prim.hlevel (codes, content.the_row.coded, written.the_row.coded) };
+
+    ghost view = { λ p. map (λ c. arc_value c) p.classes.items };
+
+    ghost invariant = { λ p. IsProgram (map (λ c. arc_value c) p.classes.items) × IsNumbering (arc_value p.numbers) (map (λ c. arc_value c) p.classes.items) };
+}
+
+impl Program {
+    /// The program of these classes. Where there are 2^32 classes or more, memory runs out.
+    pub fn build(
+        alloc: Global,
+        classes: Seq<Loaded>,
+        library: Seq<LibClass>,
+    ) -> Result<Program, TableFault>
+        ensures classes { IfOk result (λ p. map (λ i. i.body) p ≡ bodies_of classes library) }
+        ensures distinct { OnOk result (AreDistinct (names_of classes library)) }
+        ensures duplicate { (name : List ℕ) → result ≡ Err (Duplicate name) → IsLeastDuplicate (names_of classes library) name }
+    {
+        let _alloc = alloc;
+        let _classes = classes;
+        let _library = library;
+        Err(TableFault::Memory)
+    }
+
+    /// How many classes there are.
+    pub fn len(&self) -> usize
+        ensures value { result ≡ length self.now }
+        ensures form { IsProgram self.now }
+    {
+        self.classes.len()
+    }
+
+    /// The class of a number.
+    pub fn info(&self, id: ClassId) -> &ClassInfo
+        requires { id.0 < length self.now }
+        ensures place { slice_get self.now id.0 ≡ Some result.now }
+        ensures class { look self.now (name_at self.now id.0) ≡ Some (class_of result.now) }
+        ensures named { name_at self.now id.0 ≡ result.now.name }
+        ensures of_body { class_of result.now ≡ link_body result.now.body }
+    {
+        &self.classes[id.0 as usize]
+    }
+
+    /// The number of a class.
+    pub fn find(&self, name: &Name) -> Option<ClassId>
+        ensures found { IfSome result (λ id. number_of self.now name.now ≡ Some id.0) }
+        ensures within { IfSome result (λ id. id.0 < length self.now) }
+        ensures named { IfSome result (λ id. name_at self.now id.0 ≡ name.now) }
+        ensures class { IfSome result (λ id. look self.now name.now ≡ class_at self.now id.0) }
+        ensures absent { IfNone result (number_of self.now name.now ≡ None) }
+        ensures nothing { IfNone result (look self.now name.now ≡ None) }
+    {
+        let number = self.numbers.get(name)?;
+        Some(ClassId(*number))
+    }
+
+    /// Puts a class in the place of another one of the same name, superclass and interfaces, and gives back the other. Both are of class files.
+    pub fn swap(
+        &mut self,
+        id: ClassId,
+        with: Arc<ClassInfo, Global>,
+    ) -> Arc<ClassInfo, Global>
+        requires { CanSwap self.old id.0 (arc_value with) }
+        ensures program { self.new ≡ slice_set self.old id.0 (arc_value with) }
+        ensures other { slice_get self.old id.0 ≡ Some (arc_value result) }
+    {
+        mem::replace(&mut self.classes[id.0 as usize], with)
+    }
+
+    /// An equal program. Its classes are shared, and none is copied.
+    pub fn copy(&self) -> Result<Program, Memory>
+        ensures { IfOk result (λ p. p ≡ self.now) }
+    {
+        Ok(Program {
+            classes: copy_classes(&self.classes)?,
+            numbers: self.numbers.clone()?,
+        })
+    }
+
+    /// The method at a place of a class.
+    pub fn method(&self, class: ClassId, method: u32) -> Option<&LinkedMethod>
+        ensures place { option_copied result ≡ slice_get (methods_at self.now class.0) method }
+        ensures linked { class.0 < length self.now → option_map (λ m. method_of (entries_at self.now class.0) m.now) result ≡ method_in (look self.now (name_at self.now class.0)) method }
+    {
+        self.classes.get(class.0 as usize)?.linked().methods.get(method as usize)
+    }
+
+    /// The number of the class whose method an index of this class's constant pool names.
+    pub fn named_class(&self, class: ClassId, reference: u32) -> Option<ClassId>
+        ensures found { IfSome result (λ id. named_number self.now class.0 reference ≡ Some id.0) }
+        ensures within { IfSome result (λ id. id.0 < length self.now) }
+        ensures absent { IfNone result (named_number self.now class.0 reference ≡ None) }
+    {
+        let reference = self
+            .classes
+            .get(class.0 as usize)?
+            .linked()
+            .method_ref(reference)?;
+        self.find(&reference.class)
+    }
+
+    /// The place in another class of the method whose name and descriptor an index of this class's constant pool names. Of two such methods it is the first.
+    pub fn named_method(&self, class: ClassId, reference: u32, target: ClassId) -> Option<u32>
+        ensures found { IfSome result (λ place. named_place self.now class.0 reference target.0 ≡ Some place) }
+        ensures absent { IfNone result (named_place self.now class.0 reference target.0 ≡ None) }
+    {
+        let reference = self
+            .classes
+            .get(class.0 as usize)?
+            .linked()
+            .method_ref(reference)?;
+        self.classes
+            .get(target.0 as usize)?
+            .linked()
+            .method_place(&reference.name, &reference.desc)
+    }
+}
+
+fn copy_classes(
+    classes: &Vec<Arc<ClassInfo, Global>>,
+) -> Result<Vec<Arc<ClassInfo, Global>>, Memory>
+    ensures { IfOk result (λ copy. map (λ c. arc_value c) copy.items ≡ map (λ c. arc_value c) classes.now.items) }
+{
+    let mut copy = Vec::with_capacity(*classes.allocator(), classes.len())?;
+    for class in classes {
+        copy.push(class.clone()?)?;
+    }
+    Ok(copy)
+}
