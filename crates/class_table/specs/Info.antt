@@ -1,5 +1,5 @@
 -- A class of a program: its name, where it comes from, and what it means.
-use Rattle.std.specs.Prelude.{◌≡◌, List}
+use Rattle.std.specs.Prelude.{◌≡◌, ◌<◌, ◌^◌, List, length}
 use Rattle.class_model.specs.declared.class.Class.{Class}
 use Rattle.machine_rules.specs.Names.{Name}
 use Rattle.machine_rules.specs.Linked.{Linked}
@@ -28,10 +28,11 @@ pub record Info : Type 0 where
   pub body : ClassBody
   pub linked : LinkedClass
 
--- The name and the meaning are those of the body.
+-- The name and the meaning are those of the body, and each method has a number.
 pub record IsInfo (i : Info) : Type 0 where
   pub name : i.name ≡ body_name i.body
   pub linked : linked_of i.linked ≡ link_body i.body
+  pub few : length i.linked.methods < 2 ^ 32
 
 -- The class as the definitions see it.
 abbrev pub class_of : Info → Linked

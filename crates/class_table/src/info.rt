@@ -1,4 +1,4 @@
-ghost use Rattle.std.specs.Prelude.{◌≡◌, IfOk};
+ghost use Rattle.std.specs.Prelude.{◌≡◌, ◌<◌, ◌^◌, length, IfOk};
 ghost use Rattle.class_table.specs.Info.{body_name, link_body, class_of};
 
 use crate::linked::LinkedClass;
@@ -59,6 +59,7 @@ impl ClassInfo {
     pub fn linked(&self) -> &LinkedClass
         ensures value { result.now ≡ self.now.linked }
         ensures of_body { class_of self.now ≡ link_body self.now.body }
+        ensures few { length self.now.linked.methods < 2 ^ 32 }
     {
         &self.linked
     }

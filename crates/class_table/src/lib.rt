@@ -2,11 +2,13 @@
 #![tactic(auto)]
 
 mod consulted;
+mod entries;
 mod fault;
 mod info;
 mod instruction;
 mod linked;
 mod loaded;
+mod opcodes;
 mod program;
 mod scripted;
 

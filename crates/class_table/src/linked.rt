@@ -1,12 +1,11 @@
-ghost use Rattle.std.specs.Prelude.{◌≡◌, List, map, Some, None, IfSome, IfNone};
+ghost use Rattle.std.specs.Prelude.{◌≡◌, ◌<◌, List, map, length, Some, None, IfSome, IfNone};
 ghost use Rattle.std.specs.Option.{option_copied};
 ghost use Rattle.machine_rules.specs.Linked.{method_place};
 ghost use Rattle.class_table.specs.View.{method_ref_at, method_of, linked_of};
 ghost use Rattle.class_table.specs.declared.linked.Entry as entry;
 
-use class_model::{Kind, Name, Seq};
-
 use crate::instruction::Instruction;
+use class_model::{Kind, Name, Seq};
 
 /// A method that is named, with what its descriptor states (JVMS 4.3.3, 4.4.2). A result of `None` is void. `interface` is set where the entry names a method of an interface.
 #[derive(Debug, Drop, PartialEq)]
@@ -145,16 +144,18 @@ impl LinkedClass {
     }
 
     /// The place of the method of this name and descriptor, of two the first.
-    pub fn method_place(&self, name: &Name, desc: &Name) -> Option<u32>
+    #[tactic(auto, unfolding(crate::specs::View::linked_of))]
+    pub fn method_place(&self, name: &Name, desc: &Name) -> Option<usize>
         ensures found { IfSome result (λ place. method_place name.now desc.now (linked_of self.now).methods ≡ Some place) }
+        ensures within { IfSome result (λ place. place < length self.now.methods) }
         ensures absent { IfNone result (method_place name.now desc.now (linked_of self.now).methods ≡ None) }
     {
-        let place = place_of(self.methods.as_slice(), name, desc)?;
-        Some(place as u32)
+        place_of(self.methods.as_slice(), name, desc)
     }
 }
 
 fn place_of(methods: &[LinkedMethod], name: &Name, desc: &Name) -> Option<usize>
+    ensures within { IfSome result (λ place. place < length methods.now) }
     ensures found { IfSome result (λ place. (es : List entry.Entry) → method_place name.now desc.now (map (method_of es) methods.now) ≡ Some place) }
     ensures absent { IfNone result ((es : List entry.Entry) → method_place name.now desc.now (map (method_of es) methods.now) ≡ None) }
 {

@@ -69,7 +69,16 @@ impl Program {
         self.classes.len()
     }
 
+    /// The class of a number, if there is one.
+    pub fn get(&self, id: ClassId) -> Option<&ClassInfo>
+        ensures place { option_copied result ≡ slice_get self.now id.0 }
+        ensures form { IsProgram self.now }
+    {
+        Some(self.classes.get(id.0 as usize)?)
+    }
+
     /// The class of a number.
+    #[tactic(auto, using(crate::proofs::Places::name_of_class, crate::proofs::Places::look_at))]
     pub fn info(&self, id: ClassId) -> &ClassInfo
         requires { id.0 < length self.now }
         ensures place { slice_get self.now id.0 ≡ Some result.now }
@@ -77,10 +86,21 @@ impl Program {
         ensures named { name_at self.now id.0 ≡ result.now.name }
         ensures of_body { class_of result.now ≡ link_body result.now.body }
     {
+        let info = self.at(id);
+        let _linked = info.linked();
+        info
+    }
+
+    fn at(&self, id: ClassId) -> &ClassInfo
+        requires { id.0 < length self.now }
+        ensures place { slice_get self.now id.0 ≡ Some result.now }
+        ensures form { IsProgram self.now }
+    {
         &self.classes[id.0 as usize]
     }
 
     /// The number of a class.
+    #[tactic(auto, using(crate::proofs::Places::number_within, crate::proofs::Places::number_named))]
     pub fn find(&self, name: &Name) -> Option<ClassId>
         ensures found { IfSome result (λ id. number_of self.now name.now ≡ Some id.0) }
         ensures within { IfSome result (λ id. id.0 < length self.now) }
@@ -103,7 +123,7 @@ impl Program {
         ensures program { self.new ≡ slice_set self.old id.0 (arc_value with) }
         ensures other { slice_get self.old id.0 ≡ Some (arc_value result) }
     {
-        mem::replace(&mut self.classes[id.0 as usize], with)
+        put(&mut self.classes, id.0 as usize, with)
     }
 
     /// An equal program. Its classes are shared, and none is copied.
@@ -117,11 +137,12 @@ impl Program {
     }
 
     /// The method at a place of a class.
+    #[tactic(auto, using(crate::proofs::Places::method_linked))]
     pub fn method(&self, class: ClassId, method: u32) -> Option<&LinkedMethod>
         ensures place { option_copied result ≡ slice_get (methods_at self.now class.0) method }
-        ensures linked { class.0 < length self.now → option_map (λ m. method_of (entries_at self.now class.0) m.now) result ≡ method_in (look self.now (name_at self.now class.0)) method }
+        ensures linked { class.0 < length self.now → option_map (method_of (entries_at self.now class.0)) (option_copied result) ≡ method_in (look self.now (name_at self.now class.0)) method }
     {
-        self.classes.get(class.0 as usize)?.linked().methods.get(method as usize)
+        self.get(class)?.linked().methods.get(method as usize)
     }
 
     /// The number of the class whose method an index of this class's constant pool names.
@@ -130,11 +151,7 @@ impl Program {
         ensures within { IfSome result (λ id. id.0 < length self.now) }
         ensures absent { IfNone result (named_number self.now class.0 reference ≡ None) }
     {
-        let reference = self
-            .classes
-            .get(class.0 as usize)?
-            .linked()
-            .method_ref(reference)?;
+        let reference = self.get(class)?.linked().method_ref(reference)?;
         self.find(&reference.class)
     }
 
@@ -143,16 +160,25 @@ impl Program {
         ensures found { IfSome result (λ place. named_place self.now class.0 reference target.0 ≡ Some place) }
         ensures absent { IfNone result (named_place self.now class.0 reference target.0 ≡ None) }
     {
-        let reference = self
-            .classes
-            .get(class.0 as usize)?
+        let reference = self.get(class)?.linked().method_ref(reference)?;
+        let place = self
+            .get(target)?
             .linked()
-            .method_ref(reference)?;
-        self.classes
-            .get(target.0 as usize)?
-            .linked()
-            .method_place(&reference.name, &reference.desc)
+            .method_place(&reference.name, &reference.desc)?;
+        Some(place as u32)
     }
+}
+
+fn put(
+    classes: &mut [Arc<ClassInfo, Global>],
+    at: usize,
+    with: Arc<ClassInfo, Global>,
+) -> Arc<ClassInfo, Global>
+    requires { at < length classes.old }
+    ensures program { map (λ c. arc_value c) classes.new ≡ slice_set (map (λ c. arc_value c) classes.old) at (arc_value with) }
+    ensures other { slice_get (map (λ c. arc_value c) classes.old) at ≡ Some (arc_value result) }
+{
+    mem::replace(&mut classes[at], with)
 }
 
 fn copy_classes(

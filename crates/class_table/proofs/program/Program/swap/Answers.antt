@@ -1,0 +1,31 @@
+use Rattle.std.proofs.Common.{◌≡◌, ◌∙◌, sym, ap, List, map, length, Some, slice_get, slice_set, arith, subst}
+use Rattle.std.specs.Arc.{arc_value}
+use Rattle.std.proofs.lemmas.List.{with_items_is}
+use Rattle.class_table.specs.Info.{Info}
+use Rattle.class_table.specs.Table.{IsProgram}
+use Rattle.class_table.specs.Numbers.{IsNumbering}
+use Rattle.class_table.proofs.Places.{swap_names, program_kept, numbers_kept}
+use Rattle.class_table.proofs.program.Program.swap.Goals as goal
+
+abbrev before : (c : goal.After-self-1) → map (λ i. arc_value i) c.deref_mut.result.now ≡ c.args.self.now
+before c = ap (map (λ i. arc_value i)) c.deref_mut.ensures.value ∙ c.self.view_is
+
+abbrev after : (c : goal.After-self-1) → map (λ i. arc_value i) c.put.new.classes ≡ slice_set c.args.self.now c.args.id.0 (arc_value c.args.with)
+after c = c.put.ensures.program ∙ ap (λ p. slice_set p c.args.id.0 (arc_value c.args.with)) (before c)
+
+abbrev long : (c : goal.After-self-1) → length c.put.new.classes ≡ c.self.inside.classes.len
+long c = grind (arith, c.put.auto.classes, c.deref_mut.ensures.value, c.deref_mut.ensures.len, c.self.inside.classes.ok.0)
+
+pub invariant_of-self : goal.invariant_of-self
+invariant_of-self c =
+    let names-same = swap_names c.args.self.now c.args.id.0 (arc_value c.args.with) c.requires in
+    let P : List Info → Type 0 = λ p. IsProgram p × IsNumbering (arc_value c.self.inside.numbers) p in
+    let old : P c.args.self.now = subst P c.self.view_is c.self.invariant in
+    let new : P (slice_set c.args.self.now c.args.id.0 (arc_value c.args.with)) = (program_kept c.args.self.now _ names-same old.0, numbers_kept (arc_value c.self.inside.numbers) c.args.self.now _ names-same old.1) in
+    subst (λ xs. P (map (λ i. arc_value i) xs)) (sym (with_items_is c.self.inside.classes c.put.new.classes (long c))) (subst P (sym (after c)) new)
+
+pub returns-clause-program : goal.returns-clause-program
+returns-clause-program c = ap (map (λ i. arc_value i)) (with_items_is c.self.inside.classes c.put.new.classes (long c)) ∙ after c
+
+pub returns-clause-other : goal.returns-clause-other
+returns-clause-other c = ap (λ p. slice_get p c.args.id.0) (sym (before c)) ∙ c.put.ensures.other
