@@ -59,7 +59,7 @@ fn pair_desc_at(pool: &[Const], index: u16) -> Option<&Name>
 
 // A name that is there is copied; else it is empty.
 fn copy_or_empty(alloc: Global, name: Option<&Name>) -> Result<Name, Memory>
-    ensures { IfOk result (λ n. n ≡ name_or_empty (option_copied name)) }
+    ensures { IfOk result (λ n. n ≡ name_or_empty (option_copied name.entry)) }
 {
     match name {
         Some(name) => Ok(name.copy()?),

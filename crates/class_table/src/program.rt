@@ -4,7 +4,7 @@ ghost use Rattle.std.specs.Arc.{arc_value};
 ghost use Rattle.machine_rules.specs.Linked.{method_in};
 ghost use Rattle.class_table.specs.View.{method_of};
 ghost use Rattle.class_table.specs.Info.{class_of, link_body};
-ghost use Rattle.class_table.specs.Table.{AreDistinct, IsLeastDuplicate, bodies_of, names_of, number_of, CanSwap, class_at, name_at, look, entries_at, methods_at, named_number, named_place, IsProgram};
+ghost use Rattle.class_table.specs.Table.{AreDistinct, IsLeastDuplicate, bodies_of, names_of, number_of, CanSwap, class_at, name_at, look, entries_at, methods_at, reference_at, named_number, named_place, IsProgram};
 ghost use Rattle.class_table.specs.declared.fault.TableFault.TheVariants.{Duplicate};
 
 use crate::fault::TableFault;
@@ -149,7 +149,9 @@ impl Program {
     pub fn named_class(&self, class: ClassId, reference: u32) -> Option<ClassId>
         ensures found { IfSome result (λ id. named_number self.now class.0 reference ≡ Some id.0) }
         ensures within { IfSome result (λ id. id.0 < length self.now) }
+        ensures named { IfSome result (λ id. IsSomeAnd (reference_at self.now class.0 reference) (λ r. (name_at self.now id.0 ≡ r.class) × (look self.now r.class ≡ class_at self.now id.0))) }
         ensures absent { IfNone result (named_number self.now class.0 reference ≡ None) }
+        ensures nothing { IfNone result (IfSome (reference_at self.now class.0 reference) (λ r. look self.now r.class ≡ None)) }
     {
         let reference = self.get(class)?.linked().method_ref(reference)?;
         self.find(&reference.class)
