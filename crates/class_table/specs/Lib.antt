@@ -2,6 +2,7 @@ pub mod Symbols
 pub mod Opcodes
 pub mod Linking
 pub mod View
+pub mod Switches
 pub mod Info
 pub mod Table
 pub mod Numbers

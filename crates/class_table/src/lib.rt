@@ -7,6 +7,7 @@ mod fault;
 mod info;
 mod instruction;
 mod linked;
+mod linking;
 mod loaded;
 mod opcodes;
 mod program;

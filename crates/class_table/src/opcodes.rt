@@ -1,8 +1,9 @@
 //! Which instruction an opcode with its operand spells (JVMS 6.5, 7).
 #![tactic(auto, unfolding(crate::specs::View::instruction_of))]
 
-ghost use Rattle.std.specs.Prelude.{◌≡◌, ℕ, List};
-ghost use Rattle.class_table.specs.View.{instruction_of, meaning_at};
+ghost use Rattle.std.specs.Prelude.{◌≡◌, ◌==◌, ℕ, List, slice_get, if◌then◌else◌};
+ghost use Rattle.machine_rules.specs.Instructions.{Unlinked};
+ghost use Rattle.class_table.specs.View.{instruction_of, meaning_at, table_of, lookup_of};
 ghost use Rattle.class_table.specs.Opcodes as opcodes;
 ghost use Rattle.class_table.specs.declared.linked.Entry as entry;
 ghost use Rattle.class_table.specs.declared.linked.Switch as switch;
@@ -286,6 +287,26 @@ pub fn with_elements(op: u8, elements: u8) -> Instruction
 {
     match op {
         0xbc => Instruction::NewArray(elements),
+        _ => Instruction::Unlinked,
+    }
+}
+
+/// A `tableswitch`, which is the switch of this number.
+pub fn table_switch(op: u8, number: u32) -> Instruction
+    ensures { (es : List entry.Entry) (ss : List switch.Switch) → instruction_of es ss result ≡ (if op == 0xaa then table_of (slice_get ss number) else Unlinked) }
+{
+    match op {
+        0xaa => Instruction::TableSwitch(number),
+        _ => Instruction::Unlinked,
+    }
+}
+
+/// A `lookupswitch`, which is the switch of this number.
+pub fn lookup_switch(op: u8, number: u32) -> Instruction
+    ensures { (es : List entry.Entry) (ss : List switch.Switch) → instruction_of es ss result ≡ (if op == 0xab then lookup_of (slice_get ss number) else Unlinked) }
+{
+    match op {
+        0xab => Instruction::LookupSwitch(number),
         _ => Instruction::Unlinked,
     }
 }
