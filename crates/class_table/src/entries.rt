@@ -4,6 +4,7 @@ ghost use Rattle.std.specs.Prelude.{◌≡◌, ℕ, List, ◌∷◌, map, IfOk};
 ghost use Rattle.std.specs.Option.{option_copied};
 ghost use Rattle.class_model.specs.Pool.{entry_of, text_of, class_name_of, pair_name_of, pair_desc_of};
 ghost use Rattle.class_table.specs.View.{symbol_of, method_ref_of, field_ref_of};
+ghost use Rattle.class_table.specs.Linking.{class_or_none};
 ghost use Rattle.class_table.specs.Symbols.{IsOther, symbol_in, name_or_empty, class_named, text_named, kind_stated, type_stated, method_ref, field_ref};
 
 use crate::linked::{Entry, FieldRef, MethodRef};
@@ -79,6 +80,16 @@ pub fn class_named(alloc: Global, pool: &[Const], index: u16) -> Result<Name, Me
     ensures { IfOk result (λ n. n ≡ class_named pool.now index) }
 {
     Ok(copy_or_empty(alloc, class_name_at(pool, index))?)
+}
+
+/// The name of the class of an index, and none for index 0.
+pub fn class_or_none(alloc: Global, pool: &[Const], index: u16) -> Result<Option<Name>, Memory>
+    ensures { IfOk result (λ n. n ≡ class_or_none pool.now index) }
+{
+    if index == 0 {
+        return Ok(None);
+    }
+    Ok(Some(class_named(alloc, pool, index)?))
 }
 
 /// What a field's descriptor states.

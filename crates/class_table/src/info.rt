@@ -1,7 +1,10 @@
 ghost use Rattle.std.specs.Prelude.{◌≡◌, ◌<◌, ◌^◌, length, IfOk};
+ghost use Rattle.class_table.specs.View.{linked_of};
 ghost use Rattle.class_table.specs.Info.{body_name, link_body, class_of};
 
+use crate::entries::class_named;
 use crate::linked::LinkedClass;
+use crate::linking::{link, link_library};
 use crate::loaded::ClassBody;
 use class_model::{Memory, Name};
 use std::alloc::Global;
@@ -31,13 +34,18 @@ impl Model for ClassInfo {
 }
 
 impl ClassInfo {
-    pub fn new(_alloc: Global, body: ClassBody) -> Result<ClassInfo, Memory>
+    /// The class with what it means. Where it has 2^32 methods or more, memory runs out.
+    pub fn new(alloc: Global, body: ClassBody) -> Result<ClassInfo, Memory>
         ensures body { IfOk result (λ info. info.body ≡ body) }
         ensures name { IfOk result (λ info. info.name ≡ body_name body) }
         ensures class { IfOk result (λ info. class_of info ≡ link_body body) }
     {
-        let _body = body;
-        Err(Memory)
+        let name = body_name(alloc, &body)?;
+        let linked = link_body(alloc, &body)?;
+        if linked.methods.len() > u32::MAX as usize {
+            return Err(Memory);
+        }
+        Ok(ClassInfo { name, body, linked })
     }
 
     /// The class's name.
@@ -62,5 +70,27 @@ impl ClassInfo {
         ensures few { length self.now.linked.methods < 2 ^ 32 }
     {
         &self.linked
+    }
+}
+
+fn body_name(alloc: Global, body: &ClassBody) -> Result<Name, Memory>
+    ensures { IfOk result (λ name. name ≡ body_name body.now) }
+{
+    match body {
+        ClassBody::File(loaded) => Ok(class_named(
+            alloc,
+            loaded.class.pool.as_slice(),
+            loaded.class.this,
+        )?),
+        ClassBody::Library(class) => Ok(class.name.copy()?),
+    }
+}
+
+fn link_body(alloc: Global, body: &ClassBody) -> Result<LinkedClass, Memory>
+    ensures { IfOk result (λ linked. linked_of linked ≡ link_body body.now) }
+{
+    match body {
+        ClassBody::File(loaded) => Ok(link(alloc, &loaded.class)?),
+        ClassBody::Library(class) => Ok(link_library(alloc, class)?),
     }
 }

@@ -1,202 +1,22 @@
 //! What a class means once indices of its constant pool are resolved to names (JVMS 4.1, 4.5 to 4.7).
 
-ghost use Rattle.std.specs.Prelude.{◌≡◌, ◌+◌, ℕ, List, ◌++◌, map, length, drop, IfOk, OnOk, option_and_then, if◌then◌else◌};
+ghost use Rattle.std.specs.Prelude.{◌≡◌, ℕ, List, map, IfOk, option_and_then};
 ghost use Rattle.std.specs.Option.{option_copied, option_map};
-ghost use Rattle.std.specs.List.{flat_map};
-ghost use Rattle.class_table.specs.Linking as linking;
 ghost use Rattle.class_model.specs.Pool.{entry_of};
 ghost use Rattle.class_table.specs.Symbols.{class_named};
-ghost use Rattle.class_table.specs.Opcodes.{instruction_by};
-ghost use Rattle.class_table.specs.Switches.{switch_in, switches_in, AreEntries};
+ghost use Rattle.class_table.specs.Linking as linking;
+ghost use Rattle.class_table.specs.Switches.{AreEntries};
 ghost use Rattle.class_table.specs.declared.linked.Entry as entry;
-ghost use Rattle.class_table.specs.declared.linked.Switch as switch;
-ghost use Rattle.class_table.specs.View.{meaning_at, instruction_of, row_of, line_of, code_of, body_of, method_of, field_of, constant_of, linked_of};
+ghost use Rattle.class_table.specs.View.{body_of, method_of, field_of, constant_of, linked_of};
 
-use crate::entries::{class_named, entries, entry, kind_stated, text_named, type_stated};
-use crate::instruction::Instruction;
+use crate::code_linking::link_code;
+use crate::entries::{class_named, class_or_none, entries, entry, kind_stated, text_named, type_stated};
 use crate::linked::{
-    Entry, FieldConstant, LinkedBody, LinkedClass, LinkedCode, LinkedField, LinkedLine,
-    LinkedMethod, LinkedRow, Switch,
+    Entry, FieldConstant, LinkedBody, LinkedClass, LinkedField, LinkedMethod, Native,
 };
-use crate::opcodes;
-use class_model::{Arg, Attr, Body, Class, Code, Const, Insn, Member, Memory, Name, Row, Seq};
+use crate::loaded::{LibBody, LibClass, LibField, LibMethod};
+use class_model::{Attr, Body, Class, Code, Const, Member, Memory, Name, Seq};
 use std::alloc::Global;
-
-// ---- code
-
-// Adds the switch that an instruction is, if it is one.
-fn add_switch(switches: &mut Vec<Switch>, insn: &Insn) -> Result<(), Memory>
-    ensures { OnOk result (switches.new.items ≡ switches.old.items ++ switch_in insn.now) }
-{
-    match &insn.arg {
-        Arg::Table(default, low, targets) if insn.op == 0xaa => {
-            let targets = targets.copy()?;
-            switches.push(Switch::Table(*default, *low, targets))?;
-        }
-        Arg::Lookup(default, keys) if insn.op == 0xab => {
-            let keys = keys.copy()?;
-            switches.push(Switch::Lookup(*default, keys))?;
-        }
-        _ => {}
-    }
-    Ok(())
-}
-
-fn switches_in(alloc: Global, insns: &[Insn]) -> Result<Seq<Switch>, Memory>
-    ensures { IfOk result (λ ss. ss ≡ switches_in insns.now) }
-{
-    let mut switches = Vec::new(alloc);
-    for insn in insns {
-        add_switch(&mut switches, insn)?;
-    }
-    Ok(Seq::from_vec(switches))
-}
-
-// What an instruction means, where the next switch has this number.
-#[tactic(auto, unfolding(crate::specs::Opcodes::instruction_by))]
-fn link_insn(entries: &[Entry], next: u32, insn: &Insn) -> Instruction
-    ensures { (ss more : List switch.Switch) → drop next ss ≡ switch_in insn.now ++ more → instruction_of entries.now ss result ≡ instruction_by (meaning_at entries.now) insn.now }
-{
-    match &insn.arg {
-        Arg::None => opcodes::plain(insn.op),
-        Arg::Number(number) => opcodes::with_number(insn.op, *number),
-        Arg::Pool(index) => opcodes::with_index(entries, insn.op, *index),
-        Arg::Local(local) => opcodes::with_local(insn.op, *local),
-        Arg::Inc(local, by) => opcodes::with_increment(insn.op, *local, *by),
-        Arg::To(to) => opcodes::with_target(insn.op, *to),
-        Arg::Table(_, _, _) => opcodes::table_switch(insn.op, next),
-        Arg::Lookup(_, _) => opcodes::lookup_switch(insn.op, next),
-        Arg::Kind(elements) => opcodes::with_elements(insn.op, *elements),
-        Arg::Multi(index, count) => opcodes::with_count(insn.op, *index, *count),
-    }
-}
-
-fn is_switch(insn: &Insn) -> bool
-    ensures { (if result then 1 else 0) ≡ length (switch_in insn.now) }
-{
-    match &insn.arg {
-        Arg::Table(_, _, _) => insn.op == 0xaa,
-        Arg::Lookup(_, _) => insn.op == 0xab,
-        _ => false,
-    }
-}
-
-// The number of the next switch behind an instruction.
-fn number_behind(next: u32, insn: &Insn) -> Result<u32, Memory>
-    ensures { IfOk result (λ n. n ≡ next + length (switch_in insn.now)) }
-{
-    if is_switch(insn) {
-        return Ok(next.checked_add(1).ok_or(Memory)?);
-    }
-    Ok(next)
-}
-
-fn link_insns(
-    alloc: Global,
-    entries: &[Entry],
-    switches: &[Switch],
-    insns: &[Insn],
-) -> Result<Seq<Instruction>, Memory>
-    requires { switches.now ≡ switches_in insns.now }
-    ensures { IfOk result (λ is. map (instruction_of entries.now switches.now) is ≡ map (instruction_by (meaning_at entries.now)) insns.now) }
-{
-    let mut instructions = Vec::with_capacity(alloc, insns.len())?;
-    let mut next: u32 = 0;
-    for insn in insns {
-        instructions.push(link_insn(entries, next, insn))?;
-        next = number_behind(next, insn)?;
-    }
-    Ok(Seq::from_vec(instructions))
-}
-
-fn class_or_none(alloc: Global, pool: &[Const], index: u16) -> Result<Option<Name>, Memory>
-    ensures { IfOk result (λ n. n ≡ linking.class_or_none pool.now index) }
-{
-    if index == 0 {
-        return Ok(None);
-    }
-    Ok(Some(class_named(alloc, pool, index)?))
-}
-
-fn link_row(alloc: Global, pool: &[Const], row: &Row) -> Result<LinkedRow, Memory>
-    ensures { IfOk result (λ r. row_of r ≡ linking.row_in pool.now row.now) }
-{
-    Ok(LinkedRow {
-        start: row.start,
-        end: row.end,
-        handler: row.handler,
-        catch: class_or_none(alloc, pool, row.catch)?,
-    })
-}
-
-fn link_rows(alloc: Global, pool: &[Const], rows: &[Row]) -> Result<Seq<LinkedRow>, Memory>
-    ensures { IfOk result (λ rs. map row_of rs ≡ map (linking.row_in pool.now) rows.now) }
-{
-    let mut linked = Vec::with_capacity(alloc, rows.len())?;
-    for row in rows {
-        linked.push(link_row(alloc, pool, row)?)?;
-    }
-    Ok(Seq::from_vec(linked))
-}
-
-fn add_rows(lines: &mut Vec<LinkedLine>, rows: &[(u32, u16)]) -> Result<(), Memory>
-    ensures { OnOk result (map line_of lines.new.items ≡ map line_of lines.old.items ++ map linking.line_in rows.now) }
-{
-    for (start, line) in rows {
-        lines.push(LinkedLine {
-            start: *start,
-            line: *line,
-        })?;
-    }
-    Ok(())
-}
-
-// Adds the rows of an attribute that is a LineNumberTable.
-fn add_lines(lines: &mut Vec<LinkedLine>, attr: &Attr) -> Result<(), Memory>
-    ensures { OnOk result (map line_of lines.new.items ≡ map line_of lines.old.items ++ linking.lines_of (linking.content_of attr.now)) }
-{
-    match &attr.body {
-        Body::Lines(rows) => {
-            add_rows(lines, rows.as_slice())?;
-            Ok(())
-        }
-        _ => Ok(()),
-    }
-}
-
-fn link_lines(alloc: Global, attrs: &[Attr]) -> Result<Seq<LinkedLine>, Memory>
-    ensures { IfOk result (λ ls. map line_of ls ≡ flat_map (λ a. linking.lines_of (linking.content_of a)) attrs.now) }
-{
-    let mut lines = Vec::new(alloc);
-    for attr in attrs {
-        add_lines(&mut lines, attr)?;
-    }
-    Ok(Seq::from_vec(lines))
-}
-
-#[tactic(auto, using(crate::proofs::Resolved::insns_resolved))]
-fn link_code(
-    alloc: Global,
-    entries: &[Entry],
-    pool: &[Const],
-    code: &Code,
-) -> Result<LinkedCode, Memory>
-    requires { AreEntries entries.now pool.now }
-    ensures { IfOk result (λ c. code_of entries.now c ≡ linking.code_in pool.now code.now) }
-{
-    let switches = switches_in(alloc, code.insns.as_slice())?;
-    let instructions = link_insns(alloc, entries, switches.as_slice(), code.insns.as_slice())?;
-    Ok(LinkedCode {
-        max_stack: code.max_stack,
-        max_locals: code.max_locals,
-        instructions,
-        switches,
-        rows: link_rows(alloc, pool, code.rows.as_slice())?,
-        lines: link_lines(alloc, code.attrs.as_slice())?,
-    })
-}
-
-// ---- fields and methods
 
 // The index in the first ConstantValue.
 fn constant_index(attrs: &[Attr]) -> Option<u16>
@@ -374,5 +194,99 @@ pub fn link(alloc: Global, class: &Class) -> Result<LinkedClass, Memory>
         fields: link_fields(alloc, pool, class.fields.as_slice())?,
         methods,
         entries,
+    })
+}
+
+// ---- classes of the library
+
+fn native_body(number: u16) -> LinkedBody
+    ensures { (es : List entry.Entry) → body_of es result ≡ linking.native_body number }
+{
+    match number {
+        2000 => LinkedBody::Native(Native::AssertTrue),
+        2001 => LinkedBody::Native(Native::AssertFalse),
+        _ => LinkedBody::Absent,
+    }
+}
+
+// Methods of the library that are written in code aren't linked yet: memory runs out.
+fn library_body(body: &LibBody) -> Result<LinkedBody, Memory>
+    ensures { IfOk result (λ b. (es : List entry.Entry) → body_of es b ≡ linking.library_body body.now) }
+{
+    match body {
+        LibBody::Native(number) => Ok(native_body(*number)),
+        LibBody::Written(_, _) => Err(Memory),
+        LibBody::Abstract => Ok(LinkedBody::Absent),
+    }
+}
+
+fn library_method(alloc: Global, method: &LibMethod) -> Result<LinkedMethod, Memory>
+    ensures { IfOk result (λ m. (es : List entry.Entry) → method_of es m ≡ linking.library_method method.now) }
+{
+    let body = library_body(&method.body)?;
+    Ok(method_with(
+        alloc,
+        method.flags,
+        method.name.copy()?,
+        method.desc.copy()?,
+        body,
+    )?)
+}
+
+fn library_methods(alloc: Global, methods: &[LibMethod]) -> Result<Seq<LinkedMethod>, Memory>
+    ensures { IfOk result (λ ms. (es : List entry.Entry) → map (method_of es) ms ≡ map linking.library_method methods.now) }
+{
+    let mut linked = Vec::with_capacity(alloc, methods.len())?;
+    for method in methods {
+        linked.push(library_method(alloc, method)?)?;
+    }
+    Ok(Seq::from_vec(linked))
+}
+
+fn library_field(alloc: Global, field: &LibField) -> Result<LinkedField, Memory>
+    ensures { IfOk result (λ f. field_of f ≡ linking.library_field field.now) }
+{
+    Ok(field_with(
+        alloc,
+        field.flags,
+        field.name.copy()?,
+        field.desc.copy()?,
+        None,
+    )?)
+}
+
+fn library_fields(alloc: Global, fields: &[LibField]) -> Result<Seq<LinkedField>, Memory>
+    ensures { IfOk result (λ fs. map field_of fs ≡ map linking.library_field fields.now) }
+{
+    let mut linked = Vec::with_capacity(alloc, fields.len())?;
+    for field in fields {
+        linked.push(library_field(alloc, field)?)?;
+    }
+    Ok(Seq::from_vec(linked))
+}
+
+fn copy_parent(parent: &Option<Name>) -> Result<Option<Name>, Memory>
+    ensures { IfOk result (λ p. p ≡ parent.now) }
+{
+    match parent {
+        Some(name) => Ok(Some(name.copy()?)),
+        None => Ok(None),
+    }
+}
+
+/// What a class of the library means.
+#[tactic(auto, unfolding(crate::specs::View::linked_of, crate::specs::Linking::link_library))]
+pub fn link_library(alloc: Global, class: &LibClass) -> Result<LinkedClass, Memory>
+    ensures { IfOk result (λ c. linked_of c ≡ linking.link_library class.now) }
+{
+    let methods = library_methods(alloc, class.methods.as_slice())?;
+    Ok(LinkedClass {
+        library: true,
+        flags: class.flags,
+        parent: copy_parent(&class.parent)?,
+        interfaces: class.interfaces.copy()?,
+        fields: library_fields(alloc, class.fields.as_slice())?,
+        methods,
+        entries: Seq::from_vec(vec![in alloc; Entry::Other]?),
     })
 }

@@ -4,7 +4,7 @@ use Rattle.class_table.specs.View.{instruction_of, meaning_at}
 use Rattle.class_table.specs.Opcodes.{instruction_by}
 use Rattle.class_table.specs.Switches.{switch_in, switches_in}
 use Rattle.class_table.proofs.Resolved.{dropped_behind}
-use Rattle.class_table.proofs.linking.link_insns.Goals as goal
+use Rattle.class_table.proofs.code_linking.link_insns.Goals as goal
 
 head : (c : goal.In_ok-next) → drop c.loop-insn.next c.args.switches.now ≡ switch_in c.insn-item.result ++ switches_in (drop (c.loop-insn.insn-index + 1) c.args.insns.now)
 head c = grind (arith, common_steps)

@@ -2,7 +2,7 @@ use Rattle.std.proofs.Common.{◌≡◌, map, take, drop}
 use Rattle.class_table.specs.View.{instruction_of, meaning_at}
 use Rattle.class_table.specs.Opcodes.{instruction_by}
 use Rattle.class_table.specs.Switches.{switches_in}
-use Rattle.class_table.proofs.linking.link_insns.Given as goal
+use Rattle.class_table.proofs.code_linking.link_insns.Given as goal
 
 abbrev pub invariant-loop-insn : goal.invariant-loop-insn
 invariant-loop-insn l =
