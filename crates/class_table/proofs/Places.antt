@@ -19,13 +19,13 @@ use Rattle.class_table.specs.Table.{place_from, place_in, name_or_none, names, n
 abbrev Found : Name → ℕ → List Name → ℕ → Type 0
 Found n k ms i = (j : ℕ) × (i ≡ k + j) × (slice_get ms j ≡ Some n)
 
-found_case : (n : Name) (k i : ℕ) (m : Name) (ms : List Name) (b : Bool) → b ≡ same n m → (place_from n (suc k) ms ≡ Some i → Found n (suc k) ms i) → (if b then Some k else place_from n (suc k) ms) ≡ Some i → Found n k (m ∷ ms) i
-found_case n k i m ms true e rest h = (0, (let p : i ≡ k = cc in omega (arith, p)), ap Some (sym (same_text n m e)))
+found_case : (n : Name) (k i : ℕ) (m : Name) (ms : List Name) (b : Bool) → b ≡ same m n → (place_from n (suc k) ms ≡ Some i → Found n (suc k) ms i) → (if b then Some k else place_from n (suc k) ms) ≡ Some i → Found n k (m ∷ ms) i
+found_case n k i m ms true e rest h = (0, (let p : i ≡ k = cc in omega (arith, p)), ap Some (same_text m n e))
 found_case n k i m ms false e rest h = let r = rest h in (suc r.0, omega (arith, r.1), r.2)
 
 found_from : (n : Name) (k i : ℕ) (ms : List Name) → place_from n k ms ≡ Some i → Found n k ms i
 found_from n k i [] h = cc
-found_from n k i (m ∷ ms) h = found_case n k i m ms (same n m) refl (found_from n (suc k) i ms) h
+found_from n k i (m ∷ ms) h = found_case n k i m ms (same m n) refl (found_from n (suc k) i ms) h
 
 -- The name stands at its place.
 pub name_at_place : (n : Name) (i : ℕ) (ms : List Name) → place_in ms n ≡ Some i → slice_get ms i ≡ Some n

@@ -1,6 +1,5 @@
 -- What a run has consulted.
-use Rattle.std.specs.Prelude.{◌≡◌, ℕ, Bool, true, false, List, [], length, replicate, slice_get, Some}
-use Rattle.std.specs.List.{list_all}
+use Rattle.std.specs.Prelude.{◌≡◌, ℕ, Bool, true, ⊤, List, [], ◌∷◌, length, slice_get, Some}
 use Rattle.machine_rules.specs.Names.{Name}
 use Rattle.machine_rules.specs.Programs.{Look, supers_within, is_known}
 use Rattle.class_table.specs.Info.{Info}
@@ -11,11 +10,12 @@ pub record Seen : Type 0 where
   pub names : List Name
   pub marks : List Bool
 
--- A class and all above it, to so many levels, were consulted.
-abbrev pub IsWalked : Look → List Name → ℕ → Name → Type 0
-IsWalked p ns levels n = list_all (is_known p ns) (supers_within levels p n) ≡ true
+-- All of these names were consulted, or are of the library.
+abbrev pub AreKnown : Look → List Name → List Name → Type 0
+AreKnown p ns [] = ⊤
+AreKnown p ns (m ∷ ms) = (is_known p ns m ≡ true) × AreKnown p ns ms
 
--- Each class that is marked was consulted with all above it, and there is a mark for each class.
+-- Each class that is marked was consulted with all above it, however many levels of it are looked at; and there is a mark for each class.
 pub record IsConsultedOf (p : List Info) (c : Seen) : Type 0 where
   pub long : length c.marks ≡ length p
-  pub marked : (i levels : ℕ) → slice_get c.marks i ≡ Some true → IsWalked (look p) c.names levels (name_at p i)
+  pub marked : (i levels : ℕ) → slice_get c.marks i ≡ Some true → AreKnown (look p) c.names (supers_within levels (look p) (name_at p i))

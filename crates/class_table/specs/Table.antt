@@ -1,8 +1,7 @@
 -- The classes of a program by number and by name.
-use Rattle.std.specs.Prelude.{◌≡◌, ◌≢◌, ℕ, zero, suc, ◌<◌, ◌^◌, if◌then◌else◌, List, [], ◌∷◌, ◌++◌, length, map, Option, Some, None, slice_get, option_and_then, IsSomeAnd, ⊤}
+use Rattle.std.specs.Prelude.{◌≡◌, IsTrue, ℕ, zero, suc, ◌<◌, ◌^◌, if◌then◌else◌, List, [], ◌∷◌, ◌++◌, length, map, Option, Some, None, slice_get, option_and_then, IsSomeAnd, ⊤}
 use Rattle.std.specs.Option.{option_map}
-use Rattle.std.specs.Ordering.{nat_cmp}
-use Rattle.std.specs.declared.cmp.Ordering.TheVariants.{Greater}
+use Rattle.std.specs.Ordering.{nat_cmp, is_le}
 use Rattle.std.specs.Cmp.Lexicographic.{slice_cmp}
 use Rattle.class_model.specs.Text.{text}
 use Rattle.machine_rules.specs.Names.{Name, same}
@@ -23,7 +22,7 @@ use Rattle.class_table.specs.View.{method_ref_at}
 -- The place of the first of these names that is this one, counted from i.
 abbrev pub place_from : Name → ℕ → List Name → Option ℕ
 place_from n i [] = None
-place_from n i (m ∷ ms) = if same n m then Some i else place_from n (suc i) ms
+place_from n i (m ∷ ms) = if same m n then Some i else place_from n (suc i) ms
 
 abbrev pub place_in : List Name → Name → Option ℕ
 place_in ns n = place_from n 0 ns
@@ -47,7 +46,7 @@ pub record IsDuplicate (ns : List Name) (n : Name) : Type 0 where
 -- Of all such names the least, in the order of their bytes in modified UTF-8.
 pub record IsLeastDuplicate (ns : List Name) (n : Name) : Type 0 where
   pub duplicate : IsDuplicate ns n
-  pub least : (m : Name) → IsDuplicate ns m → slice_cmp nat_cmp (text n) (text m) ≢ Greater
+  pub least : (m : Name) → IsDuplicate ns m → IsTrue (is_le (slice_cmp nat_cmp (text n) (text m)))
 
 -- ---- programs
 

@@ -10,6 +10,7 @@ mod instruction;
 mod linked;
 mod linking;
 mod loaded;
+mod numbering;
 mod opcodes;
 mod program;
 mod scripted;

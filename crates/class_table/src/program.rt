@@ -4,13 +4,14 @@ ghost use Rattle.std.specs.Arc.{arc_value};
 ghost use Rattle.machine_rules.specs.Linked.{method_in};
 ghost use Rattle.class_table.specs.View.{method_of};
 ghost use Rattle.class_table.specs.Info.{class_of, link_body};
-ghost use Rattle.class_table.specs.Table.{AreDistinct, IsLeastDuplicate, bodies_of, names_of, number_of, CanSwap, class_at, name_at, look, entries_at, methods_at, reference_at, named_number, named_place, IsProgram};
+ghost use Rattle.class_table.specs.Table.{AreDistinct, IsLeastDuplicate, bodies_of, names_of, names, number_of, CanSwap, class_at, name_at, look, entries_at, methods_at, reference_at, named_number, named_place, IsProgram};
 ghost use Rattle.class_table.specs.declared.fault.TableFault.TheVariants.{Duplicate};
 
 use crate::fault::TableFault;
 use crate::info::ClassInfo;
 use crate::linked::LinkedMethod;
 use crate::loaded::{LibClass, Loaded};
+use crate::numbering::{bodies, infos, least_duplicate, numbers};
 use class_model::{ClassId, Memory, Name, Seq};
 use std::alloc::Global;
 use std::collections::HashMap;
@@ -55,10 +56,12 @@ impl Program {
         ensures distinct { OnOk result (AreDistinct (names_of classes library)) }
         ensures duplicate { (name : List ℕ) → result ≡ Err (Duplicate name) → IsLeastDuplicate (names_of classes library) name }
     {
-        let _alloc = alloc;
-        let _classes = classes;
-        let _library = library;
-        Err(TableFault::Memory)
+        let bodies = bodies(alloc, classes.into_vec(), library.into_vec())?;
+        let infos = infos(alloc, bodies)?;
+        match program_of(alloc, infos) {
+            Ok(program) => Ok(program),
+            Err(fault) => Err(fault),
+        }
     }
 
     /// How many classes there are.
@@ -181,6 +184,27 @@ fn put(
     ensures other { slice_get (map (λ c. arc_value c) classes.old) at ≡ Some (arc_value result) }
 {
     mem::replace(&mut classes[at], with)
+}
+
+fn program_of(
+    alloc: Global,
+    infos: Vec<Arc<ClassInfo, Global>>,
+) -> Result<Program, TableFault>
+    ensures classes { IfOk result (λ p. p ≡ map (λ c. arc_value c) infos.items) }
+    ensures distinct { OnOk result (AreDistinct (names (map (λ c. arc_value c) infos.items))) }
+    ensures duplicate { (name : List ℕ) → result ≡ Err (Duplicate name) → IsLeastDuplicate (names (map (λ c. arc_value c) infos.items)) name }
+{
+    if infos.len() > u32::MAX as usize {
+        return Err(TableFault::Memory);
+    }
+    let numbers = numbers(alloc, infos.as_slice())?;
+    match least_duplicate(alloc, infos.as_slice(), &numbers)? {
+        Some(name) => Err(TableFault::Duplicate { name }),
+        None => Ok(Program {
+            classes: infos,
+            numbers: Arc::new(alloc, numbers)?,
+        }),
+    }
 }
 
 fn copy_classes(

@@ -1,0 +1,204 @@
+-- How the numbers of names are made, and how two classes of one name are found.
+use Rattle.std.proofs.Common.{◌≡◌, ◌∙◌, sym, refl, ap, ℕ, zero, suc, ◌+◌, ◌<◌, ◌≤◌, Bool, true, false, List, [], ◌∷◌, ◌++◌, length, Option, None, Some, slice_get, map, take, arith, subst}
+use Rattle.std.specs.Prelude.{◌==◌, nat_lt, if◌then◌else◌, cond, IsTrue}
+use Rattle.std.specs.Ordering.{nat_cmp, is_lt, is_le, ordering_reverse}
+use Rattle.std.specs.declared.cmp.Ordering.{Ordering}
+use Rattle.std.specs.declared.cmp.Ordering.TheVariants.{Less, Equal, Greater}
+use Rattle.std.specs.Cmp.{IsTotalOrder}
+use Rattle.std.specs.Cmp.Lexicographic.{slice_cmp, nat_list_cmp_total, same_text, bytes_decides}
+use Rattle.std.proofs.lemmas.List.{length-map}
+use Rattle.std.proofs.lemmas.Option.{slice_get_within}
+use Rattle.class_model.specs.Text.{text}
+use Rattle.machine_rules.specs.Names.{Name, same}
+use Rattle.class_table.specs.Info.{Info}
+use Rattle.class_table.specs.Table.{names, number_of, place_from, place_in, name_or_none, AreDistinct, IsDuplicate, IsLeastDuplicate}
+use Rattle.class_table.specs.Numbers.{with_number, is_before, lesser, is_place, judged, name_of, IsFirst, IsTold, IsVerdict}
+use Rattle.class_table.proofs.Places.{name_at_place}
+
+-- ---- numbers
+
+pub added : (b : Bool) (o : Option ℕ) (k : ℕ) → (b ≡ true → o ≡ None) → cond b (Some k) o ≡ with_number o b k
+added true None k h = refl
+added true (Some j) k h = let e = h refl in absurd cc
+added false None k h = refl
+added false (Some j) k h = refl
+
+append_case : (b : Bool) (q m : Name) (i : ℕ) (ms : List Name) → place_from q (suc i) (ms ++ m ∷ []) ≡ with_number (place_from q (suc i) ms) (same m q) (suc i + length ms) → (if b then Some i else place_from q (suc i) (ms ++ m ∷ [])) ≡ with_number (if b then Some i else place_from q (suc i) ms) (same m q) (i + suc (length ms))
+append_case true q m i ms h = refl
+append_case false q m i ms h = let e : suc i + length ms ≡ i + suc (length ms) = omega arith in h ∙ ap (with_number (place_from q (suc i) ms) (same m q)) e
+
+append_from : (q m : Name) (i : ℕ) (ms : List Name) → place_from q i (ms ++ m ∷ []) ≡ with_number (place_from q i ms) (same m q) (i + length ms)
+append_from q m i [] = let e : i ≡ i + 0 = omega arith in ap (λ k. if same m q then Some k else None) e
+append_from q m i (x ∷ ms) = append_case (same x q) q m i ms (append_from q m (suc i) ms)
+
+pub place_append : (q m : Name) (ms : List Name) → place_in (ms ++ m ∷ []) q ≡ with_number (place_in ms q) (same m q) (length ms)
+place_append q m ms = append_from q m 0 ms ∙ ap (with_number (place_in ms q) (same m q)) (let e : 0 + length ms ≡ length ms = omega arith in e)
+
+-- ---- the first place of a name
+
+abbrev Early : Name → ℕ → List Name → ℕ → Type 0
+Early q i ms f = (j : ℕ) × (j ≤ i + f) × (place_from q i ms ≡ Some j)
+
+early_case : (b : Bool) (q : Name) (i f : ℕ) (ms : List Name) → Early q (suc i) ms f → (j : ℕ) × (j ≤ i + suc f) × ((if b then Some i else place_from q (suc i) ms) ≡ Some j)
+early_case true q i f ms h = (i, omega arith, refl)
+early_case false q i f ms h = (h.0, omega (arith, h.1), h.2)
+
+early_first : (q x : Name) (i : ℕ) (ms : List Name) → x ≡ q → Early q i (x ∷ ms) zero
+early_first q x i ms e = let s : same x q ≡ true = (bytes_decides x q).1 e in (i, omega arith, ap (λ b. if b then Some i else place_from q (suc i) ms) s)
+
+pub early : (q : Name) (i f : ℕ) (ms : List Name) → slice_get ms f ≡ Some q → Early q i ms f
+early q i f [] h = absurd cc
+early q i zero (x ∷ ms) h = early_first q x i ms (let e : x ≡ q = cc in e)
+early q i (suc f) (x ∷ ms) h = early_case (same x q) q i f ms (early q (suc i) f ms h)
+
+-- ---- the order of names
+
+abbrev cmp : Name → Name → Ordering
+cmp n m = slice_cmp nat_cmp (text n) (text m)
+
+le_self : (xs : List ℕ) → IsTrue (is_le (slice_cmp nat_cmp xs xs))
+le_self xs = self_case (slice_cmp nat_cmp xs xs) (nat_list_cmp_total.antisymm xs xs)
+  where
+    self_case : (o : Ordering) → o ≡ ordering_reverse o → IsTrue (is_le o)
+    self_case Less e = refl
+    self_case Equal e = refl
+    self_case Greater e = absurd cc
+
+not_before : (xs ys : List ℕ) → is_lt (slice_cmp nat_cmp ys xs) ≡ false → IsTrue (is_le (slice_cmp nat_cmp xs ys))
+not_before xs ys h = rw (nat_list_cmp_total.antisymm xs ys) (other_case (slice_cmp nat_cmp ys xs) h)
+  where
+    other_case : (o : Ordering) → is_lt o ≡ false → IsTrue (is_le (ordering_reverse o))
+    other_case Less e = absurd cc
+    other_case Equal e = refl
+    other_case Greater e = refl
+
+is_less : (o : Ordering) → is_lt o ≡ true → o ≡ Less
+is_less Less e = refl
+is_less Equal e = absurd cc
+is_less Greater e = absurd cc
+
+less_is_le : (o : Ordering) → o ≡ Less → IsTrue (is_le o)
+less_is_le o e = rw e refl
+
+before_all : (xs ys zs : List ℕ) → is_lt (slice_cmp nat_cmp xs ys) ≡ true → IsTrue (is_le (slice_cmp nat_cmp ys zs)) → IsTrue (is_le (slice_cmp nat_cmp xs zs))
+before_all xs ys zs lt le = third (slice_cmp nat_cmp ys zs) refl le
+  where
+    first : slice_cmp nat_cmp xs ys ≡ Less
+    first = is_less (slice_cmp nat_cmp xs ys) lt
+
+    third : (o : Ordering) → slice_cmp nat_cmp ys zs ≡ o → IsTrue (is_le o) → IsTrue (is_le (slice_cmp nat_cmp xs zs))
+    third Less e h = less_is_le _ (nat_list_cmp_total.trans xs ys zs first e)
+    third Equal e h =
+        let back : slice_cmp nat_cmp zs xs ≡ slice_cmp nat_cmp ys xs = sym (nat_list_cmp_total.congr ys zs xs e) in
+        let there : slice_cmp nat_cmp xs zs ≡ slice_cmp nat_cmp xs ys = nat_list_cmp_total.antisymm xs zs ∙ ap ordering_reverse back ∙ sym (nat_list_cmp_total.antisymm xs ys) in
+        less_is_le _ (there ∙ first)
+    third Greater e h = absurd cc
+
+-- ---- one name more is judged
+
+placed_there : (place : Option ℕ) (i : ℕ) → is_place place i ≡ true → place ≡ Some i
+placed_there None i e = absurd cc
+placed_there (Some k) i e = let same : k ≡ i = grind arith in ap Some same
+
+placed_elsewhere : (place : Option ℕ) (i j : ℕ) → is_place place i ≡ false → place ≡ Some j → j ≤ i → j < i
+placed_elsewhere None i j e h le = absurd cc
+placed_elsewhere (Some k) i j e h le = let same : k ≡ j = cc in grind (arith, same, le)
+
+duplicate_at : (ns : List Name) (i : ℕ) (m : Name) → slice_get ns i ≡ Some m → is_place (place_in ns m) i ≡ false → IsDuplicate ns m
+duplicate_at ns i m there other =
+    let early-one = early m 0 i ns there in
+    let le : early-one.0 ≤ i = omega (arith, early-one.1) in
+    record {
+      first = early-one.0;
+      second = i;
+      apart = placed_elsewhere (place_in ns m) i early-one.0 other early-one.2 le;
+      one = name_at_place m early-one.0 ns early-one.2;
+      two = there;
+    }
+
+-- A place below one more is below, or is that one.
+below_case : (P : ℕ → Type 0) (i k : ℕ) → k < i + 1 → (k < i → P k) → (k ≡ i → P k) → P k
+below_case P i k lt f g = below_with (nat_lt k i) refl
+  where
+    below_with : (b : Bool) → nat_lt k i ≡ b → P k
+    below_with true e = f (let less : k < i = grind arith in less)
+    below_with false e = g (let same : k ≡ i = grind (arith, lt) in same)
+
+told_first : (ns : List Name) (i : ℕ) (least : Option Name) → IsFirst ns i → IsTold ns i least → IsTold ns (i + 1) least
+told_first ns i None first h = λ k lt. below_case (IsFirst ns) i k lt (h k) (λ e. subst (IsFirst ns) (sym e) first)
+told_first ns i (Some n) first h =
+    (h.0, λ k lt other. below_case (λ k. (IsFirst ns k → ⊥) → IsTrue (is_le (cmp n (name_of ns k)))) i k lt (h.1 k) (λ e other. absurd (other (subst (IsFirst ns) (sym e) first))) other)
+
+told_lesser : (ns : List Name) (i : ℕ) (n m : Name) (b : Bool) → is_before m n ≡ b → name_of ns i ≡ m → IsDuplicate ns m → IsTold ns i (Some n) → IsTold ns (i + 1) (Some (if b then m else n))
+told_lesser ns i n m true lt at twice h =
+    (twice, λ k less other. below_case (λ k. (IsFirst ns k → ⊥) → IsTrue (is_le (cmp m (name_of ns k)))) i k less (λ below other. before_all (text m) (text n) (text (name_of ns k)) lt (h.1 k below other)) (λ e other. subst (λ x. IsTrue (is_le (cmp m x))) (sym (ap (name_of ns) e ∙ at)) (le_self (text m))) other)
+told_lesser ns i n m false lt at twice h =
+    (h.0, λ k less other. below_case (λ k. (IsFirst ns k → ⊥) → IsTrue (is_le (cmp n (name_of ns k)))) i k less (h.1 k) (λ e other. subst (λ x. IsTrue (is_le (cmp n x))) (sym (ap (name_of ns) e ∙ at)) (not_before (text n) (text m) lt)) other)
+
+told_second : (ns : List Name) (i : ℕ) (least : Option Name) (m : Name) → name_of ns i ≡ m → IsDuplicate ns m → IsTold ns i least → IsTold ns (i + 1) (Some (lesser least m))
+told_second ns i None m at twice h =
+    (twice, λ k less other. below_case (λ k. (IsFirst ns k → ⊥) → IsTrue (is_le (cmp m (name_of ns k)))) i k less (λ below other. absurd (other (h k below))) (λ e other. subst (λ x. IsTrue (is_le (cmp m x))) (sym (ap (name_of ns) e ∙ at)) (le_self (text m))) other)
+told_second ns i (Some n) m at twice h = told_lesser ns i n m (is_before m n) refl at twice h
+
+told_case : (ns : List Name) (i : ℕ) (least : Option Name) (m : Name) (b : Bool) → is_place (place_in ns m) i ≡ b → slice_get ns i ≡ Some m → IsTold ns i least → IsTold ns (i + 1) (if b then least else Some (lesser least m))
+told_case ns i least m true e there h =
+    told_first ns i least (ap (place_in ns) (ap name_or_none there) ∙ placed_there (place_in ns m) i e) h
+told_case ns i least m false e there h = told_second ns i least m (ap name_or_none there) (duplicate_at ns i m there e) h
+
+pub told_next : (ns : List Name) (i : ℕ) (least : Option Name) (m : Name) → slice_get ns i ≡ Some m → IsTold ns i least → IsTold ns (i + 1) (judged least (place_in ns m) i m)
+told_next ns i least m there h = told_case ns i least m (is_place (place_in ns m) i) refl there h
+
+-- ---- what is told at the end
+
+pub told_least : (ns : List Name) (n : Name) → IsTold ns (length ns) (Some n) → IsLeastDuplicate ns n
+told_least ns n h = record {
+  duplicate = h.0;
+  least = λ m twice.
+      let within = slice_get_within ns twice.second m twice.two in
+      let at : name_of ns twice.second ≡ m = ap name_or_none twice.two in
+      let before = early m 0 twice.first ns twice.one in
+      let other : IsFirst ns twice.second → ⊥ = λ first.
+          let e : Some twice.second ≡ Some before.0 = sym first ∙ ap (place_in ns) at ∙ before.2 in
+          let le = before.1 in
+          let apart = twice.apart in
+          let same : twice.second ≡ before.0 = cc in
+          omega (arith, le, apart, same) in
+      subst (λ x. IsTrue (is_le (cmp n x))) at (h.1 twice.second within other);
+}
+
+verdict : (ns : List Name) (least : Option Name) → IsTold ns (length ns) least → IsVerdict ns least
+verdict ns None h = h
+verdict ns (Some n) h = told_least ns n h
+
+-- ---- one class more
+
+module _ {A : Type 0} (f : A → Info) where
+  take_next : (xs : List A) (i : ℕ) (x : A) → slice_get xs i ≡ Some x → take (suc i) xs ≡ take i xs ++ x ∷ []
+  take_next [] i x h = absurd cc
+  take_next (y ∷ xs) zero x h = let e : y ≡ x = cc in ap (λ z. z ∷ []) e
+  take_next (y ∷ xs) (suc i) x h = ap (λ l. y ∷ l) (take_next xs i x h)
+
+  names_append : (xs : List A) (x : A) → names (map f (xs ++ x ∷ [])) ≡ names (map f xs) ++ (f x).name ∷ []
+  names_append [] x = refl
+  names_append (y ∷ xs) x = ap (λ l. (f y).name ∷ l) (names_append xs x)
+
+  taken_long : (xs : List A) (i : ℕ) (x : A) → slice_get xs i ≡ Some x → length (names (map f (take i xs))) ≡ i
+  taken_long [] i x h = absurd cc
+  taken_long (y ∷ xs) zero x h = refl
+  taken_long (y ∷ xs) (suc i) x h = ap suc (taken_long xs i x h)
+
+  pub number_next : (xs : List A) (i : ℕ) (x : A) (q : Name) → slice_get xs i ≡ Some x → number_of (map f (take (i + 1) xs)) q ≡ with_number (number_of (map f (take i xs)) q) (same (f x).name q) i
+  number_next xs i x q h =
+      let one : take (i + 1) xs ≡ take i xs ++ x ∷ [] = ap (λ k. take k xs) (let e : i + 1 ≡ suc i = omega arith in e) ∙ take_next xs i x h in
+      ap (λ l. number_of (map f l) q) one ∙ ap (λ l. place_in l q) (names_append (take i xs) x) ∙ place_append q (f x).name (names (map f (take i xs)))
+      ∙ ap (with_number (number_of (map f (take i xs)) q) (same (f x).name q)) (taken_long xs i x h)
+
+  pub name_there : (xs : List A) (i : ℕ) (x : A) → slice_get xs i ≡ Some x → slice_get (names (map f xs)) i ≡ Some (f x).name
+  name_there [] i x h = absurd cc
+  name_there (y ∷ xs) zero x h = let e : y ≡ x = cc in ap (λ z. Some (f z).name) e
+  name_there (y ∷ xs) (suc i) x h = name_there xs i x h
+
+  pub told_all : (xs : List A) (least : Option Name) → IsTold (names (map f xs)) (length xs) least → IsVerdict (names (map f xs)) least
+  told_all xs least h =
+      let long : length xs ≡ length (names (map f xs)) = sym (length-map (map f xs) (λ i. i.name) ∙ length-map xs f) in
+      verdict (names (map f xs)) least (subst (λ k. IsTold (names (map f xs)) k least) long h)

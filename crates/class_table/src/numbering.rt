@@ -1,0 +1,164 @@
+//! The numbers of a program's classes by their names.
+
+ghost use Rattle.std.specs.Prelude.{◌≡◌, ◌<◌, ◌^◌, ℕ, List, ◌++◌, map, length, IfOk, OnOk};
+ghost use Rattle.std.specs.Arc.{arc_value};
+ghost use Rattle.class_table.specs.Info.{body_name};
+ghost use Rattle.class_table.specs.Table.{bodies_of, names};
+ghost use Rattle.std.specs.HashMap.{get};
+ghost use Rattle.machine_rules.specs.Names.{same};
+ghost use Rattle.class_table.specs.declared.loaded.ClassBody.TheVariants as body;
+ghost use Rattle.class_table.specs.Numbers.{IsNumbering, with_number, is_before, lesser, is_place, judged, IsTold, IsVerdict};
+
+use crate::info::ClassInfo;
+use crate::loaded::{ClassBody, LibClass, Loaded};
+use class_model::{Memory, Name, write_text};
+use std::alloc::Global;
+use std::collections::HashMap;
+use std::sync::Arc;
+
+/// The classes of a program by where they come from.
+pub fn bodies(
+    alloc: Global,
+    classes: Vec<Loaded>,
+    library: Vec<LibClass>,
+) -> Result<Vec<ClassBody>, Memory>
+    ensures { IfOk result (λ bs. bs.items ≡ bodies_of classes.items library.items) }
+{
+    let mut bodies = Vec::new(alloc);
+    add_files(&mut bodies, classes)?;
+    add_library(&mut bodies, library)?;
+    Ok(bodies)
+}
+
+fn add_files(bodies: &mut Vec<ClassBody>, classes: Vec<Loaded>) -> Result<(), Memory>
+    ensures { OnOk result (bodies.new.items ≡ bodies.old.items ++ map body.File classes.items) }
+{
+    for loaded in classes {
+        bodies.push(ClassBody::File(loaded))?;
+    }
+    Ok(())
+}
+
+fn add_library(bodies: &mut Vec<ClassBody>, library: Vec<LibClass>) -> Result<(), Memory>
+    ensures { OnOk result (bodies.new.items ≡ bodies.old.items ++ map body.Library library.items) }
+{
+    for class in library {
+        bodies.push(ClassBody::Library(class))?;
+    }
+    Ok(())
+}
+
+/// The classes with what they mean.
+pub fn infos(alloc: Global, bodies: Vec<ClassBody>) -> Result<Vec<Arc<ClassInfo, Global>>, Memory>
+    ensures bodies { IfOk result (λ is. map (λ i. i.body) (map (λ i. arc_value i) is.items) ≡ bodies.items) }
+    ensures names { IfOk result (λ is. names (map (λ i. arc_value i) is.items) ≡ map body_name bodies.items) }
+{
+    let mut infos = Vec::new(alloc);
+    for body in bodies {
+        infos.push(Arc::new(alloc, ClassInfo::new(alloc, body)?)?)?;
+    }
+    Ok(infos)
+}
+
+// Gives a number to a name, unless it has one.
+fn add_name(numbers: &mut HashMap<Name, u32>, name: &Name, number: u32) -> Result<(), Memory>
+    ensures { OnOk result ((n : List ℕ) → get same numbers.new n ≡ with_number (get same numbers.old n) (same name.now n) number) }
+{
+    if numbers.contains_key(name) {
+        return Ok(());
+    }
+    numbers.insert(name.copy()?, number)?;
+    Ok(())
+}
+
+/// The numbers of the classes by their names, of two classes of one name the first.
+pub fn numbers(
+    alloc: Global,
+    infos: &[Arc<ClassInfo, Global>],
+) -> Result<HashMap<Name, u32>, Memory>
+    requires few { length infos.now < 2 ^ 32 }
+    ensures { IfOk result (λ m. IsNumbering m (map (λ i. arc_value i) infos.now)) }
+{
+    let mut numbers = HashMap::new(alloc);
+    for (i, info) in infos.iter().enumerate() {
+        add_name(&mut numbers, info.name(), i as u32)?;
+    }
+    Ok(numbers)
+}
+
+// Whether the bytes of a name come before those of another one.
+fn is_before(alloc: Global, name: &Name, other: &Name) -> Result<bool, Memory>
+    ensures { IfOk result (λ b. b ≡ is_before name.now other.now) }
+{
+    let bytes = write_text(alloc, name)?;
+    let other_bytes = write_text(alloc, other)?;
+    Ok(bytes.cmp(&other_bytes).is_lt())
+}
+
+// The lesser of two names.
+fn lesser(alloc: Global, least: Option<Name>, name: &Name) -> Result<Name, Memory>
+    ensures { IfOk result (λ n. n ≡ lesser least name.now) }
+{
+    let Some(least) = least else {
+        return Ok(name.copy()?);
+    };
+    if is_before(alloc, name, &least)? {
+        return Ok(name.copy()?);
+    }
+    Ok(least)
+}
+
+fn is_place(numbers: &HashMap<Name, u32>, name: &Name, i: u32) -> bool
+    ensures { result ≡ is_place (get same numbers.now name.now) i }
+{
+    match numbers.get(name) {
+        Some(number) => *number == i,
+        None => false,
+    }
+}
+
+// The least name that has a place before its own one.
+fn judge(
+    alloc: Global,
+    numbers: &HashMap<Name, u32>,
+    least: Option<Name>,
+    name: &Name,
+    i: u32,
+) -> Result<Option<Name>, Memory>
+    ensures { IfOk result (λ l. l ≡ judged least (get same numbers.now name.now) i name.now) }
+{
+    if is_place(numbers, name, i) {
+        return Ok(least);
+    }
+    Ok(Some(lesser(alloc, least, name)?))
+}
+
+fn judge_all(
+    alloc: Global,
+    infos: &[Arc<ClassInfo, Global>],
+    numbers: &HashMap<Name, u32>,
+) -> Result<Option<Name>, Memory>
+    requires few { length infos.now < 2 ^ 32 }
+    requires numbers { IsNumbering numbers.now (map (λ i. arc_value i) infos.now) }
+    ensures { IfOk result (λ least. IsTold (names (map (λ i. arc_value i) infos.now)) (length infos.now) least) }
+{
+    let mut least = None;
+    for (i, info) in infos.iter().enumerate() {
+        least = judge(alloc, numbers, least, info.name(), i as u32)?;
+    }
+    Ok(least)
+}
+
+/// The least name that two of the classes have, if there is one.
+#[tactic(auto, using(crate::proofs::Duplicates::told_all))]
+pub fn least_duplicate(
+    alloc: Global,
+    infos: &[Arc<ClassInfo, Global>],
+    numbers: &HashMap<Name, u32>,
+) -> Result<Option<Name>, Memory>
+    requires few { length infos.now < 2 ^ 32 }
+    requires numbers { IsNumbering numbers.now (map (λ i. arc_value i) infos.now) }
+    ensures { IfOk result (λ least. IsVerdict (names (map (λ i. arc_value i) infos.now)) least) }
+{
+    Ok(judge_all(alloc, infos, numbers)?)
+}
