@@ -1,5 +1,5 @@
 -- A class of a program: its name, where it comes from, and what it means.
-use Rattle.std.specs.Prelude.{◌≡◌, ◌<◌, ◌^◌, List, length}
+use Rattle.std.specs.Prelude.{◌≡◌, ◌<◌, ◌^◌, List, length, Option, Some, None}
 use Rattle.class_model.specs.declared.class.Class.{Class}
 use Rattle.machine_rules.specs.Names.{Name}
 use Rattle.machine_rules.specs.Linked.{Linked}
@@ -37,3 +37,11 @@ pub record IsInfo (i : Info) : Type 0 where
 -- The class as the definitions see it.
 abbrev pub class_of : Info → Linked
 class_of i = linked_of i.linked
+
+-- The class of a class file.
+abbrev pub file_in : Info → Option Class
+file_in i = file_of i.body
+  where
+    file_of : ClassBody → Option Class
+    file_of (body.File loaded) = Some loaded.class
+    file_of (body.Library c) = None

@@ -7,6 +7,7 @@ mod entries;
 mod fault;
 mod info;
 mod instruction;
+mod laws;
 mod linked;
 mod linking;
 mod loaded;
@@ -14,11 +15,14 @@ mod numbering;
 mod opcodes;
 mod program;
 mod scripted;
+#[cfg(test)]
+mod tests;
 
 pub use consulted::Consulted;
 pub use fault::TableFault;
 pub use info::ClassInfo;
 pub use instruction::{Comparison, Conversion, Element, Instruction, Operation, ShiftKind};
+pub use laws::forms_mean_the_same;
 pub use linked::{
     Entry, FieldConstant, FieldRef, LinkedBody, LinkedClass, LinkedCode, LinkedField, LinkedLine,
     LinkedMethod, LinkedRow, MethodRef, Native, Switch,

@@ -1,7 +1,7 @@
-ghost use Rattle.std.specs.Prelude.{◌≡◌, ◌<◌, List, map, length, Some, None, IfSome, IfNone};
-ghost use Rattle.std.specs.Option.{option_copied};
-ghost use Rattle.machine_rules.specs.Linked.{method_place};
-ghost use Rattle.class_table.specs.View.{method_ref_at, method_of, linked_of};
+ghost use Rattle.std.specs.Prelude.{◌≡◌, ◌<◌, ◌&&◌, nat_le, if◌then◌else◌, List, map, length, Some, None, IfSome, IfNone};
+ghost use Rattle.std.specs.Option.{option_copied, option_map};
+ghost use Rattle.machine_rules.specs.Linked.{method_place, is_later, line_row, line_at};
+ghost use Rattle.class_table.specs.View.{method_ref_at, method_of, line_of, linked_of};
 ghost use Rattle.class_table.specs.declared.linked.Entry as entry;
 
 use crate::instruction::Instruction;
@@ -152,6 +152,44 @@ impl LinkedClass {
     {
         place_of(self.methods.as_slice(), name, desc)
     }
+}
+
+impl LinkedCode {
+    /// The line of an instruction, 0 where there is none: that of the row with the greatest start at or before it, of several such rows the last.
+    pub fn line(&self, at: usize) -> u16
+        ensures { result ≡ line_at at (map line_of self.now.lines) }
+    {
+        match line_row(self.lines.as_slice(), at) {
+            Some(row) => row.line,
+            None => 0,
+        }
+    }
+}
+
+// The row that counts, once one more row stands in front.
+fn later(row: LinkedLine, at: usize, found: Option<LinkedLine>) -> Option<LinkedLine>
+    ensures { option_map line_of result ≡ (if nat_le row.start at && is_later (line_of row) (option_map line_of found) then Some (line_of row) else option_map line_of found) }
+{
+    let is_later = match found {
+        Some(other) => other.start < row.start,
+        None => true,
+    };
+    if row.start as usize <= at && is_later {
+        return Some(row);
+    }
+    found
+}
+
+fn line_row(lines: &[LinkedLine], at: usize) -> Option<LinkedLine>
+    ensures { option_map line_of result ≡ line_row at (map line_of lines.now) }
+{
+    let mut found = None;
+    let mut left = lines.len();
+    while left > 0 {
+        left -= 1;
+        found = later(lines[left], at, found);
+    }
+    found
 }
 
 fn place_of(methods: &[LinkedMethod], name: &Name, desc: &Name) -> Option<usize>

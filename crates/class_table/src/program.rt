@@ -1,18 +1,18 @@
-ghost use Rattle.std.specs.Prelude.{◌≡◌, ◌≢◌, ◌<◌, ℕ, List, map, length, slice_get, slice_set, Some, None, Err, IfOk, OnOk, IfSome, IfNone, IsSomeAnd};
+ghost use Rattle.std.specs.Prelude.{◌≡◌, ◌≢◌, ◌<◌, ℕ, List, map, length, slice_get, slice_set, Some, None, Err, IfOk, OnOk, IfSome, IfNone, IsSomeAnd, option_and_then};
 ghost use Rattle.std.specs.Option.{option_map, option_copied};
 ghost use Rattle.std.specs.Arc.{arc_value};
 ghost use Rattle.machine_rules.specs.Linked.{method_in};
 ghost use Rattle.class_table.specs.View.{method_of};
-ghost use Rattle.class_table.specs.Info.{class_of, link_body};
+ghost use Rattle.class_table.specs.Info.{class_of, link_body, file_in};
 ghost use Rattle.class_table.specs.Table.{AreDistinct, IsLeastDuplicate, bodies_of, names_of, names, number_of, CanSwap, class_at, name_at, look, entries_at, methods_at, reference_at, named_number, named_place, IsProgram};
 ghost use Rattle.class_table.specs.declared.fault.TableFault.TheVariants.{Duplicate};
 
 use crate::fault::TableFault;
 use crate::info::ClassInfo;
 use crate::linked::LinkedMethod;
-use crate::loaded::{LibClass, Loaded};
+use crate::loaded::{ClassBody, LibClass, Loaded};
 use crate::numbering::{bodies, infos, least_duplicate, numbers};
-use class_model::{ClassId, Memory, Name, Seq};
+use class_model::{Class, ClassId, Memory, Name, Seq};
 use std::alloc::Global;
 use std::collections::HashMap;
 use std::marker::Model;
@@ -100,6 +100,16 @@ impl Program {
         ensures form { IsProgram self.now }
     {
         &self.classes[id.0 as usize]
+    }
+
+    /// The class of a class file by its number; none for one of the library.
+    pub fn file_class(&self, id: ClassId) -> Option<&Class>
+        ensures { option_copied result ≡ option_and_then file_in (slice_get self.now id.0) }
+    {
+        match self.get(id)?.body() {
+            ClassBody::File(loaded) => Some(&loaded.class),
+            ClassBody::Library(_) => None,
+        }
     }
 
     /// The number of a class.
