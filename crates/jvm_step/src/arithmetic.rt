@@ -1,6 +1,6 @@
 ghost use Rattle.std.specs.Prelude.{◌≡◌};
 ghost use Rattle.machine_rules.specs.Steps.{compares, int_operation};
-ghost use Rattle.class_table.specs.Look.{comparison_of, operation_of};
+ghost use Rattle.class_table.specs.View.{comparison_of, operation_of};
 
 use class_table::{Comparison, Operation};
 use jvm_arith::{Op2, int_op};
@@ -10,12 +10,12 @@ pub fn compare(c: Comparison, x: i32, y: i32) -> bool
     ensures { result ≡ compares (comparison_of c) x y }
 {
     match c {
-        Comparison::IsEqual => x == y,
-        Comparison::IsUnequal => x != y,
-        Comparison::IsLess => x < y,
-        Comparison::IsAtLeast => x >= y,
-        Comparison::IsGreater => x > y,
-        Comparison::IsAtMost => x <= y,
+        Comparison::Equal => x == y,
+        Comparison::Unequal => x != y,
+        Comparison::Less => x < y,
+        Comparison::AtLeast => x >= y,
+        Comparison::Greater => x > y,
+        Comparison::AtMost => x <= y,
     }
 }
 

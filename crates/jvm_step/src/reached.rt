@@ -117,7 +117,12 @@ fn make_mark(lines: &mut Vec<Lines>, class: usize, line: usize) -> Result<(), Me
 fn is_among(pairs: &[(ClassId, u16)], class: ClassId, line: u16) -> bool
     ensures { result ≡ is_listed class.0 line (map (λ x. (x.0.0, x.1)) pairs.now) }
 {
-    pairs.iter().any(|x| x.0.0 == class.0 && x.1 == line)
+    for pair in pairs {
+        if pair.0.0 == class.0 && pair.1 == line {
+            return true;
+        }
+    }
+    false
 }
 
 // Marks a line of a class.

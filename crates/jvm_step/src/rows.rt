@@ -2,7 +2,7 @@
 #![tactic(auto, unfolding(crate::specs::View::frame_of))]
 
 ghost use Rattle.std.specs.Prelude.{◌≡◌, ◌+◌, ◌<◌, ◌^◌, true, IfOk};
-ghost use Rattle.class_table.specs.Look.{comparison_of, operation_of};
+ghost use Rattle.class_table.specs.View.{comparison_of, operation_of};
 ghost use Rattle.machine_rules.specs.Effects.{jumps, pushes, on_top, on_object};
 ghost use Rattle.machine_rules.specs.Steps.{loads_int, loads_reference, stores_int, pops_word, operates_int, branches_on_int, branches_on_ints};
 ghost use Rattle.jvm_step.specs.View.{frame_of, Goes};

@@ -1,4 +1,5 @@
-ghost use Rattle.std.specs.Prelude.{◌≡◌, [], ◌∷◌, length, IfSome, IfNone, OnOk, OnErr};
+ghost use Rattle.std.specs.Prelude.{◌≡◌, [], ◌∷◌, length, slice_get, IfSome, IfNone, OnOk, OnErr};
+ghost use Rattle.std.specs.Option.{option_copied};
 
 use class_model::Memory;
 use std::alloc::Global;
@@ -28,6 +29,11 @@ impl<T> Stack<T> {
         }
     }
 
+    /// The allocator that the stack keeps.
+    pub fn allocator(&self) -> Global {
+        *self.items.allocator()
+    }
+
     /// How many items there are.
     pub fn len(&self) -> usize
         ensures { result ≡ length self.now }
@@ -53,5 +59,22 @@ impl<T> Stack<T> {
         ensures empty { IfNone result (self.new ≡ []) }
     {
         self.items.pop()
+    }
+}
+
+impl<T> Stack<T> {
+    /// The stack of these items, the first one on the top.
+    pub fn of(mut items: Vec<T>) -> Stack<T>
+        ensures { result ≡ items.items }
+    {
+        items.reverse();
+        Stack { items }
+    }
+
+    /// The item on the top.
+    pub fn top(&self) -> Option<&T>
+        ensures { option_copied result ≡ slice_get self.now 0 }
+    {
+        self.items.last()
     }
 }

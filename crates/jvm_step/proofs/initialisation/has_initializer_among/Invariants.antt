@@ -1,0 +1,9 @@
+use Rattle.std.proofs.Common.{◌≡◌, List, map, drop}
+use Rattle.std.specs.List.{list_any}
+use Rattle.machine_rules.specs.Linked.{is_class_initializer}
+use Rattle.class_table.specs.declared.linked.Entry.{Entry}
+use Rattle.class_table.specs.View.{method_of}
+use Rattle.jvm_step.proofs.initialisation.has_initializer_among.Given as goal
+
+abbrev pub invariant-loop-method : goal.invariant-loop-method
+invariant-loop-method l = (es : List Entry) → list_any is_class_initializer (map (method_of es) l.methods) ≡ list_any is_class_initializer (map (method_of es) (drop l.method-index l.methods))
