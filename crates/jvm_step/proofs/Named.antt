@@ -51,3 +51,14 @@ reach_if p class line pairs false = sym (map-append (named p) pairs ((class, lin
 
 pub reach_named : (p : List Info) (class line : ℕ) (pairs : List (ℕ × ℕ)) → IsProgram p → class < length p → AreClasses p pairs → reach (name_at p class) line (map (named p) pairs) ≡ map (named p) (with_pair class line pairs)
 reach_named p class line pairs d lt all = rw (listed_named p class line pairs d lt all) (reach_if p class line pairs (is_listed class line pairs))
+
+pub classes_with : (p : List Info) (class line : ℕ) (pairs : List (ℕ × ℕ)) → class < length p → AreClasses p pairs → AreClasses p (pairs ++ (class, line) ∷ [])
+classes_with p class line [] lt all = (lt, tt)
+classes_with p class line (x ∷ xs) lt all = (all.0, classes_with p class line xs lt all.1)
+
+with_if : (p : List Info) (class line : ℕ) (pairs : List (ℕ × ℕ)) (b : Bool) → class < length p → AreClasses p pairs → AreClasses p (if b then pairs else pairs ++ (class, line) ∷ [])
+with_if p class line pairs true lt all = all
+with_if p class line pairs false lt all = classes_with p class line pairs lt all
+
+pub classes_listed : (p : List Info) (class line : ℕ) (pairs : List (ℕ × ℕ)) → class < length p → AreClasses p pairs → AreClasses p (with_pair class line pairs)
+classes_listed p class line pairs lt all = with_if p class line pairs (is_listed class line pairs) lt all

@@ -6,6 +6,9 @@ use Rattle.machine_rules.specs.declared.machine.Limits.{Limits}
 use Rattle.machine_rules.specs.State as def
 use Rattle.machine_rules.specs.Effects.{Effect, NoRow, goes_with, Fault, StackOverflow, AssertionFailed, fault_name, throws}
 use Rattle.machine_rules.specs.Effects as effect
+use Rattle.machine_rules.specs.Linked.{is_from_file}
+use Rattle.machine_rules.specs.Programs.{Look}
+use Rattle.machine_rules.specs.Steps as steps
 use Rattle.machine_rules.specs.Natives as natives
 use Rattle.machine_rules.specs.Initialisation as initialisation
 use Rattle.machine_rules.specs.declared.value.Value.{Value}
@@ -26,6 +29,8 @@ use Rattle.jvm_step.specs.declared.machine.Given.{Given}
 use Rattle.jvm_step.specs.declared.machine.Given.TheVariants as given
 use Rattle.jvm_step.specs.declared.machine.Need.{Need}
 use Rattle.jvm_step.specs.declared.machine.Need.TheVariants as need
+use Rattle.jvm_step.specs.declared.machine.Step.{Step}
+use Rattle.jvm_step.specs.declared.machine.Step.TheVariants as step
 use Rattle.jvm_step.specs.declared.machine.World.{World}
 use Rattle.jvm_step.specs.declared.machine.Machine.{Machine}
 
@@ -141,6 +146,7 @@ abbrev pub AreClasses : {A : Type 0} → List Info → List (ℕ × A) → Type 
 AreClasses p [] = Unit {0}
 AreClasses p (x ∷ xs) = (x.0 < length p) × AreClasses p xs
 
+-- What holds of a machine at each step of a run of a program.
 pub record IsMachineOf (p : List Info) (m : Machine) : Type 0 where
   pub frame : IfSome m.frame (λ f. f.class.0 < length p)
   pub callers : AreCallers p m.callers
@@ -151,3 +157,21 @@ pub record IsMachineOf (p : List Info) (m : Machine) : Type 0 where
   pub reached : AreClasses p m.world.reached
   pub overflow : name_at p m.exceptions.overflow.0 ≡ fault_name StackOverflow
   pub assertion : name_at p m.exceptions.assertion.0 ≡ fault_name AssertionFailed
+
+-- A row leaves a machine that is one still, with its limits and the lines that it has reached.
+pub record IsKept (p : List Info) (old new : Machine) : Type 0 where
+  pub machine : IsMachineOf p new
+  pub limits : new.limits ≡ old.limits
+  pub reached : new.world.reached ≡ old.world.reached
+
+-- ---- steps
+
+-- What a step answers, and the state behind it: the next state; or the end of a state that has ended, which is as it was; or the place where no row applies, and nothing was consulted or reached.
+abbrev pub Answers : steps.Stepped → Step → def.MachineState → def.MachineState → Type 0
+Answers d step.Next old new = d ≡ steps.Next new
+Answers d (step.Ended outcome) old new = (d ≡ steps.Ended outcome) × (new ≡ old)
+Answers d (step.Stuck class method at) old new = (d ≡ steps.Stuck (record { class = class; method = method; at = at })) × IsNothingNew old.world new.world
+
+-- The lines that were reached, once a line of a class is.
+abbrev pub reaches_line : Look → Name → ℕ → List (Name × ℕ) → List (Name × ℕ)
+reaches_line p class line reached = if is_from_file (p class) then steps.reach class line reached else reached

@@ -3,15 +3,17 @@
 ghost use Rattle.std.specs.Prelude.{◌≡◌, ◌++◌, ◌-◌, Ok, Some, None, true, false, nat_le, List, length, map, replicate, IfOk, OnOk, IfSome, IfNone};
 ghost use Rattle.machine_rules.specs.declared.value.Value.{Value};
 ghost use Rattle.machine_rules.specs.Kinds.{Kind as KindOf, is_of_kind};
-ghost use Rattle.machine_rules.specs.Effects.{Effect, NoRow, on_reversed, reversed_onto, local_of, locals_of};
+ghost use Rattle.machine_rules.specs.Effects.{Effect, NoRow, on_args, on_reversed, reversed_onto, local_of, locals_of};
 ghost use Rattle.class_table.specs.Symbols.{kind_of};
 ghost use Rattle.jvm_step.specs.View.{filled};
 
+use crate::frame::Frame;
 use crate::locals::Locals;
 use crate::operands::Operands;
 use crate::stack::Stack;
 use class_model::{Kind, Memory};
 use machine_rules::Value;
+use std::alloc::Global;
 
 // Whether a value is of a kind. Of references this asks no class.
 fn is_of_kind(kind: &Kind, v: Value) -> bool
@@ -26,8 +28,8 @@ fn is_of_kind(kind: &Kind, v: Value) -> bool
     }
 }
 
-/// Takes arguments of these kinds off a stack, the last kind's first, and puts them on the ones that were taken. It is false where there are none of these kinds.
-pub fn take_args(
+// Takes arguments of these kinds off a stack, the last kind's first, and puts them on the ones that were taken. It is false where there are none of these kinds.
+fn take_onto(
     stack: &mut Operands,
     kinds: &[Kind],
     args: &mut Stack<Value>,
@@ -38,7 +40,7 @@ pub fn take_args(
     let [kind, kinds @ ..] = kinds else {
         return Ok(true);
     };
-    if !take_args(stack, kinds, args)? {
+    if !take_onto(stack, kinds, args)? {
         return Ok(false);
     }
     let Some(v) = stack.pop() else {
@@ -49,6 +51,19 @@ pub fn take_args(
     }
     args.push(v)?;
     Ok(true)
+}
+
+/// Takes arguments of these kinds off the stack of a frame; none where it has none of these kinds. The first one is on the top.
+pub fn take_args(alloc: Global, f: &mut Frame, kinds: &[Kind]) -> Result<Option<Stack<Value>>, Memory>
+    ensures taken { IfOk result (λ made. IfSome made (λ args. (go : List Value → List Value → Effect) → on_args (map kind_of kinds.now) f.old.stack go ≡ go args f.new.stack)) }
+    ensures refused { IfOk result (λ made. IfNone made ((go : List Value → List Value → Effect) → on_args (map kind_of kinds.now) f.old.stack go ≡ NoRow)) }
+    ensures rest { f.new ≡ record f.old { stack = f.new.stack } }
+{
+    let mut args = Stack::new(alloc);
+    if !take_onto(&mut f.stack, kinds, &mut args)? {
+        return Ok(None);
+    }
+    Ok(Some(args))
 }
 
 // What an argument takes of the locals.

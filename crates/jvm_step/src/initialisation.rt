@@ -13,7 +13,7 @@ ghost use Rattle.class_table.specs.declared.linked.Entry.{Entry};
 ghost use Rattle.class_table.specs.View.{method_of, field_of, constant_of, linked_of};
 ghost use Rattle.class_table.specs.Symbols.{kind_of};
 ghost use Rattle.class_table.specs.Table.{look, name_at};
-ghost use Rattle.jvm_step.specs.View.{world_of, frames_of, state_of, named, need_with, AreClasses, IsMachineOf, Comes};
+ghost use Rattle.jvm_step.specs.View.{world_of, frames_of, state_of, named, need_with, AreClasses, IsMachineOf, IsKept, Comes};
 
 use crate::begun::Begun;
 use crate::machine::{Machine, Need};
@@ -186,7 +186,7 @@ pub fn begin(p: &Program, m: &mut Machine, class: ClassId) -> Result<bool, Memor
     requires quiet { m.old.thrown ≡ None }
     requires class { class.0 < length p.now }
     ensures row { IfOk result (λ b. Comes (begins (consult (look p.now) (name_at p.now class.0) (world_of p.now m.old.world)) (frames_of p.now m.old.frame m.old.callers) (name_at p.now class.0) (look p.now (name_at p.now class.0))) b (world_of p.now m.old.world) (state_of p.now m.new)) }
-    ensures kept { OnOk result (IsMachineOf p.now m.new) }
+    ensures kept { OnOk result (IsKept p.now m.old m.new) }
 {
     if needs_code(p.info(class).linked()) {
         return Ok(false);

@@ -4,15 +4,26 @@
 mod args;
 mod arithmetic;
 mod begun;
+mod calling;
+mod fetching;
 mod frame;
 mod initialisation;
+mod lines;
 mod locals;
 mod machine;
 mod natives;
 mod operands;
 mod reached;
+mod returning;
 mod rows;
+mod script;
 mod slots;
 mod stack;
+mod starting;
+mod stepping;
 mod text;
 mod throwing;
+
+pub use machine::{Machine, Step};
+pub use machine_rules::Limits;
+pub use stepping::step;

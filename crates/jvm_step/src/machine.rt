@@ -66,3 +66,13 @@ pub struct Machine {
     pub(crate) limits: Limits,
     pub(crate) exceptions: Exceptions,
 }
+
+/// What a step came to.
+#[derive(Debug, Drop, PartialEq, Eq)]
+pub enum Step {
+    Next,
+    /// The state had ended before the step.
+    Ended(Outcome),
+    /// No row applies to an instruction: its class, its method by name and descriptor written together, and its number.
+    Stuck { class: Name, method: Name, at: u32 },
+}

@@ -1,4 +1,4 @@
-ghost use Rattle.std.specs.Prelude.{◌≡◌, ℕ, ℤ, Ok, ◌+◌, ◌<◌, ◌^◌, [], ◌∷◌, List, nat_le, true, false, IfSome, IfNone, OnOk, IfOk};
+ghost use Rattle.std.specs.Prelude.{◌≡◌, ℕ, ℤ, Ok, ◌+◌, ◌<◌, ◌^◌, [], ◌∷◌, List, drop, nat_le, true, false, IfSome, IfNone, OnOk, IfOk};
 ghost use Rattle.machine_rules.specs.Kinds.{height_of, width_of};
 ghost use Rattle.machine_rules.specs.declared.value.Value.{Value};
 ghost use Rattle.machine_rules.specs.Effects.{Effect, NoRow, on_top, on_int, on_ints, on_object};
@@ -83,6 +83,28 @@ impl Operands {
         let v = self.values.pop()?;
         self.words -= width(v);
         Some(v)
+    }
+
+    /// The int on the top.
+    pub fn top_int(&self) -> Option<i32>
+        ensures some { IfSome result (λ z. (go : ℤ → Effect) → on_int self.now (λ x rest. go x) ≡ go z) }
+        ensures none { IfNone result ((go : ℤ → List Value → Effect) → on_int self.now go ≡ NoRow) }
+    {
+        match self.top() {
+            Some(Value::Int(z)) => Some(z),
+            Some(Value::Long(_)) => None,
+            Some(Value::Ref(_)) => None,
+            Some(Value::Null) => None,
+            None => None,
+        }
+    }
+
+    // The top, if there is one.
+    fn top(&self) -> Option<Value>
+        ensures some { IfSome result (λ v. self.now ≡ v ∷ drop 1 self.now) }
+        ensures none { IfNone result (self.now ≡ []) }
+    {
+        self.values.last().copied()
     }
 
     /// Takes an int off the top.

@@ -1,9 +1,9 @@
 // The rows that touch the top frame alone (JVMS 6.5). Each is false where the row doesn't apply.
 #![tactic(auto, unfolding(crate::specs::View::frame_of))]
 
-ghost use Rattle.std.specs.Prelude.{◌≡◌, ◌+◌, ◌<◌, ◌^◌, true, IfOk};
+ghost use Rattle.std.specs.Prelude.{◌≡◌, ◌+◌, ◌<◌, ◌^◌, IfOk};
 ghost use Rattle.class_table.specs.View.{comparison_of, operation_of};
-ghost use Rattle.machine_rules.specs.Effects.{jumps, pushes, on_top, on_object};
+ghost use Rattle.machine_rules.specs.Effects.{pushes, on_top};
 ghost use Rattle.machine_rules.specs.Steps.{loads_int, loads_reference, stores_int, pops_word, operates_int, branches_on_int, branches_on_ints};
 ghost use Rattle.jvm_step.specs.View.{frame_of, Goes};
 
@@ -16,16 +16,14 @@ use machine_rules::Value;
 /// nop: goes on to the next instruction.
 pub fn go_on(f: &mut Frame)
     requires next { f.old.at + 1 < 2 ^ 64 }
-    ensures row { Goes (λ p w fs. jumps w (frame_of p f.old) fs (f.old.at + 1) f.old.stack) true f.new }
-    ensures class { f.new.class ≡ f.old.class }
+    ensures { f.new ≡ record f.old { at = f.old.at + 1 } }
 {
     f.at += 1;
 }
 
 /// goto: goes on to an instruction, whatever it is.
 pub fn go_to(f: &mut Frame, to: usize)
-    ensures row { Goes (λ p w fs. jumps w (frame_of p f.old) fs to f.old.stack) true f.new }
-    ensures class { f.new.class ≡ f.old.class }
+    ensures { f.new ≡ record f.old { at = to } }
 {
     f.at = to;
 }
@@ -33,7 +31,7 @@ pub fn go_to(f: &mut Frame, to: usize)
 /// The constants: puts a value on the top, where the stack has room for it.
 pub fn push(f: &mut Frame, room: u16, v: Value) -> Result<bool, Memory>
     requires next { f.old.at + 1 < 2 ^ 64 }
-    ensures row { IfOk result (λ b. Goes (λ p w fs. pushes w (frame_of p f.old) fs room v f.old.stack) b f.new) }
+    ensures row { IfOk result (λ b. Goes (λ p w fs. pushes w (frame_of p f.old) fs room v (frame_of p f.old).stack) b f.new) }
     ensures class { f.new.class ≡ f.old.class }
 {
     if !f.stack.push(v, room)? {
@@ -94,7 +92,7 @@ pub fn store_int(f: &mut Frame, n: u16) -> bool
 /// pop: takes off a value of one word.
 pub fn pop(f: &mut Frame) -> bool
     requires next { f.old.at + 1 < 2 ^ 64 }
-    ensures row { Goes (λ p w fs. on_top f.old.stack (pops_word w (frame_of p f.old) fs)) result f.new }
+    ensures row { Goes (λ p w fs. on_top (frame_of p f.old).stack (pops_word w (frame_of p f.old) fs)) result f.new }
     ensures class { f.new.class ≡ f.old.class }
 {
     match f.stack.pop() {
@@ -147,18 +145,5 @@ pub fn branch_on_ints(f: &mut Frame, c: Comparison, to: usize) -> bool
         return false;
     };
     f.at = if compare(c, x, y) { to } else { f.at + 1 };
-    true
-}
-
-/// invokespecial of Object's `<init>`: takes a reference to an object off.
-pub fn initialize_object(f: &mut Frame) -> bool
-    requires next { f.old.at + 1 < 2 ^ 64 }
-    ensures row { Goes (λ p w fs. on_object f.old.stack (λ x rest. jumps w (frame_of p f.old) fs (f.old.at + 1) rest)) result f.new }
-    ensures class { f.new.class ≡ f.old.class }
-{
-    if f.stack.pop_object().is_none() {
-        return false;
-    }
-    f.at += 1;
     true
 }

@@ -73,7 +73,8 @@ impl<T> Stack<T> {
 
     /// The item on the top.
     pub fn top(&self) -> Option<&T>
-        ensures { option_copied result ≡ slice_get self.now 0 }
+        ensures value { option_copied result ≡ slice_get self.now 0 }
+        ensures none { IfNone result (self.now ≡ []) }
     {
         self.items.last()
     }

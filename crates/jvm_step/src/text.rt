@@ -1,4 +1,4 @@
-ghost use Rattle.std.specs.Prelude.{◌≡◌, IfOk};
+ghost use Rattle.std.specs.Prelude.{◌≡◌, ◌++◌, IfOk};
 ghost use Rattle.machine_rules.specs.Names.{same};
 
 use class_model::{Memory, Name, Seq};
@@ -25,4 +25,13 @@ pub fn is_text(name: &[u16], text: &[u8]) -> bool
         ([], [_, ..]) => false,
         ([_, ..], []) => false,
     }
+}
+
+/// Two names written together.
+pub fn joined(first: &Name, second: &Name) -> Result<Name, Memory>
+    ensures { IfOk result (λ name. name ≡ first.now ++ second.now) }
+{
+    let mut both = first.copy()?;
+    both.extend_from_slice(second.as_slice())?;
+    Ok(both)
 }

@@ -7,7 +7,7 @@ ghost use Rattle.machine_rules.specs.Effects.{throws};
 ghost use Rattle.machine_rules.specs.Effects as rule;
 ghost use Rattle.jvm_values.specs.Contents.{with_object, next_number};
 ghost use Rattle.jvm_values.specs.Words.{new_object, object_words};
-ghost use Rattle.jvm_step.specs.View.{world_of, frames_of, state_of, fault_of, IsMachineOf};
+ghost use Rattle.jvm_step.specs.View.{world_of, frames_of, state_of, fault_of, IsMachineOf, IsKept};
 
 use crate::machine::{Exception, Machine};
 use class_model::{ClassId, Kind, Memory, Seq};
@@ -43,7 +43,7 @@ pub fn throw(alloc: Global, p: &Program, m: &mut Machine, exception: Exception) 
     requires machine { IsMachineOf p.now m.old }
     requires quiet { m.old.thrown ≡ None }
     ensures throws { OnOk result (throws m.old.limits (world_of p.now m.old.world) (frames_of p.now m.old.frame m.old.callers) (fault_of exception) ≡ rule.Goes (state_of p.now m.new)) }
-    ensures kept { OnOk result (IsMachineOf p.now m.new) }
+    ensures kept { OnOk result (IsKept p.now m.old m.new) }
 {
     let class = match exception {
         Exception::StackOverflow => m.exceptions.overflow,

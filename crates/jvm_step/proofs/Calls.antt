@@ -1,0 +1,92 @@
+-- What a search for a static method comes to.
+use Rattle.std.proofs.Common.{◌≡◌, ℕ, ℤ, Bool, true, false, List, [], ◌∷◌, ◌++◌, drop, Option, Some, None, refl, sym, ap, subst, ◌∙◌}
+use Rattle.std.specs.Prelude.{slice_get, IfSome}
+use Rattle.std.specs.Option.{option_map}
+use Rattle.class_model.specs.declared.kind.Kind as plain
+use Rattle.machine_rules.specs.declared.value.Value.{Value}
+use Rattle.machine_rules.specs.declared.value.Value.TheVariants.{Int}
+use Rattle.machine_rules.specs.Kinds.{is_int_kind, narrow}
+use Rattle.machine_rules.specs.Names.{Name, plain_descriptor}
+use Rattle.machine_rules.specs.Steps.{Stuck, act, next_or, place_with, place_of, ended, step_of}
+use Rattle.machine_rules.specs.Script.{calls_next}
+use Rattle.class_table.specs.Info.{Info}
+use Rattle.machine_rules.specs.State.{Call, Frame, World, MachineState}
+use Rattle.machine_rules.specs.Effects as rule
+use Rattle.machine_rules.specs.Effects.{Effect, NoRow, Current, on_int, on_args}
+use Rattle.class_table.specs.Symbols.{kind_of}
+use Rattle.machine_rules.specs.Instructions.{MethodRef, Instruction, InvokeStatic}
+use Rattle.machine_rules.specs.Linked.{Linked, LinkedMethod, is_static, is_interface, method_place}
+use Rattle.machine_rules.specs.Programs.{Look}
+use Rattle.machine_rules.specs.Calls.{consult, same_bool, runs, invokes_static, returns, returns_int}
+use Rattle.machine_rules.specs.Initialisation.{Ready, need_of, needed, when_ready}
+use Rattle.machine_rules.specs.declared.machine.Limits.{Limits}
+use Rattle.jvm_step.specs.Finding.{FindsStatic, FindsNoStatic}
+use Rattle.jvm_step.specs.declared.frame.Frame as code
+use Rattle.jvm_step.specs.View.{frame_of, Goes, Comes, IsNothingNew}
+
+pub found_static : (p : Look) (r : MethodRef) (c : Linked) (k : ℕ) (m : LinkedMethod) → p r.class ≡ Some c → same_bool (is_interface c.flags) r.interface ≡ true → method_place r.name r.desc c.methods ≡ Some k → slice_get c.methods k ≡ Some m → is_static m.flags ≡ true → FindsStatic p r k m
+found_static p r c k m a b d e f = λ q w g fs room ready. rw (a, b, d, e, f) refl
+
+pub not_there : (p : Look) (r : MethodRef) → p r.class ≡ None → FindsNoStatic p r
+not_there p r a = λ q w g fs room ready. rw a refl
+
+pub not_fit : (p : Look) (r : MethodRef) (c : Linked) → p r.class ≡ Some c → same_bool (is_interface c.flags) r.interface ≡ false → FindsNoStatic p r
+not_fit p r c a b = λ q w g fs room ready. rw (a, b) refl
+
+pub not_declared : (p : Look) (r : MethodRef) (c : Linked) → p r.class ≡ Some c → same_bool (is_interface c.flags) r.interface ≡ true → method_place r.name r.desc c.methods ≡ None → FindsNoStatic p r
+not_declared p r c a b d = λ q w g fs room ready. rw (a, b, d) refl
+
+pub not_static : (p : Look) (r : MethodRef) (c : Linked) (k : ℕ) (m : LinkedMethod) → p r.class ≡ Some c → same_bool (is_interface c.flags) r.interface ≡ true → method_place r.name r.desc c.methods ≡ Some k → slice_get c.methods k ≡ Some m → is_static m.flags ≡ false → FindsNoStatic p r
+not_static p r c k m a b d e f = λ q w g fs room ready. rw (a, b, d, e, f) refl
+
+-- ---- rows by their parts
+
+pub if_some : {A : Type 0} {P Q : A → Type 0} (o : Option A) → ((x : A) → P x → Q x) → IfSome o P → IfSome o Q
+if_some None f h = tt
+if_some (Some x) f h = f x h
+
+pub if_some_at : {A : Type 0} (P : A → Type 0) (o : Option A) (x : A) → o ≡ Some x → P x → IfSome o P
+if_some_at P o x e h = subst (λ y. IfSome y P) (sym e) h
+
+pub comes_as : (b : Bool) (old : World) (new : MachineState) (d e : Effect) → d ≡ e → Comes e b old new → Comes d b old new
+comes_as b old new d e h c = subst (λ x. Comes x b old new) (sym h) c
+
+pub returns_int_goes : (p : Look) (w : World) (f : Frame) (fs : List Frame) (result : Option plain.Kind) (k : plain.Kind) (v : Value) → result ≡ Some k → is_int_kind (kind_of k) ≡ true → ((go : Value → Effect) → on_int f.stack (λ z rest. go (Int (narrow (kind_of k) z))) ≡ go v) → returns_int p w f fs (option_map kind_of result) ≡ returns p w fs (Some v)
+returns_int_goes p w f fs result k v a b h = rw (a, b) (h (λ x. returns p w fs (Some x)))
+
+pub some_of : {A : Type 0} (P : A → Type 0) (o : Option A) (x : A) → o ≡ Some x → IfSome o P → P x
+some_of P o x e h = subst (λ y. IfSome y P) e h
+
+pub act_static : (p : Look) (q : Limits) (here : Current) (i : Instruction) (w : World) (f : Frame) (fs : List Frame) (r : MethodRef) → i ≡ InvokeStatic r → act p q here i w f fs ≡ invokes_static p q w f fs here.max_stack r
+unfolding act
+act_static p q here i w f fs r e = rw e refl
+
+pub headed : {A : Type 0} (xs : List A) (x : A) → slice_get xs 0 ≡ Some x → xs ≡ x ∷ drop 1 xs
+headed [] x h = cc
+headed (y ∷ ys) x h = cc
+
+ready_named : (p : Look) (q : Limits) (w : World) (f : Frame) (fs : List Frame) (room : ℕ) (r : MethodRef) (k : ℕ) (m : LinkedMethod) → FindsStatic p r k m → Ready ≡ need_of p w.inits r.class → invokes_static p q w f fs room r ≡ on_args r.args f.stack (λ args rest. runs q (consult p r.class w) (record f { stack = rest }) fs room r.class k args m.body)
+ready_named p q w f fs room r k m found e =
+    let go = on_args r.args f.stack (λ args rest. runs q (consult p r.class w) (record f { stack = rest }) fs room r.class k args m.body) in
+    found q (consult p r.class w) f fs room (λ d. when_ready (consult p r.class w) (f ∷ fs) (need_of p w.inits r.class) (needed p (need_of p w.inits r.class)) d)
+    ∙ ap (λ n. when_ready (consult p r.class w) (f ∷ fs) n (needed p n) go) (sym e)
+
+pub static_ready : (p : Look) (q : Limits) (w : World) (f : Frame) (fs : List Frame) (room : ℕ) (r : MethodRef) (k : ℕ) (m : LinkedMethod) (n : Name) → n ≡ r.class → FindsStatic p r k m → Ready ≡ need_of p w.inits n → invokes_static p q w f fs room r ≡ on_args r.args f.stack (λ args rest. runs q (consult p n w) (record f { stack = rest }) fs room n k args m.body)
+static_ready p q w f fs room r k m n e found need =
+    subst (λ x. invokes_static p q w f fs room r ≡ on_args r.args f.stack (λ args rest. runs q (consult p x w) (record f { stack = rest }) fs room x k args m.body)) (sym e)
+    (ready_named p q w f fs room r k m found (need ∙ ap (need_of p w.inits) e))
+
+-- ---- the script
+
+pub stuck_next : (p : Look) (cs rest : List Call) (c : Call) (fs : List Frame) (d : Effect) (class method : Name) → fs ≡ [] → cs ≡ c ∷ rest → d ≡ NoRow → class ≡ c.class → method ≡ c.method ++ plain_descriptor → next_or (place_with p cs fs) d ≡ Stuck (record { class = class; method = method; at = 0 })
+stuck_next p cs rest c fs d class method a b e g h = rw (a, b, e, g, h) refl
+
+pub step_next : (p : Look) (q : Limits) (s : MachineState) → None ≡ ended s → s.thrown ≡ None → s.frames ≡ [] → step_of p q s ≡ next_or (place_of p s) (calls_next p q s.world s.world.script)
+unfolding step_of
+step_next p q s e t f = rw (← e, t, f) refl
+
+-- ---- rows of the top frame alone
+
+pub row_comes : (row : List Info → World → List Frame → Effect) (b : Bool) (f : code.Frame) (p : List Info) (w : World) (fs : List Frame) (new : MachineState) → Goes row b f → (b ≡ true → new ≡ record { frames = frame_of p f ∷ fs; thrown = None; world = w }) → IsNothingNew w new.world → Comes (row p w fs) b w new
+row_comes row true f p w fs new goes e same = goes p w fs ∙ ap rule.Goes (sym (e refl))
+row_comes row false f p w fs new goes e same = (goes p w fs, same)

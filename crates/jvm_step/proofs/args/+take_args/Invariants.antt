@@ -1,5 +1,0 @@
-use Rattle.std.proofs.Common.{length}
-use Rattle.jvm_step.proofs.args.+take_args.Given as goal
-
-abbrev pub decreases-take_args : goal.decreases-take_args
-decreases-take_args l = length l.kinds.now
