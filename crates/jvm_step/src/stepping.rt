@@ -1,7 +1,7 @@
 // One step of the machine (JVMS 2.11).
 #![tactic(auto, unfolding(crate::specs::View::frame_of, crate::specs::View::callers_of, crate::specs::View::world_of))]
 
-ghost use Rattle.std.specs.Prelude.{◌≡◌, ◌≢◌, ◌+◌, ◌<◌, ◌^◌, None, [], length, IfOk, OnOk, IfSome, IfNone, IsSome};
+ghost use Rattle.std.specs.Prelude.{◌≡◌, ◌≢◌, ◌+◌, ◌<◌, ◌^◌, None, [], length, map, IfOk, OnOk, IfSome, IfNone, IsSome};
 ghost use Rattle.std.specs.Option.{option_map};
 ghost use Rattle.machine_rules.specs.Linked.{method_in};
 ghost use Rattle.machine_rules.specs.Steps.{act, goes, ended, step_of, method_text};
@@ -22,7 +22,7 @@ use crate::rows::{
 use crate::lines::reach;
 use crate::script::next_call;
 use crate::text::joined;
-use class_model::{ClassId, Memory, Seq};
+use class_model::{ClassId, Memory, Name, Seq};
 use class_table::{Instruction, Program};
 use machine_rules::{Outcome, Value};
 use std::alloc::Global;
@@ -250,4 +250,31 @@ pub fn step(alloc: Global, p: &Program, m: &mut Machine) -> Result<Step, Memory>
     }
     let step = stuck(alloc, p, class, method, at)?;
     Ok(step)
+}
+
+impl Machine {
+    /// How the machine has ended, if it has.
+    pub fn end(&self, p: &Program) -> Option<Outcome>
+        ensures { result ≡ ended (state_of p.now self.now) }
+    {
+        end(p, self)
+    }
+
+    /// The names that were consulted, in order of first use.
+    #[tactic(auto, unfolding(crate::specs::View::world_of))]
+    pub fn consulted(&self, p: &Program) -> &Seq<Name>
+        ensures { result.now ≡ (state_of p.now self.now).world.consulted }
+    {
+        let _classes = p.len();
+        self.world.consulted.names()
+    }
+
+    /// The classes and lines that were reached, in order of first use.
+    #[tactic(auto, unfolding(crate::specs::View::world_of))]
+    pub fn reached(&self, p: &Program) -> &[(ClassId, u16)]
+        ensures { map (λ x. (name_at p.now x.0.0, x.1)) result.now ≡ (state_of p.now self.now).world.reached }
+    {
+        let _classes = p.len();
+        self.world.reached.pairs()
+    }
 }

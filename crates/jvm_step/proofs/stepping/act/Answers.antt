@@ -7,7 +7,7 @@ use Rattle.class_table.specs.View.{instruction_of, method_ref_of}
 use Rattle.class_table.specs.Symbols.{kind_of}
 use Rattle.class_table.specs.Table.{look}
 use Rattle.jvm_step.specs.View.{frame_of, world_of, callers_of}
-use Rattle.jvm_step.proofs.Calls.{if_some_at, some_of, comes_as, act_static, row_comes}
+use Rattle.jvm_step.proofs.Calls.{if_some_at, comes_as, act_static, row_comes}
 use Rattle.jvm_step.proofs.stepping.act.Goals as goal
 
 pub returns-in-Nop-clause-row : goal.returns-in-Nop-clause-row
@@ -35,5 +35,5 @@ returns-in_ok-goes-in-InvokeStatic-clause-row c =
     let here = c.args.here in
     if_some_at _ m.frame f c.in-Some.is
     (rw c.in-InvokeStatic.is (comes_as _ _ _ _ _
-    (act_static (look p) m.limits (record { result = option_map kind_of here.result.now; max_stack = here.code.now.max_stack }) _ (world_of p m.world) (frame_of p f) (callers_of p m.callers) (method_ref_of c.in-Some-called.called.now) (c.in-Some-called.ensures.means InvokeStatic))
-    (some_of _ m.frame f c.in-Some.is c.in_ok-goes-in-InvokeStatic.ensures.row here.code.now.max_stack)))
+    (act_static (look p) m.limits (record { result = option_map kind_of here.result.now; max_stack = here.code.now.max_stack }) _ (world_of p m.world) (frame_of p f) (callers_of p m.callers) (method_ref_of c.in-Some-called-2.called.now) (c.in-Some-called-2.ensures.means InvokeStatic))
+    (c.in_ok-goes-in-InvokeStatic.ensures.row here.code.now.max_stack)))

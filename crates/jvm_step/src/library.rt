@@ -1,0 +1,117 @@
+// The classes that come with the machine, as far as its rows need them (this project's own).
+#![tactic(auto, unfolding(class_table::specs::Linking::link_library))]
+
+ghost use Rattle.std.specs.Prelude.{◌≡◌, Some, None, [], ◌∷◌, map, codes, IfOk, OnOk};
+ghost use Rattle.machine_rules.specs.Names.{object_name};
+ghost use Rattle.machine_rules.specs.Library.{library_class, library_classes, throwable_fields, assertion};
+ghost use Rattle.machine_rules.specs.Linked.{AssertTrue, AssertFalse};
+ghost use Rattle.class_table.specs.declared.loaded.LibBody.TheVariants.{Native as NativeBody};
+ghost use Rattle.class_table.specs.Linking.{link_library, library_field, library_method};
+
+use crate::text::name;
+use class_model::{Memory, Name, Seq};
+use class_table::{LibBody, LibClass, LibField, LibMethod};
+use std::alloc::Global;
+
+// A public class without fields and methods.
+fn class(alloc: Global, class: &str, parent: &str, flags: u16) -> Result<LibClass, Memory>
+    ensures name { IfOk result (λ c. c.name ≡ class.now) }
+    ensures class { IfOk result (λ c. link_library c ≡ library_class flags (Some parent.now) [] []) }
+
+{
+    Ok(LibClass {
+        name: name(alloc, class)?,
+        parent: Some(name(alloc, parent)?),
+        interfaces: Seq::new(alloc),
+        flags,
+        fields: Seq::new(alloc),
+        methods: Seq::new(alloc),
+    })
+}
+
+fn object(alloc: Global) -> Result<LibClass, Memory>
+    ensures name { IfOk result (λ c. c.name ≡ object_name) }
+    ensures class { IfOk result (λ c. link_library c ≡ library_class 33 None [] []) }
+{
+    Ok(LibClass {
+        name: name(alloc, "java/lang/Object")?,
+        parent: None,
+        interfaces: Seq::new(alloc),
+        flags: 33,
+        fields: Seq::new(alloc),
+        methods: Seq::new(alloc),
+    })
+}
+
+// A private field.
+fn field(alloc: Global, field: &str, desc: &str) -> Result<LibField, Memory>
+    ensures { IfOk result (λ f. f ≡ record { name = field.now; desc = desc.now; flags = 2 }) }
+{
+    Ok(LibField {
+        name: name(alloc, field)?,
+        desc: name(alloc, desc)?,
+        flags: 2,
+    })
+}
+
+fn throwable(alloc: Global) -> Result<LibClass, Memory>
+    ensures name { IfOk result (λ c. c.name ≡ codes "java/lang/Throwable") }
+    ensures class { IfOk result (λ c. link_library c ≡ library_class 33 (Some object_name) throwable_fields []) }
+{
+    let mut fields = Seq::new(alloc);
+    fields.push(field(alloc, "message", "Ljava/lang/String;")?)?;
+    fields.push(field(alloc, "cause", "Ljava/lang/Throwable;")?)?;
+    Ok(LibClass {
+        name: name(alloc, "java/lang/Throwable")?,
+        parent: Some(name(alloc, "java/lang/Object")?),
+        interfaces: Seq::new(alloc),
+        flags: 33,
+        fields,
+        methods: Seq::new(alloc),
+    })
+}
+
+// A public static native method that takes a boolean.
+fn native(alloc: Global, method: &str, number: u16) -> Result<LibMethod, Memory>
+    ensures { IfOk result (λ m. m ≡ record { name = method.now; desc = codes "(Z)V"; flags = 265; body = NativeBody number }) }
+{
+    Ok(LibMethod {
+        name: name(alloc, method)?,
+        desc: name(alloc, "(Z)V")?,
+        flags: 265,
+        body: LibBody::Native(number),
+    })
+}
+
+fn assertions(alloc: Global) -> Result<LibClass, Memory>
+    ensures name { IfOk result (λ c. c.name ≡ codes "org/junit/Assert") }
+    ensures class { IfOk result (λ c. link_library c ≡ library_class 33 (Some object_name) [] (assertion (codes "assertTrue") AssertTrue ∷ assertion (codes "assertFalse") AssertFalse ∷ [])) }
+{
+    let mut methods = Seq::new(alloc);
+    methods.push(native(alloc, "assertTrue", 2000)?)?;
+    methods.push(native(alloc, "assertFalse", 2001)?)?;
+    Ok(LibClass {
+        name: name(alloc, "org/junit/Assert")?,
+        parent: Some(name(alloc, "java/lang/Object")?),
+        interfaces: Seq::new(alloc),
+        flags: 33,
+        fields: Seq::new(alloc),
+        methods,
+    })
+}
+
+/// The classes of the library, for `Program::build`.
+pub fn library(alloc: Global) -> Result<Seq<LibClass>, Memory>
+    ensures { IfOk result (λ classes. map (λ c. (c.name, link_library c)) classes ≡ library_classes) }
+{
+    let error = "java/lang/Error";
+    let mut classes = Seq::new(alloc);
+    classes.push(object(alloc)?)?;
+    classes.push(throwable(alloc)?)?;
+    classes.push(class(alloc, error, "java/lang/Throwable", 33)?)?;
+    classes.push(class(alloc, "java/lang/AssertionError", error, 33)?)?;
+    classes.push(class(alloc, "java/lang/VirtualMachineError", error, 1057)?)?;
+    classes.push(class(alloc, "java/lang/StackOverflowError", "java/lang/VirtualMachineError", 33)?)?;
+    classes.push(assertions(alloc)?)?;
+    Ok(classes)
+}
