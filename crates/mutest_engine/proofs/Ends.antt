@@ -7,7 +7,7 @@ use Rattle.mt_edge.specs.Files.{Files}
 use Rattle.mt_edge.specs.Causes.{Rose}
 use Rattle.mt_edge.specs.Pieces.{Grows, GrowsBy}
 use Rattle.mutest_engine.specs.declared.status.Status.{Status}
-use Rattle.mutest_engine.specs.declared.status.Status.TheVariants.{Done, Usage, NotFound, BadClass, NotYet, ReadFault, WriteFault, TooMany, WantOfMemory}
+use Rattle.mutest_engine.specs.declared.status.Status.TheVariants.{Done, Usage, NotFound, Archive, BadClass, NotGreen, ReadFault, WriteFault, TooMany, MachineCheck, WantOfMemory}
 use Rattle.mutest_engine.specs.declared.status.Output.TheVariants.{Output as Printed}
 use Rattle.mutest_engine.specs.StatusText.{line_of}
 use Rattle.mutest_engine.specs.Answers.{Answered, Command, list_class, and_then, command_of, list_answer, answer_to, answer_of, GivesText, IsReading, IsRefusal}
@@ -68,10 +68,12 @@ cut_line before after stated s from some =
     by_reading Done q some = absurd q
     by_reading Usage q some = absurd q
     by_reading (NotFound path) q some = absurd q
+    by_reading (Archive path) q some = absurd q
     by_reading (BadClass path e) q some = absurd q
-    by_reading (NotYet path at) q some = absurd q
+    by_reading (NotGreen tests) q some = absurd q
     by_reading (WriteFault which faults) q some = absurd q
     by_reading (TooMany what number) q some = absurd q
+    by_reading (MachineCheck test class method at) q some = absurd q
 
 got_by : (put0 put1 : ℕ) (before after : Option (List ℕ)) (line : List ℕ) → Got put0 put1 before after line → GrowsBy before after line
 got_by put0 put1 before after line said =
@@ -83,10 +85,12 @@ refusal_leaves put0 put1 before after stated Done q said = absurd q
 refusal_leaves put0 put1 before after stated (WriteFault which faults) q said = absurd q
 refusal_leaves put0 put1 before after stated Usage q said = said
 refusal_leaves put0 put1 before after stated (NotFound path) q said = said
+refusal_leaves put0 put1 before after stated (Archive path) q said = said
 refusal_leaves put0 put1 before after stated (BadClass path e) q said = said
-refusal_leaves put0 put1 before after stated (NotYet path at) q said = said
+refusal_leaves put0 put1 before after stated (NotGreen tests) q said = said
 refusal_leaves put0 put1 before after stated (ReadFault faults) q said = said
 refusal_leaves put0 put1 before after stated (TooMany what number) q said = said
+refusal_leaves put0 put1 before after stated (MachineCheck test class method at) q said = said
 refusal_leaves put0 put1 before after stated WantOfMemory q said = cut_nothing before after stated (got_by put0 put1 before after [] said)
 
 -- a refusal, or memory that ran out while its line was put
@@ -130,11 +134,13 @@ unchanged : (old new : Option Files) (s : Status) → new ≡ old → FilesAfter
 unchanged old new Done e = e
 unchanged old new Usage e = e
 unchanged old new (NotFound path) e = e
+unchanged old new (Archive path) e = e
 unchanged old new (BadClass path fault) e = e
-unchanged old new (NotYet path at) e = e
+unchanged old new (NotGreen tests) e = e
 unchanged old new (ReadFault faults) e = e
 unchanged old new (WriteFault which faults) e = e
 unchanged old new (TooMany what number) e = e
+unchanged old new (MachineCheck test class method at) e = e
 unchanged old new WantOfMemory e = e
 
 -- no command replaces a file yet

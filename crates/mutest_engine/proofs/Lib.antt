@@ -1,15 +1,3 @@
-mod ClassLaws
-mod CodeAttributeLaws
-mod CodeLaws
-mod ContentLaws
 mod Ends
-mod FileLaws
-mod Lines
-mod ManyFrom
-mod MethodLaws
-mod NoteLaws
-mod PoolLaws
-mod TableLaws
-mod Turns
-mod WholeCodeLaws
-mod WholePoolLaws
+mod SuiteLaws
+mod WordLaws

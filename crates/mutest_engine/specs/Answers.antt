@@ -3,15 +3,15 @@ use Rattle.std.specs.Prelude.{◌≡◌, ◌⊎◌, ℕ, ◌+◌, ◌-◌, ◌^�
 use Rattle.std.specs.Cmp.Lexicographic.{pointwise}
 use Rattle.std.specs.FinMap.{get, insert}
 use Rattle.class_model.specs.declared.class.Class.{Class}
+use Rattle.class_model.specs.declared.fault.ClassFault.{ClassFault}
 use Rattle.class_model.specs.declared.fault.ClassFault.TheVariants as class_fault
+use Rattle.class_reader.specs.Reading.{class_of_file}
 use Rattle.mt_edge.specs.Files.{Files}
-use Rattle.mutest_engine.specs.ClassForm.{class_of_file}
-use Rattle.mutest_engine.specs.Mutants.{class_mutants}
-use Rattle.mutest_engine.specs.Printing.{id_lines}
-use Rattle.mutest_engine.specs.declared.fault.FormFault.{FormFault}
-use Rattle.mutest_engine.specs.declared.fault.FormFault.TheVariants as fault
+use Rattle.mutator_ops.specs.Mutants.{class_mutants}
+use Rattle.mutator_ops.specs.Printing.{id_lines}
+use Rattle.mutest_engine.specs.Words.{is_value}
 use Rattle.mutest_engine.specs.declared.status.Status.{Status}
-use Rattle.mutest_engine.specs.declared.status.Status.TheVariants.{Done, Usage, NotFound, BadClass, NotYet, ReadFault, WriteFault, TooMany, WantOfMemory}
+use Rattle.mutest_engine.specs.declared.status.Status.TheVariants.{Done, Usage, NotFound, Archive, BadClass, NotGreen, ReadFault, WriteFault, TooMany, MachineCheck, WantOfMemory}
 use Rattle.mutest_engine.specs.declared.status.Output.{Output}
 use Rattle.mutest_engine.specs.declared.status.Output.TheVariants as output
 use Rattle.mutest_engine.specs.declared.status.Limit.TheVariants as limit
@@ -26,10 +26,6 @@ and_then (Err status) next = Err status
 
 pub data Command : Type 0 where
   list_class : List ℕ → Command
-
--- a value of a command: not empty, and without a `-` at its front
-abbrev pub is_value : List ℕ → Bool
-is_value word = not (length word == 0) && not (slice_index word 0 == 45)
 
 -- The words behind the program's name: exactly `list FILE`.
 abbrev pub command_of : List (List ℕ) → Result Command Status
@@ -63,15 +59,11 @@ abbrev pub file_of : List ℕ → Files → Result (List ℕ) Status
 file_of path files = held_at path (get files path)
 
 -- how a fault of a file is refused
-abbrev pub refusal_of : List ℕ → FormFault → Status
-refusal_of path (fault.Short at need) = BadClass path (class_fault.Truncated at)
-refusal_of path (fault.NotYet at) = NotYet path at
-refusal_of path fault.BadMagic = BadClass path class_fault.BadMagic
-refusal_of path (fault.BadVersion major) = BadClass path (class_fault.BadVersion major)
-refusal_of path (fault.Trailing at) = BadClass path (class_fault.TrailingBytes at)
-refusal_of path fault.Memory = WantOfMemory
+abbrev pub refusal_of : List ℕ → ClassFault → Status
+refusal_of path class_fault.Memory = WantOfMemory
+refusal_of path fault = BadClass path fault
 
-abbrev pub or_refusal : {X : Type 0} → List ℕ → Result X FormFault → Result X Status
+abbrev pub or_refusal : {X : Type 0} → List ℕ → Result X ClassFault → Result X Status
 or_refusal path (Ok x) = Ok x
 or_refusal path (Err e) = Err (refusal_of path e)
 
@@ -96,16 +88,22 @@ abbrev pub IsReading : Status → Type 0
 IsReading Done = ⊥
 IsReading Usage = ⊥
 IsReading (NotFound path) = ⊥
+IsReading (Archive path) = ⊥
 IsReading (BadClass path e) = ⊥
-IsReading (NotYet path at) = ⊥
+IsReading (NotGreen tests) = ⊥
 IsReading (ReadFault faults) = Unit {0}
 IsReading (WriteFault which faults) = ⊥
 IsReading (TooMany what number) = ⊥
+IsReading (MachineCheck test class method at) = ⊥
 IsReading WantOfMemory = Unit {0}
 
 -- a step of the code gives what is stated, unless reading failed or memory ran out
 abbrev pub Gives : {X : Type 0} → Result X Status → Result X Status → Type 0
 Gives stated result = MatchResult result (λ x. stated ≡ Ok x) (λ s. (stated ≡ Err s) ⊎ IsReading s)
+
+-- the same of a result that is seen as another
+abbrev pub GivesBy : {X Y : Type 0} → (X → Y) → Result Y Status → Result X Status → Type 0
+GivesBy view stated result = MatchResult result (λ x. stated ≡ Ok (view x)) (λ s. (stated ≡ Err s) ⊎ IsReading s)
 
 -- the same of the text of a command that replaces no file
 abbrev pub GivesText : Result Answered Status → Result (List ℕ) Status → Type 0
@@ -117,10 +115,12 @@ IsRefusal Done = ⊥
 IsRefusal (WriteFault which faults) = ⊥
 IsRefusal Usage = Unit {0}
 IsRefusal (NotFound path) = Unit {0}
+IsRefusal (Archive path) = Unit {0}
 IsRefusal (BadClass path e) = Unit {0}
-IsRefusal (NotYet path at) = Unit {0}
+IsRefusal (NotGreen tests) = Unit {0}
 IsRefusal (ReadFault faults) = Unit {0}
 IsRefusal (TooMany what number) = Unit {0}
+IsRefusal (MachineCheck test class method at) = Unit {0}
 IsRefusal WantOfMemory = Unit {0}
 
 -- a fault of writing comes only where there is something to write

@@ -1,14 +1,5 @@
-pub mod Item
-pub mod PoolForm
-pub mod CodeForm
-pub mod AttributeForm
-pub mod ClassForm
-pub mod CodeSpelling
-pub mod Mutants
-pub mod Printing
+pub mod Words
 pub mod Answers
+pub mod SuiteFiles
 pub mod StatusText
 pub mod Said
-pub mod PoolSpelling
-pub mod Spells
-pub mod SpellingLaws

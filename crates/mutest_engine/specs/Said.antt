@@ -8,7 +8,7 @@ use Rattle.mt_edge.specs.Pieces.{Grows, GrowsBy}
 use Rattle.mutest_engine.specs.StatusText.{line_of}
 use Rattle.mutest_engine.specs.Answers.{Answered, Write}
 use Rattle.mutest_engine.specs.declared.status.Status.{Status}
-use Rattle.mutest_engine.specs.declared.status.Status.TheVariants.{Done, Usage, NotFound, BadClass, NotYet, ReadFault, WriteFault, TooMany, WantOfMemory}
+use Rattle.mutest_engine.specs.declared.status.Status.TheVariants.{Done, Usage, NotFound, Archive, BadClass, NotGreen, ReadFault, WriteFault, TooMany, MachineCheck, WantOfMemory}
 use Rattle.mutest_engine.specs.declared.status.Output.{Output}
 use Rattle.mutest_engine.specs.declared.status.Output.TheVariants.{Report, History, Output as Printed, Journal, Assembled}
 
@@ -43,10 +43,12 @@ Leaves put0 put1 before after stated (WriteFault which faults) = Broken before a
 Leaves put0 put1 before after stated WantOfMemory = Interrupted stated before after
 Leaves put0 put1 before after stated Usage = Got put0 put1 before after (line_of Usage)
 Leaves put0 put1 before after stated (NotFound path) = Got put0 put1 before after (line_of (NotFound path))
+Leaves put0 put1 before after stated (Archive path) = Got put0 put1 before after (line_of (Archive path))
 Leaves put0 put1 before after stated (BadClass path fault) = Got put0 put1 before after (line_of (BadClass path fault))
-Leaves put0 put1 before after stated (NotYet path at) = Got put0 put1 before after (line_of (NotYet path at))
+Leaves put0 put1 before after stated (NotGreen tests) = Got put0 put1 before after (line_of (NotGreen tests))
 Leaves put0 put1 before after stated (ReadFault faults) = Got put0 put1 before after (line_of (ReadFault faults))
 Leaves put0 put1 before after stated (TooMany what number) = Got put0 put1 before after (line_of (TooMany what number))
+Leaves put0 put1 before after stated (MachineCheck test class method at) = Got put0 put1 before after (line_of (MachineCheck test class method at))
 
 -- the text of an answer
 abbrev pub text_stated : Result Answered Status → Result (List ℕ) Status
@@ -86,10 +88,12 @@ FilesAfter ws old new (WriteFault which faults) = Stopped which ws old new
 FilesAfter ws old new WantOfMemory = Partly ws old new
 FilesAfter ws old new Usage = new ≡ old
 FilesAfter ws old new (NotFound path) = new ≡ old
+FilesAfter ws old new (Archive path) = new ≡ old
 FilesAfter ws old new (BadClass path fault) = new ≡ old
-FilesAfter ws old new (NotYet path at) = new ≡ old
+FilesAfter ws old new (NotGreen tests) = new ≡ old
 FilesAfter ws old new (ReadFault faults) = new ≡ old
 FilesAfter ws old new (TooMany what number) = new ≡ old
+FilesAfter ws old new (MachineCheck test class method at) = new ≡ old
 
 abbrev pub writes_of_answer : Result Answered Status → List Write
 writes_of_answer (Ok answered) = answered.writes

@@ -1,8 +1,26 @@
 //! The words of the command line.
 
 ghost use Rattle.std.specs.Prelude.{◌≡◌, map, string_bytes, MatchOption, Ok, Err};
-ghost use Rattle.mutest_engine.specs.Answers.{Command, list_class, command_of, is_value};
+ghost use Rattle.mutest_engine.specs.Words.{command_of, list_of, run_of, is_value, folder_of, asked};
+ghost use Rattle.mutest_engine.specs.Answers.{command_of as listing_of, list_class};
 ghost use Rattle.mutest_engine.specs.declared.status.Status.TheVariants.{Usage};
+
+/// The folders of classes and of tests, and the path of the report. A folder has no `/` at its end that the word had.
+#[derive(Clone, Copy)]
+pub struct Suite<'a> {
+    pub classes: &'a str,
+    pub tests: &'a str,
+    pub report: &'a str,
+}
+
+/// What the words ask for.
+#[derive(Clone, Copy)]
+pub enum Asked<'a> {
+    /// The mutants of a class file.
+    List(&'a str),
+    /// The main job.
+    Run(Suite<'a>),
+}
 
 fn is_value(word: &str) -> bool
     ensures { result ≡ is_value word.now }
@@ -11,9 +29,81 @@ fn is_value(word: &str) -> bool
     bytes.len() != 0 && bytes[0] != b'-'
 }
 
+// The folder of a word, without one `/` at its end.
+fn folder(word: &str) -> &str
+    ensures { result.now ≡ folder_of word.now }
+{
+    match word.strip_suffix('/') {
+        Some(folder) => folder,
+        None => word,
+    }
+}
+
+fn listing<'a>(list: &'a str, file: &'a str) -> Option<Asked<'a>>
+    ensures { MatchOption result (list_of list.now file.now ≡ Err Usage) (λ command. list_of list.now file.now ≡ Ok (asked command)) }
+{
+    if list == "list" && is_value(file) {
+        Some(Asked::List(file))
+    } else {
+        None
+    }
+}
+
+// The command of `run` and what stands behind it.
+fn running<'a>(
+    run: &'a str,
+    for_classes: &'a str,
+    classes: &'a str,
+    for_tests: &'a str,
+    tests: &'a str,
+    for_report: &'a str,
+    report: &'a str,
+) -> Option<Asked<'a>>
+    ensures { MatchOption result (run_of run.now for_classes.now classes.now for_tests.now tests.now for_report.now report.now ≡ Err Usage) (λ command. run_of run.now for_classes.now classes.now for_tests.now tests.now for_report.now report.now ≡ Ok (asked command)) }
+{
+    if run == "run"
+        && for_classes == "--classes"
+        && is_value(classes)
+        && for_tests == "--tests"
+        && is_value(tests)
+        && for_report == "--report"
+        && is_value(report)
+    {
+        Some(Asked::Run(Suite {
+            classes: folder(classes),
+            tests: folder(tests),
+            report,
+        }))
+    } else {
+        None
+    }
+}
+
+/// The command that the words are: `list FILE`, or `run --classes DIR --tests DIR --report FILE`.
+pub fn command(words: &Vec<String>) -> Option<Asked<'_>>
+    ensures { MatchOption result (command_of (map string_bytes words.now.items) ≡ Err Usage) (λ command. command_of (map string_bytes words.now.items) ≡ Ok (asked command)) }
+{
+    let words = words.as_slice();
+    if words.len() == 2 {
+        return listing(words[0].as_str(), words[1].as_str());
+    }
+    if words.len() == 7 {
+        return running(
+            words[0].as_str(),
+            words[1].as_str(),
+            words[2].as_str(),
+            words[3].as_str(),
+            words[4].as_str(),
+            words[5].as_str(),
+            words[6].as_str(),
+        );
+    }
+    None
+}
+
 /// The file of the command `list FILE`, where the words are exactly that.
 pub fn listed_file(words: &Vec<String>) -> Option<&str>
-    ensures { MatchOption result (command_of (map string_bytes words.now.items) ≡ Err Usage) (λ file. command_of (map string_bytes words.now.items) ≡ Ok (list_class file.now)) }
+    ensures { MatchOption result (listing_of (map string_bytes words.now.items) ≡ Err Usage) (λ file. listing_of (map string_bytes words.now.items) ≡ Ok (list_class file.now)) }
 {
     match words.as_slice() {
         [command, file] if command.as_str() == "list" && is_value(file.as_str()) => {

@@ -2,10 +2,12 @@
 
 ghost use Rattle.std.specs.Prelude.{◌≡◌, ◌++◌, IfOk, OnOk, codes, decimal, pos};
 ghost use Rattle.class_model.specs.Fault.{number_of};
-ghost use Rattle.mutest_engine.specs.StatusText.{status_number, fault_text, output_name, limit_name, line_of};
+ghost use Rattle.mutator_ops.specs.Printing.{printed};
+ghost use Rattle.mutest_engine.specs.StatusText.{status_number, fault_text, output_name, limit_name, outcome_name, not_green_line, not_green_lines, line_of};
 ghost use Rattle.mutest_engine.specs.declared.status.Status.TheVariants.{WantOfMemory};
 
-use class_model::{Bytes, ClassFault, Memory};
+use class_model::{Bytes, ClassFault, Memory, Name, Seq};
+use machine_rules::Outcome;
 use std::alloc::{AllocError, AllocFailed, Global};
 
 /// What a call writes.
@@ -31,7 +33,7 @@ pub enum Limit {
     History,
 }
 
-/// How a call ends. A path is its printed UTF-8.
+/// How a call ends. A path and a test are their printed UTF-8.
 #[derive(Debug, Drop)]
 pub enum Status {
     Done,
@@ -39,16 +41,25 @@ pub enum Status {
     Usage,
     /// Nothing is held at the path.
     NotFound { path: Bytes },
+    /// The folder is an archive.
+    Archive { path: Bytes },
     /// The file at the path is no class file.
     BadClass { path: Bytes, fault: ClassFault },
-    /// The file at the path has an item, at a byte offset, in a form that isn't read yet.
-    NotYet { path: Bytes, at: u64 },
+    /// Original runs didn't pass: those of these tests.
+    NotGreen { tests: Seq<(Bytes, Outcome)> },
     /// So many calls that read the tree failed.
     ReadFault { faults: u64 },
     /// So many calls that write to this output failed.
     WriteFault { which: Output, faults: u64 },
     /// A count passes its limit.
     TooMany { limit: Limit, number: u64 },
+    /// No rule of the machine applies at an instruction, by its number, in the original run of a test.
+    MachineCheck {
+        test: Bytes,
+        class: Name,
+        method: Name,
+        at: u64,
+    },
     /// Memory ran out.
     WantOfMemory,
 }
@@ -93,11 +104,13 @@ impl Status {
             Status::Done => 0,
             Status::Usage => 2,
             Status::NotFound { .. } => 3,
+            Status::Archive { .. } => 4,
             Status::BadClass { .. } => 5,
-            Status::NotYet { .. } => 16,
+            Status::NotGreen { .. } => 8,
             Status::ReadFault { .. } => 10,
             Status::WriteFault { .. } => 11,
             Status::TooMany { .. } => 12,
+            Status::MachineCheck { .. } => 13,
             Status::WantOfMemory => 14,
         }
     }
@@ -136,6 +149,14 @@ fn put_str(text: &mut Bytes, piece: &str) -> Result<(), Memory>
     text.extend_from_slice(piece.as_bytes())
 }
 
+// A name in UTF-8.
+fn put_name(alloc: Global, text: &mut Bytes, name: &Name) -> Result<(), Memory>
+    ensures { OnOk result (text.new ≡ text.old ++ printed name.now) }
+{
+    let printed = String::from_utf16_lossy(alloc, name.as_slice())?;
+    text.extend_from_slice(printed.as_bytes())
+}
+
 fn put_number(alloc: Global, text: &mut Bytes, number: u64) -> Result<(), Memory>
     ensures { OnOk result (text.new ≡ text.old ++ decimal number) }
 {
@@ -155,7 +176,41 @@ fn put_fault(alloc: Global, text: &mut Bytes, fault: ClassFault) -> Result<(), M
     put_number(alloc, text, fault.value())
 }
 
-/// The line that a refusal puts.
+fn outcome_name(outcome: Outcome) -> &'static str
+    ensures { result.now ≡ outcome_name outcome }
+{
+    match outcome {
+        Outcome::Passed => "Passed",
+        Outcome::Failed => "Failed",
+        Outcome::TimedOut => "TimedOut",
+        Outcome::MemoryOut => "MemoryOut",
+    }
+}
+
+fn not_green_line(alloc: Global, test: &(Bytes, Outcome)) -> Result<Bytes, Memory>
+    ensures { IfOk result (λ line. line ≡ not_green_line test.now) }
+{
+    let mut line = Bytes::new(alloc);
+    put_str(&mut line, "mutest: NotGreen ")?;
+    line.extend_from_slice(test.0.as_slice())?;
+    put_str(&mut line, " ")?;
+    put_str(&mut line, outcome_name(test.1))?;
+    put_str(&mut line, "\n")?;
+    Ok(line)
+}
+
+fn not_green_lines(alloc: Global, tests: &[(Bytes, Outcome)]) -> Result<Bytes, Memory>
+    ensures { IfOk result (λ text. text ≡ not_green_lines tests.now) }
+{
+    let mut text = Bytes::new(alloc);
+    for test in tests {
+        let line = not_green_line(alloc, test)?;
+        text.extend_from_slice(line.as_slice())?;
+    }
+    Ok(text)
+}
+
+/// The line that a refusal puts; where tests aren't green, a line for each.
 pub fn line(alloc: Global, status: &Status) -> Result<Bytes, Memory>
     ensures { IfOk result (λ text. text ≡ line_of status.now) }
 {
@@ -168,17 +223,32 @@ pub fn line(alloc: Global, status: &Status) -> Result<Bytes, Memory>
             text.extend_from_slice(path.as_slice())?;
             put_str(&mut text, "\n")?;
         }
+        Status::Archive { path } => {
+            put_str(&mut text, "mutest: Archive ")?;
+            text.extend_from_slice(path.as_slice())?;
+            put_str(&mut text, "\n")?;
+        }
+        Status::NotGreen { tests } => text = not_green_lines(alloc, tests.as_slice())?,
+        Status::MachineCheck {
+            test,
+            class,
+            method,
+            at,
+        } => {
+            put_str(&mut text, "mutest: MachineCheck ")?;
+            text.extend_from_slice(test.as_slice())?;
+            put_str(&mut text, " ")?;
+            put_name(alloc, &mut text, class)?;
+            put_str(&mut text, " ")?;
+            put_name(alloc, &mut text, method)?;
+            put_str(&mut text, " ")?;
+            put_number(alloc, &mut text, *at)?;
+            put_str(&mut text, "\n")?;
+        }
         Status::BadClass { path, fault } => {
             put_str(&mut text, "mutest: BadClass ")?;
             text.extend_from_slice(path.as_slice())?;
             put_fault(alloc, &mut text, *fault)?;
-            put_str(&mut text, "\n")?;
-        }
-        Status::NotYet { path, at } => {
-            put_str(&mut text, "mutest: NotYet ")?;
-            text.extend_from_slice(path.as_slice())?;
-            put_str(&mut text, " ")?;
-            put_number(alloc, &mut text, *at)?;
             put_str(&mut text, "\n")?;
         }
         Status::ReadFault { .. } => put_str(&mut text, "mutest: ReadFault\n")?,

@@ -1,5 +1,5 @@
-use crate::{FormFault, Mutant, class_mutants, id_text, read_class_file, run};
-use class_model::{Bytes, Mutator, Name};
+use crate::{Status, load_suite, run};
+use class_model::Bytes;
 use mt_edge::{MemSink, MemTree};
 use std::alloc::Global;
 use std::test::Fail;
@@ -103,60 +103,10 @@ fn the_mutants_of_a_class_are_listed(rt: HostRuntime) -> Result<(), Fail> {
 }
 
 #[test]
-fn a_mutant_has_its_line_and_its_name(rt: HostRuntime) -> Result<(), Fail> {
-    let class = read_class_file(rt.alloc(), &A).expect(&rt, "A is in the form");
-    let mutants = class_mutants(rt.alloc(), &class)?;
-    let found = mutants.get(1).expect(&rt, "A has two mutants");
-    assert_eq!(rt; mutants.len(), 2);
-    assert_eq!(rt; found.line, 3);
-    assert_eq!(rt; found.at, 1);
-    assert_eq!(rt;
-        id_text(rt.alloc(), found)?.as_slice(),
-        b"A.f(I)Z@1:NEGATE_CONDITIONALS".as_slice()
-    );
-    let mut letter = Name::new(rt.alloc());
-    letter.push(0xe9)?;
-    let other = Mutant {
-        class: letter,
-        method: Name::new(rt.alloc()),
-        desc: Name::new(rt.alloc()),
-        at: 12,
-        mutator: Mutator::Math,
-        line: 0,
-    };
-    assert_eq!(rt;
-        id_text(rt.alloc(), &other)?.as_slice(),
-        "\u{e9}.@12:MATH".as_bytes()
-    );
-    Ok(())
-}
-
-#[test]
 fn a_class_of_tests_is_read(rt: HostRuntime) -> Result<(), Fail> {
     let read = called(rt.alloc(), &["list", "A.class"], &T, &[], &[])?;
     assert_eq!(rt; read.0, 0);
     assert_eq!(rt; read.1.as_slice(), b"".as_slice());
-    let puts: [(usize, u8, u64); 6] = [
-        // A method has one attribute or two, and one alone is Code.
-        (223, 0x00, 222),
-        (256, 0x01, 257),
-        // The type of an annotation is a field's descriptor, and it has no element.
-        (266, 0x12, 265),
-        (268, 0x01, 267),
-        // A call names a method.
-        (243, 0x07, 242),
-        (285, 0x01, 285),
-    ];
-    for (at, byte, place) in puts {
-        let mut bytes = T.to_vec(rt.alloc())?;
-        if at < bytes.len() {
-            bytes[at] = byte;
-        }
-        match read_class_file(rt.alloc(), bytes.as_slice()) {
-            Err(FormFault::NotYet { at }) => assert_eq!(rt; at, place),
-            _ => assert!(rt; false, "no fault at {place}"),
-        }
-    }
     Ok(())
 }
 
@@ -221,9 +171,9 @@ fn damaged_files_are_refused_at_their_place(rt: HostRuntime) -> Result<(), Fail>
     }
     let puts: [(usize, u8, i32, &str); 5] = [
         // An item that crosses the end of Code alone is named by Code, not by the table inside it.
-        (116, 0x28, 16, "mutest: NotYet A.class 111\n"),
-        (116, 0x1d, 16, "mutest: NotYet A.class 111\n"),
-        (129, 0x12, 16, "mutest: NotYet A.class 129\n"),
+        (116, 0x28, 5, "mutest: BadClass A.class 8 111\n"),
+        (116, 0x1d, 5, "mutest: BadClass A.class 8 111\n"),
+        (129, 0x12, 5, "mutest: BadClass A.class 6 130\n"),
         (7, 0x35, 5, "mutest: BadClass A.class 18 53\n"),
         (0, 0xcb, 5, "mutest: BadClass A.class 17 0\n"),
     ];
@@ -247,12 +197,6 @@ fn damaged_files_are_refused_at_their_place(rt: HostRuntime) -> Result<(), Fail>
         told.1.as_slice(),
         b"mutest: BadClass A.class 19 160\n".as_slice()
     );
-    for length in 0..160usize {
-        match read_class_file(rt.alloc(), &A[..length]) {
-            Err(FormFault::Short { at, .. }) => assert!(rt; at <= length as u64, "at {length}"),
-            _ => assert!(rt; false, "the first {length} bytes are no class"),
-        }
-    }
     Ok(())
 }
 
@@ -268,5 +212,45 @@ fn a_file_past_the_limit_is_refused_unread(rt: HostRuntime) -> Result<(), Fail> 
     let most = vec![in rt.alloc(); 0u8; 4_194_304]?;
     let last = called(rt.alloc(), &["list", "A.class"], most.as_slice(), &[], &[])?;
     assert_eq!(rt; last.0, 5);
+    Ok(())
+}
+
+// A tree of some files, each with the bytes of A or T.
+fn held(alloc: Global, paths: &[(&str, bool)]) -> Result<MemTree, Fail> {
+    let mut files = Vec::new(alloc);
+    for (path, is_test) in paths {
+        let bytes = if *is_test { T.as_slice() } else { A.as_slice() };
+        files.push((
+            String::from_str(alloc, path)?,
+            Bytes::from_slice(alloc, bytes)?,
+        ))?;
+    }
+    Ok(MemTree::new(alloc, files, Vec::new(alloc))?)
+}
+
+#[test]
+fn the_classes_of_two_folders_are_loaded(rt: HostRuntime) -> Result<(), Fail> {
+    let paths = [
+        ("t/T.class", true),
+        ("c/x/B.class", false),
+        ("c/A.class", false),
+        ("c/A.txt", true),
+    ];
+    let mut tree = held(rt.alloc(), &paths)?;
+    match load_suite(rt.alloc(), &mut tree, "c", "t") {
+        Ok(suite) => {
+            assert_eq!(rt; suite.classes.len(), 3);
+            assert_eq!(rt; suite.first_test, 2);
+        }
+        Err(_) => assert!(rt; false, "both folders hold classes"),
+    }
+    match load_suite(rt.alloc(), &mut tree, "c", "d") {
+        Err(Status::NotFound { path }) => assert_eq!(rt; path.as_slice(), b"d".as_slice()),
+        _ => assert!(rt; false, "d holds nothing"),
+    }
+    match load_suite(rt.alloc(), &mut tree, "c.zip", "t.jar") {
+        Err(Status::Archive { path }) => assert_eq!(rt; path.as_slice(), b"c.zip".as_slice()),
+        _ => assert!(rt; false, "archives aren't read"),
+    }
     Ok(())
 }

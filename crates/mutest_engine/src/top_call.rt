@@ -6,92 +6,16 @@ ghost use Rattle.mt_edge.specs.Pieces.{Grows, GrowsBy};
 ghost use Rattle.mutest_engine.specs.declared.status.Status.TheVariants.{Done, Usage, WantOfMemory};
 ghost use Rattle.mutest_engine.specs.StatusText.{line_of};
 ghost use Rattle.mutest_engine.specs.declared.status.Status.{Status as AnyStatus};
-ghost use Rattle.mutest_engine.specs.Answers.{command_of, within_limit as within, file_of, refusal_of, spelled_class, list_answer, answer_of, Gives, GivesText, Agrees, AgreesUntold, IsReading, IsFault, IsRefusal, CountsFaults};
+ghost use Rattle.mutest_engine.specs.Answers.{command_of, list_answer, answer_of, Gives, GivesText, Agrees, AgreesUntold, IsReading, IsFault, IsRefusal, CountsFaults};
 ghost use Rattle.mutest_engine.specs.Said.{Got, Leaves, text_stated, writes_of_answer, FilesAfter};
 
-use crate::class_reader::read_class_file;
 use crate::commands::listed_file;
-use crate::fault::FormFault;
-use crate::mutators::class_mutants;
-use crate::printing::id_lines;
-use crate::status::{Limit, Output, Status, line};
-use class_model::{Bytes, Class, ClassFault, Memory};
+use crate::files::{read_file, spelled_class};
+use crate::status::{Output, Status, line};
+use class_model::Bytes;
 use mt_edge::{EdgeFault, Sink, Tree};
+use mutator_ops::{class_mutants, id_lines};
 use std::alloc::Global;
-
-const CLASS_LIMIT: usize = 4_194_304;
-
-// A file within the limit.
-fn within_limit(bytes: Bytes) -> Result<Bytes, Status>
-    ensures { result ≡ within bytes }
-{
-    let length = bytes.len();
-    if length > CLASS_LIMIT {
-        return Err(Status::TooMany {
-            limit: Limit::Class,
-            number: length as u64,
-        });
-    }
-    Ok(bytes)
-}
-
-// The bytes of a file.
-fn read_file<T: Tree>(alloc: Global, tree: &mut T, path: &str) -> Result<Bytes, Status>
-    ensures told { IfSome (T.holds tree.old) (λ files. Gives (file_of path.now files) result) }
-    ensures untold { IfErr result (λ s. s ≢ Usage) }
-    ensures refusal { IfErr result IsRefusal }
-    ensures faults { IfErr result (λ s. CountsFaults (T.reading tree.old) (T.reading tree.new) 0 0 0 0 s) }
-    ensures tree { (T.holds tree.new ≡ T.holds tree.old) × (T.writing tree.new ≡ T.writing tree.old) }
-{
-    match tree.read(path) {
-        Ok(Some(bytes)) => within_limit(bytes),
-        Ok(None) => Err(Status::NotFound {
-            path: Bytes::from_slice(alloc, path.as_bytes())?,
-        }),
-        Err(EdgeFault::Failed) => Err(Status::ReadFault { faults: 1 }),
-        Err(EdgeFault::Memory) => Err(Status::WantOfMemory),
-    }
-}
-
-// How a fault of a file is refused, or want of memory.
-fn refusal_of(alloc: Global, path: &str, fault: FormFault) -> Status
-    ensures { (result ≡ refusal_of path.now fault) ⊎ (result ≡ WantOfMemory) }
-{
-    let Ok(path) = Bytes::from_slice(alloc, path.as_bytes()) else {
-        return Status::WantOfMemory;
-    };
-    match fault {
-        FormFault::Short { at, .. } => Status::BadClass {
-            path,
-            fault: ClassFault::Truncated { at },
-        },
-        FormFault::NotYet { at } => Status::NotYet { path, at },
-        FormFault::BadMagic => Status::BadClass {
-            path,
-            fault: ClassFault::BadMagic,
-        },
-        FormFault::BadVersion { major } => Status::BadClass {
-            path,
-            fault: ClassFault::BadVersion { major },
-        },
-        FormFault::Trailing { at } => Status::BadClass {
-            path,
-            fault: ClassFault::TrailingBytes { at },
-        },
-        FormFault::Memory => Status::WantOfMemory,
-    }
-}
-
-// The class of a file.
-fn spelled_class(alloc: Global, path: &str, bytes: &[u8]) -> Result<Class, Status>
-    ensures told { Gives (spelled_class path.now bytes.now) result }
-    ensures file { IfErr result (λ s. IsRefusal s × (s ≢ Usage) × CountsFaults 0 0 0 0 0 0 s) }
-{
-    match read_class_file(alloc, bytes) {
-        Ok(class) => Ok(class),
-        Err(fault) => Err(refusal_of(alloc, path, fault)),
-    }
-}
 
 // The text that `list` prints for a file.
 fn list_answer<T: Tree>(alloc: Global, tree: &mut T, path: &str) -> Result<Bytes, Status>
@@ -102,7 +26,7 @@ fn list_answer<T: Tree>(alloc: Global, tree: &mut T, path: &str) -> Result<Bytes
     ensures tree { (T.holds tree.new ≡ T.holds tree.old) × (T.writing tree.new ≡ T.writing tree.old) }
 {
     let bytes = read_file(alloc, tree, path)?;
-    let class = spelled_class(alloc, path, bytes.as_slice())?;
+    let class = spelled_class(alloc, path.as_bytes(), bytes.as_slice())?;
     let mutants = class_mutants(alloc, &class)?;
     Ok(id_lines(alloc, mutants.as_slice())?)
 }

@@ -1,6 +1,0 @@
-use Rattle.std.proofs.Common.{◌≡◌, take}
-use Rattle.mutest_engine.specs.Printing.{id_lines}
-use Rattle.mutest_engine.proofs.printing.id_lines.Given as goal
-
-abbrev pub invariant-loop-m : goal.invariant-loop-m
-invariant-loop-m l = l.text ≡ id_lines (take l.m-index l.mutants)

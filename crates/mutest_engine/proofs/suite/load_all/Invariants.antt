@@ -1,0 +1,8 @@
+use Rattle.std.proofs.Common.{◌≡◌}
+use Rattle.std.specs.Vec.Iter.{into_iter_items}
+use Rattle.codec_rules.specs.Reading.{with_values}
+use Rattle.mutest_engine.specs.SuiteFiles.{all_loaded}
+use Rattle.mutest_engine.proofs.suite.load_all.Given as goal
+
+abbrev pub invariant-loop-file : goal.invariant-loop-file
+invariant-loop-file l = with_values l.all (all_loaded (into_iter_items l.file-iterator)) ≡ all_loaded l.fn.files

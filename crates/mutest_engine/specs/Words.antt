@@ -1,0 +1,56 @@
+-- Which command the words behind the program's name are (this project's own).
+use Rattle.std.specs.Prelude.{ℕ, List, [], ◌∷◌, Bool, ◌&&◌, not, nat_eq, ◌==◌, if◌then◌else◌, length, slice_index, codes, Result, Ok, Err}
+use Rattle.std.specs.Cmp.Lexicographic.{pointwise}
+use Rattle.std.specs.Io.BufRead.{strip_last}
+use Rattle.mt_edge.specs.Files.{slash}
+use Rattle.mutest_engine.specs.declared.commands.Asked.{Asked}
+use Rattle.mutest_engine.specs.declared.commands.Asked.TheVariants as found
+use Rattle.mutest_engine.specs.declared.status.Status.{Status}
+use Rattle.mutest_engine.specs.declared.status.Status.TheVariants.{Usage}
+
+-- the folders of classes and of tests, and the path of the report
+pub record Suite : Type 0 where
+  pub classes : List ℕ
+  pub tests : List ℕ
+  pub report : List ℕ
+
+pub data Command : Type 0 where
+  list_class : List ℕ → Command
+  run_suite : Suite → Command
+
+-- a value of a command: not empty, and without a `-` at its front
+abbrev pub is_value : List ℕ → Bool
+is_value word = not (length word == 0) && not (slice_index word 0 == 45)
+
+abbrev pub is_word : List ℕ → List ℕ → Bool
+is_word word text = pointwise nat_eq word text
+
+-- a folder's word, without one `/` at its end
+abbrev pub folder_of : List ℕ → List ℕ
+folder_of word = strip_last slash word
+
+-- `list FILE`
+abbrev pub list_of : List ℕ → List ℕ → Result Command Status
+list_of list file = if is_word list (codes "list") && is_value file then Ok (list_class file) else Err Usage
+
+-- a folder of classes, one of tests, and the report, each behind its option
+abbrev pub are_options : List ℕ → List ℕ → List ℕ → List ℕ → List ℕ → List ℕ → Bool
+are_options for_classes classes for_tests tests for_report report =
+    is_word for_classes (codes "--classes") && is_value classes && is_word for_tests (codes "--tests") && is_value tests && is_word for_report (codes "--report") && is_value report
+
+-- `run --classes DIR --tests DIR --report FILE`
+abbrev pub run_of : List ℕ → List ℕ → List ℕ → List ℕ → List ℕ → List ℕ → List ℕ → Result Command Status
+run_of run for_classes classes for_tests tests for_report report =
+    if is_word run (codes "run") && are_options for_classes classes for_tests tests for_report report
+    then Ok (run_suite (record { classes = folder_of classes; tests = folder_of tests; report = report }))
+    else Err Usage
+
+abbrev pub command_of : List (List ℕ) → Result Command Status
+command_of (list ∷ file ∷ []) = list_of list file
+command_of (run ∷ for_classes ∷ classes ∷ for_tests ∷ tests ∷ for_report ∷ report ∷ []) = run_of run for_classes classes for_tests tests for_report report
+command_of other = Err Usage
+
+-- the command that the words were found to be
+abbrev pub asked : Asked → Command
+asked (found.List file) = list_class file.now
+asked (found.Run suite) = run_suite (record { classes = suite.classes.now; tests = suite.tests.now; report = suite.report.now })
