@@ -1,5 +1,5 @@
 -- Attributes that are written have a spelling, where they are named as they have to be.
-use Rattle.std.proofs.Common.{◌≡◌, ℕ, zero, suc, ◌+◌, ◌≤◌, ◌^◌, ◌<◌, Bool, true, false, cond, ltb, List, [], ◌∷◌, ◌++◌, length, get_or, Option, Some, None, Result, Ok, Err, refl, sym, ap, subst, ◌∙◌, arith, inl, inr}
+use Rattle.std.proofs.Common.{◌≡◌, ℕ, zero, suc, ◌+◌, ◌≤◌, ◌^◌, ◌<◌, Bool, true, false, cond, ltb, List, [], ◌∷◌, ◌++◌, length, get_or, Option, Some, None, Ok, Err, refl, sym, subst, arith, inl, inr}
 use Rattle.std.specs.Prelude.{All}
 use Rattle.std.specs.Option.{option_map}
 use Rattle.std.specs.List.{AllByRecursion}
@@ -14,7 +14,6 @@ use Rattle.class_model.specs.declared.attribute.Attr.{Attr}
 use Rattle.class_model.specs.declared.attribute.Code.{Code, out-Code}
 use Rattle.class_model.specs.declared.attribute.Body.{Body}
 use Rattle.class_model.specs.declared.attribute.Body.TheOpen.{Body-F, Code-F}
-use Rattle.class_model.specs.declared.frame.Frame.{Frame}
 use Rattle.class_model.specs.declared.frame.Shape.{Shape}
 use Rattle.class_model.specs.declared.frame.Shape.TheVariants as shape
 use Rattle.class_model.specs.declared.frame.VItem.{VItem}
@@ -23,23 +22,22 @@ use Rattle.class_model.specs.declared.fault.Bound.{Bound}
 use Rattle.class_model.specs.declared.fault.Bound.TheVariants as bound
 use Rattle.class_model.specs.declared.fault.LayoutFault.{LayoutFault}
 use Rattle.class_model.specs.declared.fault.LayoutFault.TheVariants as layout_fault
-use Rattle.codec_rules.specs.Sequence.{unless}
 use Rattle.codec_rules.proofs.Sequence.{done, unless_ok}
-use Rattle.mt_insn.specs.Code.{places, places_from, code_length, end_from, size_at, code, layout, jumps_fit}
+use Rattle.mt_insn.specs.Code.{places, code_length, end_from, size_at, code, layout, jumps_fit}
 use Rattle.mt_insn.specs.Order.{AreNear}
 use Rattle.mt_insn.proofs.Sizes.{length-places_from, starts_near}
 use Rattle.mt_insn.proofs.LayoutLaws.{written_is_spelled, each_of, read_length}
 use Rattle.mt_attrs.specs.Item.{AllBy}
-use Rattle.mt_attrs.specs.Places.{start_of, bound_of, IsPlace, IsEnd}
+use Rattle.mt_attrs.specs.Places.{bound_of, IsPlace}
 use Rattle.mt_attrs.specs.Lines.{IsLine}
 use Rattle.mt_attrs.specs.Rows.{IsRow}
 use Rattle.mt_attrs.specs.Frames.{next_behind, IsVItem, IsShape, IsFrame}
 use Rattle.mt_attrs.specs.Notes.{most_turns, IsPair, IsNoteBy, IsElemBy, IsInner, IsElem, IsNote}
 use Rattle.mt_attrs.specs.Kinds.{all_unseen}
 use Rattle.mt_attrs.specs.CodeParts.{body_of, table_content, table_after, IsTableBody, IsTable, AreParts}
-use Rattle.mt_attrs.specs.Attributes.{attr_after, body_content, attrs_bytes, IsBody, IsAttr, AreAttrs}
-use Rattle.mt_attrs.specs.Layout.{or_bound, count_bound, first_of, list_bound, size_bound, content_bound, shape_bound, frame_bound, pair_bound, note_bound_by, elem_bound_by, elem_bound, note_bound, bound_in, insns_bound, table_bound, inner_bound, parts_bound, body_bound, attr_bound, attrs_bound, attrs_layout, HasLineForm, HasRowForm, HasVItemForm, HasShapeForm, HasFrameForm, HasTableForm, HasCodeForm, HasBodyForm, HasAttrForm}
-use Rattle.mt_attrs.specs.Naming.{IsNamedLine, IsNamedRow, IsNamedVItem, IsNamedShape, IsNamedFrame, IsNamedNoteBy, IsNamedElemBy, IsNamedInner, IsNamedElem, IsNamedNote, IsNamedTableBody, IsNamedTable, AreNamedParts, IsNamedBody, IsNamedAttr, AreNamed, WrittenIsSpelled}
+use Rattle.mt_attrs.specs.Attributes.{attr_after, body_content, attrs_bytes, IsBody, IsAttr}
+use Rattle.mt_attrs.specs.Layout.{or_bound, count_bound, first_of, list_bound, size_bound, shape_bound, frame_bound, pair_bound, note_bound_by, elem_bound_by, elem_bound, note_bound, bound_in, insns_bound, table_bound, inner_bound, parts_bound, body_bound, attr_bound, attrs_bound, HasLineForm, HasRowForm, HasVItemForm, HasShapeForm, HasFrameForm, HasTableForm, HasCodeForm, HasBodyForm, HasAttrForm}
+use Rattle.mt_attrs.specs.Naming.{IsNamedLine, IsNamedRow, IsNamedVItem, IsNamedShape, IsNamedFrame, IsNamedNoteBy, IsNamedElemBy, IsNamedInner, IsNamedElem, IsNamedNote, IsNamedTableBody, IsNamedTable, AreNamedParts, IsNamedBody, IsNamedAttr, WrittenIsSpelled}
 use Rattle.mt_attrs.specs.declared.owner.Owner.{Owner}
 use Rattle.mt_attrs.specs.declared.kinds.Known.{Known}
 use Rattle.mt_attrs.specs.declared.kinds.Known.TheVariants as known
