@@ -1,4 +1,11 @@
 //! The attributes of classes, fields and methods (JVMS 4.7): one spelling, both ways.
+//!
+//! A further known attribute is a variant of `Known`, or inside Code of `Table`, with its name (`src/kinds.rt`, `specs/Kinds.antt`), a file of its own with what is read, its bytes
+//! and which values have some, and a case:
+//! - `specs/Attributes.antt` or `specs/CodeParts.antt`: `body_at`, `body_content`, `IsBody` or `table_body_at`, `table_content`, `IsTableBody`;
+//! - `specs/Layout.antt` and `specs/Naming.antt`: what bounds it, its form, and what it names;
+//!
+//! and an arm in `src/attributes.rt` and `src/write.rt` or in `src/code.rt`, with a term in `proofs/AttrsLaws.antt` or `proofs/CodeLaws.antt` and a line in `LayoutLaws` and `WrittenLaws`.
 #![tactic(auto)]
 
 ghost use Rattle.std.specs.Prelude.{◌≡◌, ℕ, ◌+◌, List, ◌++◌, length, All, IfOk, OnOk, Ok};
@@ -40,7 +47,8 @@ use attributes::read_whole;
 pub use owner::Owner;
 use write::write_all;
 
-/// The attributes of an owner, from their count on. The cursor has all that is left of the file.
+/// The attributes of an owner, from their count on. The cursor has all that is left of the file. Memory is wanted too where more than 1,000 elements of annotations stand in one
+/// another, since each takes a part of the stack.
 pub fn read_attrs(
     alloc: Global,
     cur: &mut Cursor,
