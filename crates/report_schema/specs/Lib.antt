@@ -1,0 +1,4 @@
+pub mod Keyed
+pub mod Report
+pub mod FileKey
+pub mod Summary

@@ -1,0 +1,138 @@
+-- The report of a run: a JSON text in the mutation testing report schema, version 1 (stryker-mutator/mutation-testing-elements); which members stand in it is this project's own.
+use Rattle.std.specs.Prelude.{ℕ, ◌==◌, if◌then◌else◌, length, List, [], ◌∷◌, ◌++◌, map, codes, Option, None, Some, option_map, option_and_then, slice_get}
+use Rattle.std.specs.List.{zip, flat_map}
+use Rattle.std.specs.Option.{option_to_list, option_map_or}
+use Rattle.std.specs.Str.Lossy.{utf8_valid_len}
+use Rattle.serde_json.specs.Data.{Data, number, unsigned, string, array, object, item, no_items, Members, no_members, member, put}
+use Rattle.serde_json.specs.View.{items_of}
+use Rattle.serde_json.specs.Written.{compact_text}
+use Rattle.class_model.specs.MutatorName.{mutator_name}
+use Rattle.class_table.specs.declared.scripted.Test.{Test}
+use Rattle.mutator_ops.specs.Printing.{printed, id_text}
+use Rattle.mutator_ops.specs.declared.mutant.Mutant.{Mutant}
+use Rattle.mutator_ops.specs.declared.mutant.Verdict.{Verdict}
+use Rattle.mutator_ops.specs.declared.mutant.State.{State}
+use Rattle.mutator_ops.specs.declared.mutant.State.TheVariants as state
+use Rattle.report_schema.specs.Keyed.{Entry, by_key, members_by}
+use Rattle.report_schema.specs.declared.input.ReportInput.{ReportInput}
+
+-- ---- tests
+
+-- CLASS.METHOD
+abbrev pub test_id : Test → List ℕ
+test_id test = printed test.class ++ codes "." ++ printed test.method
+
+-- the identifier of the test of a number, if there is one
+abbrev pub id_of : List Test → ℕ → Option Data
+id_of tests index = option_map (λ test. string (test_id test)) (slice_get tests index)
+
+-- the identifiers of the tests of some numbers; a number that no test has names none
+abbrev pub ids_of : List Test → List ℕ → List Data
+ids_of tests numbers = flat_map (λ index. option_to_list (id_of tests index)) numbers
+
+-- the one test that kills, if one does
+abbrev pub killed_by : List Test → Option ℕ → Option Data
+killed_by tests killer = option_map (λ id. array (item id no_items)) (option_and_then (id_of tests) killer)
+
+-- ---- mutants
+
+abbrev pub status : State → List ℕ
+status state.NonViable = codes "CompileError"
+status state.NoCoverage = codes "NoCoverage"
+status state.Killed = codes "Killed"
+status state.TimedOut = codes "Timeout"
+status state.MemoryError = codes "RuntimeError"
+status state.RunError = codes "RuntimeError"
+status state.Survived = codes "Survived"
+
+-- which of the two states that share a status it is
+abbrev pub status_reason : State → Option (List ℕ)
+status_reason state.MemoryError = Some (codes "MEMORY_ERROR")
+status_reason state.RunError = Some (codes "RUN_ERROR")
+status_reason other = None
+
+-- a line as the schema counts, from 1: where no line is stated, line 1
+abbrev pub line_from_1 : ℕ → ℕ
+line_from_1 line = if line == 0 then 1 else line
+
+abbrev pub place : ℕ → ℕ → Data
+place line column = object (member (codes "column") (number (unsigned column)) (member (codes "line") (number (unsigned line)) no_members))
+
+-- the first column of a line
+abbrev pub location : ℕ → Data
+location line = object (member (codes "end") (place line 2) (member (codes "start") (place line 1) no_members))
+
+-- a member that stands only where it has a value
+abbrev pub member_if : List ℕ → Option Data → Members → Members
+member_if name None members = members
+member_if name (Some value) members = member name value members
+
+-- a mutant with what the tests say of it
+abbrev pub mutant_entry : List Test → Mutant → Verdict → Data
+mutant_entry tests mutant verdict = object (
+    member (codes "coveredBy") (array (items_of (ids_of tests verdict.covering)))
+    (member (codes "id") (string (id_text mutant))
+    (member_if (codes "killedBy") (killed_by tests verdict.killer)
+    (member (codes "location") (location (line_from_1 mutant.line))
+    (member (codes "mutatorName") (string (mutator_name mutant.mutator))
+    (member (codes "status") (string (status verdict.state))
+    (member_if (codes "statusReason") (option_map string (status_reason verdict.state)) no_members)))))))
+
+-- each mutant under its key, as far as it has a verdict and a key
+abbrev pub mutant_entries : List Test → List Mutant → List Verdict → List (List ℕ) → List Entry
+mutant_entries tests mutants verdicts keys = map (λ m. (printed m.1.1, mutant_entry tests m.0 m.1.0)) (zip mutants (zip verdicts keys))
+
+-- ---- files
+
+abbrev pub text_or_empty : List ℕ → List ℕ
+text_or_empty bytes = if utf8_valid_len bytes == length bytes then bytes else []
+
+-- the source of a number, empty where there is none or it isn't UTF-8
+abbrev pub source_of : List (List ℕ) → ℕ → List ℕ
+source_of sources index = option_map_or text_or_empty (slice_get sources index) []
+
+-- a file of mutants, by the number of its key
+abbrev pub file : List (List ℕ) → ℕ → List Data → Data
+file sources index mutants = object (
+    member (codes "language") (string (codes "java"))
+    (member (codes "mutants") (array (items_of mutants))
+    (member (codes "source") (string (source_of sources index)) no_members)))
+
+abbrev pub test_entry : Test → Data
+test_entry test = object (member (codes "id") (string (test_id test)) (member (codes "name") (string (printed test.method)) no_members))
+
+-- each test under its key, as far as it has one
+abbrev pub test_entries : List Test → List (List ℕ) → List Entry
+test_entries tests keys = map (λ t. (printed t.1, test_entry t.0)) (zip tests keys)
+
+abbrev pub test_file : ℕ → List Data → Data
+test_file index tests = object (member (codes "tests") (array (items_of tests)) no_members)
+
+-- ---- the report
+
+abbrev pub thresholds : Data
+thresholds = object (member (codes "high") (number (unsigned 80)) (member (codes "low") (number (unsigned 60)) no_members))
+
+abbrev pub tree : Data → Data → Data
+tree files test_files = object (
+    member (codes "files") files
+    (member (codes "schemaVersion") (string (codes "1"))
+    (member (codes "testFiles") test_files
+    (member (codes "thresholds") thresholds no_members))))
+
+-- For each mutant's key a file with the mutants of that key, in their order, and for each test's key a file with the tests of that key.
+abbrev pub report : ReportInput → Data
+report input = tree
+    (object (members_by (file input.sources) 0 (by_key (mutant_entries input.tests input.mutants input.verdicts input.keys))))
+    (object (members_by test_file 0 (by_key (test_entries input.tests input.test_keys))))
+
+-- The text of the report, with no space in it.
+abbrev pub ReportText : ReportInput → List ℕ
+ReportText input = compact_text (report input)
+
+-- ---- for private clauses
+
+-- `member_if` as a change of the members: the new one at its place in byte order
+abbrev pub put_if : List ℕ → Option Data → Members → Members
+put_if name None members = members
+put_if name (Some value) members = put name value members
