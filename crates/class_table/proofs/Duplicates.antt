@@ -158,11 +158,11 @@ told_least ns n h = record {
       let at : name_of ns twice.second ≡ m = ap name_or_none twice.two in
       let before = early m 0 twice.first ns twice.one in
       let other : IsFirst ns twice.second → ⊥ = λ first.
-          let e : Some twice.second ≡ Some before.0 = sym first ∙ ap (place_in ns) at ∙ before.2 in
-          let le = before.1 in
-          let apart = twice.apart in
-          let same : twice.second ≡ before.0 = cc in
-          omega (arith, le, apart, same) in
+      let e : Some twice.second ≡ Some before.0 = sym first ∙ ap (place_in ns) at ∙ before.2 in
+      let le = before.1 in
+      let apart = twice.apart in
+      let same : twice.second ≡ before.0 = cc in
+      omega (arith, le, apart, same) in
       subst (λ x. IsTrue (is_le (cmp n x))) at (h.1 twice.second within other);
 }
 

@@ -123,7 +123,7 @@ module _ (p : Look) where
       let below : b - 1 ≤ j = omega (arith, some, le) in
       let f = supers_within j p in
       let above : consult_in p (joined f (parents_with c.parent c.interfaces)) one ≡ consult_in p (joined f c.interfaces) (consult_in p (joined f (parents_with c.parent [])) one) =
-          ap (λ ms. consult_in p (joined f ms) one) (parents_both c.parent c.interfaces) ∙ ap (λ ms. consult_in p ms one) (joined_both f (parents_with c.parent []) c.interfaces) ∙ consult_both (joined f (parents_with c.parent [])) (joined f c.interfaces) one in
+      ap (λ ms. consult_in p (joined f ms) one) (parents_both c.parent c.interfaces) ∙ ap (λ ms. consult_in p ms one) (joined_both f (parents_with c.parent []) c.interfaces) ∙ consult_both (joined f (parents_with c.parent [])) (joined f c.interfaces) one in
       third j below ∙ ap (consult_in p (joined f c.interfaces)) (second j below) ∙ sym above
       ∙ ap (consult_in p (joined f (parents_with c.parent c.interfaces))) first
       ∙ ap (λ l. consult_in p (joined f (parents_of l)) (consult_one p n old)) (sym e)

@@ -3,6 +3,7 @@ pub mod Opcodes
 pub mod Linking
 pub mod View
 pub mod Switches
+pub mod Appended
 pub mod Forms
 pub mod Info
 pub mod Table

@@ -1,4 +1,4 @@
-ghost use Rattle.std.specs.Prelude.{◌≡◌, ◌<◌, ◌≤◌, ◌↔◌, ℕ, [], length, true, slice_get, slice_set, Some, IfOk, OnOk, IsTrue};
+ghost use Rattle.std.specs.Prelude.{◌≡◌, ◌<◌, ◌≤◌, ◌↔◌, ℕ, ◌++◌, [], length, true, slice_get, slice_set, Some, IfOk, OnOk, IsTrue};
 ghost use Rattle.std.specs.List.{list_any};
 ghost use Rattle.machine_rules.specs.Names.{same};
 ghost use Rattle.machine_rules.specs.Linked.{is_library, parents_with};
@@ -193,13 +193,64 @@ impl Program {
         Ok(())
     }
 
+    // Adds the names of a class and of all above it, so many levels high.
+    #[cycle(collect)]
+    fn collect(&self, out: &mut Vec<Name>, name: &Name, levels: u32) -> Result<(), Memory>
+        ensures { OnOk result ((k : ℕ) → levels ≤ k → out.new.items ≡ out.old.items ++ supers_within k (look self.now) name.now) }
+    {
+        out.push(name.copy()?)?;
+        let Some(id) = self.find(name) else {
+            return Ok(());
+        };
+        if levels == 0 {
+            return Err(Memory);
+        }
+        let linked = self.info(id).linked();
+        self.collect_parent(out, &linked.parent, levels - 1)?;
+        self.collect_all(out, linked.interfaces.as_slice(), levels - 1)?;
+        Ok(())
+    }
+
+    #[cycle(collect)]
+    fn collect_parent(
+        &self,
+        out: &mut Vec<Name>,
+        parent: &Option<Name>,
+        levels: u32,
+    ) -> Result<(), Memory>
+        ensures { OnOk result ((k : ℕ) → levels ≤ k → out.new.items ≡ out.old.items ++ joined (supers_within k (look self.now)) (parents_with parent.now [])) }
+    {
+        let Some(name) = parent else {
+            return Ok(());
+        };
+        self.collect(out, name, levels)?;
+        Ok(())
+    }
+
+    #[cycle(collect)]
+    fn collect_all(&self, out: &mut Vec<Name>, names: &[Name], levels: u32) -> Result<(), Memory>
+        ensures { OnOk result ((k : ℕ) → levels ≤ k → out.new.items ≡ out.old.items ++ joined (supers_within k (look self.now)) names.now) }
+    {
+        for name in names {
+            self.collect(out, name, levels)?;
+        }
+        Ok(())
+    }
+
+    #[tactic(auto, using(crate::proofs::Collecting::collected_is))]
+    fn supers_of(&self, alloc: Global, name: &Name) -> Result<Seq<Name>, Memory>
+        ensures { IfOk result (λ names. names ≡ supers (look self.now) name.now) }
+    {
+        let mut names = Vec::new(alloc);
+        self.collect(&mut names, name, LEVELS)?;
+        Ok(Seq::from_vec(names))
+    }
+
     /// The names of a class and of all above it, in the order of consulting. Memory runs out as in `consult`.
     pub fn supers(&self, alloc: Global, id: ClassId) -> Result<Seq<Name>, Memory>
         requires class { id.0 < length self.now }
         ensures { IfOk result (λ names. names ≡ supers (look self.now) (name_at self.now id.0)) }
     {
-        let _alloc = alloc;
-        let _id = id;
-        Err(Memory)
+        Ok(self.supers_of(alloc, self.info(id).name())?)
     }
 }

@@ -8,7 +8,9 @@ ghost use Rattle.class_table.specs.Linking.{class_or_none};
 ghost use Rattle.class_table.specs.Symbols.{IsOther, symbol_in, name_or_empty, class_named, text_named, kind_stated, type_stated, method_ref, field_ref};
 
 use crate::linked::{Entry, FieldRef, MethodRef};
-use class_model::{Const, DescFault, Kind, Memory, MethodType, Name, Seq, parse_field, parse_method};
+use class_model::{
+    Const, DescFault, Kind, Memory, MethodType, Name, Seq, parse_field, parse_method,
+};
 use std::alloc::Global;
 
 /// The entry of an index, if there is one.
@@ -122,7 +124,13 @@ pub fn type_stated(alloc: Global, desc: &Name) -> Result<MethodType, Memory>
     }
 }
 
-fn method_of(alloc: Global, pool: &[Const], class: u16, pair: u16, interface: bool) -> Result<MethodRef, Memory>
+fn method_of(
+    alloc: Global,
+    pool: &[Const],
+    class: u16,
+    pair: u16,
+    interface: bool,
+) -> Result<MethodRef, Memory>
     ensures { IfOk result (λ r. method_ref_of r ≡ method_ref interface (class_named pool.now class) (name_or_empty (pair_name_of pool.now pair)) (name_or_empty (pair_desc_of pool.now pair))) }
 {
     let desc = copy_or_empty(alloc, pair_desc_at(pool, pair))?;
@@ -159,8 +167,12 @@ fn entry_in(alloc: Global, pool: &[Const], constant: &Const) -> Result<Entry, Me
         Const::Text(text) => Ok(Entry::Text(text_named(alloc, pool, *text)?)),
         Const::Class(name) => Ok(Entry::Class(text_named(alloc, pool, *name)?)),
         Const::Field(class, pair) => Ok(Entry::Field(field_of(alloc, pool, *class, *pair)?)),
-        Const::Method(class, pair) => Ok(Entry::Method(method_of(alloc, pool, *class, *pair, false)?)),
-        Const::IMethod(class, pair) => Ok(Entry::Method(method_of(alloc, pool, *class, *pair, true)?)),
+        Const::Method(class, pair) => Ok(Entry::Method(method_of(
+            alloc, pool, *class, *pair, false,
+        )?)),
+        Const::IMethod(class, pair) => Ok(Entry::Method(method_of(
+            alloc, pool, *class, *pair, true,
+        )?)),
         Const::Utf8(_) => Ok(Entry::Other),
         Const::Float(_) => Ok(Entry::Other),
         Const::Double(_) => Ok(Entry::Other),

@@ -22,7 +22,7 @@ pub use consulted::Consulted;
 pub use fault::TableFault;
 pub use info::ClassInfo;
 pub use instruction::{Comparison, Conversion, Element, Instruction, Operation, ShiftKind};
-pub use laws::forms_mean_the_same;
+pub use laws::{appended_mean_the_same, forms_mean_the_same};
 pub use linked::{
     Entry, FieldConstant, FieldRef, LinkedBody, LinkedClass, LinkedCode, LinkedField, LinkedLine,
     LinkedMethod, LinkedRow, MethodRef, Native, Switch,

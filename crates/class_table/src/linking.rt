@@ -10,7 +10,9 @@ ghost use Rattle.class_table.specs.declared.linked.Entry as entry;
 ghost use Rattle.class_table.specs.View.{body_of, method_of, field_of, constant_of, linked_of};
 
 use crate::code_linking::link_code;
-use crate::entries::{class_named, class_or_none, entries, entry, kind_stated, text_named, type_stated};
+use crate::entries::{
+    class_named, class_or_none, entries, entry, kind_stated, text_named, type_stated,
+};
 use crate::linked::{
     Entry, FieldConstant, LinkedBody, LinkedClass, LinkedField, LinkedMethod, Native,
 };
@@ -55,7 +57,11 @@ fn constant_in(alloc: Global, pool: &[Const], index: u16) -> Result<Option<Field
     }
 }
 
-fn field_constant(alloc: Global, pool: &[Const], attrs: &[Attr]) -> Result<Option<FieldConstant>, Memory>
+fn field_constant(
+    alloc: Global,
+    pool: &[Const],
+    attrs: &[Attr],
+) -> Result<Option<FieldConstant>, Memory>
     ensures { IfOk result (λ k. option_map constant_of k ≡ option_and_then (λ index. linking.constant_of pool.now (entry_of pool.now index)) (linking.first_of linking.value_of attrs.now)) }
 {
     match constant_index(attrs) {

@@ -127,11 +127,7 @@ impl Program {
     }
 
     /// Puts a class in the place of another one of the same name, superclass and interfaces, and gives back the other. Both are of class files.
-    pub fn swap(
-        &mut self,
-        id: ClassId,
-        with: Arc<ClassInfo, Global>,
-    ) -> Arc<ClassInfo, Global>
+    pub fn swap(&mut self, id: ClassId, with: Arc<ClassInfo, Global>) -> Arc<ClassInfo, Global>
         requires { CanSwap self.old id.0 (arc_value with) }
         ensures program { self.new ≡ slice_set self.old id.0 (arc_value with) }
         ensures other { slice_get self.old id.0 ≡ Some (arc_value result) }
@@ -196,10 +192,7 @@ fn put(
     mem::replace(&mut classes[at], with)
 }
 
-fn program_of(
-    alloc: Global,
-    infos: Vec<Arc<ClassInfo, Global>>,
-) -> Result<Program, TableFault>
+fn program_of(alloc: Global, infos: Vec<Arc<ClassInfo, Global>>) -> Result<Program, TableFault>
     ensures classes { IfOk result (λ p. p ≡ map (λ c. arc_value c) infos.items) }
     ensures distinct { OnOk result (AreDistinct (names (map (λ c. arc_value c) infos.items))) }
     ensures duplicate { (name : List ℕ) → result ≡ Err (Duplicate name) → IsLeastDuplicate (names (map (λ c. arc_value c) infos.items)) name }
