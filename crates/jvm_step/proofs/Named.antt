@@ -1,7 +1,6 @@
 -- What is kept by class numbers, by the names of classes.
-use Rattle.std.proofs.Common.{◌≡◌, ℕ, zero, suc, ◌<◌, ◌+◌, Bool, true, false, List, [], ◌∷◌, ◌++◌, map, length, Option, Some, None, refl, sym, ap, ◌∙◌, nat_eq, arith, subst}
-use Rattle.std.specs.Prelude.{if◌then◌else◌, ◌&&◌, ◌||◌}
-use Rattle.std.specs.List.{list_any}
+use Rattle.std.proofs.Common.{◌≡◌, ℕ, ◌<◌, Bool, true, false, List, [], ◌∷◌, ◌++◌, map, length, Some, refl, sym, ap, nat_eq, arith, subst}
+use Rattle.std.specs.Prelude.{if◌then◌else◌}
 use Rattle.std.specs.Cmp.Lexicographic.{same_text}
 use Rattle.std.proofs.lemmas.Cmp.{nat_list_eq_equiv}
 use Rattle.std.proofs.lemmas.Bool.Decides.{nat_tests}
@@ -11,7 +10,7 @@ use Rattle.machine_rules.specs.Names.{Name, same}
 use Rattle.machine_rules.specs.Initialisation.{init_in}
 use Rattle.machine_rules.specs.Steps.{is_reached, reach}
 use Rattle.class_table.specs.Info.{Info}
-use Rattle.class_table.specs.Table.{names, name_at, place_in, AreDistinct, IsProgram}
+use Rattle.class_table.specs.Table.{names, name_at, place_in, IsProgram}
 use Rattle.jvm_step.specs.Marks.{is_listed, with_pair, state_among}
 use Rattle.jvm_step.specs.View.{named, AreClasses}
 

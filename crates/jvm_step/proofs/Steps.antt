@@ -1,5 +1,5 @@
 -- A step by its parts.
-use Rattle.std.proofs.Common.{◌≡◌, ℕ, Bool, true, false, List, refl, ap}
+use Rattle.std.proofs.Common.{◌≡◌, ℕ, Bool, true, false, List, refl}
 use Rattle.std.specs.Prelude.{if◌then◌else◌}
 use Rattle.machine_rules.specs.Names.{Name}
 use Rattle.machine_rules.specs.Programs.{Look}

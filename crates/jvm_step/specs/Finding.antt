@@ -1,6 +1,5 @@
 -- What a search for a method comes to, apart from what is done with it.
 use Rattle.std.specs.Prelude.{◌≡◌, ℕ, List, []}
-use Rattle.machine_rules.specs.declared.value.Value.{Value}
 use Rattle.machine_rules.specs.declared.machine.Limits.{Limits}
 use Rattle.machine_rules.specs.Instructions.{MethodRef}
 use Rattle.machine_rules.specs.Linked.{LinkedMethod, LinkedBody}

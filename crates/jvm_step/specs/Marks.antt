@@ -1,5 +1,5 @@
 -- What is kept by class number beside a list in order of first use.
-use Rattle.std.specs.Prelude.{◌≡◌, ℕ, Bool, true, false, ◌&&◌, nat_eq, if◌then◌else◌, List, [], ◌∷◌, ◌++◌, map}
+use Rattle.std.specs.Prelude.{◌≡◌, ℕ, Bool, false, ◌&&◌, nat_eq, if◌then◌else◌, List, [], ◌∷◌, ◌++◌}
 use Rattle.std.proofs.Common.{get_or}
 use Rattle.std.specs.List.{list_any}
 use Rattle.machine_rules.specs.declared.machine.InitState.{InitState}

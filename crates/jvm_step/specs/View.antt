@@ -24,7 +24,6 @@ use Rattle.class_table.specs.Seen.{IsConsultedOf}
 use Rattle.jvm_step.specs.declared.frame.Frame.{Frame}
 use Rattle.jvm_step.specs.declared.machine.Exception.{Exception}
 use Rattle.jvm_step.specs.declared.machine.Exception.TheVariants as exception
-use Rattle.jvm_step.specs.declared.machine.Exceptions.{Exceptions}
 use Rattle.jvm_step.specs.declared.machine.Given.{Given}
 use Rattle.jvm_step.specs.declared.machine.Given.TheVariants as given
 use Rattle.jvm_step.specs.declared.machine.Need.{Need}
@@ -91,6 +90,10 @@ world_of p w = record {
   script = map call_of w.script;
   over = w.over;
 }
+
+-- What a run may use.
+abbrev pub limits_of : Machine → Limits
+limits_of m = m.limits
 
 abbrev pub state_of : List Info → Machine → def.MachineState
 state_of p m = record { frames = frames_of p m.frame m.callers; thrown = m.thrown; world = world_of p m.world }

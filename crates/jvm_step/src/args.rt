@@ -29,11 +29,7 @@ fn is_of_kind(kind: &Kind, v: Value) -> bool
 }
 
 // Takes arguments of these kinds off a stack, the last kind's first, and puts them on the ones that were taken. It is false where there are none of these kinds.
-fn take_onto(
-    stack: &mut Operands,
-    kinds: &[Kind],
-    args: &mut Stack<Value>,
-) -> Result<bool, Memory>
+fn take_onto(stack: &mut Operands, kinds: &[Kind], args: &mut Stack<Value>) -> Result<bool, Memory>
     ensures taken { result ≡ Ok true → (above : List KindOf) (go : List Value → List Value → Effect) → on_reversed (reversed_onto (map kind_of kinds.now) above) args.old stack.old go ≡ on_reversed above args.new stack.new go }
     ensures refused { result ≡ Ok false → (above : List KindOf) (go : List Value → List Value → Effect) → on_reversed (reversed_onto (map kind_of kinds.now) above) args.old stack.old go ≡ NoRow }
 {
@@ -54,7 +50,11 @@ fn take_onto(
 }
 
 /// Takes arguments of these kinds off the stack of a frame; none where it has none of these kinds. The first one is on the top.
-pub fn take_args(alloc: Global, f: &mut Frame, kinds: &[Kind]) -> Result<Option<Stack<Value>>, Memory>
+pub fn take_args(
+    alloc: Global,
+    f: &mut Frame,
+    kinds: &[Kind],
+) -> Result<Option<Stack<Value>>, Memory>
     ensures taken { IfOk result (λ made. IfSome made (λ args. (go : List Value → List Value → Effect) → on_args (map kind_of kinds.now) f.old.stack go ≡ go args f.new.stack)) }
     ensures refused { IfOk result (λ made. IfNone made ((go : List Value → List Value → Effect) → on_args (map kind_of kinds.now) f.old.stack go ≡ NoRow)) }
     ensures rest { f.new ≡ record f.old { stack = f.new.stack } }

@@ -136,7 +136,11 @@ pub fn return_int(p: &Program, m: &mut Machine, result_kind: &Option<Kind>) -> R
 }
 
 /// return: the method may have no result.
-pub fn return_plain(p: &Program, m: &mut Machine, result_kind: &Option<Kind>) -> Result<bool, Memory>
+pub fn return_plain(
+    p: &Program,
+    m: &mut Machine,
+    result_kind: &Option<Kind>,
+) -> Result<bool, Memory>
     requires machine { IsMachineOf p.now m.old }
     requires quiet { m.old.thrown ≡ None }
     ensures row { IfOk result (λ b. Comes (returns_plain (look p.now) (world_of p.now m.old.world) (callers_of p.now m.old.callers) (option_map kind_of result_kind.now)) b (world_of p.now m.old.world) (state_of p.now m.new)) }

@@ -158,7 +158,15 @@ fn start_call(
     };
     p.consult(&mut m.world.consulted, found.class)?;
     m.world.running = Some(next);
-    push_frame(alloc, p, m, found.class, found.place, locals, code.max_stack)?;
+    push_frame(
+        alloc,
+        p,
+        m,
+        found.class,
+        found.place,
+        locals,
+        code.max_stack,
+    )?;
     Ok(true)
 }
 

@@ -28,12 +28,7 @@ fn copy_name(name: &Option<Name>) -> Result<Option<Name>, Memory>
 impl Machine {
     /// A machine that is to run a test: nothing has happened but that the test class was consulted. Memory runs out as in `Program::consult`, and where the program lacks the library's exceptions, of which the machine makes objects.
     #[tactic(auto, unfolding(crate::specs::View::world_of))]
-    pub fn start(
-        alloc: Global,
-        p: &Program,
-        test: &Test,
-        limits: Limits,
-    ) -> Result<Machine, Memory>
+    pub fn start(alloc: Global, p: &Program, test: &Test, limits: Limits) -> Result<Machine, Memory>
         ensures state { IfOk result (λ m. state_of p.now m ≡ start (look p.now) (test_of test.now)) }
         ensures limits { IfOk result (λ m. m.limits ≡ limits) }
         ensures machine { IfOk result (λ m. IsMachineOf p.now m) }

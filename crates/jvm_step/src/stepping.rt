@@ -9,17 +9,17 @@ ghost use Rattle.class_table.specs.View.{instruction_of};
 ghost use Rattle.class_table.specs.Symbols.{kind_of};
 ghost use Rattle.class_table.specs.Table.{look, name_at, entries_at};
 ghost use Rattle.jvm_step.specs.declared.machine.Step.TheVariants.{Stuck as StuckAt};
-ghost use Rattle.jvm_step.specs.View.{frame_of, frames_of, callers_of, world_of, state_of, Comes, Answers, IsMachineOf, IsKept};
+ghost use Rattle.jvm_step.specs.View.{frame_of, frames_of, callers_of, world_of, state_of, named, Comes, Answers, IsMachineOf, IsKept};
 
 use crate::calling::{called, invoke_special, invoke_static};
 use crate::fetching::{Fetched, fetch};
+use crate::lines::reach;
 use crate::machine::{Machine, Step};
 use crate::returning::{return_int, return_plain, unwind};
 use crate::rows::{
     branch_on_int, branch_on_ints, go_on, go_to, load_int, load_reference, operate, pop, push,
     store_int,
 };
-use crate::lines::reach;
 use crate::script::next_call;
 use crate::text::joined;
 use class_model::{ClassId, Memory, Name, Seq};
@@ -272,7 +272,7 @@ impl Machine {
     /// The classes and lines that were reached, in order of first use.
     #[tactic(auto, unfolding(crate::specs::View::world_of))]
     pub fn reached(&self, p: &Program) -> &[(ClassId, u16)]
-        ensures { map (λ x. (name_at p.now x.0.0, x.1)) result.now ≡ (state_of p.now self.now).world.reached }
+        ensures { map (named p.now) (map (λ x. (x.0.0, x.1)) result.now) ≡ (state_of p.now self.now).world.reached }
     {
         let _classes = p.len();
         self.world.reached.pairs()

@@ -39,7 +39,12 @@ fn exception_fields(alloc: Global) -> Result<Seq<Kind>, Memory>
 }
 
 /// The machine throws an exception of its own.
-pub fn throw(alloc: Global, p: &Program, m: &mut Machine, exception: Exception) -> Result<(), Memory>
+pub fn throw(
+    alloc: Global,
+    p: &Program,
+    m: &mut Machine,
+    exception: Exception,
+) -> Result<(), Memory>
     requires machine { IsMachineOf p.now m.old }
     requires quiet { m.old.thrown ≡ None }
     ensures throws { OnOk result (throws m.old.limits (world_of p.now m.old.world) (frames_of p.now m.old.frame m.old.callers) (fault_of exception) ≡ rule.Goes (state_of p.now m.new)) }

@@ -1,4 +1,3 @@
-use Rattle.std.proofs.Common.{◌≡◌}
 use Rattle.jvm_step.proofs.Calls.{if_some}
 use Rattle.jvm_step.proofs.calling.run_body.Goals as goal
 

@@ -1,4 +1,4 @@
-use Rattle.std.proofs.Common.{◌≡◌, rules}
+use Rattle.std.proofs.Common.{rules}
 use Rattle.std.specs.Option.{option_map}
 use Rattle.machine_rules.specs.Instructions.{InvokeStatic}
 use Rattle.machine_rules.specs.Effects.{on_top}

@@ -1,4 +1,4 @@
-use Rattle.std.proofs.Common.{◌≡◌, None, sym, subst, ap, ◌∙◌}
+use Rattle.std.proofs.Common.{◌≡◌, None, sym, subst, ap}
 use Rattle.machine_rules.specs.Steps.{ended}
 use Rattle.class_table.specs.Table.{look}
 use Rattle.jvm_step.specs.View.{state_of, frames_of, world_of, Answers}

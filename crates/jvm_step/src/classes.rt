@@ -3,9 +3,8 @@
 
 ghost use Rattle.std.specs.Prelude.{◌≡◌, Some, None, [], ◌∷◌, map, codes, IfOk, OnOk};
 ghost use Rattle.machine_rules.specs.Names.{object_name};
-ghost use Rattle.machine_rules.specs.Library.{library_class, library_classes, throwable_fields, assertion};
+ghost use Rattle.machine_rules.specs.Library.{library_field as object_field, library_class, library_classes, throwable_fields, assertion};
 ghost use Rattle.machine_rules.specs.Linked.{AssertTrue, AssertFalse};
-ghost use Rattle.class_table.specs.declared.loaded.LibBody.TheVariants.{Native as NativeBody};
 ghost use Rattle.class_table.specs.Linking.{link_library, library_field, library_method};
 
 use crate::text::name;
@@ -17,7 +16,6 @@ use std::alloc::Global;
 fn class(alloc: Global, class: &str, parent: &str, flags: u16) -> Result<LibClass, Memory>
     ensures name { IfOk result (λ c. c.name ≡ class.now) }
     ensures class { IfOk result (λ c. link_library c ≡ library_class flags (Some parent.now) [] []) }
-
 {
     Ok(LibClass {
         name: name(alloc, class)?,
@@ -43,13 +41,26 @@ fn object(alloc: Global) -> Result<LibClass, Memory>
     })
 }
 
-// A private field.
-fn field(alloc: Global, field: &str, desc: &str) -> Result<LibField, Memory>
-    ensures { IfOk result (λ f. f ≡ record { name = field.now; desc = desc.now; flags = 2 }) }
+fn message(alloc: Global) -> Result<LibField, Memory>
+    ensures { IfOk result (λ f. library_field f ≡ object_field (codes "message") (codes "Ljava/lang/String;") (codes "java/lang/String")) }
 {
+    let field = name(alloc, "message")?;
+    let desc = name(alloc, "Ljava/lang/String;")?;
     Ok(LibField {
-        name: name(alloc, field)?,
-        desc: name(alloc, desc)?,
+        name: field,
+        desc,
+        flags: 2,
+    })
+}
+
+fn cause(alloc: Global) -> Result<LibField, Memory>
+    ensures { IfOk result (λ f. library_field f ≡ object_field (codes "cause") (codes "Ljava/lang/Throwable;") (codes "java/lang/Throwable")) }
+{
+    let field = name(alloc, "cause")?;
+    let desc = name(alloc, "Ljava/lang/Throwable;")?;
+    Ok(LibField {
+        name: field,
+        desc,
         flags: 2,
     })
 }
@@ -59,8 +70,8 @@ fn throwable(alloc: Global) -> Result<LibClass, Memory>
     ensures class { IfOk result (λ c. link_library c ≡ library_class 33 (Some object_name) throwable_fields []) }
 {
     let mut fields = Seq::new(alloc);
-    fields.push(field(alloc, "message", "Ljava/lang/String;")?)?;
-    fields.push(field(alloc, "cause", "Ljava/lang/Throwable;")?)?;
+    fields.push(message(alloc)?)?;
+    fields.push(cause(alloc)?)?;
     Ok(LibClass {
         name: name(alloc, "java/lang/Throwable")?,
         parent: Some(name(alloc, "java/lang/Object")?),
@@ -71,15 +82,29 @@ fn throwable(alloc: Global) -> Result<LibClass, Memory>
     })
 }
 
-// A public static native method that takes a boolean.
-fn native(alloc: Global, method: &str, number: u16) -> Result<LibMethod, Memory>
-    ensures { IfOk result (λ m. m ≡ record { name = method.now; desc = codes "(Z)V"; flags = 265; body = NativeBody number }) }
+fn assert_true(alloc: Global) -> Result<LibMethod, Memory>
+    ensures { IfOk result (λ m. library_method m ≡ assertion (codes "assertTrue") AssertTrue) }
 {
+    let method = name(alloc, "assertTrue")?;
+    let desc = name(alloc, "(Z)V")?;
     Ok(LibMethod {
-        name: name(alloc, method)?,
-        desc: name(alloc, "(Z)V")?,
+        name: method,
+        desc,
         flags: 265,
-        body: LibBody::Native(number),
+        body: LibBody::Native(2000),
+    })
+}
+
+fn assert_false(alloc: Global) -> Result<LibMethod, Memory>
+    ensures { IfOk result (λ m. library_method m ≡ assertion (codes "assertFalse") AssertFalse) }
+{
+    let method = name(alloc, "assertFalse")?;
+    let desc = name(alloc, "(Z)V")?;
+    Ok(LibMethod {
+        name: method,
+        desc,
+        flags: 265,
+        body: LibBody::Native(2001),
     })
 }
 
@@ -88,8 +113,8 @@ fn assertions(alloc: Global) -> Result<LibClass, Memory>
     ensures class { IfOk result (λ c. link_library c ≡ library_class 33 (Some object_name) [] (assertion (codes "assertTrue") AssertTrue ∷ assertion (codes "assertFalse") AssertFalse ∷ [])) }
 {
     let mut methods = Seq::new(alloc);
-    methods.push(native(alloc, "assertTrue", 2000)?)?;
-    methods.push(native(alloc, "assertFalse", 2001)?)?;
+    methods.push(assert_true(alloc)?)?;
+    methods.push(assert_false(alloc)?)?;
     Ok(LibClass {
         name: name(alloc, "org/junit/Assert")?,
         parent: Some(name(alloc, "java/lang/Object")?),
@@ -111,7 +136,12 @@ pub fn library(alloc: Global) -> Result<Seq<LibClass>, Memory>
     classes.push(class(alloc, error, "java/lang/Throwable", 33)?)?;
     classes.push(class(alloc, "java/lang/AssertionError", error, 33)?)?;
     classes.push(class(alloc, "java/lang/VirtualMachineError", error, 1057)?)?;
-    classes.push(class(alloc, "java/lang/StackOverflowError", "java/lang/VirtualMachineError", 33)?)?;
+    classes.push(class(
+        alloc,
+        "java/lang/StackOverflowError",
+        "java/lang/VirtualMachineError",
+        33,
+    )?)?;
     classes.push(assertions(alloc)?)?;
     Ok(classes)
 }
