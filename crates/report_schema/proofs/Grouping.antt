@@ -1,13 +1,11 @@
 -- A map that keeps at each key the entries under it, in their order, is what `by_key` says.
-use Rattle.std.proofs.Common.{◌≡◌, ℕ, Bool, true, false, cond, ◌||◌, List, [], ◌∷◌, ◌++◌, map, Option, Some, None, is_some, String, string_bytes, string_cmp, Vec, BTreeMap, Global, Less, is_eq, refl, sym, ap, ◌∙◌, append-nil}
-use Rattle.std.specs.BTreeMap.{IsOrdered, get_by_text, is_at}
+use Rattle.std.proofs.Common.{◌≡◌, Bool, true, false, cond, ◌||◌, List, [], ◌∷◌, ◌++◌, map, Option, Some, String, string_bytes, string_cmp, Vec, BTreeMap, Global, Less, is_eq, refl, sym, ap, ◌∙◌, append-nil}
+use Rattle.std.specs.BTreeMap.{IsOrdered, get_by_text}
 use Rattle.std.specs.BTreeSet.{BTreeSet}
-use Rattle.std.specs.Cmp.Lexicographic.{slice_cmp}
 use Rattle.std.specs.List.{AllByRecursion, list_any, filter}
 use Rattle.std.specs.List.Sorted.{IsStrictlySortedBy}
-use Rattle.std.specs.Map.{keys_of, lookup}
+use Rattle.std.specs.Map.{keys_of}
 use Rattle.std.specs.Option.{option_map_or}
-use Rattle.std.specs.Ordering.{nat_cmp}
 use Rattle.std.specs.Str.{bytes_eq}
 use Rattle.std.proofs.lemmas.Cmp.{nat_list_cmp_total, on_total}
 use Rattle.std.proofs.lemmas.List.Elements.{recursion_from_All}
@@ -15,10 +13,9 @@ use Rattle.std.proofs.lemmas.Map.Lookups.{btree_set_from_contains, exact_bytes}
 use Rattle.std.proofs.lemmas.Map.Made.{is_some-lookup}
 use Rattle.std.proofs.lemmas.Map.Text.{is_eq-slice_cmp}
 use Rattle.std.proofs.lemmas.Map.Views.{All-found}
-use Rattle.serde_json.specs.Data.{Data}
 use Rattle.serde_json.specs.View.{view}
 use Rattle.serde_json.specs.declared.value.Value.{Value}
-use Rattle.report_schema.specs.Keyed.{Entry, different, entries_at, by_key, entry_view, entries_view, group_view, groups_view, kept_at, has_key, is_under, found_under}
+use Rattle.report_schema.specs.Keyed.{Entry, different, entries_at, by_key, entry_view, entries_view, groups_view, kept_at, has_key, is_under, found_under}
 use Rattle.report_schema.proofs.Different.{Key, by_bytes, sorted_different, any_different}
 
 abbrev Kept : Type 0

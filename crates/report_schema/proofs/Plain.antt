@@ -1,5 +1,5 @@
 -- A report has no float, so its text is stated.
-use Rattle.std.proofs.Common.{◌≡◌, ℕ, ◌+◌, Bool, true, false, cond, ◌||◌, List, [], ◌∷◌, ◌++◌, map, Option, Some, None, option_map, Ordering, Less, Equal, Greater, refl, sym, ap, ◌∙◌, codes}
+use Rattle.std.proofs.Common.{◌≡◌, ℕ, ◌+◌, Bool, true, false, cond, ◌||◌, List, [], ◌∷◌, ◌++◌, map, Option, Some, None, option_map, Ordering, Less, Equal, Greater, refl, codes}
 use Rattle.std.specs.Cmp.Lexicographic.{slice_cmp}
 use Rattle.std.specs.List.{AllByRecursion, filter, zip, slice_get}
 use Rattle.std.specs.Option.{IfSome, option_to_list}
@@ -12,10 +12,8 @@ use Rattle.class_table.specs.declared.scripted.Test.{Test}
 use Rattle.mutator_ops.specs.Printing.{printed}
 use Rattle.mutator_ops.specs.declared.mutant.Mutant.{Mutant}
 use Rattle.mutator_ops.specs.declared.mutant.Verdict.{Verdict}
-use Rattle.mutator_ops.specs.declared.mutant.State.{State}
-use Rattle.mutator_ops.specs.declared.mutant.State.TheVariants as state
 use Rattle.report_schema.specs.Keyed.{Entry, different, entries_at, by_key, members_by}
-use Rattle.report_schema.specs.Report.{test_id, id_of, ids_of, killed_by, status_reason, member_if, mutant_entry, mutant_entries, file, test_entry, test_entries, test_file, tree, report}
+use Rattle.report_schema.specs.Report.{test_id, ids_of, killed_by, status_reason, member_if, mutant_entry, mutant_entries, file, test_entry, test_entries, test_file, report}
 use Rattle.report_schema.specs.declared.input.ReportInput.{ReportInput}
 
 abbrev IsPlain : Data → Type 0

@@ -1,5 +1,5 @@
 -- The report of a run: a JSON text in the mutation testing report schema, version 1 (stryker-mutator/mutation-testing-elements); which members stand in it is this project's own.
-use Rattle.std.specs.Prelude.{ℕ, ◌==◌, if◌then◌else◌, length, List, [], ◌∷◌, ◌++◌, map, codes, Option, None, Some, option_map, option_and_then, slice_get}
+use Rattle.std.specs.Prelude.{ℕ, ◌==◌, if◌then◌else◌, length, List, [], ◌++◌, map, codes, Option, None, Some, option_map, option_and_then, slice_get}
 use Rattle.std.specs.List.{zip, flat_map}
 use Rattle.std.specs.Option.{option_to_list, option_map_or}
 use Rattle.std.specs.Str.Lossy.{utf8_valid_len}

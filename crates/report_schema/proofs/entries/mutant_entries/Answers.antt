@@ -1,4 +1,4 @@
-use Rattle.std.proofs.Common.{◌≡◌, ◌≤◌, ◌∙◌, sym, min, length, append-nil, arith}
+use Rattle.std.proofs.Common.{◌≤◌, ◌∙◌, sym, min, length, append-nil, arith}
 use Rattle.report_schema.specs.Keyed.{entries_view}
 use Rattle.report_schema.proofs.Zipped.{zip_three_done}
 use Rattle.report_schema.proofs.entries.mutant_entries.Goals as goal

@@ -1,4 +1,4 @@
-use Rattle.std.proofs.Common.{◌≡◌, ◌∙◌, sym, ap, map, length, string_bytes}
+use Rattle.std.proofs.Common.{◌≡◌, ◌∙◌, sym, ap, map, length}
 use Rattle.serde_json.specs.Data.{put}
 use Rattle.serde_json.specs.View.{view, members_view}
 use Rattle.report_schema.specs.Keyed.{groups_view}

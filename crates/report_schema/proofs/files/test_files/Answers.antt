@@ -1,6 +1,6 @@
-use Rattle.std.proofs.Common.{◌≡◌, ◌∙◌, sym, ap, map, length, string_bytes}
+use Rattle.std.proofs.Common.{◌∙◌, sym, ap}
 use Rattle.serde_json.specs.Data.{put}
-use Rattle.serde_json.specs.View.{view, members_view}
+use Rattle.serde_json.specs.View.{members_view}
 use Rattle.report_schema.specs.Keyed.{groups_view}
 use Rattle.report_schema.specs.Report.{test_file}
 use Rattle.report_schema.proofs.FromTheLast.{put_all, last_put}
