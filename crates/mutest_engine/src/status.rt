@@ -40,19 +40,36 @@ pub enum Status {
     /// The words are no command.
     Usage,
     /// Nothing is held at the path.
-    NotFound { path: Bytes },
+    NotFound {
+        path: Bytes,
+    },
     /// The folder is an archive.
-    Archive { path: Bytes },
+    Archive {
+        path: Bytes,
+    },
     /// The file at the path is no class file.
-    BadClass { path: Bytes, fault: ClassFault },
+    BadClass {
+        path: Bytes,
+        fault: ClassFault,
+    },
     /// Original runs didn't pass: those of these tests.
-    NotGreen { tests: Seq<(Bytes, Outcome)> },
+    NotGreen {
+        tests: Seq<(Bytes, Outcome)>,
+    },
     /// So many calls that read the tree failed.
-    ReadFault { faults: u64 },
+    ReadFault {
+        faults: u64,
+    },
     /// So many calls that write to this output failed.
-    WriteFault { which: Output, faults: u64 },
+    WriteFault {
+        which: Output,
+        faults: u64,
+    },
     /// A count passes its limit.
-    TooMany { limit: Limit, number: u64 },
+    TooMany {
+        limit: Limit,
+        number: u64,
+    },
     /// No rule of the machine applies at an instruction, by its number, in the original run of a test.
     MachineCheck {
         test: Bytes,

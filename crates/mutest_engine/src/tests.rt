@@ -98,7 +98,10 @@ fn the_mutants_of_a_class_are_listed(rt: HostRuntime) -> Result<(), Fail> {
     // A jump that compares for equality has no boundary.
     let equal = damaged(rt.alloc(), 126, 0x99)?;
     let one = called(rt.alloc(), &["list", "A.class"], equal.as_slice(), &[], &[])?;
-    assert_eq!(rt; one.1.as_slice(), b"A.f(I)Z@1:NEGATE_CONDITIONALS\n".as_slice());
+    assert_eq!(rt;
+        one.1.as_slice(),
+        b"A.f(I)Z@1:NEGATE_CONDITIONALS\n".as_slice()
+    );
     Ok(())
 }
 
