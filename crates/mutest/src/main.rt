@@ -1,7 +1,7 @@
 //! The program: its words, the real files and the real output are handed to the top call, whose status is the exit status.
 #![tactic(auto)]
 
-use mt_edge::{HostSink, HostTree};
+use mt_edge::{HostSink, HostTree, Meter};
 use mutest_engine::{Status, run};
 use std::env;
 use std::env::Env;
@@ -26,8 +26,9 @@ fn words(rt: &(impl Env + AllocGlobal)) -> Result<Vec<String>, Status> {
 fn main(rt: HostRuntime) -> ExitCode {
     let mut tree = HostTree::new(&rt);
     let mut out = HostSink::new(&rt);
+    let mut meter = Meter::new();
     let status = match words(&rt) {
-        Ok(words) => run(rt.alloc(), &words, &mut tree, &mut out),
+        Ok(words) => run(rt.alloc(), &words, &mut tree, &mut out, &mut meter),
         Err(status) => status,
     };
     ExitCode::from(status.code())

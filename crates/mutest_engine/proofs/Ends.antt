@@ -7,10 +7,12 @@ use Rattle.mt_edge.specs.Files.{Files}
 use Rattle.mt_edge.specs.Causes.{Rose}
 use Rattle.mt_edge.specs.Pieces.{Grows, GrowsBy}
 use Rattle.mutest_engine.specs.declared.status.Status.{Status}
-use Rattle.mutest_engine.specs.declared.status.Status.TheVariants.{Done, Usage, NotFound, Archive, BadClass, NotGreen, ReadFault, WriteFault, TooMany, MachineCheck, WantOfMemory}
+use Rattle.mutest_engine.specs.declared.status.Status.TheVariants.{Done, Usage, NotFound, Archive, BadClass, BadProgram, NotGreen, ReadFault, WriteFault, TooMany, MachineCheck, WantOfMemory}
 use Rattle.mutest_engine.specs.declared.status.Output.TheVariants.{Output as Printed}
+use Rattle.mutest_engine.specs.Words.{Command, list_class, run_suite, command_of}
 use Rattle.mutest_engine.specs.StatusText.{line_of}
-use Rattle.mutest_engine.specs.Answers.{Answered, Command, list_class, and_then, command_of, list_answer, answer_to, answer_of, GivesText, IsReading, IsRefusal}
+use Rattle.mutest_engine.specs.Answers.{Answered, and_then, GivesText, IsReading, IsRefusal}
+use Rattle.mutest_engine.specs.Decided.{list_answer, run_answer, answer_to, answer_of}
 use Rattle.mutest_engine.specs.Said.{Got, Broken, Interrupted, Leaves, FilesAfter, text_stated, writes_of_answer}
 
 two_pieces : (before : Option (List ℕ)) (p q : List ℕ) → option_map (λ bytes. bytes ++ q) (option_map (λ bytes. bytes ++ p) before) ≡ option_map (λ bytes. bytes ++ (p ++ q)) before
@@ -70,6 +72,7 @@ cut_line before after stated s from some =
     by_reading (NotFound path) q some = absurd q
     by_reading (Archive path) q some = absurd q
     by_reading (BadClass path e) q some = absurd q
+    by_reading (BadProgram fault) q some = absurd q
     by_reading (NotGreen tests) q some = absurd q
     by_reading (WriteFault which faults) q some = absurd q
     by_reading (TooMany what number) q some = absurd q
@@ -87,6 +90,7 @@ refusal_leaves put0 put1 before after stated Usage q said = said
 refusal_leaves put0 put1 before after stated (NotFound path) q said = said
 refusal_leaves put0 put1 before after stated (Archive path) q said = said
 refusal_leaves put0 put1 before after stated (BadClass path e) q said = said
+refusal_leaves put0 put1 before after stated (BadProgram fault) q said = said
 refusal_leaves put0 put1 before after stated (NotGreen tests) q said = said
 refusal_leaves put0 put1 before after stated (ReadFault faults) q said = said
 refusal_leaves put0 put1 before after stated (TooMany what number) q said = said
@@ -122,12 +126,13 @@ said_of_some (Err s) P said = (Err s, said (Err s) (inl refl))
 
 -- ---- the tree
 
-list_writes_nothing : (answer : Result (List ℕ) Status) → writes_of_answer (and_then answer (λ text. Ok (record { writes = []; text = text }))) ≡ []
-list_writes_nothing (Ok text) = refl
-list_writes_nothing (Err s) = refl
+text_writes_nothing : (answer : Result (List ℕ) Status) → writes_of_answer (and_then answer (λ text. Ok (record { writes = []; text = text }))) ≡ []
+text_writes_nothing (Ok text) = refl
+text_writes_nothing (Err s) = refl
 
 command_writes_nothing : (files : Files) (command : Result Command Status) → writes_of_answer (and_then command (λ c. answer_to c files)) ≡ []
-command_writes_nothing files (Ok (list_class path)) = list_writes_nothing (list_answer path files)
+command_writes_nothing files (Ok (list_class path)) = text_writes_nothing (list_answer path files)
+command_writes_nothing files (Ok (run_suite suite)) = text_writes_nothing (run_answer suite files)
 command_writes_nothing files (Err s) = refl
 
 unchanged : (old new : Option Files) (s : Status) → new ≡ old → FilesAfter [] old new s
@@ -136,6 +141,7 @@ unchanged old new Usage e = e
 unchanged old new (NotFound path) e = e
 unchanged old new (Archive path) e = e
 unchanged old new (BadClass path fault) e = e
+unchanged old new (BadProgram fault) e = e
 unchanged old new (NotGreen tests) e = e
 unchanged old new (ReadFault faults) e = e
 unchanged old new (WriteFault which faults) e = e

@@ -1,3 +1,6 @@
+mod DuplicateLaws
 mod Ends
+mod OriginalLaws
+mod ProgramLaws
 mod SuiteLaws
 mod WordLaws

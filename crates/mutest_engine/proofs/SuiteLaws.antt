@@ -3,11 +3,11 @@ use Rattle.std.proofs.Common.{◌≡◌, ◌⊎◌, ℕ, Bool, true, false, cond
 use Rattle.std.specs.Prelude.{IfSome, filter}
 use Rattle.std.proofs.lemmas.List.{append-nil}
 use Rattle.codec_rules.specs.Reading.{with_values}
+use Rattle.class_table.specs.declared.loaded.Loaded.{Loaded}
 use Rattle.mt_edge.specs.Files.{Files}
 use Rattle.mutest_engine.specs.Answers.{and_then, IsReading}
 use Rattle.mutest_engine.specs.SuiteFiles.{read_one, read_from, loaded, all_loaded}
 use Rattle.mutest_engine.specs.declared.suite.ClassFile.{ClassFile}
-use Rattle.mutest_engine.specs.declared.suite.Loaded.{Loaded}
 use Rattle.mutest_engine.specs.declared.status.Status.{Status}
 
 abbrev all_of : {X : Type 0} → List X → Result (List X) Status

@@ -1,17 +1,14 @@
--- What the words of the command line and the files that are held decide: each command's answer, and what each status leaves (this project's own).
-use Rattle.std.specs.Prelude.{◌≡◌, ◌⊎◌, ℕ, ◌+◌, ◌-◌, ◌^◌, ◌<◌, ◌≤◌, min, List, [], ◌∷◌, ◌++◌, Bool, ◌&&◌, not, nat_lt, nat_eq, ◌==◌, if◌then◌else◌, length, slice_index, codes, Option, None, Some, Result, Ok, Err, MatchResult, option_map}
-use Rattle.std.specs.Cmp.Lexicographic.{pointwise}
-use Rattle.std.specs.FinMap.{get, insert}
+-- What a command's answer is made of, and how a status agrees with it (this project's own).
+use Rattle.std.specs.Prelude.{◌≡◌, ◌⊎◌, ℕ, ◌+◌, ◌-◌, ◌^◌, ◌<◌, ◌≤◌, min, List, [], nat_lt, if◌then◌else◌, length, Option, None, Some, Result, Ok, Err, MatchResult}
+use Rattle.std.specs.FinMap.{get}
 use Rattle.class_model.specs.declared.class.Class.{Class}
 use Rattle.class_model.specs.declared.fault.ClassFault.{ClassFault}
 use Rattle.class_model.specs.declared.fault.ClassFault.TheVariants as class_fault
 use Rattle.class_reader.specs.Reading.{class_of_file}
 use Rattle.mt_edge.specs.Files.{Files}
-use Rattle.mutator_ops.specs.Mutants.{class_mutants}
-use Rattle.mutator_ops.specs.Printing.{id_lines}
-use Rattle.mutest_engine.specs.Words.{is_value}
+use Rattle.mutest_engine.specs.Words.{Command}
 use Rattle.mutest_engine.specs.declared.status.Status.{Status}
-use Rattle.mutest_engine.specs.declared.status.Status.TheVariants.{Done, Usage, NotFound, Archive, BadClass, NotGreen, ReadFault, WriteFault, TooMany, MachineCheck, WantOfMemory}
+use Rattle.mutest_engine.specs.declared.status.Status.TheVariants.{Done, Usage, NotFound, Archive, BadClass, BadProgram, NotGreen, ReadFault, WriteFault, TooMany, MachineCheck, WantOfMemory}
 use Rattle.mutest_engine.specs.declared.status.Output.{Output}
 use Rattle.mutest_engine.specs.declared.status.Output.TheVariants as output
 use Rattle.mutest_engine.specs.declared.status.Limit.TheVariants as limit
@@ -21,18 +18,6 @@ use Rattle.mutest_engine.specs.declared.status.Limit.TheVariants as limit
 abbrev pub and_then : {X Y : Type 0} → Result X Status → (X → Result Y Status) → Result Y Status
 and_then (Ok x) next = next x
 and_then (Err status) next = Err status
-
--- ---- commands
-
-pub data Command : Type 0 where
-  list_class : List ℕ → Command
-
--- The words behind the program's name: exactly `list FILE`.
-abbrev pub command_of : List (List ℕ) → Result Command Status
-command_of [] = Err Usage
-command_of (word ∷ []) = Err Usage
-command_of (word ∷ file ∷ []) = if pointwise nat_eq word (codes "list") && is_value file then Ok (list_class file) else Err Usage
-command_of (word ∷ file ∷ more ∷ words) = Err Usage
 
 -- ---- answers
 
@@ -71,16 +56,6 @@ or_refusal path (Err e) = Err (refusal_of path e)
 abbrev pub spelled_class : List ℕ → List ℕ → Result Class Status
 spelled_class path bytes = or_refusal path (class_of_file bytes)
 
-abbrev pub list_answer : List ℕ → Files → Result (List ℕ) Status
-list_answer path files = and_then (file_of path files) (λ bytes. and_then (spelled_class path bytes) (λ class. Ok (id_lines (class_mutants class))))
-
-abbrev pub answer_to : Command → Files → Result Answered Status
-answer_to (list_class path) files = and_then (list_answer path files) (λ text. Ok (record { writes = []; text = text }))
-
--- What the words and the files decide.
-abbrev pub answer_of : List (List ℕ) → Files → Result Answered Status
-answer_of words files = and_then (command_of words) (λ command. answer_to command files)
-
 -- ---- how a status agrees with the answer
 
 -- the statuses that words and files don't decide, before anything is written
@@ -90,6 +65,7 @@ IsReading Usage = ⊥
 IsReading (NotFound path) = ⊥
 IsReading (Archive path) = ⊥
 IsReading (BadClass path e) = ⊥
+IsReading (BadProgram fault) = ⊥
 IsReading (NotGreen tests) = ⊥
 IsReading (ReadFault faults) = Unit {0}
 IsReading (WriteFault which faults) = ⊥
@@ -117,6 +93,7 @@ IsRefusal Usage = Unit {0}
 IsRefusal (NotFound path) = Unit {0}
 IsRefusal (Archive path) = Unit {0}
 IsRefusal (BadClass path e) = Unit {0}
+IsRefusal (BadProgram fault) = Unit {0}
 IsRefusal (NotGreen tests) = Unit {0}
 IsRefusal (ReadFault faults) = Unit {0}
 IsRefusal (TooMany what number) = Unit {0}

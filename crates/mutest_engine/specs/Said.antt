@@ -8,7 +8,7 @@ use Rattle.mt_edge.specs.Pieces.{Grows, GrowsBy}
 use Rattle.mutest_engine.specs.StatusText.{line_of}
 use Rattle.mutest_engine.specs.Answers.{Answered, Write}
 use Rattle.mutest_engine.specs.declared.status.Status.{Status}
-use Rattle.mutest_engine.specs.declared.status.Status.TheVariants.{Done, Usage, NotFound, Archive, BadClass, NotGreen, ReadFault, WriteFault, TooMany, MachineCheck, WantOfMemory}
+use Rattle.mutest_engine.specs.declared.status.Status.TheVariants.{Done, Usage, NotFound, Archive, BadClass, BadProgram, NotGreen, ReadFault, WriteFault, TooMany, MachineCheck, WantOfMemory}
 use Rattle.mutest_engine.specs.declared.status.Output.{Output}
 use Rattle.mutest_engine.specs.declared.status.Output.TheVariants.{Report, History, Output as Printed, Journal, Assembled}
 
@@ -45,6 +45,7 @@ Leaves put0 put1 before after stated Usage = Got put0 put1 before after (line_of
 Leaves put0 put1 before after stated (NotFound path) = Got put0 put1 before after (line_of (NotFound path))
 Leaves put0 put1 before after stated (Archive path) = Got put0 put1 before after (line_of (Archive path))
 Leaves put0 put1 before after stated (BadClass path fault) = Got put0 put1 before after (line_of (BadClass path fault))
+Leaves put0 put1 before after stated (BadProgram fault) = Got put0 put1 before after (line_of (BadProgram fault))
 Leaves put0 put1 before after stated (NotGreen tests) = Got put0 put1 before after (line_of (NotGreen tests))
 Leaves put0 put1 before after stated (ReadFault faults) = Got put0 put1 before after (line_of (ReadFault faults))
 Leaves put0 put1 before after stated (TooMany what number) = Got put0 put1 before after (line_of (TooMany what number))
@@ -90,6 +91,7 @@ FilesAfter ws old new Usage = new ≡ old
 FilesAfter ws old new (NotFound path) = new ≡ old
 FilesAfter ws old new (Archive path) = new ≡ old
 FilesAfter ws old new (BadClass path fault) = new ≡ old
+FilesAfter ws old new (BadProgram fault) = new ≡ old
 FilesAfter ws old new (NotGreen tests) = new ≡ old
 FilesAfter ws old new (ReadFault faults) = new ≡ old
 FilesAfter ws old new (TooMany what number) = new ≡ old

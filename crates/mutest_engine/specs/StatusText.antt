@@ -6,8 +6,11 @@ use Rattle.machine_rules.specs.declared.machine.Outcome.TheVariants as outcome
 use Rattle.mutator_ops.specs.Printing.{printed}
 use Rattle.class_model.specs.Fault.{number_of, value_of}
 use Rattle.class_model.specs.declared.fault.ClassFault.{ClassFault}
+use Rattle.class_table.specs.declared.fault.TableFault.TheVariants as table
+use Rattle.mutest_engine.specs.declared.status.ProgramFault.{ProgramFault}
+use Rattle.mutest_engine.specs.declared.status.ProgramFault.TheVariants as program
 use Rattle.mutest_engine.specs.declared.status.Status.{Status}
-use Rattle.mutest_engine.specs.declared.status.Status.TheVariants.{Done, Usage, NotFound, Archive, BadClass, NotGreen, ReadFault, WriteFault, TooMany, MachineCheck, WantOfMemory}
+use Rattle.mutest_engine.specs.declared.status.Status.TheVariants.{Done, Usage, NotFound, Archive, BadClass, BadProgram, NotGreen, ReadFault, WriteFault, TooMany, MachineCheck, WantOfMemory}
 use Rattle.mutest_engine.specs.declared.status.Output.{Output}
 use Rattle.mutest_engine.specs.declared.status.Output.TheVariants as output
 use Rattle.mutest_engine.specs.declared.status.Limit.{Limit}
@@ -19,6 +22,7 @@ status_number Usage = 2
 status_number (NotFound path) = 3
 status_number (Archive path) = 4
 status_number (BadClass path fault) = 5
+status_number (BadProgram fault) = 6
 status_number (NotGreen tests) = 8
 status_number (ReadFault faults) = 10
 status_number (WriteFault which faults) = 11
@@ -48,6 +52,11 @@ abbrev pub fault_text : ClassFault → Option ℕ → List ℕ
 fault_text fault None = []
 fault_text fault (Some number) = codes " " ++ decimal number ++ codes " " ++ decimal (value_of fault)
 
+-- a fault of the program: its number, and the name that two classes have; want of memory is no fault of a program
+abbrev pub program_text : ProgramFault → List ℕ
+program_text (program.Table (table.Duplicate name)) = codes " 13 " ++ printed name
+program_text (program.Table table.Memory) = []
+
 abbrev pub outcome_name : Outcome → List ℕ
 outcome_name outcome.Passed = codes "Passed"
 outcome_name outcome.Failed = codes "Failed"
@@ -68,6 +77,7 @@ line_of Usage = codes "mutest: Usage\n"
 line_of (NotFound path) = codes "mutest: NotFound " ++ path ++ codes "\n"
 line_of (Archive path) = codes "mutest: Archive " ++ path ++ codes "\n"
 line_of (BadClass path fault) = codes "mutest: BadClass " ++ path ++ fault_text fault (number_of fault) ++ codes "\n"
+line_of (BadProgram fault) = codes "mutest: BadProgram" ++ program_text fault ++ codes "\n"
 line_of (NotGreen tests) = not_green_lines tests
 line_of (ReadFault faults) = codes "mutest: ReadFault\n"
 line_of (WriteFault which faults) = codes "mutest: WriteFault " ++ output_name which ++ codes "\n"

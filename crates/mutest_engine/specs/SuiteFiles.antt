@@ -2,10 +2,10 @@
 use Rattle.std.specs.Prelude.{ℕ, ◌+◌, List, [], ◌∷◌, ◌++◌, Bool, ◌||◌, nat_lt, nat_eq, ◌==◌, if◌then◌else◌, length, filter, codes, Result, Ok, Err}
 use Rattle.std.specs.List.{ends_with}
 use Rattle.class_model.specs.declared.class.Class.{Class}
+use Rattle.class_table.specs.declared.loaded.Loaded.{Loaded}
 use Rattle.mt_edge.specs.Files.{Files, listed}
 use Rattle.mutest_engine.specs.Answers.{and_then, file_of, spelled_class}
 use Rattle.mutest_engine.specs.declared.suite.ClassFile.{ClassFile}
-use Rattle.mutest_engine.specs.declared.suite.Loaded.{Loaded}
 use Rattle.mutest_engine.specs.declared.suite.LoadedSuite.{LoadedSuite}
 use Rattle.mutest_engine.specs.declared.status.Status.{Status}
 use Rattle.mutest_engine.specs.declared.status.Status.TheVariants.{NotFound, Archive, TooMany}

@@ -3,6 +3,7 @@ use Rattle.std.specs.Prelude.{ℕ, List, [], ◌∷◌, Bool, ◌&&◌, not, nat
 use Rattle.std.specs.Cmp.Lexicographic.{pointwise}
 use Rattle.std.specs.Io.BufRead.{strip_last}
 use Rattle.mt_edge.specs.Files.{slash}
+use Rattle.mutest_engine.specs.declared.commands.Suite.{Suite as Found}
 use Rattle.mutest_engine.specs.declared.commands.Asked.{Asked}
 use Rattle.mutest_engine.specs.declared.commands.Asked.TheVariants as found
 use Rattle.mutest_engine.specs.declared.status.Status.{Status}
@@ -50,7 +51,11 @@ command_of (list ∷ file ∷ []) = list_of list file
 command_of (run ∷ for_classes ∷ classes ∷ for_tests ∷ tests ∷ for_report ∷ report ∷ []) = run_of run for_classes classes for_tests tests for_report report
 command_of other = Err Usage
 
+-- the suite that the words were found to name
+abbrev pub suite_asked : Found → Suite
+suite_asked suite = record { classes = suite.classes.now; tests = suite.tests.now; report = suite.report.now }
+
 -- the command that the words were found to be
 abbrev pub asked : Asked → Command
 asked (found.List file) = list_class file.now
-asked (found.Run suite) = run_suite (record { classes = suite.classes.now; tests = suite.tests.now; report = suite.report.now })
+asked (found.Run suite) = run_suite (suite_asked suite)

@@ -2,7 +2,6 @@
 
 ghost use Rattle.std.specs.Prelude.{◌≡◌, map, string_bytes, MatchOption, Ok, Err};
 ghost use Rattle.mutest_engine.specs.Words.{command_of, list_of, run_of, is_value, folder_of, asked};
-ghost use Rattle.mutest_engine.specs.Answers.{command_of as listing_of, list_class};
 ghost use Rattle.mutest_engine.specs.declared.status.Status.TheVariants.{Usage};
 
 /// The folders of classes and of tests, and the path of the report. A folder has no `/` at its end that the word had.
@@ -99,16 +98,4 @@ pub fn command(words: &Vec<String>) -> Option<Asked<'_>>
         );
     }
     None
-}
-
-/// The file of the command `list FILE`, where the words are exactly that.
-pub fn listed_file(words: &Vec<String>) -> Option<&str>
-    ensures { MatchOption result (listing_of (map string_bytes words.now.items) ≡ Err Usage) (λ file. listing_of (map string_bytes words.now.items) ≡ Ok (list_class file.now)) }
-{
-    match words.as_slice() {
-        [command, file] if command.as_str() == "list" && is_value(file.as_str()) => {
-            Some(file.as_str())
-        }
-        _ => None,
-    }
 }

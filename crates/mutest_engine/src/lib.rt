@@ -2,13 +2,17 @@
 #![tactic(auto)]
 
 mod commands;
+mod discovered;
 mod files;
+mod originals;
+mod program;
 mod status;
 mod suite;
 #[cfg(test)]
 mod tests;
 mod top_call;
 
-pub use status::{Limit, Output, Status};
-pub use suite::{ClassFile, Loaded, LoadedSuite, load_suite};
+pub use class_table::{Loaded, TableFault};
+pub use status::{Limit, Output, ProgramFault, Status};
+pub use suite::{ClassFile, LoadedSuite, load_suite};
 pub use top_call::run;

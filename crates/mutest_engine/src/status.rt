@@ -3,10 +3,11 @@
 ghost use Rattle.std.specs.Prelude.{◌≡◌, ◌++◌, IfOk, OnOk, codes, decimal, pos};
 ghost use Rattle.class_model.specs.Fault.{number_of};
 ghost use Rattle.mutator_ops.specs.Printing.{printed};
-ghost use Rattle.mutest_engine.specs.StatusText.{status_number, fault_text, output_name, limit_name, outcome_name, not_green_line, not_green_lines, line_of};
+ghost use Rattle.mutest_engine.specs.StatusText.{status_number, fault_text, program_text, output_name, limit_name, outcome_name, not_green_line, not_green_lines, line_of};
 ghost use Rattle.mutest_engine.specs.declared.status.Status.TheVariants.{WantOfMemory};
 
 use class_model::{Bytes, ClassFault, Memory, Name, Seq};
+use class_table::TableFault;
 use machine_rules::Outcome;
 use std::alloc::{AllocError, AllocFailed, Global};
 
@@ -33,6 +34,13 @@ pub enum Limit {
     History,
 }
 
+/// Why the classes are no program.
+#[derive(Debug, Drop)]
+pub enum ProgramFault {
+    /// What is found as they are put together.
+    Table(TableFault),
+}
+
 /// How a call ends. A path and a test are their printed UTF-8.
 #[derive(Debug, Drop)]
 pub enum Status {
@@ -51,6 +59,10 @@ pub enum Status {
     BadClass {
         path: Bytes,
         fault: ClassFault,
+    },
+    /// The classes are no program.
+    BadProgram {
+        fault: ProgramFault,
     },
     /// Original runs didn't pass: those of these tests.
     NotGreen {
@@ -123,6 +135,7 @@ impl Status {
             Status::NotFound { .. } => 3,
             Status::Archive { .. } => 4,
             Status::BadClass { .. } => 5,
+            Status::BadProgram { .. } => 6,
             Status::NotGreen { .. } => 8,
             Status::ReadFault { .. } => 10,
             Status::WriteFault { .. } => 11,
@@ -160,14 +173,15 @@ fn limit_name(limit: Limit) -> &'static str
     }
 }
 
-fn put_str(text: &mut Bytes, piece: &str) -> Result<(), Memory>
+/// Puts a text at the end.
+pub fn put_str(text: &mut Bytes, piece: &str) -> Result<(), Memory>
     ensures { OnOk result (text.new ≡ text.old ++ piece.now) }
 {
     text.extend_from_slice(piece.as_bytes())
 }
 
-// A name in UTF-8.
-fn put_name(alloc: Global, text: &mut Bytes, name: &Name) -> Result<(), Memory>
+/// Puts a name at the end, in UTF-8.
+pub fn put_name(alloc: Global, text: &mut Bytes, name: &Name) -> Result<(), Memory>
     ensures { OnOk result (text.new ≡ text.old ++ printed name.now) }
 {
     let printed = String::from_utf16_lossy(alloc, name.as_slice())?;
@@ -191,6 +205,18 @@ fn put_fault(alloc: Global, text: &mut Bytes, fault: ClassFault) -> Result<(), M
     put_number(alloc, text, u64::from(number))?;
     put_str(text, " ")?;
     put_number(alloc, text, fault.value())
+}
+
+fn put_program(alloc: Global, text: &mut Bytes, fault: &ProgramFault) -> Result<(), Memory>
+    ensures { OnOk result (text.new ≡ text.old ++ program_text fault.now) }
+{
+    match fault {
+        ProgramFault::Table(TableFault::Duplicate { name }) => {
+            put_str(text, " 13 ")?;
+            put_name(alloc, text, name)
+        }
+        ProgramFault::Table(TableFault::Memory) => Ok(()),
+    }
 }
 
 fn outcome_name(outcome: Outcome) -> &'static str
@@ -266,6 +292,11 @@ pub fn line(alloc: Global, status: &Status) -> Result<Bytes, Memory>
             put_str(&mut text, "mutest: BadClass ")?;
             text.extend_from_slice(path.as_slice())?;
             put_fault(alloc, &mut text, *fault)?;
+            put_str(&mut text, "\n")?;
+        }
+        Status::BadProgram { fault } => {
+            put_str(&mut text, "mutest: BadProgram")?;
+            put_program(alloc, &mut text, fault)?;
             put_str(&mut text, "\n")?;
         }
         Status::ReadFault { .. } => put_str(&mut text, "mutest: ReadFault\n")?,

@@ -7,7 +7,8 @@ ghost use Rattle.mutest_engine.specs.SuiteFiles.{is_archive, no_archive, some_li
 
 use crate::files::{read_file, spelled_class};
 use crate::status::{Limit, Status};
-use class_model::{Bytes, Class, Seq, SharedBytes};
+use class_model::{Bytes, Seq, SharedBytes};
+use class_table::Loaded;
 use mt_edge::{EdgeFault, Tree};
 use std::alloc::Global;
 
@@ -20,13 +21,6 @@ const BYTES_LIMIT: u64 = 67_108_864;
 pub struct ClassFile {
     pub path: Bytes,
     pub bytes: Bytes,
-}
-
-/// A class, and the bytes that spell it.
-#[derive(Debug, Drop)]
-pub struct Loaded {
-    pub bytes: SharedBytes,
-    pub class: Class,
 }
 
 /// The classes of both folders, those of the tests folder from a number on.

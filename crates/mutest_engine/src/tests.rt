@@ -1,6 +1,6 @@
 use crate::{Status, load_suite, run};
 use class_model::Bytes;
-use mt_edge::{MemSink, MemTree};
+use mt_edge::{MemSink, MemTree, Meter};
 use std::alloc::Global;
 use std::test::Fail;
 
@@ -54,6 +54,27 @@ const T: [u8; 297] = [
     0x00, 0x14, 0xb1, 0x00, 0x00, 0x00, 0x00, 0x00, 0x00,
 ];
 
+// The status number, the output and the steps of a call.
+fn call(
+    alloc: Global,
+    words: &[&str],
+    mut tree: MemTree,
+    sink_fails: &[u64],
+) -> Result<(i32, Bytes, u64), Fail> {
+    let mut all = Vec::new(alloc);
+    for word in words {
+        all.push(String::from_str(alloc, word)?)?;
+    }
+    let mut out = MemSink::new(alloc, sink_fails.to_vec(alloc)?);
+    let mut meter = Meter::new();
+    let status = run(alloc, &all, &mut tree, &mut out, &mut meter);
+    Ok((
+        status.number(),
+        Bytes::from_slice(alloc, out.bytes())?,
+        meter.count(),
+    ))
+}
+
 // The status number and the output of a call, where the tree holds these bytes at A.class.
 fn called(
     alloc: Global,
@@ -62,19 +83,14 @@ fn called(
     tree_fails: &[u64],
     sink_fails: &[u64],
 ) -> Result<(i32, Bytes), Fail> {
-    let mut all = Vec::new(alloc);
-    for word in words {
-        all.push(String::from_str(alloc, word)?)?;
-    }
     let mut files = Vec::new(alloc);
     files.push((
         String::from_str(alloc, "A.class")?,
         Bytes::from_slice(alloc, bytes)?,
     ))?;
-    let mut tree = MemTree::new(alloc, files, tree_fails.to_vec(alloc)?)?;
-    let mut out = MemSink::new(alloc, sink_fails.to_vec(alloc)?);
-    let status = run(alloc, &all, &mut tree, &mut out);
-    Ok((status.number(), Bytes::from_slice(alloc, out.bytes())?))
+    let tree = MemTree::new(alloc, files, tree_fails.to_vec(alloc)?)?;
+    let told = call(alloc, words, tree, sink_fails)?;
+    Ok((told.0, told.1))
 }
 
 // A with one byte put in the place of another.
@@ -247,13 +263,121 @@ fn the_classes_of_two_folders_are_loaded(rt: HostRuntime) -> Result<(), Fail> {
         }
         Err(_) => assert!(rt; false, "both folders hold classes"),
     }
-    match load_suite(rt.alloc(), &mut tree, "c", "d") {
+    let absent = load_suite(rt.alloc(), &mut tree, "c", "d");
+    match &absent {
         Err(Status::NotFound { path }) => assert_eq!(rt; path.as_slice(), b"d".as_slice()),
         _ => assert!(rt; false, "d holds nothing"),
     }
-    match load_suite(rt.alloc(), &mut tree, "c.zip", "t.jar") {
+    let archive = load_suite(rt.alloc(), &mut tree, "c.zip", "t.jar");
+    match &archive {
         Err(Status::Archive { path }) => assert_eq!(rt; path.as_slice(), b"c.zip".as_slice()),
         _ => assert!(rt; false, "archives aren't read"),
     }
+    Ok(())
+}
+
+// What `run` tells of a class and a class of tests.
+fn run_of(alloc: Global, class: &[u8], test: &[u8]) -> Result<(i32, Bytes, u64), Fail> {
+    let mut files = Vec::new(alloc);
+    files.push((
+        String::from_str(alloc, "c/A.class")?,
+        Bytes::from_slice(alloc, class)?,
+    ))?;
+    files.push((
+        String::from_str(alloc, "t/T.class")?,
+        Bytes::from_slice(alloc, test)?,
+    ))?;
+    let tree = MemTree::new(alloc, files, Vec::new(alloc))?;
+    let words = [
+        "run",
+        "--classes",
+        "c/",
+        "--tests",
+        "t",
+        "--report",
+        "r.json",
+    ];
+    call(alloc, &words, tree, &[])
+}
+
+#[test]
+fn a_green_suite_puts_nothing(rt: HostRuntime) -> Result<(), Fail> {
+    let told = run_of(rt.alloc(), &A, &T)?;
+    assert_eq!(rt; told.0, 0);
+    assert_eq!(rt; told.1.as_slice(), b"".as_slice());
+    assert_eq!(rt; told.2, 15);
+    Ok(())
+}
+
+#[test]
+fn a_test_that_fails_is_told(rt: HostRuntime) -> Result<(), Fail> {
+    // `zero` is renamed to `neg`, and asserts that `A.f(-1)` is false.
+    let mut test = T[..200].to_vec(rt.alloc())?;
+    for byte in b"\x00\x03neg" {
+        test.push(*byte)?;
+    }
+    for byte in &T[206..] {
+        test.push(*byte)?;
+    }
+    test[282] = 0x02;
+    let told = run_of(rt.alloc(), &A, test.as_slice())?;
+    assert_eq!(rt; told.0, 8);
+    assert_eq!(rt;
+        told.1.as_slice(),
+        b"mutest: NotGreen T.neg Failed\n".as_slice()
+    );
+    Ok(())
+}
+
+#[test]
+fn a_stuck_run_is_told(rt: HostRuntime) -> Result<(), Fail> {
+    let stuck = damaged(rt.alloc(), 132, 0xb1)?;
+    let told = run_of(rt.alloc(), stuck.as_slice(), &T)?;
+    assert_eq!(rt; told.0, 13);
+    assert_eq!(rt;
+        told.1.as_slice(),
+        b"mutest: MachineCheck T.zero A f(I)Z 5\n".as_slice()
+    );
+    Ok(())
+}
+
+#[test]
+fn two_classes_of_one_name_are_no_program(rt: HostRuntime) -> Result<(), Fail> {
+    let told = run_of(rt.alloc(), &T, &T)?;
+    assert_eq!(rt; told.0, 6);
+    assert_eq!(rt; told.1.as_slice(), b"mutest: BadProgram 13 T\n".as_slice());
+    assert_eq!(rt; told.2, 0);
+    Ok(())
+}
+
+#[test]
+fn too_many_classes_are_told(rt: HostRuntime) -> Result<(), Fail> {
+    let mut files = Vec::new(rt.alloc());
+    for number in 0..20_000u32 {
+        files.push((
+            format!(in rt.alloc(); "c/{number}.class")?,
+            Bytes::new(rt.alloc()),
+        ))?;
+    }
+    files.push((
+        String::from_str(rt.alloc(), "t/T.class")?,
+        Bytes::new(rt.alloc()),
+    ))?;
+    let tree = MemTree::new(rt.alloc(), files, Vec::new(rt.alloc()))?;
+    let words = [
+        "run",
+        "--classes",
+        "c",
+        "--tests",
+        "t",
+        "--report",
+        "r.json",
+    ];
+    let told = call(rt.alloc(), &words, tree, &[])?;
+    assert_eq!(rt; told.0, 12);
+    assert_eq!(rt;
+        told.1.as_slice(),
+        b"mutest: TooMany classes 20001\n".as_slice()
+    );
     Ok(())
 }

@@ -2,7 +2,7 @@ use Rattle.std.proofs.Common.{map, List, ℕ}
 use Rattle.std.specs.Prelude.{string_bytes, Result}
 use Rattle.mutest_engine.specs.declared.status.Status.{Status}
 use Rattle.mt_edge.specs.Files.{Files}
-use Rattle.mutest_engine.specs.Answers.{answer_of}
+use Rattle.mutest_engine.specs.Decided.{answer_of}
 use Rattle.mutest_engine.specs.Said.{Leaves}
 use Rattle.mutest_engine.proofs.Ends.{said_by, said_of_some}
 use Rattle.mutest_engine.proofs.top_call.run.Goals as goal

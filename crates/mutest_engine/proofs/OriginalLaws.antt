@@ -1,0 +1,85 @@
+-- The original runs one after the other, as a loop does, and their steps.
+use Rattle.std.proofs.Common.{◌≡◌, ◌⊎◌, ◌∙◌, ℕ, zero, suc, ◌+◌, ◌*◌, ◌<◌, ◌≤◌, List, [], ◌∷◌, ◌++◌, length, drop, get_or, subst, inl, inr, ⊎_elim, Option, Some, None, Result, Ok, Err, refl, sym, ap, arith}
+use Rattle.std.specs.Prelude.{OnErr, MatchResult}
+use Rattle.machine_rules.specs.declared.machine.Outcome.{Outcome}
+use Rattle.machine_rules.specs.declared.machine.Outcome.TheVariants as outcome
+use Rattle.machine_rules.specs.declared.machine.Limits.{Limits}
+use Rattle.machine_rules.specs.Programs.{Look}
+use Rattle.machine_rules.specs.State.{World, MachineState, start}
+use Rattle.machine_rules.specs.Steps.{Stepped, Next, Ended, Stuck, step_of}
+use Rattle.machine_rules.specs.Runs.{Ending, With, StuckAt, Ran, then_run, run_from, run_of}
+use Rattle.class_table.specs.declared.scripted.Test.{Test}
+use Rattle.jvm_step.specs.View.{test_of}
+use Rattle.mutest_engine.specs.Answers.{and_then}
+use Rattle.mutest_engine.specs.Originals.{usual, original_run, settled, with_first, all_settled, unless_stuck, steps_made}
+use Rattle.mutest_engine.specs.declared.status.Status.{Status}
+use Rattle.mutest_engine.specs.declared.status.Status.TheVariants.{WantOfMemory}
+
+-- ---- one run
+
+original_is : (p : Look) (t : Test) → run_of p (test_of t) usual 10000000 ≡ original_run p t
+unfolding original_run
+original_is p t = refl
+
+then_most : (d : Stepped) (n left : ℕ) (go : MachineState → Ran) (w : World) → ((t : MachineState) → (go t).steps ≤ suc n + left) → (then_run d n go w).steps ≤ n + suc left
+then_most (Next t) n left go w h = let le = h t in omega (arith, le)
+then_most (Ended o) n left go w h = omega arith
+then_most (Stuck place) n left go w h = omega arith
+
+run_most : (p : Look) (q : Limits) (left : ℕ) (s : MachineState) (n : ℕ) → (run_from p q left s n).steps ≤ n + left
+run_most p q zero s n = omega arith
+run_most p q (suc left) s n = then_most (step_of p q s) n left (λ t. run_from p q left t (suc n)) s.world (λ t. run_most p q left t (suc n))
+
+of_most : (p : Look) (q : Limits) (t : Test) (limit : ℕ) → (run_of p (test_of t) q limit).steps ≤ limit
+of_most p q t limit = let most = run_most p q limit (start p (test_of t)) 0 in omega (arith, most)
+
+original_most : (p : Look) (t : Test) → (original_run p t).steps ≤ 10000000
+original_most p t = rw (sym (original_is p t)) (of_most p usual t 10000000)
+
+-- ---- all runs
+
+unless_most : (e : Ending) (n m : ℕ) → n ≤ m → unless_stuck e n ≤ m
+unless_most (With o) n m h = h
+unless_most (StuckAt place) n m h = omega arith
+
+pub made_most : (p : Look) (ts : List Test) → steps_made p ts ≤ length ts * 10000000
+made_most p [] = omega arith
+made_most p (t ∷ ts) =
+    let first = original_most p t in
+    let rest = unless_most (original_run p t).ending (steps_made p ts) (length ts * 10000000) (made_most p ts) in
+    omega (arith, first, rest)
+
+stuck_steps : (t : Test) (e : Ending) (s : Status) (n : ℕ) → settled t e ≡ Err s → unless_stuck e n ≡ 0
+stuck_steps t (With outcome.Passed) s n h = absurd cc
+stuck_steps t (With outcome.Failed) s n h = absurd cc
+stuck_steps t (With outcome.TimedOut) s n h = absurd cc
+stuck_steps t (With outcome.MemoryOut) s n h = absurd cc
+stuck_steps t (StuckAt place) s n h = refl
+
+-- ---- what the exit of a step says
+
+pub on_err : {T E P : Type 0} (r : Result T E) → P → OnErr r P
+on_err (Ok x) p = tt
+on_err (Err e) p = p
+
+pub match_err : {T : Type 0} (P : T → Type 0) (Q : Status → Type 0) (r : Result T Status) (y s : Status) → r ≡ Err y → y ≡ s → Q s → MatchResult r P Q
+match_err P Q (Ok x) y s e f q = absurd cc
+match_err P Q (Err z) y s e f q = let g : z ≡ y = cc in subst Q (sym (g ∙ f)) q
+
+drop_at : (ts : List Test) (i : ℕ) (t : Test) → i < length ts → t ≡ get_or ts i t → drop i ts ≡ t ∷ drop (suc i) ts
+drop_at [] i t lt e = absurd (omega (arith, lt))
+drop_at (x ∷ ts) zero t lt e = ap (λ z. z ∷ ts) (sym e)
+drop_at (x ∷ ts) (suc i) t lt e = drop_at ts i t (omega (arith, lt)) e
+
+-- The steps that are counted where a run ends all.
+pub exact_end : (p : Look) (ts : List Test) (i : ℕ) (t : Test) (part new total : ℕ) (s : Status) → i < length ts → t ≡ get_or ts i t → part + steps_made p (drop i ts) ≡ total
+    → (s ≡ WantOfMemory) ⊎ ((settled t (original_run p t).ending ≡ Err s) × (new ≡ part + (original_run p t).steps)) → (s ≡ WantOfMemory) ⊎ (new ≡ total)
+exact_end p ts i t part new total s lt e so_far told =
+    ⊎_elim
+    (λ (m : s ≡ WantOfMemory). inl m)
+    (λ (h : (settled t (original_run p t).ending ≡ Err s) × (new ≡ part + (original_run p t).steps)).
+    let none = stuck_steps t (original_run p t).ending s (steps_made p (drop (suc i) ts)) h.0 in
+    let whole : part + ((original_run p t).steps + unless_stuck (original_run p t).ending (steps_made p (drop (suc i) ts))) ≡ total = ap (λ l. part + steps_made p l) (sym (drop_at ts i t lt e)) ∙ so_far in
+    let here = h.1 in
+    inr (omega (arith, none, whole, here)))
+    told

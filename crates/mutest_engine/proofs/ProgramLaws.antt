@@ -1,0 +1,83 @@
+-- A program that was built is the program of its classes by name.
+use Rattle.std.proofs.Common.{◌≡◌, ◌∙◌, sym, refl, ap, ℕ, zero, suc, ◌+◌, ◌<◌, Bool, true, false, List, [], ◌∷◌, ◌++◌, map, length, Option, None, Some, slice_get, arith, IsSomeAnd}
+use Rattle.std.specs.Prelude.{if◌then◌else◌, option_and_then}
+use Rattle.std.specs.Option.{option_map}
+use Rattle.machine_rules.specs.Names.{Name, same}
+use Rattle.machine_rules.specs.Linked.{Linked}
+use Rattle.machine_rules.specs.Library.{class_among, first_of, library_classes, with_library}
+use Rattle.class_table.specs.declared.loaded.Loaded.{Loaded}
+use Rattle.class_table.specs.declared.loaded.LibClass.{LibClass}
+use Rattle.class_table.specs.declared.loaded.ClassBody.{ClassBody}
+use Rattle.class_table.specs.declared.loaded.ClassBody.TheVariants as body
+use Rattle.class_table.specs.Info.{Info, body_name, link_body, class_of, own_name}
+use Rattle.class_table.specs.Linking.{link_library}
+use Rattle.class_table.specs.Table.{place_from, names, class_at, look, bodies_of, names_of}
+use Rattle.mutest_engine.specs.Originals.{classes_in, IsOfBody, AreOfBodies, named, program_of, names_in}
+
+-- ---- by number and by name
+
+abbrev by_name : Info → Name × Linked
+by_name i = (i.name, class_of i)
+
+found_case : (f : ℕ → Option Linked) (k : ℕ) (n : Name) (x : Info) (xs : List Info) (b : Bool) → f k ≡ Some (class_of x) → option_and_then f (place_from n (suc k) (names xs)) ≡ class_among (map by_name xs) n
+    → option_and_then f (if b then Some k else place_from n (suc k) (names xs)) ≡ (if b then Some (class_of x) else class_among (map by_name xs) n)
+found_case f k n x xs true here rest = here
+found_case f k n x xs false here rest = rest
+
+found_from : (f : ℕ → Option Linked) (k : ℕ) (n : Name) (xs : List Info) → ((j : ℕ) → f (k + j) ≡ option_map class_of (slice_get xs j)) → option_and_then f (place_from n k (names xs)) ≡ class_among (map by_name xs) n
+found_from f k n [] h = refl
+found_from f k n (x ∷ xs) h =
+    found_case f k n x xs (same x.name n) (ap f (let e : k ≡ k + 0 = omega arith in e) ∙ h 0)
+    (found_from f (suc k) n xs (λ j. ap f (let e : suc k + j ≡ k + suc j = omega arith in e) ∙ h (suc j)))
+
+look_among : (p : List Info) (n : Name) → look p n ≡ class_among (map by_name p) n
+look_among p n = found_from (class_at p) 0 n p (λ j. ap (class_at p) (let e : 0 + j ≡ j = omega arith in e))
+
+among_both : (xs ys : List (Name × Linked)) (n : Name) → class_among (xs ++ ys) n ≡ first_of (class_among xs n) (class_among ys n)
+among_both [] ys n = refl
+among_both (x ∷ xs) ys n = both_case (same x.0 n) (among_both xs ys n)
+  where
+    both_case : (b : Bool) → class_among (xs ++ ys) n ≡ first_of (class_among xs n) (class_among ys n) → (if b then Some x.1 else class_among (xs ++ ys) n) ≡ first_of (if b then Some x.1 else class_among xs n) (class_among ys n)
+    both_case true e = refl
+    both_case false e = e
+
+-- ---- what a program was made of
+
+abbrev of_body : ClassBody → Name × Linked
+of_body b = (body_name b, link_body b)
+
+all_of_bodies : (p : List Info) → AreOfBodies p → map by_name p ≡ map of_body (map (λ i. i.body) p)
+all_of_bodies [] h = refl
+all_of_bodies (x ∷ p) h =
+    let first : IsOfBody x = h 0 (omega arith) in
+    let rest = all_of_bodies p (λ id lt. h (suc id) (omega (arith, lt))) in
+    (λ i. (first.0 i, first.1 i) ∷ rest i)
+
+of_library : (library : List LibClass) → map of_body (map body.Library library) ≡ map (λ c. (c.name, link_library c)) library
+of_library [] = refl
+of_library (c ∷ library) = ap (λ z. (c.name, link_library c) ∷ z) (of_library library)
+
+of_bodies : (classes : List Loaded) (library : List LibClass) → map of_body (bodies_of classes library) ≡ map named (classes_in classes) ++ map (λ c. (c.name, link_library c)) library
+of_bodies [] library = of_library library
+of_bodies (c ∷ classes) library = ap (λ z. named c.class ∷ z) (of_bodies classes library)
+
+pub is_program : (p : List Info) (classes : List Loaded) (library : List LibClass) → AreOfBodies p → map (λ i. i.body) p ≡ bodies_of classes library → map (λ c. (c.name, link_library c)) library ≡ library_classes
+    → look p ≡ program_of (classes_in classes)
+unfolding program_of
+is_program p classes library ok made lib =
+    let pairs : map by_name p ≡ map named (classes_in classes) ++ library_classes =
+    all_of_bodies p ok ∙ ap (map of_body) made ∙ of_bodies classes library ∙ ap (λ z. map named (classes_in classes) ++ z) lib in
+    λ i n. (look_among p n ∙ ap (λ z. class_among z n) pairs ∙ among_both (map named (classes_in classes)) library_classes n) i
+
+-- ---- names
+
+of_library_names : (library : List LibClass) → map body_name (map body.Library library) ≡ map (λ (c : Name × Linked). c.0) (map (λ c. (c.name, link_library c)) library)
+of_library_names [] = refl
+of_library_names (c ∷ library) = ap (λ z. c.name ∷ z) (of_library_names library)
+
+names_with : (classes : List Loaded) (library : List LibClass) → names_of classes library ≡ map own_name (classes_in classes) ++ map (λ (c : Name × Linked). c.0) (map (λ c. (c.name, link_library c)) library)
+names_with [] library = of_library_names library
+names_with (c ∷ classes) library = ap (λ z. own_name c.class ∷ z) (names_with classes library)
+
+pub names_are : (classes : List Loaded) (library : List LibClass) → map (λ c. (c.name, link_library c)) library ≡ library_classes → names_of classes library ≡ names_in (classes_in classes)
+names_are classes library lib = names_with classes library ∙ ap (λ z. map own_name (classes_in classes) ++ map (λ (c : Name × Linked). c.0) z) lib

@@ -1,0 +1,150 @@
+-- The program of a suite, its tests, and their runs on the program as it is (this project's own).
+use Rattle.std.specs.Prelude.{◌≡◌, ℕ, ◌+◌, ◌<◌, nat_lt, slice_get, IsSomeAnd, List, [], ◌∷◌, ◌++◌, codes, map, drop, fold, length, Option, Some, None, Result, Ok, Err, if◌then◌else◌}
+use Rattle.std.specs.List.{flat_map}
+use Rattle.std.specs.BTreeMap.{insert_entry}
+use Rattle.std.specs.Ordering.{nat_cmp}
+use Rattle.std.specs.Cmp.Lexicographic.{slice_cmp}
+use Rattle.class_model.specs.Text.{text}
+use Rattle.class_model.specs.declared.class.Class.{Class}
+use Rattle.machine_rules.specs.declared.machine.Limits.{Limits}
+use Rattle.machine_rules.specs.declared.machine.Outcome.{Outcome}
+use Rattle.machine_rules.specs.declared.machine.Outcome.TheVariants as outcome
+use Rattle.machine_rules.specs.Names.{Name}
+use Rattle.machine_rules.specs.Linked.{Linked}
+use Rattle.machine_rules.specs.Programs.{Look}
+use Rattle.machine_rules.specs.Library.{library_classes, with_library}
+use Rattle.machine_rules.specs.Runs.{Ending, With, StuckAt, Ran, run_of}
+use Rattle.class_table.specs.declared.fault.TableFault.TheVariants.{Duplicate}
+use Rattle.class_table.specs.declared.loaded.Loaded.{Loaded}
+use Rattle.class_table.specs.declared.scripted.Test.{Test}
+use Rattle.class_table.specs.Info.{Info, own_name, body_name, link_body, class_of}
+use Rattle.class_table.specs.Linking.{link}
+use Rattle.jvm_step.specs.View.{test_of}
+use Rattle.test_discovery.specs.Tests.{class_tests}
+use Rattle.mutator_ops.specs.Printing.{printed}
+use Rattle.mutest_engine.specs.Answers.{and_then}
+use Rattle.mutest_engine.specs.Duplicates.{duplicate_in}
+use Rattle.mutest_engine.specs.declared.suite.LoadedSuite.{LoadedSuite}
+use Rattle.mutest_engine.specs.declared.status.ProgramFault.TheVariants.{Table}
+use Rattle.mutest_engine.specs.declared.status.Status.{Status}
+use Rattle.mutest_engine.specs.declared.status.Status.TheVariants.{BadProgram, NotGreen, TooMany, MachineCheck}
+use Rattle.mutest_engine.specs.declared.status.Limit.TheVariants as limit
+
+-- ---- the program
+
+abbrev pub classes_in : List Loaded → List Class
+classes_in loaded = map (λ l. l.class) loaded
+
+abbrev pub named : Class → Name × Linked
+named c = (own_name c, link c)
+
+-- A name means a class of these, else the library's class.
+unfoldable pub program_of : List Class → Look
+program_of classes = with_library (map named classes)
+
+-- A class of a program has the name and the meaning of what it was made of.
+abbrev pub IsOfBody : Info → Type 0
+IsOfBody i = (i.name ≡ body_name i.body) × (class_of i ≡ link_body i.body)
+
+abbrev pub AreOfBodies : List Info → Type 0
+AreOfBodies p = (id : ℕ) → id < length p → IsSomeAnd (slice_get p id) IsOfBody
+
+-- The names of the classes and of the library's.
+abbrev pub names_in : List Class → List Name
+names_in classes = map own_name classes ++ map (λ c. c.0) library_classes
+
+abbrev pub unless_twice : Option Name → Result (Unit {0}) Status
+unless_twice None = Ok tt
+unless_twice (Some name) = Err (BadProgram (Table (Duplicate name)))
+
+-- No two classes have one name.
+abbrev pub accepted : List Class → Result (Unit {0}) Status
+accepted classes = unless_twice (duplicate_in (names_in classes))
+
+-- ---- the tests
+
+-- What is kept by keys that are lists of bytes, in their order. Of two at one key the later one counts.
+abbrev pub ordered : {X : Type 0} → List (List ℕ × X) → List (List ℕ × X)
+ordered es = fold (λ kept e. insert_entry (slice_cmp nat_cmp) kept e.0 e.1) [] es
+
+-- The tests of a class, by its name in modified UTF-8.
+abbrev pub tests_by_name : Class → List ℕ × List Test
+tests_by_name c = (text (own_name c), class_tests c)
+
+-- The tests of these classes, in the order of the classes' names.
+abbrev pub tests_among : List Class → List Test
+tests_among classes = flat_map (λ e. e.1) (ordered (map tests_by_name classes))
+
+-- The tests of a suite are those of its tests folder.
+abbrev pub tests_of : LoadedSuite → List Test
+tests_of s = tests_among (classes_in (drop s.first_test s.classes))
+
+-- So many tests are at most 65,535.
+abbrev pub few_tests : ℕ → Result (Unit {0}) Status
+few_tests count = if nat_lt 65535 count then Err (TooMany limit.Tests 65536) else Ok tt
+
+-- ---- the original runs
+
+-- What a run may use: 4,194,304 words of heap and 1,024 frames.
+abbrev pub usual : Limits
+usual = record { heap = 4194304; depth = 1024 }
+
+-- The run of a test on the program as it is, of 10,000,000 steps at most.
+unfoldable pub original_run : Look → Test → Ran
+original_run p t = run_of p (test_of t) usual 10000000
+
+-- CLASS.METHOD
+abbrev pub test_text : Test → List ℕ
+test_text t = printed t.class ++ codes "." ++ printed t.method
+
+-- What is told of a test whose run came to this end: nothing where it passed, its outcome, or where the machine is stuck.
+abbrev pub settled : Test → Ending → Result (Option (List ℕ × Outcome)) Status
+settled t (With outcome.Passed) = Ok None
+settled t (With outcome.Failed) = Ok (Some (test_text t, outcome.Failed))
+settled t (With outcome.TimedOut) = Ok (Some (test_text t, outcome.TimedOut))
+settled t (With outcome.MemoryOut) = Ok (Some (test_text t, outcome.MemoryOut))
+settled t (StuckAt place) = Err (MachineCheck (test_text t) place.class place.method place.at)
+
+abbrev pub with_first : {X : Type 0} → Option X → List X → List X
+with_first None xs = xs
+with_first (Some x) xs = x ∷ xs
+
+-- The tests that didn't pass, or the first one that is stuck.
+abbrev pub all_settled : Look → List Test → Result (List (List ℕ × Outcome)) Status
+all_settled p [] = Ok []
+all_settled p (t ∷ ts) = and_then (settled t (original_run p t).ending) (λ first. and_then (all_settled p ts) (λ others. Ok (with_first first others)))
+
+abbrev pub all_passed : List (List ℕ × Outcome) → Result (Unit {0}) Status
+all_passed [] = Ok tt
+all_passed (test ∷ tests) = Err (NotGreen (test ∷ tests))
+
+-- All tests pass on the program as it is.
+abbrev pub green : Look → List Test → Result (Unit {0}) Status
+green p ts = and_then (all_settled p ts) all_passed
+
+-- No test is run behind one that is stuck.
+abbrev pub unless_stuck : Ending → ℕ → ℕ
+unless_stuck (With outcome) steps = steps
+unless_stuck (StuckAt place) steps = 0
+
+-- The steps of the runs that are made.
+abbrev pub steps_made : Look → List Test → ℕ
+steps_made p [] = 0
+steps_made p (t ∷ ts) = (original_run p t).steps + unless_stuck (original_run p t).ending (steps_made p ts)
+
+-- ---- a suite
+
+-- What is asked of a suite before a test is run.
+abbrev pub ready : LoadedSuite → Result (Unit {0}) Status
+ready s = and_then (accepted (classes_in s.classes)) (λ ok. few_tests (length (tests_of s)))
+
+abbrev pub judged : LoadedSuite → Result (Unit {0}) Status
+judged s = and_then (ready s) (λ ok. green (program_of (classes_in s.classes)) (tests_of s))
+
+abbrev pub if_ready : Result (Unit {0}) Status → ℕ → ℕ
+if_ready (Ok ok) steps = steps
+if_ready (Err status) steps = 0
+
+-- The steps of all runs that are made for a suite.
+abbrev pub suite_steps : LoadedSuite → ℕ
+suite_steps s = if_ready (ready s) (steps_made (program_of (classes_in s.classes)) (tests_of s))
