@@ -1,0 +1,5 @@
+pub mod Lists
+mod Keeping
+mod Opcodes
+mod Fitting
+mod Made
