@@ -1,6 +1,6 @@
 -- The edit of each mutant fits the class.
-use Rattle.std.proofs.Common.{◌≡◌, ℕ, zero, suc, ◌+◌, ◌^◌, ◌<◌, Bool, true, false, cond, List, [], ◌∷◌, ◌++◌, length, map, Option, Some, None, refl, sym, ap, subst, ◌∙◌, arith}
-use Rattle.std.specs.Prelude.{All, slice_get, option_and_then, unwrap_or, if◌then◌else◌}
+use Rattle.std.proofs.Common.{◌≡◌, ℕ, suc, ◌+◌, Bool, true, false, List, [], ◌∷◌, ◌++◌, length, map, Option, Some, None, refl, sym, ap, subst, ◌∙◌, arith}
+use Rattle.std.specs.Prelude.{slice_get, option_and_then, unwrap_or, if◌then◌else◌}
 use Rattle.std.specs.List.{AllByRecursion}
 use Rattle.std.proofs.lemmas.List.Elements.{All-from_recursion, recursion_from_All}
 use Rattle.class_model.specs.Pool.{text_of, class_name_of}
@@ -9,11 +9,9 @@ use Rattle.class_model.specs.declared.attribute.Code.{Code, out-Code}
 use Rattle.class_model.specs.declared.class.Class.{Class}
 use Rattle.class_model.specs.declared.class.Member.{Member}
 use Rattle.class_model.specs.declared.edit.Edit.{Edit}
-use Rattle.class_model.specs.declared.instruction.Arg.{Arg}
 use Rattle.class_model.specs.declared.instruction.Insn.{Insn}
 use Rattle.class_model.specs.declared.mutator.Mutator.{Mutator}
 use Rattle.class_model.specs.declared.mutator.Mutator.TheVariants as mutator
-use Rattle.mt_insn.specs.Opcode.{form_of}
 use Rattle.mt_insn.specs.Code.{IsFormedArg, HasForm, HasTargets, formed_size}
 use Rattle.mt_insn.specs.declared.opcode.Form.{Form}
 use Rattle.mt_attrs.specs.CodeParts.{body_of}

@@ -4,8 +4,8 @@ use Rattle.std.specs.Prelude.{All, filter, slice_get, option_and_then}
 use Rattle.std.specs.List.{AllByRecursion}
 use Rattle.std.proofs.lemmas.List.Elements.{All-from_recursion, recursion_from_All, All-filter}
 use Rattle.class_model.specs.declared.attribute.Attr.{Attr}
-use Rattle.class_model.specs.declared.attribute.Code.{Code, roll-Code, out-Code}
-use Rattle.class_model.specs.declared.attribute.Body.{Body, out-Body}
+use Rattle.class_model.specs.declared.attribute.Code.{Code, out-Code}
+use Rattle.class_model.specs.declared.attribute.Body.{Body}
 use Rattle.class_model.specs.declared.attribute.Body.TheVariants as body
 use Rattle.class_model.specs.declared.attribute.Body.TheOpen.{Body-F, Code-F}
 use Rattle.class_model.specs.declared.attribute.Body.TheViews.{the_lemmas, out-roll-Code}

@@ -1,6 +1,6 @@
 -- The class that a mutant's edit makes (this project's own): one instruction of one method is replaced by another one.
 use Rattle.std.specs.Prelude.{ℕ, zero, suc, ◌+◌, ◌^◌, nat_lt, Bool, true, false, List, [], ◌∷◌, filter, slice_get, Option, Some, None, option_and_then, Result, Ok, Err, if◌then◌else◌}
-use Rattle.class_model.specs.declared.attribute.Attr.{Attr, out-Attr}
+use Rattle.class_model.specs.declared.attribute.Attr.{Attr}
 use Rattle.class_model.specs.declared.attribute.Code.{Code, roll-Code, out-Code}
 use Rattle.class_model.specs.declared.attribute.Body.{Body}
 use Rattle.class_model.specs.declared.attribute.Body.TheVariants as body

@@ -1,6 +1,7 @@
-use crate::apply;
+use crate::{apply, mutants_fit};
 use class_model::Mutator;
 use class_reader::read_class;
+use class_writer::what_is_spelled_is_written;
 use mutator_ops::class_mutants;
 use std::test::Fail;
 
@@ -23,6 +24,8 @@ const IFLT: u8 = 0x9b;
 
 #[test]
 fn the_opposite_jump_stands_in_its_place(rt: HostRuntime) -> Result<(), Fail> {
+    what_is_spelled_is_written();
+    mutants_fit();
     let class = read_class(rt.alloc(), &A)?;
     let mutants = class_mutants(rt.alloc(), &class)?;
     let Some(mutant) = mutants.get(1) else {

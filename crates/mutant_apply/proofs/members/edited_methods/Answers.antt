@@ -1,4 +1,4 @@
-use Rattle.std.proofs.Common.{◌≡◌, ◌∙◌, ap, subst, sym, rules, IfOk, List, Some, slice_get, slice_set}
+use Rattle.std.proofs.Common.{◌≡◌, ◌∙◌, ap, subst, rules, IfOk, List, Some, slice_get, slice_set}
 use Rattle.class_model.specs.declared.class.Member.{Member}
 use Rattle.mutant_apply.specs.Edited.{edited_member}
 use Rattle.mutant_apply.proofs.Lists.{changed_set}
