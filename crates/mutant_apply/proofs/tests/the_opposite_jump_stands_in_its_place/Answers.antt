@@ -6,11 +6,11 @@ use Rattle.mutant_apply.specs.Fitting.{Fits}
 use Rattle.mutant_apply.proofs.Lists.{all_at}
 use Rattle.mutant_apply.proofs.tests.the_opposite_jump_stands_in_its_place.Goals as goal
 
-pub apply-requires-form : goal.apply-requires-form
-apply-requires-form g c = (c.what_is_spelled_is_written.ensures _ c.in_ok-class.class c.in_ok-class.ensures.found).0
+pub apply-requires-clause-form : goal.apply-requires-clause-form
+apply-requires-clause-form g c = (c.what_is_spelled_is_written.ensures _ c.in_ok-class.class c.in_ok-class.ensures.found).0
 
-pub apply-requires-fits : goal.apply-requires-fits
-apply-requires-fits g c =
+pub apply-requires-clause-fits : goal.apply-requires-clause-fits
+apply-requires-clause-fits g c =
     let class = c.in_ok-class.class in
     let mutants = c.in_ok-mutants.mutants in
     let form = (c.what_is_spelled_is_written.ensures _ class c.in_ok-class.ensures.found).0 in
