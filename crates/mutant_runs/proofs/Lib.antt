@@ -1,0 +1,5 @@
+pub mod ProgramLaws
+pub mod RunLaws
+pub mod VerdictLaws
+pub mod FitLaws
+pub mod MutantLaws

@@ -1,0 +1,16 @@
+-- When `verdicts` may be called: the mutants of the class files of a program are of the program.
+use Rattle.std.specs.Prelude.{◌≡◌, ℕ, List, All, Some, slice_get}
+use Rattle.class_model.specs.declared.class.Class.{Class}
+use Rattle.class_writer.specs.Writing.{HasClassForm}
+use Rattle.class_table.specs.Info.{Info, own_name, body_name, file_in}
+use Rattle.class_table.specs.Table.{IsProgram}
+use Rattle.mutator_ops.specs.Mutants.{class_mutants}
+use Rattle.mutant_runs.specs.Programs.{files_of, IsMutantOf}
+
+-- A class file of a program is found by its name.
+abbrev pub FilesAreFound : Type 0
+FilesAreFound = (p : List Info) (id : ℕ) (i : Info) (c : Class) → IsProgram p → slice_get p id ≡ Some i → i.name ≡ body_name i.body → file_in i ≡ Some c → files_of p (own_name c) ≡ Some c
+
+-- The mutants of a class file that is found by its name are of the program.
+abbrev pub MutantsAreOf : Type 0
+MutantsAreOf = (p : List Info) (c : Class) → HasClassForm c → files_of p (own_name c) ≡ Some c → All (IsMutantOf (files_of p)) (class_mutants c)

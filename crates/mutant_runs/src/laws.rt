@@ -1,0 +1,17 @@
+//! Laws on the definitions.
+
+ghost use Rattle.mutant_runs.specs.Laws.{FilesAreFound, MutantsAreOf};
+
+use mutant_apply::mutants_fit;
+
+/// A class file of a program is found by its name.
+pub fn files_are_found()
+    ensures { FilesAreFound }
+{}
+
+/// The mutants of a class file of a program are of the program, as `verdicts` asks.
+pub fn mutants_are_of()
+    ensures { MutantsAreOf }
+{
+    mutants_fit();
+}

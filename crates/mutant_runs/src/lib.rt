@@ -1,0 +1,14 @@
+//! The verdict on each mutant: every test is run on the program that the mutant's edit makes.
+#![tactic(auto)]
+
+mod all;
+mod laws;
+mod on_mutant;
+mod one_run;
+mod tally;
+#[cfg(test)]
+mod tests;
+mod tests_run;
+
+pub use all::verdicts;
+pub use laws::{files_are_found, mutants_are_of};

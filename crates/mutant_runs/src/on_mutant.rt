@@ -1,0 +1,73 @@
+//! The program with a mutant's edit in it.
+
+ghost use Rattle.std.specs.Prelude.{◌≡◌, ◌+◌, ◌≤◌, ◌<◌, ◌^◌, All, length, IfOk, OnOk, MatchOption, None};
+ghost use Rattle.std.specs.Arc.{arc_value};
+ghost use Rattle.class_table.specs.Table.{look};
+ghost use Rattle.mutant_runs.specs.Programs.{files_of, edited, IsMutantOf, Makes};
+ghost use Rattle.mutant_runs.specs.Runs.{timed, most_steps};
+ghost use Rattle.mutant_runs.specs.Verdicts.{verdict_of, steps_on};
+
+use crate::tally::not_viable;
+use crate::tests_run::run_tests;
+use class_model::{ClassId, Memory, SharedBytes};
+use class_table::{ClassBody, ClassInfo, Loaded, Program, Test};
+use jvm_run::Limits;
+use mt_edge::MeterPart;
+use mutant_apply::apply;
+use mutator_ops::{Mutant, Verdict};
+use std::alloc::Global;
+use std::sync::Arc;
+
+// The class that a mutant's edit makes, and the number of the class in whose place it stands; none where the edit has no layout.
+fn edited_class(
+    alloc: Global,
+    program: &Program,
+    mutant: &Mutant,
+) -> Result<Option<(ClassId, Arc<ClassInfo, Global>)>, Memory>
+    requires { IsMutantOf (files_of program.now) mutant.now }
+    ensures { IfOk result (λ made. MatchOption made (edited (files_of program.now) (look program.now) mutant.now ≡ None) (λ m. Makes program.now mutant.now m.0.0 (arc_value m.1))) }
+{
+    let Some(id) = program.find(&mutant.class) else {
+        return Ok(None);
+    };
+    let original = program.info(id);
+    let _name = original.name();
+    let ClassBody::File(loaded) = original.body() else {
+        return Ok(None);
+    };
+    let Some((class, bytes)) = apply(alloc, &loaded.class, &mutant.edit)? else {
+        return Ok(None);
+    };
+    let bytes = SharedBytes::new(alloc, bytes)?;
+    let edited = ClassInfo::new(alloc, ClassBody::File(Loaded { bytes, class }))?;
+    Ok(Some((id, Arc::new(alloc, edited)?)))
+}
+
+/// The verdict on a mutant by a run of each test on it. The program is as before afterwards.
+pub fn run_mutant(
+    alloc: Global,
+    program: &mut Program,
+    tests: &[Test],
+    steps: &[u64],
+    mutant: &Mutant,
+    limits: Limits,
+    part: &mut MeterPart,
+) -> Result<Verdict, Memory>
+    requires few { length tests.now ≤ 65535 }
+    requires each { length steps.now ≡ length tests.now }
+    requires timed { All (λ n. n ≤ most_steps) steps.now }
+    requires room { part.old < 2 ^ 63 }
+    requires fit { IsMutantOf (files_of program.old) mutant.now }
+    ensures told { IfOk result (λ v. v ≡ verdict_of limits (files_of program.old) (look program.old) (timed tests.now steps.now) mutant.now) }
+    ensures steps { OnOk result (part.new ≡ part.old + steps_on limits (files_of program.old) (look program.old) (timed tests.now steps.now) mutant.now) }
+    ensures most { part.new ≤ part.old + steps_on limits (files_of program.old) (look program.old) (timed tests.now steps.now) mutant.now }
+    ensures same { program.new ≡ program.old }
+{
+    let Some((id, edited)) = edited_class(alloc, program, mutant)? else {
+        return Ok(not_viable(alloc));
+    };
+    let original = program.swap(id, edited);
+    let verdict = run_tests(alloc, program, tests, steps, mutant, limits, part);
+    let _edited = program.swap(id, original);
+    verdict
+}

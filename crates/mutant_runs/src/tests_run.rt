@@ -1,0 +1,41 @@
+//! The runs of all tests on one mutant.
+
+ghost use Rattle.std.specs.Prelude.{◌≡◌, ◌+◌, ◌≤◌, ◌<◌, ◌^◌, All, length, IfOk, OnOk};
+ghost use Rattle.class_table.specs.Table.{look};
+ghost use Rattle.mutant_runs.specs.Runs.{timed, runs_on, steps_in, most_steps};
+ghost use Rattle.mutant_runs.specs.Verdicts.{judged};
+
+use crate::one_run::run_test;
+use crate::tally::Tally;
+use class_model::Memory;
+use class_table::{Program, Test};
+use jvm_run::Limits;
+use mt_edge::MeterPart;
+use mutator_ops::{Mutant, Verdict};
+use std::alloc::Global;
+
+/// The verdict on a mutant, whose program this is. Each test's run on the program as it is took so many steps.
+pub fn run_tests(
+    alloc: Global,
+    program: &Program,
+    tests: &[Test],
+    steps: &[u64],
+    mutant: &Mutant,
+    limits: Limits,
+    part: &mut MeterPart,
+) -> Result<Verdict, Memory>
+    requires few { length tests.now ≤ 65535 }
+    requires each { length steps.now ≡ length tests.now }
+    requires timed { All (λ n. n ≤ most_steps) steps.now }
+    requires room { part.old < 2 ^ 63 }
+    ensures told { IfOk result (λ v. v ≡ judged mutant.now (runs_on limits (look program.now) (timed tests.now steps.now))) }
+    ensures steps { OnOk result (part.new ≡ part.old + steps_in (runs_on limits (look program.now) (timed tests.now steps.now))) }
+    ensures most { part.new ≤ part.old + steps_in (runs_on limits (look program.now) (timed tests.now steps.now)) }
+{
+    let mut tally = Tally::new(alloc);
+    for i in 0..tests.len() {
+        let said = run_test(alloc, program, &tests[i], steps[i], mutant, limits, part)?;
+        tally.add(i as u32, said)?;
+    }
+    Ok(tally.verdict())
+}
