@@ -48,6 +48,12 @@ detected (With outcome.TimedOut) = Some state.TimedOut
 detected (With outcome.MemoryOut) = Some state.MemoryError
 detected (StuckAt place) = Some state.RunError
 
--- What a run may take on the program as it is: 10,000,000 steps.
+-- ---- bounds
+
+-- What a run may take on the program as it is.
 abbrev pub most_steps : ℕ
 most_steps = 10000000
+
+-- The limit of a mutant's run of such a test.
+abbrev pub most_limit : ℕ
+most_limit = limit_of most_steps

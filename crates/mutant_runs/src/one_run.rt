@@ -7,7 +7,7 @@ ghost use Rattle.machine_rules.specs.Runs.{limit_of};
 ghost use Rattle.class_table.specs.Table.{look, name_or_none};
 ghost use Rattle.jvm_step.specs.Ending.{ending_of};
 ghost use Rattle.jvm_run.specs.Result.{named_place};
-ghost use Rattle.mutant_runs.specs.Runs.{mutant_run, is_at, reaches, detected, most_steps};
+ghost use Rattle.mutant_runs.specs.Runs.{mutant_run, is_at, reaches, detected, most_steps, most_limit};
 
 use class_model::{Memory, Name};
 use class_table::{Program, Test};
@@ -29,7 +29,7 @@ pub struct Said {
 fn limit_of(steps: u64) -> u64
     requires { steps ≤ most_steps }
     ensures value { result ≡ limit_of steps }
-    ensures most { result ≤ 12600000 }
+    ensures most { result ≤ most_limit }
 {
     steps + steps / 4 + 100_000
 }
@@ -90,7 +90,7 @@ pub fn run_test(
     part: &mut MeterPart,
 ) -> Result<Said, Memory>
     requires timed { steps ≤ most_steps }
-    requires room { part.old + 12600000 < 2 ^ 64 }
+    requires room { part.old + most_limit < 2 ^ 64 }
     ensures reaches { IfOk result (λ s. s.reaches ≡ reaches mutant.now (mutant_run limits (look program.now) test.now steps)) }
     ensures detected { IfOk result (λ s. s.detected ≡ detected (mutant_run limits (look program.now) test.now steps).ending) }
     ensures steps { OnOk result (part.new ≡ part.old + (mutant_run limits (look program.now) test.now steps).steps) }
