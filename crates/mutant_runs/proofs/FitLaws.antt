@@ -1,6 +1,5 @@
 -- The mutants of a class file of a program are of the program.
-use Rattle.std.proofs.Common.{◌≡◌, ◌∙◌, sym, refl, ap, subst, ℕ, ◌+◌, Bool, true, false, List, [], ◌∷◌, ◌++◌, map, length, All, Option, None, Some, IfSome, slice_get, get_or, unwrap_or, if◌then◌else◌}
-use Rattle.std.specs.Prelude.{option_and_then}
+use Rattle.std.proofs.Common.{◌≡◌, ◌∙◌, sym, refl, ap, subst, ℕ, ◌+◌, Bool, true, false, List, [], ◌∷◌, map, All, Option, None, Some, IfSome, get_or, unwrap_or, if◌then◌else◌}
 use Rattle.std.proofs.lemmas.List.Elements.{All-append, All-map, All-nil}
 use Rattle.class_model.specs.Pool.{text_of, class_name_of}
 use Rattle.class_model.specs.declared.constant.Const.{Const}
@@ -13,8 +12,8 @@ use Rattle.class_table.specs.declared.loaded.ClassBody.{ClassBody}
 use Rattle.class_table.specs.declared.loaded.ClassBody.TheVariants as body
 use Rattle.class_table.specs.Symbols.{name_or_empty}
 use Rattle.class_table.specs.Info.{Info, own_name, body_name, file_in}
-use Rattle.class_table.specs.Table.{names, number_of, name_at, IsProgram}
-use Rattle.class_table.proofs.Places.{name_of_class, look_at}
+use Rattle.class_table.specs.Table.{number_of, name_at}
+use Rattle.class_table.proofs.Places.{name_of_class}
 use Rattle.machine_rules.specs.Names.{Name}
 use Rattle.mutator_ops.specs.Edits.{mutators_of}
 use Rattle.mutator_ops.specs.Mutants.{mutant_at, mutants_from, code_of, line_rows, code_mutants, is_left_out, is_synthetic, method_mutants, methods_mutants, class_mutants}
@@ -22,7 +21,7 @@ use Rattle.mutator_ops.specs.declared.mutant.Mutant.{Mutant}
 use Rattle.mutator_ops.specs.declared.place.Place.{Place}
 use Rattle.mutant_apply.specs.Fitting.{Fits}
 use Rattle.mutant_apply.specs.Laws.{MutantsFit}
-use Rattle.mutant_runs.specs.Programs.{files_of, IsMutantOf}
+use Rattle.mutant_runs.specs.Programs.{files_of}
 use Rattle.mutant_runs.specs.Laws.{FilesAreFound, MutantsAreOf}
 use Rattle.mutant_runs.proofs.ProgramLaws.{number_at, file_at}
 

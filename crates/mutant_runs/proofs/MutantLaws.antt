@@ -1,5 +1,5 @@
 -- The verdict on a mutant by the runs on the program with its edit, and the steps of these runs.
-use Rattle.std.proofs.Common.{◌≡◌, ◌∙◌, sym, ap, subst, Result, IfOk, ℕ, ◌+◌, ◌*◌, ◌^◌, ◌<◌, ◌≤◌, List, length, take, get_or, All, Option, None, Some, slice_set, arith}
+use Rattle.std.proofs.Common.{◌≡◌, ◌∙◌, sym, ap, subst, Result, IfOk, ℕ, ◌+◌, ◌^◌, ◌<◌, ◌≤◌, List, length, take, get_or, All, Option, None, Some, slice_set, arith}
 use Rattle.std.specs.Option.{option_map, option_map_or}
 use Rattle.std.proofs.lemmas.List.Sums.{sum_by-le, sum_by-take-le, sum_by_more_le}
 use Rattle.machine_rules.specs.declared.machine.Limits.{Limits}

@@ -12,8 +12,6 @@ use Rattle.class_writer.specs.Writing.{layout, HasClassForm}
 use Rattle.machine_rules.specs.Names.{Name, same}
 use Rattle.machine_rules.specs.Linked.{Linked}
 use Rattle.class_table.specs.declared.loaded.Loaded.{Loaded}
-use Rattle.class_table.specs.declared.loaded.LibClass.{LibClass}
-use Rattle.class_table.specs.declared.loaded.ClassBody.{ClassBody}
 use Rattle.class_table.specs.declared.loaded.ClassBody.TheVariants as body
 use Rattle.class_table.specs.Info.{Info, own_name, body_name, link_body, class_of, file_in}
 use Rattle.class_table.specs.Linking.{link}

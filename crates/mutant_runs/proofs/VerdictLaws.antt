@@ -1,11 +1,10 @@
 -- The verdict by the runs, one after the other.
-use Rattle.std.proofs.Common.{◌≡◌, ◌∙◌, sym, refl, ap, ap₂, ℕ, zero, suc, ◌+◌, ◌≤◌, Bool, true, false, List, [], ◌∷◌, ◌++◌, map, filter, drop, Option, None, Some, append_assoc, append-nil, add-one, cond, if◌then◌else◌, arith}
+use Rattle.std.proofs.Common.{◌≡◌, ◌∙◌, sym, refl, ap, ap₂, ℕ, suc, ◌+◌, ◌≤◌, Bool, true, false, List, [], ◌∷◌, ◌++◌, map, filter, drop, Option, None, Some, append_assoc, append-nil, add-one, cond, if◌then◌else◌, arith}
 use Rattle.std.specs.List.{enumerate_from}
 use Rattle.std.specs.Option.{option_map, option_or}
-use Rattle.machine_rules.specs.Runs.{Ending, Ran}
+use Rattle.machine_rules.specs.Runs.{Ran}
 use Rattle.mutator_ops.specs.declared.mutant.Mutant.{Mutant}
 use Rattle.mutator_ops.specs.declared.mutant.State.{State}
-use Rattle.mutator_ops.specs.declared.mutant.Verdict.{Verdict}
 use Rattle.mutant_runs.specs.Runs.{steps_in, reaches, detected}
 use Rattle.mutant_runs.specs.Verdicts.{covering, killer, verdict_by, judged}
 use Rattle.mutant_runs.specs.declared.tally.Tally.{Tally}

@@ -1,5 +1,5 @@
 -- The runs of the tests on a mutant, and what they say of it (this project's own).
-use Rattle.std.specs.Prelude.{ℕ, ◌+◌, Bool, ◌&&◌, ◌==◌, List, map, Option, Some, None, is_some, sum_by}
+use Rattle.std.specs.Prelude.{ℕ, Bool, ◌&&◌, ◌==◌, List, map, Option, Some, None, sum_by}
 use Rattle.std.specs.List.{list_any, zip}
 use Rattle.machine_rules.specs.Names.{Name, same}
 use Rattle.machine_rules.specs.Programs.{Look}

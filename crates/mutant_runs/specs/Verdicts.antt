@@ -1,6 +1,6 @@
 -- What the tests say of a mutant (this project's own).
-use Rattle.std.specs.Prelude.{ℕ, ◌+◌, List, [], ◌∷◌, map, filter, Option, Some, None, sum_by}
-use Rattle.std.specs.List.{enumerate_from, cons_option}
+use Rattle.std.specs.Prelude.{ℕ, List, [], ◌∷◌, map, filter, Option, Some, None, sum_by}
+use Rattle.std.specs.List.{enumerate_from}
 use Rattle.std.specs.Option.{option_map, option_map_or, option_or}
 use Rattle.machine_rules.specs.Programs.{Look}
 use Rattle.machine_rules.specs.Runs.{Ran}

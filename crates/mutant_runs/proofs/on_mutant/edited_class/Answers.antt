@@ -1,5 +1,4 @@
 use Rattle.std.proofs.Common.{◌≡◌, ◌∙◌, sym, ap, subst, Some}
-use Rattle.std.specs.Arc.{arc_value}
 use Rattle.class_table.specs.Info.{Info, body_name, link_body}
 use Rattle.mutant_apply.specs.Edited.{applied}
 use Rattle.mutant_runs.specs.Programs.{Makes}
