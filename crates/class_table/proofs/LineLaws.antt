@@ -109,8 +109,8 @@ set_case (s ∷ starts) (suc i) (suc at) x o h = elim (set_case starts i at x o 
 pub starts_here : (starts : List (Option ℕ)) (rows : List LinkedLine) (r : LinkedLine) → AreStartsOf starts rows → AreStartsOf (slice_set starts r.start (Some r.line)) (rows ++ r ∷ [])
 starts_here starts rows r h at o e =
     elim (set_case starts r.start at (Some r.line) o e) [
-      inl same ↦ same.1 ∙ sym (from_here at rows r (sym same.0))
-    | inr other ↦ h at o other.1 ∙ sym (from_elsewhere at rows r (λ same. other.0 (sym same)))
+      | inl same ↦ same.1 ∙ sym (from_here at rows r (sym same.0))
+      | inr other ↦ h at o other.1 ∙ sym (from_elsewhere at rows r (λ same. other.0 (sym same)))
     ]
 
 pub starts_past : (starts : List (Option ℕ)) (rows : List LinkedLine) (r : LinkedLine) → length starts ≤ r.start → AreStartsOf starts rows → AreStartsOf starts (rows ++ r ∷ [])
@@ -135,8 +135,8 @@ last_case (y ∷ lines) x (suc at) line h = elim (last_case lines x at line h) [
 pub lines_more : (lines : List ℕ) (rows : List LinkedLine) (line : ℕ) → AreLinesOf lines rows → line ≡ line_at (length lines) rows → AreLinesOf (lines ++ line ∷ []) rows
 lines_more lines rows line h here at l e =
     elim (last_case lines line at l e) [
-      inl before ↦ h at l before
-    | inr last ↦ last.1 ∙ here ∙ ap (λ n. line_at n rows) (sym last.0)
+      | inl before ↦ h at l before
+      | inr last ↦ last.1 ∙ here ∙ ap (λ n. line_at n rows) (sym last.0)
     ]
 
 pub lines_none : (rows : List LinkedLine) → AreLinesOf [] rows

@@ -10,12 +10,7 @@ use class_table::Program;
 
 /// A line of a class is reached, where the class comes from a class file. It is true where the line was new.
 #[tactic(auto, using(crate::proofs::Named::reach_named, crate::proofs::Named::classes_listed), unfolding(class_table::specs::View::linked_of))]
-pub fn reach(
-    p: &Program,
-    reached: &mut Reached,
-    class: ClassId,
-    line: u16,
-) -> Result<bool, Memory>
+pub fn reach(p: &Program, reached: &mut Reached, class: ClassId, line: u16) -> Result<bool, Memory>
     requires class { class.0 < length p.now }
     requires reached { AreClasses p.now reached.old }
     ensures reached { OnOk result (map (named p.now) reached.new ≡ reaches_line (look p.now) (name_at p.now class.0) line (map (named p.now) reached.old)) }
