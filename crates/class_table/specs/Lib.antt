@@ -8,4 +8,5 @@ pub mod Forms
 pub mod Info
 pub mod Table
 pub mod Numbers
+pub mod Lines
 pub mod Seen

@@ -10,6 +10,7 @@ ghost use Rattle.class_table.specs.View.{meaning_at, instruction_of, row_of, lin
 
 use crate::entries::class_or_none;
 use crate::instruction::Instruction;
+use crate::line_table::LineTable;
 use crate::linked::{Entry, LinkedCode, LinkedLine, LinkedRow, Switch};
 use crate::opcodes;
 use class_model::{Arg, Attr, Body, Code, Const, Insn, Memory, Row, Seq};
@@ -169,12 +170,14 @@ pub fn link_code(
 {
     let switches = switches_in(alloc, code.insns.as_slice())?;
     let instructions = link_insns(alloc, entries, switches.as_slice(), code.insns.as_slice())?;
+    let line_rows = link_lines(alloc, code.attrs.as_slice())?;
+    let lines = LineTable::new(alloc, line_rows, instructions.len())?;
     Ok(LinkedCode {
         max_stack: code.max_stack,
         max_locals: code.max_locals,
         instructions,
         switches,
         rows: link_rows(alloc, pool, code.rows.as_slice())?,
-        lines: link_lines(alloc, code.attrs.as_slice())?,
+        lines,
     })
 }

@@ -8,6 +8,7 @@ mod fault;
 mod info;
 mod instruction;
 mod laws;
+mod line_table;
 mod linked;
 mod linking;
 mod loaded;
@@ -23,6 +24,7 @@ pub use fault::TableFault;
 pub use info::ClassInfo;
 pub use instruction::{Comparison, Conversion, Element, Instruction, Operation, ShiftKind};
 pub use laws::{appended_mean_the_same, forms_mean_the_same};
+pub use line_table::LineTable;
 pub use linked::{
     Entry, FieldConstant, FieldRef, LinkedBody, LinkedClass, LinkedCode, LinkedField, LinkedLine,
     LinkedMethod, LinkedRow, MethodRef, Native, Switch,

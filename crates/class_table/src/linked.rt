@@ -1,10 +1,11 @@
-ghost use Rattle.std.specs.Prelude.{◌≡◌, ◌<◌, ◌&&◌, nat_le, if◌then◌else◌, List, map, length, Some, None, IfSome, IfNone};
-ghost use Rattle.std.specs.Option.{option_copied, option_map};
-ghost use Rattle.machine_rules.specs.Linked.{method_place, is_later, line_row, line_at};
-ghost use Rattle.class_table.specs.View.{method_ref_at, method_of, line_of, linked_of};
+ghost use Rattle.std.specs.Prelude.{◌≡◌, ◌<◌, List, map, length, Some, None, IfSome, IfNone};
+ghost use Rattle.std.specs.Option.{option_copied};
+ghost use Rattle.machine_rules.specs.Linked.{method_place};
+ghost use Rattle.class_table.specs.View.{method_ref_at, method_of, linked_of};
 ghost use Rattle.class_table.specs.declared.linked.Entry as entry;
 
 use crate::instruction::Instruction;
+use crate::line_table::LineTable;
 use class_model::{Kind, Name, Seq};
 
 /// A method that is named, with what its descriptor states (JVMS 4.3.3, 4.4.2). A result of `None` is void. `interface` is set where the entry names a method of an interface.
@@ -66,14 +67,14 @@ pub struct LinkedLine {
 }
 
 /// A Code attribute (JVMS 4.7.3). Lines stand in file order, those of several tables one behind the other.
-#[derive(Debug, Drop, PartialEq)]
+#[derive(Debug, Drop)]
 pub struct LinkedCode {
     pub max_stack: u16,
     pub max_locals: u16,
     pub instructions: Seq<Instruction>,
     pub switches: Seq<Switch>,
     pub rows: Seq<LinkedRow>,
-    pub lines: Seq<LinkedLine>,
+    pub lines: LineTable,
 }
 
 /// The native methods of the library that have a row (this project's own).
@@ -84,7 +85,7 @@ pub enum Native {
 }
 
 /// What stands behind a method's head. An abstract method has no body, nor has a native one without a row.
-#[derive(Debug, Drop, PartialEq)]
+#[derive(Debug, Drop)]
 pub enum LinkedBody {
     Code(LinkedCode),
     Native(Native),
@@ -92,7 +93,7 @@ pub enum LinkedBody {
 }
 
 /// A method. A result of `None` is void.
-#[derive(Debug, Drop, PartialEq)]
+#[derive(Debug, Drop)]
 pub struct LinkedMethod {
     pub flags: u16,
     pub name: Name,
@@ -120,7 +121,7 @@ pub struct LinkedField {
 }
 
 /// A class with names in place of pool indices. `library` is set for the classes that come with the machine and not from a class file.
-#[derive(Debug, Drop, PartialEq)]
+#[derive(Debug, Drop)]
 pub struct LinkedClass {
     pub library: bool,
     pub flags: u16,
@@ -152,44 +153,6 @@ impl LinkedClass {
     {
         place_of(self.methods.as_slice(), name, desc)
     }
-}
-
-impl LinkedCode {
-    /// The line of an instruction, 0 where there is none: that of the row with the greatest start at or before it, of several such rows the last.
-    pub fn line(&self, at: usize) -> u16
-        ensures { result ≡ line_at at (map line_of self.now.lines) }
-    {
-        match line_row(self.lines.as_slice(), at) {
-            Some(row) => row.line,
-            None => 0,
-        }
-    }
-}
-
-// The row that counts, once one more row stands in front.
-fn later(row: LinkedLine, at: usize, found: Option<LinkedLine>) -> Option<LinkedLine>
-    ensures { option_map line_of result ≡ (if nat_le row.start at && is_later (line_of row) (option_map line_of found) then Some (line_of row) else option_map line_of found) }
-{
-    let is_later = match found {
-        Some(other) => other.start < row.start,
-        None => true,
-    };
-    if row.start as usize <= at && is_later {
-        return Some(row);
-    }
-    found
-}
-
-fn line_row(lines: &[LinkedLine], at: usize) -> Option<LinkedLine>
-    ensures { option_map line_of result ≡ line_row at (map line_of lines.now) }
-{
-    let mut found = None;
-    let mut left = lines.len();
-    while left > 0 {
-        left -= 1;
-        found = later(lines[left], at, found);
-    }
-    found
 }
 
 fn place_of(methods: &[LinkedMethod], name: &Name, desc: &Name) -> Option<usize>

@@ -1,4 +1,4 @@
-//! One step of the machine (JVMS 2.11, 6.5): what `machine_rules` says by names, done by class numbers and vectors.
+//! One step of the machine (JVMS 2.11, 6.5): what `machine_rules` says by names, done by class numbers and vectors. A step of arithmetic, loads and jumps looks nothing up by text and takes no memory beyond its frame.
 #![tactic(auto)]
 
 mod args;

@@ -159,8 +159,7 @@ fn run(alloc: Global, p: &Program, m: &mut Machine) -> Result<bool, Memory>
     let Some(here) = fetch(p, frame) else {
         return Ok(false);
     };
-    let lines = here.code.lines.as_slice();
-    let is_new = reach(p, &mut m.world.reached, frame.class, lines, frame.at)?;
+    let is_new = reach(p, &mut m.world.reached, frame.class, here.line)?;
     if act(alloc, p, m, here)? {
         return Ok(true);
     }

@@ -2,13 +2,10 @@ use Rattle.std.proofs.Common.{◌≡◌, ◌≤◌, map, drop, length}
 use Rattle.std.specs.Option.{option_map}
 use Rattle.machine_rules.specs.Linked.{line_row}
 use Rattle.class_table.specs.View.{line_of}
-use Rattle.jvm_step.proofs.lines.line_at.Given as goal
+use Rattle.class_table.proofs.line_table.line_row.Given as goal
 
 abbrev pub invariant-loop-left : goal.invariant-loop-left
-invariant-loop-left l = record {
-  within : l.left ≤ length l.lines;
-  best : option_map line_of l.best ≡ line_row l.at (map line_of (drop l.left l.lines));
-}
+invariant-loop-left l = (l.left ≤ length l.rows) × (option_map line_of l.found ≡ line_row l.at (map line_of (drop l.left l.rows)))
 
 abbrev pub decreases-loop-left : goal.decreases-loop-left
 decreases-loop-left l = l.left
