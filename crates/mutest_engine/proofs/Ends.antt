@@ -1,6 +1,7 @@
 -- What a call leaves in the sink and in the tree at its end.
 use Rattle.std.proofs.Common.{◌≡◌, ◌⊎◌, ℕ, List, [], ◌∷◌, ◌++◌, refl, sym, ap, ◌∙◌, inl, inr, subst, ⊎_elim, append_assoc}
-use Rattle.std.specs.Prelude.{Option, None, Some, option_map, Result, Ok, Err, IfSome, MatchResult}
+use Rattle.std.specs.Prelude.{Bool, true, false, Option, None, Some, option_map, Result, Ok, Err, IfSome, MatchBool, MatchResult}
+use Rattle.std.specs.Result.{ForErr}
 use Rattle.std.proofs.lemmas.List.{append-nil}
 use mathlib.Core.List.{IsPrefix}
 use Rattle.mt_edge.specs.Files.{Files}
@@ -8,12 +9,14 @@ use Rattle.mt_edge.specs.Causes.{Rose}
 use Rattle.mt_edge.specs.Pieces.{Grows, GrowsBy}
 use Rattle.mutest_engine.specs.declared.status.Status.{Status}
 use Rattle.mutest_engine.specs.declared.status.Status.TheVariants.{Done, Usage, NotFound, Archive, BadClass, BadProgram, NotGreen, ReadFault, WriteFault, TooMany, MachineCheck, WantOfMemory}
-use Rattle.mutest_engine.specs.declared.status.Output.TheVariants.{Output as Printed}
-use Rattle.mutest_engine.specs.Words.{Command, list_class, run_suite, command_of}
+use Rattle.mutest_engine.specs.declared.status.Output.{Output}
+use Rattle.mutest_engine.specs.declared.status.Output.TheVariants.{Report, History, Output as Printed, Journal, Assembled}
+use Rattle.mutest_engine.specs.declared.answer.Answer.{Answer}
 use Rattle.mutest_engine.specs.StatusText.{line_of}
-use Rattle.mutest_engine.specs.Answers.{Answered, and_then, GivesText, IsReading, IsRefusal}
-use Rattle.mutest_engine.specs.Decided.{list_answer, run_answer, answer_to, answer_of}
-use Rattle.mutest_engine.specs.Said.{Got, Broken, Interrupted, Leaves, FilesAfter, text_stated, writes_of_answer}
+use Rattle.mutest_engine.specs.Words.{Command, list_class, run_suite}
+use Rattle.mutest_engine.specs.Decided.{CanAnswer, CanSay}
+use Rattle.mutest_engine.specs.Answers.{Answered, Write, answered, GivesAnswer, IsReading, IsRefusal, IsWritten, IsWriteFault, Writes, Ends, AgreesUntold}
+use Rattle.mutest_engine.specs.Said.{Got, Broken, HalfRefused, Interrupted, LeavesFault, Leaves, is_same, written, Stopped, Partly, FilesAfter, writes_of_answer}
 
 two_pieces : (before : Option (List ℕ)) (p q : List ℕ) → option_map (λ bytes. bytes ++ q) (option_map (λ bytes. bytes ++ p) before) ≡ option_map (λ bytes. bytes ++ (p ++ q)) before
 two_pieces None p q = refl
@@ -40,27 +43,27 @@ part_then_part before between after text line cut some =
     record { part = cut.0; rest = some.0; begins = cut.1; refused = some.1; grown = some.2 ∙ ap (option_map (λ bytes. bytes ++ some.0)) cut.2 ∙ two_pieces before cut.0 some.0 }
 
 -- memory ran out while a text was put
-pub cut_text : (before after : Option (List ℕ)) (text : List ℕ) → GrowsBy before after text → Interrupted (Ok text) before after
-cut_text before after text cut = inl (part_then_part before after after text (line_of (WriteFault Printed 1)) cut (nothing_of after (line_of (WriteFault Printed 1))))
+pub cut_text : (before after : Option (List ℕ)) (a : Answered) → GrowsBy before after a.text → Interrupted (Ok a) before after
+cut_text before after a cut = inl (part_then_part before after after a.text (line_of (WriteFault Printed 1)) cut (nothing_of after (line_of (WriteFault Printed 1))))
 
 no_part : (part line rest : List ℕ) → part ++ rest ≡ [] → IsPrefix part line
 no_part [] line rest e = (line, refl)
 no_part (x ∷ part) line rest e = absurd cc
 
 -- memory ran out before anything was said
-pub cut_nothing : (before after : Option (List ℕ)) (stated : Result (List ℕ) Status) → GrowsBy before after [] → Interrupted stated before after
-cut_nothing before after (Ok text) some = inr (some.0, no_part some.0 (line_of (ReadFault 1)) some.1.0 some.1.1, some.2)
+pub cut_nothing : (before after : Option (List ℕ)) (stated : Result Answered Status) → GrowsBy before after [] → Interrupted stated before after
+cut_nothing before after (Ok a) some = inr (inr (some.0, no_part some.0 (line_of (ReadFault 1)) some.1.0 some.1.1, some.2))
 cut_nothing before after (Err e) some = inr (some.0, no_part some.0 (line_of (ReadFault 1)) some.1.0 some.1.1, some.2)
 
-cut_read : (before after : Option (List ℕ)) (stated : Result (List ℕ) Status) → GrowsBy before after (line_of (ReadFault 1)) → Interrupted stated before after
-cut_read before after (Ok text) some = inr some
+cut_read : (before after : Option (List ℕ)) (stated : Result Answered Status) → GrowsBy before after (line_of (ReadFault 1)) → Interrupted stated before after
+cut_read before after (Ok a) some = inr (inr some)
 cut_read before after (Err e) some = inr some
 
 -- memory ran out while the line of a refusal was put
-pub cut_line : (before after : Option (List ℕ)) (stated : Result (List ℕ) Status) (s : Status) → (stated ≡ Err s) ⊎ IsReading s → GrowsBy before after (line_of s) → Interrupted stated before after
+pub cut_line : (before after : Option (List ℕ)) (stated : Result Answered Status) (s : Status) → (stated ≡ Err s) ⊎ IsReading s → GrowsBy before after (line_of s) → Interrupted stated before after
 cut_line before after stated s from some =
     ⊎_elim
-    (λ (is : stated ≡ Err s). subst (λ (r : Result (List ℕ) Status). Interrupted r before after) (sym is) (inl some))
+    (λ (is : stated ≡ Err s). subst (λ (r : Result Answered Status). Interrupted r before after) (sym is) (inl some))
     (λ (q : IsReading s). by_reading s q some)
     from
   where
@@ -83,7 +86,7 @@ got_by put0 put1 before after line said =
     ⊎_elim (λ (all : Grows before after line). (line, ([], append-nil line), all)) (λ (some : Rose put0 put1 × GrowsBy before after line). some.1) said
 
 -- a refusal before anything is written
-refusal_leaves : (put0 put1 : ℕ) (before after : Option (List ℕ)) (stated : Result (List ℕ) Status) (s : Status) → IsRefusal s → Got put0 put1 before after (line_of s) → Leaves put0 put1 before after stated s
+refusal_leaves : (put0 put1 : ℕ) (before after : Option (List ℕ)) (stated : Result Answered Status) (s : Status) → IsRefusal s → Got put0 put1 before after (line_of s) → Leaves put0 put1 before after stated s
 refusal_leaves put0 put1 before after stated Done q said = absurd q
 refusal_leaves put0 put1 before after stated (WriteFault which faults) q said = absurd q
 refusal_leaves put0 put1 before after stated Usage q said = said
@@ -99,7 +102,7 @@ refusal_leaves put0 put1 before after stated WantOfMemory q said = cut_nothing b
 
 -- a refusal, or memory that ran out while its line was put
 pub refused_leaves : (put0 put1 : ℕ) (before after : Option (List ℕ)) (s end : Status) → IsRefusal s → (end ≡ s) ⊎ (end ≡ WantOfMemory) → Got put0 put1 before after (line_of s) ⊎ ((end ≡ WantOfMemory) × GrowsBy before after (line_of s))
-    → (stated : Result (List ℕ) Status) → (stated ≡ Err s) ⊎ IsReading s → Leaves put0 put1 before after stated end
+    → (stated : Result Answered Status) → (stated ≡ Err s) ⊎ IsReading s → Leaves put0 put1 before after stated end
 refused_leaves put0 put1 before after s end q same said stated from =
     let at = λ (e : Status). Leaves put0 put1 before after stated e in
     ⊎_elim
@@ -111,44 +114,183 @@ refused_leaves put0 put1 before after s end q same said stated from =
     (λ (lost : (end ≡ WantOfMemory) × GrowsBy before after (line_of s)). subst at (sym lost.0) (cut_line before after stated s from lost.1))
     said
 
+-- ---- a file that couldn't be replaced
+
+fault_leaves : (put0 put1 : ℕ) (before after : Option (List ℕ)) (text : List ℕ) (which : Output) (faults : ℕ) → Got put0 put1 before after (line_of (WriteFault which faults)) → LeavesFault put0 put1 before after text which faults
+fault_leaves put0 put1 before after text Report faults said = said
+fault_leaves put0 put1 before after text History faults said = said
+fault_leaves put0 put1 before after text Printed faults said = part_then put0 put1 before before after text (line_of (WriteFault Printed faults)) (nothing_of before text) said
+fault_leaves put0 put1 before after text Journal faults said = said
+fault_leaves put0 put1 before after text Assembled faults said = said
+
+half_refused : (before after : Option (List ℕ)) (ws : List Write) (w : Write) → ws ≡ w ∷ [] → GrowsBy before after (line_of (WriteFault w.which 1)) → HalfRefused ws before after
+half_refused before after ws w is some = subst (λ (xs : List Write). HalfRefused xs before after) (sym is) (inl some)
+
+-- the refusal of a file that couldn't be replaced, or memory that ran out
+pub unreplaced_leaves : (put0 put1 : ℕ) (before after : Option (List ℕ)) (a : Answered) (w : Write) (s end : Status) → a.writes ≡ w ∷ [] → (s ≡ WriteFault w.which 1) ⊎ (s ≡ WantOfMemory) → (end ≡ s) ⊎ (end ≡ WantOfMemory)
+    → Got put0 put1 before after (line_of s) ⊎ ((end ≡ WantOfMemory) × GrowsBy before after (line_of s)) → Leaves put0 put1 before after (Ok a) end
+unreplaced_leaves put0 put1 before after a w s end is from same said =
+    let at = λ (e : Status). Leaves put0 put1 before after (Ok a) e in
+    let fault = WriteFault w.which 1 in
+    let cut = λ (lost : end ≡ WantOfMemory) (some : GrowsBy before after (line_of s)).
+    subst at (sym lost)
+    (⊎_elim
+    (λ (e : s ≡ fault). inr (inl (half_refused before after a.writes w is (subst (λ (r : Status). GrowsBy before after (line_of r)) e some))))
+    (λ (e : s ≡ WantOfMemory). cut_nothing before after (Ok a) (subst (λ (r : Status). GrowsBy before after (line_of r)) e some))
+    from) in
+    ⊎_elim
+    (λ (got : Got put0 put1 before after (line_of s)).
+    ⊎_elim
+    (λ (e : end ≡ s).
+    ⊎_elim
+    (λ (f : s ≡ fault). subst at (sym (e ∙ f)) (fault_leaves put0 put1 before after a.text w.which 1 (subst (λ (r : Status). Got put0 put1 before after (line_of r)) f got)))
+    (λ (f : s ≡ WantOfMemory). cut (e ∙ f) (got_by put0 put1 before after (line_of s) got))
+    from)
+    (λ (lost : end ≡ WantOfMemory). cut lost (got_by put0 put1 before after (line_of s) got))
+    same)
+    (λ (lost : (end ≡ WantOfMemory) × GrowsBy before after (line_of s)). cut lost.0 lost.1)
+    said
+
 -- ---- the top call
 
 -- what the end of a call says of its answer, said of what the files decide
-pub said_by : (held : Option Files) (stated : Files → Result Answered Status) (answer : Result (List ℕ) Status) (P : Result (List ℕ) Status → Type 0) → IfSome held (λ files. GivesText (stated files) answer)
-    → MatchResult answer (λ text. P (Ok text)) (λ s. (r : Result (List ℕ) Status) → (r ≡ Err s) ⊎ IsReading s → P r) → IfSome held (λ files. P (text_stated (stated files)))
+pub said_by : (held : Option Files) (stated : Files → Result Answered Status) (answer : Result Answer Status) (P : Result Answered Status → Type 0) → IfSome held (λ files. GivesAnswer (stated files) answer)
+    → MatchResult answer (λ a. P (Ok (answered a))) (λ s. (r : Result Answered Status) → (r ≡ Err s) ⊎ IsReading s → P r) → IfSome held (λ files. P (stated files))
 said_by None stated answer P told said = tt
-said_by (Some files) stated (Ok text) P told said = subst P (sym (ap text_stated told)) said
-said_by (Some files) stated (Err s) P told said = said (text_stated (stated files)) (⊎_elim (λ (is : stated files ≡ Err s). inl (ap text_stated is)) (λ (q : IsReading s). inr q) told)
+said_by (Some files) stated (Ok a) P told said = subst P (sym told) said
+said_by (Some files) stated (Err s) P told said = said (stated files) told
 
-pub said_of_some : (answer : Result (List ℕ) Status) (P : Result (List ℕ) Status → Type 0) → MatchResult answer (λ text. P (Ok text)) (λ s. (r : Result (List ℕ) Status) → (r ≡ Err s) ⊎ IsReading s → P r) → (r : Result (List ℕ) Status) × P r
-said_of_some (Ok text) P said = (Ok text, said)
-said_of_some (Err s) P said = (Err s, said (Err s) (inl refl))
+-- what is said, whatever the tree tells
+pub said_of_some : (words : Result Command Status) (answer : Result Answer Status) (P : Result Answered Status → Type 0) → MatchResult answer (λ a. (command : Command) × (words ≡ Ok command) × CanAnswer command (answered a)) (AgreesUntold words)
+    → MatchResult answer (λ a. P (Ok (answered a))) (λ s. (r : Result Answered Status) → (r ≡ Err s) ⊎ IsReading s → P r) → (r : Result Answered Status) × CanSay words r × P r
+said_of_some words (Ok a) P untold said = (Ok (answered a), subst (λ (w : Result Command Status). CanSay w (Ok (answered a))) (sym untold.1) untold.2, said)
+said_of_some (Ok command) (Err s) P untold said = (Err s, untold, said (Err s) (inl refl))
+said_of_some (Err e) (Err s) P untold said =
+    (Err e, refl, said (Err e) (⊎_elim (λ (is : s ≡ e). inl (ap Err (sym is))) (λ (lost : s ≡ WantOfMemory). inr (subst IsReading (sym lost) tt)) untold))
+
+-- ---- what the words alone decide
+
+written_by : (command : Command) (a : Answered) → CanAnswer command a → (which : Output) → IsWritten a.writes which → Writes command which
+written_by (list_class path) a can which is = subst (λ (ws : List Write). IsWritten ws which) (ap (λ (b : Answered). b.writes) can.1) is
+written_by (run_suite suite) a can which is = subst (λ (ws : List Write). IsWritten ws which) (ap (λ (b : Answered). b.writes) can.3) is
+
+carried_out : (command : Command) (a : Answered) (end : Status) → CanAnswer command a → (end ≡ Done) ⊎ IsWriteFault a.writes end → Ends command end
+carried_out command a Done can q = tt
+carried_out command a (WriteFault which faults) can q = ⊎_elim (λ (d : WriteFault which faults ≡ Done). absurd cc) (λ (is : IsWritten a.writes which). written_by command a can which is) q
+carried_out (list_class path) a WantOfMemory can q = tt
+carried_out (run_suite suite) a WantOfMemory can q = tt
+carried_out command a Usage can q = absurd (⊎_elim (λ (d : Usage ≡ Done). absurd cc) (λ (n : ⊥). n) q)
+carried_out command a (NotFound path) can q = absurd (⊎_elim (λ (d : NotFound path ≡ Done). absurd cc) (λ (n : ⊥). n) q)
+carried_out command a (Archive path) can q = absurd (⊎_elim (λ (d : Archive path ≡ Done). absurd cc) (λ (n : ⊥). n) q)
+carried_out command a (BadClass path fault) can q = absurd (⊎_elim (λ (d : BadClass path fault ≡ Done). absurd cc) (λ (n : ⊥). n) q)
+carried_out command a (BadProgram fault) can q = absurd (⊎_elim (λ (d : BadProgram fault ≡ Done). absurd cc) (λ (n : ⊥). n) q)
+carried_out command a (NotGreen tests) can q = absurd (⊎_elim (λ (d : NotGreen tests ≡ Done). absurd cc) (λ (n : ⊥). n) q)
+carried_out command a (ReadFault faults) can q = absurd (⊎_elim (λ (d : ReadFault faults ≡ Done). absurd cc) (λ (n : ⊥). n) q)
+carried_out command a (TooMany what number) can q = absurd (⊎_elim (λ (d : TooMany what number ≡ Done). absurd cc) (λ (n : ⊥). n) q)
+carried_out command a (MachineCheck test class method at) can q = absurd (⊎_elim (λ (d : MachineCheck test class method at ≡ Done). absurd cc) (λ (n : ⊥). n) q)
+
+lost_untold : (words : Result Command Status) → AgreesUntold words WantOfMemory
+lost_untold (Ok (list_class path)) = tt
+lost_untold (Ok (run_suite suite)) = tt
+lost_untold (Err e) = inr refl
+
+pub untold_by : (words : Result Command Status) (answer : Result Answer Status) (end : Status) → MatchResult answer (λ a. (command : Command) × (words ≡ Ok command) × CanAnswer command (answered a)) (AgreesUntold words)
+    → MatchResult answer (λ a. (end ≡ Done) ⊎ IsWriteFault (answered a).writes end) (λ s. (end ≡ s) ⊎ (end ≡ WantOfMemory)) → AgreesUntold words end
+untold_by words (Ok a) end untold status = subst (λ (w : Result Command Status). AgreesUntold w end) (sym untold.1) (carried_out untold.0 (answered a) end untold.2 status)
+untold_by words (Err s) end untold status =
+    ⊎_elim (λ (is : end ≡ s). subst (AgreesUntold words) (sym is) untold) (λ (is : end ≡ WantOfMemory). subst (AgreesUntold words) (sym is) (lost_untold words)) status
 
 -- ---- the tree
 
-text_writes_nothing : (answer : Result (List ℕ) Status) → writes_of_answer (and_then answer (λ text. Ok (record { writes = []; text = text }))) ≡ []
-text_writes_nothing (Ok text) = refl
-text_writes_nothing (Err s) = refl
+-- the named one among writes of which there is one
+is_itself : (which : Output) → is_same which which ≡ true
+is_itself Report = refl
+is_itself History = refl
+is_itself Printed = refl
+is_itself Journal = refl
+is_itself Assembled = refl
 
-command_writes_nothing : (files : Files) (command : Result Command Status) → writes_of_answer (and_then command (λ c. answer_to c files)) ≡ []
-command_writes_nothing files (Ok (list_class path)) = text_writes_nothing (list_answer path files)
-command_writes_nothing files (Ok (run_suite suite)) = text_writes_nothing (run_answer suite files)
-command_writes_nothing files (Err s) = refl
+abbrev Half : Write → Option Files → Option Files → Type 0
+Half w old new = (new ≡ old) ⊎ (new ≡ written w old)
 
-unchanged : (old new : Option Files) (s : Status) → new ≡ old → FilesAfter [] old new s
-unchanged old new Done e = e
-unchanged old new Usage e = e
-unchanged old new (NotFound path) e = e
-unchanged old new (Archive path) e = e
-unchanged old new (BadClass path fault) e = e
-unchanged old new (BadProgram fault) e = e
-unchanged old new (NotGreen tests) e = e
-unchanged old new (ReadFault faults) e = e
-unchanged old new (WriteFault which faults) e = e
-unchanged old new (TooMany what number) e = e
-unchanged old new (MachineCheck test class method at) e = e
-unchanged old new WantOfMemory e = e
+stopped : (w : Write) (old new : Option Files) → Half w old new → Stopped w.which (w ∷ []) old new
+stopped w old new half = subst (λ (b : Bool). MatchBool b (Half w old new) (new ≡ written w old)) (sym (is_itself w.which)) half
 
--- no command replaces a file yet
-pub tree_stays : (words : List (List ℕ)) (files : Files) (new : Option Files) (s : Status) → new ≡ Some files → FilesAfter (writes_of_answer (answer_of words files)) (Some files) new s
-tree_stays words files new s e = rw (command_writes_nothing files (command_of words)) (unchanged (Some files) new s e)
+behind_case : (w : Write) (old new : Option Files) (b : Bool) → new ≡ written w old → MatchBool b (Half w old new) (new ≡ written w old)
+behind_case w old new true e = inr e
+behind_case w old new false e = e
+
+-- the file stands, and then the text was put or not
+pub replaced_stands : (w : Write) (old new : Option Files) (end : Status) → (end ≡ Done) ⊎ IsWriteFault [] end → new ≡ written w old → FilesAfter (w ∷ []) old new end
+replaced_stands w old new Done q e = e
+replaced_stands w old new (WriteFault which faults) q e = behind_case w old new (is_same which w.which) e
+replaced_stands w old new WantOfMemory q e = inr e
+replaced_stands w old new Usage q e = absurd (⊎_elim (λ (d : Usage ≡ Done). absurd cc) (λ (n : ⊥). n) q)
+replaced_stands w old new (NotFound path) q e = absurd (⊎_elim (λ (d : NotFound path ≡ Done). absurd cc) (λ (n : ⊥). n) q)
+replaced_stands w old new (Archive path) q e = absurd (⊎_elim (λ (d : Archive path ≡ Done). absurd cc) (λ (n : ⊥). n) q)
+replaced_stands w old new (BadClass path fault) q e = absurd (⊎_elim (λ (d : BadClass path fault ≡ Done). absurd cc) (λ (n : ⊥). n) q)
+replaced_stands w old new (BadProgram fault) q e = absurd (⊎_elim (λ (d : BadProgram fault ≡ Done). absurd cc) (λ (n : ⊥). n) q)
+replaced_stands w old new (NotGreen tests) q e = absurd (⊎_elim (λ (d : NotGreen tests ≡ Done). absurd cc) (λ (n : ⊥). n) q)
+replaced_stands w old new (ReadFault faults) q e = absurd (⊎_elim (λ (d : ReadFault faults ≡ Done). absurd cc) (λ (n : ⊥). n) q)
+replaced_stands w old new (TooMany what number) q e = absurd (⊎_elim (λ (d : TooMany what number ≡ Done). absurd cc) (λ (n : ⊥). n) q)
+replaced_stands w old new (MachineCheck test class method at) q e = absurd (⊎_elim (λ (d : MachineCheck test class method at ≡ Done). absurd cc) (λ (n : ⊥). n) q)
+
+-- the file couldn't be replaced, or memory ran out then
+pub unreplaced_stands : (w : Write) (old new : Option Files) (s end : Status) → (s ≡ WriteFault w.which 1) ⊎ (s ≡ WantOfMemory) → (end ≡ s) ⊎ (end ≡ WantOfMemory) → Half w old new → FilesAfter (w ∷ []) old new end
+unreplaced_stands w old new s end from same half =
+    let at = λ (e : Status). FilesAfter (w ∷ []) old new e in
+    ⊎_elim
+    (λ (e : end ≡ s).
+    ⊎_elim
+    (λ (f : s ≡ WriteFault w.which 1). subst at (sym (e ∙ f)) (stopped w old new half))
+    (λ (f : s ≡ WantOfMemory). subst at (sym (e ∙ f)) half)
+    from)
+    (λ (lost : end ≡ WantOfMemory). subst at (sym lost) half)
+    same
+
+nothing_stands : (ws : List Write) (old new : Option Files) → new ≡ old → Partly ws old new
+nothing_stands [] old new e = e
+nothing_stands (w ∷ ws) old new e = inl e
+
+-- nothing is written at a refusal
+unchanged : (ws : List Write) (old new : Option Files) (s : Status) → IsRefusal s → new ≡ old → FilesAfter ws old new s
+unchanged ws old new Done q e = absurd q
+unchanged ws old new (WriteFault which faults) q e = absurd q
+unchanged ws old new Usage q e = e
+unchanged ws old new (NotFound path) q e = e
+unchanged ws old new (Archive path) q e = e
+unchanged ws old new (BadClass path fault) q e = e
+unchanged ws old new (BadProgram fault) q e = e
+unchanged ws old new (NotGreen tests) q e = e
+unchanged ws old new (ReadFault faults) q e = e
+unchanged ws old new (TooMany what number) q e = e
+unchanged ws old new (MachineCheck test class method at) q e = e
+unchanged ws old new WantOfMemory q e = nothing_stands ws old new e
+
+-- nothing is written where no file is replaced
+pub tree_stays : (old new : Option Files) (end : Status) → (end ≡ Done) ⊎ IsWriteFault [] end → new ≡ old → FilesAfter [] old new end
+tree_stays old new Done q e = e
+tree_stays old new (WriteFault which faults) q e = e
+tree_stays old new WantOfMemory q e = e
+tree_stays old new Usage q e = e
+tree_stays old new (NotFound path) q e = e
+tree_stays old new (Archive path) q e = e
+tree_stays old new (BadClass path fault) q e = e
+tree_stays old new (BadProgram fault) q e = e
+tree_stays old new (NotGreen tests) q e = e
+tree_stays old new (ReadFault faults) q e = e
+tree_stays old new (TooMany what number) q e = e
+tree_stays old new (MachineCheck test class method at) q e = e
+
+refused_end : (ws : List Write) (old new : Option Files) (s end : Status) → IsRefusal s → (end ≡ s) ⊎ (end ≡ WantOfMemory) → new ≡ old → FilesAfter ws old new end
+refused_end ws old new s end q same e =
+    let at = λ (r : Status). FilesAfter ws old new r in
+    ⊎_elim (λ (is : end ≡ s). subst at (sym is) (unchanged ws old new s q e)) (λ (is : end ≡ WantOfMemory). subst at (sym is) (nothing_stands ws old new e)) same
+
+-- what the tree holds at the end, said of what the files decide
+pub files_by : (held new : Option Files) (stated : Files → Result Answered Status) (answer : Result Answer Status) (end : Status) → IfSome held (λ files. GivesAnswer (stated files) answer) → ForErr answer IsRefusal
+    → MatchResult answer (λ a. (end ≡ Done) ⊎ IsWriteFault (answered a).writes end) (λ s. (end ≡ s) ⊎ (end ≡ WantOfMemory))
+    → MatchResult answer (λ a. FilesAfter (answered a).writes held new end) (λ s. new ≡ held) → IfSome held (λ files. FilesAfter (writes_of_answer (stated files)) (Some files) new end)
+files_by None new stated answer end told refusal status tree = tt
+files_by (Some files) new stated (Ok a) end told refusal status tree = subst (λ (r : Result Answered Status). FilesAfter (writes_of_answer r) (Some files) new end) (sym told) tree
+files_by (Some files) new stated (Err s) end told refusal status tree = refused_end (writes_of_answer (stated files)) (Some files) new s end (refusal s refl) status tree

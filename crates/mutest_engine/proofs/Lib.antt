@@ -1,6 +1,10 @@
 mod DuplicateLaws
 mod Ends
+mod FileLaws
+mod FitLaws
+mod JudgeLaws
 mod OriginalLaws
 mod ProgramLaws
+mod StepLaws
 mod SuiteLaws
 mod WordLaws

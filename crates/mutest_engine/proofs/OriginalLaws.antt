@@ -30,10 +30,10 @@ run_most : (p : Look) (q : Limits) (left : ℕ) (s : MachineState) (n : ℕ) →
 run_most p q zero s n = omega arith
 run_most p q (suc left) s n = then_most (step_of p q s) n left (λ t. run_from p q left t (suc n)) s.world (λ t. run_most p q left t (suc n))
 
-of_most : (p : Look) (q : Limits) (t : Test) (limit : ℕ) → (run_of p (test_of t) q limit).steps ≤ limit
+pub of_most : (p : Look) (q : Limits) (t : Test) (limit : ℕ) → (run_of p (test_of t) q limit).steps ≤ limit
 of_most p q t limit = let most = run_most p q limit (start p (test_of t)) 0 in omega (arith, most)
 
-original_most : (p : Look) (t : Test) → (original_run p t).steps ≤ 10000000
+pub original_most : (p : Look) (t : Test) → (original_run p t).steps ≤ 10000000
 original_most p t = rw (sym (original_is p t)) (of_most p usual t 10000000)
 
 -- ---- all runs

@@ -1,12 +1,13 @@
 -- Files of a suite, read and loaded one after the other, as loops do.
-use Rattle.std.proofs.Common.{◌≡◌, ◌⊎◌, ℕ, Bool, true, false, cond, map, List, [], ◌∷◌, ◌++◌, Option, Some, None, Result, Ok, Err, refl, sym, ap, subst, ◌∙◌, inl, inr, ⊎_elim, append_assoc}
+use Rattle.std.proofs.Common.{◌≡◌, ◌⊎◌, ℕ, Bool, true, false, cond, map, length, List, [], ◌∷◌, ◌++◌, Option, Some, None, Result, Ok, Err, refl, sym, ap, subst, ◌∙◌, inl, inr, ⊎_elim, append_assoc}
 use Rattle.std.specs.Prelude.{IfSome, filter}
 use Rattle.std.proofs.lemmas.List.{append-nil}
 use Rattle.codec_rules.specs.Reading.{with_values}
 use Rattle.class_table.specs.declared.loaded.Loaded.{Loaded}
 use Rattle.mt_edge.specs.Files.{Files}
 use Rattle.mutest_engine.specs.Answers.{and_then, IsReading}
-use Rattle.mutest_engine.specs.SuiteFiles.{read_one, read_from, loaded, all_loaded}
+use Rattle.mutest_engine.specs.SuiteFiles.{read_one, read_from, loaded, all_loaded, both_listed, suite_of}
+use Rattle.mutest_engine.specs.declared.suite.LoadedSuite.{LoadedSuite}
 use Rattle.mutest_engine.specs.declared.suite.ClassFile.{ClassFile}
 use Rattle.mutest_engine.specs.declared.status.Status.{Status}
 
@@ -82,3 +83,38 @@ load_refused front file files s total h so_far = refused_on (loaded file) total 
 
 pub loads_done : (front : List Loaded) (total : Result (List Loaded) Status) → with_values front (all_loaded []) ≡ total → total ≡ Ok front
 loads_done front total so_far = sym so_far ∙ ap all_of (append-nil front)
+
+-- ---- a suite
+
+pub map_both : {X Y : Type 0} (f : X → Y) (xs ys : List X) → map f (xs ++ ys) ≡ map f xs ++ map f ys
+map_both f [] ys = refl
+map_both f (x ∷ xs) ys = ap (λ zs. f x ∷ zs) (map_both f xs ys)
+
+-- these files were read
+abbrev pub read_ok : List (List ℕ) → Files → List ClassFile → Type 0
+read_ok paths files read = read_from 0 paths files ≡ Ok read
+
+abbrev rest_of_suite : Files → List (List ℕ) × List (List ℕ) → Result LoadedSuite Status
+rest_of_suite files paths = and_then (read_from 0 (paths.0 ++ paths.1) files) (λ read. and_then (all_loaded read) (λ all. Ok (record { classes = all; first_test = length paths.0 })))
+
+unread_suite : (files : Files) (one other : List ℕ) (a b all : List (List ℕ)) (s : Status) → both_listed one other files ≡ Ok (a, b) → all ≡ a ++ b → read_from 0 all files ≡ Err s → suite_of one other files ≡ Err s
+unread_suite files one other a b all s listed whole h =
+    let read : read_from 0 (a ++ b) files ≡ Err s = ap (λ ps. read_from 0 ps files) (sym whole) ∙ h in
+    ap (λ r. and_then r (rest_of_suite files)) listed ∙ ap (λ r. and_then r (λ read. and_then (all_loaded read) (λ all. Ok (record { classes = all; first_test = length a })))) read
+
+unloaded_suite : (files : Files) (one other : List ℕ) (a b all : List (List ℕ)) (read : List ClassFile) (s : Status) → both_listed one other files ≡ Ok (a, b) → all ≡ a ++ b → read_from 0 all files ≡ Ok read → all_loaded read ≡ Err s
+    → suite_of one other files ≡ Err s
+unloaded_suite files one other a b all read s listed whole h e =
+    let found : read_from 0 (a ++ b) files ≡ Ok read = ap (λ ps. read_from 0 ps files) (sym whole) ∙ h in
+    ap (λ r. and_then r (rest_of_suite files)) listed ∙ ap (λ r. and_then r (λ read. and_then (all_loaded read) (λ all. Ok (record { classes = all; first_test = length a })))) found
+    ∙ ap (λ r. and_then r (λ all. Ok (record { classes = all; first_test = length a }))) e
+
+pub suite_unread : (held : Option Files) (one other : List ℕ) (a b all : List (List ℕ)) (s : Status) → IfSome held (λ files. both_listed one other files ≡ Ok (a, b)) → all ≡ a ++ b → IfSome held (λ files. Refused (read_from 0 all files) s)
+    → IfSome held (λ files. Refused (suite_of one other files) s)
+suite_unread None one other a b all s listed whole h = tt
+suite_unread (Some files) one other a b all s listed whole h = refused_on (read_from 0 all files) (suite_of one other files) s (unread_suite files one other a b all s listed whole) h
+
+pub suite_unloaded : (held : Option Files) (one other : List ℕ) (a b all : List (List ℕ)) (read : List ClassFile) (s : Status) → IfSome held (λ files. both_listed one other files ≡ Ok (a, b)) → all ≡ a ++ b
+    → IfSome held (λ files. read_from 0 all files ≡ Ok read) → Refused (all_loaded read) s → IfSome held (λ files. Refused (suite_of one other files) s)
+suite_unloaded None one other a b all read s listed whole h e = tt
+suite_unloaded (Some files) one other a b all read s listed whole h e = refused_on (all_loaded read) (suite_of one other files) s (unloaded_suite files one other a b all read s listed whole h) e

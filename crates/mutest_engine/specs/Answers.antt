@@ -1,12 +1,19 @@
 -- What a command's answer is made of, and how a status agrees with it (this project's own).
-use Rattle.std.specs.Prelude.{◌≡◌, ◌⊎◌, ℕ, ◌+◌, ◌-◌, ◌^◌, ◌<◌, ◌≤◌, min, List, [], nat_lt, if◌then◌else◌, length, Option, None, Some, Result, Ok, Err, MatchResult}
+use Rattle.std.specs.Prelude.{◌≡◌, ◌⊎◌, ℕ, ◌+◌, ◌-◌, ◌^◌, ◌<◌, ◌≤◌, min, List, [], ◌∷◌, nat_lt, if◌then◌else◌, length, Option, None, Some, option_map, Result, Ok, Err, MatchResult}
+use Rattle.std.specs.Option.{option_to_list}
 use Rattle.std.specs.FinMap.{get}
 use Rattle.class_model.specs.declared.class.Class.{Class}
 use Rattle.class_model.specs.declared.fault.ClassFault.{ClassFault}
 use Rattle.class_model.specs.declared.fault.ClassFault.TheVariants as class_fault
 use Rattle.class_reader.specs.Reading.{class_of_file}
 use Rattle.mt_edge.specs.Files.{Files}
-use Rattle.mutest_engine.specs.Words.{Command}
+use Rattle.class_table.specs.declared.fault.TableFault.TheVariants as table
+use Rattle.mutest_engine.specs.Words.{Command, list_class, run_suite}
+use Rattle.mutest_engine.specs.declared.answer.Answer.{Answer}
+use Rattle.mutest_engine.specs.declared.answer.Report.{Report}
+use Rattle.mutest_engine.specs.declared.status.ProgramFault.{ProgramFault}
+use Rattle.mutest_engine.specs.declared.status.ProgramFault.TheVariants.{Table}
+use Rattle.mutest_engine.specs.declared.status.Limit.{Limit}
 use Rattle.mutest_engine.specs.declared.status.Status.{Status}
 use Rattle.mutest_engine.specs.declared.status.Status.TheVariants.{Done, Usage, NotFound, Archive, BadClass, BadProgram, NotGreen, ReadFault, WriteFault, TooMany, MachineCheck, WantOfMemory}
 use Rattle.mutest_engine.specs.declared.status.Output.{Output}
@@ -43,6 +50,13 @@ held_at path (Some bytes) = within_limit bytes
 abbrev pub file_of : List ℕ → Files → Result (List ℕ) Status
 file_of path files = held_at path (get files path)
 
+-- the answer that the code has
+abbrev pub write_of : Report → Write
+write_of r = record { which = output.Report; path = r.path.now; bytes = r.bytes }
+
+abbrev pub answered : Answer → Answered
+answered a = record { writes = option_to_list (option_map write_of a.report); text = a.text }
+
 -- how a fault of a file is refused
 abbrev pub refusal_of : List ℕ → ClassFault → Status
 refusal_of path class_fault.Memory = WantOfMemory
@@ -58,7 +72,7 @@ spelled_class path bytes = or_refusal path (class_of_file bytes)
 
 -- ---- how a status agrees with the answer
 
--- the statuses that words and files don't decide, before anything is written
+-- the statuses that words and files don't decide, but for faults of writing
 abbrev pub IsReading : Status → Type 0
 IsReading Done = ⊥
 IsReading Usage = ⊥
@@ -81,38 +95,108 @@ Gives stated result = MatchResult result (λ x. stated ≡ Ok x) (λ s. (stated 
 abbrev pub GivesBy : {X Y : Type 0} → (X → Y) → Result Y Status → Result X Status → Type 0
 GivesBy view stated result = MatchResult result (λ x. stated ≡ Ok (view x)) (λ s. (stated ≡ Err s) ⊎ IsReading s)
 
--- the same of the text of a command that replaces no file
-abbrev pub GivesText : Result Answered Status → Result (List ℕ) Status → Type 0
-GivesText stated result = MatchResult result (λ text. stated ≡ Ok (record { writes = []; text = text })) (λ s. (stated ≡ Err s) ⊎ IsReading s)
+-- the same of the answer of a command
+abbrev pub GivesAnswer : Result Answered Status → Result Answer Status → Type 0
+GivesAnswer stated result = GivesBy answered stated result
 
--- the statuses that come before anything is written
+-- a fault of a class file; want of memory is none
+abbrev pub IsClassFault : ClassFault → Type 0
+IsClassFault class_fault.Memory = ⊥
+IsClassFault e = Unit {0}
+
+abbrev pub IsProgramFault : ProgramFault → Type 0
+IsProgramFault (Table table.Memory) = ⊥
+IsProgramFault fault = Unit {0}
+
+-- a count that passes its limit: the first that does, or for bytes the whole
+abbrev pub IsPassed : Limit → ℕ → Type 0
+IsPassed limit.Classes number = number ≡ 20001
+IsPassed limit.Class number = 4194304 < number
+IsPassed limit.Bytes number = 67108864 < number
+IsPassed limit.Tests number = number ≡ 65536
+IsPassed limit.Mutants number = number ≡ 262145
+IsPassed other number = ⊥
+
+-- The statuses that come before anything is written. Want of memory is a status of its own.
 abbrev pub IsRefusal : Status → Type 0
 IsRefusal Done = ⊥
 IsRefusal (WriteFault which faults) = ⊥
 IsRefusal Usage = Unit {0}
 IsRefusal (NotFound path) = Unit {0}
 IsRefusal (Archive path) = Unit {0}
-IsRefusal (BadClass path e) = Unit {0}
-IsRefusal (BadProgram fault) = Unit {0}
+IsRefusal (BadClass path e) = IsClassFault e
+IsRefusal (BadProgram fault) = IsProgramFault fault
 IsRefusal (NotGreen tests) = Unit {0}
 IsRefusal (ReadFault faults) = Unit {0}
-IsRefusal (TooMany what number) = Unit {0}
+IsRefusal (TooMany what number) = IsPassed what number
 IsRefusal (MachineCheck test class method at) = Unit {0}
 IsRefusal WantOfMemory = Unit {0}
 
+-- those of them that the words don't decide
+abbrev pub IsLater : Status → Type 0
+IsLater Usage = ⊥
+IsLater (Archive path) = ⊥
+IsLater s = IsRefusal s
+
+-- those of them that don't come of the tree
+abbrev pub IsOfClasses : Status → Type 0
+IsOfClasses (ReadFault faults) = ⊥
+IsOfClasses (NotFound path) = ⊥
+IsOfClasses s = IsLater s
+
+-- those of them that come of one class file
+abbrev pub IsOfFile : List ℕ → Status → Type 0
+IsOfFile path (NotFound p) = p ≡ path
+IsOfFile path (BadClass p e) = (p ≡ path) × IsClassFault e
+IsOfFile path (TooMany limit.Class number) = 4194304 < number
+IsOfFile path (ReadFault faults) = Unit {0}
+IsOfFile path WantOfMemory = Unit {0}
+IsOfFile path s = ⊥
+
+-- those of them that come of runs
+abbrev pub IsOfRuns : Status → Type 0
+IsOfRuns (NotGreen tests) = Unit {0}
+IsOfRuns (MachineCheck test class method at) = Unit {0}
+IsOfRuns WantOfMemory = Unit {0}
+IsOfRuns s = ⊥
+
+-- one of the files that are replaced, or the sink
+abbrev pub IsWritten : List Write → Output → Type 0
+IsWritten [] which = which ≡ output.Output
+IsWritten (w ∷ ws) which = (which ≡ w.which) ⊎ IsWritten ws which
+
+-- how the carrying out of an answer may fail
+abbrev pub IsWriteFault : List Write → Status → Type 0
+IsWriteFault ws (WriteFault which faults) = IsWritten ws which
+IsWriteFault ws WantOfMemory = Unit {0}
+IsWriteFault ws s = ⊥
+
 -- a fault of writing comes only where there is something to write
-abbrev pub IsFault : Status → Type 0
-IsFault (WriteFault which faults) = Unit {0}
-IsFault s = IsReading s
+abbrev pub IsFault : List Write → Status → Type 0
+IsFault ws (WriteFault which faults) = IsWritten ws which
+IsFault ws s = IsReading s
 
 -- The status is the stated one. In its place there may be a fault of reading or want of memory, and a fault of writing where the command is carried out.
 abbrev pub Agrees : Result Answered Status → Status → Type 0
-Agrees (Ok answered) s = (s ≡ Done) ⊎ IsFault s
+Agrees (Ok answered) s = (s ≡ Done) ⊎ IsFault answered.writes s
 Agrees (Err e) s = (s ≡ e) ⊎ IsReading s
 
--- where the files aren't told, the same of what the words alone decide
+-- what a command writes
+abbrev pub Writes : Command → Output → Type 0
+Writes (list_class path) which = which ≡ output.Output
+Writes (run_suite suite) which = (which ≡ output.Report) ⊎ (which ≡ output.Output)
+
+-- How a call of a command may end, whatever the tree holds: with no refusal of the words, with those of its file alone for a listing, and with a fault of writing only of what the command writes.
+abbrev pub Ends : Command → Status → Type 0
+Ends command Done = Unit {0}
+Ends command (WriteFault which faults) = Writes command which
+Ends (list_class path) s = IsOfFile path s
+Ends (run_suite suite) s = IsLater s
+
+-- Whatever the tree holds, the refusals of the words come exactly where the words say so.
 abbrev pub AgreesUntold : Result Command Status → Status → Type 0
-AgreesUntold stated s = (stated ≡ Err Usage → (s ≡ Usage) ⊎ (s ≡ WantOfMemory)) × (s ≡ Usage → stated ≡ Err Usage)
+AgreesUntold (Ok command) s = Ends command s
+AgreesUntold (Err e) s = (s ≡ e) ⊎ (s ≡ WantOfMemory)
 
 -- ---- faults
 

@@ -1,32 +1,57 @@
 -- What the words of the command line and the files that are held decide: each command's answer, and the steps that it takes (this project's own).
-use Rattle.std.specs.Prelude.{◌≡◌, ℕ, ◌+◌, ◌≤◌, List, [], Result, Ok, Err}
+use Rattle.std.specs.Prelude.{◌≡◌, ℕ, ◌+◌, ◌≤◌, List, [], ◌∷◌, Result, Ok, Err}
+use Rattle.class_model.specs.declared.class.Class.{Class}
 use Rattle.mt_edge.specs.Files.{Files}
 use Rattle.mutator_ops.specs.Mutants.{class_mutants}
 use Rattle.mutator_ops.specs.Printing.{id_lines}
-use Rattle.mutest_engine.specs.Words.{Command, list_class, run_suite, Suite, command_of}
-use Rattle.mutest_engine.specs.Answers.{Answered, and_then, file_of, spelled_class}
+use Rattle.report_schema.specs.Report.{ReportText}
+use Rattle.report_schema.specs.Summary.{Summary}
+use Rattle.report_schema.specs.declared.input.ReportInput.{ReportInput}
+use Rattle.mutest_engine.specs.Words.{Command, list_class, run_suite, Suite, words_of}
+use Rattle.mutest_engine.specs.Answers.{Answered, and_then, file_of, spelled_class, Ends}
 use Rattle.mutest_engine.specs.SuiteFiles.{suite_of}
-use Rattle.mutest_engine.specs.Originals.{judged, suite_steps}
+use Rattle.mutest_engine.specs.Mutation.{judged, suite_steps}
 use Rattle.mutest_engine.specs.declared.suite.LoadedSuite.{LoadedSuite}
 use Rattle.mutest_engine.specs.declared.status.Status.{Status}
-use Rattle.mutest_engine.specs.declared.status.Status.TheVariants.{ReadFault, WantOfMemory}
+use Rattle.mutest_engine.specs.declared.status.Status.TheVariants.{Usage, NotFound, Archive, BadClass, BadProgram, ReadFault, TooMany, WantOfMemory}
+use Rattle.mutest_engine.specs.declared.status.Output.TheVariants.{Report}
 
 -- ---- answers
 
-abbrev pub list_answer : List ℕ → Files → Result (List ℕ) Status
-list_answer path files = and_then (file_of path files) (λ bytes. and_then (spelled_class path bytes) (λ class. Ok (id_lines (class_mutants class))))
+-- The identifiers of the mutants are put.
+abbrev pub listing : Class → Answered
+listing class = record { writes = []; text = id_lines (class_mutants class) }
 
--- Where all tests pass on the program as it is, nothing is put yet.
-abbrev pub run_answer : Suite → Files → Result (List ℕ) Status
-run_answer suite files = and_then (suite_of suite.classes suite.tests files) (λ loaded. and_then (judged loaded) (λ ok. Ok []))
+abbrev pub list_answer : List ℕ → Files → Result Answered Status
+list_answer path files = and_then (file_of path files) (λ bytes. and_then (spelled_class path bytes) (λ class. Ok (listing class)))
+
+-- The report is replaced, and then the summary is put.
+abbrev pub report_answer : List ℕ → ReportInput → Answered
+report_answer path input = record { writes = record { which = Report; path = path; bytes = ReportText input } ∷ []; text = Summary input.verdicts }
+
+abbrev pub run_answer : Suite → Files → Result Answered Status
+run_answer suite files = and_then (suite_of suite.classes suite.tests files) (λ loaded. and_then (judged loaded) (λ input. Ok (report_answer suite.report input)))
 
 abbrev pub answer_to : Command → Files → Result Answered Status
-answer_to (list_class path) files = and_then (list_answer path files) (λ text. Ok (record { writes = []; text = text }))
-answer_to (run_suite suite) files = and_then (run_answer suite files) (λ text. Ok (record { writes = []; text = text }))
+answer_to (list_class path) files = list_answer path files
+answer_to (run_suite suite) files = run_answer suite files
 
 -- What the words and the files decide.
 abbrev pub answer_of : List (List ℕ) → Files → Result Answered Status
-answer_of words files = and_then (command_of words) (λ command. answer_to command files)
+answer_of words files = and_then (words_of words) (λ command. answer_to command files)
+
+-- ---- answers where the tree doesn't tell its files
+
+-- The answer is that of some class, or of some suite whose tests pass.
+abbrev pub CanAnswer : Command → Answered → Type 0
+CanAnswer (list_class path) a = (class : Class) × (a ≡ listing class)
+CanAnswer (run_suite suite) a = (s : LoadedSuite) × (input : ReportInput) × (judged s ≡ Ok input) × (a ≡ report_answer suite.report input)
+
+-- What may be said: the refusal of the words, or an answer or a refusal of the command.
+abbrev pub CanSay : Result Command Status → Result Answered Status → Type 0
+CanSay (Ok command) (Ok a) = CanAnswer command a
+CanSay (Ok command) (Err e) = Ends command e
+CanSay (Err e) stated = stated ≡ Err e
 
 -- ---- steps
 
@@ -41,10 +66,21 @@ steps_to (Ok (run_suite suite)) files = steps_with (suite_of suite.classes suite
 steps_to (Err status) files = 0
 
 abbrev pub steps_of : List (List ℕ) → Files → ℕ
-steps_of words files = steps_to (command_of words) files
+steps_of words files = steps_to (words_of words) files
 
 -- The meter rose by exactly these steps. A fault of reading comes before all runs, and memory may run out before or among them.
 abbrev pub MeterRose : ℕ → ℕ → ℕ → Status → Type 0
 MeterRose before after steps (ReadFault faults) = after ≡ before
 MeterRose before after steps WantOfMemory = (before ≤ after) × (after ≤ before + steps)
 MeterRose before after steps s = after ≡ before + steps
+
+-- A refusal that comes before all runs leaves the meter as it is, and none lets it fall.
+abbrev pub MeterStays : ℕ → ℕ → Status → Type 0
+MeterStays before after Usage = after ≡ before
+MeterStays before after (NotFound path) = after ≡ before
+MeterStays before after (Archive path) = after ≡ before
+MeterStays before after (BadClass path fault) = after ≡ before
+MeterStays before after (BadProgram fault) = after ≡ before
+MeterStays before after (ReadFault faults) = after ≡ before
+MeterStays before after (TooMany what number) = after ≡ before
+MeterStays before after s = before ≤ after

@@ -3,6 +3,7 @@ pub mod Answers
 pub mod SuiteFiles
 pub mod Duplicates
 pub mod Originals
+pub mod Mutation
 pub mod Decided
 pub mod StatusText
 pub mod Said

@@ -122,6 +122,10 @@ all_passed (test ∷ tests) = Err (NotGreen (test ∷ tests))
 abbrev pub green : Look → List Test → Result (Unit {0}) Status
 green p ts = and_then (all_settled p ts) all_passed
 
+-- The steps of each test's run on the program as it is.
+abbrev pub original_steps : Look → List Test → List ℕ
+original_steps p ts = map (λ t. (original_run p t).steps) ts
+
 -- No test is run behind one that is stuck.
 abbrev pub unless_stuck : Ending → ℕ → ℕ
 unless_stuck (With outcome) steps = steps
@@ -131,20 +135,3 @@ unless_stuck (StuckAt place) steps = 0
 abbrev pub steps_made : Look → List Test → ℕ
 steps_made p [] = 0
 steps_made p (t ∷ ts) = (original_run p t).steps + unless_stuck (original_run p t).ending (steps_made p ts)
-
--- ---- a suite
-
--- What is asked of a suite before a test is run.
-abbrev pub ready : LoadedSuite → Result (Unit {0}) Status
-ready s = and_then (accepted (classes_in s.classes)) (λ ok. few_tests (length (tests_of s)))
-
-abbrev pub judged : LoadedSuite → Result (Unit {0}) Status
-judged s = and_then (ready s) (λ ok. green (program_of (classes_in s.classes)) (tests_of s))
-
-abbrev pub if_ready : Result (Unit {0}) Status → ℕ → ℕ
-if_ready (Ok ok) steps = steps
-if_ready (Err status) steps = 0
-
--- The steps of all runs that are made for a suite.
-abbrev pub suite_steps : LoadedSuite → ℕ
-suite_steps s = if_ready (ready s) (steps_made (program_of (classes_in s.classes)) (tests_of s))

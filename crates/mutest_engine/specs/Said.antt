@@ -26,20 +26,33 @@ pub record Broken (before after : Option (List ℕ)) (text line : List ℕ) : Ty
   pub refused : IsPrefix rest line
   pub grown : Grows before after (part ++ rest)
 
--- Memory ran out: a beginning of what would have been said. That is the text of the command, with the refusal of a failed output behind it; the line of the stated refusal; or that of a
--- fault of reading.
-abbrev pub Interrupted : Result (List ℕ) Status → Option (List ℕ) → Option (List ℕ) → Type 0
-Interrupted (Ok text) before after = Broken before after text (line_of (WriteFault Printed 1)) ⊎ GrowsBy before after (line_of (ReadFault 1))
+-- a beginning of the refusal of a file that couldn't be replaced
+abbrev pub HalfRefused : List Write → Option (List ℕ) → Option (List ℕ) → Type 0
+HalfRefused [] before after = ⊥
+HalfRefused (w ∷ ws) before after = GrowsBy before after (line_of (WriteFault w.which 1)) ⊎ HalfRefused ws before after
+
+-- Memory ran out: a beginning of what would have been said. That is the text of the command, with the refusal of a failed output behind it; the refusal of a file that couldn't be replaced; the line of
+-- the stated refusal; or that of a fault of reading.
+abbrev pub Interrupted : Result Answered Status → Option (List ℕ) → Option (List ℕ) → Type 0
+Interrupted (Ok answered) before after = Broken before after answered.text (line_of (WriteFault Printed 1)) ⊎ (HalfRefused answered.writes before after ⊎ GrowsBy before after (line_of (ReadFault 1)))
 Interrupted (Err e) before after = GrowsBy before after (line_of e) ⊎ GrowsBy before after (line_of (ReadFault 1))
 
-abbrev pub text_of : Result (List ℕ) Status → List ℕ
-text_of (Ok text) = text
+abbrev pub text_of : Result Answered Status → List ℕ
+text_of (Ok answered) = answered.text
 text_of (Err e) = []
 
--- What a status leaves, where this text or this refusal is stated.
-abbrev pub Leaves : ℕ → ℕ → Option (List ℕ) → Option (List ℕ) → Result (List ℕ) Status → Status → Type 0
+-- A failed output leaves a beginning of the text before its refusal; a file that couldn't be replaced leaves its refusal alone.
+abbrev pub LeavesFault : ℕ → ℕ → Option (List ℕ) → Option (List ℕ) → List ℕ → Output → ℕ → Type 0
+LeavesFault put0 put1 before after text Printed faults = Broken before after text (line_of (WriteFault Printed faults))
+LeavesFault put0 put1 before after text Report faults = Got put0 put1 before after (line_of (WriteFault Report faults))
+LeavesFault put0 put1 before after text History faults = Got put0 put1 before after (line_of (WriteFault History faults))
+LeavesFault put0 put1 before after text Journal faults = Got put0 put1 before after (line_of (WriteFault Journal faults))
+LeavesFault put0 put1 before after text Assembled faults = Got put0 put1 before after (line_of (WriteFault Assembled faults))
+
+-- What a status leaves, where this answer or this refusal is stated.
+abbrev pub Leaves : ℕ → ℕ → Option (List ℕ) → Option (List ℕ) → Result Answered Status → Status → Type 0
 Leaves put0 put1 before after stated Done = Grows before after (text_of stated)
-Leaves put0 put1 before after stated (WriteFault which faults) = Broken before after (text_of stated) (line_of (WriteFault which faults))
+Leaves put0 put1 before after stated (WriteFault which faults) = LeavesFault put0 put1 before after (text_of stated) which faults
 Leaves put0 put1 before after stated WantOfMemory = Interrupted stated before after
 Leaves put0 put1 before after stated Usage = Got put0 put1 before after (line_of Usage)
 Leaves put0 put1 before after stated (NotFound path) = Got put0 put1 before after (line_of (NotFound path))
@@ -50,11 +63,6 @@ Leaves put0 put1 before after stated (NotGreen tests) = Got put0 put1 before aft
 Leaves put0 put1 before after stated (ReadFault faults) = Got put0 put1 before after (line_of (ReadFault faults))
 Leaves put0 put1 before after stated (TooMany what number) = Got put0 put1 before after (line_of (TooMany what number))
 Leaves put0 put1 before after stated (MachineCheck test class method at) = Got put0 put1 before after (line_of (MachineCheck test class method at))
-
--- the text of an answer
-abbrev pub text_stated : Result Answered Status → Result (List ℕ) Status
-text_stated (Ok answered) = Ok answered.text
-text_stated (Err status) = Err status
 
 -- ---- the tree
 

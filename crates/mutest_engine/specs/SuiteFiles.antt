@@ -1,26 +1,15 @@
 -- What the command `run` reads: the class files of two folders, in the order in which refusals come (this project's own).
-use Rattle.std.specs.Prelude.{ℕ, ◌+◌, List, [], ◌∷◌, ◌++◌, Bool, ◌||◌, nat_lt, nat_eq, ◌==◌, if◌then◌else◌, length, filter, codes, Result, Ok, Err}
-use Rattle.std.specs.List.{ends_with}
+use Rattle.std.specs.Prelude.{ℕ, ◌+◌, List, [], ◌∷◌, ◌++◌, Bool, nat_lt, ◌==◌, if◌then◌else◌, length, filter, codes, Result, Ok, Err}
 use Rattle.class_model.specs.declared.class.Class.{Class}
 use Rattle.class_table.specs.declared.loaded.Loaded.{Loaded}
 use Rattle.mt_edge.specs.Files.{Files, listed}
+use Rattle.mutest_engine.specs.Words.{ends_in}
 use Rattle.mutest_engine.specs.Answers.{and_then, file_of, spelled_class}
 use Rattle.mutest_engine.specs.declared.suite.ClassFile.{ClassFile}
 use Rattle.mutest_engine.specs.declared.suite.LoadedSuite.{LoadedSuite}
 use Rattle.mutest_engine.specs.declared.status.Status.{Status}
-use Rattle.mutest_engine.specs.declared.status.Status.TheVariants.{NotFound, Archive, TooMany}
+use Rattle.mutest_engine.specs.declared.status.Status.TheVariants.{NotFound, TooMany}
 use Rattle.mutest_engine.specs.declared.status.Limit.TheVariants as limit
-
--- ---- archives, which aren't read
-
-abbrev pub ends_in : List ℕ → List ℕ → Bool
-ends_in word end = ends_with nat_eq word end
-
-abbrev pub is_archive : List ℕ → Bool
-is_archive folder = ends_in folder (codes ".jar") || (ends_in folder (codes ".zip") || ends_in folder (codes ".war"))
-
-abbrev pub no_archive : List ℕ → Result (Unit {0}) Status
-no_archive folder = if is_archive folder then Err (Archive folder) else Ok tt
 
 -- ---- paths
 
@@ -74,5 +63,4 @@ all_loaded (file ∷ files) = and_then (loaded file) (λ first. and_then (all_lo
 -- The classes of both folders, those of the tests behind the others.
 abbrev pub suite_of : List ℕ → List ℕ → Files → Result LoadedSuite Status
 suite_of classes_folder tests_folder files =
-    and_then (no_archive classes_folder) (λ one. and_then (no_archive tests_folder) (λ other.
-    and_then (both_listed classes_folder tests_folder files) (λ paths. and_then (read_from 0 (paths.0 ++ paths.1) files) (λ read. and_then (all_loaded read) (λ all. Ok (record { classes = all; first_test = length paths.0 }))))))
+    and_then (both_listed classes_folder tests_folder files) (λ paths. and_then (read_from 0 (paths.0 ++ paths.1) files) (λ read. and_then (all_loaded read) (λ all. Ok (record { classes = all; first_test = length paths.0 }))))

@@ -1,5 +1,6 @@
 -- Which command the words behind the program's name are (this project's own).
-use Rattle.std.specs.Prelude.{ℕ, List, [], ◌∷◌, Bool, ◌&&◌, not, nat_eq, ◌==◌, if◌then◌else◌, length, slice_index, codes, Result, Ok, Err}
+use Rattle.std.specs.Prelude.{ℕ, List, [], ◌∷◌, Bool, ◌&&◌, ◌||◌, not, nat_eq, ◌==◌, if◌then◌else◌, length, slice_index, codes, Result, Ok, Err}
+use Rattle.std.specs.List.{ends_with}
 use Rattle.std.specs.Cmp.Lexicographic.{pointwise}
 use Rattle.std.specs.Io.BufRead.{strip_last}
 use Rattle.mt_edge.specs.Files.{slash}
@@ -7,7 +8,7 @@ use Rattle.mutest_engine.specs.declared.commands.Suite.{Suite as Found}
 use Rattle.mutest_engine.specs.declared.commands.Asked.{Asked}
 use Rattle.mutest_engine.specs.declared.commands.Asked.TheVariants as found
 use Rattle.mutest_engine.specs.declared.status.Status.{Status}
-use Rattle.mutest_engine.specs.declared.status.Status.TheVariants.{Usage}
+use Rattle.mutest_engine.specs.declared.status.Status.TheVariants.{Usage, Archive}
 
 -- the folders of classes and of tests, and the path of the report
 pub record Suite : Type 0 where
@@ -50,6 +51,29 @@ abbrev pub command_of : List (List ℕ) → Result Command Status
 command_of (list ∷ file ∷ []) = list_of list file
 command_of (run ∷ for_classes ∷ classes ∷ for_tests ∷ tests ∷ for_report ∷ report ∷ []) = run_of run for_classes classes for_tests tests for_report report
 command_of other = Err Usage
+
+-- ---- archives, which aren't read
+
+abbrev pub ends_in : List ℕ → List ℕ → Bool
+ends_in word end = ends_with nat_eq word end
+
+abbrev pub is_archive : List ℕ → Bool
+is_archive folder = ends_in folder (codes ".jar") || (ends_in folder (codes ".zip") || ends_in folder (codes ".war"))
+
+-- The command, where none of its folders is an archive; that of the classes is asked first.
+abbrev pub without_archive : Command → Result Command Status
+without_archive (list_class path) = Ok (list_class path)
+without_archive (run_suite suite) = if is_archive suite.classes then Err (Archive suite.classes) else if is_archive suite.tests then Err (Archive suite.tests) else Ok (run_suite suite)
+
+abbrev pub unless_archive : Result Command Status → Result Command Status
+unless_archive (Ok command) = without_archive command
+unless_archive (Err status) = Err status
+
+-- What the words decide alone: the command, or the refusal of the words.
+abbrev pub words_of : List (List ℕ) → Result Command Status
+words_of words = unless_archive (command_of words)
+
+-- ---- what the words were found to be
 
 -- the suite that the words were found to name
 abbrev pub suite_asked : Found → Suite

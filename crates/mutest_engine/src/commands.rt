@@ -1,8 +1,13 @@
 //! The words of the command line.
 
-ghost use Rattle.std.specs.Prelude.{◌≡◌, map, string_bytes, MatchOption, Ok, Err};
-ghost use Rattle.mutest_engine.specs.Words.{command_of, list_of, run_of, is_value, folder_of, asked};
-ghost use Rattle.mutest_engine.specs.declared.status.Status.TheVariants.{Usage};
+ghost use Rattle.std.specs.Prelude.{◌≡◌, ◌⊎◌, true, false, map, string_bytes, MatchOption, MatchResult, IfErr, Ok, Err};
+ghost use Rattle.mutest_engine.specs.Words.{command_of, list_of, run_of, is_value, folder_of, is_archive, words_of, asked};
+ghost use Rattle.mutest_engine.specs.Answers.{IsRefusal, CountsFaults};
+ghost use Rattle.mutest_engine.specs.declared.status.Status.TheVariants.{Usage, Archive, WantOfMemory};
+
+use crate::status::Status;
+use class_model::Bytes;
+use std::alloc::Global;
 
 /// The folders of classes and of tests, and the path of the report. A folder has no `/` at its end that the word had.
 #[derive(Clone, Copy)]
@@ -78,8 +83,8 @@ fn running<'a>(
     }
 }
 
-/// The command that the words are: `list FILE`, or `run --classes DIR --tests DIR --report FILE`.
-pub fn command(words: &Vec<String>) -> Option<Asked<'_>>
+// The command that the words are: `list FILE`, or `run --classes DIR --tests DIR --report FILE`.
+fn command(words: &Vec<String>) -> Option<Asked<'_>>
     ensures { MatchOption result (command_of (map string_bytes words.now.items) ≡ Err Usage) (λ command. command_of (map string_bytes words.now.items) ≡ Ok (asked command)) }
 {
     let words = words.as_slice();
@@ -98,4 +103,37 @@ pub fn command(words: &Vec<String>) -> Option<Asked<'_>>
         );
     }
     None
+}
+
+fn is_archive(folder: &str) -> bool
+    ensures { result ≡ is_archive folder.now }
+{
+    let bytes = folder.as_bytes();
+    bytes.ends_with(b".jar") || bytes.ends_with(b".zip") || bytes.ends_with(b".war")
+}
+
+fn no_archive(alloc: Global, folder: &str) -> Result<(), Status>
+    ensures { MatchResult result (λ _. is_archive folder.now ≡ false) (λ s. ((is_archive folder.now ≡ true) × (s ≡ Archive folder.now)) ⊎ (s ≡ WantOfMemory)) }
+{
+    if is_archive(folder) {
+        let path = Bytes::from_slice(alloc, folder.as_bytes())?;
+        return Err(Status::Archive { path });
+    }
+    Ok(())
+}
+
+/// What the words decide alone: the command that they are, unless one of its folders is an archive.
+pub fn asked_by<'a>(alloc: Global, words: &'a Vec<String>) -> Result<Asked<'a>, Status>
+    ensures told { MatchResult result (λ command. words_of (map string_bytes words.now.items) ≡ Ok (asked command)) (λ s. (words_of (map string_bytes words.now.items) ≡ Err s) ⊎ (s ≡ WantOfMemory)) }
+    ensures refusal { IfErr result (λ s. IsRefusal s × CountsFaults 0 0 0 0 0 0 s) }
+{
+    match command(words) {
+        None => Err(Status::Usage),
+        Some(Asked::List(file)) => Ok(Asked::List(file)),
+        Some(Asked::Run(suite)) => {
+            no_archive(alloc, suite.classes)?;
+            no_archive(alloc, suite.tests)?;
+            Ok(Asked::Run(suite))
+        }
+    }
 }

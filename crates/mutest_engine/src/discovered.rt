@@ -1,7 +1,10 @@
 //! The tests of a suite, in the order of their classes' names.
 
-ghost use Rattle.std.specs.Prelude.{◌≡◌, map, drop, IfOk};
+ghost use Rattle.std.specs.Prelude.{◌≡◌, map, drop, IfOk, IfErr};
 ghost use Rattle.std.specs.List.{flat_map};
+ghost use Rattle.class_model.specs.Text.{text};
+ghost use Rattle.class_table.specs.Info.{own_name};
+ghost use Rattle.mutest_engine.specs.Answers.{IsOfClasses, CountsFaults};
 ghost use Rattle.mutest_engine.specs.Originals.{tests_by_name, classes_in, ordered, tests_among, few_tests};
 
 use crate::status::{Limit, Status};
@@ -14,15 +17,21 @@ use test_discovery::class_tests;
 
 const TESTS_LIMIT: usize = 65_535;
 
+/// The name of a class in modified UTF-8.
+pub fn class_name(alloc: Global, class: &Class) -> Result<Bytes, Memory>
+    ensures { IfOk result (λ name. name ≡ text (own_name class.now)) }
+{
+    match class_name_of(class.pool.as_slice(), class.this) {
+        Some(name) => write_text(alloc, name),
+        None => Ok(Bytes::new(alloc)),
+    }
+}
+
 // The tests of a class, and its name in modified UTF-8.
 fn tests_by_name(alloc: Global, class: &Class) -> Result<(Bytes, Seq<Test>), Memory>
     ensures { IfOk result (λ found. found ≡ tests_by_name class.now) }
 {
-    let name = match class_name_of(class.pool.as_slice(), class.this) {
-        Some(name) => write_text(alloc, name)?,
-        None => Bytes::new(alloc),
-    };
-    Ok((name, class_tests(alloc, class)?))
+    Ok((class_name(alloc, class)?, class_tests(alloc, class)?))
 }
 
 fn all_by_name(alloc: Global, classes: &[Loaded]) -> Result<BTreeMap<Bytes, Seq<Test>>, Memory>
@@ -36,14 +45,17 @@ fn all_by_name(alloc: Global, classes: &[Loaded]) -> Result<BTreeMap<Bytes, Seq<
     Ok(found)
 }
 
-// All tests, in the order of the keys.
-fn joined(alloc: Global, mut by_name: BTreeMap<Bytes, Seq<Test>>) -> Result<Seq<Test>, Memory>
-    ensures { IfOk result (λ tests. tests ≡ flat_map (λ e. e.1) by_name.entries) }
+/// All lists one behind the other, in the order of the keys.
+pub fn joined<X: Drop>(
+    alloc: Global,
+    mut by_name: BTreeMap<Bytes, Seq<X>>,
+) -> Result<Seq<X>, Memory>
+    ensures { IfOk result (λ all. all ≡ flat_map (λ e. e.1) by_name.entries) }
 {
     let mut all = Vec::new(alloc);
-    while let Some((_, tests)) = by_name.pop_first() {
-        let mut tests = tests.into_vec();
-        all.append(&mut tests)?;
+    while let Some((_, list)) = by_name.pop_first() {
+        let mut list = list.into_vec();
+        all.append(&mut list)?;
     }
     Ok(Seq::from_vec(all))
 }
@@ -57,12 +69,13 @@ pub fn tests_of(alloc: Global, classes: &[Loaded], first: usize) -> Result<Seq<T
         None => &[],
     };
     let by_name = all_by_name(alloc, of_tests)?;
-    Ok(joined(alloc, by_name)?)
+    joined(alloc, by_name)
 }
 
 /// So many tests are few enough.
 pub fn few_tests(count: usize) -> Result<(), Status>
-    ensures { result ≡ few_tests count }
+    ensures told { result ≡ few_tests count }
+    ensures refusal { IfErr result (λ s. IsOfClasses s × CountsFaults 0 0 0 0 0 0 s) }
 {
     if count > TESTS_LIMIT {
         return Err(Status::TooMany {

@@ -1,9 +1,10 @@
 //! The program of a suite.
 
-ghost use Rattle.std.specs.Prelude.{◌≡◌, ◌≢◌, ◌⊎◌, ◌<◌, ℕ, length, slice_get, IsSomeAnd, Ok, Err, MatchResult, IfErr};
+ghost use Rattle.std.specs.Prelude.{◌≡◌, ◌⊎◌, ◌<◌, ℕ, length, slice_get, IsSomeAnd, Ok, Err, MatchResult, IfOk, IfErr};
 ghost use Rattle.class_table.specs.Table.{look};
-ghost use Rattle.mutest_engine.specs.declared.status.Status.TheVariants.{Usage};
-ghost use Rattle.mutest_engine.specs.Answers.{IsReading, IsRefusal, CountsFaults};
+ghost use Rattle.mutest_engine.specs.Answers.{IsReading, IsOfClasses, CountsFaults};
+ghost use Rattle.mutant_runs.specs.Programs.{files_of};
+ghost use Rattle.mutest_engine.specs.Mutation.{class_file};
 ghost use Rattle.mutest_engine.specs.Originals.{classes_in, AreOfBodies, program_of, accepted};
 
 use crate::status::{ProgramFault, Status};
@@ -25,7 +26,8 @@ fn classes_of(program: &Program)
 /// The program of these classes.
 pub fn program_of(alloc: Global, classes: Seq<Loaded>) -> Result<Program, Status>
     ensures told { MatchResult result (λ p. (accepted (classes_in classes) ≡ Ok tt) × (look p ≡ program_of (classes_in classes))) (λ s. (accepted (classes_in classes) ≡ Err s) ⊎ IsReading s) }
-    ensures refusal { IfErr result (λ s. IsRefusal s × (s ≢ Usage) × CountsFaults 0 0 0 0 0 0 s) }
+    ensures files { IfOk result (λ p. files_of p ≡ class_file (classes_in classes)) }
+    ensures refusal { IfErr result (λ s. IsOfClasses s × CountsFaults 0 0 0 0 0 0 s) }
 {
     let library = library(alloc)?;
     match Program::build(alloc, classes, library) {

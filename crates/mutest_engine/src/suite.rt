@@ -1,9 +1,9 @@
 //! The classes of a suite: two folders are listed, their class files are read, and then each is spelled.
 
-ghost use Rattle.std.specs.Prelude.{◌≡◌, ◌≢◌, ◌+◌, ◌++◌, ◌≤◌, length, map, string_bytes, IfSome, IfOk, IfErr};
-ghost use Rattle.mutest_engine.specs.declared.status.Status.TheVariants.{Usage};
-ghost use Rattle.mutest_engine.specs.Answers.{Gives, GivesBy, IsRefusal, CountsFaults};
-ghost use Rattle.mutest_engine.specs.SuiteFiles.{is_archive, no_archive, some_listed, is_class_path, class_paths, few_classes, both_listed, within_sum, read_one, read_from, loaded, all_loaded, suite_of};
+ghost use Rattle.std.specs.Prelude.{◌≡◌, ◌+◌, ◌++◌, ◌≤◌, length, map, string_bytes, All, IfSome, IfOk, IfErr};
+ghost use Rattle.class_writer.specs.Writing.{HasClassForm};
+ghost use Rattle.mutest_engine.specs.Answers.{Gives, GivesBy, IsLater, IsOfClasses, CountsFaults};
+ghost use Rattle.mutest_engine.specs.SuiteFiles.{some_listed, is_class_path, class_paths, few_classes, both_listed, within_sum, read_one, read_from, loaded, all_loaded, suite_of};
 
 use crate::files::{read_file, spelled_class};
 use crate::status::{Limit, Status};
@@ -30,33 +30,12 @@ pub struct LoadedSuite {
     pub first_test: usize,
 }
 
-// ---- archives
-
-fn is_archive(folder: &str) -> bool
-    ensures { result ≡ is_archive folder.now }
-{
-    let bytes = folder.as_bytes();
-    bytes.ends_with(b".jar") || bytes.ends_with(b".zip") || bytes.ends_with(b".war")
-}
-
-fn no_archive(alloc: Global, folder: &str) -> Result<(), Status>
-    ensures told { Gives (no_archive folder.now) result }
-    ensures refusal { IfErr result (λ s. IsRefusal s × (s ≢ Usage) × CountsFaults 0 0 0 0 0 0 s) }
-{
-    if is_archive(folder) {
-        let path = Bytes::from_slice(alloc, folder.as_bytes())?;
-        return Err(Status::Archive { path });
-    }
-    Ok(())
-}
-
 // ---- paths
 
 // The paths below a folder, which holds some.
 fn list_folder<T: Tree>(alloc: Global, tree: &mut T, folder: &str) -> Result<Vec<String>, Status>
     ensures told { IfSome (T.holds tree.old) (λ files. GivesBy (λ paths. map string_bytes paths.items) (some_listed folder.now files) result) }
-    ensures untold { IfErr result (λ s. s ≢ Usage) }
-    ensures refusal { IfErr result IsRefusal }
+    ensures refusal { IfErr result IsLater }
     ensures faults { IfErr result (λ s. CountsFaults (T.reading tree.old) (T.reading tree.new) 0 0 0 0 s) }
     ensures later { T.reading tree.old ≤ T.reading tree.new }
     ensures tree { (T.holds tree.new ≡ T.holds tree.old) × (T.writing tree.new ≡ T.writing tree.old) }
@@ -89,7 +68,8 @@ fn class_paths(mut paths: Vec<String>) -> Vec<String>
 }
 
 fn few_classes(count: usize) -> Result<(), Status>
-    ensures { result ≡ few_classes count }
+    ensures told { result ≡ few_classes count }
+    ensures refusal { IfErr result (λ s. IsOfClasses s × CountsFaults 0 0 0 0 0 0 s) }
 {
     if count > CLASSES_LIMIT {
         return Err(Status::TooMany {
@@ -108,8 +88,7 @@ fn list_both<T: Tree>(
     tests_folder: &str,
 ) -> Result<(Vec<String>, Vec<String>), Status>
     ensures told { IfSome (T.holds tree.old) (λ files. GivesBy (λ paths. (map string_bytes paths.0.items, map string_bytes paths.1.items)) (both_listed classes_folder.now tests_folder.now files) result) }
-    ensures untold { IfErr result (λ s. s ≢ Usage) }
-    ensures refusal { IfErr result IsRefusal }
+    ensures refusal { IfErr result IsLater }
     ensures faults { IfErr result (λ s. CountsFaults (T.reading tree.old) (T.reading tree.new) 0 0 0 0 s) }
     ensures later { T.reading tree.old ≤ T.reading tree.new }
     ensures tree { (T.holds tree.new ≡ T.holds tree.old) × (T.writing tree.new ≡ T.writing tree.old) }
@@ -125,7 +104,8 @@ fn list_both<T: Tree>(
 // ---- files
 
 fn within_sum(sum: u64) -> Result<u64, Status>
-    ensures { result ≡ within_sum sum }
+    ensures told { result ≡ within_sum sum }
+    ensures refusal { IfErr result (λ s. IsOfClasses s × CountsFaults 0 0 0 0 0 0 s) }
 {
     if sum > BYTES_LIMIT {
         return Err(Status::TooMany {
@@ -146,8 +126,7 @@ fn read_one<T: Tree>(
     requires { sum ≤ 67108864 }
     ensures told { IfSome (T.holds tree.old) (λ files. Gives (read_one sum path.now files) result) }
     ensures few { IfOk result (λ read. read.1 ≤ 67108864) }
-    ensures untold { IfErr result (λ s. s ≢ Usage) }
-    ensures refusal { IfErr result IsRefusal }
+    ensures refusal { IfErr result IsLater }
     ensures faults { IfErr result (λ s. CountsFaults (T.reading tree.old) (T.reading tree.new) 0 0 0 0 s) }
     ensures later { T.reading tree.old ≤ T.reading tree.new }
     ensures tree { (T.holds tree.new ≡ T.holds tree.old) × (T.writing tree.new ≡ T.writing tree.old) }
@@ -164,8 +143,7 @@ fn read_files<T: Tree>(
     paths: &[String],
 ) -> Result<Seq<ClassFile>, Status>
     ensures told { IfSome (T.holds tree.old) (λ files. Gives (read_from 0 (map string_bytes paths.now) files) result) }
-    ensures untold { IfErr result (λ s. s ≢ Usage) }
-    ensures refusal { IfErr result IsRefusal }
+    ensures refusal { IfErr result IsLater }
     ensures faults { IfErr result (λ s. CountsFaults (T.reading tree.old) (T.reading tree.new) 0 0 0 0 s) }
     ensures later { T.reading tree.old ≤ T.reading tree.new }
     ensures tree { (T.holds tree.new ≡ T.holds tree.old) × (T.writing tree.new ≡ T.writing tree.old) }
@@ -184,7 +162,8 @@ fn read_files<T: Tree>(
 
 fn load(alloc: Global, file: ClassFile) -> Result<Loaded, Status>
     ensures told { Gives (loaded file) result }
-    ensures refusal { IfErr result (λ s. IsRefusal s × (s ≢ Usage) × CountsFaults 0 0 0 0 0 0 s) }
+    ensures form { IfOk result (λ l. HasClassForm l.class) }
+    ensures refusal { IfErr result (λ s. IsOfClasses s × CountsFaults 0 0 0 0 0 0 s) }
 {
     let class = spelled_class(alloc, file.path.as_slice(), file.bytes.as_slice())?;
     let bytes = SharedBytes::new(alloc, file.bytes)?;
@@ -193,7 +172,8 @@ fn load(alloc: Global, file: ClassFile) -> Result<Loaded, Status>
 
 fn load_all(alloc: Global, files: Seq<ClassFile>) -> Result<Seq<Loaded>, Status>
     ensures told { Gives (all_loaded files) result }
-    ensures refusal { IfErr result (λ s. IsRefusal s × (s ≢ Usage) × CountsFaults 0 0 0 0 0 0 s) }
+    ensures form { IfOk result (All (λ l. HasClassForm l.class)) }
+    ensures refusal { IfErr result (λ s. IsOfClasses s × CountsFaults 0 0 0 0 0 0 s) }
 {
     let mut all = Seq::new(alloc);
     for file in files.into_vec() {
@@ -211,14 +191,12 @@ pub fn load_suite<T: Tree>(
     tests_folder: &str,
 ) -> Result<LoadedSuite, Status>
     ensures told { IfSome (T.holds tree.old) (λ files. Gives (suite_of classes_folder.now tests_folder.now files) result) }
-    ensures untold { IfErr result (λ s. s ≢ Usage) }
-    ensures refusal { IfErr result IsRefusal }
+    ensures form { IfOk result (λ s. All (λ l. HasClassForm l.class) s.classes) }
+    ensures refusal { IfErr result IsLater }
     ensures faults { IfErr result (λ s. CountsFaults (T.reading tree.old) (T.reading tree.new) 0 0 0 0 s) }
     ensures later { T.reading tree.old ≤ T.reading tree.new }
     ensures tree { (T.holds tree.new ≡ T.holds tree.old) × (T.writing tree.new ≡ T.writing tree.old) }
 {
-    no_archive(alloc, classes_folder)?;
-    no_archive(alloc, tests_folder)?;
     let (mut paths, mut tests) = list_both(alloc, tree, classes_folder, tests_folder)?;
     let first_test = paths.len();
     paths.append(&mut tests)?;

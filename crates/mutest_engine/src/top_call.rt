@@ -1,82 +1,115 @@
 //! The top call: from the words and the files that are held to what is written.
 
-ghost use Rattle.std.specs.Prelude.{◌≡◌, ◌≢◌, ◌⊎◌, ◌+◌, ◌<◌, ◌≤◌, ◌^◌, ℕ, map, string_bytes, IfSome, IfOk, IfErr, MatchResult, Ok, Err, Some, List, Result};
+ghost use Rattle.std.specs.Prelude.{◌≡◌, ◌⊎◌, ◌+◌, ◌<◌, ◌≤◌, ◌^◌, [], map, string_bytes, IfSome, IfOk, IfErr, MatchResult, Ok, Err, List, Result};
 ghost use Rattle.std.specs.Result.{ForErr};
-ghost use Rattle.mt_edge.specs.Pieces.{Grows, GrowsBy};
-ghost use Rattle.mutest_engine.specs.declared.status.Status.TheVariants.{Done, Usage, WantOfMemory};
+ghost use Rattle.mt_edge.specs.Pieces.{GrowsBy};
+ghost use Rattle.mutest_engine.specs.declared.status.Status.TheVariants.{Done, WriteFault, WantOfMemory};
+ghost use Rattle.mutest_engine.specs.declared.status.Output.TheVariants.{Report as WrittenReport};
 ghost use Rattle.mutest_engine.specs.StatusText.{line_of};
 ghost use Rattle.mutest_engine.specs.declared.status.Status.{Status as AnyStatus};
-ghost use Rattle.mutest_engine.specs.Words.{command_of, asked, suite_asked};
-ghost use Rattle.mutest_engine.specs.Decided.{list_answer, run_answer, answer_of, steps_with, steps_of, MeterRose};
+ghost use Rattle.mutest_engine.specs.Words.{Command, list_class, run_suite, words_of, asked, suite_asked};
+ghost use Rattle.mutest_engine.specs.Decided.{CanAnswer, CanSay, list_answer, report_answer, run_answer, answer_of, steps_with, steps_of, MeterRose, MeterStays};
 ghost use Rattle.mutest_engine.specs.SuiteFiles.{suite_of};
-ghost use Rattle.mutest_engine.specs.Answers.{Gives, GivesText, Agrees, AgreesUntold, IsReading, IsFault, IsRefusal, CountsFaults};
-ghost use Rattle.mutest_engine.specs.Said.{Got, Leaves, text_stated, writes_of_answer, FilesAfter};
+ghost use Rattle.mutest_engine.specs.Answers.{Answered, GivesAnswer, write_of, answered, Agrees, AgreesUntold, Ends, IsReading, IsWriteFault, IsRefusal, IsLater, CountsFaults};
+ghost use Rattle.mutest_engine.specs.Said.{Got, Leaves, written, writes_of_answer, FilesAfter};
 
-use crate::commands::{Asked, Suite, command};
+use crate::answer::{Answer, Report};
+use crate::commands::{Asked, Suite, asked_by};
 use crate::files::{read_file, spelled_class};
-use crate::originals::judge;
+use crate::judged::judge;
 use crate::status::{Output, Status, line};
 use crate::suite::load_suite;
-use class_model::Bytes;
+use class_model::{Bytes, Memory};
 use mt_edge::{EdgeFault, Meter, Sink, Tree};
 use mutator_ops::{class_mutants, id_lines};
+use report_schema::{ReportInput, report_text, summary_text};
 use std::alloc::Global;
 
+// ---- answers
+
 // The text that `list` prints for a file.
-fn list_answer<T: Tree>(alloc: Global, tree: &mut T, path: &str) -> Result<Bytes, Status>
-    ensures told { IfSome (T.holds tree.old) (λ files. Gives (list_answer path.now files) result) }
-    ensures untold { IfErr result (λ s. s ≢ Usage) }
-    ensures refusal { IfErr result IsRefusal }
+fn list_answer<'a, T: Tree>(
+    alloc: Global,
+    tree: &mut T,
+    path: &'a str,
+) -> Result<Answer<'a>, Status>
+    ensures told { IfSome (T.holds tree.old) (λ files. GivesAnswer (list_answer path.now files) result) }
+    ensures untold { MatchResult result (λ a. CanAnswer (list_class path.now) (answered a)) (Ends (list_class path.now)) }
+    ensures refusal { IfErr result IsLater }
     ensures faults { IfErr result (λ s. CountsFaults (T.reading tree.old) (T.reading tree.new) 0 0 0 0 s) }
     ensures tree { (T.holds tree.new ≡ T.holds tree.old) × (T.writing tree.new ≡ T.writing tree.old) }
 {
     let bytes = read_file(alloc, tree, path)?;
     let class = spelled_class(alloc, path.as_bytes(), bytes.as_slice())?;
     let mutants = class_mutants(alloc, &class)?;
-    Ok(id_lines(alloc, mutants.as_slice())?)
+    let text = id_lines(alloc, mutants.as_slice())?;
+    Ok(Answer { report: None, text })
 }
 
-// The suite of the main job: all its tests pass. No text is put.
-fn run_answer<T: Tree>(
+// The report at its path, and the summary.
+fn report_answer<'a>(
+    alloc: Global,
+    path: &'a str,
+    input: &ReportInput,
+) -> Result<Answer<'a>, Memory>
+    ensures { IfOk result (λ a. answered a ≡ report_answer path.now input.now) }
+{
+    let text = summary_text(alloc, &input.verdicts)?;
+    let bytes = report_text(alloc, input)?;
+    Ok(Answer {
+        report: Some(Report { path, bytes }),
+        text,
+    })
+}
+
+// The report on a suite and its summary. The meter rises by the steps of all runs.
+fn run_answer<'a, T: Tree>(
     alloc: Global,
     tree: &mut T,
-    suite: Suite<'_>,
+    suite: Suite<'a>,
     meter: &mut Meter,
-) -> Result<Bytes, Status>
+) -> Result<Answer<'a>, Status>
     requires { meter.old < 2 ^ 63 }
-    ensures told { IfSome (T.holds tree.old) (λ files. Gives (run_answer (suite_asked suite.entry) files) result) }
-    ensures untold { IfErr result (λ s. s ≢ Usage) }
-    ensures refusal { IfErr result IsRefusal }
+    ensures told { IfSome (T.holds tree.old) (λ files. GivesAnswer (run_answer (suite_asked suite.entry) files) result) }
+    ensures untold { MatchResult result (λ a. CanAnswer (run_suite (suite_asked suite.entry)) (answered a)) (Ends (run_suite (suite_asked suite.entry))) }
+    ensures refusal { IfErr result IsLater }
     ensures faults { IfErr result (λ s. CountsFaults (T.reading tree.old) (T.reading tree.new) 0 0 0 0 s) }
     ensures meter { IfSome (T.holds tree.old) (λ files. MatchResult result (λ _. meter.new ≡ meter.old + steps_with (suite_of suite.entry.classes.now suite.entry.tests.now files)) (MeterRose meter.old meter.new (steps_with (suite_of suite.entry.classes.now suite.entry.tests.now files)))) }
+    ensures stays { MatchResult result (λ _. meter.old ≤ meter.new) (MeterStays meter.old meter.new) }
     ensures tree { (T.holds tree.new ≡ T.holds tree.old) × (T.writing tree.new ≡ T.writing tree.old) }
 {
     let loaded = load_suite(alloc, tree, suite.classes, suite.tests)?;
-    judge(alloc, loaded, meter)?;
-    Ok(Bytes::new(alloc))
-}
-
-// What the words ask for: the text that is put where nothing fails.
-fn answer<T: Tree>(
-    alloc: Global,
-    words: &Vec<String>,
-    tree: &mut T,
-    meter: &mut Meter,
-) -> Result<Bytes, Status>
-    requires { meter.old < 2 ^ 63 }
-    ensures told { IfSome (T.holds tree.old) (λ files. GivesText (answer_of (map string_bytes words.now.items) files) result) }
-    ensures untold { MatchResult result (λ _. (command : _) × (command_of (map string_bytes words.now.items) ≡ Ok command)) (AgreesUntold (command_of (map string_bytes words.now.items))) }
-    ensures faults { IfErr result (λ s. CountsFaults (T.reading tree.old) (T.reading tree.new) 0 0 0 0 s) }
-    ensures refusal { IfErr result IsRefusal }
-    ensures meter { IfSome (T.holds tree.old) (λ files. MatchResult result (λ _. meter.new ≡ meter.old + steps_of (map string_bytes words.now.items) files) (MeterRose meter.old meter.new (steps_of (map string_bytes words.now.items) files))) }
-    ensures tree { (T.holds tree.new ≡ T.holds tree.old) × (T.writing tree.new ≡ T.writing tree.old) }
-{
-    match command(words) {
-        Some(Asked::List(file)) => list_answer(alloc, tree, file),
-        Some(Asked::Run(suite)) => run_answer(alloc, tree, suite, meter),
-        None => Err(Status::Usage),
+    let input = judge(alloc, loaded, meter)?;
+    match report_answer(alloc, suite.report, &input) {
+        Ok(answer) => Ok(answer),
+        Err(Memory) => Err(Status::WantOfMemory),
     }
 }
+
+// What the words ask for.
+fn answer_to<'a, T: Tree>(
+    alloc: Global,
+    words: &'a Vec<String>,
+    tree: &mut T,
+    meter: &mut Meter,
+) -> Result<Answer<'a>, Status>
+    requires { meter.old < 2 ^ 63 }
+    ensures told { IfSome (T.holds tree.old) (λ files. GivesAnswer (answer_of (map string_bytes words.now.items) files) result) }
+    ensures untold { MatchResult result (λ a. (command : Command) × (words_of (map string_bytes words.now.items) ≡ Ok command) × CanAnswer command (answered a)) (AgreesUntold (words_of (map string_bytes words.now.items))) }
+    ensures refusal { IfErr result IsRefusal }
+    ensures faults { IfErr result (λ s. CountsFaults (T.reading tree.old) (T.reading tree.new) 0 0 0 0 s) }
+    ensures meter { IfSome (T.holds tree.old) (λ files. MatchResult result (λ _. meter.new ≡ meter.old + steps_of (map string_bytes words.now.items) files) (MeterRose meter.old meter.new (steps_of (map string_bytes words.now.items) files))) }
+    ensures stays { MatchResult result (λ _. meter.old ≤ meter.new) (MeterStays meter.old meter.new) }
+    ensures tree { (T.holds tree.new ≡ T.holds tree.old) × (T.writing tree.new ≡ T.writing tree.old) }
+{
+    match asked_by(alloc, words) {
+        Ok(Asked::List(file)) => list_answer(alloc, tree, file),
+        Ok(Asked::Run(suite)) => run_answer(alloc, tree, suite, meter),
+        Err(status) => Err(status),
+    }
+}
+
+// ---- what is written
 
 // Puts the line of a refusal.
 fn refuse<S: Sink>(alloc: Global, out: &mut S, status: Status) -> Status
@@ -95,12 +128,12 @@ fn refuse<S: Sink>(alloc: Global, out: &mut S, status: Status) -> Status
 }
 
 // Puts the text of a command.
-fn put_text<S: Sink>(alloc: Global, out: &mut S, text: &Bytes) -> Status
-    ensures status { (result ≡ Done) ⊎ IsFault result }
+fn put_text<S: Sink>(alloc: Global, out: &mut S, answer: &Answer<'_>) -> Status
+    ensures status { (result ≡ Done) ⊎ IsWriteFault [] result }
     ensures faults { CountsFaults 0 0 0 0 (S.faults out.old) (S.faults out.new) result }
-    ensures said { Leaves (S.faults out.old) (S.faults out.new) (S.written out.old) (S.written out.new) (Ok text.now) result }
+    ensures said { Leaves (S.faults out.old) (S.faults out.new) (S.written out.old) (S.written out.new) (Ok (answered answer.now)) result }
 {
-    match out.put(text.as_slice()) {
+    match out.put(answer.text.as_slice()) {
         Ok(()) => Status::Done,
         Err(EdgeFault::Failed) => refuse(
             alloc,
@@ -114,21 +147,65 @@ fn put_text<S: Sink>(alloc: Global, out: &mut S, text: &Bytes) -> Status
     }
 }
 
-// Puts the text, or the line of the refusal.
-fn finish<S: Sink>(alloc: Global, out: &mut S, answer: Result<Bytes, Status>) -> Status
+// Replaces the report.
+fn replace<T: Tree>(tree: &mut T, report: &Report<'_>) -> Result<(), Status>
+    ensures status { MatchResult result (λ _. T.holds tree.new ≡ written (write_of report.now) (T.holds tree.old)) (λ s. ((s ≡ WriteFault WrittenReport 1) ⊎ (s ≡ WantOfMemory)) × ((T.holds tree.new ≡ T.holds tree.old) ⊎ (T.holds tree.new ≡ written (write_of report.now) (T.holds tree.old)))) }
+    ensures faults { IfErr result (λ s. CountsFaults 0 0 (T.writing tree.old) (T.writing tree.new) 0 0 s) }
+    ensures tree { (T.reading tree.new ≡ T.reading tree.old) × (T.writing tree.old ≤ T.writing tree.new) }
+{
+    match tree.replace(report.path, report.bytes.as_slice()) {
+        Ok(()) => Ok(()),
+        Err(EdgeFault::Failed) => Err(Status::WriteFault {
+            which: Output::Report,
+            faults: 1,
+        }),
+        Err(EdgeFault::Memory) => Err(Status::WantOfMemory),
+    }
+}
+
+// Replaces the report of an answer, and then puts its text.
+fn carry_out<T: Tree, S: Sink>(
+    alloc: Global,
+    tree: &mut T,
+    out: &mut S,
+    answer: &Answer<'_>,
+) -> Status
+    ensures status { (result ≡ Done) ⊎ IsWriteFault (answered answer.now).writes result }
+    ensures faults { CountsFaults 0 0 (T.writing tree.old) (T.writing tree.new) (S.faults out.old) (S.faults out.new) result }
+    ensures said { Leaves (S.faults out.old) (S.faults out.new) (S.written out.old) (S.written out.new) (Ok (answered answer.now)) result }
+    ensures tree { FilesAfter (answered answer.now).writes (T.holds tree.old) (T.holds tree.new) result }
+    ensures reading { T.reading tree.new ≡ T.reading tree.old }
+{
+    if let Some(report) = &answer.report {
+        if let Err(status) = replace(tree, report) {
+            return refuse(alloc, out, status);
+        }
+    }
+    put_text(alloc, out, answer)
+}
+
+// Carries out an answer, or puts the line of the refusal.
+fn finish<T: Tree, S: Sink>(
+    alloc: Global,
+    tree: &mut T,
+    out: &mut S,
+    answer: Result<Answer<'_>, Status>,
+) -> Status
     requires { ForErr answer IsRefusal }
-    ensures status { MatchResult answer (λ _. (result ≡ Done) ⊎ IsFault result) (λ s. (result ≡ s) ⊎ (result ≡ WantOfMemory)) }
-    ensures faults { IfOk answer (λ _. CountsFaults 0 0 0 0 (S.faults out.old) (S.faults out.new) result) }
-    ensures said { MatchResult answer (λ text. Leaves (S.faults out.old) (S.faults out.new) (S.written out.old) (S.written out.new) (Ok text) result) (λ s. (stated : Result (List ℕ) AnyStatus) → (stated ≡ Err s) ⊎ IsReading s → Leaves (S.faults out.old) (S.faults out.new) (S.written out.old) (S.written out.new) stated result) }
+    ensures status { MatchResult answer.entry (λ a. (result ≡ Done) ⊎ IsWriteFault (answered a).writes result) (λ s. (result ≡ s) ⊎ (result ≡ WantOfMemory)) }
+    ensures faults { IfOk answer.entry (λ _. CountsFaults 0 0 (T.writing tree.old) (T.writing tree.new) (S.faults out.old) (S.faults out.new) result) }
+    ensures said { MatchResult answer.entry (λ a. Leaves (S.faults out.old) (S.faults out.new) (S.written out.old) (S.written out.new) (Ok (answered a)) result) (λ s. (stated : Result Answered AnyStatus) → (stated ≡ Err s) ⊎ IsReading s → Leaves (S.faults out.old) (S.faults out.new) (S.written out.old) (S.written out.new) stated result) }
+    ensures tree { MatchResult answer.entry (λ a. FilesAfter (answered a).writes (T.holds tree.old) (T.holds tree.new) result) (λ _. T.holds tree.new ≡ T.holds tree.old) }
+    ensures reading { T.reading tree.new ≡ T.reading tree.old }
 {
     match answer {
-        Ok(text) => put_text(alloc, out, &text),
+        Ok(answer) => carry_out(alloc, tree, out, &answer),
         Err(status) => refuse(alloc, out, status),
     }
 }
 
-/// Does what the words behind the program's name say: `list FILE` puts the identifiers of the mutants of the class file FILE, one per line; `run --classes DIR --tests DIR --report FILE` so far runs
-/// the tests of a suite on its classes as they are, and puts nothing where all pass.
+/// Does what the words behind the program's name say. `list FILE` puts the identifiers of the mutants of the class file FILE, one per line. `run --classes DIR --tests DIR --report FILE` runs each test
+/// of a suite on each of its mutants, replaces the report and puts the summary.
 pub fn run<T: Tree, S: Sink>(
     alloc: Global,
     words: &Vec<String>,
@@ -139,19 +216,22 @@ pub fn run<T: Tree, S: Sink>(
     requires { meter.old < 2 ^ 63 }
     // Where the tree tells its files, each status comes exactly where words and files say so, but for faults and want of memory.
     ensures told { IfSome (T.holds tree.old) (λ files. Agrees (answer_of (map string_bytes words.now.items) files) result) }
-    // Else what the words alone decide.
-    ensures untold { AgreesUntold (command_of (map string_bytes words.now.items)) result }
+    // Whatever the tree tells: what the words alone decide.
+    ensures untold { AgreesUntold (words_of (map string_bytes words.now.items)) result }
     // A fault comes only where the object's faults rose.
     ensures faults { CountsFaults (T.reading tree.old) (T.reading tree.new) (T.writing tree.old) (T.writing tree.new) (S.faults out.old) (S.faults out.new) result }
     // What the sink got.
-    ensures said { IfSome (T.holds tree.old) (λ files. Leaves (S.faults out.old) (S.faults out.new) (S.written out.old) (S.written out.new) (text_stated (answer_of (map string_bytes words.now.items) files)) result) }
-    ensures said_untold { (stated : Result (List ℕ) AnyStatus) × Leaves (S.faults out.old) (S.faults out.new) (S.written out.old) (S.written out.new) stated result }
+    ensures said { IfSome (T.holds tree.old) (λ files. Leaves (S.faults out.old) (S.faults out.new) (S.written out.old) (S.written out.new) (answer_of (map string_bytes words.now.items) files) result) }
+    ensures said_untold { (stated : Result Answered AnyStatus) × CanSay (words_of (map string_bytes words.now.items)) stated × Leaves (S.faults out.old) (S.faults out.new) (S.written out.old) (S.written out.new) stated result }
     // What the tree holds then.
     ensures tree { IfSome (T.holds tree.old) (λ files. FilesAfter (writes_of_answer (answer_of (map string_bytes words.now.items) files)) (Some files) (T.holds tree.new) result) }
-    ensures no_write_fault { T.writing tree.new ≡ T.writing tree.old }
+    // Nothing is written before the last run.
+    ensures last { IfSome (T.holds tree.old) (λ files. (T.holds tree.new ≡ Some files) ⊎ (meter.new ≡ meter.old + steps_of (map string_bytes words.now.items) files)) }
     // The steps of the runs that were made.
     ensures meter { IfSome (T.holds tree.old) (λ files. MeterRose meter.old meter.new (steps_of (map string_bytes words.now.items) files) result) }
+    // Whatever the tree tells: none before the first run.
+    ensures stays { MeterStays meter.old meter.new result }
 {
-    let answer = answer(alloc, words, tree, meter);
-    finish(alloc, out, answer)
+    let answer = answer_to(alloc, words, tree, meter);
+    finish(alloc, tree, out, answer)
 }

@@ -3,8 +3,8 @@ use Rattle.std.specs.List.{flat_map}
 use Rattle.std.specs.BTreeMap.{btree_map_len}
 use Rattle.mutest_engine.proofs.discovered.joined.Given as goal
 
-abbrev pub invariant-loop-tests : goal.invariant-loop-tests
-invariant-loop-tests l = l.all.items ++ flat_map (λ e. e.1) l.by_name.entries ≡ flat_map (λ e. e.1) l.fn.by_name.entries
+abbrev pub invariant-loop-list : goal.invariant-loop-list
+invariant-loop-list g l = l.all.items ++ flat_map (λ e. e.1) l.by_name.entries ≡ flat_map (λ e. e.1) l.fn.by_name.entries
 
-abbrev pub decreases-loop-tests : goal.decreases-loop-tests
-decreases-loop-tests l = btree_map_len l.by_name
+abbrev pub decreases-loop-list : goal.decreases-loop-list
+decreases-loop-list g l = btree_map_len l.by_name

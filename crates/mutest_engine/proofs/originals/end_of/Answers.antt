@@ -14,3 +14,7 @@ returns-clause-ending c = c.in_ok-run.ensures.run.ending
 pub returns-clause-steps : goal.returns-clause-steps
 unfolding original_run
 returns-clause-steps c = c.in_ok-run.ensures.steps ∙ ap (λ n. c.args.part.now + n) c.in_ok-run.ensures.run.steps
+
+pub returns-clause-count : goal.returns-clause-count
+unfolding original_run
+returns-clause-count c = c.in_ok-run.ensures.run.steps

@@ -1,6 +1,7 @@
 use Rattle.std.proofs.Common.{◌≡◌, ◌⊎◌, List, ℕ, Ok, sym, inl, ⊎_elim, subst}
 use Rattle.mt_edge.specs.Pieces.{GrowsBy}
 use Rattle.mutest_engine.specs.StatusText.{line_of}
+use Rattle.mutest_engine.specs.Answers.{answered}
 use Rattle.mutest_engine.specs.Said.{Got, Leaves}
 use Rattle.mutest_engine.specs.declared.status.Status.{Status}
 use Rattle.mutest_engine.specs.declared.status.Status.TheVariants.{WriteFault, WantOfMemory}
@@ -10,7 +11,7 @@ use Rattle.mutest_engine.proofs.top_call.put_text.Goals as goal
 
 pub returns-in-Err-Failed-clause-said : goal.returns-in-Err-Failed-clause-said
 returns-in-Err-Failed-clause-said g c =
-    let text = c.args.text.now in
+    let text = c.args.answer.now.text in
     let fault = WriteFault Printed 1 in
     let f0 = g.S.Sink.faults c.args.out.now in
     let f1 = g.S.Sink.faults c.put.new.self in
@@ -19,7 +20,7 @@ returns-in-Err-Failed-clause-said g c =
     let w1 = g.S.Sink.written c.put.new.self in
     let w2 = g.S.Sink.written c.refuse.new.out in
     let cut : GrowsBy w0 w1 text = subst (GrowsBy w0 w1) c.as_slice.ensures c.in-Err-Failed.ensures.err in
-    let at = λ (s : Status). Leaves f0 f2 w0 w2 (Ok text) s in
+    let at = λ (s : Status). Leaves f0 f2 w0 w2 (Ok (answered c.args.answer.now)) s in
     ⊎_elim
     (λ (got : Got f1 f2 w1 w2 (line_of fault)).
     let broken = part_then f1 f2 w0 w1 w2 text (line_of fault) cut got in
@@ -33,7 +34,7 @@ returns-in-Err-Failed-clause-said g c =
 
 pub returns-in-Err-Memory-clause-said : goal.returns-in-Err-Memory-clause-said
 returns-in-Err-Memory-clause-said g c =
-    let text = c.args.text.now in
+    let text = c.args.answer.now.text in
     let w0 = g.S.Sink.written c.args.out.now in
     let w1 = g.S.Sink.written c.put.new.self in
-    cut_text w0 w1 text (subst (GrowsBy w0 w1) c.as_slice.ensures c.in-Err-Memory.ensures.err)
+    cut_text w0 w1 (answered c.args.answer.now) (subst (GrowsBy w0 w1) c.as_slice.ensures c.in-Err-Memory.ensures.err)

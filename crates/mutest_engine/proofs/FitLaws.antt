@@ -1,0 +1,195 @@
+-- Each mutant of a suite's classes has an edit that its class takes.
+use Rattle.std.proofs.Common.{◌≡◌, ◌∙◌, ℕ, zero, suc, ◌+◌, Bool, true, false, List, [], ◌∷◌, ◌++◌, map, take, Option, Some, None, Result, Ok, Err, refl, sym, ap, subst}
+use Rattle.std.specs.Prelude.{All, IfSome, if◌then◌else◌, ◌||◌, unwrap_or}
+use Rattle.std.specs.List.{AllByRecursion, list_any, flat_map, fold}
+use Rattle.std.specs.declared.cmp.Ordering.{Ordering}
+use Rattle.std.specs.declared.cmp.Ordering.TheVariants.{Less, Equal, Greater}
+use Rattle.std.specs.Ordering.{nat_cmp, match_ordering}
+use Rattle.std.specs.Cmp.Lexicographic.{slice_cmp, bytes_decides}
+use Rattle.std.specs.BTreeMap.{insert_entry}
+use Rattle.std.proofs.lemmas.List.Elements.{All-from_recursion, recursion_from_All}
+use Rattle.class_model.specs.declared.class.Class.{Class}
+use Rattle.class_model.specs.declared.constant.Const.{Const}
+use Rattle.class_model.specs.declared.class.Member.{Member}
+use Rattle.class_model.specs.declared.attribute.Code.{Code, out-Code}
+use Rattle.class_model.specs.declared.instruction.Insn.{Insn}
+use Rattle.class_model.specs.declared.mutator.Mutator.{Mutator}
+use Rattle.class_writer.specs.Writing.{HasClassForm}
+use Rattle.machine_rules.specs.Names.{Name, same}
+use Rattle.class_table.specs.declared.loaded.Loaded.{Loaded}
+use Rattle.class_table.specs.Info.{own_name}
+use Rattle.class_table.specs.Symbols.{name_or_empty}
+use Rattle.class_model.specs.Pool.{text_of, class_name_of}
+use Rattle.mutator_ops.specs.Edits.{mutators_of}
+use Rattle.mutator_ops.specs.Mutants.{line_rows, mutant_at, mutants_from, code_mutants, code_of, is_synthetic, is_left_out, method_mutants, methods_mutants, class_mutants}
+use Rattle.mutator_ops.specs.declared.mutant.Mutant.{Mutant}
+use Rattle.mutator_ops.specs.declared.place.Place.{Place}
+use Rattle.mutant_apply.specs.Fitting.{Fits}
+use Rattle.mutant_apply.specs.Laws.{MutantsFit}
+use Rattle.mutant_runs.specs.Programs.{ClassFiles, IsMutantOf}
+use Rattle.mutest_engine.specs.Duplicates.{again, least, duplicate_in}
+use Rattle.mutest_engine.specs.Originals.{classes_in, names_in, unless_twice, accepted, ordered}
+use Rattle.mutest_engine.specs.Mutation.{mutants_by_name, mutants_among, class_file}
+use Rattle.mutest_engine.specs.declared.status.Status.{Status}
+
+-- ---- lists
+
+both : {X : Type 0} (P Q R : X → Type 0) (xs : List X) → ((x : X) → P x → Q x → R x) → AllByRecursion P xs → AllByRecursion Q xs → AllByRecursion R xs
+both P Q R [] f p q = tt
+both P Q R (x ∷ xs) f p q = (f x p.0 q.0, both P Q R xs f p.1 q.1)
+
+every : {X : Type 0} (P : X → Type 0) (xs : List X) → ((x : X) → P x) → AllByRecursion P xs
+every P [] f = tt
+every P (x ∷ xs) f = (f x, every P xs f)
+
+appended : {X : Type 0} (P : X → Type 0) (xs ys : List X) → AllByRecursion P xs → AllByRecursion P ys → AllByRecursion P (xs ++ ys)
+appended P [] ys p q = q
+appended P (x ∷ xs) ys p q = (p.0, appended P xs ys p.1 q)
+
+mapped : {X Y : Type 0} (P : Y → Type 0) (f : X → Y) (xs : List X) → AllByRecursion (λ x. P (f x)) xs → AllByRecursion P (map f xs)
+mapped P f [] p = tt
+mapped P f (x ∷ xs) p = (p.0, mapped P f xs p.1)
+
+taken : {X : Type 0} (P : X → Type 0) (n : ℕ) (xs : List X) → AllByRecursion P xs → AllByRecursion P (take n xs)
+taken P zero xs p = tt
+taken P (suc n) [] p = tt
+taken P (suc n) (x ∷ xs) p = (p.0, taken P n xs p.1)
+
+classes_taken : (n : ℕ) (xs : List Loaded) → classes_in (take n xs) ≡ take n (classes_in xs)
+classes_taken zero xs = refl
+classes_taken (suc n) [] = refl
+classes_taken (suc n) (x ∷ xs) = ap (λ cs. x.class ∷ cs) (classes_taken n xs)
+
+-- ---- what is kept by keys
+
+abbrev Each : {X : Type 0} → (X → Type 0) → List (List ℕ × X) → Type 0
+Each {X} P es = AllByRecursion (λ (e : List ℕ × X). P e.1) es
+
+by_order : {X : Type 0} (P : X → Type 0) (o : Ordering) (e : List ℕ × X) (es more : List (List ℕ × X)) (k : List ℕ) (v : X) → P v → Each P (e ∷ es) → Each P more → Each P (match_ordering o ((k, v) ∷ e ∷ es) ((e.0, v) ∷ es) (e ∷ more))
+by_order P Less e es more k v p q r = (p, q)
+by_order P Equal e es more k v p q r = (p, q.1)
+by_order P Greater e es more k v p q r = (q.0, r)
+
+inserted : {X : Type 0} (P : X → Type 0) (es : List (List ℕ × X)) (k : List ℕ) (v : X) → P v → Each P es → Each P (insert_entry (slice_cmp nat_cmp) es k v)
+inserted P [] k v p q = (p, tt)
+inserted P (e ∷ es) k v p q = by_order P (slice_cmp nat_cmp k e.0) e es (insert_entry (slice_cmp nat_cmp) es k v) k v p q (inserted P es k v p q.1)
+
+folded : {X : Type 0} (P : X → Type 0) (kept es : List (List ℕ × X)) → AllByRecursion (λ (e : List ℕ × X). P e.1) kept → AllByRecursion (λ (e : List ℕ × X). P e.1) es
+    → AllByRecursion (λ (e : List ℕ × X). P e.1) (fold (λ old e. insert_entry (slice_cmp nat_cmp) old e.0 e.1) kept es)
+folded P kept [] p q = p
+folded P kept (e ∷ es) p q = folded P (insert_entry (slice_cmp nat_cmp) kept e.0 e.1) es (inserted P kept e.0 e.1 q.0 p) q.1
+
+joined : {X : Type 0} (P : X → Type 0) (es : List (List ℕ × List X)) → AllByRecursion (λ (e : List ℕ × List X). AllByRecursion P e.1) es → AllByRecursion P (flat_map (λ e. e.1) es)
+joined P [] q = tt
+joined P (e ∷ es) q = appended P e.1 (flat_map (λ x. x.1) es) q.0 (joined P es q.1)
+
+-- ---- the class that a mutant names
+
+abbrev Names : Name → Mutant → Type 0
+Names n m = m.class ≡ n
+
+mutants_name : (place : Place) (at : ℕ) (insns : List Insn) → AllByRecursion (Names place.class) (mutants_from place at insns)
+mutants_name place at [] = tt
+mutants_name place at (insn ∷ insns) =
+    appended (Names place.class) (map (mutant_at place at insn) (mutators_of insn)) (mutants_from place (at + 1) insns)
+    (mapped (Names place.class) (mutant_at place at insn) (mutators_of insn) (every (λ (m : Mutator). Names place.class (mutant_at place at insn m)) (mutators_of insn) (λ m. refl)))
+    (mutants_name place (at + 1) insns)
+
+code_name : (pool : List Const) (class : Name) (number : ℕ) (member : Member) (code : Option Code) → AllByRecursion (Names class) (code_mutants pool class number member code)
+code_name pool class number member None = tt
+code_name pool class number member (Some code) =
+    mutants_name (record { class = class; method = unwrap_or (text_of pool member.name) []; desc = unwrap_or (text_of pool member.desc) []; number = number; rows = line_rows (out-Code code).attrs }) 0 (out-Code code).insns
+
+unless_left_out : (b : Bool) (n : Name) (ms : List Mutant) → AllByRecursion (Names n) ms → AllByRecursion (Names n) (if b then [] else ms)
+unless_left_out true n ms p = tt
+unless_left_out false n ms p = p
+
+methods_name : (pool : List Const) (class : Name) (number : ℕ) (members : List Member) → AllByRecursion (Names class) (methods_mutants pool class number members)
+methods_name pool class number [] = tt
+methods_name pool class number (member ∷ members) =
+    appended (Names class) (method_mutants pool class number member) (methods_mutants pool class (number + 1) members)
+    (unless_left_out (is_left_out member.flags) class (code_mutants pool class number member (code_of member.attrs)) (code_name pool class number member (code_of member.attrs)))
+    (methods_name pool class (number + 1) members)
+
+same_name : (o : Option Name) → unwrap_or o [] ≡ name_or_empty o
+same_name None = refl
+same_name (Some n) = refl
+
+own_mutants : (c : Class) → AllByRecursion (Names (own_name c)) (class_mutants c)
+own_mutants c =
+    let name = unwrap_or (class_name_of c.pool c.this) [] in
+    subst (λ (n : Name). AllByRecursion (Names n) (class_mutants c)) (same_name (class_name_of c.pool c.this))
+    (unless_left_out (is_synthetic c.flags) name (methods_mutants c.pool name 0 c.methods) (methods_name c.pool name 0 c.methods))
+
+-- ---- the class of a name
+
+nothing_twice : (ns : List Name) → least ns ≡ None → ns ≡ []
+nothing_twice [] h = refl
+nothing_twice (n ∷ ns) h = absurd cc
+
+accepted_case : (o : Option Name) → unless_twice o ≡ Ok tt → o ≡ None
+accepted_case None h = refl
+accepted_case (Some n) h = absurd cc
+
+none_again : (classes : List Class) → accepted classes ≡ Ok tt → again (names_in classes) ≡ []
+none_again classes h = nothing_twice (again (names_in classes)) (accepted_case (duplicate_in (names_in classes)) h)
+
+abbrev IsFound : List Class → Class → Type 0
+IsFound cs c = class_file cs (own_name c) ≡ Some c
+
+skipped : (x : Class) (xs : List Class) (c : Class) → same (own_name x) (own_name c) ≡ false → IsFound xs c → IsFound (x ∷ xs) c
+skipped x xs c h found = ap (λ b. if b then Some x else class_file xs (own_name c)) h ∙ found
+
+or_none : (a b : Bool) → (a || b) ≡ false → (a ≡ false) × (b ≡ false)
+or_none true b h = absurd cc
+or_none false b h = (refl, h)
+
+others : (x : Class) (xs : List Class) (ls : List Name) → list_any (same (own_name x)) (map own_name xs ++ ls) ≡ false → AllByRecursion (λ c. same (own_name x) (own_name c) ≡ false) xs
+others x [] ls h = tt
+others x (c ∷ cs) ls h = let parts = or_none (same (own_name x) (own_name c)) (list_any (same (own_name x)) (map own_name cs ++ ls)) h in (parts.0, others x cs ls parts.1)
+
+found_case : (x : Class) (xs : List Class) (ls : List Name) (b : Bool) → list_any (same (own_name x)) (map own_name xs ++ ls) ≡ b → (again (map own_name xs ++ ls) ≡ [] → AllByRecursion (IsFound xs) xs)
+    → (if b then own_name x ∷ again (map own_name xs ++ ls) else again (map own_name xs ++ ls)) ≡ [] → AllByRecursion (IsFound (x ∷ xs)) (x ∷ xs)
+found_case x xs ls true e rest h = absurd cc
+found_case x xs ls false e rest h = (
+  ap (λ b. if b then Some x else class_file xs (own_name x)) ((bytes_decides (own_name x) (own_name x)).1 refl),
+  both (λ c. same (own_name x) (own_name c) ≡ false) (IsFound xs) (IsFound (x ∷ xs)) xs (skipped x xs) (others x xs ls e) (rest h),
+)
+
+found : (cs : List Class) (ls : List Name) → again (map own_name cs ++ ls) ≡ [] → AllByRecursion (IsFound cs) cs
+found [] ls h = tt
+found (x ∷ xs) ls h = found_case x xs ls (list_any (same (own_name x)) (map own_name xs ++ ls)) refl (found xs ls) h
+
+-- ---- the mutants of a suite
+
+one_fits : (files : ClassFiles) (c : Class) (m : Mutant) → HasClassForm c → files (own_name c) ≡ Some c → Names (own_name c) m → Fits c m.edit → IsMutantOf files m
+one_fits files c m form is named fits =
+    let here : files m.class ≡ Some c = ap files named ∙ is in
+    subst (λ (o : Option Class). IfSome o (λ d. HasClassForm d × Fits d m.edit)) (sym here) (form, fits)
+
+class_fits : MutantsFit → (files : ClassFiles) (c : Class) → HasClassForm c → files (own_name c) ≡ Some c → AllByRecursion (IsMutantOf files) (class_mutants c)
+class_fits fit files c form is =
+    both (Names (own_name c)) (λ (m : Mutant). Fits c m.edit) (IsMutantOf files) (class_mutants c) (λ m named fits. one_fits files c m form is named fits)
+    (own_mutants c) (recursion_from_All (λ (m : Mutant). Fits c m.edit) (class_mutants c) (fit c form))
+
+formed : (xs : List Loaded) → AllByRecursion (λ (l : Loaded). HasClassForm l.class) xs → AllByRecursion HasClassForm (classes_in xs)
+formed [] p = tt
+formed (x ∷ xs) p = (p.0, formed xs p.1)
+
+among_fit : MutantsFit → (files : ClassFiles) (cs : List Class) → AllByRecursion (λ (c : Class). HasClassForm c × (files (own_name c) ≡ Some c)) cs → AllByRecursion (IsMutantOf files) (mutants_among cs)
+among_fit fit files cs p =
+    joined (IsMutantOf files) (ordered (map mutants_by_name cs))
+    (folded (AllByRecursion (IsMutantOf files)) [] (map mutants_by_name cs) tt
+    (mapped (λ (e : List ℕ × List Mutant). AllByRecursion (IsMutantOf files) e.1) mutants_by_name cs
+    (both (λ (c : Class). HasClassForm c × (files (own_name c) ≡ Some c)) (λ (c : Class). Unit {0}) (λ (c : Class). AllByRecursion (IsMutantOf files) (class_mutants c)) cs (λ c q u. class_fits fit files c q.0 q.1) p (every (λ (c : Class). Unit {0}) cs (λ c. tt)))))
+
+pub all_fit : MutantsFit → (classes : List Loaded) (first : ℕ) → All (λ (l : Loaded). HasClassForm l.class) classes → accepted (classes_in classes) ≡ Ok tt
+    → All (IsMutantOf (class_file (classes_in classes))) (mutants_among (classes_in (take first classes)))
+all_fit fit classes first forms ok =
+    let cs = classes_in classes in
+    let files = class_file cs in
+    let each : AllByRecursion (λ (c : Class). HasClassForm c × (files (own_name c) ≡ Some c)) cs =
+    both HasClassForm (IsFound cs) (λ (c : Class). HasClassForm c × (files (own_name c) ≡ Some c)) cs (λ c form is. (form, is))
+    (formed classes (recursion_from_All (λ (l : Loaded). HasClassForm l.class) classes forms)) (found cs _ (none_again cs ok)) in
+    All-from_recursion (IsMutantOf files) (mutants_among (classes_in (take first classes)))
+    (subst (λ (ds : List Class). AllByRecursion (IsMutantOf files) (mutants_among ds)) (sym (classes_taken first classes)) (among_fit fit files (take first cs) (taken _ first cs each)))
