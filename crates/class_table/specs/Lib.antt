@@ -9,4 +9,5 @@ pub mod Info
 pub mod Table
 pub mod Numbers
 pub mod Lines
+pub mod Calls
 pub mod Seen

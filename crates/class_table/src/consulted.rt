@@ -171,13 +171,16 @@ impl Program {
         Ok(())
     }
 
-    /// Consults a class and all above it. Where the classes above it stand 1,000 levels high or more, as where a class is above itself, memory runs out.
+    /// Consults a class and all above it. One that was consulted before costs a look at its mark. Where the classes above it stand 1,000 levels high or more, as where a class is above itself, memory runs out.
     pub fn consult(&self, seen: &mut Consulted, id: ClassId) -> Result<(), Memory>
         requires class { id.0 < length self.now }
         requires seen { IsConsultedOf self.now seen.old }
         ensures names { OnOk result (seen.new.names ≡ consulted_with (look self.now) (name_at self.now id.0) seen.old.names) }
         ensures kept { OnOk result (IsConsultedOf self.now seen.new) }
     {
+        if seen.is_marked(id) {
+            return Ok(());
+        }
         self.consult_name(seen, self.info(id).name())?;
         Ok(())
     }

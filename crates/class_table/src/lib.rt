@@ -1,6 +1,7 @@
 //! The classes of a program by name and by number, each with what its class file means once pool indices are resolved to names.
 #![tactic(auto)]
 
+mod calls;
 mod code_linking;
 mod consulted;
 mod entries;

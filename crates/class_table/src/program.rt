@@ -5,8 +5,10 @@ ghost use Rattle.machine_rules.specs.Linked.{method_in};
 ghost use Rattle.class_table.specs.View.{method_of};
 ghost use Rattle.class_table.specs.Info.{class_of, link_body, file_in};
 ghost use Rattle.class_table.specs.Table.{AreDistinct, IsLeastDuplicate, bodies_of, names_of, names, number_of, CanSwap, class_at, name_at, look, entries_at, methods_at, reference_at, named_number, named_place, IsProgram};
+ghost use Rattle.class_table.specs.Calls.{IsTargetOf};
 ghost use Rattle.class_table.specs.declared.fault.TableFault.TheVariants.{Duplicate};
 
+use crate::calls::{Target, Targets, copy_targets, forget_unless_right, target_at, targets};
 use crate::fault::TableFault;
 use crate::info::ClassInfo;
 use crate::linked::LinkedMethod;
@@ -24,10 +26,13 @@ use std::sync::Arc;
 pub struct Program {
     classes: Vec<Arc<ClassInfo, Global>>,
     numbers: Arc<HashMap<Name, u32>, Global>,
+    // what calls name by number, while it is right
+    targets: Option<Arc<Targets, Global>>,
 }
 
 impl Model for Program {
     ghost use Rattle.std.specs.Prelude.{◌≡◌, ℕ, List, map};
+    ghost use Rattle.std.specs.Option.{option_map};
     ghost use Rattle.std.specs.Coded.{codes};
     ghost use Rattle.std.specs.Arc.{arc_value};
     ghost use Rattle.class_model.specs.contracts.attribute.Body as content;
@@ -35,6 +40,7 @@ impl Model for Program {
     ghost use Rattle.class_table.specs.Info.{Info};
     ghost use Rattle.class_table.specs.Table.{IsProgram};
     ghost use Rattle.class_table.specs.Numbers.{IsNumbering};
+    ghost use Rattle.class_table.specs.Calls.{AreTargetsOrNone};
 
     ghost Value = { List Info };
 
@@ -42,7 +48,7 @@ impl Model for Program {
 
     ghost view = { λ p. map (λ c. arc_value c) p.classes.items };
 
-    ghost invariant = { λ p. IsProgram (map (λ c. arc_value c) p.classes.items) × IsNumbering (arc_value p.numbers) (map (λ c. arc_value c) p.classes.items) };
+    ghost invariant = { λ p. IsProgram (map (λ c. arc_value c) p.classes.items) × IsNumbering (arc_value p.numbers) (map (λ c. arc_value c) p.classes.items) × AreTargetsOrNone (option_map (λ t. arc_value t) p.targets) (map (λ c. arc_value c) p.classes.items) };
 }
 
 impl Program {
@@ -132,7 +138,9 @@ impl Program {
         ensures program { self.new ≡ slice_set self.old id.0 (arc_value with) }
         ensures other { slice_get self.old id.0 ≡ Some (arc_value result) }
     {
-        put(&mut self.classes, id.0 as usize, with)
+        let at = id.0 as usize;
+        forget_unless_right(&mut self.targets, at, info_at(&self.classes, at), &with);
+        put(&mut self.classes, at, with)
     }
 
     /// An equal program. Its classes are shared, and none is copied.
@@ -142,6 +150,7 @@ impl Program {
         Ok(Program {
             classes: copy_classes(&self.classes)?,
             numbers: self.numbers.clone()?,
+            targets: copy_targets(&self.targets)?,
         })
     }
 
@@ -154,8 +163,17 @@ impl Program {
         self.get(class)?.linked().methods.get(method as usize)
     }
 
-    /// The number of the class whose method an index of this class's constant pool names.
-    pub fn named_class(&self, class: ClassId, reference: u32) -> Option<ClassId>
+    // What is kept for an index of a class's constant pool.
+    fn target(&self, class: ClassId, reference: u32) -> Option<Target>
+        ensures { IfSome result (λ t. IsSomeAnd (reference_at self.now class.0 reference) (λ r. IsTargetOf self.now r t)) }
+    {
+        match &self.targets {
+            Some(targets) => target_at(targets, class.0 as usize, reference as usize),
+            None => None,
+        }
+    }
+
+    fn class_by_name(&self, class: ClassId, reference: u32) -> Option<ClassId>
         ensures found { IfSome result (λ id. named_number self.now class.0 reference ≡ Some id.0) }
         ensures within { IfSome result (λ id. id.0 < length self.now) }
         ensures named { IfSome result (λ id. IsSomeAnd (reference_at self.now class.0 reference) (λ r. (name_at self.now id.0 ≡ r.class) × (look self.now r.class ≡ class_at self.now id.0))) }
@@ -166,8 +184,7 @@ impl Program {
         self.find(&reference.class)
     }
 
-    /// The place in another class of the method whose name and descriptor an index of this class's constant pool names. Of two such methods it is the first.
-    pub fn named_method(&self, class: ClassId, reference: u32, target: ClassId) -> Option<u32>
+    fn method_by_name(&self, class: ClassId, reference: u32, target: ClassId) -> Option<u32>
         ensures found { IfSome result (λ place. named_place self.now class.0 reference target.0 ≡ Some place) }
         ensures absent { IfNone result (named_place self.now class.0 reference target.0 ≡ None) }
     {
@@ -178,6 +195,42 @@ impl Program {
             .method_place(&reference.name, &reference.desc)?;
         Some(place as u32)
     }
+
+    /// The number of the class whose method an index of this class's constant pool names. It takes one index where the program keeps it.
+    #[tactic(auto, using(crate::proofs::CallLaws::target_number, crate::proofs::CallLaws::target_within, crate::proofs::CallLaws::target_named))]
+    pub fn named_class(&self, class: ClassId, reference: u32) -> Option<ClassId>
+        ensures found { IfSome result (λ id. named_number self.now class.0 reference ≡ Some id.0) }
+        ensures within { IfSome result (λ id. id.0 < length self.now) }
+        ensures named { IfSome result (λ id. IsSomeAnd (reference_at self.now class.0 reference) (λ r. (name_at self.now id.0 ≡ r.class) × (look self.now r.class ≡ class_at self.now id.0))) }
+        ensures absent { IfNone result (named_number self.now class.0 reference ≡ None) }
+        ensures nothing { IfNone result (IfSome (reference_at self.now class.0 reference) (λ r. look self.now r.class ≡ None)) }
+    {
+        match self.target(class, reference) {
+            Some(target) => Some(target.class),
+            None => self.class_by_name(class, reference),
+        }
+    }
+
+    /// The place in another class of the method whose name and descriptor an index of this class's constant pool names. Of two such methods it is the first. It takes one index where the program keeps it.
+    #[tactic(auto, using(crate::proofs::CallLaws::target_place))]
+    pub fn named_method(&self, class: ClassId, reference: u32, target: ClassId) -> Option<u32>
+        ensures found { IfSome result (λ place. named_place self.now class.0 reference target.0 ≡ Some place) }
+        ensures absent { IfNone result (named_place self.now class.0 reference target.0 ≡ None) }
+    {
+        if let Some(found) = self.target(class, reference) {
+            if found.class.0 == target.0 {
+                return Some(found.place);
+            }
+        }
+        self.method_by_name(class, reference, target)
+    }
+}
+
+fn info_at(classes: &[Arc<ClassInfo, Global>], at: usize) -> &ClassInfo
+    requires { at < length classes.now }
+    ensures { slice_get (map (λ c. arc_value c) classes.now) at ≡ Some result.now }
+{
+    &classes[at]
 }
 
 fn put(
@@ -203,10 +256,14 @@ fn program_of(alloc: Global, infos: Vec<Arc<ClassInfo, Global>>) -> Result<Progr
     let numbers = numbers(alloc, infos.as_slice())?;
     match least_duplicate(alloc, infos.as_slice(), &numbers)? {
         Some(name) => Err(TableFault::Duplicate { name }),
-        None => Ok(Program {
-            classes: infos,
-            numbers: Arc::new(alloc, numbers)?,
-        }),
+        None => {
+            let targets = targets(alloc, infos.as_slice(), &numbers)?;
+            Ok(Program {
+                classes: infos,
+                numbers: Arc::new(alloc, numbers)?,
+                targets: Some(Arc::new(alloc, targets)?),
+            })
+        }
     }
 }
 

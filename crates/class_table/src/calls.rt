@@ -1,0 +1,200 @@
+//! The methods that a program's classes name, by numbers, so that a call looks nothing up by text.
+
+ghost use Rattle.std.specs.Prelude.{◌≡◌, ℕ, true, List, map, Some, IfOk, slice_get, slice_set};
+ghost use Rattle.std.specs.Option.{option_copied, option_map};
+ghost use Rattle.std.specs.Arc.{arc_value};
+ghost use Rattle.class_table.specs.Info.{Info};
+ghost use Rattle.class_table.specs.Numbers.{IsNumbering};
+ghost use Rattle.class_table.specs.View.{method_entry, method_ref_at};
+ghost use Rattle.class_table.specs.declared.calls.Target.{Target};
+ghost use Rattle.class_table.specs.Calls.{target_at, AreTargets, AreTargetsOrNone, entry_target, class_targets, head_of, AreSameNamed, AreNamedAlike};
+
+use crate::info::ClassInfo;
+use crate::linked::{Entry, LinkedClass, LinkedMethod};
+use class_model::{ClassId, Memory, Name, Seq};
+use std::alloc::Global;
+use std::collections::HashMap;
+use std::sync::Arc;
+
+/// The class of a method and its place there.
+#[derive(Clone, Copy, Debug)]
+pub struct Target {
+    pub class: ClassId,
+    pub place: u32,
+}
+
+/// For each class and each index of its constant pool the method that is named there, if one is found.
+pub type Targets = Seq<Seq<Option<Target>>>;
+
+/// What is kept for an index of a class's constant pool.
+pub fn target_at(targets: &Targets, class: usize, index: usize) -> Option<Target>
+    ensures { result ≡ target_at targets.now class index }
+{
+    *targets.get(class)?.get(index)?
+}
+
+// ---- the targets of a program
+
+fn target_of(
+    infos: &[Arc<ClassInfo, Global>],
+    numbers: &HashMap<Name, u32>,
+    entry: &Entry,
+) -> Option<Target>
+    requires { IsNumbering numbers.now (map (λ i. arc_value i) infos.now) }
+    ensures { result ≡ entry_target (map (λ i. arc_value i) infos.now) entry.now }
+{
+    let Entry::Method(reference) = entry else {
+        return None;
+    };
+    let number = *numbers.get(&reference.class)?;
+    let class = infos.get(number as usize)?.linked();
+    let place = class.method_place(&reference.name, &reference.desc)?;
+    Some(Target {
+        class: ClassId(number),
+        place: place as u32,
+    })
+}
+
+fn class_targets(
+    alloc: Global,
+    infos: &[Arc<ClassInfo, Global>],
+    numbers: &HashMap<Name, u32>,
+    entries: &[Entry],
+) -> Result<Seq<Option<Target>>, Memory>
+    requires { IsNumbering numbers.now (map (λ i. arc_value i) infos.now) }
+    ensures { IfOk result (λ row. row ≡ map (entry_target (map (λ i. arc_value i) infos.now)) entries.now) }
+{
+    let mut row = Vec::with_capacity(alloc, entries.len())?;
+    for entry in entries {
+        row.push(target_of(infos, numbers, entry))?;
+    }
+    Ok(Seq::from_vec(row))
+}
+
+fn all_targets(
+    alloc: Global,
+    infos: &[Arc<ClassInfo, Global>],
+    numbers: &HashMap<Name, u32>,
+) -> Result<Targets, Memory>
+    requires { IsNumbering numbers.now (map (λ i. arc_value i) infos.now) }
+    ensures { IfOk result (λ rows. rows ≡ map (class_targets (map (λ i. arc_value i) infos.now)) (map (λ i. arc_value i) infos.now)) }
+{
+    let mut rows = Vec::with_capacity(alloc, infos.len())?;
+    for info in infos {
+        let entries = info.linked().entries.as_slice();
+        rows.push(class_targets(alloc, infos, numbers, entries)?)?;
+    }
+    Ok(Seq::from_vec(rows))
+}
+
+/// The targets of a program.
+#[tactic(auto, using(crate::proofs::CallLaws::all_are_targets))]
+pub fn targets(
+    alloc: Global,
+    infos: &[Arc<ClassInfo, Global>],
+    numbers: &HashMap<Name, u32>,
+) -> Result<Targets, Memory>
+    requires { IsNumbering numbers.now (map (λ i. arc_value i) infos.now) }
+    ensures { IfOk result (λ rows. AreTargets rows (map (λ i. arc_value i) infos.now)) }
+{
+    Ok(all_targets(alloc, infos, numbers)?)
+}
+
+/// The same targets, shared.
+pub fn copy_targets(
+    targets: &Option<Arc<Targets, Global>>,
+) -> Result<Option<Arc<Targets, Global>>, Memory>
+    ensures { IfOk result (λ copy. option_map (λ t. arc_value t) copy ≡ option_map (λ t. arc_value t) targets.now) }
+{
+    match targets {
+        Some(targets) => Ok(Some(targets.clone()?)),
+        None => Ok(None),
+    }
+}
+
+// ---- one class in the place of another
+
+// Whether two methods have one name and one descriptor.
+fn has_same_head(old: &LinkedMethod, new: &LinkedMethod) -> bool
+    ensures { result ≡ true → head_of new.now ≡ head_of old.now }
+{
+    old.name == new.name && old.desc == new.desc
+}
+
+// Whether the methods have the same names and descriptors in the same order.
+fn have_same_heads(old: &[LinkedMethod], new: &[LinkedMethod]) -> bool
+    ensures { result ≡ true → map head_of new.now ≡ map head_of old.now }
+{
+    if old.len() != new.len() {
+        return false;
+    }
+    for (place, method) in old.iter().enumerate() {
+        if !has_same_head(method, &new[place]) {
+            return false;
+        }
+    }
+    true
+}
+
+// Whether two entries name methods by the same words.
+fn are_same_named(old: Option<&Entry>, new: Option<&Entry>) -> bool
+    ensures { result ≡ true → AreSameNamed (method_entry (option_copied old.entry)) (method_entry (option_copied new.entry)) }
+{
+    let (Some(Entry::Method(old)), Some(Entry::Method(new))) = (old, new) else {
+        return false;
+    };
+    old.class == new.class && old.name == new.name && old.desc == new.desc
+}
+
+// Whether two entries name methods by the same words, where a target is kept.
+fn is_kept(target: Option<Target>, old: Option<&Entry>, new: Option<&Entry>) -> bool
+    ensures { (t : Target) → result ≡ true → target ≡ Some t → AreSameNamed (method_entry (option_copied old.entry)) (method_entry (option_copied new.entry)) }
+{
+    match target {
+        Some(_) => are_same_named(old, new),
+        None => true,
+    }
+}
+
+// Whether two constant pools name the methods that targets are kept for by the same words.
+fn are_named_alike(row: &[Option<Target>], old: &Seq<Entry>, new: &Seq<Entry>) -> bool
+    ensures { result ≡ true → AreNamedAlike row.now old.now new.now }
+{
+    for (index, target) in row.iter().enumerate() {
+        if !is_kept(*target, old.get(index), new.get(index)) {
+            return false;
+        }
+    }
+    true
+}
+
+// Whether the targets stay right where one class takes the place of another.
+fn stay_right(targets: &Targets, class: usize, old: &LinkedClass, new: &LinkedClass) -> bool
+    ensures heads { result ≡ true → map head_of new.now.methods ≡ map head_of old.now.methods }
+    ensures entries { result ≡ true → (index : ℕ) (t : Target) → target_at targets.now class index ≡ Some t → AreSameNamed (method_ref_at old.now index) (method_ref_at new.now index) }
+{
+    if !have_same_heads(old.methods.as_slice(), new.methods.as_slice()) {
+        return false;
+    }
+    match targets.get(class) {
+        Some(row) => are_named_alike(row.as_slice(), &old.entries, &new.entries),
+        None => true,
+    }
+}
+
+/// Forgets the targets where a class in the place of another one of its name doesn't leave them right.
+pub fn forget_unless_right(
+    targets: &mut Option<Arc<Targets, Global>>,
+    class: usize,
+    old: &ClassInfo,
+    new: &ClassInfo,
+)
+    ensures { (p : List Info) → slice_get p class ≡ Some old.now → new.now.name ≡ old.now.name → AreTargetsOrNone (option_map (λ t. arc_value t) targets.old) p → AreTargetsOrNone (option_map (λ t. arc_value t) targets.new) (slice_set p class new.now) }
+{
+    let Some(rows) = &*targets else {
+        return;
+    };
+    if !stay_right(rows, class, old.linked(), new.linked()) {
+        *targets = None;
+    }
+}
