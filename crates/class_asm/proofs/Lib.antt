@@ -1,0 +1,9 @@
+pub mod LineLaws
+pub mod IfSome
+pub mod NumberLaws
+pub mod InsnLaws
+pub mod CodeLaws
+pub mod ClassLaws
+pub mod FormLaws
+pub mod AttrForm
+pub mod EachLaws

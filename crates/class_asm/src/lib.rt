@@ -1,0 +1,29 @@
+//! An assembler: the text of a class, and its class file (JVMS 4).
+#![tactic(auto)]
+
+mod assemble;
+mod class;
+mod code;
+mod entry;
+mod fault;
+mod file;
+mod frame;
+mod instruction;
+mod keyword;
+mod labels;
+mod line;
+mod member;
+mod mnemonic;
+mod named;
+mod number;
+mod numbering;
+mod operand;
+mod pool;
+mod quoted;
+mod stated;
+#[cfg(test)]
+mod tests;
+mod word;
+
+pub use assemble::assemble;
+pub use fault::AsmFault;
