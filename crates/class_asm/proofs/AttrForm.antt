@@ -80,7 +80,7 @@ shape_form starts far (stated.Full locals stack) list is = (items_form starts lo
 -- ---- frames
 
 -- how far behind a frame can be in its form
-room : (far : Bool) (s : StatedShape) (list : List Const) (next start : ℕ) → nat_le (next + 64) start ≡ far → start < 2 ^ 16 → start < next + room_of (shape_of far s list).0
+room : (far : Bool) (s : StatedShape) (list : List Const) (next start : ℕ) → nat_le 64 (start - next) ≡ far → start < 2 ^ 16 → start < next + room_of (shape_of far s list).0
 room true stated.Same list next start test near = omega (arith, near)
 room false stated.Same list next start test near = let lt = leb-false _ _ test in omega (arith, lt)
 room true (stated.One i) list next start test near = omega (arith, near)
@@ -100,7 +100,7 @@ frames_form : (starts : List ℕ) (least next : ℕ) (frames : List StatedFrame)
     → AllBy (HasFrameForm starts) (next_behind starts) next (frames_of starts next frames list).0
 frames_form starts least next [] list ascends near bound all = tt
 frames_form starts least next (frame ∷ frames) list ascends near bound all =
-    let far = nat_le (next + 64) (slice_index starts frame.at) in
+    let far = nat_le 64 (slice_index starts frame.at - next) in
     let first = frame_of starts next frame list in (
       ((all.0.1, all.0.2, bound frame.at all.0.0 all.0.1, room far frame.shape list next (slice_index starts frame.at) refl (near frame.at)), shape_form starts far frame.shape list all.0.3),
       frames_form starts (frame.at + 1) (slice_index starts frame.at + 1) frames first.1 ascends near (next_bound starts frame.at ascends) all.1,

@@ -7,3 +7,5 @@ pub mod ClassLaws
 pub mod FormLaws
 pub mod AttrForm
 pub mod EachLaws
+pub mod AssembledLaws
+pub mod MnemonicLaws

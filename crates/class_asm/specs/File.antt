@@ -1,5 +1,5 @@
 -- The class file's form of a stated class: indices in place of names, in the order in which the class is spelled (this project's own).
-use Rattle.std.specs.Prelude.{ℕ, ◌+◌, ◌==◌, nat_lt, nat_le, Bool, true, false, ◌&&◌, List, [], ◌∷◌, ◌++◌, length, slice_index, codes, Option, Some, None, Result, Ok, Err, if◌then◌else◌}
+use Rattle.std.specs.Prelude.{ℕ, ◌+◌, ◌-◌, ◌==◌, nat_lt, nat_le, Bool, true, false, ◌&&◌, List, [], ◌∷◌, ◌++◌, length, slice_index, codes, Option, Some, None, Result, Ok, Err, if◌then◌else◌}
 use Rattle.class_model.specs.declared.constant.Const.{Const}
 use Rattle.class_model.specs.declared.instruction.Arg.{Arg}
 use Rattle.class_model.specs.declared.instruction.Arg.TheVariants as arg
@@ -85,7 +85,7 @@ shape_of far (stated.Full locals stack) list = full_of (items_of locals list) st
 -- A frame in its short form, unless it is too far behind the one before. `next` is 0 for the first frame, and else one behind the place of the frame before it.
 abbrev pub frame_of : List ℕ → ℕ → StatedFrame → Numbered Frame
 frame_of starts next frame list =
-    let x = shape_of (nat_le (next + 64) (slice_index starts frame.at)) frame.shape list in (record { at = frame.at; shape = x.0 }, x.1)
+    let x = shape_of (nat_le 64 (slice_index starts frame.at - next)) frame.shape list in (record { at = frame.at; shape = x.0 }, x.1)
 
 abbrev pub frames_of : List ℕ → ℕ → List StatedFrame → Numbered (List Frame)
 frames_of starts next [] list = ([], list)

@@ -1,7 +1,7 @@
 //! An assembler: the text of a class, and its class file (JVMS 4).
 #![tactic(auto)]
 
-mod assemble;
+mod assembler;
 mod class;
 mod code;
 mod entry;
@@ -25,5 +25,5 @@ mod stated;
 mod tests;
 mod word;
 
-pub use assemble::assemble;
+pub use assembler::assemble;
 pub use fault::AsmFault;

@@ -1,6 +1,7 @@
 //! Opcodes by their mnemonics (JVMS 6.5, 7).
 
-ghost use Rattle.std.specs.Prelude.{◌≡◌, option_and_then};
+ghost use Rattle.std.specs.Prelude.{◌≡◌, ◌<◌, position, IfSome, option_and_then};
+ghost use Rattle.class_asm.specs.Words.{says};
 ghost use Rattle.mt_insn.specs.Opcode.{low_form, middle_form, high_form};
 ghost use Rattle.class_asm.specs.Mnemonics.{opcode_of, usable, operand_form};
 
@@ -212,12 +213,21 @@ const MNEMONICS: [&str; 201] = [
     "goto_w",
 ];
 
+fn place_of(word: &Name) -> Option<usize>
+    ensures first { result ≡ position (λ name. says word.now name.now) MNEMONICS }
+    ensures within { IfSome result (λ place. place < 256) }
+{
+    MNEMONICS.iter().position(|name| says(word, name))
+}
+
 /// The opcode of a mnemonic.
 pub fn opcode_of(word: &Name) -> Option<u8>
     ensures { result ≡ opcode_of word.now }
 {
-    let place = MNEMONICS.iter().position(|name| says(word, name))?;
-    Some(place as u8)
+    match place_of(word) {
+        Some(place) => Some(place as u8),
+        None => None,
+    }
 }
 
 /// What words stand behind a mnemonic.

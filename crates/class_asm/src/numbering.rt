@@ -132,7 +132,7 @@ pub fn frames_of(
     let mut next = 0u64;
     for frame in stated {
         let start = u64::from(place_in(starts, frame.at));
-        let shape = shape_of(list, next + 64 <= start, &frame.shape)?;
+        let shape = shape_of(list, 64 <= start.saturating_sub(next), &frame.shape)?;
         frames.push(Frame {
             at: frame.at,
             shape,
