@@ -13,13 +13,15 @@ use Rattle.class_model.specs.declared.frame.VItem.TheVariants as vitem
 use Rattle.class_model.specs.declared.attribute.Row.{Row}
 use Rattle.class_model.specs.declared.attribute.Attr.{Attr}
 use Rattle.class_model.specs.declared.attribute.Code.{Code, roll-Code, out-Code}
-use Rattle.class_model.specs.declared.attribute.Body.{Body}
+use Rattle.class_model.specs.declared.attribute.Body.{Body, out-Body}
 use Rattle.class_model.specs.declared.attribute.Body.TheVariants as body
 use Rattle.class_model.specs.declared.attribute.Body.TheOpen.{Body-F, Code-F}
-use Rattle.class_model.specs.declared.attribute.Body.TheViews.{out-roll-Code}
+use Rattle.class_model.specs.declared.attribute.Body.TheViews.{the_lemmas as body_lemmas, out-roll-Code}
 use Rattle.class_model.specs.declared.annotation.Note.{Note}
-use Rattle.class_model.specs.declared.annotation.Elem.{Elem}
+use Rattle.class_model.specs.declared.annotation.Elem.{Elem, out-Elem}
 use Rattle.class_model.specs.declared.annotation.Elem.TheVariants as elem
+use Rattle.class_model.specs.declared.annotation.Elem.TheOpen.{Elem-F}
+use Rattle.class_model.specs.declared.annotation.Elem.TheViews.{the_lemmas as elem_lemmas}
 use Rattle.class_model.specs.declared.class.Member.{Member}
 use Rattle.class_model.specs.declared.class.Class.{Class}
 use Rattle.class_model.specs.declared.fault.LayoutFault.{LayoutFault}
@@ -33,11 +35,11 @@ use Rattle.mt_attrs.specs.Frames.{room_of, next_behind}
 use Rattle.mt_attrs.specs.Item.{AllBy}
 use Rattle.mt_attrs.specs.Notes.{most_turns}
 use Rattle.mt_attrs.specs.CodeParts.{attr_of, body_of}
-use Rattle.mt_attrs.specs.Layout.{HasLineForm, HasRowForm, HasVItemForm, HasShapeForm, HasFrameForm, HasNoteForm, HasElemForm, HasTableForm, HasCodeForm, HasBodyForm, HasAttrForm}
+use Rattle.mt_attrs.specs.Layout.{HasLineForm, HasRowForm, HasVItemForm, HasShapeForm, HasFrameForm, HasNoteForm, HasElemForm, HasElemFormBy, HasTableForm, HasCodeForm, HasBodyForm, HasAttrForm}
 use Rattle.mt_attrs.proofs.Starts.{starts_ascend}
 use Rattle.class_writer.specs.Writing.{HasMemberForm, HasClassForm}
 use Rattle.class_asm.specs.Numbering.{Numbered, text_index, class_index, behind}
-use Rattle.class_asm.specs.File.{each, insns_of, item_of, items_of, shape_of, full_of, frame_of, frames_of, row_of, rows_of, note_of, notes_of, pairs_of, starts_of, places_by, with_list}
+use Rattle.class_asm.specs.File.{each, insn_of, insns_of, item_of, items_of, shape_of, full_of, frame_of, frames_of, row_of, rows_of, note_of, notes_of, pairs_of, starts_of, places_by, with_list}
 use Rattle.class_asm.specs.ClassFile.{with_lines, with_frames, framed, code_by, code_behind, kept, code_attr, with_notes, codes_of, attrs_of, member_of, members_of, interfaces_of, with_source, class_of}
 use Rattle.class_asm.specs.Stated.{IsStatedInsn, IsKnownItem, IsStatedItem, IsStatedShape, IsStatedFrame, least_behind, AreFrames, IsStatedRow, Keeps, IsStatedCode, IsCodeIn, IsStatedMember, IsStatedClass}
 use Rattle.class_asm.specs.declared.stated.StatedItem.{StatedItem}
@@ -52,6 +54,26 @@ use Rattle.class_asm.specs.declared.stated.StatedMember.{StatedMember}
 use Rattle.class_asm.specs.declared.stated.StatedClass.{StatedClass}
 use Rattle.class_asm.specs.declared.numbering.Entries.{Entries}
 use Rattle.class_asm.proofs.FormLaws.{insns_formed, each_all, each_length, all_first}
+
+-- ---- contents by what they are
+
+out_code : (c : Code) → out-Body (body.Code c) ≡ Body-F.Code c
+out_code c = search body_lemmas
+
+out_source : (index : ℕ) → out-Body (body.Source index) ≡ Body-F.Source index
+out_source index = search body_lemmas
+
+out_notes : (notes : List Note) → out-Body (body.Notes notes) ≡ Body-F.Notes notes
+out_notes notes = search body_lemmas
+
+out_lines : (lines : List (ℕ × ℕ)) → out-Body (body.Lines lines) ≡ Body-F.Lines lines
+out_lines lines = search body_lemmas
+
+out_frames : (frames : List Frame) → out-Body (body.Frames frames) ≡ Body-F.Frames frames
+out_frames frames = search body_lemmas
+
+out_class : (index : ℕ) → out-Elem (elem.Class index) ≡ Elem-F.Class index
+out_class index = search elem_lemmas
 
 -- ---- verification types
 
@@ -125,7 +147,7 @@ no_attrs P k d lt = absurd (omega (arith, lt))
 lines_by : (starts : List ℕ) (lines : List (ℕ × ℕ)) (list : List Const) (none : Bool) → All (HasLineForm starts) lines
     → All (HasTable starts) (cond none ([], list) (behind (text_index (codes "LineNumberTable") list) (λ name later. ([] ++ attr_of name (body.Lines lines) ∷ [], later)))).0
 lines_by starts lines list true all = no_attrs (HasTable starts)
-lines_by starts lines list false all = all_first (HasTable starts) (attr_of (text_index (codes "LineNumberTable") list).0 (body.Lines lines)) [] all (no_attrs (HasTable starts))
+lines_by starts lines list false all = all_first (HasTable starts) (attr_of (text_index (codes "LineNumberTable") list).0 (body.Lines lines)) [] (subst (HasTableForm starts) (sym (out_lines lines)) all) (no_attrs (HasTable starts))
 
 lines_form : (starts : List ℕ) (lines : List (ℕ × ℕ)) (list : List Const) → All (HasLineForm starts) lines → All (HasTable starts) (with_lines lines [] list).0
 lines_form starts lines list all = lines_by starts lines list (length lines == 0) all
@@ -135,7 +157,7 @@ frames_by : (starts : List ℕ) (frames : List StatedFrame) (attrs : List Attr) 
 frames_by starts frames attrs list true ascends near all attrs_all = attrs_all
 frames_by starts frames attrs list false ascends near all attrs_all =
     let name = text_index (codes "StackMapTable") list in
-    All-push (HasTable starts) attrs (attr_of name.0 (body.Frames (frames_of starts 0 frames name.1).0)) attrs_all (frames_form starts 0 0 frames name.1 ascends near (λ n le lt. omega arith) all)
+    All-push (HasTable starts) attrs (attr_of name.0 (body.Frames (frames_of starts 0 frames name.1).0)) attrs_all (subst (HasTableForm starts) (sym (out_frames (frames_of starts 0 frames name.1).0)) (frames_form starts 0 0 frames name.1 ascends near (λ n le lt. omega arith) all))
 
 -- the places are known where the code isn't too large
 some_is : (y x : List ℕ) → Some y ≡ Some x → x ≡ y
@@ -176,7 +198,7 @@ code_form code name is =
       rows = rows_form (places insns.0) code.rows insns.1.list fits.rows;
       attrs = tables_by insns.0 code.frames (with_lines code.lines [] rows.1) insns.1.passed (starts_of insns.0) refl small.frames (lines_form (places insns.0) code.lines rows.1 fits.lines);
     } in
-    subst HasCodeForm (sym (out-roll-Code parts)) form
+    subst HasBodyForm (sym (out_code (roll-Code parts))) (subst HasCodeForm (sym (out-roll-Code parts)) form)
 
 code_attr_form : (code : StatedCode) (entries : Entries) → IsStatedCode code → HasAttrForm (code_attr code entries).0
 code_attr_form code entries is = code_form code (kept entries (text_index (codes "Code") entries.list)) is
@@ -186,10 +208,9 @@ code_attr_form code entries is = code_form code (kept entries (text_index (codes
 class_elem : (turns index : ℕ) → 0 < turns → HasElemForm turns (elem.Class index)
 unfolding HasElemForm
 class_elem zero index lt = absurd (omega (arith, lt))
-class_elem (suc turns) index lt = tt
+class_elem (suc turns) index lt = subst (HasElemFormBy (HasElemForm turns)) (sym (out_class index)) tt
 
 some_turns : 0 < most_turns
-unfolding most_turns
 some_turns = lit< tt
 
 pairs_form : (expected : Option (List ℕ)) (list : List Const) → All (λ pair. HasElemForm most_turns pair.1) (pairs_of expected list).0
@@ -210,7 +231,7 @@ with_notes_by : (notes : List StatedNote) (attrs : List Attr) (list : List Const
 with_notes_by notes attrs list true all = all
 with_notes_by notes attrs list false all =
     let name = text_index (codes "RuntimeVisibleAnnotations") list in
-    All-push HasAttrForm attrs (attr_of name.0 (body.Notes (notes_of notes name.1).0)) all (notes_form notes name.1 (λ k d lt. tt))
+    All-push HasAttrForm attrs (attr_of name.0 (body.Notes (notes_of notes name.1).0)) all (subst HasBodyForm (sym (out_notes (notes_of notes name.1).0)) (notes_form notes name.1 (λ k d lt. tt)))
 
 with_notes_form : (notes : List StatedNote) (attrs : List Attr) (list : List Const) → All HasAttrForm attrs → All HasAttrForm (with_notes notes attrs list).0
 with_notes_form notes attrs list all = with_notes_by notes attrs list (length notes == 0) all
@@ -236,7 +257,7 @@ source_form None list = no_attrs HasAttrForm
 source_form (Some source) list =
     let name = text_index (codes "SourceFile") list in
     let index = text_index source name.1 in
-    all_first HasAttrForm (attr_of name.0 (body.Source index.0)) [] tt (no_attrs HasAttrForm)
+    all_first HasAttrForm (attr_of name.0 (body.Source index.0)) [] (subst HasBodyForm (sym (out_source index.0)) tt) (no_attrs HasAttrForm)
 
 -- The file's form of a stated class in form may be written.
 pub class_form : (stated : StatedClass) (entries : Entries) → IsStatedClass stated → HasClassForm (class_of stated entries).0

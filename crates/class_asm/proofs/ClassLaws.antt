@@ -12,7 +12,7 @@ use Rattle.class_asm.specs.Entries.{is_class_entry}
 use Rattle.class_asm.specs.Operands.{both}
 use Rattle.class_asm.specs.Named as named
 use Rattle.class_asm.specs.Members.{class_note_in, field_of, method_of}
-use Rattle.class_asm.specs.Classes.{empty_class, are_keywords, headed, class_in, is_past_interfaces, implemented, sourced, class_noted, head_by, head_step, head_from, own, ended, is_field, with_field, with_method, part_step, is_end, parts_from, stated_by}
+use Rattle.class_asm.specs.Classes.{empty_class, are_keywords, headed, class_by, class_in, is_past_interfaces, implemented, sourced, class_noted, head_by, head_step, head_from, own, ended, is_field, with_field, with_method, part_step, is_end, parts_from, stated_by}
 use Rattle.class_asm.specs.Stated.{IsStatedMember, IsStatedClass}
 use Rattle.class_asm.specs.declared.line.Line.{Line}
 use Rattle.class_asm.specs.declared.class.End.{End}
@@ -28,6 +28,19 @@ use Rattle.class_asm.proofs.CodeLaws.{of_step, of_bind, if_ok, any_ok, field_is,
 empty_is : (name parent : List ℕ) (flags major : ℕ) → IsStatedClass (empty_class name parent flags major)
 empty_is name parent flags major = record { fields = all_none IsStatedMember; methods = all_none IsStatedMember }
 
+headed_is : (name parent : List ℕ) (flags major : ℕ) → IfSome (headed name parent flags major) IsStatedClass
+headed_is name parent flags major =
+    let class : Option StatedClass = Some (empty_class name parent flags major) in
+    let third = cond (is_class_entry parent) class None in
+    let second = cond (is_class_name name) third None in
+    of_if (is_major major) second IsStatedClass (λ e. of_if (is_class_name name) third IsStatedClass (λ e. of_if (is_class_entry parent) class IsStatedClass (λ e. empty_is name parent flags major)))
+
+class_by_is : (name parent flags major : List ℕ) → IfSome (class_by name parent flags major) IsStatedClass
+class_by_is name parent flags major =
+    of_then (λ f. option_and_then (headed name parent f) (up_to 0xFFFF major)) (up_to 0xFFFF flags) IsStatedClass
+    (always (up_to 0xFFFF flags) (λ f. IfSome (option_and_then (headed name parent f) (up_to 0xFFFF major)) IsStatedClass)
+    (λ f. of_then (headed name parent f) (up_to 0xFFFF major) IsStatedClass (always (up_to 0xFFFF major) (λ m. IfSome (headed name parent f m) IsStatedClass) (λ m. headed_is name parent f m))))
+
 class_in_is : (words : List (List ℕ)) → IfSome (class_in words) IsStatedClass
 class_in_is [] = tt
 class_in_is (a ∷ []) = tt
@@ -37,12 +50,7 @@ class_in_is (a ∷ b ∷ c ∷ d ∷ []) = tt
 class_in_is (a ∷ b ∷ c ∷ d ∷ e ∷ []) = tt
 class_in_is (a ∷ b ∷ c ∷ d ∷ e ∷ f ∷ []) = tt
 class_in_is (a ∷ b ∷ c ∷ d ∷ e ∷ f ∷ g ∷ []) = tt
-class_in_is (first ∷ name ∷ second ∷ parent ∷ third ∷ flags ∷ fourth ∷ major ∷ []) =
-    of_if (are_keywords first second third fourth) (option_and_then (λ f. option_and_then (headed name parent f) (up_to 0xFFFF major)) (up_to 0xFFFF flags)) IsStatedClass
-    (λ e. of_then (λ f. option_and_then (headed name parent f) (up_to 0xFFFF major)) (up_to 0xFFFF flags) IsStatedClass
-    (always (up_to 0xFFFF flags) (λ f. IfSome (option_and_then (headed name parent f) (up_to 0xFFFF major)) IsStatedClass)
-    (λ f. of_then (headed name parent f) (up_to 0xFFFF major) IsStatedClass (always (up_to 0xFFFF major) (λ m. IfSome (headed name parent f m) IsStatedClass)
-    (λ m. of_if (is_major m && is_class_name name && is_class_entry parent) (Some (empty_class name parent f m)) IsStatedClass (λ e. empty_is name parent f m))))))
+class_in_is (first ∷ name ∷ second ∷ parent ∷ third ∷ flags ∷ fourth ∷ major ∷ []) = of_if (are_keywords first second third fourth) (class_by name parent flags major) IsStatedClass (λ e. class_by_is name parent flags major)
 class_in_is (a ∷ b ∷ c ∷ d ∷ e ∷ f ∷ g ∷ h ∷ i ∷ words) = tt
 
 same_members : (class later : StatedClass) → later.fields ≡ class.fields → later.methods ≡ class.methods → IsStatedClass class → IsStatedClass later

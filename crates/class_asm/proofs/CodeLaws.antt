@@ -7,12 +7,12 @@ use Rattle.std.proofs.lemmas.List.Elements.{All-push}
 use Rattle.class_asm.specs.Words.{says}
 use Rattle.class_asm.specs.Numbers.{up_to}
 use Rattle.class_asm.specs.Keywords.{line_kind}
-use Rattle.class_asm.specs.Labels.{start_in, end_in, insns_in, weight, is_instruction}
+use Rattle.class_asm.specs.Labels.{start_in, end_in, insns_in, labels_of, weight, is_instruction}
 use Rattle.class_asm.specs.Named.{class_in}
 use Rattle.class_asm.specs.Insns.{insn_of}
 use Rattle.class_asm.specs.Frames.{known_item, object_item, known_or_object, item_of, new_item, item_at, items_from, items_in, one_item, few, few_items, slash, full_shape, chopped, chop_shape, same_shape, shape_by, shape_of}
 use Rattle.class_asm.specs.Codes.{here, line_in, numbered, is_behind, is_before, with_frame, framed, caught, row_of, row_in, guarded, instructed, is_first_label}
-use Rattle.class_asm.specs.Members.{code_by, code_step, noting, noted, is_over, coded, is_note, note_in, body_step, beginning, body_from, labels_of, code_of, empty_code, code_in, named_member, field_in, method_in, notes_of, field_of, with_code, with_lines, method_of}
+use Rattle.class_asm.specs.Members.{code_by, code_step, noting, noted, is_over, coded, is_note, note_in, body_step, beginning, body_from, code_of, empty_code, code_in, named_member, field_by, field_in, method_by, method_in, notes_of, field_of, with_code, with_lines, method_of}
 use Rattle.class_asm.specs.declared.keyword.LineKind.{LineKind}
 use Rattle.class_asm.specs.declared.keyword.LineKind.TheVariants as kind
 use Rattle.class_asm.specs.declared.member.Progress.{Progress}
@@ -188,21 +188,21 @@ framed_is labels code line k = of_then (λ at. cond (is_behind code.frames at) (
     (weaker (shape_of labels line.words) (IsStatedShape labels.total) (λ s. After labels.total code 0 (with_frame code at (record { at = at; shape = s })))
     (λ s fits. (record { insns = k.insns; rows = k.rows; lines = k.lines; frames = frames_push labels.total 0 code.frames (record { at = at; shape = s }) k.frames (behind_is code.frames at e, is.0, is.1, fits) }, omega arith)) (shape_is labels line.words)))) (here_is labels code))
 
-row_by : (labels : Labels) (start end handler : ℕ) (catch : Option (Option (List ℕ))) → start < labels.total → end ≤ labels.total → handler < labels.total → IfSome (row_of start end handler catch) (IsStatedRow labels.total)
-row_by labels start end handler catch s e h = of_unless (nat_le end start) (option_map (λ class. record { start = start; end = end; handler = handler; catch = class }) catch) (IsStatedRow labels.total)
+row_by_is : (labels : Labels) (start end handler : ℕ) (catch : Option (Option (List ℕ))) → start < labels.total → end ≤ labels.total → handler < labels.total → IfSome (row_of start end handler catch) (IsStatedRow labels.total)
+row_by_is labels start end handler catch s e h = of_unless (nat_le end start) (option_map (λ class. record { start = start; end = end; handler = handler; catch = class }) catch) (IsStatedRow labels.total)
     (λ test. of_map (λ class. record { start = start; end = end; handler = handler; catch = class }) catch (IsStatedRow labels.total) (always catch (λ class. IsStatedRow labels.total (record { start = start; end = end; handler = handler; catch = class })) (λ class. record { start = s; last = e; handler = h })))
 
-row_handler : (labels : Labels) (handler catch : List ℕ) (s e : ℕ) → s < labels.total → e ≤ labels.total → IfSome (option_and_then (λ h. row_of s e h (caught catch)) (start_in labels handler)) (IsStatedRow labels.total)
-row_handler labels handler catch s e lt le = of_then (λ h. row_of s e h (caught catch)) (start_in labels handler) (IsStatedRow labels.total)
-    (weaker (start_in labels handler) (IsHere labels) (λ h. IfSome (row_of s e h (caught catch)) (IsStatedRow labels.total)) (λ h is. row_by labels s e h (caught catch) lt le is.0) (start_is labels handler))
+row_handler : (labels : Labels) (handler : List ℕ) (catch : Option (Option (List ℕ))) (s e : ℕ) → s < labels.total → e ≤ labels.total → IfSome (option_and_then (λ h. row_of s e h catch) (start_in labels handler)) (IsStatedRow labels.total)
+row_handler labels handler catch s e lt le = of_then (λ h. row_of s e h catch) (start_in labels handler) (IsStatedRow labels.total)
+    (weaker (start_in labels handler) (IsHere labels) (λ h. IfSome (row_of s e h catch) (IsStatedRow labels.total)) (λ h is. row_by_is labels s e h catch lt le is.0) (start_is labels handler))
 
-row_end : (labels : Labels) (end handler catch : List ℕ) (s : ℕ) → s < labels.total → IfSome (option_and_then (λ e. option_and_then (λ h. row_of s e h (caught catch)) (start_in labels handler)) (end_in labels end)) (IsStatedRow labels.total)
-row_end labels end handler catch s lt = of_then (λ e. option_and_then (λ h. row_of s e h (caught catch)) (start_in labels handler)) (end_in labels end) (IsStatedRow labels.total)
-    (weaker (end_in labels end) (λ e. e ≤ labels.total) (λ e. IfSome (option_and_then (λ h. row_of s e h (caught catch)) (start_in labels handler)) (IsStatedRow labels.total)) (λ e le. row_handler labels handler catch s e lt le) (end_is labels end))
+row_end : (labels : Labels) (end handler : List ℕ) (catch : Option (Option (List ℕ))) (s : ℕ) → s < labels.total → IfSome (option_and_then (λ e. option_and_then (λ h. row_of s e h catch) (start_in labels handler)) (end_in labels end)) (IsStatedRow labels.total)
+row_end labels end handler catch s lt = of_then (λ e. option_and_then (λ h. row_of s e h catch) (start_in labels handler)) (end_in labels end) (IsStatedRow labels.total)
+    (weaker (end_in labels end) (λ e. e ≤ labels.total) (λ e. IfSome (option_and_then (λ h. row_of s e h catch) (start_in labels handler)) (IsStatedRow labels.total)) (λ e le. row_handler labels handler catch s e lt le) (end_is labels end))
 
 row_is : (labels : Labels) (words : List (List ℕ)) → IfSome (row_in labels words) (IsStatedRow labels.total)
 row_is labels (keyword ∷ start ∷ end ∷ handler ∷ catch ∷ []) = of_then (λ s. option_and_then (λ e. option_and_then (λ h. row_of s e h (caught catch)) (start_in labels handler)) (end_in labels end)) (start_in labels start) (IsStatedRow labels.total)
-    (weaker (start_in labels start) (IsHere labels) (λ s. IfSome (option_and_then (λ e. option_and_then (λ h. row_of s e h (caught catch)) (start_in labels handler)) (end_in labels end)) (IsStatedRow labels.total)) (λ s is. row_end labels end handler catch s is.0) (start_is labels start))
+    (weaker (start_in labels start) (IsHere labels) (λ s. IfSome (option_and_then (λ e. option_and_then (λ h. row_of s e h (caught catch)) (start_in labels handler)) (end_in labels end)) (IsStatedRow labels.total)) (λ s is. row_end labels end handler (caught catch) s is.0) (start_is labels start))
 row_is labels [] = tt
 row_is labels (a ∷ []) = tt
 row_is labels (a ∷ b ∷ []) = tt
@@ -230,7 +230,7 @@ code_by_is labels code line kind.Instruction keeps = instructed_is labels code l
 code_by_is labels code line kind.Label keeps = of_if (is_first_label labels line) (Some code) (After labels.total code 0) (λ e. (keeps, omega arith))
 code_by_is labels code line other keeps = tt
 
-note_has_none : (k : LineKind) → is_note k ≡ true → cond (is_instruction k) 1 0 ≡ 0
+note_has_none : (k : LineKind) → is_note k ≡ true → ◌≡◌ {A = ℕ} (cond (is_instruction k) 1 0) 0
 note_has_none kind.Note e = refl
 note_has_none kind.Instruction e = absurd cc
 note_has_none other e = refl
@@ -313,17 +313,20 @@ code_in_is (first ∷ stack ∷ second ∷ locals ∷ []) = of_if (says first (c
     (λ s. of_map (λ l. Some (empty_code s l)) (up_to 0xFFFF locals) IsFreshIn (always (up_to 0xFFFF locals) (λ l. IsFresh (empty_code s l)) (λ l. fresh s l)))))
 code_in_is (a ∷ b ∷ c ∷ d ∷ e ∷ words) = tt
 
+method_by_is : (flags name desc : List ℕ) (code : Option StatedCode) → IsFreshIn code → IfSome (method_by flags name desc code) (λ m. IsFreshIn m.code)
+method_by_is flags name desc code is =
+    of_then (λ n. cond (is_method_name name) (cond (is_ok (method_kinds desc)) (Some (named_member n name desc code)) None) None) (up_to 0xFFFF flags) (λ m. IsFreshIn m.code)
+    (always (up_to 0xFFFF flags) (λ n. IfSome (cond (is_method_name name) (cond (is_ok (method_kinds desc)) (Some (named_member n name desc code)) None) None) (λ m. IsFreshIn m.code))
+    (λ n. of_if (is_method_name name) (cond (is_ok (method_kinds desc)) (Some (named_member n name desc code)) None) (λ m. IsFreshIn m.code)
+    (λ e. of_if (is_ok (method_kinds desc)) (Some (named_member n name desc code)) (λ m. IsFreshIn m.code) (λ e. is))))
+
 method_in_is : (words : List (List ℕ)) → IfSome (method_in words) (λ m. IsFreshIn m.code)
 method_in_is [] = tt
 method_in_is (a ∷ []) = tt
 method_in_is (a ∷ b ∷ []) = tt
 method_in_is (a ∷ b ∷ c ∷ []) = tt
-method_in_is (keyword ∷ flags ∷ name ∷ desc ∷ sizes) =
-    of_then (λ n. option_and_then (λ code. cond (is_method_name name && is_ok (method_kinds desc)) (Some (named_member n name desc code)) None) (code_in sizes)) (up_to 0xFFFF flags) (λ m. IsFreshIn m.code)
-    (always (up_to 0xFFFF flags) (λ n. IfSome (option_and_then (λ code. cond (is_method_name name && is_ok (method_kinds desc)) (Some (named_member n name desc code)) None) (code_in sizes)) (λ m. IsFreshIn m.code))
-    (λ n. of_then (λ code. cond (is_method_name name && is_ok (method_kinds desc)) (Some (named_member n name desc code)) None) (code_in sizes) (λ m. IsFreshIn m.code)
-    (weaker (code_in sizes) IsFreshIn (λ code. IfSome (cond (is_method_name name && is_ok (method_kinds desc)) (Some (named_member n name desc code)) None) (λ m. IsFreshIn m.code))
-    (λ code is. of_if (is_method_name name && is_ok (method_kinds desc)) (Some (named_member n name desc code)) (λ m. IsFreshIn m.code) (λ e. is)) (code_in_is sizes))))
+method_in_is (keyword ∷ flags ∷ name ∷ desc ∷ sizes) = of_then (method_by flags name desc) (code_in sizes) (λ m. IsFreshIn m.code)
+    (weaker (code_in sizes) IsFreshIn (λ code. IfSome (method_by flags name desc code) (λ m. IsFreshIn m.code)) (λ code is. method_by_is flags name desc code is) (code_in_is sizes))
 
 with_code_is : (method : StatedMember) (number : ℕ) (lines : List Line) (code : Option StatedCode) → IsFreshIn code → IfOk (with_code method number lines code) IsStatedMember
 with_code_is method number lines None is = of_bind (notes_of lines) (λ notes. Ok (record method { code = None; notes = notes })) IsStatedMember (any_ok (notes_of lines) (λ notes. IfOk {E = AsmFault} (Ok (record method { code = None; notes = notes })) IsStatedMember) (λ notes. tt))
@@ -333,15 +336,19 @@ pub method_is : (first : Line) (lines : List Line) → IfOk (method_of first lin
 method_is first lines = of_step (method_in first.words) (asm_fault.Line first.number) (λ method. with_lines method first.number lines) IsStatedMember
     (weaker (method_in first.words) (λ m. IsFreshIn m.code) (λ m. IfOk (with_lines m first.number lines) IsStatedMember) (λ m is. with_code_is m first.number lines m.code is) (method_in_is first.words))
 
+field_by_is : (flags name desc : List ℕ) → IfSome (field_by flags name desc) IsStatedMember
+field_by_is flags name desc =
+    of_then (λ n. cond (is_field_name name) (cond (is_ok (field_kind desc)) (Some (named_member n name desc None)) None) None) (up_to 0xFFFF flags) IsStatedMember
+    (always (up_to 0xFFFF flags) (λ n. IfSome (cond (is_field_name name) (cond (is_ok (field_kind desc)) (Some (named_member n name desc None)) None) None) IsStatedMember)
+    (λ n. of_if (is_field_name name) (cond (is_ok (field_kind desc)) (Some (named_member n name desc None)) None) IsStatedMember
+    (λ e. of_if (is_ok (field_kind desc)) (Some (named_member n name desc None)) IsStatedMember (λ e. tt))))
+
 field_in_is : (words : List (List ℕ)) → IfSome (field_in words) IsStatedMember
 field_in_is [] = tt
 field_in_is (a ∷ []) = tt
 field_in_is (a ∷ b ∷ []) = tt
 field_in_is (a ∷ b ∷ c ∷ []) = tt
-field_in_is (keyword ∷ flags ∷ name ∷ desc ∷ []) =
-    of_then (λ n. cond (is_field_name name && is_ok (field_kind desc)) (Some (named_member n name desc None)) None) (up_to 0xFFFF flags) IsStatedMember
-    (always (up_to 0xFFFF flags) (λ n. IfSome (cond (is_field_name name && is_ok (field_kind desc)) (Some (named_member n name desc None)) None) IsStatedMember)
-    (λ n. of_if (is_field_name name && is_ok (field_kind desc)) (Some (named_member n name desc None)) IsStatedMember (λ e. tt)))
+field_in_is (keyword ∷ flags ∷ name ∷ desc ∷ []) = field_by_is flags name desc
 field_in_is (a ∷ b ∷ c ∷ d ∷ e ∷ words) = tt
 
 pub field_is : (first : Line) (lines : List Line) → IfOk (field_of first lines) IsStatedMember

@@ -13,7 +13,7 @@ use Rattle.mt_insn.specs.Code.{HasForm, HasTargets, layout, places, jumps_fit, c
 use Rattle.mt_insn.specs.Order.{Ascends, AreNear}
 use Rattle.mt_insn.proofs.Sizes.{length-places_from, starts_near}
 use Rattle.mt_attrs.proofs.Starts.{starts_ascend}
-use Rattle.class_asm.specs.Numbering.{Numbered, index_of, found_or, added, interned, text_index, class_index, string_index, pair_index, parts_index, member_index, added_long, long_index, entry_index, is_same}
+use Rattle.class_asm.specs.Numbering.{Numbered, index_of, found_or, added, interned, text_index, class_index, string_index, pair_index, parts_index, member_index, added_wide, wide_interned, entry_index, is_same}
 use Rattle.class_asm.specs.File.{each, near_index, with_list, named_arg, near_arg, counted_arg, arg_of, insn_of, insns_of}
 use Rattle.class_asm.specs.Stated.{insn_with, IsOperand, IsStatedInsn}
 use Rattle.class_asm.specs.declared.stated.Entry.{Entry}
@@ -42,14 +42,14 @@ interned_is e list = found_is list (added e) (position (is_same e) list) (index_
 
 entry_is : (e : Entry) (list : List Const) → (entry_index e list).0 < 2 ^ 16
 entry_is (entry.Integer value) list = interned_is (const.Integer value) list
-entry_is (entry.Long value) list = found_is list (added_long value) (position (is_same (const.Long value)) list) (index_is (length list))
+entry_is (entry.Long value) list = found_is list (added_wide (const.Long value)) (position (is_same (const.Long value)) list) (index_is (length list))
 entry_is (entry.Class name) list = interned_is (const.Class (text_index name list).0) (text_index name list).1
 entry_is (entry.Text text) list = interned_is (const.Text (text_index text list).0) (text_index text list).1
 entry_is (entry.Field member) list = interned_is (const.Field (parts_index member list).0.0 (parts_index member list).0.1) (parts_index member list).1
 entry_is (entry.Method member) list = interned_is (const.Method (parts_index member list).0.0 (parts_index member list).0.1) (parts_index member list).1
 entry_is (entry.InterfaceMethod member) list = interned_is (const.IMethod (parts_index member list).0.0 (parts_index member list).0.1) (parts_index member list).1
 
-near_by : (index : ℕ) (entries : Entries) (b : Bool) → nat_lt 0xFF index ≡ b → (cond b (0xFF, record entries { passed = true }) (index, entries)).0 < 2 ^ 8
+near_by : (index : ℕ) (entries : Entries) (b : Bool) → nat_lt 0xFF index ≡ b → (cond {A = ℕ × Entries} b (0xFF, record entries { passed = true }) (index, entries)).0 < 2 ^ 8
 near_by index entries true e = lit< tt
 near_by index entries false e = let le = ltb-false 0xFF index e in omega (arith, le)
 

@@ -1,5 +1,6 @@
 -- An instruction that a line states has the form of its opcode, and leads to instructions of its method.
-use Rattle.std.proofs.Common.{◌≡◌, ℕ, zero, suc, lit<, ◌+◌, ◌-◌, ◌≤◌, ◌<◌, ◌^◌, Bool, true, false, cond, List, [], ◌∷◌, length, Option, Some, None, refl, sym, ap, subst, ◌∙◌, arith, ints, rules}
+use Rattle.std.proofs.Common.{◌≡◌, ℕ, zero, suc, lit<, ◌+◌, ◌-◌, ◌≤◌, ◌<◌, ◌^◌, Bool, true, false, cond, List, [], ◌∷◌, length, Option, Some, None, refl, sym, ap, subst, ◌∙◌, arith, rules}
+use Rattle.std.proofs.lemmas.Int.{ints}
 use Rattle.std.specs.Prelude.{ℤ, pos, negsuc, map, ◌==◌, ◌+ℤ◌, ◌≤ℤ◌, nat_lt, ◌&&◌, IfSome, FitsSigned, option_and_then, codes}
 use Rattle.std.specs.Int.{w8, w16, w32}
 use Rattle.std.specs.Int.RustNames.{int_le}

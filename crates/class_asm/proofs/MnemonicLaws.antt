@@ -1,7 +1,6 @@
 -- The table of the code is that of the definition.
 use Rattle.std.proofs.Common.{◌≡◌, ℕ, ◌+◌, Bool, cond, List, [], ◌∷◌, map, Option, Some, None, refl, sym, ap, ◌∙◌}
 use Rattle.std.specs.Prelude.{position}
-use Rattle.std.specs.Borrow.{Bor}
 use Rattle.std.specs.List.{position_from}
 use Rattle.std.proofs.lemmas.Iterator.Adapters.{position_from-zero}
 use Rattle.class_asm.specs.Words.{says}
@@ -15,9 +14,12 @@ from_map f p i (x ∷ xs) = ap (λ (o : Option ℕ). cond (p (f x)) (Some i) o) 
 place_map : {A B : Type 0} → (f : A → B) (p : B → Bool) (xs : List A) → position (λ x. p (f x)) xs ≡ position p (map f xs)
 place_map f p xs = position_from-zero (λ x. p (f x)) xs ∙ from_map f p 0 xs ∙ sym (position_from-zero p (map f xs))
 
-names_are : map (λ (name : Bor (List ℕ)). name.now) MNEMONICS ≡ mnemonics
+abbrev Text : Type 0
+Text = record { now : List ℕ }
+
+names_are : map (λ (name : Text). name.now) MNEMONICS ≡ mnemonics
 unfolding mnemonics
 names_are = refl
 
-pub mnemonic_places : (word : List ℕ) → position (λ (name : Bor (List ℕ)). says word name.now) MNEMONICS ≡ opcode_of word
-mnemonic_places word = place_map (λ (name : Bor (List ℕ)). name.now) (says word) MNEMONICS ∙ ap (position (says word)) names_are
+pub mnemonic_places : (word : List ℕ) → position (λ (name : Text). says word name.now) MNEMONICS ≡ opcode_of word
+mnemonic_places word = place_map (λ (name : Text). name.now) (says word) MNEMONICS ∙ ap (position (says word)) names_are

@@ -2,7 +2,7 @@
 use Rattle.std.proofs.Common.{◌≡◌, ℕ, ◌-◌, ◌≤◌, ◌<◌, ◌^◌, Bool, true, false, cond, ltb, List, Option, Some, None, refl, rules, arith}
 use Rattle.std.specs.Prelude.{ℤ, pos, negsuc, ◌≤ℤ◌, nat_lt, nat_le, ◌&&◌, ◌||◌, IfSome, FitsSigned}
 use Rattle.std.specs.Int.{w8, w16, w32}
-use Rattle.std.proofs.Common.{ints}
+use Rattle.std.proofs.lemmas.Int.{ints}
 use Rattle.std.proofs.lemmas.Bool.{ltb-true, ltb-false, leb-true}
 use Rattle.class_asm.specs.Numbers.{number_in, not_past, up_to, signed, between}
 use Rattle.class_asm.specs.Labels.{label_at, start_in, end_in}
@@ -14,7 +14,7 @@ or_false true b e = absurd cc
 or_false false b e = e
 
 pub and_left : (a b : Bool) → a && b ≡ true → a ≡ true
-and_left true b e = e
+and_left true b e = refl
 and_left false b e = absurd cc
 
 pub and_right : (a b : Bool) → a && b ≡ true → b ≡ true

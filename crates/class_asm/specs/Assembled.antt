@@ -1,5 +1,5 @@
 -- The class that a text states, or the number of the first line that is wrong (this project's own).
-use Rattle.std.specs.Prelude.{◌≡◌, ℕ, ◌+◌, false, Bool, List, [], length, Option, Some, None, Result, Ok, Err, if◌then◌else◌}
+use Rattle.std.specs.Prelude.{◌≡◌, ◌≢◌, MatchResult, ℕ, ◌+◌, false, Bool, List, [], length, Option, Some, None, Result, Ok, Err, if◌then◌else◌}
 use Rattle.codec_rules.specs.Sequence.{◌>>=◌}
 use Rattle.class_model.specs.declared.class.Class.{Class}
 use Rattle.class_model.specs.declared.fault.LayoutFault.{LayoutFault}
@@ -32,6 +32,11 @@ with_room class end (Err e) = Err (asm_fault.Line end.line)
 -- A class that passes a limit is refused at the line that ends it.
 abbrev pub within_limits : Class × Bool → End → Result Class AsmFault
 within_limits x end = if x.1 then Err (asm_fault.Line end.line) else with_room x.0 end (layout x.0)
+
+-- A call writes a class that is within its limits, or tells the line that is wrong.
+abbrev pub IsWithin : Class → Bool → End → Result (List ℕ) AsmFault → Type 0
+IsWithin class passed end result =
+    MatchResult result (λ bytes. (within_limits (class, passed) end ≡ Ok class) × (layout class ≡ Ok bytes)) (λ fault. fault ≢ asm_fault.Memory → within_limits (class, passed) end ≡ Err fault)
 
 -- The class that a text states, or the first line that is wrong.
 unfoldable pub AssembledClass : List ℕ → Result Class AsmFault

@@ -28,12 +28,15 @@ abbrev pub are_keywords : List ℕ → List ℕ → List ℕ → List ℕ → Bo
 are_keywords first second third fourth = says first (codes "class") && says second (codes "super") && says third (codes "flags") && says fourth (codes "major")
 
 abbrev pub headed : List ℕ → List ℕ → ℕ → ℕ → Option StatedClass
-headed name parent flags major = if is_major major && is_class_name name && is_class_entry parent then Some (empty_class name parent flags major) else None
+headed name parent flags major =
+    if is_major major then (if is_class_name name then (if is_class_entry parent then Some (empty_class name parent flags major) else None) else None) else None
+
+abbrev pub class_by : List ℕ → List ℕ → List ℕ → List ℕ → Option StatedClass
+class_by name parent flags major = option_and_then (λ f. option_and_then (headed name parent f) (up_to 0xFFFF major)) (up_to 0xFFFF flags)
 
 -- a class by its first line, without the rest
 abbrev pub class_in : List (List ℕ) → Option StatedClass
-class_in (first ∷ name ∷ second ∷ parent ∷ third ∷ flags ∷ fourth ∷ major ∷ []) =
-    if are_keywords first second third fourth then option_and_then (λ f. option_and_then (headed name parent f) (up_to 0xFFFF major)) (up_to 0xFFFF flags) else None
+class_in (first ∷ name ∷ second ∷ parent ∷ third ∷ flags ∷ fourth ∷ major ∷ []) = if are_keywords first second third fourth then class_by name parent flags major else None
 class_in other = None
 
 -- ---- the lines before the members

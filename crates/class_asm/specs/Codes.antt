@@ -49,9 +49,15 @@ caught word = if says word (codes "any") then Some None else option_map Some (cl
 abbrev pub row_of : ℕ → ℕ → ℕ → Option (Option (List ℕ)) → Option StatedRow
 row_of start end handler catch = if nat_le end start then None else option_map (λ class. record { start = start; end = end; handler = handler; catch = class }) catch
 
+abbrev pub row_by : Labels → List ℕ → List ℕ → List ℕ → Option (Option (List ℕ)) → Option StatedRow
+row_by labels start end handler catch =
+    option_and_then (λ s. option_and_then (λ e. option_and_then (λ h. row_of s e h catch) (start_in labels handler)) (end_in labels end)) (start_in labels start)
+
+abbrev pub row_with : Labels → List ℕ → List ℕ → List ℕ → List ℕ → Option StatedRow
+row_with labels start end handler catch = row_by labels start end handler (caught catch)
+
 abbrev pub row_in : Labels → List (List ℕ) → Option StatedRow
-row_in labels (keyword ∷ start ∷ end ∷ handler ∷ catch ∷ []) =
-    option_and_then (λ s. option_and_then (λ e. option_and_then (λ h. row_of s e h (caught catch)) (start_in labels handler)) (end_in labels end)) (start_in labels start)
+row_in labels (keyword ∷ start ∷ end ∷ handler ∷ catch ∷ []) = row_with labels start end handler catch
 row_in labels other = None
 
 -- a row of the exception table

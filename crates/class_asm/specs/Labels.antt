@@ -63,3 +63,6 @@ start_in labels name = option_and_then (λ at. if nat_lt at labels.total && nat_
 -- the same, or the code's end
 abbrev pub end_in : Labels → List ℕ → Option ℕ
 end_in labels name = option_and_then (λ at. if nat_le at labels.total && nat_lt at (2 ^ 32) then Some at else None) (label_at labels name)
+
+abbrev pub labels_of : List Line → Labels
+labels_of lines = record { known = labels_from 0 lines; total = insns_in lines }

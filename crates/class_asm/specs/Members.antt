@@ -8,7 +8,7 @@ use Rattle.std.specs.Result.{is_ok}
 use Rattle.class_asm.specs.Words.{says}
 use Rattle.class_asm.specs.Numbers.{up_to}
 use Rattle.class_asm.specs.Keywords.{line_kind}
-use Rattle.class_asm.specs.Labels.{labels_from, insns_in}
+use Rattle.class_asm.specs.Labels.{insns_in, labels_of}
 use Rattle.class_asm.specs.Entries.{is_result_desc}
 use Rattle.class_asm.specs.Operands.{both}
 use Rattle.class_asm.specs.Codes.{numbered, framed, guarded, instructed, is_first_label}
@@ -48,9 +48,12 @@ note_in words = class_note_in words
 abbrev pub named_member : ℕ → List ℕ → List ℕ → Option StatedCode → StatedMember
 named_member flags name desc code = record { flags = flags; name = name; desc = desc; code = code; notes = [] }
 
+abbrev pub field_by : List ℕ → List ℕ → List ℕ → Option StatedMember
+field_by flags name desc =
+    option_and_then (λ n. if is_field_name name then (if is_ok (field_kind desc) then Some (named_member n name desc None) else None) else None) (up_to 0xFFFF flags)
+
 abbrev pub field_in : List (List ℕ) → Option StatedMember
-field_in (keyword ∷ flags ∷ name ∷ desc ∷ []) =
-    option_and_then (λ n. if is_field_name name && is_ok (field_kind desc) then Some (named_member n name desc None) else None) (up_to 0xFFFF flags)
+field_in (keyword ∷ flags ∷ name ∷ desc ∷ []) = field_by flags name desc
 field_in other = None
 
 abbrev pub empty_code : ℕ → ℕ → StatedCode
@@ -65,9 +68,12 @@ code_in (first ∷ stack ∷ second ∷ locals ∷ []) =
     else None
 code_in other = None
 
+abbrev pub method_by : List ℕ → List ℕ → List ℕ → Option StatedCode → Option StatedMember
+method_by flags name desc code =
+    option_and_then (λ n. if is_method_name name then (if is_ok (method_kinds desc) then Some (named_member n name desc code) else None) else None) (up_to 0xFFFF flags)
+
 abbrev pub method_in : List (List ℕ) → Option StatedMember
-method_in (keyword ∷ flags ∷ name ∷ desc ∷ sizes) =
-    option_and_then (λ n. option_and_then (λ code. if is_method_name name && is_ok (method_kinds desc) then Some (named_member n name desc code) else None) (code_in sizes)) (up_to 0xFFFF flags)
+method_in (keyword ∷ flags ∷ name ∷ desc ∷ sizes) = option_and_then (method_by flags name desc) (code_in sizes)
 method_in other = None
 
 -- ---- the lines of a method with code
@@ -118,9 +124,6 @@ abbrev pub body_from : Labels → Progress → List Line → Result Progress Asm
 body_from labels progress [] = Ok progress
 body_from labels progress (line ∷ lines) = ok_or (body_step labels progress line) (asm_fault.Line line.number) >>= λ next. body_from labels next lines
 
-abbrev pub labels_of : List Line → Labels
-labels_of lines = record { known = labels_from 0 lines; total = insns_in lines }
-
 -- A method with code has an instruction; else its own line is wrong.
 abbrev pub code_of : ℕ → StatedCode → List Line → Result Progress AsmFault
 code_of number code lines = if insns_in lines == 0 then Err (asm_fault.Line number) else body_from (labels_of lines) (beginning code) lines
@@ -130,10 +133,16 @@ code_of number code lines = if insns_in lines == 0 then Err (asm_fault.Line numb
 abbrev pub note_of : Line → Option StatedNote
 note_of line = if is_note (line_kind line) then note_in line.words else None
 
+abbrev pub add_note : List StatedNote → Line → Option (List StatedNote)
+add_note notes line = option_map (λ note. notes ++ note ∷ []) (note_of line)
+
+abbrev pub notes_from : List StatedNote → List Line → Result (List StatedNote) AsmFault
+notes_from notes [] = Ok notes
+notes_from notes (line ∷ lines) = ok_or (add_note notes line) (asm_fault.Line line.number) >>= λ next. notes_from next lines
+
 -- the lines of a member without code, which are notes
 abbrev pub notes_of : List Line → Result (List StatedNote) AsmFault
-notes_of [] = Ok []
-notes_of (line ∷ lines) = ok_or (note_of line) (asm_fault.Line line.number) >>= λ note. notes_of lines >>= λ notes. Ok (note ∷ notes)
+notes_of lines = notes_from [] lines
 
 -- a field by its line and the lines behind it
 abbrev pub field_of : Line → List Line → Result StatedMember AsmFault

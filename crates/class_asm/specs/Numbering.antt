@@ -92,12 +92,12 @@ class_index name list = behind (text_index name list) (λ index. interned (const
 abbrev pub string_index : List ℕ → Numbered ℕ
 string_index text list = behind (text_index text list) (λ index. interned (const.Text index))
 
--- A long takes two places.
-abbrev pub added_long : ℤ → Numbered ℕ
-added_long value list = (index_of (length list), (list ++ const.Long value ∷ []) ++ const.Second ∷ [])
+-- the same of an entry that takes two places
+abbrev pub added_wide : Const → Numbered ℕ
+added_wide e list = (index_of (length list), (list ++ e ∷ []) ++ const.Second ∷ [])
 
-abbrev pub long_index : ℤ → Numbered ℕ
-long_index value list = found_or list (added_long value) (position (is_same (const.Long value)) list)
+abbrev pub wide_interned : Const → Numbered ℕ
+wide_interned e list = found_or list (added_wide e) (position (is_same e) list)
 
 abbrev pub pair_index : List ℕ → List ℕ → Numbered ℕ
 pair_index name desc list = behind (text_index name list) (λ n later. behind (text_index desc later) (λ d. interned (const.Pair n d)))
@@ -111,7 +111,7 @@ member_index make member list = let parts = parts_index member list in interned 
 -- the index of an entry by what it says
 abbrev pub entry_index : Entry → Numbered ℕ
 entry_index (entry.Integer value) list = interned (const.Integer value) list
-entry_index (entry.Long value) list = long_index value list
+entry_index (entry.Long value) list = wide_interned (const.Long value) list
 entry_index (entry.Class name) list = class_index name list
 entry_index (entry.Text text) list = string_index text list
 entry_index (entry.Field member) list = member_index const.Field member list

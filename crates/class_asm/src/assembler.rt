@@ -3,7 +3,8 @@
 ghost use Rattle.std.specs.Prelude.{◌≡◌, ◌≢◌, MatchResult, Err};
 ghost use Rattle.codec_rules.specs.Meets.{Gives};
 ghost use Rattle.class_asm.specs.declared.fault.AsmFault.TheVariants as asm_fault;
-ghost use Rattle.class_asm.specs.Assembled.{AssembledClass, IsAssembled, stated_in};
+ghost use Rattle.class_asm.specs.Assembled.{AssembledClass, IsAssembled, IsWithin, stated_in};
+ghost use Rattle.class_writer.specs.Writing.{HasClassForm};
 
 use crate::class::{End, stated_by};
 use crate::fault::AsmFault;
@@ -24,20 +25,15 @@ fn stated_in(alloc: Global, text: &[u8]) -> Result<(StatedClass, End), AsmFault>
     stated_by(alloc, pieces.len() as u64 + 1, lines.as_slice())
 }
 
-/// The class file of the class that a text states. `Line` comes exactly where the text states none, and names the first line at fault.
-pub fn assemble(alloc: Global, text: &[u8]) -> Result<Bytes, AsmFault>
-    ensures { MatchResult result (λ bytes. IsAssembled text.now bytes) (λ fault. fault ≢ asm_fault.Memory → AssembledClass text.now ≡ Err fault) }
+/// The class file of a class, where no limit is passed and no line stands behind its end.
+fn within_limits(alloc: Global, class: &Class, passed: bool, end: End) -> Result<Bytes, AsmFault>
+    requires { HasClassForm class.now }
+    ensures { IsWithin class.now passed end result }
 {
-    let (stated, end) = stated_in(alloc, text)?;
-    let entries = Entries {
-        list: Seq::new(alloc),
-        passed: false,
-    };
-    let (class, passed) = class_of(entries, &stated)?;
     if passed {
         return Err(AsmFault::Line { line: end.line });
     }
-    let bytes = match write_class(alloc, &class) {
+    let bytes = match write_class(alloc, class) {
         Ok(bytes) => bytes,
         Err(LayoutFault::TooLarge { .. }) => return Err(AsmFault::Line { line: end.line }),
         Err(LayoutFault::Memory) => return Err(AsmFault::Memory),
@@ -46,4 +42,20 @@ pub fn assemble(alloc: Global, text: &[u8]) -> Result<Bytes, AsmFault>
         Some(line) => Err(AsmFault::Line { line }),
         None => Ok(bytes),
     }
+}
+
+/// The class file of the class that a text states. `Line` comes exactly where the text states none, and names the first line at fault.
+pub fn assemble(alloc: Global, text: &[u8]) -> Result<Bytes, AsmFault>
+    ensures { MatchResult result (λ bytes. IsAssembled text.now bytes) (λ fault. fault ≢ asm_fault.Memory → AssembledClass text.now ≡ Err fault) }
+{
+    let stated = match stated_in(alloc, text) {
+        Ok(stated) => stated,
+        Err(fault) => return Err(fault),
+    };
+    let entries = Entries {
+        list: Seq::new(alloc),
+        passed: false,
+    };
+    let numbered = class_of(entries, &stated.0)?;
+    within_limits(alloc, &numbered.0, numbered.1, stated.1)
 }

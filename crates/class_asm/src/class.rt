@@ -2,7 +2,8 @@
 
 ghost use Rattle.std.specs.Prelude.{◌≡◌, ◌≤◌, length, IfOk};
 ghost use Rattle.codec_rules.specs.Meets.{Gives};
-ghost use Rattle.class_asm.specs.Classes.{class_in, own_count, first_number, implemented, sourced, class_noted, head_step, head_from, ended, part_step, parts_from, stated_by};
+ghost use Rattle.class_reader.specs.Reading.{is_major};
+ghost use Rattle.class_asm.specs.Classes.{are_keywords, headed, class_by, class_in, own_count, first_number, implemented, sourced, class_noted, head_step, head_from, ended, part_step, parts_from, stated_by};
 ghost use Rattle.class_asm.specs.declared.fault.AsmFault.TheVariants as asm_fault;
 
 use crate::entry::is_class_entry;
@@ -17,27 +18,28 @@ use crate::word::says;
 use class_model::{Memory, Name, Seq, is_class_name};
 use std::alloc::Global;
 
-/// A class by its first line, without the rest.
-fn class_in(alloc: Global, words: &[Name]) -> Result<Option<StatedClass>, Memory>
-    ensures { IfOk result (λ o. o ≡ class_in words.now) }
+fn are_keywords(first: &Name, second: &Name, third: &Name, fourth: &Name) -> bool
+    ensures { result ≡ are_keywords first.now second.now third.now fourth.now }
 {
-    let [first, name, second, parent, third, flags, fourth, major] = words else {
-        return Ok(None);
-    };
-    if !(says(first, "class")
-        && says(second, "super")
-        && says(third, "flags")
-        && says(fourth, "major"))
-    {
-        return Ok(None);
-    }
-    let Some(flags) = u2(flags) else {
-        return Ok(None);
-    };
-    let Some(major) = u2(major) else {
-        return Ok(None);
-    };
-    if major != 51 && major != 52 {
+    says(first, "class") && says(second, "super") && says(third, "flags") && says(fourth, "major")
+}
+
+fn is_major(major: u16) -> bool
+    ensures { result ≡ is_major major }
+{
+    major == 51 || major == 52
+}
+
+fn headed(
+    alloc: Global,
+    name: &Name,
+    parent: &Name,
+    flags: u16,
+    major: u16,
+) -> Result<Option<StatedClass>, Memory>
+    ensures { IfOk result (λ o. o ≡ headed name.now parent.now flags major) }
+{
+    if !is_major(major) {
         return Ok(None);
     }
     if !is_class_name(name.as_slice()) {
@@ -57,6 +59,37 @@ fn class_in(alloc: Global, words: &[Name]) -> Result<Option<StatedClass>, Memory
         fields: Seq::new(alloc),
         methods: Seq::new(alloc),
     }))
+}
+
+fn class_by(
+    alloc: Global,
+    name: &Name,
+    parent: &Name,
+    flags: &Name,
+    major: &Name,
+) -> Result<Option<StatedClass>, Memory>
+    ensures { IfOk result (λ o. o ≡ class_by name.now parent.now flags.now major.now) }
+{
+    let Some(flags) = u2(flags) else {
+        return Ok(None);
+    };
+    match u2(major) {
+        Some(major) => headed(alloc, name, parent, flags, major),
+        None => Ok(None),
+    }
+}
+
+/// A class by its first line, without the rest.
+fn class_in(alloc: Global, words: &[Name]) -> Result<Option<StatedClass>, Memory>
+    ensures { IfOk result (λ o. o ≡ class_in words.now) }
+{
+    let [first, name, second, parent, third, flags, fourth, major] = words else {
+        return Ok(None);
+    };
+    if !are_keywords(first, second, third, fourth) {
+        return Ok(None);
+    }
+    class_by(alloc, name, parent, flags, major)
 }
 
 // ---- the lines before the members

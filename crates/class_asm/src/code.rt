@@ -1,7 +1,7 @@
 //! The lines of a code.
 
 ghost use Rattle.std.specs.Prelude.{◌≡◌, IfOk};
-ghost use Rattle.class_asm.specs.Codes.{here, is_behind, line_in, caught, row_in, is_first_label, numbered, framed, guarded, instructed};
+ghost use Rattle.class_asm.specs.Codes.{here, is_behind, line_in, caught, row_of, row_by, row_with, row_in, is_first_label, numbered, framed, guarded, instructed};
 
 use crate::frame::shape_of;
 use crate::instruction::insn_of;
@@ -95,32 +95,58 @@ fn caught(alloc: Global, word: &Name) -> Result<Option<Option<Name>>, Memory>
     }
 }
 
-fn row_in(alloc: Global, labels: &Labels, words: &[Name]) -> Result<Option<StatedRow>, Memory>
-    ensures { IfOk result (λ o. o ≡ row_in labels.now words.now) }
+fn row_of(start: u32, end: u32, handler: u32, catch: Option<Option<Name>>) -> Option<StatedRow>
+    ensures { result ≡ row_of start end handler catch }
 {
-    let [_, start, end, handler, catch] = words else {
-        return Ok(None);
-    };
-    let Some(start) = start_in(labels, start.as_slice()) else {
-        return Ok(None);
-    };
-    let Some(end) = end_in(labels, end.as_slice()) else {
-        return Ok(None);
-    };
-    let Some(handler) = start_in(labels, handler.as_slice()) else {
-        return Ok(None);
-    };
     if end <= start {
-        return Ok(None);
+        return None;
     }
-    match caught(alloc, catch)? {
-        Some(catch) => Ok(Some(StatedRow {
+    match catch {
+        Some(catch) => Some(StatedRow {
             start,
             end,
             handler,
             catch,
-        })),
-        None => Ok(None),
+        }),
+        None => None,
+    }
+}
+
+fn row_by(
+    labels: &Labels,
+    start: &Name,
+    end: &Name,
+    handler: &Name,
+    catch: Option<Option<Name>>,
+) -> Option<StatedRow>
+    ensures { result ≡ row_by labels.now start.now end.now handler.now catch }
+{
+    let start = start_in(labels, start.as_slice())?;
+    let end = end_in(labels, end.as_slice())?;
+    let handler = start_in(labels, handler.as_slice())?;
+    row_of(start, end, handler, catch)
+}
+
+fn row_with(
+    alloc: Global,
+    labels: &Labels,
+    start: &Name,
+    end: &Name,
+    handler: &Name,
+    catch: &Name,
+) -> Result<Option<StatedRow>, Memory>
+    ensures { IfOk result (λ o. o ≡ row_with labels.now start.now end.now handler.now catch.now) }
+{
+    let catch = caught(alloc, catch)?;
+    Ok(row_by(labels, start, end, handler, catch))
+}
+
+fn row_in(alloc: Global, labels: &Labels, words: &[Name]) -> Result<Option<StatedRow>, Memory>
+    ensures { IfOk result (λ o. o ≡ row_in labels.now words.now) }
+{
+    match words {
+        [_, start, end, handler, catch] => row_with(alloc, labels, start, end, handler, catch),
+        _ => Ok(None),
     }
 }
 

@@ -1,8 +1,8 @@
 //! The labels of a method.
 
-ghost use Rattle.std.specs.Prelude.{◌≡◌, ◌+◌, ◌<◌, ◌^◌, ℕ, length, IfOk, IfSome};
+ghost use Rattle.std.specs.Prelude.{◌≡◌, ◌≤◌, ◌++◌, option_to_list, IfOk, OnOk};
 ghost use Rattle.std.specs.Option.{option_copied};
-ghost use Rattle.class_asm.specs.Labels.{labels_from, insns_in, first_of, label_at, is_first, place_of, start_in, end_in};
+ghost use Rattle.class_asm.specs.Labels.{weight, labels_of, first_of, label_at, is_first, place_of, start_in, end_in};
 
 use crate::keyword::{LineKind, line_kind};
 use crate::line::Line;
@@ -45,20 +45,37 @@ fn label_of(alloc: Global, line: &Line, at: u64) -> Result<Option<Label>, Memory
     }
 }
 
+fn push_label(known: &mut Seq<Label>, label: Option<Label>) -> Result<(), Memory>
+    ensures { OnOk result (known.new ≡ known.old ++ option_to_list label) }
+{
+    if let Some(label) = label {
+        known.push(label)?;
+    }
+    Ok(())
+}
+
+/// How many instructions a line has.
+fn weight(line: &Line) -> u64
+    ensures value { result ≡ weight line.now }
+    ensures few { result ≤ 1 }
+{
+    if line_kind(line) == LineKind::Instruction {
+        1
+    } else {
+        0
+    }
+}
+
 /// The labels of the lines of a method, and how many instructions these have.
 pub fn labels_of(alloc: Global, lines: &[Line]) -> Result<Labels, Memory>
-    ensures known { IfOk result (λ labels. labels.known ≡ labels_from 0 lines.now) }
-    ensures total { IfOk result (λ labels. labels.total ≡ insns_in lines.now) }
+    ensures { IfOk result (λ labels. labels ≡ labels_of lines.now) }
 {
     let mut known = Seq::new(alloc);
     let mut total = 0u64;
     for line in lines {
-        if let Some(label) = label_of(alloc, line, total)? {
-            known.push(label)?;
-        }
-        if line_kind(line) == LineKind::Instruction {
-            total += 1;
-        }
+        let label = label_of(alloc, line, total)?;
+        push_label(&mut known, label)?;
+        total += weight(line);
     }
     Ok(Labels { known, total })
 }

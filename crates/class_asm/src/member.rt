@@ -2,7 +2,7 @@
 
 ghost use Rattle.std.specs.Prelude.{◌≡◌, IfOk};
 ghost use Rattle.codec_rules.specs.Meets.{Gives};
-ghost use Rattle.class_asm.specs.Members.{class_note_in, expecting_note, note_in, field_in, code_in, method_in, code_step, noting, noted, coded, body_step, beginning, body_from, code_of, note_of, notes_of, field_of, method_of, with_lines};
+ghost use Rattle.class_asm.specs.Members.{class_note_in, expecting_note, note_in, field_by, field_in, code_in, method_by, method_in, code_step, noting, noted, coded, body_step, beginning, body_from, code_of, note_of, add_note, notes_of, field_of, method_of, with_lines};
 ghost use Rattle.class_asm.specs.declared.fault.AsmFault.TheVariants as asm_fault;
 
 use crate::code::{framed, guarded, instructed, is_first_label, numbered};
@@ -66,12 +66,14 @@ fn note_in(alloc: Global, words: &[Name]) -> Result<Option<StatedNote>, Memory>
     }
 }
 
-fn field_in(alloc: Global, words: &[Name]) -> Result<Option<StatedMember>, Memory>
-    ensures { IfOk result (λ o. o ≡ field_in words.now) }
+fn field_by(
+    alloc: Global,
+    flags: &Name,
+    name: &Name,
+    desc: &Name,
+) -> Result<Option<StatedMember>, Memory>
+    ensures { IfOk result (λ o. o ≡ field_by flags.now name.now desc.now) }
 {
-    let [_, flags, name, desc] = words else {
-        return Ok(None);
-    };
     let Some(flags) = u2(flags) else {
         return Ok(None);
     };
@@ -88,6 +90,15 @@ fn field_in(alloc: Global, words: &[Name]) -> Result<Option<StatedMember>, Memor
         code: None,
         notes: Seq::new(alloc),
     }))
+}
+
+fn field_in(alloc: Global, words: &[Name]) -> Result<Option<StatedMember>, Memory>
+    ensures { IfOk result (λ o. o ≡ field_in words.now) }
+{
+    match words {
+        [_, flags, name, desc] => field_by(alloc, flags, name, desc),
+        _ => Ok(None),
+    }
 }
 
 /// A code without lines, by the words of its sizes; no words are no code.
@@ -111,16 +122,16 @@ fn code_in(alloc: Global, words: &[Name]) -> Option<Option<StatedCode>>
     }
 }
 
-fn method_in(alloc: Global, words: &[Name]) -> Result<Option<StatedMember>, Memory>
-    ensures { IfOk result (λ o. o ≡ method_in words.now) }
+fn method_by(
+    alloc: Global,
+    flags: &Name,
+    name: &Name,
+    desc: &Name,
+    code: Option<StatedCode>,
+) -> Result<Option<StatedMember>, Memory>
+    ensures { IfOk result (λ o. o ≡ method_by flags.now name.now desc.now code) }
 {
-    let [_, flags, name, desc, sizes @ ..] = words else {
-        return Ok(None);
-    };
     let Some(flags) = u2(flags) else {
-        return Ok(None);
-    };
-    let Some(code) = code_in(alloc, sizes) else {
         return Ok(None);
     };
     if !is_method_name(name.as_slice()) {
@@ -136,6 +147,18 @@ fn method_in(alloc: Global, words: &[Name]) -> Result<Option<StatedMember>, Memo
         code,
         notes: Seq::new(alloc),
     }))
+}
+
+fn method_in(alloc: Global, words: &[Name]) -> Result<Option<StatedMember>, Memory>
+    ensures { IfOk result (λ o. o ≡ method_in words.now) }
+{
+    match words {
+        [_, flags, name, desc, sizes @ ..] => match code_in(alloc, sizes) {
+            Some(code) => method_by(alloc, flags, name, desc, code),
+            None => Ok(None),
+        },
+        _ => Ok(None),
+    }
 }
 
 /// Where the lines of a member stand.
@@ -291,16 +314,30 @@ fn note_of(alloc: Global, line: &Line) -> Result<Option<StatedNote>, Memory>
     }
 }
 
+fn add_note(
+    alloc: Global,
+    mut notes: Seq<StatedNote>,
+    line: &Line,
+) -> Result<Option<Seq<StatedNote>>, Memory>
+    ensures { IfOk result (λ o. o ≡ add_note notes line.now) }
+{
+    let Some(note) = note_of(alloc, line)? else {
+        return Ok(None);
+    };
+    notes.push(note)?;
+    Ok(Some(notes))
+}
+
 /// The lines of a member without code, which are notes.
 fn notes_of(alloc: Global, lines: &[Line]) -> Result<Seq<StatedNote>, AsmFault>
     ensures { Gives asm_fault.Memory (λ notes. notes) (notes_of lines.now) result }
 {
     let mut notes = Seq::new(alloc);
     for line in lines {
-        match note_of(alloc, line)? {
-            Some(note) => notes.push(note)?,
+        notes = match add_note(alloc, notes, line)? {
+            Some(next) => next,
             None => return Err(AsmFault::Line { line: line.number }),
-        }
+        };
     }
     Ok(notes)
 }

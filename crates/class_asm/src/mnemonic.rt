@@ -1,6 +1,6 @@
 //! Opcodes by their mnemonics (JVMS 6.5, 7).
 
-ghost use Rattle.std.specs.Prelude.{◌≡◌, ◌<◌, position, IfSome, option_and_then};
+ghost use Rattle.std.specs.Prelude.{◌≡◌, ◌<◌, length, position, IfSome, option_and_then};
 ghost use Rattle.class_asm.specs.Words.{says};
 ghost use Rattle.mt_insn.specs.Opcode.{low_form, middle_form, high_form};
 ghost use Rattle.class_asm.specs.Mnemonics.{opcode_of, usable, operand_form};
@@ -213,18 +213,18 @@ const MNEMONICS: [&str; 201] = [
     "goto_w",
 ];
 
-fn place_of(word: &Name) -> Option<usize>
-    ensures first { result ≡ position (λ name. says word.now name.now) MNEMONICS }
-    ensures within { IfSome result (λ place. place < 256) }
+fn place_in(names: &[&str], word: &Name) -> Option<usize>
+    ensures first { result ≡ position (λ name. says word.now name.now) names.now }
+    ensures within { IfSome result (λ place. place < length names.now) }
 {
-    MNEMONICS.iter().position(|name| says(word, name))
+    names.iter().position(|name| says(word, name))
 }
 
 /// The opcode of a mnemonic.
 pub fn opcode_of(word: &Name) -> Option<u8>
     ensures { result ≡ opcode_of word.now }
 {
-    match place_of(word) {
+    match place_in(MNEMONICS.as_slice(), word) {
         Some(place) => Some(place as u8),
         None => None,
     }

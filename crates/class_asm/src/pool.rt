@@ -1,7 +1,7 @@
 //! The constant pool of a class, to which entries are added as they are needed.
 
 ghost use Rattle.std.specs.Prelude.{◌≡◌, ◌++◌, position, IfOk, OnOk};
-ghost use Rattle.class_asm.specs.Numbering.{is_same, index_of, interned, text_index, class_index, string_index, pair_index, added_long, long_index, parts_index, entry_index};
+ghost use Rattle.class_asm.specs.Numbering.{is_same, index_of, interned, text_index, class_index, string_index, pair_index, wide_interned, parts_index, entry_index};
 
 use crate::stated::{Entry, MemberName};
 use class_model::{Const, Memory, Name, Seq};
@@ -101,23 +101,17 @@ fn string_index(list: &mut Seq<Const>, text: &Name) -> Result<u16, Memory>
     intern(list, Const::Text(text))
 }
 
-/// A long takes two places.
-fn push_long(list: &mut Seq<Const>, value: i64) -> Result<u16, Memory>
-    ensures { IfOk result (λ index. added_long value list.old ≡ (index, list.new)) }
+/// The same of an entry that takes two places.
+fn intern_wide(list: &mut Seq<Const>, entry: Const) -> Result<u16, Memory>
+    ensures { IfOk result (λ index. wide_interned entry list.old ≡ (index, list.new)) }
 {
+    if let Some(place) = place_of(list.as_slice(), &entry) {
+        return Ok(index_of(place));
+    }
     let place = list.len();
-    list.push(Const::Long(value))?;
+    list.push(entry)?;
     list.push(Const::Second)?;
     Ok(index_of(place))
-}
-
-fn long_index(list: &mut Seq<Const>, value: i64) -> Result<u16, Memory>
-    ensures { IfOk result (λ index. long_index value list.old ≡ (index, list.new)) }
-{
-    match place_of(list.as_slice(), &Const::Long(value)) {
-        Some(place) => Ok(index_of(place)),
-        None => push_long(list, value),
-    }
 }
 
 fn pair_index(list: &mut Seq<Const>, name: &Name, desc: &Name) -> Result<u16, Memory>
@@ -143,7 +137,7 @@ pub fn entry_index(list: &mut Seq<Const>, entry: &Entry) -> Result<u16, Memory>
 {
     match entry {
         Entry::Integer(value) => intern(list, Const::Integer(*value)),
-        Entry::Long(value) => long_index(list, *value),
+        Entry::Long(value) => intern_wide(list, Const::Long(*value)),
         Entry::Class(name) => class_index(list, name),
         Entry::Text(text) => string_index(list, text),
         Entry::Field(member) => {
