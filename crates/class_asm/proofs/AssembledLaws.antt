@@ -1,6 +1,6 @@
 -- What a text states is a class in form, so its file's form may be written.
-use Rattle.std.proofs.Common.{◌≡◌, ◌∙◌, ℕ, List, [], Option, Some, None, Ok, Err, Bool, refl, sym, ap, subst, ◌+◌}
-use Rattle.std.specs.Prelude.{Result, IfOk, All, length, ◌≢◌, MatchResult}
+use Rattle.std.proofs.Common.{◌≡◌, ◌∙◌, ℕ, List, [], Ok, Err, Bool, sym, ap, subst, ◌+◌}
+use Rattle.std.specs.Prelude.{Result, IfOk, All, length, ◌≢◌, MatchResult, false}
 use Rattle.class_writer.specs.Writing.{HasClassForm}
 use Rattle.mt_insn.specs.Code.{HasForm, HasTargets}
 use Rattle.class_model.specs.declared.class.Class.{Class}
@@ -44,7 +44,7 @@ insns_written code entries later insns e is =
     let same : (insns_of code.insns entries).0 ≡ insns = ap (λ (x : List Insn × Entries). x.0) e in
     subst (λ (l : List Insn). All HasForm l × All (HasTargets (length l)) l) same (insns_formed code.insns entries is.insns)
 
-abbrev numbered_from : List Const → Entries
+abbrev pub numbered_from : List Const → Entries
 numbered_from list = record { list = list; passed = false }
 
 assembled_is : (text : List ℕ) (stated : StatedClass) (end : End) (class : Class) (passed : Bool) (list : List Const) (meant : Result Class AsmFault) → stated_in text ≡ Ok (stated, end) → list ≡ [] → (class, passed) ≡ class_of stated (numbered_from list)

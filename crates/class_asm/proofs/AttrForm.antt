@@ -1,18 +1,14 @@
 -- The frames, rows and lines of a stated code in form may be written, and so may its attributes, its members and its class.
-use Rattle.std.proofs.Common.{◌≡◌, ℕ, zero, suc, ◌+◌, ◌-◌, ◌≤◌, ◌<◌, ◌^◌, Bool, true, false, cond, lit<, List, [], ◌∷◌, ◌++◌, length, get_or, Option, Some, None, Ok, Err, refl, sym, ap, subst, ◌∙◌, arith}
-use Rattle.std.specs.Prelude.{nat_lt, nat_le, ◌==◌, All, Result, codes, slice_index}
-use Rattle.std.proofs.lemmas.Bool.{ltb-true, leb-true, leb-false}
+use Rattle.std.proofs.Common.{◌≡◌, ℕ, zero, suc, ◌+◌, ◌-◌, ◌≤◌, ◌<◌, ◌^◌, Bool, true, false, cond, lit<, List, [], ◌∷◌, ◌++◌, length, Option, Some, None, Ok, Err, refl, sym, subst, ◌∙◌, arith}
+use Rattle.std.specs.Prelude.{nat_lt, nat_le, ◌==◌, All, codes, slice_index}
+use Rattle.std.proofs.lemmas.Bool.{ltb-true, leb-false}
 use Rattle.std.proofs.lemmas.List.Elements.{All-push}
 use Rattle.class_model.specs.declared.constant.Const.{Const}
 use Rattle.class_model.specs.declared.instruction.Insn.{Insn}
 use Rattle.class_model.specs.declared.frame.Frame.{Frame}
-use Rattle.class_model.specs.declared.frame.Shape.{Shape}
-use Rattle.class_model.specs.declared.frame.Shape.TheVariants as shape
-use Rattle.class_model.specs.declared.frame.VItem.{VItem}
 use Rattle.class_model.specs.declared.frame.VItem.TheVariants as vitem
-use Rattle.class_model.specs.declared.attribute.Row.{Row}
 use Rattle.class_model.specs.declared.attribute.Attr.{Attr}
-use Rattle.class_model.specs.declared.attribute.Code.{Code, roll-Code, out-Code}
+use Rattle.class_model.specs.declared.attribute.Code.{Code, roll-Code}
 use Rattle.class_model.specs.declared.attribute.Body.{Body, out-Body}
 use Rattle.class_model.specs.declared.attribute.Body.TheVariants as body
 use Rattle.class_model.specs.declared.attribute.Body.TheOpen.{Body-F, Code-F}
@@ -22,15 +18,11 @@ use Rattle.class_model.specs.declared.annotation.Elem.{Elem, out-Elem}
 use Rattle.class_model.specs.declared.annotation.Elem.TheVariants as elem
 use Rattle.class_model.specs.declared.annotation.Elem.TheOpen.{Elem-F}
 use Rattle.class_model.specs.declared.annotation.Elem.TheViews.{the_lemmas as elem_lemmas}
-use Rattle.class_model.specs.declared.class.Member.{Member}
-use Rattle.class_model.specs.declared.class.Class.{Class}
-use Rattle.class_model.specs.declared.fault.LayoutFault.{LayoutFault}
-use Rattle.mt_insn.specs.Code.{HasForm, HasTargets, layout, places, code, jumps_fit, code_length}
+use Rattle.mt_insn.specs.Code.{places, code, jumps_fit, code_length}
 use Rattle.class_model.specs.declared.fault.LayoutFault.TheVariants as layout_fault
 use Rattle.class_model.specs.declared.fault.Bound.TheVariants as bound
 use Rattle.mt_insn.specs.Order.{Ascends, AreNear}
 use Rattle.mt_insn.proofs.Sizes.{length-places_from, starts_near}
-use Rattle.mt_attrs.specs.Places.{IsBehind, start_of}
 use Rattle.mt_attrs.specs.Frames.{room_of, next_behind}
 use Rattle.mt_attrs.specs.Item.{AllBy}
 use Rattle.mt_attrs.specs.Notes.{most_turns}
@@ -38,10 +30,10 @@ use Rattle.mt_attrs.specs.CodeParts.{attr_of, body_of}
 use Rattle.mt_attrs.specs.Layout.{HasLineForm, HasRowForm, HasVItemForm, HasShapeForm, HasFrameForm, HasNoteForm, HasElemForm, HasElemFormBy, HasTableForm, HasCodeForm, HasBodyForm, HasAttrForm}
 use Rattle.mt_attrs.proofs.Starts.{starts_ascend}
 use Rattle.class_writer.specs.Writing.{HasMemberForm, HasClassForm}
-use Rattle.class_asm.specs.Numbering.{Numbered, text_index, class_index, behind}
-use Rattle.class_asm.specs.File.{each, insn_of, insns_of, item_of, items_of, shape_of, full_of, frame_of, frames_of, row_of, rows_of, note_of, notes_of, pairs_of, starts_of, places_by, with_list}
-use Rattle.class_asm.specs.ClassFile.{with_lines, with_frames, framed, code_by, code_behind, kept, code_attr, with_notes, codes_of, attrs_of, member_of, members_of, interfaces_of, with_source, class_of}
-use Rattle.class_asm.specs.Stated.{IsStatedInsn, IsKnownItem, IsStatedItem, IsStatedShape, IsStatedFrame, least_behind, AreFrames, IsStatedRow, Keeps, IsStatedCode, IsCodeIn, IsStatedMember, IsStatedClass}
+use Rattle.class_asm.specs.Numbering.{text_index, class_index, behind}
+use Rattle.class_asm.specs.File.{insn_of, insns_of, item_of, items_of, shape_of, frame_of, frames_of, row_of, rows_of, note_of, notes_of, pairs_of, starts_of, places_by, with_list}
+use Rattle.class_asm.specs.ClassFile.{with_lines, with_frames, framed, code_behind, kept, code_attr, with_notes, codes_of, member_of, members_of, interfaces_of, with_source, class_of}
+use Rattle.class_asm.specs.Stated.{IsStatedItem, IsStatedShape, AreFrames, IsStatedRow, Keeps, IsStatedCode, IsCodeIn, IsStatedMember, IsStatedClass}
 use Rattle.class_asm.specs.declared.stated.StatedItem.{StatedItem}
 use Rattle.class_asm.specs.declared.stated.StatedItem.TheVariants as item
 use Rattle.class_asm.specs.declared.stated.StatedShape.{StatedShape}

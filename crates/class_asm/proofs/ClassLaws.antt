@@ -1,6 +1,6 @@
 -- What lines state is a class in form.
-use Rattle.std.proofs.Common.{◌≡◌, ℕ, Bool, true, false, cond, List, [], ◌∷◌, ◌++◌, length, take, Option, Some, None, Ok, Err, refl, sym, subst, arith}
-use Rattle.std.specs.Prelude.{Result, IfOk, IfSome, All, ok_or, ◌&&◌, ◌||◌, ◌==◌, option_and_then}
+use Rattle.std.proofs.Common.{◌≡◌, ℕ, Bool, true, false, cond, List, [], ◌∷◌, ◌++◌, Option, Some, None, Ok, refl, sym, subst}
+use Rattle.std.specs.Prelude.{IfOk, IfSome, All, option_and_then}
 use Rattle.std.specs.Option.{option_map}
 use Rattle.std.proofs.lemmas.List.Elements.{All-push}
 use Rattle.codec_rules.specs.Sequence.{◌>>=◌}
@@ -21,7 +21,6 @@ use Rattle.class_asm.specs.declared.keyword.LineKind.TheVariants as kind
 use Rattle.class_asm.specs.declared.fault.AsmFault.{AsmFault}
 use Rattle.class_asm.specs.declared.fault.AsmFault.TheVariants as asm_fault
 use Rattle.class_asm.specs.declared.stated.StatedClass.{StatedClass}
-use Rattle.class_asm.specs.declared.stated.StatedMember.{StatedMember}
 use Rattle.class_asm.proofs.IfSome.{of_map, of_then, of_if, of_unless, of_both, weaker, always}
 use Rattle.class_asm.proofs.CodeLaws.{of_step, of_bind, if_ok, any_ok, field_is, method_is, all_none}
 

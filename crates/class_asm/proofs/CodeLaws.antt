@@ -1,5 +1,5 @@
 -- What the lines of a method state is in form: its instructions, rows, lines and frames.
-use Rattle.std.proofs.Common.{◌≡◌, ℕ, zero, suc, ◌+◌, ◌-◌, ◌≤◌, ◌<◌, ◌^◌, Bool, true, false, cond, eqb, List, [], ◌∷◌, ◌++◌, length, length-append, Option, Some, None, Ok, Err, refl, sym, ap, subst, ◌∙◌, arith}
+use Rattle.std.proofs.Common.{◌≡◌, ℕ, zero, suc, ◌+◌, ◌-◌, ◌≤◌, ◌<◌, ◌^◌, Bool, true, false, cond, List, [], ◌∷◌, ◌++◌, length, length-append, Option, Some, None, Ok, Err, refl, sym, ap, subst, ◌∙◌, arith}
 use Rattle.std.specs.Prelude.{nat_lt, nat_le, ◌&&◌, ◌||◌, ◌==◌, not, IfSome, All, codes, take, drop, slice_get, option_and_then}
 use Rattle.std.specs.Option.{option_map}
 use Rattle.std.proofs.lemmas.Bool.{ltb-true, ltb-false, leb-true}
@@ -25,7 +25,7 @@ use Rattle.class_model.specs.DeclaredName.{is_field_name, is_method_name}
 use Rattle.class_model.specs.DescriptorReading.{field_kind, method_kinds}
 use Rattle.std.specs.Result.{is_ok}
 use Rattle.std.specs.Prelude.{Result, IfOk, ok_or}
-use Rattle.class_asm.specs.Stated.{IsStatedCode, IsStatedMember, IsStatedInsn, IsKnownItem, IsStatedItem, IsStatedShape, IsStatedFrame, least_behind, AreFrames, IsStatedRow, Keeps}
+use Rattle.class_asm.specs.Stated.{IsStatedCode, IsStatedMember, IsStatedInsn, IsKnownItem, IsStatedItem, IsStatedShape, IsStatedFrame, AreFrames, IsStatedRow, Keeps}
 use Rattle.class_asm.specs.declared.line.Line.{Line}
 use Rattle.class_asm.specs.declared.labels.Labels.{Labels}
 use Rattle.class_asm.specs.declared.stated.StatedItem.{StatedItem}
@@ -33,12 +33,11 @@ use Rattle.class_asm.specs.declared.stated.StatedItem.TheVariants as item
 use Rattle.class_asm.specs.declared.stated.StatedShape.{StatedShape}
 use Rattle.class_asm.specs.declared.stated.StatedShape.TheVariants as shape
 use Rattle.class_asm.specs.declared.stated.StatedFrame.{StatedFrame}
-use Rattle.class_asm.specs.declared.stated.StatedRow.{StatedRow}
 use Rattle.class_asm.specs.declared.stated.StatedCode.{StatedCode}
 use Rattle.class_model.specs.declared.frame.VItem.{VItem}
 use Rattle.class_model.specs.declared.frame.VItem.TheVariants as vitem
-use Rattle.class_asm.proofs.IfSome.{of_map, of_then, of_if, of_unless, of_else, of_only, of_both, weaker, always}
-use Rattle.class_asm.proofs.NumberLaws.{up_to_is, start_is, end_is, and_left, and_right}
+use Rattle.class_asm.proofs.IfSome.{of_map, of_then, of_if, of_unless, of_else, of_only, weaker, always}
+use Rattle.class_asm.proofs.NumberLaws.{start_is, end_is, and_left, and_right}
 use Rattle.class_asm.proofs.InsnLaws.{insn_is}
 
 -- ---- verification types

@@ -1,24 +1,16 @@
 -- A stated class in form has a file's form that may be written.
-use Rattle.std.proofs.Common.{◌≡◌, ℕ, zero, suc, ◌+◌, ◌-◌, ◌≤◌, ◌<◌, ◌^◌, Bool, true, false, cond, ltb, eqb, lit<, List, [], ◌∷◌, ◌++◌, length, get_or, Option, Some, None, Ok, Err, refl, sym, ap, subst, ◌∙◌, arith}
-use Rattle.std.specs.Prelude.{nat_lt, nat_le, ◌==◌, IfSome, All, Result, position, slice_index}
-use Rattle.std.proofs.lemmas.Bool.{ltb-true, ltb-false, leb-true, leb-false}
-use Rattle.std.proofs.lemmas.List.Elements.{All-push}
+use Rattle.std.proofs.Common.{◌≡◌, ℕ, zero, suc, ◌+◌, ◌<◌, ◌^◌, Bool, true, false, cond, lit<, List, [], ◌∷◌, length, Option, Some, None, refl, sym, ap, subst, arith}
+use Rattle.std.specs.Prelude.{nat_lt, All, position}
+use Rattle.std.proofs.lemmas.Bool.{ltb-true, ltb-false}
 use Rattle.class_model.specs.declared.constant.Const.{Const}
 use Rattle.class_model.specs.declared.constant.Const.TheVariants as const
-use Rattle.class_model.specs.declared.instruction.Arg.{Arg}
-use Rattle.class_model.specs.declared.instruction.Arg.TheVariants as arg
 use Rattle.class_model.specs.declared.instruction.Insn.{Insn}
-use Rattle.class_model.specs.declared.fault.LayoutFault.{LayoutFault}
-use Rattle.mt_insn.specs.Code.{HasForm, HasTargets, layout, places, jumps_fit, code_length, code}
-use Rattle.mt_insn.specs.Order.{Ascends, AreNear}
-use Rattle.mt_insn.proofs.Sizes.{length-places_from, starts_near}
-use Rattle.mt_attrs.proofs.Starts.{starts_ascend}
-use Rattle.class_asm.specs.Numbering.{Numbered, index_of, found_or, added, interned, text_index, class_index, string_index, pair_index, parts_index, member_index, added_wide, wide_interned, entry_index, is_same}
-use Rattle.class_asm.specs.File.{each, near_index, with_list, named_arg, near_arg, counted_arg, arg_of, insn_of, insns_of}
+use Rattle.mt_insn.specs.Code.{HasForm, HasTargets}
+use Rattle.class_asm.specs.Numbering.{Numbered, index_of, found_or, added, interned, text_index, parts_index, added_wide, entry_index, is_same}
+use Rattle.class_asm.specs.File.{each, near_index, with_list, arg_of, insn_of, insns_of}
 use Rattle.class_asm.specs.Stated.{insn_with, IsOperand, IsStatedInsn}
 use Rattle.class_asm.specs.declared.stated.Entry.{Entry}
 use Rattle.class_asm.specs.declared.stated.Entry.TheVariants as entry
-use Rattle.class_asm.specs.declared.stated.MemberName.{MemberName}
 use Rattle.class_asm.specs.declared.stated.StatedInsn.{StatedInsn}
 use Rattle.class_asm.specs.declared.stated.Operand.{Operand}
 use Rattle.class_asm.specs.declared.stated.Operand.TheVariants as operand

@@ -1,8 +1,8 @@
 -- An instruction that a line states has the form of its opcode, and leads to instructions of its method.
-use Rattle.std.proofs.Common.{◌≡◌, ℕ, zero, suc, lit<, ◌+◌, ◌-◌, ◌≤◌, ◌<◌, ◌^◌, Bool, true, false, cond, List, [], ◌∷◌, length, Option, Some, None, refl, sym, ap, subst, ◌∙◌, arith, rules}
+use Rattle.std.proofs.Common.{◌≡◌, ℕ, zero, suc, lit<, ◌+◌, ◌-◌, ◌≤◌, ◌<◌, ◌^◌, Bool, true, false, cond, List, [], ◌∷◌, length, Option, Some, None, refl, sym, ap, subst, ◌∙◌, arith}
 use Rattle.std.proofs.lemmas.Int.{ints}
-use Rattle.std.specs.Prelude.{ℤ, pos, negsuc, map, ◌==◌, ◌+ℤ◌, ◌≤ℤ◌, nat_lt, ◌&&◌, IfSome, FitsSigned, option_and_then, codes}
-use Rattle.std.specs.Int.{w8, w16, w32}
+use Rattle.std.specs.Prelude.{ℤ, pos, negsuc, map, ◌==◌, ◌+ℤ◌, ◌≤ℤ◌, nat_lt, IfSome, FitsSigned, option_and_then, codes}
+use Rattle.std.specs.Int.{w32}
 use Rattle.std.specs.Int.RustNames.{int_le}
 use Rattle.std.specs.Option.{option_map}
 use Rattle.std.specs.List.{AllByRecursion}
@@ -18,8 +18,9 @@ use Rattle.mt_insn.specs.declared.opcode.Form.TheVariants as form
 use Rattle.class_asm.specs.Words.{says}
 use Rattle.class_asm.specs.Numbers.{up_to, between}
 use Rattle.class_asm.specs.Labels.{start_in}
-use Rattle.class_asm.specs.Mnemonics.{mnemonics, opcode_of, usable, operand_form}
-use Rattle.class_asm.specs.Operands.{local_up_to, increment_up_to, small_number, number, local, increment, wide_local, wide_increment, jump, starts_in, has_room, table, pair_in, pairs_in, looked_up, lookup, array_kind, array}
+use Rattle.class_asm.specs.Mnemonics.{opcode_of}
+use Rattle.class_asm.specs.Forms.{usable, operand_form}
+use Rattle.class_asm.specs.Operands.{local_up_to, increment_up_to, small_number, number, local, increment, jump, starts_in, has_room, table, pair_in, pairs_in, looked_up, lookup, array_kind, array}
 use Rattle.class_asm.specs.Entries.{member_name, fits_byte, call_words_of}
 use Rattle.class_asm.specs.Named.{constant, long_constant, field_entry, field, method_entry, method, interface_method, any_method, interface_entry, interface, class_in, class_entry, class, dimensions_entry, dimensions}
 use Rattle.class_asm.specs.Insns.{plain, operand_of, plain_insn, wide_arg, wide_insn, insn_by, insn_of}
@@ -34,14 +35,13 @@ use Rattle.class_model.specs.DescriptorReading.{field_kind, method_kinds}
 use Rattle.std.specs.Result.{is_ok}
 use Rattle.std.specs.Prelude.{Result, Ok, Err, sum_by}
 use Rattle.std.proofs.lemmas.Bool.{ltb-true}
-use Rattle.std.proofs.lemmas.List.Quantifiers.{position-Some}
 use Rattle.mt_insn.specs.Named.{words as words_of_kind}
 use Rattle.class_asm.specs.declared.labels.Labels.{Labels}
-use Rattle.class_asm.specs.declared.mnemonic.OperandForm.{OperandForm}
 use Rattle.class_asm.specs.declared.stated.Operand.{Operand}
 use Rattle.class_asm.specs.declared.stated.Operand.TheVariants as operand
-use Rattle.class_asm.proofs.IfSome.{of_map, of_then, of_if, of_unless, of_else, of_only, of_both, weaker, always}
-use Rattle.class_asm.proofs.NumberLaws.{up_to_is, between_is, IsBetween, fits_one, fits_two, fits_four, start_is, and_left, and_right}
+use Rattle.class_asm.proofs.IfSome.{of_map, of_then, of_if, of_else, of_only, of_both, weaker, always}
+use Rattle.class_asm.proofs.MnemonicLaws.{opcode_is}
+use Rattle.class_asm.proofs.NumberLaws.{up_to_is, between_is, IsBetween, fits_one, fits_two, fits_four, start_is, and_right}
 
 -- ---- the form, where the opcode's is known
 
@@ -325,17 +325,6 @@ made labels line words op = option_and_then (λ w. option_map (λ o. insn_of_ope
 
 abbrev made_wide : List (List ℕ) → ℕ → Option StatedInsn
 made_wide words op = option_and_then (λ w. option_map (λ a. insn_of_operand op true (operand.Done a)) (wide_arg w words)) (operand_form op)
-
-few_mnemonics : (i : ℕ) → i < length mnemonics → i < 2 ^ 8
-unfolding mnemonics
-few_mnemonics i lt = omega (arith, lt)
-
-opcode_by : (word : List ℕ) (o : Option ℕ) → opcode_of word ≡ o → IfSome o (λ op. op < 2 ^ 8)
-opcode_by word None e = tt
-opcode_by word (Some op) e = few_mnemonics op (position-Some (says word) mnemonics op [] e).0
-
-opcode_is : (word : List ℕ) → IfSome (opcode_of word) (λ op. op < 2 ^ 8)
-opcode_is word = opcode_by word (opcode_of word) refl
 
 plain_insn_is : (labels : Labels) (line mnemonic : List ℕ) (words : List (List ℕ)) → IfSome (plain_insn labels line mnemonic words) (IsStatedInsn labels.total)
 plain_insn_is labels line mnemonic words =

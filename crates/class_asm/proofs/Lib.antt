@@ -1,6 +1,7 @@
 pub mod LineLaws
 pub mod IfSome
 pub mod NumberLaws
+pub mod MnemonicLaws
 pub mod InsnLaws
 pub mod CodeLaws
 pub mod ClassLaws
@@ -8,4 +9,3 @@ pub mod FormLaws
 pub mod AttrForm
 pub mod EachLaws
 pub mod AssembledLaws
-pub mod MnemonicLaws

@@ -1,6 +1,6 @@
 -- Items that were read, in front of the pieces of what is left.
-use Rattle.std.proofs.Common.{◌≡◌, ℕ, List, [], ◌∷◌, ◌++◌, refl, sym, ap, ◌∙◌, append_assoc}
-use Rattle.class_asm.specs.Lines.{in_front, pieces}
+use Rattle.std.proofs.Common.{◌≡◌, List, [], ◌∷◌, ◌++◌, refl, ap, append_assoc}
+use Rattle.class_asm.specs.Lines.{in_front}
 
 abbrev pub joined : {A : Type 0} → List A → List (List A) → List (List A)
 joined [] rest = rest

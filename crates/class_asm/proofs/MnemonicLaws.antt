@@ -1,25 +1,66 @@
--- The table of the code is that of the definition.
-use Rattle.std.proofs.Common.{◌≡◌, ℕ, ◌+◌, Bool, cond, List, [], ◌∷◌, map, Option, Some, None, refl, sym, ap, ◌∙◌}
-use Rattle.std.specs.Prelude.{position}
-use Rattle.std.specs.List.{position_from}
-use Rattle.std.proofs.lemmas.Iterator.Adapters.{position_from-zero}
+-- An opcode takes one byte.
+use Rattle.std.proofs.Common.{◌≡◌, ℕ, ◌<◌, ◌^◌, List, [], ◌∷◌, true, Option, Some, None, refl}
+use Rattle.std.specs.Prelude.{nat_lt, IfSome}
+use Rattle.std.specs.List.{list_all}
+use Rattle.std.proofs.lemmas.Bool.{ltb-true}
 use Rattle.class_asm.specs.Words.{says}
-use Rattle.class_asm.specs.Mnemonics.{mnemonics, opcode_of}
-use Rattle.class_asm.specs.declared.mnemonic.TheConstants.{MNEMONICS}
+use Rattle.class_asm.specs.Mnemonics.{looked_up as row_in, rows_from_00, rows_from_11, rows_from_1f, rows_from_35, rows_from_4b, rows_from_59, rows_from_69, rows_from_7d, rows_from_93, rows_from_a3, rows_from_b3, rows_from_c0, opcodes_from_00, opcodes_from_11, opcodes_from_1f, opcodes_from_35, opcodes_from_4b, opcodes_from_59, opcodes_from_69, opcodes_from_7d, opcodes_from_93, opcodes_from_a3, opcodes_from_b3, opcodes_from_c0, opcode_of}
+use Rattle.class_asm.proofs.IfSome.{of_else}
+use Rattle.class_asm.proofs.NumberLaws.{and_left, and_right}
 
-from_map : {A B : Type 0} → (f : A → B) (p : B → Bool) (i : ℕ) (xs : List A) → position_from (λ x. p (f x)) i xs ≡ position_from p i (map f xs)
-from_map f p i [] = refl
-from_map f p i (x ∷ xs) = ap (λ (o : Option ℕ). cond (p (f x)) (Some i) o) (from_map f p (i + 1) xs)
+row_is : (word : List ℕ) (rows : List (List ℕ × ℕ)) (other : Option ℕ) → list_all (λ (row : List ℕ × ℕ). nat_lt row.1 256) rows ≡ true → IfSome other (λ op. op < 2 ^ 8) → IfSome (row_in word rows other) (λ op. op < 2 ^ 8)
+row_is word [] other small h = h
+row_is word (row ∷ rows) other small h =
+    of_else (says word row.0) (Some row.1) (row_in word rows other) (λ op. op < 2 ^ 8) (ltb-true row.1 256 (and_left (nat_lt row.1 256) (list_all (λ (row : List ℕ × ℕ). nat_lt row.1 256) rows) small))
+    (row_is word rows other (and_right (nat_lt row.1 256) (list_all (λ (row : List ℕ × ℕ). nat_lt row.1 256) rows) small) h)
 
-place_map : {A B : Type 0} → (f : A → B) (p : B → Bool) (xs : List A) → position (λ x. p (f x)) xs ≡ position p (map f xs)
-place_map f p xs = position_from-zero (λ x. p (f x)) xs ∙ from_map f p 0 xs ∙ sym (position_from-zero p (map f xs))
+opcodes_from_c0_is : (word : List ℕ) → IfSome (opcodes_from_c0 word) (λ op. op < 2 ^ 8)
+unfolding opcodes_from_c0
+opcodes_from_c0_is word = row_is word rows_from_c0 None refl tt
 
-abbrev Text : Type 0
-Text = record { now : List ℕ }
+opcodes_from_b3_is : (word : List ℕ) → IfSome (opcodes_from_b3 word) (λ op. op < 2 ^ 8)
+unfolding opcodes_from_b3
+opcodes_from_b3_is word = row_is word rows_from_b3 (opcodes_from_c0 word) refl (opcodes_from_c0_is word)
 
-names_are : map (λ (name : Text). name.now) MNEMONICS ≡ mnemonics
-unfolding mnemonics
-names_are = refl
+opcodes_from_a3_is : (word : List ℕ) → IfSome (opcodes_from_a3 word) (λ op. op < 2 ^ 8)
+unfolding opcodes_from_a3
+opcodes_from_a3_is word = row_is word rows_from_a3 (opcodes_from_b3 word) refl (opcodes_from_b3_is word)
 
-pub mnemonic_places : (word : List ℕ) → position (λ (name : Text). says word name.now) MNEMONICS ≡ opcode_of word
-mnemonic_places word = place_map (λ (name : Text). name.now) (says word) MNEMONICS ∙ ap (position (says word)) names_are
+opcodes_from_93_is : (word : List ℕ) → IfSome (opcodes_from_93 word) (λ op. op < 2 ^ 8)
+unfolding opcodes_from_93
+opcodes_from_93_is word = row_is word rows_from_93 (opcodes_from_a3 word) refl (opcodes_from_a3_is word)
+
+opcodes_from_7d_is : (word : List ℕ) → IfSome (opcodes_from_7d word) (λ op. op < 2 ^ 8)
+unfolding opcodes_from_7d
+opcodes_from_7d_is word = row_is word rows_from_7d (opcodes_from_93 word) refl (opcodes_from_93_is word)
+
+opcodes_from_69_is : (word : List ℕ) → IfSome (opcodes_from_69 word) (λ op. op < 2 ^ 8)
+unfolding opcodes_from_69
+opcodes_from_69_is word = row_is word rows_from_69 (opcodes_from_7d word) refl (opcodes_from_7d_is word)
+
+opcodes_from_59_is : (word : List ℕ) → IfSome (opcodes_from_59 word) (λ op. op < 2 ^ 8)
+unfolding opcodes_from_59
+opcodes_from_59_is word = row_is word rows_from_59 (opcodes_from_69 word) refl (opcodes_from_69_is word)
+
+opcodes_from_4b_is : (word : List ℕ) → IfSome (opcodes_from_4b word) (λ op. op < 2 ^ 8)
+unfolding opcodes_from_4b
+opcodes_from_4b_is word = row_is word rows_from_4b (opcodes_from_59 word) refl (opcodes_from_59_is word)
+
+opcodes_from_35_is : (word : List ℕ) → IfSome (opcodes_from_35 word) (λ op. op < 2 ^ 8)
+unfolding opcodes_from_35
+opcodes_from_35_is word = row_is word rows_from_35 (opcodes_from_4b word) refl (opcodes_from_4b_is word)
+
+opcodes_from_1f_is : (word : List ℕ) → IfSome (opcodes_from_1f word) (λ op. op < 2 ^ 8)
+unfolding opcodes_from_1f
+opcodes_from_1f_is word = row_is word rows_from_1f (opcodes_from_35 word) refl (opcodes_from_35_is word)
+
+opcodes_from_11_is : (word : List ℕ) → IfSome (opcodes_from_11 word) (λ op. op < 2 ^ 8)
+unfolding opcodes_from_11
+opcodes_from_11_is word = row_is word rows_from_11 (opcodes_from_1f word) refl (opcodes_from_1f_is word)
+
+opcodes_from_00_is : (word : List ℕ) → IfSome (opcodes_from_00 word) (λ op. op < 2 ^ 8)
+unfolding opcodes_from_00
+opcodes_from_00_is word = row_is word rows_from_00 (opcodes_from_11 word) refl (opcodes_from_11_is word)
+
+pub opcode_is : (word : List ℕ) → IfSome (opcode_of word) (λ op. op < 2 ^ 8)
+opcode_is word = opcodes_from_00_is word

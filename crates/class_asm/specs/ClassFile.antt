@@ -1,5 +1,5 @@
 -- The members and the class, with their attributes (JVMS 4.1, 4.5 to 4.7), in the order in which they are spelled.
-use Rattle.std.specs.Prelude.{ℕ, ◌==◌, Bool, true, false, List, [], ◌∷◌, ◌++◌, length, codes, Option, Some, None, if◌then◌else◌}
+use Rattle.std.specs.Prelude.{ℕ, ◌==◌, Bool, true, List, [], ◌∷◌, ◌++◌, length, codes, Option, Some, None, if◌then◌else◌}
 use Rattle.class_model.specs.declared.constant.Const.{Const}
 use Rattle.class_model.specs.declared.instruction.Insn.{Insn}
 use Rattle.class_model.specs.declared.attribute.Attr.{Attr}

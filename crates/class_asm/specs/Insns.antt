@@ -4,13 +4,14 @@ use Rattle.std.specs.Option.{option_map}
 use Rattle.class_model.specs.declared.instruction.Arg.{Arg}
 use Rattle.class_model.specs.declared.instruction.Arg.TheVariants as arg
 use Rattle.class_asm.specs.Words.{says}
-use Rattle.class_asm.specs.Mnemonics.{opcode_of, operand_form}
+use Rattle.class_asm.specs.Mnemonics.{opcode_of}
+use Rattle.class_asm.specs.Forms.{operand_form}
 use Rattle.class_asm.specs.Operands.{small_number, number, local, increment, wide_local, wide_increment, jump, table, lookup, array}
 use Rattle.class_asm.specs.Named.{constant, long_constant, field, method, any_method, interface, class, dimensions}
 use Rattle.class_asm.specs.declared.line.Line.{Line}
 use Rattle.class_asm.specs.declared.labels.Labels.{Labels}
-use Rattle.class_asm.specs.declared.mnemonic.OperandForm.{OperandForm}
-use Rattle.class_asm.specs.declared.mnemonic.OperandForm.TheVariants as form
+use Rattle.class_asm.specs.declared.operand_form.OperandForm.{OperandForm}
+use Rattle.class_asm.specs.declared.operand_form.OperandForm.TheVariants as form
 use Rattle.class_asm.specs.declared.stated.Operand.{Operand}
 use Rattle.class_asm.specs.declared.stated.Operand.TheVariants as operand
 use Rattle.class_asm.specs.declared.stated.StatedInsn.{StatedInsn}

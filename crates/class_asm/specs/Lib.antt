@@ -4,6 +4,7 @@ pub mod Numbers
 pub mod Keywords
 pub mod Labels
 pub mod Mnemonics
+pub mod Forms
 pub mod Entries
 pub mod Quoted
 pub mod Operands

@@ -1,5 +1,5 @@
 -- Operands that name no entry of the constant pool, with their ranges (JVMS 6.5; their text is this project's own).
-use Rattle.std.specs.Prelude.{ℕ, ◌==◌, nat_lt, ℤ, pos, ◌+ℤ◌, Bool, ◌&&◌, List, [], ◌∷◌, length, codes, Option, Some, None, option_and_then, if◌then◌else◌}
+use Rattle.std.specs.Prelude.{ℕ, nat_lt, ℤ, pos, ◌+ℤ◌, Bool, ◌&&◌, List, [], ◌∷◌, length, codes, Option, Some, None, option_and_then, if◌then◌else◌}
 use Rattle.std.specs.Int.RustNames.{int_le}
 use Rattle.std.specs.Option.{option_map}
 use Rattle.class_model.specs.Parting.{parted_at}

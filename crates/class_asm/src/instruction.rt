@@ -7,7 +7,8 @@ ghost use Rattle.class_asm.specs.Insns.{plain, operand_of, plain_insn, wide_arg,
 
 use crate::labels::Labels;
 use crate::line::Line;
-use crate::mnemonic::{OperandForm, opcode_of, operand_form};
+use crate::mnemonic::opcode_of;
+use crate::operand_form::{OperandForm, operand_form};
 use crate::stated::{Entry, Operand, StatedInsn};
 use crate::word::says;
 use crate::{named, operand};

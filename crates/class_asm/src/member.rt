@@ -2,69 +2,21 @@
 
 ghost use Rattle.std.specs.Prelude.{◌≡◌, IfOk};
 ghost use Rattle.codec_rules.specs.Meets.{Gives};
-ghost use Rattle.class_asm.specs.Members.{class_note_in, expecting_note, note_in, field_by, field_in, code_in, method_by, method_in, code_step, noting, noted, coded, body_step, beginning, body_from, code_of, note_of, add_note, notes_of, field_of, method_of, with_lines};
+ghost use Rattle.class_asm.specs.Members.{field_by, field_in, code_in, method_by, method_in, code_step, noting, noted, coded, body_step, beginning, body_from, code_of, note_of, add_note, notes_of, field_of, method_of, with_lines};
 ghost use Rattle.class_asm.specs.declared.fault.AsmFault.TheVariants as asm_fault;
 
 use crate::code::{framed, guarded, instructed, is_first_label, numbered};
-use crate::entry::{is_field_desc, is_method_desc, is_result_desc};
+use crate::entry::{is_field_desc, is_method_desc};
 use crate::fault::AsmFault;
 use crate::keyword::{LineKind, line_kind};
 use crate::labels::{Labels, labels_of};
 use crate::line::Line;
+use crate::note::note_in;
 use crate::number::u2;
 use crate::stated::{StatedCode, StatedMember, StatedNote};
 use crate::word::says;
 use class_model::{Memory, Name, Seq, is_field_name, is_method_name};
 use std::alloc::Global;
-
-/// An annotation without elements.
-pub fn class_note_in(alloc: Global, words: &[Name]) -> Result<Option<StatedNote>, Memory>
-    ensures { IfOk result (λ o. o ≡ class_note_in words.now) }
-{
-    let [_, kind] = words else {
-        return Ok(None);
-    };
-    if !is_field_desc(alloc, kind)? {
-        return Ok(None);
-    }
-    Ok(Some(StatedNote {
-        kind: kind.copy()?,
-        expected: None,
-    }))
-}
-
-fn expecting_note(
-    alloc: Global,
-    kind: &Name,
-    keyword: &Name,
-    expected: &Name,
-) -> Result<Option<StatedNote>, Memory>
-    ensures { IfOk result (λ o. o ≡ expecting_note kind.now keyword.now expected.now) }
-{
-    if !says(keyword, "expected") {
-        return Ok(None);
-    }
-    if !is_field_desc(alloc, kind)? {
-        return Ok(None);
-    }
-    if !is_result_desc(alloc, expected)? {
-        return Ok(None);
-    }
-    Ok(Some(StatedNote {
-        kind: kind.copy()?,
-        expected: Some(expected.copy()?),
-    }))
-}
-
-/// An annotation, which may have a class as its element `expected`.
-fn note_in(alloc: Global, words: &[Name]) -> Result<Option<StatedNote>, Memory>
-    ensures { IfOk result (λ o. o ≡ note_in words.now) }
-{
-    match words {
-        [_, kind, keyword, expected] => expecting_note(alloc, kind, keyword, expected),
-        _ => class_note_in(alloc, words),
-    }
-}
 
 fn field_by(
     alloc: Global,

@@ -1,4 +1,4 @@
-use Rattle.class_asm.proofs.AssembledLaws.{stated_text, class_written, told_first, whole}
+use Rattle.class_asm.proofs.AssembledLaws.{stated_text, class_written, told_first, numbered_from, whole}
 use Rattle.class_asm.proofs.assembler.assemble.Goals as goal
 
 pub returns-in-Err : goal.returns-in-Err
@@ -9,7 +9,7 @@ class_of-requires c = stated_text c.args.text.now c.in-Ok.stated.0 c.in-Ok.state
 
 pub within_limits-requires : goal.within_limits-requires
 within_limits-requires c =
-    class_written c.in-Ok.stated.0 _ c.in_ok-numbered.numbered.0 c.in_ok-numbered.numbered.1 c.in_ok-numbered.ensures (stated_text c.args.text.now c.in-Ok.stated.0 c.in-Ok.stated.1 c.in-Ok.ensures)
+    class_written c.in-Ok.stated.0 (numbered_from c.new.result) c.in_ok-numbered.numbered.0 c.in_ok-numbered.numbered.1 c.in_ok-numbered.ensures (stated_text c.args.text.now c.in-Ok.stated.0 c.in-Ok.stated.1 c.in-Ok.ensures)
 
 pub returns : goal.returns
 returns c =
