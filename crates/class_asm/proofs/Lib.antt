@@ -1,0 +1,11 @@
+pub mod LineLaws
+pub mod IfSome
+pub mod NumberLaws
+pub mod MnemonicLaws
+pub mod InsnLaws
+pub mod CodeLaws
+pub mod ClassLaws
+pub mod FormLaws
+pub mod AttrForm
+pub mod EachLaws
+pub mod AssembledLaws

@@ -1,0 +1,196 @@
+//! The members and the class, with their attributes.
+
+ghost use Rattle.std.specs.Prelude.{◌≡◌, All, IfOk};
+ghost use Rattle.class_asm.specs.ClassFile.{with_lines, with_frames, code_attr, with_notes, attrs_of, member_of, members_of, interfaces_of, with_source, class_of};
+ghost use Rattle.class_asm.specs.Stated.{IsStatedCode, IsStatedMember, IsStatedClass};
+
+use crate::numbering::{Entries, frames_of, insns_of, notes_of, rows_of, starts_of};
+use crate::pool::{class_index, text_index, word_index};
+use crate::stated::{StatedClass, StatedCode, StatedFrame, StatedMember, StatedNote};
+use class_model::{Attr, Body, Class, Code, Const, Member, Memory, Name, Seq};
+
+// ---- the attributes of a code, where it has lines or frames
+
+fn push_lines(
+    list: &mut Seq<Const>,
+    attrs: &mut Seq<Attr>,
+    lines: &Seq<(u32, u16)>,
+) -> Result<(), Memory>
+    ensures { IfOk result (λ _. with_lines lines.now attrs.old list.old ≡ (attrs.new, list.new)) }
+{
+    if !lines.is_empty() {
+        let name = word_index(list, "LineNumberTable")?;
+        attrs.push(Attr {
+            name,
+            body: Body::Lines(lines.copy()?),
+        })?;
+    }
+    Ok(())
+}
+
+fn push_frames(
+    list: &mut Seq<Const>,
+    attrs: &mut Seq<Attr>,
+    starts: &[u32],
+    frames: &[StatedFrame],
+) -> Result<(), Memory>
+    ensures { IfOk result (λ _. with_frames starts.now frames.now attrs.old list.old ≡ (attrs.new, list.new)) }
+{
+    if !frames.is_empty() {
+        let name = word_index(list, "StackMapTable")?;
+        let frames = frames_of(list, starts, frames)?;
+        attrs.push(Attr {
+            name,
+            body: Body::Frames(frames),
+        })?;
+    }
+    Ok(())
+}
+
+/// The attribute Code.
+fn code_attr(entries: &mut Entries, code: &StatedCode) -> Result<Attr, Memory>
+    requires { IsStatedCode code.now }
+    ensures { IfOk result (λ attr. code_attr code.now entries.old ≡ (attr, entries.new)) }
+{
+    let name = word_index(&mut entries.list, "Code")?;
+    let insns = insns_of(entries, code.insns.as_slice())?;
+    let rows = rows_of(&mut entries.list, code.rows.as_slice())?;
+    let mut attrs = Seq::new(entries.list.allocator());
+    push_lines(&mut entries.list, &mut attrs, &code.lines)?;
+    match starts_of(&insns)? {
+        Some(starts) => push_frames(
+            &mut entries.list,
+            &mut attrs,
+            starts.as_slice(),
+            code.frames.as_slice(),
+        )?,
+        None => entries.passed = true,
+    }
+    Ok(Attr {
+        name,
+        body: Body::Code(Code {
+            max_stack: code.max_stack,
+            max_locals: code.max_locals,
+            insns,
+            rows,
+            attrs,
+        }),
+    })
+}
+
+/// The attribute RuntimeVisibleAnnotations, where there are notes.
+fn push_notes(
+    list: &mut Seq<Const>,
+    attrs: &mut Seq<Attr>,
+    notes: &[StatedNote],
+) -> Result<(), Memory>
+    ensures { IfOk result (λ _. with_notes notes.now attrs.old list.old ≡ (attrs.new, list.new)) }
+{
+    if !notes.is_empty() {
+        let name = word_index(list, "RuntimeVisibleAnnotations")?;
+        let notes = notes_of(list, notes)?;
+        attrs.push(Attr {
+            name,
+            body: Body::Notes(notes),
+        })?;
+    }
+    Ok(())
+}
+
+fn attrs_of(entries: &mut Entries, member: &StatedMember) -> Result<Seq<Attr>, Memory>
+    requires { IsStatedMember member.now }
+    ensures { IfOk result (λ attrs. attrs_of member.now entries.old ≡ (attrs, entries.new)) }
+{
+    let mut attrs = Seq::new(entries.list.allocator());
+    if let Some(code) = &member.code {
+        attrs.push(code_attr(entries, code)?)?;
+    }
+    push_notes(&mut entries.list, &mut attrs, member.notes.as_slice())?;
+    Ok(attrs)
+}
+
+fn member_of(entries: &mut Entries, member: &StatedMember) -> Result<Member, Memory>
+    requires { IsStatedMember member.now }
+    ensures { IfOk result (λ m. member_of member.now entries.old ≡ (m, entries.new)) }
+{
+    let name = text_index(&mut entries.list, &member.name)?;
+    let desc = text_index(&mut entries.list, &member.desc)?;
+    let attrs = attrs_of(entries, member)?;
+    Ok(Member {
+        flags: member.flags,
+        name,
+        desc,
+        attrs,
+    })
+}
+
+fn members_of(entries: &mut Entries, stated: &[StatedMember]) -> Result<Seq<Member>, Memory>
+    requires { All IsStatedMember stated.now }
+    ensures { IfOk result (λ members. members_of stated.now entries.old ≡ (members, entries.new)) }
+{
+    let mut members = Seq::new(entries.list.allocator());
+    for member in stated {
+        members.push(member_of(entries, member)?)?;
+    }
+    Ok(members)
+}
+
+fn interfaces_of(list: &mut Seq<Const>, names: &[Name]) -> Result<Seq<u16>, Memory>
+    ensures { IfOk result (λ indices. interfaces_of names.now list.old ≡ (indices, list.new)) }
+{
+    let mut indices = Seq::new(list.allocator());
+    for name in names {
+        indices.push(class_index(list, name)?)?;
+    }
+    Ok(indices)
+}
+
+/// The attribute SourceFile, where there is a source.
+fn push_source(
+    list: &mut Seq<Const>,
+    attrs: &mut Seq<Attr>,
+    source: &Option<Name>,
+) -> Result<(), Memory>
+    ensures { IfOk result (λ _. with_source source.now attrs.old list.old ≡ (attrs.new, list.new)) }
+{
+    if let Some(source) = source {
+        let name = word_index(list, "SourceFile")?;
+        let source = text_index(list, source)?;
+        attrs.push(Attr {
+            name,
+            body: Body::Source(source),
+        })?;
+    }
+    Ok(())
+}
+
+/// The class, whose pool is that of the entries.
+pub fn class_of(mut entries: Entries, stated: &StatedClass) -> Result<(Class, bool), Memory>
+    requires { IsStatedClass stated.now }
+    ensures { IfOk result (λ x. x ≡ class_of stated.now entries) }
+{
+    let this = class_index(&mut entries.list, &stated.name)?;
+    let parent = class_index(&mut entries.list, &stated.parent)?;
+    let interfaces = interfaces_of(&mut entries.list, stated.interfaces.as_slice())?;
+    let fields = members_of(&mut entries, stated.fields.as_slice())?;
+    let methods = members_of(&mut entries, stated.methods.as_slice())?;
+    let mut attrs = Seq::new(entries.list.allocator());
+    push_source(&mut entries.list, &mut attrs, &stated.source)?;
+    push_notes(&mut entries.list, &mut attrs, stated.notes.as_slice())?;
+    let Entries { list, passed } = entries;
+    Ok((
+        Class {
+            minor: 0,
+            major: stated.major,
+            pool: list,
+            flags: stated.flags,
+            this,
+            parent,
+            interfaces,
+            fields,
+            methods,
+            attrs,
+        },
+        passed,
+    ))
+}

@@ -1,0 +1,215 @@
+//! The class file's form of a stated class: indices in place of names.
+
+ghost use Rattle.std.specs.Prelude.{◌≡◌, length, slice_index, All, IfOk};
+ghost use Rattle.mt_insn.specs.Code.{HasForm, HasTargets};
+ghost use Rattle.class_asm.specs.File.{near_index, arg_of, insn_of, insns_of, item_of, items_of, shape_of, frames_of, row_of, rows_of, pairs_of, note_of, notes_of, starts_of};
+
+use crate::pool::{class_index, entry_index, text_index, word_index};
+use crate::stated::{
+    Operand, StatedFrame, StatedInsn, StatedItem, StatedNote, StatedRow, StatedShape,
+};
+use class_model::{
+    Arg, Bytes, Const, Elem, Frame, Insn, LayoutFault, Memory, Name, Note, Row, Seq, Shape, VItem,
+};
+use mt_insn::{places, write_insns};
+
+/// A constant pool that grows, and whether some `ldc` names an entry past its reach, or some code is too large.
+#[derive(Drop)]
+pub struct Entries {
+    pub list: Seq<Const>,
+    pub passed: bool,
+}
+
+/// An index that has to fit one byte.
+fn near_index(entries: &mut Entries, index: u16) -> u16
+    ensures { near_index index entries.old ≡ (result, entries.new) }
+{
+    if 0xFF < index {
+        entries.passed = true;
+        0xFF
+    } else {
+        index
+    }
+}
+
+fn arg_of(entries: &mut Entries, operand: &Operand) -> Result<Arg, Memory>
+    ensures { IfOk result (λ arg. arg_of operand.now entries.old ≡ (arg, entries.new)) }
+{
+    match operand {
+        Operand::Done(arg) => arg.copy(),
+        Operand::Named(entry) => {
+            let index = entry_index(&mut entries.list, entry)?;
+            Ok(Arg::Pool(index))
+        }
+        Operand::Near(entry) => {
+            let index = entry_index(&mut entries.list, entry)?;
+            Ok(Arg::Pool(near_index(entries, index)))
+        }
+        Operand::Counted(entry, count) => {
+            let index = entry_index(&mut entries.list, entry)?;
+            Ok(Arg::Multi(index, *count))
+        }
+    }
+}
+
+fn insn_of(entries: &mut Entries, insn: &StatedInsn) -> Result<Insn, Memory>
+    ensures { IfOk result (λ i. insn_of insn.now entries.old ≡ (i, entries.new)) }
+{
+    let arg = arg_of(entries, &insn.operand)?;
+    Ok(Insn {
+        op: insn.op,
+        wide: insn.wide,
+        arg,
+    })
+}
+
+pub fn insns_of(entries: &mut Entries, stated: &[StatedInsn]) -> Result<Seq<Insn>, Memory>
+    ensures { IfOk result (λ insns. insns_of stated.now entries.old ≡ (insns, entries.new)) }
+{
+    let mut insns = Seq::new(entries.list.allocator());
+    for insn in stated {
+        insns.push(insn_of(entries, insn)?)?;
+    }
+    Ok(insns)
+}
+
+// ---- frames
+
+fn item_of(list: &mut Seq<Const>, item: &StatedItem) -> Result<VItem, Memory>
+    ensures { IfOk result (λ i. item_of item.now list.old ≡ (i, list.new)) }
+{
+    match item {
+        StatedItem::Done(item) => Ok(*item),
+        StatedItem::Object(name) => Ok(VItem::Object(class_index(list, name)?)),
+    }
+}
+
+fn items_of(list: &mut Seq<Const>, stated: &[StatedItem]) -> Result<Seq<VItem>, Memory>
+    ensures { IfOk result (λ items. items_of stated.now list.old ≡ (items, list.new)) }
+{
+    let mut items = Seq::new(list.allocator());
+    for item in stated {
+        items.push(item_of(list, item)?)?;
+    }
+    Ok(items)
+}
+
+fn shape_of(list: &mut Seq<Const>, far: bool, shape: &StatedShape) -> Result<Shape, Memory>
+    ensures { IfOk result (λ s. shape_of far shape.now list.old ≡ (s, list.new)) }
+{
+    match shape {
+        StatedShape::Same => Ok(Shape::Same(far)),
+        StatedShape::One(item) => Ok(Shape::One(far, item_of(list, item)?)),
+        StatedShape::Chop(count) => Ok(Shape::Chop(*count)),
+        StatedShape::Append(items) => Ok(Shape::Append(items_of(list, items.as_slice())?)),
+        StatedShape::Full(locals, stack) => {
+            let locals = items_of(list, locals.as_slice())?;
+            let stack = items_of(list, stack.as_slice())?;
+            Ok(Shape::Full(locals, stack))
+        }
+    }
+}
+
+/// Where an instruction begins.
+fn place_in(starts: &[u32], at: u32) -> u32
+    ensures { result ≡ slice_index starts.now at }
+{
+    match starts.get(at as usize) {
+        Some(start) => *start,
+        None => 0,
+    }
+}
+
+/// The frames, each in its short form where it stands near the one before.
+pub fn frames_of(
+    list: &mut Seq<Const>,
+    starts: &[u32],
+    stated: &[StatedFrame],
+) -> Result<Seq<Frame>, Memory>
+    ensures { IfOk result (λ frames. frames_of starts.now 0 stated.now list.old ≡ (frames, list.new)) }
+{
+    let mut frames = Seq::new(list.allocator());
+    let mut next = 0u64;
+    for frame in stated {
+        let start = u64::from(place_in(starts, frame.at));
+        let shape = shape_of(list, 64 <= start.saturating_sub(next), &frame.shape)?;
+        frames.push(Frame {
+            at: frame.at,
+            shape,
+        })?;
+        next = start + 1;
+    }
+    Ok(frames)
+}
+
+// ---- rows and notes
+
+fn row_of(list: &mut Seq<Const>, row: &StatedRow) -> Result<Row, Memory>
+    ensures { IfOk result (λ r. row_of row.now list.old ≡ (r, list.new)) }
+{
+    let catch = match &row.catch {
+        Some(name) => class_index(list, name)?,
+        None => 0,
+    };
+    Ok(Row {
+        start: row.start,
+        end: row.end,
+        handler: row.handler,
+        catch,
+    })
+}
+
+pub fn rows_of(list: &mut Seq<Const>, stated: &[StatedRow]) -> Result<Seq<Row>, Memory>
+    ensures { IfOk result (λ rows. rows_of stated.now list.old ≡ (rows, list.new)) }
+{
+    let mut rows = Seq::new(list.allocator());
+    for row in stated {
+        rows.push(row_of(list, row)?)?;
+    }
+    Ok(rows)
+}
+
+/// The element `expected` of an annotation.
+fn pairs_of(list: &mut Seq<Const>, expected: &Option<Name>) -> Result<Seq<(u16, Elem)>, Memory>
+    ensures { IfOk result (λ pairs. pairs_of expected.now list.old ≡ (pairs, list.new)) }
+{
+    let mut pairs = Seq::new(list.allocator());
+    if let Some(class) = expected {
+        let name = word_index(list, "expected")?;
+        let class = text_index(list, class)?;
+        pairs.push((name, Elem::Class(class)))?;
+    }
+    Ok(pairs)
+}
+
+fn note_of(list: &mut Seq<Const>, note: &StatedNote) -> Result<Note, Memory>
+    ensures { IfOk result (λ n. note_of note.now list.old ≡ (n, list.new)) }
+{
+    let kind = text_index(list, &note.kind)?;
+    let pairs = pairs_of(list, &note.expected)?;
+    Ok(Note { kind, pairs })
+}
+
+pub fn notes_of(list: &mut Seq<Const>, stated: &[StatedNote]) -> Result<Seq<Note>, Memory>
+    ensures { IfOk result (λ notes. notes_of stated.now list.old ≡ (notes, list.new)) }
+{
+    let mut notes = Seq::new(list.allocator());
+    for note in stated {
+        notes.push(note_of(list, note)?)?;
+    }
+    Ok(notes)
+}
+
+/// Where the instructions of a code begin, where it is not too large.
+pub fn starts_of(insns: &Seq<Insn>) -> Result<Option<Seq<u32>>, Memory>
+    requires forms { All HasForm insns.now }
+    requires targets { All (HasTargets (length insns.now)) insns.now }
+    ensures { IfOk result (λ o. o ≡ starts_of insns.now) }
+{
+    let mut bytes = Bytes::new(insns.allocator());
+    match write_insns(insns, &mut bytes) {
+        Ok(()) => Ok(Some(places(insns.allocator(), insns)?)),
+        Err(LayoutFault::TooLarge { .. }) => Ok(None),
+        Err(LayoutFault::Memory) => Err(Memory),
+    }
+}
