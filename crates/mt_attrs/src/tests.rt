@@ -1,7 +1,9 @@
 ghost use Rattle.std.specs.Prelude.{◌<◌};
 
 use crate::{Owner, read_attrs, write_attrs};
-use class_model::{Attr, Body, Bound, Bytes, ClassFault, Const, LayoutFault, Seq, read_text};
+use class_model::{
+    Attr, Body, Bound, Bytes, ClassFault, Const, LayoutFault, Memory, Seq, read_text,
+};
 use mt_bytes::{Cursor, put_u4};
 use std::test::Fail;
 
@@ -114,6 +116,37 @@ fn too_many_attributes(rt: HostRuntime) -> Result<(), Fail> {
     assert_eq!(rt;
         write_attrs(&attrs, &mut out),
         Err(LayoutFault::TooLarge { what: Bound::List })
+    );
+    Ok(())
+}
+
+/// So many pieces of 2^20 zeros.
+fn zeros(rt: &HostRuntime, pieces: u32) -> Result<Bytes, Memory> {
+    let piece = vec![in rt.alloc(); 0; 0x10_0000]?;
+    let mut zeros: Bytes = Seq::new(rt.alloc());
+    for _ in 0..pieces {
+        zeros.extend_from_slice(piece.as_slice())?;
+    }
+    Ok(zeros)
+}
+
+#[test]
+fn a_content_of_4_gib(rt: HostRuntime) -> Result<(), Fail> {
+    // on a machine that doesn't have them free there is nothing to see
+    let Ok(content) = zeros(&rt, 4096) else {
+        return Ok(());
+    };
+    let mut attrs = Seq::new(rt.alloc());
+    attrs.push(Attr {
+        name: 1,
+        body: Body::Raw(content),
+    })?;
+    let mut out: Bytes = Seq::new(rt.alloc());
+    assert_eq!(rt;
+        write_attrs(&attrs, &mut out),
+        Err(LayoutFault::TooLarge {
+            what: Bound::Attribute
+        })
     );
     Ok(())
 }

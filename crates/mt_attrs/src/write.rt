@@ -114,6 +114,9 @@ fn write_attr(attr: &Attr, out: &mut Bytes) -> Result<(), LayoutFault>
     ensures { Writes (attr_bound attr.now) (attr_bytes attr.now) out.old out.new result }
 {
     put_u2(out, attr.name)?;
+    if let Body::Raw(content) = &attr.body {
+        return write_content(content, out);
+    }
     let mut content = out.empty();
     write_body(&attr.body, &mut content)?;
     write_content(&content, out)
