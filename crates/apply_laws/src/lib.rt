@@ -1,0 +1,32 @@
+//! Laws of edited class files, over the definitions of the crates below alone. Each law is the contract of a function that does nothing but call the laws on which it stands.
+#![tactic(auto)]
+
+ghost use Rattle.apply_laws.specs.Spelled.{SpelledIsNamed, EditsAreSpelled, MutantsAreSpelled};
+
+use class_writer::{what_is_spelled_is_written, what_is_written_is_spelled};
+use mutant_apply::{applied_is_made, edit_keeps_form, mutants_fit};
+
+/// A class that a file spells is named as a class has to be that is written: its indices name what they have to, and its numbers are in the ranges of their fields.
+pub fn what_is_spelled_is_named()
+    ensures { SpelledIsNamed }
+{}
+
+/// The bytes of an edited class file are a class file again: they spell the class that the edit makes, where the new instruction fits and names in the pool what its opcode may name.
+pub fn edits_are_spelled()
+    ensures { EditsAreSpelled }
+{
+    what_is_spelled_is_named();
+    what_is_spelled_is_written();
+    what_is_written_is_spelled();
+    edit_keeps_form();
+    applied_is_made();
+}
+
+/// The bytes of each mutant of a class file are a class file again: they spell the class that the edit makes.
+pub fn mutants_are_spelled()
+    ensures { MutantsAreSpelled }
+{
+    edits_are_spelled();
+    what_is_spelled_is_written();
+    mutants_fit();
+}
