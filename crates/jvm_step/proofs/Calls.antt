@@ -1,6 +1,6 @@
 -- What a search for a static method comes to.
 use Rattle.std.proofs.Common.{◌≡◌, ℕ, Bool, true, false, List, [], ◌∷◌, ◌++◌, drop, Option, Some, None, refl, sym, ap, subst, ◌∙◌}
-use Rattle.std.specs.Prelude.{slice_get, IfSome}
+use Rattle.std.specs.Prelude.{slice_get, IfSome, IfNone}
 use Rattle.std.specs.Option.{option_map}
 use Rattle.class_model.specs.declared.kind.Kind as plain
 use Rattle.machine_rules.specs.declared.value.Value.{Value}
@@ -45,6 +45,10 @@ pub if_some : {A : Type 0} {P Q : A → Type 0} (o : Option A) → ((x : A) → 
 if_some None f h = tt
 if_some (Some x) f h = f x h
 
+pub if_some_all : {A : Type 0} (P : A → Type 0) (o : Option A) → ((x : A) → P x) → IfSome o P
+if_some_all P None f = tt
+if_some_all P (Some x) f = f x
+
 pub if_some_at : {A : Type 0} (P : A → Type 0) (o : Option A) (x : A) → o ≡ Some x → P x → IfSome o P
 if_some_at P o x e h = subst (λ y. IfSome y P) (sym e) h
 
@@ -56,6 +60,9 @@ returns_int_goes p w f fs result k v a b h = rw (a, b) (h (λ x. returns p w fs 
 
 pub some_of : {A : Type 0} (P : A → Type 0) (o : Option A) (x : A) → o ≡ Some x → IfSome o P → P x
 some_of P o x e h = subst (λ y. IfSome y P) e h
+
+pub none_of : {A : Type 0} (P : Type 0) (o : Option A) → o ≡ None → IfNone o P → P
+none_of P o e h = subst (λ y. IfNone y P) e h
 
 pub act_static : (p : Look) (q : Limits) (here : Current) (i : Instruction) (w : World) (f : Frame) (fs : List Frame) (r : MethodRef) → i ≡ InvokeStatic r → act p q here i w f fs ≡ invokes_static p q w f fs here.max_stack r
 unfolding act

@@ -1,3 +1,4 @@
+pub mod Arguments
 pub mod Defaults
 pub mod Named
 pub mod Fetched

@@ -1,7 +1,7 @@
 // Calls (JVMS 5.4.3.3, 6.5).
 #![tactic(auto, unfolding(crate::specs::View::frame_of, crate::specs::View::callers_of, crate::specs::View::world_of))]
 
-ghost use Rattle.std.specs.Prelude.{◌≡◌, ◌+◌, ◌<◌, ◌^◌, Some, None, nat_lt, ℕ, List, [], length, map, IfOk, OnOk, IfSome, IfNone, IsSome};
+ghost use Rattle.std.specs.Prelude.{◌≡◌, ◌+◌, ◌<◌, ◌^◌, Some, None, nat_lt, ℕ, List, [], ◌∷◌, length, map, IfOk, OnOk, IfSome, IfNone, IsSome};
 ghost use Rattle.machine_rules.specs.Effects.{on_args, enters};
 ghost use Rattle.machine_rules.specs.Effects as rule;
 ghost use Rattle.machine_rules.specs.Natives.{native};
@@ -13,21 +13,20 @@ ghost use Rattle.class_table.specs.Symbols.{kind_of};
 ghost use Rattle.machine_rules.specs.Instructions.{MethodRef as DefReference, Instruction, Unlinked};
 ghost use Rattle.class_table.specs.Table.{look, name_at, entries_at, reference_at};
 ghost use Rattle.jvm_step.specs.Finding.{FindsStatic, FindsNoStatic};
-ghost use Rattle.jvm_step.specs.View.{frame_of, frames_of, callers_of, world_of, state_of, enters_with, Goes, Comes, IsMachineOf, IsKept};
+ghost use Rattle.jvm_step.specs.View.{frame_of, frames_of, callers_of, world_of, state_of, given_in, enters_with, Goes, Comes, IsMachineOf, IsKept};
 
-use crate::args::{locals_for, take_args};
+use crate::args::take_locals;
 use crate::frame::Frame;
 use crate::initialisation::{begin, is_interface, is_static, need};
 use crate::locals::Locals;
 use crate::machine::{Exception, Given, Machine, Need};
-use crate::natives::run_native;
+use crate::natives::take_given;
 use crate::operands::Operands;
 use crate::stack::Stack;
 use crate::text::is_text;
 use crate::throwing::throw;
-use class_model::{ClassId, Memory};
+use class_model::{ClassId, Kind, Memory};
 use class_table::{LinkedBody, LinkedCode, LinkedMethod, MethodRef, Native, Program};
-use machine_rules::Value;
 use std::alloc::Global;
 
 // Whether one more frame may stand on these.
@@ -74,7 +73,7 @@ pub fn push_frame(
     Ok(())
 }
 
-// A method with code is called with these arguments, which were taken off the running frame.
+// A method with code is called with arguments of these kinds, which are taken off the running frame.
 fn enter(
     alloc: Global,
     p: &Program,
@@ -82,16 +81,19 @@ fn enter(
     class: ClassId,
     method: u32,
     code: &LinkedCode,
-    args: Stack<Value>,
+    kinds: &[Kind],
 ) -> Result<bool, Memory>
     requires machine { IsMachineOf p.now m.old }
     requires quiet { m.old.thrown ≡ None }
     requires next { IfSome m.old.frame (λ f. f.at + 1 < 2 ^ 64) }
     requires class { class.0 < length p.now }
-    ensures row { IfOk result (λ b. Comes (enters m.old.limits (consult (look p.now) (name_at p.now class.0) (world_of p.now m.old.world)) (frames_of p.now m.old.frame m.old.callers) (name_at p.now class.0) method code.now.max_locals args) b (world_of p.now m.old.world) (state_of p.now m.new)) }
+    ensures row { IfOk result (λ b. IfSome m.old.frame (λ f. Comes (on_args (map kind_of kinds.now) f.stack (λ args rest. enters m.old.limits (consult (look p.now) (name_at p.now class.0) (world_of p.now m.old.world)) (record (frame_of p.now f) { stack = rest } ∷ callers_of p.now m.old.callers) (name_at p.now class.0) method code.now.max_locals args)) b (world_of p.now m.old.world) (state_of p.now m.new))) }
     ensures kept { OnOk result (IsKept p.now m.old m.new) }
 {
-    let Some(locals) = locals_for(args, code.max_locals)? else {
+    let Some(frame) = &mut m.frame else {
+        return Ok(false);
+    };
+    let Some(locals) = take_locals(alloc, frame, kinds, code.max_locals)? else {
         return Ok(false);
     };
     p.consult(&mut m.world.consulted, class)?;
@@ -99,23 +101,22 @@ fn enter(
     Ok(true)
 }
 
-// A native method is called with these arguments, which were taken off the running frame.
-fn call_native(
+// What a native method does is done to the running frame, which its arguments were taken of.
+fn go_on_with(
     alloc: Global,
     p: &Program,
     m: &mut Machine,
     class: ClassId,
-    method: Native,
-    args: Stack<Value>,
+    outcome: Given,
 ) -> Result<bool, Memory>
     requires machine { IsMachineOf p.now m.old }
     requires quiet { m.old.thrown ≡ None }
     requires next { IfSome m.old.frame (λ f. f.at + 1 < 2 ^ 64) }
     requires class { class.0 < length p.now }
-    ensures row { IfOk result (λ b. IfSome m.old.frame (λ f. (room : ℕ) → Comes (given m.old.limits (frame_of p.now f) (callers_of p.now m.old.callers) room (native (native_of method) args (consult (look p.now) (name_at p.now class.0) (world_of p.now m.old.world)))) b (world_of p.now m.old.world) (state_of p.now m.new))) }
+    ensures row { IfOk result (λ b. IfSome m.old.frame (λ f. (room : ℕ) → Comes (given m.old.limits (frame_of p.now f) (callers_of p.now m.old.callers) room (given_in (consult (look p.now) (name_at p.now class.0) (world_of p.now m.old.world)) outcome)) b (world_of p.now m.old.world) (state_of p.now m.new))) }
     ensures kept { OnOk result (IsKept p.now m.old m.new) }
 {
-    match run_native(method, args) {
+    match outcome {
         Given::Gives => {
             let Some(frame) = &mut m.frame else {
                 return Ok(false);
@@ -133,6 +134,32 @@ fn call_native(
     }
 }
 
+// A native method is called with arguments of these kinds, which are taken off the running frame.
+fn call_native(
+    alloc: Global,
+    p: &Program,
+    m: &mut Machine,
+    class: ClassId,
+    method: Native,
+    kinds: &[Kind],
+) -> Result<bool, Memory>
+    requires machine { IsMachineOf p.now m.old }
+    requires quiet { m.old.thrown ≡ None }
+    requires next { IfSome m.old.frame (λ f. f.at + 1 < 2 ^ 64) }
+    requires class { class.0 < length p.now }
+    ensures row { IfOk result (λ b. IfSome m.old.frame (λ f. (room : ℕ) → Comes (on_args (map kind_of kinds.now) f.stack (λ args rest. given m.old.limits (record (frame_of p.now f) { stack = rest }) (callers_of p.now m.old.callers) room (native (native_of method) args (consult (look p.now) (name_at p.now class.0) (world_of p.now m.old.world))))) b (world_of p.now m.old.world) (state_of p.now m.new))) }
+    ensures kept { OnOk result (IsKept p.now m.old m.new) }
+{
+    let Some(frame) = &mut m.frame else {
+        return Ok(false);
+    };
+    let Some(outcome) = take_given(frame, kinds, method) else {
+        return Ok(false);
+    };
+    let goes = go_on_with(alloc, p, m, class, outcome)?;
+    Ok(goes)
+}
+
 /// A method that a call has found, and its class and place there.
 #[derive(Clone, Copy)]
 pub struct Found<'a> {
@@ -141,57 +168,32 @@ pub struct Found<'a> {
     pub method: &'a LinkedMethod,
 }
 
-// A method is called with these arguments, which were taken off the running frame.
-fn run_body(
-    alloc: Global,
-    p: &Program,
-    m: &mut Machine,
-    found: Found<'_>,
-    args: Stack<Value>,
-) -> Result<bool, Memory>
-    requires machine { IsMachineOf p.now m.old }
-    requires quiet { m.old.thrown ≡ None }
-    requires next { IfSome m.old.frame (λ f. f.at + 1 < 2 ^ 64) }
-    requires class { found.class.0 < length p.now }
-    ensures row { IfOk result (λ b. IfSome m.old.frame (λ f. (room : ℕ) → Comes (runs m.old.limits (consult (look p.now) (name_at p.now found.entry.class.0) (world_of p.now m.old.world)) (frame_of p.now f) (callers_of p.now m.old.callers) room (name_at p.now found.entry.class.0) found.entry.place args (body_of (entries_at p.now found.entry.class.0) found.entry.method.now.body)) b (world_of p.now m.old.world) (state_of p.now m.new))) }
-    ensures kept { OnOk result (IsKept p.now m.old m.new) }
-{
-    match &found.method.body {
-        LinkedBody::Code(code) => {
-            let goes = enter(alloc, p, m, found.class, found.place, code, args)?;
-            Ok(goes)
-        }
-        LinkedBody::Native(method) => {
-            let goes = call_native(alloc, p, m, found.class, *method, args)?;
-            Ok(goes)
-        }
-        LinkedBody::Absent => Ok(false),
-    }
-}
-
-// The arguments are taken off the running frame, and the method is called with them.
+// A method that was found is called with arguments of these kinds, which are taken off the running frame.
 fn call_with(
     alloc: Global,
     p: &Program,
     m: &mut Machine,
     found: Found<'_>,
-    called: &MethodRef,
+    kinds: &[Kind],
 ) -> Result<bool, Memory>
     requires machine { IsMachineOf p.now m.old }
     requires quiet { m.old.thrown ≡ None }
     requires next { IfSome m.old.frame (λ f. f.at + 1 < 2 ^ 64) }
     requires class { found.class.0 < length p.now }
-    ensures row { IfOk result (λ b. IfSome m.old.frame (λ f. (room : ℕ) → Comes (on_args (map kind_of called.now.args) f.stack (λ args rest. runs m.old.limits (consult (look p.now) (name_at p.now found.entry.class.0) (world_of p.now m.old.world)) (record (frame_of p.now f) { stack = rest }) (callers_of p.now m.old.callers) room (name_at p.now found.entry.class.0) found.entry.place args (body_of (entries_at p.now found.entry.class.0) found.entry.method.now.body))) b (world_of p.now m.old.world) (state_of p.now m.new))) }
+    ensures row { IfOk result (λ b. IfSome m.old.frame (λ f. (room : ℕ) → Comes (on_args (map kind_of kinds.now) f.stack (λ args rest. runs m.old.limits (consult (look p.now) (name_at p.now found.entry.class.0) (world_of p.now m.old.world)) (record (frame_of p.now f) { stack = rest }) (callers_of p.now m.old.callers) room (name_at p.now found.entry.class.0) found.entry.place args (body_of (entries_at p.now found.entry.class.0) found.entry.method.now.body))) b (world_of p.now m.old.world) (state_of p.now m.new))) }
     ensures kept { OnOk result (IsKept p.now m.old m.new) }
 {
-    let Some(frame) = &mut m.frame else {
-        return Ok(false);
-    };
-    let Some(args) = take_args(alloc, frame, called.args.as_slice())? else {
-        return Ok(false);
-    };
-    let goes = run_body(alloc, p, m, found, args)?;
-    Ok(goes)
+    match &found.method.body {
+        LinkedBody::Code(code) => {
+            let goes = enter(alloc, p, m, found.class, found.place, code, kinds)?;
+            Ok(goes)
+        }
+        LinkedBody::Native(method) => {
+            let goes = call_native(alloc, p, m, found.class, *method, kinds)?;
+            Ok(goes)
+        }
+        LinkedBody::Absent => Ok(false),
+    }
 }
 
 // The method that an index of a class's constant pool names, if it names one.
@@ -259,7 +261,7 @@ pub fn invoke_static(
     };
     match need(alloc, p, &m.world.begun, found.class)? {
         Need::Ready => {
-            let goes = call_with(alloc, p, m, found, called)?;
+            let goes = call_with(alloc, p, m, found, called.args.as_slice())?;
             Ok(goes)
         }
         Need::Begins => {

@@ -1,4 +1,4 @@
-//! One step of the machine (JVMS 2.11, 6.5): what `machine_rules` says by names, done by class numbers and vectors. A step of arithmetic, loads, jumps and static calls looks nothing up by text, but where it uses a class for the first time, and takes no memory beyond its frame and, while a call hands them over, the list of its arguments.
+//! One step of the machine (JVMS 2.11, 6.5): what `machine_rules` says by names, done by class numbers and vectors. A step of arithmetic, loads, jumps and static calls looks nothing up by text and takes no memory beyond its frame, but where it uses a class or reaches a line for the first time, or throws an exception.
 #![tactic(auto)]
 
 mod args;
@@ -9,6 +9,7 @@ mod classes;
 mod fetching;
 mod frame;
 mod initialisation;
+mod kinds;
 mod lines;
 mod locals;
 mod machine;

@@ -1,9 +1,11 @@
-ghost use Rattle.std.specs.Prelude.{◌≡◌, ℕ, ℤ, Ok, ◌+◌, ◌<◌, ◌^◌, [], ◌∷◌, List, drop, nat_le, true, false, IfSome, IfNone, OnOk, IfOk};
+ghost use Rattle.std.specs.Prelude.{◌≡◌, ℕ, ℤ, Ok, ◌+◌, ◌<◌, ◌^◌, [], ◌∷◌, List, length, map, drop, nat_le, true, false, IfSome, IfNone, OnOk, IfOk};
 ghost use Rattle.machine_rules.specs.Kinds.{height_of, width_of};
 ghost use Rattle.machine_rules.specs.declared.value.Value.{Value};
-ghost use Rattle.machine_rules.specs.Effects.{Effect, NoRow, on_top, on_int, on_ints, on_object};
+ghost use Rattle.machine_rules.specs.Effects.{Effect, NoRow, on_top, on_int, on_ints, on_object, on_args};
+ghost use Rattle.class_table.specs.Symbols.{kind_of};
 
-use class_model::Memory;
+use crate::kinds::last_of_kinds;
+use class_model::{Kind, Memory};
 use machine_rules::Value;
 use std::alloc::Global;
 use std::marker::Model;
@@ -144,6 +146,23 @@ impl Operands {
             Some(Value::Long(_)) => None,
             Some(Value::Null) => None,
             None => None,
+        }
+    }
+
+    /// The values on the top, where they are of these kinds: the last one is the top.
+    pub fn arguments(&self, kinds: &[Kind]) -> Option<&[Value]>
+        ensures some { IfSome result (λ args. (go : List Value → List Value → Effect) → on_args (map kind_of kinds.now) self.now go ≡ go args.now (drop (length args.now) self.now)) }
+        ensures none { IfNone result ((go : List Value → List Value → Effect) → on_args (map kind_of kinds.now) self.now go ≡ NoRow) }
+    {
+        last_of_kinds(&self.values, kinds)
+    }
+
+    /// Takes so many values off the top, or all where there are fewer.
+    pub fn cut(&mut self, count: usize)
+        ensures { self.new ≡ drop count self.old }
+    {
+        for _ in 0..count {
+            self.pop();
         }
     }
 }

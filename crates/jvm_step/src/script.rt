@@ -18,7 +18,6 @@ use crate::args::locals_for;
 use crate::calling::{Found, push_frame};
 use crate::initialisation::{begin, is_interface, is_static, need};
 use crate::machine::{Machine, Need, Step};
-use crate::stack::Stack;
 use crate::text::{joined, name};
 use crate::throwing::make;
 use class_model::{ClassId, Kind, Memory, Name, Seq};
@@ -136,7 +135,7 @@ fn start_call(
     m: &mut Machine,
     found: Found<'_>,
     call: &Call,
-    args: Stack<Value>,
+    args: &[Value],
 ) -> Result<bool, Memory>
     requires machine { IsMachineOf p.now m.old }
     requires quiet { m.old.thrown ≡ None }
@@ -144,13 +143,13 @@ fn start_call(
     requires class { found.class.0 < length p.now }
     requires named { name_at p.now found.class.0 ≡ call.now.class }
     requires next { slice_get m.old.world.script 0 ≡ Some call.now }
-    ensures row { IfOk result (λ b. Comes (begins_call m.old.limits (consult (look p.now) call.now.class (world_of p.now m.old.world)) (call_of call.now) (map call_of (drop 1 m.old.world.script)) found.entry.place (body_of (entries_at p.now found.entry.class.0) found.entry.method.now.body) args) b (world_of p.now m.old.world) (state_of p.now m.new)) }
+    ensures row { IfOk result (λ b. Comes (begins_call m.old.limits (consult (look p.now) call.now.class (world_of p.now m.old.world)) (call_of call.now) (map call_of (drop 1 m.old.world.script)) found.entry.place (body_of (entries_at p.now found.entry.class.0) found.entry.method.now.body) args.now) b (world_of p.now m.old.world) (state_of p.now m.new)) }
     ensures kept { OnOk result (IsKept p.now m.old m.new) }
 {
     let LinkedBody::Code(code) = &found.method.body else {
         return Ok(false);
     };
-    let Some(locals) = locals_for(args, code.max_locals)? else {
+    let Some(locals) = locals_for(alloc, args, code.max_locals)? else {
         return Ok(false);
     };
     let Some(next) = m.world.script.pop() else {
@@ -194,9 +193,7 @@ fn make_instance(
         return Ok(true);
     };
     m.world.instance = Some(number);
-    let mut args = Stack::new(alloc);
-    args.push(Value::Ref(number))?;
-    let goes = start_call(alloc, p, m, found, call, args)?;
+    let goes = start_call(alloc, p, m, found, call, &[Value::Ref(number)])?;
     Ok(goes)
 }
 
@@ -220,9 +217,7 @@ fn call_on_instance(
     let Some(number) = m.world.instance else {
         return Ok(false);
     };
-    let mut args = Stack::new(alloc);
-    args.push(Value::Ref(number))?;
-    let goes = start_call(alloc, p, m, found, call, args)?;
+    let goes = start_call(alloc, p, m, found, call, &[Value::Ref(number)])?;
     Ok(goes)
 }
 
@@ -246,7 +241,7 @@ fn call_by_kind(
     match call.kind {
         CallKind::ClassWide => match need(alloc, p, &m.world.begun, found.class)? {
             Need::Ready => {
-                let goes = start_call(alloc, p, m, found, call, Stack::new(alloc))?;
+                let goes = start_call(alloc, p, m, found, call, &[])?;
                 Ok(goes)
             }
             Need::Begins => {

@@ -29,11 +29,6 @@ impl<T> Stack<T> {
         }
     }
 
-    /// The allocator that the stack keeps.
-    pub fn allocator(&self) -> Global {
-        *self.items.allocator()
-    }
-
     /// How many items there are.
     pub fn len(&self) -> usize
         ensures { result ≡ length self.now }
