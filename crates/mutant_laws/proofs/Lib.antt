@@ -1,0 +1,6 @@
+mod Lists
+mod Listed
+mod Lines
+mod Linked
+mod Edits
+mod RunLaws

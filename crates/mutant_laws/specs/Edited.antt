@@ -1,0 +1,39 @@
+-- The program that a mutant's edit makes is the program with one instruction edited (this project's own).
+use Rattle.std.specs.Prelude.{◌≡◌, ◌++◌, List, All, Some}
+use Rattle.std.specs.List.{Contains}
+use Rattle.class_model.specs.declared.class.Class.{Class}
+use Rattle.machine_rules.specs.Programs.{Look}
+use Rattle.machine_rules.specs.Steps.{Place}
+use Rattle.edit_laws.specs.Edit.{Edit, IsEdited, edited_line}
+use Rattle.edit_laws.specs.EditLaws.{edited_place}
+use Rattle.class_table.specs.Info.{Info, IsInfo}
+use Rattle.class_table.specs.Table.{look}
+use Rattle.mutator_ops.specs.Mutants.{class_mutants}
+use Rattle.mutator_ops.specs.declared.mutant.Mutant.{Mutant}
+use Rattle.mutant_runs.specs.Programs.{files_of, edited}
+
+-- The place of a mutant's instruction.
+abbrev pub mutant_place : Mutant → Place
+mutant_place m = record { class = m.class; method = m.method ++ m.desc; at = m.at }
+
+-- The second program is the first with one instruction edited, at the mutant's place and on its line. Of two methods of one name it's the one of the edit's number.
+pub record IsEditOf (m : Mutant) (p p' : Look) : Type 0 where
+  pub edit : Edit
+  pub edited : IsEdited edit p p'
+  pub class : edit.class ≡ m.class
+  pub method : edit.method ≡ m.edit.method
+  pub at : edit.at ≡ m.at
+  pub line : edited_line edit p ≡ m.line
+  pub place : edited_place edit p ≡ mutant_place m
+
+-- The mutant is one of a class file of the program, and its edit makes the second program.
+pub record IsMutantOf (p : List Info) (m : Mutant) (p' : Look) : Type 0 where
+  pub infos : All IsInfo p
+  pub file : Class
+  pub found : files_of p m.class ≡ Some file
+  pub listed : Contains (class_mutants file) m
+  pub made : edited (files_of p) (look p) m ≡ Some p'
+
+-- The program that a mutant's edit makes is the program with one instruction edited.
+abbrev pub MutantsAreEdits : Type 0
+MutantsAreEdits = (p : List Info) (m : Mutant) (p' : Look) → IsMutantOf p m p' → IsEditOf m (look p) p'

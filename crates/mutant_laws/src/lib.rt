@@ -1,0 +1,32 @@
+//! Laws of mutants, over definitions alone: the program that a mutant's edit makes is the program with one instruction edited in the sense of `edit_laws`, so the laws of edits hold of all mutants. Each law
+//! is the contract of a function that does nothing but call the functions whose laws it rests on.
+#![tactic(auto)]
+
+ghost use Rattle.mutant_laws.specs.Edited.{MutantsAreEdits};
+ghost use Rattle.mutant_laws.specs.Covered.{UnreachedIsAlike, CoveringIsAlike};
+
+use edit_laws::{runs_reach_the_line_alike, unreached_runs_are_alike};
+use mutant_apply::applied_is_made;
+
+/// The program that a mutant's edit makes is the program with one instruction edited, at the mutant's class, method and place and on its line.
+pub fn mutants_are_edits()
+    ensures { MutantsAreEdits }
+{
+    applied_is_made();
+}
+
+/// A test that ended and doesn't reach the mutant's class and line runs on the mutant exactly as on the program, where the library is whole.
+pub fn unreached_mutants_run_alike()
+    ensures { UnreachedIsAlike }
+{
+    mutants_are_edits();
+    unreached_runs_are_alike();
+}
+
+/// A test that ended reaches the mutant's class and line where its run on the mutant does, and the other way round unless that run is stuck right at the mutant's instruction.
+pub fn mutants_are_covered_alike()
+    ensures { CoveringIsAlike }
+{
+    mutants_are_edits();
+    runs_reach_the_line_alike();
+}
