@@ -1,10 +1,10 @@
 -- The program that a mutant's edit makes is the program with one instruction edited.
-use Rattle.std.proofs.Common.{◌≡◌, ◌≢◌, ◌∙◌, refl, sym, ap, subst, ℕ, ◌++◌, Bool, true, false, List, [], All, Option, None, Some, unwrap_or, arith}
+use Rattle.std.proofs.Common.{◌≡◌, ◌≢◌, ◌∙◌, refl, sym, ap, subst, ℕ, ◌++◌, Bool, true, false, List, [], map, All, Option, None, Some, unwrap_or, arith}
 use Rattle.std.specs.Prelude.{slice_get, option_and_then, if◌then◌else◌}
 use Rattle.std.specs.Option.{option_map}
 use Rattle.std.specs.Cmp.Lexicographic.{same_text, other_text}
 use Rattle.std.proofs.lemmas.List.Elements.{All-contains, All-get_or}
-use Rattle.std.proofs.lemmas.Option.{slice_get_within, get_or_from_slice_get}
+use Rattle.std.proofs.lemmas.Option.{slice_get-map, slice_get_within, get_or_from_slice_get}
 use Rattle.class_model.specs.Pool.{text_of, class_name_of}
 use Rattle.class_model.specs.declared.attribute.Code.{Code, out-Code}
 use Rattle.class_model.specs.declared.class.Class.{Class}
@@ -21,7 +21,8 @@ use Rattle.class_table.specs.declared.loaded.ClassBody.TheVariants as body
 use Rattle.class_table.specs.Info.{Info, IsInfo, own_name, link_body, class_of, file_in}
 use Rattle.class_table.specs.Linking as linking
 use Rattle.class_table.specs.Linking.{link}
-use Rattle.class_table.specs.Symbols.{name_or_empty, text_named}
+use Rattle.class_table.specs.Opcodes.{instruction_by, instruction_in}
+use Rattle.class_table.specs.Symbols.{Symbol, symbol_at, name_or_empty, text_named}
 use Rattle.class_table.specs.Table.{class_at, number_of, look}
 use Rattle.mutator_ops.specs.Edits.{op_by}
 use Rattle.mutator_ops.specs.Mutants.{line_rows, mutant_at, class_mutants}
@@ -31,6 +32,7 @@ use Rattle.mutant_apply.specs.Edited.{edited_class, applied}
 use Rattle.mutant_apply.specs.Laws.{AppliedIsMade}
 use Rattle.mutant_runs.specs.Programs.{files_of, with_class, edited}
 use Rattle.mutant_laws.specs.Edited.{IsEditOf, MutantsAreEdits}
+use Rattle.mutant_laws.proofs.Jumps.{is_alike, with_op, goes_on_alike}
 use Rattle.mutant_laws.proofs.Lines.{line_is}
 use Rattle.mutant_laws.proofs.Linked.{plain_edit, linked_edit, linked_declares, linked_body, class_edited}
 use Rattle.mutant_laws.proofs.Listed.{name_of, place_of, IsListed, all_listed}
@@ -111,19 +113,25 @@ module _ (law : AppliedIsMade) (p : List Info) (p' : Look) (c : Class) (infos : 
   abbrev placed : Name → Name → ℕ → Place
   placed class method at = record { class = class; method = method; at = at }
 
-  edit_at : (member : Member) (code : Code) (number at : ℕ) (insn : Insn) (by : Mutator) → slice_get c.methods number ≡ Some member → listed.code_of member.attrs ≡ Some code
+  edit_at : (member : Member) (code : Code) (number at : ℕ) (insn : Insn) (by : Mutator) → slice_get c.methods number ≡ Some member → listed.code_of member.attrs ≡ Some code → slice_get (out-Code code).insns at ≡ Some insn
+      → ((means : ℕ → Symbol) → is_alike (instruction_by means insn) (instruction_by means (with_op insn (op_by by insn.op))) ≡ true)
       → files_of p (name_of c) ≡ Some c → edited (files_of p) (look p) (mutant_at (place_of c member code number) at insn by) ≡ Some p' → IsEditOf (mutant_at (place_of c member code number) at insn by) (look p) p'
-  edit_at member code number at insn by declares coded found made =
+  unfolding is_edited
+  edit_at member code number at insn by declares coded stood like found made =
       let m = mutant_at (place_of c member code number) at insn by in
-      let new : Insn = record { op = op_by by insn.op; wide = insn.wide; arg = insn.arg } in
+      let new : Insn = with_op insn (op_by by insn.op) in
       let own : own_name c ≡ name_of c = sym (own_case (class_name_of c.pool c.this)) in
       let name : text_named c.pool member.name ≡ m.method = sym (own_case (text_of c.pool member.name)) in
       let desc : text_named c.pool member.desc ≡ m.desc = sym (own_case (text_of c.pool member.desc)) in
       let had : look p (own_name c) ≡ Some (link c) = look_file p (own_name c) c infos (ap (files_of p) own ∙ found) in
+      let e = linked_edit c code number at new 0 in
+      let old = instruction_in c.pool insn in
+      let changed = is_edited (look p) p' c member code number at new 0 declares coded had (made_program p p' c m law found made) in
+      let stands : slice_get (map (instruction_in c.pool) (out-Code code).insns) at ≡ Some old = slice_get-map (instruction_in c.pool) (out-Code code).insns at ∙ ap (option_map (instruction_in c.pool)) stood in
       let method = method_here (look p) p' c member code number at new 0 declares coded had in
       record {
-        edit = linked_edit c code number at new 0;
-        edited = is_edited (look p) p' c member code number at new 0 declares coded had (made_program p p' c m law found made);
+        edit = e;
+        edited = changed;
         class = own;
         method = refl;
         at = refl;
@@ -132,12 +140,13 @@ module _ (law : AppliedIsMade) (p : List Info) (p' : Look) (c : Class) (infos : 
             ∙ ap (λ n. placed n (text_named c.pool member.name ++ text_named c.pool member.desc) at) own
             ∙ ap (λ n. placed (name_of c) (n ++ text_named c.pool member.desc) at) name
             ∙ ap (λ d. placed (name_of c) (m.method ++ d) at) desc;
+        goes_on = goes_on_alike e (look p) p' changed old stands (like (symbol_at c.pool));
       }
 
   is_edit : (m : Mutant) → IsListed c m → files_of p m.class ≡ Some c → edited (files_of p) (look p) m ≡ Some p' → IsEditOf m (look p) p'
   is_edit m x found made =
       subst (λ k. IsEditOf k (look p) p') (sym x.is)
-      (edit_at x.member x.code x.number x.place x.insn x.mutator x.declares x.coded (subst (λ k. files_of p k.class ≡ Some c) x.is found) (subst (λ k. edited (files_of p) (look p) k ≡ Some p') x.is made))
+      (edit_at x.member x.code x.number x.place x.insn x.mutator x.declares x.coded x.had x.like (subst (λ k. files_of p k.class ≡ Some c) x.is found) (subst (λ k. edited (files_of p) (look p) k ≡ Some p') x.is made))
 
 pub mutants_are_edits : AppliedIsMade → MutantsAreEdits
 mutants_are_edits law p m p' y =

@@ -1,6 +1,8 @@
 mod Lists
+mod Jumps
 mod Listed
 mod Lines
 mod Linked
 mod Edits
 mod RunLaws
+mod SelectedLaws

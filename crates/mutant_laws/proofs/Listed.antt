@@ -10,11 +10,14 @@ use Rattle.class_model.specs.declared.class.Member.{Member}
 use Rattle.class_model.specs.declared.instruction.Insn.{Insn}
 use Rattle.class_model.specs.declared.mutator.Mutator.{Mutator}
 use Rattle.class_model.specs.declared.mutator.Mutator.TheVariants as mutator
-use Rattle.mutator_ops.specs.Edits.{is_int_jump, is_ordered_jump, if_so, mutators_of}
+use Rattle.class_table.specs.Symbols.{Symbol}
+use Rattle.class_table.specs.Opcodes.{instruction_by}
+use Rattle.mutator_ops.specs.Edits.{is_int_jump, is_ordered_jump, if_so, mutators_of, op_by}
 use Rattle.mutator_ops.specs.Mutants.{code_of, line_rows, mutant_at, mutants_from, code_mutants, is_synthetic, is_left_out, method_mutants, methods_mutants, class_mutants}
 use Rattle.mutator_ops.specs.declared.mutant.Mutant.{Mutant}
 use Rattle.mutator_ops.specs.declared.place.Place.{Place}
 use Rattle.mutant_laws.proofs.Lists.{first_from, rest_from}
+use Rattle.mutant_laws.proofs.Jumps.{is_alike, with_op, negated_alike, moved_alike}
 
 abbrev pub name_of : Class → List ℕ
 name_of c = unwrap_or (class_name_of c.pool c.this) []
@@ -40,6 +43,7 @@ pub record IsListed (c : Class) (m : Mutant) : Type 0 where
   pub declares : slice_get c.methods number ≡ Some member
   pub coded : code_of member.attrs ≡ Some code
   pub had : slice_get (out-Code code).insns place ≡ Some insn
+  pub like : (means : ℕ → Symbol) → is_alike (instruction_by means insn) (instruction_by means (with_op insn (op_by mutator insn.op))) ≡ true
 
 heads : {X : Type 0} (P : X → Type 0) (f : Mutator → X) (a b : Bool) (m n : Mutator) → (a ≡ true → P (f m)) → (b ≡ true → P (f n)) → AllByRecursion P (map f (if_so a m ++ if_so b n))
 heads P f true true m n p q = (p refl, (q refl, tt))
@@ -52,7 +56,7 @@ module _ (c : Class) where
   insns_listed member code number declares coded at [] from = All-nil _
   insns_listed member code number declares coded at (insn ∷ rest) from =
       let place = place_of c member code number in
-      let one : (by : Mutator) → IsListed c (mutant_at place at insn by) = λ by. record {
+      let one : (by : Mutator) → ((means : ℕ → Symbol) → is_alike (instruction_by means insn) (instruction_by means (with_op insn (op_by by insn.op))) ≡ true) → IsListed c (mutant_at place at insn by) = λ by like. record {
         member = member;
         code = code;
         insn = insn;
@@ -63,9 +67,11 @@ module _ (c : Class) where
         declares = declares;
         coded = coded;
         had = first_from (out-Code code).insns at insn rest from;
+        like = like;
       } in
       All-append (IsListed c) (map (mutant_at place at insn) (mutators_of insn)) (mutants_from place (at + 1) rest)
-      (All-from_recursion (IsListed c) _ (heads (IsListed c) (mutant_at place at insn) (is_ordered_jump insn.op) (is_int_jump insn.op) mutator.ConditionalsBoundary mutator.NegateConditionals (λ is. one _) (λ is. one _)))
+      (All-from_recursion (IsListed c) _ (heads (IsListed c) (mutant_at place at insn) (is_ordered_jump insn.op) (is_int_jump insn.op) mutator.ConditionalsBoundary mutator.NegateConditionals
+      (λ is. one mutator.ConditionalsBoundary (λ means. moved_alike means insn is)) (λ is. one mutator.NegateConditionals (λ means. negated_alike means insn is))))
       (insns_listed member code number declares coded (at + 1) rest (rest_from (out-Code code).insns at insn rest from))
 
   method_listed : (member : Member) (number : ℕ) → slice_get c.methods number ≡ Some member → (o : Option Code) → code_of member.attrs ≡ o → All (IsListed c) (code_mutants c.pool (name_of c) number member o)

@@ -1,14 +1,14 @@
 -- The laws of edited programs, said of mutants.
-use Rattle.std.proofs.Common.{◌≡◌, ◌∙◌, refl, sym, ap, subst, ℕ, Bool, true, false, List, [], ◌∷◌, ◌⊎◌, inl, inr, ⊎_elim}
-use Rattle.std.specs.Prelude.{◌&&◌, ◌||◌, ◌==◌}
+use Rattle.std.proofs.Common.{◌≡◌, ◌∙◌, refl, sym, ap, subst, ℕ, Bool, true, false, List, [], ◌∷◌, inl, inr, ⊎_elim}
+use Rattle.std.specs.Prelude.{◌&&◌, ◌==◌}
 use Rattle.std.specs.List.{list_any}
 use Rattle.std.specs.Cmp.Lexicographic.{same_text}
-use Rattle.std.proofs.lemmas.Bool.{eqb-true, eq-eqb}
+use Rattle.std.proofs.lemmas.Bool.{eqb-true, eq-eqb, and_parts, or_cases, or_left, or_right}
 use Rattle.machine_rules.specs.Names.{Name, same}
 use Rattle.machine_rules.specs.Programs.{Look}
-use Rattle.machine_rules.specs.Runs.{Ran, StuckAt}
+use Rattle.machine_rules.specs.Runs.{Ran}
 use Rattle.machine_laws.specs.Consulted.{Hit}
-use Rattle.edit_laws.specs.EditLaws.{ReachesLine, TestsAlikeUnreached, TestsReachAlike}
+use Rattle.edit_laws.specs.EditLaws.{ReachesLine, TestsAlikeUnreached, TestsReachTheSame}
 use Rattle.class_table.specs.Table.{look}
 use Rattle.jvm_step.specs.View.{test_of}
 use Rattle.mutator_ops.specs.declared.mutant.Mutant.{Mutant}
@@ -19,33 +19,19 @@ use Rattle.mutant_laws.proofs.Edits.{same_itself}
 
 -- ---- the test for a mutant's line
 
-at_case : (m : Mutant) (x : Name × ℕ) (a b : Bool) → a ≡ same x.0 m.class → b ≡ (x.1 == m.line) → a && b ≡ true → (x.0 ≡ m.class) × (x.1 ≡ m.line)
-at_case m x true true ha hb h = (same_text x.0 m.class ha, eqb-true x.1 m.line (sym hb))
-at_case m x true false ha hb h = absurd cc
-at_case m x false b ha hb h = absurd cc
-
-or_case : (P Q : Type 0) (a b : Bool) → a || b ≡ true → (a ≡ true → P) → (b ≡ true → Q) → P ⊎ Q
-or_case P Q true b h p q = inl (p refl)
-or_case P Q false b h p q = inr (q h)
+at_true : (m : Mutant) (x : Name × ℕ) → is_at m x ≡ true → (x.0 ≡ m.class) × (x.1 ≡ m.line)
+at_true m x h = let k = and_parts (same x.0 m.class) (x.1 == m.line) h in (same_text x.0 m.class (sym k.0), eqb-true x.1 m.line k.1)
 
 hit_of : (m : Mutant) (rs : List (Name × ℕ)) → list_any (is_at m) rs ≡ true → Hit m.class m.line rs
 hit_of m [] h = absurd cc
-hit_of m (x ∷ rs) h = or_case ((x.0 ≡ m.class) × (x.1 ≡ m.line)) (Hit m.class m.line rs) (is_at m x) (list_any (is_at m) rs) h (at_case m x (same x.0 m.class) (x.1 == m.line) refl refl) (hit_of m rs)
+hit_of m (x ∷ rs) h = ⊎_elim (λ here. inl (at_true m x here)) (λ later. inr (hit_of m rs later)) (or_cases (is_at m x) (list_any (is_at m) rs) h)
 
-first_true : (a b : Bool) → a ≡ true → a || b ≡ true
-first_true true b h = refl
-first_true false b h = absurd cc
-
-second_true : (a b : Bool) → b ≡ true → a || b ≡ true
-second_true true b h = refl
-second_true false b h = h
-
-is_at_true : (m : Mutant) (x : Name × ℕ) → (x.0 ≡ m.class) × (x.1 ≡ m.line) → is_at m x ≡ true
-is_at_true m x h = ap (λ n. same n m.class && x.1 == m.line) h.0 ∙ ap (λ b. b && x.1 == m.line) (same_itself m.class) ∙ eq-eqb x.1 m.line h.1
+true_at : (m : Mutant) (x : Name × ℕ) → (x.0 ≡ m.class) × (x.1 ≡ m.line) → is_at m x ≡ true
+true_at m x h = ap (λ n. same n m.class && x.1 == m.line) h.0 ∙ ap (λ b. b && x.1 == m.line) (same_itself m.class) ∙ eq-eqb x.1 m.line h.1
 
 hit_true : (m : Mutant) (rs : List (Name × ℕ)) → Hit m.class m.line rs → list_any (is_at m) rs ≡ true
 hit_true m [] h = absurd h
-hit_true m (x ∷ rs) h = ⊎_elim (λ here. first_true (is_at m x) (list_any (is_at m) rs) (is_at_true m x here)) (λ later. second_true (is_at m x) (list_any (is_at m) rs) (hit_true m rs later)) h
+hit_true m (x ∷ rs) h = ⊎_elim (λ here. or_left (is_at m x) (list_any (is_at m) rs) (true_at m x here)) (λ later. or_right (is_at m x) (list_any (is_at m) rs) (hit_true m rs later)) h
 
 module _ (m : Mutant) (p p' : Look) (e : IsEditOf m p p') where
   reaches_true : (r : Ran) → ReachesLine e.edit p r → reaches m r ≡ true
@@ -68,14 +54,11 @@ same_bool true b there back = sym (there refl)
 same_bool false true there back = back refl
 same_bool false false there back = refl
 
-pub covering_is_alike : MutantsAreEdits → TestsReachAlike → CoveringIsAlike
+pub covering_is_alike : MutantsAreEdits → TestsReachTheSame → CoveringIsAlike
 unfolding mutant_run
 covering_is_alike edits law p m p' t q limit y whole ended =
     let e = edits p m p' y in
     let r = original_run p t q limit in
     let r' = mutant_run q p' t r.steps in
-    let k = law e.edit (look p) p' (test_of t) q limit e.edited whole ended in
-    let there : reaches m r' ≡ true → reaches m r ≡ true = λ h. reaches_true m (look p) p' e r (k.0 (reaches_line m (look p) p' e r' h)) in (
-      there,
-      λ past. same_bool (reaches m r') (reaches m r) there (λ h. reaches_true m (look p) p' e r' (k.1 (λ stuck. past (stuck ∙ ap StuckAt e.place)) (reaches_line m (look p) p' e r h))),
-    )
+    let k = law e.edit (look p) p' (test_of t) q limit e.edited e.goes_on whole ended in
+    same_bool (reaches m r') (reaches m r) (λ h. reaches_true m (look p) p' e r (k.0 (reaches_line m (look p) p' e r' h))) (λ h. reaches_true m (look p) p' e r' (k.1 (reaches_line m (look p) p' e r h)))

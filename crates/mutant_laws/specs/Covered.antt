@@ -1,8 +1,10 @@
 -- What the run of a test on the program says of its run on a mutant.
-use Rattle.std.specs.Prelude.{◌≡◌, ◌≢◌, ℕ, List, true, false}
+use Rattle.std.specs.Prelude.{◌≡◌, ℕ, List, map, filter, All, false}
+use Rattle.std.specs.List.{enumerate_from}
+use Rattle.machine_rules.specs.declared.machine.Outcome.TheVariants.{Passed}
 use Rattle.machine_rules.specs.declared.machine.Limits.{Limits}
 use Rattle.machine_rules.specs.Programs.{Look}
-use Rattle.machine_rules.specs.Runs.{Ran, StuckAt, run_of}
+use Rattle.machine_rules.specs.Runs.{With, Ran, run_of}
 use Rattle.machine_laws.specs.Consulted.{IsLibraryWhole}
 use Rattle.machine_laws.specs.FrameLaw.{HasEnded}
 use Rattle.class_table.specs.declared.scripted.Test.{Test}
@@ -10,8 +12,10 @@ use Rattle.class_table.specs.Info.{Info}
 use Rattle.class_table.specs.Table.{look}
 use Rattle.jvm_step.specs.View.{test_of}
 use Rattle.mutator_ops.specs.declared.mutant.Mutant.{Mutant}
-use Rattle.mutant_runs.specs.Runs.{mutant_run, reaches}
-use Rattle.mutant_laws.specs.Edited.{mutant_place, IsMutantOf}
+use Rattle.mutant_runs.specs.Programs.{files_of}
+use Rattle.mutant_runs.specs.Runs.{timed, mutant_run, reaches}
+use Rattle.mutant_runs.specs.Verdicts.{verdict_by, killer, verdict_of}
+use Rattle.mutant_laws.specs.Edited.{IsMutated}
 
 -- The run of a test on a program.
 abbrev pub original_run : List Info → Test → Limits → ℕ → Ran
@@ -20,12 +24,28 @@ original_run p t q limit = run_of (look p) (test_of t) q limit
 -- A test that ended and doesn't reach the mutant's line runs on the mutant as it did: outcome, steps, consulted names and reached lines.
 abbrev pub UnreachedIsAlike : Type 0
 UnreachedIsAlike =
-    (p : List Info) (m : Mutant) (p' : Look) (t : Test) (q : Limits) (limit : ℕ) → IsMutantOf p m p' → IsLibraryWhole (look p) → HasEnded (original_run p t q limit).ending → reaches m (original_run p t q limit) ≡ false
+    (p : List Info) (m : Mutant) (p' : Look) (t : Test) (q : Limits) (limit : ℕ) → IsMutated p m p' → IsLibraryWhole (look p) → HasEnded (original_run p t q limit).ending → reaches m (original_run p t q limit) ≡ false
     → mutant_run q p' t (original_run p t q limit).steps ≡ original_run p t q limit
 
--- Where the run on the mutant reaches the mutant's line so does the original run, however the first ends.
+-- A test that ended reaches the mutant's line exactly where its run on the mutant does, however that ends.
 abbrev pub CoveringIsAlike : Type 0
 CoveringIsAlike =
-    (p : List Info) (m : Mutant) (p' : Look) (t : Test) (q : Limits) (limit : ℕ) → IsMutantOf p m p' → IsLibraryWhole (look p) → HasEnded (original_run p t q limit).ending
-    → (reaches m (mutant_run q p' t (original_run p t q limit).steps) ≡ true → reaches m (original_run p t q limit) ≡ true)
-    × ((mutant_run q p' t (original_run p t q limit).steps).ending ≢ StuckAt (mutant_place m) → reaches m (mutant_run q p' t (original_run p t q limit).steps) ≡ reaches m (original_run p t q limit))
+    (p : List Info) (m : Mutant) (p' : Look) (t : Test) (q : Limits) (limit : ℕ) → IsMutated p m p' → IsLibraryWhole (look p) → HasEnded (original_run p t q limit).ending
+    → reaches m (mutant_run q p' t (original_run p t q limit).steps) ≡ reaches m (original_run p t q limit)
+
+-- ---- all tests
+
+-- The tests with their numbers whose original runs reach a mutant's line.
+abbrev pub selected : List Info → Mutant → Limits → ℕ → List Test → List (ℕ × Test)
+selected p m q limit tests = filter (λ t. reaches m (original_run p t.1 q limit)) (enumerate_from 0 tests)
+
+-- The runs of such tests on a mutant, each under the limit that its original run gives.
+abbrev pub runs_of : List Info → Look → Limits → ℕ → List (ℕ × Test) → List (ℕ × Ran)
+runs_of p p' q limit tests = map (λ t. (t.0, mutant_run q p' t.1 (original_run p t.1 q limit).steps)) tests
+
+-- Where all tests pass, only those need be run on a mutant whose original runs reach its line: its verdict by the runs of all tests is the verdict by theirs, and they are its covering tests.
+abbrev pub SelectedSuffice : Type 0
+SelectedSuffice =
+    (p : List Info) (m : Mutant) (p' : Look) (q : Limits) (limit : ℕ) (tests : List Test) → IsMutated p m p' → IsLibraryWhole (look p) → All (λ t. (original_run p t q limit).ending ≡ With Passed) tests
+    → verdict_of q (files_of p) (look p) (timed tests (map (λ t. (original_run p t q limit).steps) tests)) m
+    ≡ verdict_by (map (λ t. t.0) (selected p m q limit tests)) (killer (runs_of p p' q limit (selected p m q limit tests)))

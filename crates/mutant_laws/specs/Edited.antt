@@ -5,7 +5,7 @@ use Rattle.class_model.specs.declared.class.Class.{Class}
 use Rattle.machine_rules.specs.Programs.{Look}
 use Rattle.machine_rules.specs.Steps.{Place}
 use Rattle.edit_laws.specs.Edit.{Edit, IsEdited, edited_line}
-use Rattle.edit_laws.specs.EditLaws.{edited_place}
+use Rattle.edit_laws.specs.EditLaws.{edited_place, GoesOnAlike}
 use Rattle.class_table.specs.Info.{Info, IsInfo}
 use Rattle.class_table.specs.Table.{look}
 use Rattle.mutator_ops.specs.Mutants.{class_mutants}
@@ -25,9 +25,11 @@ pub record IsEditOf (m : Mutant) (p p' : Look) : Type 0 where
   pub at : edit.at ≡ m.at
   pub line : edited_line edit p ≡ m.line
   pub place : edited_place edit p ≡ mutant_place m
+  -- the new instruction goes on wherever the one that it replaces does
+  pub goes_on : GoesOnAlike edit p p'
 
 -- The mutant is one of a class file of the program, and its edit makes the second program.
-pub record IsMutantOf (p : List Info) (m : Mutant) (p' : Look) : Type 0 where
+pub record IsMutated (p : List Info) (m : Mutant) (p' : Look) : Type 0 where
   pub infos : All IsInfo p
   pub file : Class
   pub found : files_of p m.class ≡ Some file
@@ -36,4 +38,4 @@ pub record IsMutantOf (p : List Info) (m : Mutant) (p' : Look) : Type 0 where
 
 -- The program that a mutant's edit makes is the program with one instruction edited.
 abbrev pub MutantsAreEdits : Type 0
-MutantsAreEdits = (p : List Info) (m : Mutant) (p' : Look) → IsMutantOf p m p' → IsEditOf m (look p) p'
+MutantsAreEdits = (p : List Info) (m : Mutant) (p' : Look) → IsMutated p m p' → IsEditOf m (look p) p'

@@ -3,9 +3,9 @@
 #![tactic(auto)]
 
 ghost use Rattle.mutant_laws.specs.Edited.{MutantsAreEdits};
-ghost use Rattle.mutant_laws.specs.Covered.{UnreachedIsAlike, CoveringIsAlike};
+ghost use Rattle.mutant_laws.specs.Covered.{UnreachedIsAlike, CoveringIsAlike, SelectedSuffice};
 
-use edit_laws::{runs_reach_the_line_alike, unreached_runs_are_alike};
+use edit_laws::{runs_reach_the_line_the_same, unreached_runs_are_alike};
 use mutant_apply::applied_is_made;
 
 /// The program that a mutant's edit makes is the program with one instruction edited, at the mutant's class, method and place and on its line.
@@ -23,10 +23,18 @@ pub fn unreached_mutants_run_alike()
     unreached_runs_are_alike();
 }
 
-/// A test that ended reaches the mutant's class and line where its run on the mutant does, and the other way round unless that run is stuck right at the mutant's instruction.
+/// A test that ended reaches the mutant's class and line exactly where its run on the mutant does, where the library is whole.
 pub fn mutants_are_covered_alike()
     ensures { CoveringIsAlike }
 {
     mutants_are_edits();
-    runs_reach_the_line_alike();
+    runs_reach_the_line_the_same();
+}
+
+/// Where all tests pass, a mutant's verdict by the runs of all tests is that by the tests whose original runs reach its class and line, so no other test need be run on it.
+pub fn selected_tests_suffice()
+    ensures { SelectedSuffice }
+{
+    unreached_mutants_run_alike();
+    mutants_are_covered_alike();
 }

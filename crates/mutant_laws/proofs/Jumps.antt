@@ -1,0 +1,172 @@
+-- A jump that a mutator puts in the place of another goes on wherever that did.
+use Rattle.std.proofs.Common.{◌≡◌, ◌∙◌, refl, sym, ap, subst, ℕ, zero, suc, ◌+◌, ◌<◌, ◌≤◌, ltb, Bool, true, false, List, [], ◌∷◌, map, Some, arith}
+use Rattle.std.specs.Prelude.{◌≢◌, ◌&&◌, ◌||◌, not, ℤ, pos, slice_get, if◌then◌else◌}
+use Rattle.std.proofs.lemmas.Bool.{ltb-true, ltb-false, and_parts}
+use Rattle.std.proofs.lemmas.Bool.Decides.{nat_tests}
+use Rattle.class_model.specs.declared.instruction.Arg.{Arg}
+use Rattle.class_model.specs.declared.instruction.Arg.TheVariants as arg
+use Rattle.class_model.specs.declared.instruction.Insn.{Insn}
+use Rattle.machine_rules.specs.declared.value.Value.{Value}
+use Rattle.machine_rules.specs.declared.value.Value.TheVariants.{Int, Long, Ref, Null}
+use Rattle.machine_rules.specs.declared.machine.Limits.{Limits}
+use Rattle.machine_rules.specs.Instructions.{Instruction, IfInt, IfInts, Unlinked}
+use Rattle.machine_rules.specs.Linked.{code_in, method_in}
+use Rattle.machine_rules.specs.Programs.{Look}
+use Rattle.machine_rules.specs.State.{Frame, World}
+use Rattle.machine_rules.specs.Effects.{Effect, NoRow, Current, on_some, on_int, jumps}
+use Rattle.machine_rules.specs.Steps.{act, Fetched, fetched, fetched_in, fetched_at, fetch, reaches, compares}
+use Rattle.edit_laws.specs.Edit.{Edit, IsEdited, place_in, edited_method, is_edited, relocated, moved}
+use Rattle.edit_laws.specs.EditLaws.{GoesOnAlike, moved_frame}
+use Rattle.edit_laws.proofs.Places.{edit_by, get_first, get_map, set_same}
+use Rattle.class_table.specs.Symbols.{Symbol}
+use Rattle.class_table.specs.Opcodes.{with_operand, instruction_by}
+use Rattle.mutator_ops.specs.Edits.{is_int_jump, is_ordered_jump, negated, moved_bound}
+
+-- ---- instructions
+
+is_on_int : Instruction → Bool
+is_on_int (IfInt c to) = true
+is_on_int other = false
+
+is_on_ints : Instruction → Bool
+is_on_ints (IfInts c to) = true
+is_on_ints other = false
+
+-- The second instruction asks no more of the stack than the first. One that no row applies to asks for what never is.
+pub is_alike : Instruction → Instruction → Bool
+is_alike (IfInt c to) j = is_on_int j
+is_alike (IfInts c to) j = is_on_ints j
+is_alike Unlinked j = true
+is_alike other j = false
+
+goes_int : (stack : List Value) (go go' : ℤ → List Value → Effect) → ((z : ℤ) (rest : List Value) → go z rest ≢ NoRow → go' z rest ≢ NoRow) → on_int stack go ≢ NoRow → on_int stack go' ≢ NoRow
+goes_int [] go go' h applied = applied
+goes_int (Int z ∷ rest) go go' h applied = h z rest applied
+goes_int (Long z ∷ rest) go go' h applied = applied
+goes_int (Ref x ∷ rest) go go' h applied = applied
+goes_int (Null ∷ rest) go go' h applied = applied
+
+module _ (p p' : Look) (q : Limits) (here here' : Current) (w w' : World) (f : Frame) (at : ℕ) (fs fs' : List Frame) where
+  moved_to : Frame
+  moved_to = record f { at = at }
+
+  int_acts : (go : ℤ → List Value → Effect) (j : Instruction) → is_on_int j ≡ true → on_int f.stack go ≢ NoRow → act p' q here' j w' moved_to fs' ≢ NoRow
+  unfolding act moved_to is_on_int
+  int_acts go (IfInt c to) like applied = goes_int f.stack go (λ x rest. jumps w' (record f { at = at }) fs' (if compares c x (pos 0) then to else at + 1) rest) (λ z rest k e. absurd cc) applied
+  int_acts go other like applied = absurd cc
+
+  ints_act : (go : ℤ → ℤ → List Value → Effect) (j : Instruction) → is_on_ints j ≡ true → on_int f.stack (λ y rest. on_int rest (λ x below. go x y below)) ≢ NoRow → act p' q here' j w' moved_to fs' ≢ NoRow
+  unfolding act moved_to is_on_ints
+  ints_act go (IfInts c to) like applied =
+      goes_int f.stack (λ y rest. on_int rest (λ x below. go x y below)) (λ y rest. on_int rest (λ x below. jumps w' (record f { at = at }) fs' (if compares c x y then to else at + 1) below))
+      (λ y rest. goes_int rest (λ x below. go x y below) (λ x below. jumps w' (record f { at = at }) fs' (if compares c x y then to else at + 1) below) (λ z below k e. absurd cc)) applied
+  ints_act go other like applied = absurd cc
+
+  acts_alike : (i j : Instruction) → is_alike i j ≡ true → act p q here i w f fs ≢ NoRow → act p' q here' j w' moved_to fs' ≢ NoRow
+  unfolding act is_alike
+  acts_alike (IfInt c to) j like applied = int_acts (λ x rest. jumps w f fs (if compares c x (pos 0) then to else f.at + 1) rest) j like applied
+  acts_alike (IfInts c to) j like applied = ints_act (λ x y below. jumps w f fs (if compares c x y then to else f.at + 1) below) j like applied
+  acts_alike Unlinked j like applied = absurd (applied refl)
+  acts_alike other j like applied = absurd cc
+
+-- ---- opcodes
+
+each : (ℕ → Bool) → ℕ → ℕ → Bool
+each test zero op = true
+each test (suc count) op = test op && each test count (suc op)
+
+each_by : (test : ℕ → Bool) (count start op : ℕ) (above : Bool) → ltb start op ≡ above → each test (suc count) start ≡ true → start ≤ op → op < start + suc count
+    → (each test count (suc start) ≡ true → suc start ≤ op → op < suc start + count → test op ≡ true) → test op ≡ true
+unfolding each
+each_by test count start op true above e le lt later = later (and_parts (test start) (each test count (suc start)) e).1 (omega (arith, ltb-true start op above)) (omega (arith, lt))
+each_by test count start op false above e le lt later = let same : start ≡ op = omega (arith, le, ltb-false start op above) in subst (λ n. test n ≡ true) same (and_parts (test start) (each test count (suc start)) e).0
+
+each_in : (test : ℕ → Bool) (count start op : ℕ) → each test count start ≡ true → start ≤ op → op < start + count → test op ≡ true
+each_in test zero start op e le lt = absurd (omega (arith, le, lt))
+each_in test (suc count) start op e le lt = each_by test count start op (ltb start op) refl e le lt (each_in test count (suc start) op)
+
+so : (a b : Bool) → not a || b ≡ true → a ≡ true → b ≡ true
+so true b e is = e
+so false b e is = absurd cc
+
+module _ (means : ℕ → Symbol) where
+  is_negated : Arg → ℕ → Bool
+  is_negated a op = is_alike (with_operand means op a) (with_operand means (negated op) a)
+
+  is_moved : Arg → ℕ → Bool
+  is_moved a op = not (is_ordered_jump op) || is_alike (with_operand means op a) (with_operand means (moved_bound op) a)
+
+  all_negated : (a : Arg) → each (is_negated a) 12 0x99 ≡ true
+  unfolding each is_negated is_alike is_on_int is_on_ints
+  all_negated (arg.To to) = refl
+  all_negated other = refl
+
+  all_moved : (a : Arg) → each (is_moved a) 12 0x99 ≡ true
+  unfolding each is_moved is_alike is_on_int is_on_ints
+  all_moved (arg.To to) = refl
+  all_moved other = refl
+
+int_low : (op : ℕ) → is_int_jump op ≡ true → 0x99 ≤ op
+int_low op is = grind (arith, nat_tests)
+
+int_high : (op : ℕ) → is_int_jump op ≡ true → op < 0x99 + 12
+int_high op is = grind (arith, nat_tests)
+
+ordered_low : (op : ℕ) → is_ordered_jump op ≡ true → 0x99 ≤ op
+ordered_low op is = grind (arith, nat_tests)
+
+ordered_high : (op : ℕ) → is_ordered_jump op ≡ true → op < 0x99 + 12
+ordered_high op is = grind (arith, nat_tests)
+
+abbrev pub with_op : Insn → ℕ → Insn
+with_op insn op = record { op = op; wide = insn.wide; arg = insn.arg }
+
+pub negated_alike : (means : ℕ → Symbol) (insn : Insn) → is_int_jump insn.op ≡ true → is_alike (instruction_by means insn) (instruction_by means (with_op insn (negated insn.op))) ≡ true
+unfolding instruction_by is_negated
+negated_alike means insn is = each_in (is_negated means insn.arg) 12 0x99 insn.op (all_negated means insn.arg) (int_low insn.op is) (int_high insn.op is)
+
+pub moved_alike : (means : ℕ → Symbol) (insn : Insn) → is_ordered_jump insn.op ≡ true → is_alike (instruction_by means insn) (instruction_by means (with_op insn (moved_bound insn.op))) ≡ true
+unfolding instruction_by is_moved
+moved_alike means insn is =
+    so (is_ordered_jump insn.op) (is_alike (with_operand means insn.op insn.arg) (with_operand means (moved_bound insn.op) insn.arg))
+    (each_in (is_moved means insn.arg) 12 0x99 insn.op (all_moved means insn.arg) (ordered_low insn.op is) (ordered_high insn.op is)) is
+
+-- ---- programs
+
+module _ (e : Edit) (p p' : Look) (ed : IsEdited e p p') (old : Instruction) (had : slice_get ed.code.instructions e.at ≡ Some old) where
+  abbrev old_here : Current
+  old_here = record { result = ed.method.result; max_stack = ed.code.max_stack }
+
+  abbrev new_here : Current
+  new_here = record { result = ed.method.result; max_stack = e.max_stack }
+
+  fetch_old : (f : Frame) → f.class ≡ e.class → f.method ≡ e.method → f.at ≡ e.at → fetch p f ≡ Some (record { instruction = old; here = old_here })
+  fetch_old f hc hk ha =
+      ap (λ c. fetched (method_in (p c) f.method) f.at) hc
+      ∙ ap (λ k. fetched (method_in (p e.class) k) f.at) hk
+      ∙ ap (λ at. fetched (method_in (p e.class) e.method) at) ha
+      ∙ ap (λ o. fetched (method_in o e.method) e.at) ed.had
+      ∙ ap (λ o. fetched o e.at) ed.declares
+      ∙ ap (λ b. fetched_in ed.method e.at (code_in b)) ed.with_code
+      ∙ ap (fetched_at old_here) had
+
+  fetch_new : (f : Frame) → f.class ≡ e.class → f.method ≡ e.method → f.at ≡ e.at → fetch p' (moved_frame e f) ≡ Some (record { instruction = e.first; here = new_here })
+  fetch_new f hc hk ha =
+      ap (λ c. fetched (method_in (p' c) f.method) (place_in e c f.method f.at)) hc
+      ∙ ap (λ k. fetched (method_in (p' e.class) k) (place_in e e.class k f.at)) hk
+      ∙ ap (λ at. fetched (method_in (p' e.class) e.method) (place_in e e.class e.method at)) ha
+      ∙ ap (λ at. fetched (method_in (p' e.class) e.method) at) (edit_by e (is_edited e e.class e.method))
+      ∙ ap (λ o. fetched (method_in o e.method) e.at) ed.has
+      ∙ ap (λ o. fetched o e.at) (set_same ed.before.methods e.method ed.method (edited_method e ed.method ed.code) ed.declares)
+      ∙ ap (fetched_at new_here) (get_first (map (relocated (moved e)) ed.code.instructions) e.first e.rest e.at (relocated (moved e) old) (get_map (relocated (moved e)) ed.code.instructions e.at old had))
+
+  pub goes_on_alike : is_alike old e.first ≡ true → GoesOnAlike e p p'
+  unfolding moved_to
+  goes_on_alike like q w f fs hc hk ha applied =
+      let go : Fetched → Effect = λ i. act p q i.here i.instruction (reaches p f w) f fs in
+      let mf = moved_frame e f in
+      let mfs = map (moved_frame e) fs in
+      let go' : Fetched → Effect = λ i. act p' q i.here i.instruction (reaches p' mf w) mf mfs in
+      let before : act p q old_here old (reaches p f w) f fs ≢ NoRow = λ none. applied (ap (λ o. on_some o go) (fetch_old f hc hk ha) ∙ none) in
+      let after : act p' q new_here e.first (reaches p' mf w) mf mfs ≢ NoRow = acts_alike p p' q old_here new_here (reaches p f w) (reaches p' mf w) f (place_in e f.class f.method f.at) fs mfs old e.first like before in
+      λ none. after (sym (ap (λ o. on_some o go') (fetch_new f hc hk ha)) ∙ none)
