@@ -1,0 +1,15 @@
+mod PoolLaws
+mod Numbered
+mod EntryLaws
+mod CodeLaws
+mod AttrLaws
+mod TableLaws
+mod ClassLaws
+mod FittingUnits
+mod FittingNames
+mod FittingEntries
+mod FittingInsns
+mod FittingCode
+mod FittingMembers
+mod Fitting
+mod SpelledLaws
