@@ -1,5 +1,5 @@
 -- Names that stand twice, by places and as a list, and the least of them.
-use Rattle.std.proofs.Common.{◌≡◌, ◌⊎◌, ◌∙◌, ℕ, zero, suc, ◌+◌, ◌*◌, ◌/◌, ◌%◌, ◌<◌, ◌≤◌, Bool, true, false, List, [], ◌∷◌, ◌++◌, length, Option, Some, None, slice_get, refl, sym, ap, subst, arith, inl, inr, ⊎_elim}
+use Rattle.std.proofs.Common.{◌≡◌, ◌⊎◌, ◌∙◌, ℕ, zero, suc, ◌+◌, ◌/◌, ◌%◌, ◌<◌, Bool, true, false, List, [], ◌∷◌, ◌++◌, Option, Some, None, slice_get, refl, sym, ap, subst, arith, inl, inr, ⊎_elim}
 use Rattle.std.specs.Prelude.{if◌then◌else◌, IsTrue, nat_lt, ◌||◌}
 use Rattle.std.specs.List.{list_any}
 use Rattle.std.specs.declared.cmp.Ordering.{Ordering}
@@ -10,7 +10,6 @@ use Rattle.std.specs.FinMap.{slice_cmp-IsAntisymmetric, nat_cmp-IsAntisymmetric}
 use Rattle.std.proofs.lemmas.Option.{slice_get_within}
 use Rattle.class_model.specs.Text.{text, unit_bytes, is_single}
 use Rattle.machine_rules.specs.Names.{Name, same}
-use Rattle.class_table.specs.declared.fault.TableFault.TheVariants.{Duplicate}
 use Rattle.class_table.specs.Numbers.{is_before, lesser}
 use Rattle.class_table.specs.Table.{place_in, name_or_none, AreDistinct, IsDuplicate, IsLeastDuplicate}
 use Rattle.mutest_engine.specs.Duplicates.{again, least, duplicate_in}

@@ -1,22 +1,21 @@
 -- What a call leaves in the sink and in the tree at its end.
 use Rattle.std.proofs.Common.{◌≡◌, ◌⊎◌, ℕ, List, [], ◌∷◌, ◌++◌, refl, sym, ap, ◌∙◌, inl, inr, subst, ⊎_elim, append_assoc}
-use Rattle.std.specs.Prelude.{Bool, true, false, Option, None, Some, option_map, Result, Ok, Err, IfSome, MatchBool, MatchResult}
-use Rattle.std.specs.Result.{ForErr}
+use Rattle.std.specs.Prelude.{Option, None, Some, option_map, Result, Ok, Err, IfSome, MatchResult}
 use Rattle.std.proofs.lemmas.List.{append-nil}
 use mathlib.Core.List.{IsPrefix}
 use Rattle.mt_edge.specs.Files.{Files}
 use Rattle.mt_edge.specs.Causes.{Rose}
 use Rattle.mt_edge.specs.Pieces.{Grows, GrowsBy}
 use Rattle.mutest_engine.specs.declared.status.Status.{Status}
-use Rattle.mutest_engine.specs.declared.status.Status.TheVariants.{Done, Usage, NotFound, Archive, BadClass, BadProgram, NotGreen, ReadFault, WriteFault, TooMany, MachineCheck, WantOfMemory}
+use Rattle.mutest_engine.specs.declared.status.Status.TheVariants.{Done, Usage, NotFound, Archive, BadClass, BadProgram, NotGreen, ReadFault, WriteFault, TooMany, MachineCheck, WantOfMemory, AsmRefused}
 use Rattle.mutest_engine.specs.declared.status.Output.{Output}
 use Rattle.mutest_engine.specs.declared.status.Output.TheVariants.{Report, History, Output as Printed, Journal, Assembled}
 use Rattle.mutest_engine.specs.declared.answer.Answer.{Answer}
 use Rattle.mutest_engine.specs.StatusText.{line_of}
-use Rattle.mutest_engine.specs.Words.{Command, list_class, run_suite}
+use Rattle.mutest_engine.specs.Words.{Command, list_class, run_suite, assemble_class}
 use Rattle.mutest_engine.specs.Decided.{CanAnswer, CanSay}
-use Rattle.mutest_engine.specs.Answers.{Answered, Write, answered, GivesAnswer, IsReading, IsRefusal, IsWritten, IsWriteFault, Writes, Ends, AgreesUntold}
-use Rattle.mutest_engine.specs.Said.{Got, Broken, HalfRefused, Interrupted, LeavesFault, Leaves, is_same, written, Stopped, Partly, FilesAfter, writes_of_answer}
+use Rattle.mutest_engine.specs.Answers.{Answered, Write, answered, GivesAnswer, IsReading, IsRefusal, IsPut, IsWritten, IsWriteFault, Writes, Ends, AgreesUntold}
+use Rattle.mutest_engine.specs.Said.{Got, Broken, BrokenOff, HalfRefused, Interrupted, LeavesFault, Leaves}
 
 two_pieces : (before : Option (List ℕ)) (p q : List ℕ) → option_map (λ bytes. bytes ++ q) (option_map (λ bytes. bytes ++ p) before) ≡ option_map (λ bytes. bytes ++ (p ++ q)) before
 two_pieces None p q = refl
@@ -42,9 +41,14 @@ pub part_then_part : (before between after : Option (List ℕ)) (text line : Lis
 part_then_part before between after text line cut some =
     record { part = cut.0; rest = some.0; begins = cut.1; refused = some.1; grown = some.2 ∙ ap (option_map (λ bytes. bytes ++ some.0)) cut.2 ∙ two_pieces before cut.0 some.0 }
 
+-- a text that isn't empty was broken off
+pub broken_off : (text : List ℕ) (before after : Option (List ℕ)) → (text ≡ [] → ⊥) → Broken before after text (line_of (WriteFault Printed 1)) → BrokenOff text before after
+broken_off [] before after some broken = some refl
+broken_off (byte ∷ bytes) before after some broken = broken
+
 -- memory ran out while a text was put
-pub cut_text : (before after : Option (List ℕ)) (a : Answered) → GrowsBy before after a.text → Interrupted (Ok a) before after
-cut_text before after a cut = inl (part_then_part before after after a.text (line_of (WriteFault Printed 1)) cut (nothing_of after (line_of (WriteFault Printed 1))))
+pub cut_text : (before after : Option (List ℕ)) (a : Answered) → (a.text ≡ [] → ⊥) → GrowsBy before after a.text → Interrupted (Ok a) before after
+cut_text before after a some cut = inl (broken_off a.text before after some (part_then_part before after after a.text (line_of (WriteFault Printed 1)) cut (nothing_of after (line_of (WriteFault Printed 1)))))
 
 no_part : (part line rest : List ℕ) → part ++ rest ≡ [] → IsPrefix part line
 no_part [] line rest e = (line, refl)
@@ -80,6 +84,7 @@ cut_line before after stated s from some =
     by_reading (WriteFault which faults) q some = absurd q
     by_reading (TooMany what number) q some = absurd q
     by_reading (MachineCheck test class method at) q some = absurd q
+    by_reading (AsmRefused line) q some = absurd q
 
 got_by : (put0 put1 : ℕ) (before after : Option (List ℕ)) (line : List ℕ) → Got put0 put1 before after line → GrowsBy before after line
 got_by put0 put1 before after line said =
@@ -98,6 +103,7 @@ refusal_leaves put0 put1 before after stated (NotGreen tests) q said = said
 refusal_leaves put0 put1 before after stated (ReadFault faults) q said = said
 refusal_leaves put0 put1 before after stated (TooMany what number) q said = said
 refusal_leaves put0 put1 before after stated (MachineCheck test class method at) q said = said
+refusal_leaves put0 put1 before after stated (AsmRefused line) q said = said
 refusal_leaves put0 put1 before after stated WantOfMemory q said = cut_nothing before after stated (got_by put0 put1 before after [] said)
 
 -- a refusal, or memory that ran out while its line was put
@@ -170,15 +176,28 @@ said_of_some (Err e) (Err s) P untold said =
 
 -- ---- what the words alone decide
 
-written_by : (command : Command) (a : Answered) → CanAnswer command a → (which : Output) → IsWritten a.writes which → Writes command which
-written_by (list_class path) a can which is = subst (λ (ws : List Write). IsWritten ws which) (ap (λ (b : Answered). b.writes) can.1) is
-written_by (run_suite suite) a can which is = subst (λ (ws : List Write). IsWritten ws which) (ap (λ (b : Answered). b.writes) can.3) is
+put_is : (text : List ℕ) (which : Output) → IsPut text which → which ≡ Printed
+put_is [] which is = absurd is
+put_is (byte ∷ bytes) which is = is
 
-carried_out : (command : Command) (a : Answered) (end : Status) → CanAnswer command a → (end ≡ Done) ⊎ IsWriteFault a.writes end → Ends command end
+-- a text that isn't empty is put
+pub some_put : (text : List ℕ) → (text ≡ [] → ⊥) → IsPut text Printed
+some_put [] some = some refl
+some_put (byte ∷ bytes) some = refl
+
+written_by : (command : Command) (a : Answered) → CanAnswer command a → (which : Output) → IsWritten a.writes a.text which → Writes command which
+written_by (list_class path) a can which is = put_is a.text which (subst (λ (ws : List Write). IsWritten ws a.text which) (ap (λ (b : Answered). b.writes) can.1) is)
+written_by (run_suite suite) a can which is =
+    ⊎_elim (λ (report : which ≡ Report). inl report) (λ (text : IsPut a.text which). inr (put_is a.text which text)) (subst (λ (ws : List Write). IsWritten ws a.text which) (ap (λ (b : Answered). b.writes) can.3) is)
+written_by (assemble_class asked) a can which is =
+    ⊎_elim (λ (file : which ≡ Assembled). file) (λ (none : ⊥). absurd none) (subst (λ (b : Answered). IsWritten b.writes b.text which) can.4 is)
+
+carried_out : (command : Command) (a : Answered) (end : Status) → CanAnswer command a → (end ≡ Done) ⊎ IsWriteFault a.writes a.text end → Ends command end
 carried_out command a Done can q = tt
-carried_out command a (WriteFault which faults) can q = ⊎_elim (λ (d : WriteFault which faults ≡ Done). absurd cc) (λ (is : IsWritten a.writes which). written_by command a can which is) q
+carried_out command a (WriteFault which faults) can q = ⊎_elim (λ (d : WriteFault which faults ≡ Done). absurd cc) (λ (is : IsWritten a.writes a.text which). written_by command a can which is) q
 carried_out (list_class path) a WantOfMemory can q = tt
 carried_out (run_suite suite) a WantOfMemory can q = tt
+carried_out (assemble_class asked) a WantOfMemory can q = tt
 carried_out command a Usage can q = absurd (⊎_elim (λ (d : Usage ≡ Done). absurd cc) (λ (n : ⊥). n) q)
 carried_out command a (NotFound path) can q = absurd (⊎_elim (λ (d : NotFound path ≡ Done). absurd cc) (λ (n : ⊥). n) q)
 carried_out command a (Archive path) can q = absurd (⊎_elim (λ (d : Archive path ≡ Done). absurd cc) (λ (n : ⊥). n) q)
@@ -188,109 +207,21 @@ carried_out command a (NotGreen tests) can q = absurd (⊎_elim (λ (d : NotGree
 carried_out command a (ReadFault faults) can q = absurd (⊎_elim (λ (d : ReadFault faults ≡ Done). absurd cc) (λ (n : ⊥). n) q)
 carried_out command a (TooMany what number) can q = absurd (⊎_elim (λ (d : TooMany what number ≡ Done). absurd cc) (λ (n : ⊥). n) q)
 carried_out command a (MachineCheck test class method at) can q = absurd (⊎_elim (λ (d : MachineCheck test class method at ≡ Done). absurd cc) (λ (n : ⊥). n) q)
+carried_out command a (AsmRefused line) can q = absurd (⊎_elim (λ (d : AsmRefused line ≡ Done). absurd cc) (λ (n : ⊥). n) q)
 
 lost_untold : (words : Result Command Status) → AgreesUntold words WantOfMemory
 lost_untold (Ok (list_class path)) = tt
 lost_untold (Ok (run_suite suite)) = tt
+lost_untold (Ok (assemble_class asked)) = tt
 lost_untold (Err e) = inr refl
 
+-- a refusal of the words, or want of memory
+pub words_untold : (words : Result Command Status) (s : Status) → (words ≡ Err s) ⊎ (s ≡ WantOfMemory) → AgreesUntold words s
+words_untold words s told =
+    ⊎_elim (λ (is : words ≡ Err s). subst (λ (w : Result Command Status). AgreesUntold w s) (sym is) (inl refl)) (λ (lost : s ≡ WantOfMemory). subst (AgreesUntold words) (sym lost) (lost_untold words)) told
+
 pub untold_by : (words : Result Command Status) (answer : Result Answer Status) (end : Status) → MatchResult answer (λ a. (command : Command) × (words ≡ Ok command) × CanAnswer command (answered a)) (AgreesUntold words)
-    → MatchResult answer (λ a. (end ≡ Done) ⊎ IsWriteFault (answered a).writes end) (λ s. (end ≡ s) ⊎ (end ≡ WantOfMemory)) → AgreesUntold words end
+    → MatchResult answer (λ a. (end ≡ Done) ⊎ IsWriteFault (answered a).writes (answered a).text end) (λ s. (end ≡ s) ⊎ (end ≡ WantOfMemory)) → AgreesUntold words end
 untold_by words (Ok a) end untold status = subst (λ (w : Result Command Status). AgreesUntold w end) (sym untold.1) (carried_out untold.0 (answered a) end untold.2 status)
 untold_by words (Err s) end untold status =
     ⊎_elim (λ (is : end ≡ s). subst (AgreesUntold words) (sym is) untold) (λ (is : end ≡ WantOfMemory). subst (AgreesUntold words) (sym is) (lost_untold words)) status
-
--- ---- the tree
-
--- the named one among writes of which there is one
-is_itself : (which : Output) → is_same which which ≡ true
-is_itself Report = refl
-is_itself History = refl
-is_itself Printed = refl
-is_itself Journal = refl
-is_itself Assembled = refl
-
-abbrev Half : Write → Option Files → Option Files → Type 0
-Half w old new = (new ≡ old) ⊎ (new ≡ written w old)
-
-stopped : (w : Write) (old new : Option Files) → Half w old new → Stopped w.which (w ∷ []) old new
-stopped w old new half = subst (λ (b : Bool). MatchBool b (Half w old new) (new ≡ written w old)) (sym (is_itself w.which)) half
-
-behind_case : (w : Write) (old new : Option Files) (b : Bool) → new ≡ written w old → MatchBool b (Half w old new) (new ≡ written w old)
-behind_case w old new true e = inr e
-behind_case w old new false e = e
-
--- the file stands, and then the text was put or not
-pub replaced_stands : (w : Write) (old new : Option Files) (end : Status) → (end ≡ Done) ⊎ IsWriteFault [] end → new ≡ written w old → FilesAfter (w ∷ []) old new end
-replaced_stands w old new Done q e = e
-replaced_stands w old new (WriteFault which faults) q e = behind_case w old new (is_same which w.which) e
-replaced_stands w old new WantOfMemory q e = inr e
-replaced_stands w old new Usage q e = absurd (⊎_elim (λ (d : Usage ≡ Done). absurd cc) (λ (n : ⊥). n) q)
-replaced_stands w old new (NotFound path) q e = absurd (⊎_elim (λ (d : NotFound path ≡ Done). absurd cc) (λ (n : ⊥). n) q)
-replaced_stands w old new (Archive path) q e = absurd (⊎_elim (λ (d : Archive path ≡ Done). absurd cc) (λ (n : ⊥). n) q)
-replaced_stands w old new (BadClass path fault) q e = absurd (⊎_elim (λ (d : BadClass path fault ≡ Done). absurd cc) (λ (n : ⊥). n) q)
-replaced_stands w old new (BadProgram fault) q e = absurd (⊎_elim (λ (d : BadProgram fault ≡ Done). absurd cc) (λ (n : ⊥). n) q)
-replaced_stands w old new (NotGreen tests) q e = absurd (⊎_elim (λ (d : NotGreen tests ≡ Done). absurd cc) (λ (n : ⊥). n) q)
-replaced_stands w old new (ReadFault faults) q e = absurd (⊎_elim (λ (d : ReadFault faults ≡ Done). absurd cc) (λ (n : ⊥). n) q)
-replaced_stands w old new (TooMany what number) q e = absurd (⊎_elim (λ (d : TooMany what number ≡ Done). absurd cc) (λ (n : ⊥). n) q)
-replaced_stands w old new (MachineCheck test class method at) q e = absurd (⊎_elim (λ (d : MachineCheck test class method at ≡ Done). absurd cc) (λ (n : ⊥). n) q)
-
--- the file couldn't be replaced, or memory ran out then
-pub unreplaced_stands : (w : Write) (old new : Option Files) (s end : Status) → (s ≡ WriteFault w.which 1) ⊎ (s ≡ WantOfMemory) → (end ≡ s) ⊎ (end ≡ WantOfMemory) → Half w old new → FilesAfter (w ∷ []) old new end
-unreplaced_stands w old new s end from same half =
-    let at = λ (e : Status). FilesAfter (w ∷ []) old new e in
-    ⊎_elim
-    (λ (e : end ≡ s).
-    ⊎_elim
-    (λ (f : s ≡ WriteFault w.which 1). subst at (sym (e ∙ f)) (stopped w old new half))
-    (λ (f : s ≡ WantOfMemory). subst at (sym (e ∙ f)) half)
-    from)
-    (λ (lost : end ≡ WantOfMemory). subst at (sym lost) half)
-    same
-
-nothing_stands : (ws : List Write) (old new : Option Files) → new ≡ old → Partly ws old new
-nothing_stands [] old new e = e
-nothing_stands (w ∷ ws) old new e = inl e
-
--- nothing is written at a refusal
-unchanged : (ws : List Write) (old new : Option Files) (s : Status) → IsRefusal s → new ≡ old → FilesAfter ws old new s
-unchanged ws old new Done q e = absurd q
-unchanged ws old new (WriteFault which faults) q e = absurd q
-unchanged ws old new Usage q e = e
-unchanged ws old new (NotFound path) q e = e
-unchanged ws old new (Archive path) q e = e
-unchanged ws old new (BadClass path fault) q e = e
-unchanged ws old new (BadProgram fault) q e = e
-unchanged ws old new (NotGreen tests) q e = e
-unchanged ws old new (ReadFault faults) q e = e
-unchanged ws old new (TooMany what number) q e = e
-unchanged ws old new (MachineCheck test class method at) q e = e
-unchanged ws old new WantOfMemory q e = nothing_stands ws old new e
-
--- nothing is written where no file is replaced
-pub tree_stays : (old new : Option Files) (end : Status) → (end ≡ Done) ⊎ IsWriteFault [] end → new ≡ old → FilesAfter [] old new end
-tree_stays old new Done q e = e
-tree_stays old new (WriteFault which faults) q e = e
-tree_stays old new WantOfMemory q e = e
-tree_stays old new Usage q e = e
-tree_stays old new (NotFound path) q e = e
-tree_stays old new (Archive path) q e = e
-tree_stays old new (BadClass path fault) q e = e
-tree_stays old new (BadProgram fault) q e = e
-tree_stays old new (NotGreen tests) q e = e
-tree_stays old new (ReadFault faults) q e = e
-tree_stays old new (TooMany what number) q e = e
-tree_stays old new (MachineCheck test class method at) q e = e
-
-refused_end : (ws : List Write) (old new : Option Files) (s end : Status) → IsRefusal s → (end ≡ s) ⊎ (end ≡ WantOfMemory) → new ≡ old → FilesAfter ws old new end
-refused_end ws old new s end q same e =
-    let at = λ (r : Status). FilesAfter ws old new r in
-    ⊎_elim (λ (is : end ≡ s). subst at (sym is) (unchanged ws old new s q e)) (λ (is : end ≡ WantOfMemory). subst at (sym is) (nothing_stands ws old new e)) same
-
--- what the tree holds at the end, said of what the files decide
-pub files_by : (held new : Option Files) (stated : Files → Result Answered Status) (answer : Result Answer Status) (end : Status) → IfSome held (λ files. GivesAnswer (stated files) answer) → ForErr answer IsRefusal
-    → MatchResult answer (λ a. (end ≡ Done) ⊎ IsWriteFault (answered a).writes end) (λ s. (end ≡ s) ⊎ (end ≡ WantOfMemory))
-    → MatchResult answer (λ a. FilesAfter (answered a).writes held new end) (λ s. new ≡ held) → IfSome held (λ files. FilesAfter (writes_of_answer (stated files)) (Some files) new end)
-files_by None new stated answer end told refusal status tree = tt
-files_by (Some files) new stated (Ok a) end told refusal status tree = subst (λ (r : Result Answered Status). FilesAfter (writes_of_answer r) (Some files) new end) (sym told) tree
-files_by (Some files) new stated (Err s) end told refusal status tree = refused_end (writes_of_answer (stated files)) (Some files) new s end (refusal s refl) status tree

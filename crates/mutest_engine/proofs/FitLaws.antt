@@ -1,5 +1,5 @@
 -- Each mutant of a suite's classes has an edit that its class takes.
-use Rattle.std.proofs.Common.{◌≡◌, ◌∙◌, ℕ, zero, suc, ◌+◌, Bool, true, false, List, [], ◌∷◌, ◌++◌, map, take, Option, Some, None, Result, Ok, Err, refl, sym, ap, subst}
+use Rattle.std.proofs.Common.{◌≡◌, ◌∙◌, ℕ, zero, suc, ◌+◌, Bool, true, false, List, [], ◌∷◌, ◌++◌, map, take, Option, Some, None, Ok, refl, sym, ap, subst}
 use Rattle.std.specs.Prelude.{All, IfSome, if◌then◌else◌, ◌||◌, unwrap_or}
 use Rattle.std.specs.List.{AllByRecursion, list_any, flat_map, fold}
 use Rattle.std.specs.declared.cmp.Ordering.{Ordering}
@@ -30,7 +30,6 @@ use Rattle.mutant_runs.specs.Programs.{ClassFiles, IsMutantOf}
 use Rattle.mutest_engine.specs.Duplicates.{again, least, duplicate_in}
 use Rattle.mutest_engine.specs.Originals.{classes_in, names_in, unless_twice, accepted, ordered}
 use Rattle.mutest_engine.specs.Mutation.{mutants_by_name, mutants_among, class_file}
-use Rattle.mutest_engine.specs.declared.status.Status.{Status}
 
 -- ---- lists
 

@@ -1,13 +1,11 @@
 -- What the runs on a suite's program say is said of the suite.
-use Rattle.std.proofs.Common.{◌≡◌, ◌⊎◌, ◌∙◌, ℕ, ◌+◌, List, [], ◌∷◌, map, take, drop, length, Result, Ok, Err, refl, sym, ap, subst, inl, inr, ⊎_elim}
-use Rattle.std.specs.Prelude.{All}
-use Rattle.machine_rules.specs.Names.{Name}
+use Rattle.std.proofs.Common.{◌≡◌, ◌⊎◌, ◌∙◌, ℕ, List, [], map, take, drop, length, Result, Ok, Err, refl, sym, ap, inl, inr, ⊎_elim}
 use Rattle.machine_rules.specs.Programs.{Look}
 use Rattle.class_table.specs.declared.loaded.Loaded.{Loaded}
 use Rattle.class_table.specs.declared.scripted.Test.{Test}
 use Rattle.mutator_ops.specs.declared.mutant.Mutant.{Mutant}
 use Rattle.mutator_ops.specs.declared.mutant.Verdict.{Verdict}
-use Rattle.mutant_runs.specs.Programs.{ClassFiles, IsMutantOf}
+use Rattle.mutant_runs.specs.Programs.{ClassFiles}
 use Rattle.report_schema.specs.FileKey.{file_key}
 use Rattle.report_schema.specs.declared.input.ReportInput.{ReportInput}
 use Rattle.mutest_engine.specs.Answers.{and_then, IsReading}

@@ -1,3 +1,4 @@
+mod AsmLaws
 mod DuplicateLaws
 mod Ends
 mod FileLaws

@@ -1,7 +1,6 @@
 -- The original runs one after the other, as a loop does, and their steps.
-use Rattle.std.proofs.Common.{◌≡◌, ◌⊎◌, ◌∙◌, ℕ, zero, suc, ◌+◌, ◌*◌, ◌<◌, ◌≤◌, List, [], ◌∷◌, ◌++◌, length, drop, get_or, subst, inl, inr, ⊎_elim, Option, Some, None, Result, Ok, Err, refl, sym, ap, arith}
+use Rattle.std.proofs.Common.{◌≡◌, ◌⊎◌, ◌∙◌, ℕ, zero, suc, ◌+◌, ◌*◌, ◌<◌, ◌≤◌, List, [], ◌∷◌, length, drop, get_or, subst, inl, inr, ⊎_elim, Result, Ok, Err, refl, sym, ap, arith}
 use Rattle.std.specs.Prelude.{OnErr, MatchResult}
-use Rattle.machine_rules.specs.declared.machine.Outcome.{Outcome}
 use Rattle.machine_rules.specs.declared.machine.Outcome.TheVariants as outcome
 use Rattle.machine_rules.specs.declared.machine.Limits.{Limits}
 use Rattle.machine_rules.specs.Programs.{Look}
@@ -10,8 +9,7 @@ use Rattle.machine_rules.specs.Steps.{Stepped, Next, Ended, Stuck, step_of}
 use Rattle.machine_rules.specs.Runs.{Ending, With, StuckAt, Ran, then_run, run_from, run_of}
 use Rattle.class_table.specs.declared.scripted.Test.{Test}
 use Rattle.jvm_step.specs.View.{test_of}
-use Rattle.mutest_engine.specs.Answers.{and_then}
-use Rattle.mutest_engine.specs.Originals.{usual, original_run, settled, with_first, all_settled, unless_stuck, steps_made}
+use Rattle.mutest_engine.specs.Originals.{usual, original_run, settled, unless_stuck, steps_made}
 use Rattle.mutest_engine.specs.declared.status.Status.{Status}
 use Rattle.mutest_engine.specs.declared.status.Status.TheVariants.{WantOfMemory}
 

@@ -1,10 +1,10 @@
 -- A program that was built is the program of its classes by name.
-use Rattle.std.proofs.Common.{◌≡◌, ◌∙◌, sym, refl, ap, ℕ, zero, suc, ◌+◌, ◌<◌, Bool, true, false, List, [], ◌∷◌, ◌++◌, map, length, Option, None, Some, slice_get, arith, IsSomeAnd}
+use Rattle.std.proofs.Common.{◌≡◌, ◌∙◌, refl, ap, ℕ, suc, ◌+◌, Bool, true, false, List, [], ◌∷◌, ◌++◌, map, Option, Some, slice_get, arith}
 use Rattle.std.specs.Prelude.{if◌then◌else◌, option_and_then}
 use Rattle.std.specs.Option.{option_map}
 use Rattle.machine_rules.specs.Names.{Name, same}
 use Rattle.machine_rules.specs.Linked.{Linked}
-use Rattle.machine_rules.specs.Library.{class_among, first_of, library_classes, with_library}
+use Rattle.machine_rules.specs.Library.{class_among, first_of, library_classes}
 use Rattle.class_table.specs.declared.loaded.Loaded.{Loaded}
 use Rattle.class_table.specs.declared.loaded.LibClass.{LibClass}
 use Rattle.class_table.specs.declared.loaded.ClassBody.{ClassBody}

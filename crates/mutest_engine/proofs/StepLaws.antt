@@ -1,25 +1,24 @@
 -- The steps of all runs on a suite: their bound, and what is counted where a run ends all.
-use Rattle.std.proofs.Common.{◌≡◌, ◌⊎◌, ◌∙◌, ℕ, zero, suc, ◌+◌, ◌*◌, ◌/◌, ◌<◌, ◌≤◌, List, [], ◌∷◌, map, length, Option, Some, None, Result, Ok, Err, refl, sym, ap, subst, inl, inr, ⊎_elim, arith}
-use Rattle.std.specs.Prelude.{All, sum_by}
-use Rattle.std.specs.List.{AllByRecursion, zip}
+use Rattle.std.proofs.Common.{◌≡◌, ◌⊎◌, ◌∙◌, ℕ, suc, ◌+◌, ◌*◌, ◌≤◌, List, [], ◌∷◌, map, length, Option, Some, None, Result, Ok, Err, refl, sym, ap, subst, inl, inr, ⊎_elim, arith}
+use Rattle.std.specs.Prelude.{All}
+use Rattle.std.specs.List.{AllByRecursion}
 use Rattle.std.proofs.lemmas.List.Elements.{All-from_recursion}
 use Rattle.std.proofs.lemmas.List.Sums.{sum_by-cons}
 use Rattle.std.specs.Option.{option_map, option_map_or}
 use Rattle.machine_rules.specs.declared.machine.Limits.{Limits}
 use Rattle.machine_rules.specs.Programs.{Look}
-use Rattle.machine_rules.specs.Runs.{Ran, run_of, limit_of}
+use Rattle.machine_rules.specs.Runs.{Ran, limit_of}
 use Rattle.class_table.specs.declared.scripted.Test.{Test}
-use Rattle.jvm_step.specs.View.{test_of}
 use Rattle.mutator_ops.specs.declared.mutant.Mutant.{Mutant}
 use Rattle.mutator_ops.specs.declared.mutant.Verdict.{Verdict}
 use Rattle.mutant_runs.specs.Programs.{ClassFiles, edited}
-use Rattle.mutant_runs.specs.Runs.{Timed, timed, mutant_run, runs_on, steps_in, most_steps}
-use Rattle.mutant_runs.specs.Verdicts.{verdict_of, mutant_runs, steps_on, steps_of_all}
+use Rattle.mutant_runs.specs.Runs.{timed, mutant_run, runs_on, steps_in, most_steps}
+use Rattle.mutant_runs.specs.Verdicts.{verdict_of, steps_on, steps_of_all}
 use Rattle.mutest_engine.specs.Answers.{and_then, IsReading, IsOfRuns}
-use Rattle.mutest_engine.specs.Originals.{usual, original_run, original_steps, green, steps_made}
+use Rattle.mutest_engine.specs.Originals.{usual, original_steps, green, steps_made}
 use Rattle.mutest_engine.specs.Mutation.{timed_tests, verdicts_by, if_so, all_steps}
 use Rattle.mutest_engine.specs.declared.status.Status.{Status}
-use Rattle.mutest_engine.specs.declared.status.Status.TheVariants.{Done, Usage, NotFound, Archive, BadClass, BadProgram, NotGreen, ReadFault, WriteFault, TooMany, MachineCheck, WantOfMemory}
+use Rattle.mutest_engine.specs.declared.status.Status.TheVariants.{Done, Usage, NotFound, Archive, BadClass, BadProgram, NotGreen, ReadFault, WriteFault, TooMany, MachineCheck, WantOfMemory, AsmRefused}
 use Rattle.mutest_engine.proofs.OriginalLaws.{of_most, original_most, made_most}
 
 -- ---- one test
@@ -121,6 +120,7 @@ lost (ReadFault faults) q r = absurd r
 lost (WriteFault which faults) q r = absurd q
 lost (TooMany what number) q r = absurd q
 lost (MachineCheck test class method at) q r = absurd q
+lost (AsmRefused line) q r = absurd q
 
 -- The steps that are counted where the runs on the program as it is end all.
 pub originals_end : (files : ClassFiles) (p : Look) (ts : List Test) (ms : List Mutant) (part : ℕ) (s : Status) → (and_then (green p ts) (λ ok. Ok (original_steps p ts)) ≡ Err s) ⊎ IsReading s → IsOfRuns s

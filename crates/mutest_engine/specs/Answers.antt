@@ -6,16 +6,20 @@ use Rattle.class_model.specs.declared.class.Class.{Class}
 use Rattle.class_model.specs.declared.fault.ClassFault.{ClassFault}
 use Rattle.class_model.specs.declared.fault.ClassFault.TheVariants as class_fault
 use Rattle.class_reader.specs.Reading.{class_of_file}
+use Rattle.class_asm.specs.Assembled.{AssembledClass}
+use Rattle.class_asm.specs.declared.fault.AsmFault.TheVariants as asm_fault
 use Rattle.mt_edge.specs.Files.{Files}
 use Rattle.class_table.specs.declared.fault.TableFault.TheVariants as table
-use Rattle.mutest_engine.specs.Words.{Command, list_class, run_suite}
+use Rattle.mutest_engine.specs.Words.{Command, list_class, run_suite, assemble_class}
 use Rattle.mutest_engine.specs.declared.answer.Answer.{Answer}
-use Rattle.mutest_engine.specs.declared.answer.Report.{Report}
+use Rattle.mutest_engine.specs.declared.answer.Product.{Product}
+use Rattle.mutest_engine.specs.declared.answer.Product.TheVariants as product
+use Rattle.mutest_engine.specs.declared.answer.Replaced.{Replaced}
 use Rattle.mutest_engine.specs.declared.status.ProgramFault.{ProgramFault}
 use Rattle.mutest_engine.specs.declared.status.ProgramFault.TheVariants.{Table}
 use Rattle.mutest_engine.specs.declared.status.Limit.{Limit}
 use Rattle.mutest_engine.specs.declared.status.Status.{Status}
-use Rattle.mutest_engine.specs.declared.status.Status.TheVariants.{Done, Usage, NotFound, Archive, BadClass, BadProgram, NotGreen, ReadFault, WriteFault, TooMany, MachineCheck, WantOfMemory}
+use Rattle.mutest_engine.specs.declared.status.Status.TheVariants.{Done, Usage, NotFound, Archive, BadClass, BadProgram, NotGreen, ReadFault, WriteFault, TooMany, MachineCheck, WantOfMemory, AsmRefused}
 use Rattle.mutest_engine.specs.declared.status.Output.{Output}
 use Rattle.mutest_engine.specs.declared.status.Output.TheVariants as output
 use Rattle.mutest_engine.specs.declared.status.Limit.TheVariants as limit
@@ -51,11 +55,15 @@ abbrev pub file_of : List ℕ → Files → Result (List ℕ) Status
 file_of path files = held_at path (get files path)
 
 -- the answer that the code has
-abbrev pub write_of : Report → Write
-write_of r = record { which = output.Report; path = r.path.now; bytes = r.bytes }
+abbrev pub output_of : Product → Output
+output_of product.Report = output.Report
+output_of product.Assembled = output.Assembled
+
+abbrev pub write_of : Replaced → Write
+write_of r = record { which = output_of r.product; path = r.path.now; bytes = r.bytes }
 
 abbrev pub answered : Answer → Answered
-answered a = record { writes = option_to_list (option_map write_of a.report); text = a.text }
+answered a = record { writes = option_to_list (option_map write_of a.replaced); text = a.text }
 
 -- how a fault of a file is refused
 abbrev pub refusal_of : List ℕ → ClassFault → Status
@@ -86,6 +94,7 @@ IsReading (WriteFault which faults) = ⊥
 IsReading (TooMany what number) = ⊥
 IsReading (MachineCheck test class method at) = ⊥
 IsReading WantOfMemory = Unit {0}
+IsReading (AsmRefused line) = ⊥
 
 -- a step of the code gives what is stated, unless reading failed or memory ran out
 abbrev pub Gives : {X : Type 0} → Result X Status → Result X Status → Type 0
@@ -131,11 +140,13 @@ IsRefusal (ReadFault faults) = Unit {0}
 IsRefusal (TooMany what number) = IsPassed what number
 IsRefusal (MachineCheck test class method at) = Unit {0}
 IsRefusal WantOfMemory = Unit {0}
+IsRefusal (AsmRefused line) = Unit {0}
 
--- those of them that the words don't decide
+-- those of them that neither the words nor a text decides
 abbrev pub IsLater : Status → Type 0
 IsLater Usage = ⊥
 IsLater (Archive path) = ⊥
+IsLater (AsmRefused line) = ⊥
 IsLater s = IsRefusal s
 
 -- those of them that don't come of the tree
@@ -153,6 +164,12 @@ IsOfFile path (ReadFault faults) = Unit {0}
 IsOfFile path WantOfMemory = Unit {0}
 IsOfFile path s = ⊥
 
+-- those of them that come of a text: it is read as a class file is, and then it states a class, or there is a first line at fault
+abbrev pub IsOfText : List ℕ → Status → Type 0
+IsOfText path (AsmRefused line) = (text : List ℕ) × (AssembledClass text ≡ Err (asm_fault.Line line))
+IsOfText path (BadClass p e) = ⊥
+IsOfText path s = IsOfFile path s
+
 -- those of them that come of runs
 abbrev pub IsOfRuns : Status → Type 0
 IsOfRuns (NotGreen tests) = Unit {0}
@@ -160,38 +177,45 @@ IsOfRuns (MachineCheck test class method at) = Unit {0}
 IsOfRuns WantOfMemory = Unit {0}
 IsOfRuns s = ⊥
 
+-- the sink, where there is something to put
+abbrev pub IsPut : List ℕ → Output → Type 0
+IsPut [] which = ⊥
+IsPut (byte ∷ bytes) which = which ≡ output.Output
+
 -- one of the files that are replaced, or the sink
-abbrev pub IsWritten : List Write → Output → Type 0
-IsWritten [] which = which ≡ output.Output
-IsWritten (w ∷ ws) which = (which ≡ w.which) ⊎ IsWritten ws which
+abbrev pub IsWritten : List Write → List ℕ → Output → Type 0
+IsWritten [] text which = IsPut text which
+IsWritten (w ∷ ws) text which = (which ≡ w.which) ⊎ IsWritten ws text which
 
 -- how the carrying out of an answer may fail
-abbrev pub IsWriteFault : List Write → Status → Type 0
-IsWriteFault ws (WriteFault which faults) = IsWritten ws which
-IsWriteFault ws WantOfMemory = Unit {0}
-IsWriteFault ws s = ⊥
+abbrev pub IsWriteFault : List Write → List ℕ → Status → Type 0
+IsWriteFault ws text (WriteFault which faults) = IsWritten ws text which
+IsWriteFault ws text WantOfMemory = Unit {0}
+IsWriteFault ws text s = ⊥
 
 -- a fault of writing comes only where there is something to write
-abbrev pub IsFault : List Write → Status → Type 0
-IsFault ws (WriteFault which faults) = IsWritten ws which
-IsFault ws s = IsReading s
+abbrev pub IsFault : List Write → List ℕ → Status → Type 0
+IsFault ws text (WriteFault which faults) = IsWritten ws text which
+IsFault ws text s = IsReading s
 
 -- The status is the stated one. In its place there may be a fault of reading or want of memory, and a fault of writing where the command is carried out.
 abbrev pub Agrees : Result Answered Status → Status → Type 0
-Agrees (Ok answered) s = (s ≡ Done) ⊎ IsFault answered.writes s
+Agrees (Ok answered) s = (s ≡ Done) ⊎ IsFault answered.writes answered.text s
 Agrees (Err e) s = (s ≡ e) ⊎ IsReading s
 
 -- what a command writes
 abbrev pub Writes : Command → Output → Type 0
 Writes (list_class path) which = which ≡ output.Output
 Writes (run_suite suite) which = (which ≡ output.Report) ⊎ (which ≡ output.Output)
+Writes (assemble_class assembly) which = which ≡ output.Assembled
 
--- How a call of a command may end, whatever the tree holds: with no refusal of the words, with those of its file alone for a listing, and with a fault of writing only of what the command writes.
+-- How a call of a command may end, whatever the tree holds: with no refusal of the words, with those of its file alone for a listing and for a text, and with a fault of writing only of what the command writes.
 abbrev pub Ends : Command → Status → Type 0
 Ends command Done = Unit {0}
 Ends command (WriteFault which faults) = Writes command which
 Ends (list_class path) s = IsOfFile path s
 Ends (run_suite suite) s = IsLater s
+Ends (assemble_class assembly) s = IsOfText assembly.text s
 
 -- Whatever the tree holds, the refusals of the words come exactly where the words say so.
 abbrev pub AgreesUntold : Result Command Status → Status → Type 0

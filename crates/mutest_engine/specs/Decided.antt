@@ -1,20 +1,24 @@
 -- What the words of the command line and the files that are held decide: each command's answer, and the steps that it takes (this project's own).
 use Rattle.std.specs.Prelude.{◌≡◌, ℕ, ◌+◌, ◌≤◌, List, [], ◌∷◌, Result, Ok, Err}
 use Rattle.class_model.specs.declared.class.Class.{Class}
+use Rattle.class_reader.specs.Spells.{class_bytes, IsClass}
+use Rattle.class_asm.specs.Assembled.{AssembledClass}
+use Rattle.class_asm.specs.declared.fault.AsmFault.{AsmFault}
+use Rattle.class_asm.specs.declared.fault.AsmFault.TheVariants as asm_fault
 use Rattle.mt_edge.specs.Files.{Files}
 use Rattle.mutator_ops.specs.Mutants.{class_mutants}
 use Rattle.mutator_ops.specs.Printing.{id_lines}
 use Rattle.report_schema.specs.Report.{ReportText}
 use Rattle.report_schema.specs.Summary.{Summary}
 use Rattle.report_schema.specs.declared.input.ReportInput.{ReportInput}
-use Rattle.mutest_engine.specs.Words.{Command, list_class, run_suite, Suite, words_of}
+use Rattle.mutest_engine.specs.Words.{Command, list_class, run_suite, assemble_class, Assembly, Suite, words_of}
 use Rattle.mutest_engine.specs.Answers.{Answered, and_then, file_of, spelled_class, Ends}
 use Rattle.mutest_engine.specs.SuiteFiles.{suite_of}
 use Rattle.mutest_engine.specs.Mutation.{judged, suite_steps}
 use Rattle.mutest_engine.specs.declared.suite.LoadedSuite.{LoadedSuite}
 use Rattle.mutest_engine.specs.declared.status.Status.{Status}
-use Rattle.mutest_engine.specs.declared.status.Status.TheVariants.{Usage, NotFound, Archive, BadClass, BadProgram, ReadFault, TooMany, WantOfMemory}
-use Rattle.mutest_engine.specs.declared.status.Output.TheVariants.{Report}
+use Rattle.mutest_engine.specs.declared.status.Status.TheVariants.{Usage, NotFound, Archive, BadClass, BadProgram, ReadFault, TooMany, WantOfMemory, AsmRefused}
+use Rattle.mutest_engine.specs.declared.status.Output.TheVariants.{Report, Assembled}
 
 -- ---- answers
 
@@ -32,9 +36,23 @@ report_answer path input = record { writes = record { which = Report; path = pat
 abbrev pub run_answer : Suite → Files → Result Answered Status
 run_answer suite files = and_then (suite_of suite.classes suite.tests files) (λ loaded. and_then (judged loaded) (λ input. Ok (report_answer suite.report input)))
 
+-- the class that a text states, or its first line at fault
+abbrev pub or_refused : Result Class AsmFault → Result Class Status
+or_refused (Ok class) = Ok class
+or_refused (Err (asm_fault.Line line)) = Err (AsmRefused line)
+or_refused (Err asm_fault.Memory) = Err WantOfMemory
+
+-- The spelling of the class is written, and nothing is put.
+abbrev pub assembly : List ℕ → Class → Answered
+assembly path class = record { writes = record { which = Assembled; path = path; bytes = class_bytes class } ∷ []; text = [] }
+
+abbrev pub asm_answer : Assembly → Files → Result Answered Status
+asm_answer asked files = and_then (file_of asked.text files) (λ text. and_then (or_refused (AssembledClass text)) (λ class. Ok (assembly asked.out class)))
+
 abbrev pub answer_to : Command → Files → Result Answered Status
 answer_to (list_class path) files = list_answer path files
 answer_to (run_suite suite) files = run_answer suite files
+answer_to (assemble_class asked) files = asm_answer asked files
 
 -- What the words and the files decide.
 abbrev pub answer_of : List (List ℕ) → Files → Result Answered Status
@@ -42,10 +60,11 @@ answer_of words files = and_then (words_of words) (λ command. answer_to command
 
 -- ---- answers where the tree doesn't tell its files
 
--- The answer is that of some class, or of some suite whose tests pass.
+-- The answer is that of some class, of some suite whose tests pass, or of some text that states a class, which then is one of the standard's form: the bytes spell it.
 abbrev pub CanAnswer : Command → Answered → Type 0
 CanAnswer (list_class path) a = (class : Class) × (a ≡ listing class)
 CanAnswer (run_suite suite) a = (s : LoadedSuite) × (input : ReportInput) × (judged s ≡ Ok input) × (a ≡ report_answer suite.report input)
+CanAnswer (assemble_class asked) a = (text : List ℕ) × (class : Class) × (AssembledClass text ≡ Ok class) × IsClass class × (a ≡ assembly asked.out class)
 
 -- What may be said: the refusal of the words, or an answer or a refusal of the command.
 abbrev pub CanSay : Result Command Status → Result Answered Status → Type 0
@@ -63,6 +82,7 @@ steps_with (Err status) = 0
 abbrev pub steps_to : Result Command Status → Files → ℕ
 steps_to (Ok (list_class path)) files = 0
 steps_to (Ok (run_suite suite)) files = steps_with (suite_of suite.classes suite.tests files)
+steps_to (Ok (assemble_class asked)) files = 0
 steps_to (Err status) files = 0
 
 abbrev pub steps_of : List (List ℕ) → Files → ℕ
@@ -83,4 +103,5 @@ MeterStays before after (BadClass path fault) = after ≡ before
 MeterStays before after (BadProgram fault) = after ≡ before
 MeterStays before after (ReadFault faults) = after ≡ before
 MeterStays before after (TooMany what number) = after ≡ before
+MeterStays before after (AsmRefused line) = after ≡ before
 MeterStays before after s = before ≤ after

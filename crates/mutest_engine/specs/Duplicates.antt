@@ -1,5 +1,5 @@
 -- Names that stand twice, and the least of names (this project's own).
-use Rattle.std.specs.Prelude.{ℕ, List, [], ◌∷◌, Option, Some, None, if◌then◌else◌}
+use Rattle.std.specs.Prelude.{List, [], ◌∷◌, Option, Some, None, if◌then◌else◌}
 use Rattle.std.specs.List.{list_any}
 use Rattle.class_table.specs.Numbers.{lesser}
 use Rattle.machine_rules.specs.Names.{Name, same}

@@ -1,9 +1,9 @@
 -- The mutants of a suite, every test on every mutant, and what is written of them (this project's own).
-use Rattle.std.specs.Prelude.{ℕ, ◌+◌, nat_lt, List, [], ◌∷◌, map, take, length, Option, Some, None, Result, Ok, Err, if◌then◌else◌}
+use Rattle.std.specs.Prelude.{ℕ, ◌+◌, nat_lt, List, [], ◌∷◌, map, take, length, Some, None, Result, Ok, Err, if◌then◌else◌}
 use Rattle.std.specs.List.{flat_map}
 use Rattle.class_model.specs.Text.{text}
 use Rattle.class_model.specs.declared.class.Class.{Class}
-use Rattle.machine_rules.specs.Names.{Name, same}
+use Rattle.machine_rules.specs.Names.{same}
 use Rattle.machine_rules.specs.Programs.{Look}
 use Rattle.class_table.specs.Info.{own_name}
 use Rattle.class_table.specs.declared.scripted.Test.{Test}

@@ -8,7 +8,7 @@ use Rattle.mt_edge.specs.Pieces.{Grows, GrowsBy}
 use Rattle.mutest_engine.specs.StatusText.{line_of}
 use Rattle.mutest_engine.specs.Answers.{Answered, Write}
 use Rattle.mutest_engine.specs.declared.status.Status.{Status}
-use Rattle.mutest_engine.specs.declared.status.Status.TheVariants.{Done, Usage, NotFound, Archive, BadClass, BadProgram, NotGreen, ReadFault, WriteFault, TooMany, MachineCheck, WantOfMemory}
+use Rattle.mutest_engine.specs.declared.status.Status.TheVariants.{Done, Usage, NotFound, Archive, BadClass, BadProgram, NotGreen, ReadFault, WriteFault, TooMany, MachineCheck, WantOfMemory, AsmRefused}
 use Rattle.mutest_engine.specs.declared.status.Output.{Output}
 use Rattle.mutest_engine.specs.declared.status.Output.TheVariants.{Report, History, Output as Printed, Journal, Assembled}
 
@@ -31,10 +31,15 @@ abbrev pub HalfRefused : List Write → Option (List ℕ) → Option (List ℕ) 
 HalfRefused [] before after = ⊥
 HalfRefused (w ∷ ws) before after = GrowsBy before after (line_of (WriteFault w.which 1)) ⊎ HalfRefused ws before after
 
+-- a text was broken off, where there is one, and behind it there may be a beginning of the refusal of a failed output
+abbrev pub BrokenOff : List ℕ → Option (List ℕ) → Option (List ℕ) → Type 0
+BrokenOff [] before after = ⊥
+BrokenOff (byte ∷ bytes) before after = Broken before after (byte ∷ bytes) (line_of (WriteFault Printed 1))
+
 -- Memory ran out: a beginning of what would have been said. That is the text of the command, with the refusal of a failed output behind it; the refusal of a file that couldn't be replaced; the line of
 -- the stated refusal; or that of a fault of reading.
 abbrev pub Interrupted : Result Answered Status → Option (List ℕ) → Option (List ℕ) → Type 0
-Interrupted (Ok answered) before after = Broken before after answered.text (line_of (WriteFault Printed 1)) ⊎ (HalfRefused answered.writes before after ⊎ GrowsBy before after (line_of (ReadFault 1)))
+Interrupted (Ok answered) before after = BrokenOff answered.text before after ⊎ (HalfRefused answered.writes before after ⊎ GrowsBy before after (line_of (ReadFault 1)))
 Interrupted (Err e) before after = GrowsBy before after (line_of e) ⊎ GrowsBy before after (line_of (ReadFault 1))
 
 abbrev pub text_of : Result Answered Status → List ℕ
@@ -63,6 +68,7 @@ Leaves put0 put1 before after stated (NotGreen tests) = Got put0 put1 before aft
 Leaves put0 put1 before after stated (ReadFault faults) = Got put0 put1 before after (line_of (ReadFault faults))
 Leaves put0 put1 before after stated (TooMany what number) = Got put0 put1 before after (line_of (TooMany what number))
 Leaves put0 put1 before after stated (MachineCheck test class method at) = Got put0 put1 before after (line_of (MachineCheck test class method at))
+Leaves put0 put1 before after stated (AsmRefused line) = Got put0 put1 before after (line_of (AsmRefused line))
 
 -- ---- the tree
 
@@ -104,6 +110,7 @@ FilesAfter ws old new (NotGreen tests) = new ≡ old
 FilesAfter ws old new (ReadFault faults) = new ≡ old
 FilesAfter ws old new (TooMany what number) = new ≡ old
 FilesAfter ws old new (MachineCheck test class method at) = new ≡ old
+FilesAfter ws old new (AsmRefused line) = new ≡ old
 
 abbrev pub writes_of_answer : Result Answered Status → List Write
 writes_of_answer (Ok answered) = answered.writes

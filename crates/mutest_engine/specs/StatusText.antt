@@ -1,5 +1,5 @@
 -- What is told of each status: its number, which is the exit status, and the line that a refusal puts (this project's own).
-use Rattle.std.specs.Prelude.{ℕ, List, [], ◌∷◌, ◌++◌, codes, decimal, Option, Some, None}
+use Rattle.std.specs.Prelude.{ℕ, List, [], ◌++◌, codes, decimal, Option, Some, None}
 use Rattle.std.specs.List.{flat_map}
 use Rattle.machine_rules.specs.declared.machine.Outcome.{Outcome}
 use Rattle.machine_rules.specs.declared.machine.Outcome.TheVariants as outcome
@@ -10,7 +10,7 @@ use Rattle.class_table.specs.declared.fault.TableFault.TheVariants as table
 use Rattle.mutest_engine.specs.declared.status.ProgramFault.{ProgramFault}
 use Rattle.mutest_engine.specs.declared.status.ProgramFault.TheVariants as program
 use Rattle.mutest_engine.specs.declared.status.Status.{Status}
-use Rattle.mutest_engine.specs.declared.status.Status.TheVariants.{Done, Usage, NotFound, Archive, BadClass, BadProgram, NotGreen, ReadFault, WriteFault, TooMany, MachineCheck, WantOfMemory}
+use Rattle.mutest_engine.specs.declared.status.Status.TheVariants.{Done, Usage, NotFound, Archive, BadClass, BadProgram, NotGreen, ReadFault, WriteFault, TooMany, MachineCheck, WantOfMemory, AsmRefused}
 use Rattle.mutest_engine.specs.declared.status.Output.{Output}
 use Rattle.mutest_engine.specs.declared.status.Output.TheVariants as output
 use Rattle.mutest_engine.specs.declared.status.Limit.{Limit}
@@ -29,6 +29,7 @@ status_number (WriteFault which faults) = 11
 status_number (TooMany what number) = 12
 status_number (MachineCheck test class method at) = 13
 status_number WantOfMemory = 14
+status_number (AsmRefused line) = 15
 
 abbrev pub output_name : Output → List ℕ
 output_name output.Report = codes "report"
@@ -84,3 +85,4 @@ line_of (WriteFault which faults) = codes "mutest: WriteFault " ++ output_name w
 line_of (TooMany what number) = codes "mutest: TooMany " ++ limit_name what ++ codes " " ++ decimal number ++ codes "\n"
 line_of (MachineCheck test class method at) = codes "mutest: MachineCheck " ++ test ++ codes " " ++ printed class ++ codes " " ++ printed method ++ codes " " ++ decimal at ++ codes "\n"
 line_of WantOfMemory = []
+line_of (AsmRefused line) = codes "mutest: AsmRefused " ++ decimal line ++ codes "\n"

@@ -1,6 +1,5 @@
 -- What the command `run` reads: the class files of two folders, in the order in which refusals come (this project's own).
 use Rattle.std.specs.Prelude.{ℕ, ◌+◌, List, [], ◌∷◌, ◌++◌, Bool, nat_lt, ◌==◌, if◌then◌else◌, length, filter, codes, Result, Ok, Err}
-use Rattle.class_model.specs.declared.class.Class.{Class}
 use Rattle.class_table.specs.declared.loaded.Loaded.{Loaded}
 use Rattle.mt_edge.specs.Files.{Files, listed}
 use Rattle.mutest_engine.specs.Words.{ends_in}

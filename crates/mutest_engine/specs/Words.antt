@@ -4,6 +4,7 @@ use Rattle.std.specs.List.{ends_with}
 use Rattle.std.specs.Cmp.Lexicographic.{pointwise}
 use Rattle.std.specs.Io.BufRead.{strip_last}
 use Rattle.mt_edge.specs.Files.{slash}
+use Rattle.mutest_engine.specs.declared.commands.Assembly.{Assembly as FoundText}
 use Rattle.mutest_engine.specs.declared.commands.Suite.{Suite as Found}
 use Rattle.mutest_engine.specs.declared.commands.Asked.{Asked}
 use Rattle.mutest_engine.specs.declared.commands.Asked.TheVariants as found
@@ -16,9 +17,15 @@ pub record Suite : Type 0 where
   pub tests : List ℕ
   pub report : List ℕ
 
+-- the path of a text of the assembler's language, and that of the class file that it states
+pub record Assembly : Type 0 where
+  pub text : List ℕ
+  pub out : List ℕ
+
 pub data Command : Type 0 where
   list_class : List ℕ → Command
   run_suite : Suite → Command
+  assemble_class : Assembly → Command
 
 -- a value of a command: not empty, and without a `-` at its front
 abbrev pub is_value : List ℕ → Bool
@@ -47,8 +54,14 @@ run_of run for_classes classes for_tests tests for_report report =
     then Ok (run_suite (record { classes = folder_of classes; tests = folder_of tests; report = report }))
     else Err Usage
 
+-- `asm FILE --out FILE`
+abbrev pub asm_of : List ℕ → List ℕ → List ℕ → List ℕ → Result Command Status
+asm_of asm text for_out out =
+    if is_word asm (codes "asm") && is_value text && is_word for_out (codes "--out") && is_value out then Ok (assemble_class (record { text = text; out = out })) else Err Usage
+
 abbrev pub command_of : List (List ℕ) → Result Command Status
 command_of (list ∷ file ∷ []) = list_of list file
+command_of (asm ∷ text ∷ for_out ∷ out ∷ []) = asm_of asm text for_out out
 command_of (run ∷ for_classes ∷ classes ∷ for_tests ∷ tests ∷ for_report ∷ report ∷ []) = run_of run for_classes classes for_tests tests for_report report
 command_of other = Err Usage
 
@@ -63,6 +76,7 @@ is_archive folder = ends_in folder (codes ".jar") || (ends_in folder (codes ".zi
 -- The command, where none of its folders is an archive; that of the classes is asked first.
 abbrev pub without_archive : Command → Result Command Status
 without_archive (list_class path) = Ok (list_class path)
+without_archive (assemble_class assembly) = Ok (assemble_class assembly)
 without_archive (run_suite suite) = if is_archive suite.classes then Err (Archive suite.classes) else if is_archive suite.tests then Err (Archive suite.tests) else Ok (run_suite suite)
 
 abbrev pub unless_archive : Result Command Status → Result Command Status
@@ -79,7 +93,12 @@ words_of words = unless_archive (command_of words)
 abbrev pub suite_asked : Found → Suite
 suite_asked suite = record { classes = suite.classes.now; tests = suite.tests.now; report = suite.report.now }
 
+-- the text that the words were found to name
+abbrev pub text_asked : FoundText → Assembly
+text_asked assembly = record { text = assembly.text.now; out = assembly.out.now }
+
 -- the command that the words were found to be
 abbrev pub asked : Asked → Command
 asked (found.List file) = list_class file.now
 asked (found.Run suite) = run_suite (suite_asked suite)
+asked (found.Assemble assembly) = assemble_class (text_asked assembly)

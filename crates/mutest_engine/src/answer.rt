@@ -2,16 +2,25 @@
 
 use class_model::Bytes;
 
-/// A report, and the path at which it replaces what was there.
+/// The file that a command replaces.
+#[derive(Clone, Copy, Debug, PartialEq, Eq)]
+pub enum Product {
+    Report,
+    /// A class file that was assembled.
+    Assembled,
+}
+
+/// A file that is replaced: its path, and what it holds then.
 #[derive(Debug, Drop)]
-pub struct Report<'a> {
+pub struct Replaced<'a> {
+    pub product: Product,
     pub path: &'a str,
     pub bytes: Bytes,
 }
 
-/// The report that a command writes, if it does, and then the text that it puts.
+/// The file that a command replaces, if it does, and then the text that it puts.
 #[derive(Debug, Drop)]
 pub struct Answer<'a> {
-    pub report: Option<Report<'a>>,
+    pub replaced: Option<Replaced<'a>>,
     pub text: Bytes,
 }

@@ -1,7 +1,7 @@
 //! The words of the command line.
 
 ghost use Rattle.std.specs.Prelude.{◌≡◌, ◌⊎◌, true, false, map, string_bytes, MatchOption, MatchResult, IfErr, Ok, Err};
-ghost use Rattle.mutest_engine.specs.Words.{command_of, list_of, run_of, is_value, folder_of, is_archive, words_of, asked};
+ghost use Rattle.mutest_engine.specs.Words.{command_of, list_of, run_of, asm_of, is_value, folder_of, is_archive, words_of, asked};
 ghost use Rattle.mutest_engine.specs.Answers.{IsRefusal, CountsFaults};
 ghost use Rattle.mutest_engine.specs.declared.status.Status.TheVariants.{Usage, Archive, WantOfMemory};
 
@@ -17,6 +17,13 @@ pub struct Suite<'a> {
     pub report: &'a str,
 }
 
+/// The path of a text of the assembler's language, and that of the class file that it states.
+#[derive(Clone, Copy)]
+pub struct Assembly<'a> {
+    pub text: &'a str,
+    pub out: &'a str,
+}
+
 /// What the words ask for.
 #[derive(Clone, Copy)]
 pub enum Asked<'a> {
@@ -24,6 +31,8 @@ pub enum Asked<'a> {
     List(&'a str),
     /// The main job.
     Run(Suite<'a>),
+    /// The class file of a text.
+    Assemble(Assembly<'a>),
 }
 
 fn is_value(word: &str) -> bool
@@ -83,13 +92,32 @@ fn running<'a>(
     }
 }
 
-// The command that the words are: `list FILE`, or `run --classes DIR --tests DIR --report FILE`.
+// The command of `asm` and what stands behind it.
+fn assembling<'a>(asm: &'a str, text: &'a str, for_out: &'a str, out: &'a str) -> Option<Asked<'a>>
+    ensures { MatchOption result (asm_of asm.now text.now for_out.now out.now ≡ Err Usage) (λ command. asm_of asm.now text.now for_out.now out.now ≡ Ok (asked command)) }
+{
+    if asm == "asm" && is_value(text) && for_out == "--out" && is_value(out) {
+        Some(Asked::Assemble(Assembly { text, out }))
+    } else {
+        None
+    }
+}
+
+// The command that the words are: `list FILE`, `asm FILE --out FILE`, or `run --classes DIR --tests DIR --report FILE`.
 fn command(words: &Vec<String>) -> Option<Asked<'_>>
     ensures { MatchOption result (command_of (map string_bytes words.now.items) ≡ Err Usage) (λ command. command_of (map string_bytes words.now.items) ≡ Ok (asked command)) }
 {
     let words = words.as_slice();
     if words.len() == 2 {
         return listing(words[0].as_str(), words[1].as_str());
+    }
+    if words.len() == 4 {
+        return assembling(
+            words[0].as_str(),
+            words[1].as_str(),
+            words[2].as_str(),
+            words[3].as_str(),
+        );
     }
     if words.len() == 7 {
         return running(
@@ -130,6 +158,7 @@ pub fn asked_by<'a>(alloc: Global, words: &'a Vec<String>) -> Result<Asked<'a>, 
     match command(words) {
         None => Err(Status::Usage),
         Some(Asked::List(file)) => Ok(Asked::List(file)),
+        Some(Asked::Assemble(assembly)) => Ok(Asked::Assemble(assembly)),
         Some(Asked::Run(suite)) => {
             no_archive(alloc, suite.classes)?;
             no_archive(alloc, suite.tests)?;

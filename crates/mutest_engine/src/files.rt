@@ -3,7 +3,7 @@
 ghost use Rattle.std.specs.Prelude.{◌≡◌, ◌⊎◌, ◌≤◌, List, ℕ, IfSome, IfOk, IfErr};
 ghost use Rattle.class_writer.specs.Writing.{HasClassForm};
 ghost use Rattle.mutest_engine.specs.declared.status.Status.TheVariants.{WantOfMemory};
-ghost use Rattle.mutest_engine.specs.Answers.{within_limit as within, file_of, refusal_of, spelled_class, Gives, IsLater, IsOfClasses, IsOfFile, CountsFaults};
+ghost use Rattle.mutest_engine.specs.Answers.{within_limit as within, file_of, refusal_of, spelled_class, Gives, IsLater, IsOfClasses, IsOfFile, IsOfText, CountsFaults};
 
 use crate::status::{Limit, Status};
 use class_model::{Bytes, Class, ClassFault};
@@ -17,7 +17,7 @@ const CLASS_LIMIT: usize = 4_194_304;
 // A file within the limit.
 fn within_limit(bytes: Bytes) -> Result<Bytes, Status>
     ensures told { result ≡ within bytes }
-    ensures passed { IfErr result (λ s. IsLater s × ((path : List ℕ) → IsOfFile path s) × CountsFaults 0 0 0 0 0 0 s) }
+    ensures passed { IfErr result (λ s. IsLater s × ((path : List ℕ) → IsOfFile path s × IsOfText path s) × CountsFaults 0 0 0 0 0 0 s) }
 {
     let length = bytes.len();
     if length > CLASS_LIMIT {
@@ -32,7 +32,7 @@ fn within_limit(bytes: Bytes) -> Result<Bytes, Status>
 /// The bytes of a file.
 pub fn read_file<T: Tree>(alloc: Global, tree: &mut T, path: &str) -> Result<Bytes, Status>
     ensures told { IfSome (T.holds tree.old) (λ files. Gives (file_of path.now files) result) }
-    ensures refusal { IfErr result (λ s. IsLater s × IsOfFile path.now s) }
+    ensures refusal { IfErr result (λ s. IsLater s × IsOfFile path.now s × IsOfText path.now s) }
     ensures faults { IfErr result (λ s. CountsFaults (T.reading tree.old) (T.reading tree.new) 0 0 0 0 s) }
     ensures later { T.reading tree.old ≤ T.reading tree.new }
     ensures tree { (T.holds tree.new ≡ T.holds tree.old) × (T.writing tree.new ≡ T.writing tree.old) }

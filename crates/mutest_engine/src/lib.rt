@@ -2,6 +2,9 @@
 #![tactic(auto)]
 
 mod answer;
+#[cfg(test)]
+mod asm_tests;
+mod assembled;
 mod commands;
 mod discovered;
 mod files;

@@ -89,6 +89,10 @@ pub enum Status {
         method: Name,
         at: u64,
     },
+    /// The text is none of a class: its first line at fault, counted from 1.
+    AsmRefused {
+        line: u64,
+    },
     /// Memory ran out.
     WantOfMemory,
 }
@@ -142,6 +146,7 @@ impl Status {
             Status::TooMany { .. } => 12,
             Status::MachineCheck { .. } => 13,
             Status::WantOfMemory => 14,
+            Status::AsmRefused { .. } => 15,
         }
     }
 }
@@ -310,6 +315,11 @@ pub fn line(alloc: Global, status: &Status) -> Result<Bytes, Memory>
             put_str(&mut text, limit_name(*limit))?;
             put_str(&mut text, " ")?;
             put_number(alloc, &mut text, *number)?;
+            put_str(&mut text, "\n")?;
+        }
+        Status::AsmRefused { line } => {
+            put_str(&mut text, "mutest: AsmRefused ")?;
+            put_number(alloc, &mut text, *line)?;
             put_str(&mut text, "\n")?;
         }
     }

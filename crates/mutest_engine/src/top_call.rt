@@ -1,20 +1,20 @@
 //! The top call: from the words and the files that are held to what is written.
 
-ghost use Rattle.std.specs.Prelude.{◌≡◌, ◌⊎◌, ◌+◌, ◌<◌, ◌≤◌, ◌^◌, [], map, string_bytes, IfSome, IfOk, IfErr, MatchResult, Ok, Err, List, Result};
+ghost use Rattle.std.specs.Prelude.{◌≡◌, ◌⊎◌, ◌+◌, ◌<◌, ◌≤◌, ◌^◌, ℕ, [], map, string_bytes, IfSome, IfOk, IfErr, MatchResult, Ok, Err, List, Result};
 ghost use Rattle.std.specs.Result.{ForErr};
 ghost use Rattle.mt_edge.specs.Pieces.{GrowsBy};
 ghost use Rattle.mutest_engine.specs.declared.status.Status.TheVariants.{Done, WriteFault, WantOfMemory};
-ghost use Rattle.mutest_engine.specs.declared.status.Output.TheVariants.{Report as WrittenReport};
 ghost use Rattle.mutest_engine.specs.StatusText.{line_of};
 ghost use Rattle.mutest_engine.specs.declared.status.Status.{Status as AnyStatus};
-ghost use Rattle.mutest_engine.specs.Words.{Command, list_class, run_suite, words_of, asked, suite_asked};
-ghost use Rattle.mutest_engine.specs.Decided.{CanAnswer, CanSay, list_answer, report_answer, run_answer, answer_of, steps_with, steps_of, MeterRose, MeterStays};
+ghost use Rattle.mutest_engine.specs.Words.{Command, list_class, run_suite, assemble_class, words_of, asked, suite_asked, text_asked};
+ghost use Rattle.mutest_engine.specs.Decided.{CanAnswer, CanSay, list_answer, report_answer, run_answer, asm_answer, assembly, answer_of, steps_with, steps_of, MeterRose, MeterStays};
 ghost use Rattle.mutest_engine.specs.SuiteFiles.{suite_of};
-ghost use Rattle.mutest_engine.specs.Answers.{Answered, GivesAnswer, write_of, answered, Agrees, AgreesUntold, Ends, IsReading, IsWriteFault, IsRefusal, IsLater, CountsFaults};
+ghost use Rattle.mutest_engine.specs.Answers.{Answered, GivesAnswer, output_of, write_of, answered, Agrees, AgreesUntold, Ends, IsReading, IsWriteFault, IsRefusal, IsLater, Failed, CountsFaults};
 ghost use Rattle.mutest_engine.specs.Said.{Got, Leaves, written, writes_of_answer, FilesAfter};
 
-use crate::answer::{Answer, Report};
-use crate::commands::{Asked, Suite, asked_by};
+use crate::answer::{Answer, Product, Replaced};
+use crate::assembled::assembled;
+use crate::commands::{Asked, Assembly, Suite, asked_by};
 use crate::files::{read_file, spelled_class};
 use crate::judged::judge;
 use crate::status::{Output, Status, line};
@@ -43,7 +43,10 @@ fn list_answer<'a, T: Tree>(
     let class = spelled_class(alloc, path.as_bytes(), bytes.as_slice())?;
     let mutants = class_mutants(alloc, &class)?;
     let text = id_lines(alloc, mutants.as_slice())?;
-    Ok(Answer { report: None, text })
+    Ok(Answer {
+        replaced: None,
+        text,
+    })
 }
 
 // The report at its path, and the summary.
@@ -57,7 +60,11 @@ fn report_answer<'a>(
     let text = summary_text(alloc, &input.verdicts)?;
     let bytes = report_text(alloc, input)?;
     Ok(Answer {
-        report: Some(Report { path, bytes }),
+        replaced: Some(Replaced {
+            product: Product::Report,
+            path,
+            bytes,
+        }),
         text,
     })
 }
@@ -86,6 +93,31 @@ fn run_answer<'a, T: Tree>(
     }
 }
 
+// The class file of a text, at its path.
+fn asm_answer<'a, T: Tree>(
+    alloc: Global,
+    tree: &mut T,
+    asked: Assembly<'a>,
+) -> Result<Answer<'a>, Status>
+    ensures told { IfSome (T.holds tree.old) (λ files. GivesAnswer (asm_answer (text_asked asked.entry) files) result) }
+    ensures untold { MatchResult result (λ a. CanAnswer (assemble_class (text_asked asked.entry)) (answered a)) (Ends (assemble_class (text_asked asked.entry))) }
+    ensures refusal { IfErr result IsRefusal }
+    ensures faults { IfErr result (λ s. CountsFaults (T.reading tree.old) (T.reading tree.new) 0 0 0 0 s) }
+    ensures stays { IfErr result (λ s. (meter : ℕ) → MeterStays meter meter s) }
+    ensures tree { (T.holds tree.new ≡ T.holds tree.old) × (T.writing tree.new ≡ T.writing tree.old) }
+{
+    let text = read_file(alloc, tree, asked.text)?;
+    let bytes = assembled(alloc, text.as_slice())?;
+    Ok(Answer {
+        replaced: Some(Replaced {
+            product: Product::Assembled,
+            path: asked.out,
+            bytes,
+        }),
+        text: Bytes::new(alloc),
+    })
+}
+
 // What the words ask for.
 fn answer_to<'a, T: Tree>(
     alloc: Global,
@@ -105,6 +137,7 @@ fn answer_to<'a, T: Tree>(
     match asked_by(alloc, words) {
         Ok(Asked::List(file)) => list_answer(alloc, tree, file),
         Ok(Asked::Run(suite)) => run_answer(alloc, tree, suite, meter),
+        Ok(Asked::Assemble(asked)) => asm_answer(alloc, tree, asked),
         Err(status) => Err(status),
     }
 }
@@ -127,12 +160,15 @@ fn refuse<S: Sink>(alloc: Global, out: &mut S, status: Status) -> Status
     }
 }
 
-// Puts the text of a command.
+// Puts the text of a command, if it has one.
 fn put_text<S: Sink>(alloc: Global, out: &mut S, answer: &Answer<'_>) -> Status
-    ensures status { (result ≡ Done) ⊎ IsWriteFault [] result }
+    ensures status { (result ≡ Done) ⊎ IsWriteFault [] answer.now.text result }
     ensures faults { CountsFaults 0 0 0 0 (S.faults out.old) (S.faults out.new) result }
     ensures said { Leaves (S.faults out.old) (S.faults out.new) (S.written out.old) (S.written out.new) (Ok (answered answer.now)) result }
 {
+    if answer.text.is_empty() {
+        return Status::Done;
+    }
     match out.put(answer.text.as_slice()) {
         Ok(()) => Status::Done,
         Err(EdgeFault::Failed) => refuse(
@@ -147,37 +183,51 @@ fn put_text<S: Sink>(alloc: Global, out: &mut S, answer: &Answer<'_>) -> Status
     }
 }
 
-// Replaces the report.
-fn replace<T: Tree>(tree: &mut T, report: &Report<'_>) -> Result<(), Status>
-    ensures status { MatchResult result (λ _. T.holds tree.new ≡ written (write_of report.now) (T.holds tree.old)) (λ s. ((s ≡ WriteFault WrittenReport 1) ⊎ (s ≡ WantOfMemory)) × ((T.holds tree.new ≡ T.holds tree.old) ⊎ (T.holds tree.new ≡ written (write_of report.now) (T.holds tree.old)))) }
+// How a file that couldn't be replaced is told.
+fn unreplaced(product: Product) -> Status
+    ensures told { result ≡ WriteFault (output_of product) 1 }
+    ensures faults { (before now : ℕ) → Failed before now 1 → CountsFaults 0 0 before now 0 0 result }
+{
+    match product {
+        Product::Report => Status::WriteFault {
+            which: Output::Report,
+            faults: 1,
+        },
+        Product::Assembled => Status::WriteFault {
+            which: Output::Assembled,
+            faults: 1,
+        },
+    }
+}
+
+// Replaces a file.
+fn replace<T: Tree>(tree: &mut T, file: &Replaced<'_>) -> Result<(), Status>
+    ensures status { MatchResult result (λ _. T.holds tree.new ≡ written (write_of file.now) (T.holds tree.old)) (λ s. ((s ≡ WriteFault (output_of file.now.product) 1) ⊎ (s ≡ WantOfMemory)) × ((T.holds tree.new ≡ T.holds tree.old) ⊎ (T.holds tree.new ≡ written (write_of file.now) (T.holds tree.old)))) }
     ensures faults { IfErr result (λ s. CountsFaults 0 0 (T.writing tree.old) (T.writing tree.new) 0 0 s) }
     ensures tree { (T.reading tree.new ≡ T.reading tree.old) × (T.writing tree.old ≤ T.writing tree.new) }
 {
-    match tree.replace(report.path, report.bytes.as_slice()) {
+    match tree.replace(file.path, file.bytes.as_slice()) {
         Ok(()) => Ok(()),
-        Err(EdgeFault::Failed) => Err(Status::WriteFault {
-            which: Output::Report,
-            faults: 1,
-        }),
+        Err(EdgeFault::Failed) => Err(unreplaced(file.product)),
         Err(EdgeFault::Memory) => Err(Status::WantOfMemory),
     }
 }
 
-// Replaces the report of an answer, and then puts its text.
+// Replaces the file of an answer, if it has one, and then puts its text.
 fn carry_out<T: Tree, S: Sink>(
     alloc: Global,
     tree: &mut T,
     out: &mut S,
     answer: &Answer<'_>,
 ) -> Status
-    ensures status { (result ≡ Done) ⊎ IsWriteFault (answered answer.now).writes result }
+    ensures status { (result ≡ Done) ⊎ IsWriteFault (answered answer.now).writes (answered answer.now).text result }
     ensures faults { CountsFaults 0 0 (T.writing tree.old) (T.writing tree.new) (S.faults out.old) (S.faults out.new) result }
     ensures said { Leaves (S.faults out.old) (S.faults out.new) (S.written out.old) (S.written out.new) (Ok (answered answer.now)) result }
     ensures tree { FilesAfter (answered answer.now).writes (T.holds tree.old) (T.holds tree.new) result }
     ensures reading { T.reading tree.new ≡ T.reading tree.old }
 {
-    if let Some(report) = &answer.report {
-        if let Err(status) = replace(tree, report) {
+    if let Some(replaced) = &answer.replaced {
+        if let Err(status) = replace(tree, replaced) {
             return refuse(alloc, out, status);
         }
     }
@@ -192,7 +242,7 @@ fn finish<T: Tree, S: Sink>(
     answer: Result<Answer<'_>, Status>,
 ) -> Status
     requires { ForErr answer IsRefusal }
-    ensures status { MatchResult answer.entry (λ a. (result ≡ Done) ⊎ IsWriteFault (answered a).writes result) (λ s. (result ≡ s) ⊎ (result ≡ WantOfMemory)) }
+    ensures status { MatchResult answer.entry (λ a. (result ≡ Done) ⊎ IsWriteFault (answered a).writes (answered a).text result) (λ s. (result ≡ s) ⊎ (result ≡ WantOfMemory)) }
     ensures faults { IfOk answer.entry (λ _. CountsFaults 0 0 (T.writing tree.old) (T.writing tree.new) (S.faults out.old) (S.faults out.new) result) }
     ensures said { MatchResult answer.entry (λ a. Leaves (S.faults out.old) (S.faults out.new) (S.written out.old) (S.written out.new) (Ok (answered a)) result) (λ s. (stated : Result Answered AnyStatus) → (stated ≡ Err s) ⊎ IsReading s → Leaves (S.faults out.old) (S.faults out.new) (S.written out.old) (S.written out.new) stated result) }
     ensures tree { MatchResult answer.entry (λ a. FilesAfter (answered a).writes (T.holds tree.old) (T.holds tree.new) result) (λ _. T.holds tree.new ≡ T.holds tree.old) }
@@ -205,7 +255,7 @@ fn finish<T: Tree, S: Sink>(
 }
 
 /// Does what the words behind the program's name say. `list FILE` puts the identifiers of the mutants of the class file FILE, one per line. `run --classes DIR --tests DIR --report FILE` runs each test
-/// of a suite on each of its mutants, replaces the report and puts the summary.
+/// of a suite on each of its mutants, replaces the report and puts the summary. `asm FILE --out FILE` replaces the second file by the class file that the text of the first states.
 pub fn run<T: Tree, S: Sink>(
     alloc: Global,
     words: &Vec<String>,

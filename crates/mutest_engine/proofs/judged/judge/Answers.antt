@@ -1,11 +1,10 @@
-use Rattle.std.proofs.Common.{◌≡◌, ◌≤◌, ◌+◌, ◌∙◌, ap, sym, subst, arith, ℕ, List}
+use Rattle.std.proofs.Common.{◌+◌, ◌∙◌, ap, sym, subst, arith, ℕ}
 use Rattle.std.specs.Prelude.{All}
 use Rattle.std.proofs.lemmas.Result.{err_from_is_err_and}
 use Rattle.class_table.specs.Table.{look}
-use Rattle.mutator_ops.specs.declared.mutant.Mutant.{Mutant}
 use Rattle.mutant_runs.specs.Programs.{ClassFiles, files_of, IsMutantOf}
 use Rattle.mutest_engine.specs.Decided.{MeterRose}
-use Rattle.mutest_engine.specs.Mutation.{class_file, all_steps, suite_steps}
+use Rattle.mutest_engine.specs.Mutation.{class_file}
 use Rattle.mutest_engine.specs.Originals.{classes_in}
 use Rattle.mutest_engine.specs.declared.status.Status.TheVariants.{WantOfMemory}
 use Rattle.mutest_engine.proofs.FitLaws.{all_fit}

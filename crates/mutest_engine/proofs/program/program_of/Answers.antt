@@ -1,6 +1,6 @@
-use Rattle.std.proofs.Common.{◌≡◌, ◌∙◌, List, ℕ, Err, refl, sym, ap, inl, subst}
+use Rattle.std.proofs.Common.{List, ℕ, Err, ap, inl, subst}
 use Rattle.class_table.specs.Table.{AreDistinct, IsLeastDuplicate}
-use Rattle.mutest_engine.specs.Originals.{classes_in, unless_twice}
+use Rattle.mutest_engine.specs.Originals.{unless_twice}
 use Rattle.mutest_engine.proofs.ProgramLaws.{is_program, names_are}
 use Rattle.mutest_engine.proofs.FileLaws.{are_files}
 use Rattle.mutest_engine.proofs.DuplicateLaws.{no_duplicate, is_duplicate}

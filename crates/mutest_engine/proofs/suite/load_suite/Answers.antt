@@ -1,5 +1,5 @@
-use Rattle.std.proofs.Common.{ap, sym, subst, ◌∙◌, map, Option}
-use Rattle.std.specs.Prelude.{string_bytes, IfSome, Ok}
+use Rattle.std.proofs.Common.{ap, subst, ◌∙◌, map, Option}
+use Rattle.std.specs.Prelude.{string_bytes, IfSome}
 use Rattle.std.proofs.lemmas.Result.{err_from_is_err_and}
 use Rattle.mt_edge.specs.Files.{Files}
 use Rattle.mutest_engine.specs.SuiteFiles.{read_from}

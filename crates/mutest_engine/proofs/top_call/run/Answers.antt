@@ -6,7 +6,7 @@ use Rattle.mutest_engine.specs.Answers.{Answered}
 use Rattle.mutest_engine.specs.Decided.{answer_of}
 use Rattle.mutest_engine.specs.Said.{Leaves}
 use Rattle.mutest_engine.specs.Words.{words_of}
-use Rattle.mutest_engine.proofs.Ends.{said_by, said_of_some, untold_by, files_by}
+use Rattle.mutest_engine.proofs.Ends.{said_by, said_of_some, untold_by}
 use Rattle.mutest_engine.proofs.top_call.run.Goals as goal
 
 pub returns-clause-said : goal.returns-clause-said
