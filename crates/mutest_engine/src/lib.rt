@@ -2,24 +2,16 @@
 #![tactic(auto)]
 
 mod answer;
-#[cfg(test)]
-mod asm_tests;
 mod assembled;
 mod commands;
 mod discovered;
 mod files;
 mod judged;
-#[cfg(test)]
-mod list_tests;
 mod mutants;
 mod originals;
 mod program;
-#[cfg(test)]
-mod run_tests;
 mod status;
 mod suite;
-#[cfg(test)]
-mod test_files;
 mod top_call;
 
 pub use class_table::{Loaded, TableFault};

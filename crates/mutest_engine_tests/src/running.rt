@@ -1,7 +1,7 @@
-use crate::test_files::{A, T, call, damaged};
-use crate::{Status, load_suite};
+use crate::calls::{A, T, call, damaged};
 use class_model::Bytes;
 use mt_edge::MemTree;
+use mutest_engine::{Status, load_suite};
 use std::alloc::Global;
 use std::test::Fail;
 

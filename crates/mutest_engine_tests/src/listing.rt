@@ -1,4 +1,4 @@
-use crate::test_files::{A, A_BARE, T, call, damaged};
+use crate::calls::{A, A_BARE, T, call, damaged};
 use class_model::Bytes;
 use mt_edge::MemTree;
 use std::alloc::Global;

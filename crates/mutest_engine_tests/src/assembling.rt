@@ -1,4 +1,4 @@
-use crate::test_files::{A, call};
+use crate::calls::{A, call};
 use class_model::Bytes;
 use mt_edge::MemTree;
 use std::alloc::Global;

@@ -1,8 +1,8 @@
 // The class files of the tests, and a call of the tool.
 
-use crate::run;
 use class_model::Bytes;
 use mt_edge::{MemSink, MemTree, Meter};
+use mutest_engine::run;
 use std::alloc::Global;
 use std::test::Fail;
 
