@@ -29,7 +29,7 @@ use Rattle.class_reader.specs.Indices.{names_class, names_parent, names_name, na
 use Rattle.class_reader.specs.Spells.{IsInterface}
 use Rattle.class_writer.specs.Writing.{IsNamedMember, IsNamedField, IsNamedMethod, IsNamedClass}
 use Rattle.class_asm.specs.Numbering.{text_index, class_index}
-use Rattle.class_asm.specs.File.{with_list}
+use Rattle.class_asm.specs.File.{with_pool}
 use Rattle.class_asm.specs.ClassFile.{code_attr, codes_of, with_notes, attrs_of, member_of, members_of, interfaces_of, with_source, class_of}
 use Rattle.class_asm.specs.Assembled.{no_entries}
 use Rattle.class_asm.specs.declared.numbering.Entries.{Entries}
@@ -100,9 +100,9 @@ module _ (pool : List Const) (few : length pool + 1 < 2 ^ 16) where
   attrs_numbered : (of : Owner) (member : StatedMember) (entries : Entries) → NumbersIn pool (AreFree pool of) entries (codes_of member.code entries) → All IsFitNote member.notes → NumbersIn pool (AreNamed pool of) entries (attrs_of member entries)
   attrs_numbered of member entries coded noted =
       let x = codes_of member.code entries in
-      let y = with_notes member.notes x.0 x.1.list in
+      let y = with_notes member.notes x.0 x.1.pool in
       let Q = λ (later : List Attr). AreFree pool of x.0 → AreNamed pool of later in
-      joined (LeadsTo pool) (HasFormed pool) (AreFree pool of) Q (AreNamed pool of) entries x (y.0, with_list x.1 y.1) y.0 coded (lifted pool few Q Q x.1 y y.0 (with_notes_numbered pool few of member.notes x.0 x.1.list noted) (λ is. is)) (λ p q. q p)
+      joined (LeadsTo pool) (HasFormed pool) (AreFree pool of) Q (AreNamed pool of) entries x (y.0, with_pool x.1 y.1) y.0 coded (lifted pool few Q Q x.1 y y.0 (with_notes_numbered pool few of member.notes x.0 x.1.pool noted) (λ is. is)) (λ p q. q p)
 
   -- ---- members
 
@@ -118,14 +118,14 @@ module _ (pool : List Const) (few : length pool + 1 < 2 ^ 16) where
   member_numbered of rule read member entries flags name_fit named desc_fit typed noted coded =
       let L = LeadsTo pool in
       let F = HasFormed pool in
-      let name = text_index member.name entries.list in
+      let name = text_index member.name entries.pool in
       let desc = text_index member.desc name.1 in
-      let first = with_list entries name.1 in
-      let second = with_list entries desc.1 in
+      let first = with_pool entries name.1 in
+      let second = with_pool entries desc.1 in
       let attrs = attrs_of member second in
       let N = IsNumberOf pool (const.Utf8 member.name) in
       let D = IsNumberOf pool (const.Utf8 member.desc) in
-      let n_name = lifted pool few N N entries name name.0 (text_numbered pool few member.name entries.list name_fit) (λ is. is) in
+      let n_name = lifted pool few N N entries name name.0 (text_numbered pool few member.name entries.pool name_fit) (λ is. is) in
       let n_desc = lifted pool few D D first desc desc.0 (text_numbered pool few member.desc name.1 desc_fit) (λ is. is) in
       let n_attrs = attrs_numbered of member second (coded second) noted in
       let n_rest = joined L F D (AreNamed pool of) (IsRest of member.desc desc.0) first (desc.0, second) attrs attrs.0 n_desc n_attrs (λ d a. record { number = d; named = a }) in
@@ -182,17 +182,17 @@ class_named stated fit none few =
     let this = class_index stated.name [] in
     let parent = class_index stated.parent this.1 in
     let interfaces = interfaces_of stated.interfaces parent.1 in
-    let fields = members_of stated.fields (with_list no_entries interfaces.1) in
+    let fields = members_of stated.fields (with_pool no_entries interfaces.1) in
     let methods = members_of stated.methods fields.1 in
-    let source = with_source stated.source [] methods.1.list in
+    let source = with_source stated.source [] methods.1.pool in
     let attrs = with_notes stated.notes source.0 source.1 in
     let pool = attrs.1 in
     let n_this = class_numbered pool few stated.name [] fit.name in
     let n_parent = class_numbered pool few stated.parent this.1 fit.parent in
     let n_interfaces = interfaces_numbered pool few stated.interfaces parent.1 fit.interfaces in
-    let n_fields = fields_numbered pool few stated.fields (with_list no_entries interfaces.1) fit.fields in
+    let n_fields = fields_numbered pool few stated.fields (with_pool no_entries interfaces.1) fit.fields in
     let n_methods = methods_numbered pool few stated.methods fields.1 fit.methods in
-    let n_source = source_numbered pool few stated.source methods.1.list fit.source in
+    let n_source = source_numbered pool few stated.source methods.1.pool fit.source in
     let n_notes = with_notes_numbered pool few owner.OfClass stated.notes source.0 source.1 fit.notes in
     let to_end = all_in pool in
     let to_source = n_notes.back to_end in

@@ -13,7 +13,7 @@ use Rattle.mt_insn.specs.Named.{names, is_class, is_some_and}
 use Rattle.mt_attrs.specs.Named.{is_caught, IsIndex}
 use Rattle.mt_attrs.specs.Naming.{IsNamedRow, IsNamedVItem, IsNamedShape, IsNamedFrame}
 use Rattle.class_asm.specs.Numbering.{class_index, entry_index}
-use Rattle.class_asm.specs.File.{with_list, arg_of, insn_of, insns_of, item_of, items_of, shape_of, frame_of, frames_of, caught_index, row_of, rows_of}
+use Rattle.class_asm.specs.File.{with_pool, arg_of, insn_of, insns_of, item_of, items_of, shape_of, frame_of, frames_of, caught_index, row_of, rows_of}
 use Rattle.class_asm.specs.Stated.{insn_with}
 use Rattle.class_asm.specs.declared.numbering.Entries.{Entries}
 use Rattle.class_asm.specs.declared.stated.StatedInsn.{StatedInsn}
@@ -32,10 +32,10 @@ use Rattle.asm_laws.proofs.EntryLaws.{IsIndexOf, Numbers, class_numbered, entry_
 
 -- No limit was passed, and each entry stands in the pool.
 abbrev pub LeadsTo : List Const → Entries → Type 0
-LeadsTo pool entries = (entries.passed ≡ false) × IsIn pool entries.list
+LeadsTo pool entries = (entries.passed ≡ false) × IsIn pool entries.pool
 
 abbrev pub HasFormed : List Const → Entries → Type 0
-HasFormed pool entries = IsFormed pool entries.list
+HasFormed pool entries = IsFormed pool entries.pool
 
 abbrev pub NumbersIn : List Const → {A : Type 0} → (A → Type 0) → Entries → A × Entries → Type 0
 NumbersIn pool P entries x = IsNumbered (LeadsTo pool) (HasFormed pool) P entries x
@@ -46,7 +46,7 @@ or_true false = refl
 
 module _ (pool : List Const) (few : length pool + 1 < 2 ^ 16) where
   -- what is numbered where a limit may be passed elsewhere
-  pub lifted : {A B : Type 0} → (P : A → Type 0) (Q : B → Type 0) (entries : Entries) (x : A × List Const) (b : B) → Numbers pool few P entries.list x → (P x.0 → Q b) → NumbersIn pool Q entries (b, with_list entries x.1)
+  pub lifted : {A B : Type 0} → (P : A → Type 0) (Q : B → Type 0) (entries : Entries) (x : A × List Const) (b : B) → Numbers pool few P entries.pool x → (P x.0 → Q b) → NumbersIn pool Q entries (b, with_pool entries x.1)
   lifted P Q entries x b n f = record { back = λ e. (e.0, n.back e.1); right = λ e g. let r = n.right e.1 g in (f r.0, r.1) }
 
   -- ---- instructions
@@ -62,16 +62,16 @@ module _ (pool : List Const) (few : length pool + 1 < 2 ^ 16) where
   arg_numbered : (op : ℕ) (wide : Bool) (o : Operand) (entries : Entries) → IsFitOperand op wide o → NumbersIn pool (λ a. NamesRight pool (insn_with op wide a)) entries (arg_of o entries)
   arg_numbered op wide (operand.Done a) entries fit = stays (LeadsTo pool) (HasFormed pool) (λ a. NamesRight pool (insn_with op wide a)) entries a (fit pool)
   arg_numbered op wide (operand.Named e) entries fit =
-      let x = entry_index e entries.list in
-      lifted (IsIndexOf pool e) (λ a. NamesRight pool (insn_with op wide a)) entries x (arg.Pool x.0) (entry_numbered pool few e entries.list fit.0) (λ is. fit.1 pool x.0 is.0 is.1)
+      let x = entry_index e entries.pool in
+      lifted (IsIndexOf pool e) (λ a. NamesRight pool (insn_with op wide a)) entries x (arg.Pool x.0) (entry_numbered pool few e entries.pool fit.0) (λ is. fit.1 pool x.0 is.0 is.1)
   arg_numbered op wide (operand.Near e) entries fit =
-      let x = entry_index e entries.list in
-      near_by (IsIndexOf pool e) (λ a. NamesRight pool (insn_with op wide a)) entries (with_list entries x.1) x.0 (nat_lt 0xFF x.0) (lifted (IsIndexOf pool e) (IsIndexOf pool e) entries x x.0 (entry_numbered pool few e entries.list fit.0) (λ is. is))
+      let x = entry_index e entries.pool in
+      near_by (IsIndexOf pool e) (λ a. NamesRight pool (insn_with op wide a)) entries (with_pool entries x.1) x.0 (nat_lt 0xFF x.0) (lifted (IsIndexOf pool e) (IsIndexOf pool e) entries x x.0 (entry_numbered pool few e entries.pool fit.0) (λ is. is))
       (λ n is. fit.1 pool n is.0 is.1)
       refl
   arg_numbered op wide (operand.Counted e count) entries fit =
-      let x = entry_index e entries.list in
-      lifted (IsIndexOf pool e) (λ a. NamesRight pool (insn_with op wide a)) entries x (arg.Multi x.0 count) (entry_numbered pool few e entries.list fit.0) (λ is. fit.1 pool x.0 is.0 is.1)
+      let x = entry_index e entries.pool in
+      lifted (IsIndexOf pool e) (λ a. NamesRight pool (insn_with op wide a)) entries x (arg.Multi x.0 count) (entry_numbered pool few e entries.pool fit.0) (λ is. fit.1 pool x.0 is.0 is.1)
 
   insn_numbered : (insn : StatedInsn) (entries : Entries) → IsFitInsn insn → NumbersIn pool (NamesRight pool) entries (insn_of insn entries)
   insn_numbered insn entries fit =

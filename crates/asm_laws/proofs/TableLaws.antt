@@ -28,7 +28,7 @@ use Rattle.mt_attrs.specs.declared.kinds.Known.TheVariants as known
 use Rattle.mt_attrs.specs.declared.kinds.Table.{Table}
 use Rattle.mt_attrs.specs.declared.kinds.Table.TheVariants as table
 use Rattle.class_asm.specs.Numbering.{text_index, behind}
-use Rattle.class_asm.specs.File.{with_list, insns_of, frames_of, rows_of, starts_of}
+use Rattle.class_asm.specs.File.{with_pool, insns_of, frames_of, rows_of, starts_of}
 use Rattle.class_asm.specs.ClassFile.{with_lines, with_frames, framed, code_by, code_attr}
 use Rattle.class_asm.specs.declared.numbering.Entries.{Entries}
 use Rattle.class_asm.specs.declared.stated.StatedFrame.{StatedFrame}
@@ -125,14 +125,14 @@ module _ (pool : List Const) (few : length pool + 1 < 2 ^ 16) where
   frames_with starts frames attrs list all = frames_by starts frames attrs list (length frames == 0) all
 
   framed_numbered : (starts : Option (List ℕ)) (frames : List StatedFrame) (x : List Attr × List Const) (entries : Entries) → All IsFitFrame frames
-      → NumbersIn pool (λ later. AreLines pool x.0 → AreNamedTables pool later) (with_list entries x.1) (framed starts frames x entries.passed)
+      → NumbersIn pool (λ later. AreLines pool x.0 → AreNamedTables pool later) (with_pool entries x.1) (framed starts frames x entries.passed)
   framed_numbered None frames x entries all = record { back = λ e. absurd (no e.0); right = λ e g. absurd (no e.0) }
     where
       no : true ≡ false → ⊥
       no e = cc
   framed_numbered (Some starts) frames x entries all =
       let y = with_frames starts frames x.0 x.1 in
-      lifted pool few (λ later. AreLines pool x.0 → AreNamedTables pool later) (λ later. AreLines pool x.0 → AreNamedTables pool later) (with_list entries x.1) y y.0 (frames_with starts frames x.0 x.1 all) (λ is. is)
+      lifted pool few (λ later. AreLines pool x.0 → AreNamedTables pool later) (λ later. AreLines pool x.0 → AreNamedTables pool later) (with_pool entries x.1) y y.0 (frames_with starts frames x.0 x.1 all) (λ is. is)
 
   -- ---- the attribute Code
 
@@ -157,10 +157,10 @@ module _ (pool : List Const) (few : length pool + 1 < 2 ^ 16) where
 
   pub code_numbered : (code : StatedCode) (entries : Entries) → IsFitCode code → NumbersIn pool (IsNamedAs pool owner.OfMethod known.Code) entries (code_attr code entries)
   code_numbered code entries fit =
-      let name = text_index (codes "Code") entries.list in
-      let first = with_list entries name.1 in
+      let name = text_index (codes "Code") entries.pool in
+      let first = with_pool entries name.1 in
       let insns = insns_of code.insns first in
-      let rows = rows_of code.rows insns.1.list in
+      let rows = rows_of code.rows insns.1.pool in
       let lines = with_lines code.lines [] rows.1 in
       let attrs = framed (starts_of insns.0) code.frames lines insns.1.passed in
       let c = body.Code (code_by code insns.0 rows.0 attrs.0) in
@@ -168,14 +168,14 @@ module _ (pool : List Const) (few : length pool + 1 < 2 ^ 16) where
       let F = HasFormed pool in
       let R = AllByRecursion (IsNamedRow pool) in
       let same : length insns.0 ≡ length code.insns = each_length insn_of code.insns first in
-      let n_rows = lifted pool few R R insns.1 rows rows.0 (rows_numbered pool few code.rows insns.1.list fit.rows) (λ is. is) in
-      let n_lines = lifted pool few (AreLines pool) (AreLines pool) (with_list insns.1 rows.1) lines lines.0 (lines_numbered code.lines rows.1 fit.lines) (λ is. is) in
+      let n_rows = lifted pool few R R insns.1 rows rows.0 (rows_numbered pool few code.rows insns.1.pool fit.rows) (λ is. is) in
+      let n_lines = lifted pool few (AreLines pool) (AreLines pool) (with_pool insns.1 rows.1) lines lines.0 (lines_numbered code.lines rows.1 fit.lines) (λ is. is) in
       let n_attrs = framed_numbered (starts_of insns.0) code.frames lines insns.1 fit.frames in
-      let n_tables = joined L F (AreLines pool) (λ later. AreLines pool lines.0 → AreNamedTables pool later) (AreNamedTables pool) (with_list insns.1 rows.1) (lines.0, with_list insns.1 lines.1) attrs attrs.0 n_lines n_attrs (λ p q. q p) in
-      let n_behind = joined L F R (AreNamedTables pool) (AreBehind rows.0) insns.1 (rows.0, with_list insns.1 rows.1) (attrs.0, attrs.1) attrs.0 n_rows n_tables (λ p q. record { rows_named = p; attrs_named = q }) in
+      let n_tables = joined L F (AreLines pool) (λ later. AreLines pool lines.0 → AreNamedTables pool later) (AreNamedTables pool) (with_pool insns.1 rows.1) (lines.0, with_pool insns.1 lines.1) attrs attrs.0 n_lines n_attrs (λ p q. q p) in
+      let n_behind = joined L F R (AreNamedTables pool) (AreBehind rows.0) insns.1 (rows.0, with_pool insns.1 rows.1) (attrs.0, attrs.1) attrs.0 n_rows n_tables (λ p q. record { rows_named = p; attrs_named = q }) in
       let n_content = joined L F (AllByRecursion (NamesRight pool)) (AreBehind rows.0) (λ (d : Body). IsNamedBody pool (Some known.Code) (out-Body d)) first insns (attrs.0, attrs.1) c (insns_numbered pool few code.insns first fit.insns) n_behind
       (λ p q. parts_named code insns.0 rows.0 attrs.0 fit same p q.rows_named q.attrs_named) in
-      let n_name = lifted pool few (IsNumberOf pool (const.Utf8 (codes "Code"))) (IsNumberOf pool (const.Utf8 (codes "Code"))) entries name name.0 (text_numbered pool few (codes "Code") entries.list (given_units (codes "Code") refl)) (λ is. is) in
+      let n_name = lifted pool few (IsNumberOf pool (const.Utf8 (codes "Code"))) (IsNumberOf pool (const.Utf8 (codes "Code"))) entries name name.0 (text_numbered pool few (codes "Code") entries.pool (given_units (codes "Code") refl)) (λ is. is) in
       joined L F (IsNumberOf pool (const.Utf8 (codes "Code"))) (λ (d : Body). IsNamedBody pool (Some known.Code) (out-Body d)) (IsNamedAs pool owner.OfMethod known.Code) entries (name.0, first) (c, attrs.1) (attr_of name.0 c) n_name n_content
       (λ n p. record {
         name = names_is_text pool (codes "Code") name.0 n;

@@ -45,7 +45,7 @@ insns_written code entries later insns e is =
     subst (λ (l : List Insn). All HasForm l × All (HasTargets (length l)) l) same (insns_formed code.insns entries is.insns)
 
 abbrev pub numbered_from : List Const → Entries
-numbered_from list = record { list = list; passed = false }
+numbered_from list = record { pool = list; passed = false }
 
 assembled_is : (text : List ℕ) (stated : StatedClass) (end : End) (class : Class) (passed : Bool) (list : List Const) (meant : Result Class AsmFault) → stated_in text ≡ Ok (stated, end) → list ≡ [] → (class, passed) ≡ class_of stated (numbered_from list)
     → within_limits (class, passed) end ≡ meant → AssembledClass text ≡ meant

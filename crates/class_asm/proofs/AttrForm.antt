@@ -31,7 +31,7 @@ use Rattle.mt_attrs.specs.Layout.{HasLineForm, HasRowForm, HasVItemForm, HasShap
 use Rattle.mt_attrs.proofs.Starts.{starts_ascend}
 use Rattle.class_writer.specs.Writing.{HasMemberForm, HasClassForm}
 use Rattle.class_asm.specs.Numbering.{text_index, class_index, behind}
-use Rattle.class_asm.specs.File.{insn_of, insns_of, item_of, items_of, shape_of, frame_of, frames_of, row_of, rows_of, note_of, notes_of, pairs_of, starts_of, places_by, with_list}
+use Rattle.class_asm.specs.File.{insn_of, insns_of, item_of, items_of, shape_of, frame_of, frames_of, row_of, rows_of, note_of, notes_of, pairs_of, starts_of, places_by, with_pool}
 use Rattle.class_asm.specs.ClassFile.{with_lines, with_frames, framed, code_behind, kept, code_attr, with_notes, codes_of, member_of, members_of, interfaces_of, with_source, class_of}
 use Rattle.class_asm.specs.Stated.{IsStatedItem, IsStatedShape, AreFrames, IsStatedRow, Keeps, IsStatedCode, IsCodeIn, IsStatedMember, IsStatedClass}
 use Rattle.class_asm.specs.declared.stated.StatedItem.{StatedItem}
@@ -176,7 +176,7 @@ tables_by insns frames x passed (Some starts) e all attrs =
 code_form : (code : StatedCode) (name : ℕ × Entries) → IsStatedCode code → HasAttrForm (code_behind code name).0
 code_form code name is =
     let insns = insns_of code.insns name.1 in
-    let rows = rows_of code.rows insns.1.list in
+    let rows = rows_of code.rows insns.1.pool in
     let attrs = framed (starts_of insns.0) code.frames (with_lines code.lines [] rows.1) insns.1.passed in
     let formed = insns_formed code.insns name.1 is.insns in
     let count : length code.insns ≡ length (places insns.0) = sym (length-places_from 0 insns.0 ∙ each_length insn_of code.insns name.1) in
@@ -187,13 +187,13 @@ code_form code name is =
     let form : HasCodeForm parts = record {
       forms = formed.0;
       targets = formed.1;
-      rows = rows_form (places insns.0) code.rows insns.1.list fits.rows;
+      rows = rows_form (places insns.0) code.rows insns.1.pool fits.rows;
       attrs = tables_by insns.0 code.frames (with_lines code.lines [] rows.1) insns.1.passed (starts_of insns.0) refl small.frames (lines_form (places insns.0) code.lines rows.1 fits.lines);
     } in
     subst HasBodyForm (sym (out_code (roll-Code parts))) (subst HasCodeForm (sym (out-roll-Code parts)) form)
 
 code_attr_form : (code : StatedCode) (entries : Entries) → IsStatedCode code → HasAttrForm (code_attr code entries).0
-code_attr_form code entries is = code_form code (kept entries (text_index (codes "Code") entries.list)) is
+code_attr_form code entries is = code_form code (kept entries (text_index (codes "Code") entries.pool)) is
 
 -- ---- notes
 
@@ -236,10 +236,10 @@ codes_form (Some code) entries is = all_first HasAttrForm (code_attr code entrie
 
 member_form : (member : StatedMember) (entries : Entries) → IsStatedMember member → HasMemberForm (member_of member entries).0
 member_form member entries is =
-    let name = text_index member.name entries.list in
+    let name = text_index member.name entries.pool in
     let desc = text_index member.desc name.1 in
-    let x = codes_of member.code (with_list entries desc.1) in
-    with_notes_form member.notes x.0 x.1.list (codes_form member.code (with_list entries desc.1) is)
+    let x = codes_of member.code (with_pool entries desc.1) in
+    with_notes_form member.notes x.0 x.1.pool (codes_form member.code (with_pool entries desc.1) is)
 
 members_form : (members : List StatedMember) (entries : Entries) → All IsStatedMember members → All HasMemberForm (members_of members entries).0
 members_form members entries all = each_all member_of IsStatedMember HasMemberForm (λ member entries is. member_form member entries is) members entries all
@@ -254,14 +254,14 @@ source_form (Some source) list =
 -- The file's form of a stated class in form may be written.
 pub class_form : (stated : StatedClass) (entries : Entries) → IsStatedClass stated → HasClassForm (class_of stated entries).0
 class_form stated entries is =
-    let this = class_index stated.name entries.list in
+    let this = class_index stated.name entries.pool in
     let parent = class_index stated.parent this.1 in
     let interfaces = interfaces_of stated.interfaces parent.1 in
-    let fields = members_of stated.fields (with_list entries interfaces.1) in
+    let fields = members_of stated.fields (with_pool entries interfaces.1) in
     let methods = members_of stated.methods fields.1 in
-    let source = with_source stated.source [] methods.1.list in
+    let source = with_source stated.source [] methods.1.pool in
     record {
-      fields = members_form stated.fields (with_list entries interfaces.1) is.fields;
+      fields = members_form stated.fields (with_pool entries interfaces.1) is.fields;
       methods = members_form stated.methods fields.1 is.methods;
-      attrs = with_notes_form stated.notes source.0 source.1 (source_form stated.source methods.1.list);
+      attrs = with_notes_form stated.notes source.0 source.1 (source_form stated.source methods.1.pool);
     }

@@ -7,7 +7,7 @@ use Rattle.class_model.specs.declared.constant.Const.TheVariants as const
 use Rattle.class_model.specs.declared.instruction.Insn.{Insn}
 use Rattle.mt_insn.specs.Code.{HasForm, HasTargets}
 use Rattle.class_asm.specs.Numbering.{Numbered, index_of, found_or, added, interned, text_index, parts_index, added_wide, entry_index, is_same}
-use Rattle.class_asm.specs.File.{each, near_index, with_list, arg_of, insn_of, insns_of}
+use Rattle.class_asm.specs.File.{each, near_index, with_pool, arg_of, insn_of, insns_of}
 use Rattle.class_asm.specs.Stated.{insn_with, IsOperand, IsStatedInsn}
 use Rattle.class_asm.specs.declared.stated.Entry.{Entry}
 use Rattle.class_asm.specs.declared.stated.Entry.TheVariants as entry
@@ -55,10 +55,10 @@ IsFormed total insn = HasForm insn × HasTargets total insn
 
 insn_formed_by : (total op : ℕ) (wide : Bool) (o : Operand) (entries : Entries) → IsOperand total op wide o → IsFormed total (insn_with op wide (arg_of o entries).0)
 insn_formed_by total op wide (operand.Done a) entries is = is
-insn_formed_by total op wide (operand.Named e) entries is = (is (entry_index e entries.list).0 (entry_is e entries.list), tt)
+insn_formed_by total op wide (operand.Named e) entries is = (is (entry_index e entries.pool).0 (entry_is e entries.pool), tt)
 insn_formed_by total op wide (operand.Near e) entries is =
-    let x = entry_index e entries.list in (is (near_index x.0 (with_list entries x.1)).0 (near_is x.0 (with_list entries x.1)), tt)
-insn_formed_by total op wide (operand.Counted e count) entries is = (is (entry_index e entries.list).0 (entry_is e entries.list), tt)
+    let x = entry_index e entries.pool in (is (near_index x.0 (with_pool entries x.1)).0 (near_is x.0 (with_pool entries x.1)), tt)
+insn_formed_by total op wide (operand.Counted e count) entries is = (is (entry_index e entries.pool).0 (entry_is e entries.pool), tt)
 
 insn_formed : (total : ℕ) (insn : StatedInsn) (entries : Entries) → IsStatedInsn total insn → IsFormed total (insn_of insn entries).0
 insn_formed total insn entries is = insn_formed_by total insn.op insn.wide insn.operand entries is

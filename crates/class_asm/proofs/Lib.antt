@@ -8,4 +8,5 @@ pub mod ClassLaws
 pub mod FormLaws
 pub mod AttrForm
 pub mod EachLaws
+pub mod PlaceLaws
 pub mod AssembledLaws

@@ -18,7 +18,7 @@ abbrev pub stated_in : List ℕ → Result (StatedClass × End) AsmFault
 stated_in text = let bytes = pieces 10 text in stated_by (length bytes + 1) (lines_from 1 bytes)
 
 abbrev pub no_entries : Entries
-no_entries = record { list = []; passed = false }
+no_entries = record { pool = []; passed = false }
 
 -- Nothing stands behind the line that ends a class.
 abbrev pub with_end : Class → Option ℕ → Result Class AsmFault

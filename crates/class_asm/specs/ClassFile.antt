@@ -10,7 +10,7 @@ use Rattle.class_model.specs.declared.class.Class.{Class}
 use Rattle.class_model.specs.declared.class.Member.{Member}
 use Rattle.mt_attrs.specs.CodeParts.{attr_of}
 use Rattle.class_asm.specs.Numbering.{Numbered, behind, text_index, class_index}
-use Rattle.class_asm.specs.File.{each, with_list, insns_of, frames_of, rows_of, notes_of, starts_of}
+use Rattle.class_asm.specs.File.{each, with_pool, insns_of, frames_of, rows_of, notes_of, starts_of}
 use Rattle.class_asm.specs.declared.stated.StatedCode.{StatedCode}
 use Rattle.class_asm.specs.declared.stated.StatedFrame.{StatedFrame}
 use Rattle.class_asm.specs.declared.stated.StatedNote.{StatedNote}
@@ -31,8 +31,8 @@ with_frames starts frames attrs list =
 
 -- Frames need to know where instructions begin; a code that is too large passes a limit.
 abbrev pub framed : Option (List ℕ) → List StatedFrame → List Attr × List Const → Bool → List Attr × Entries
-framed None frames x passed = (x.0, record { list = x.1; passed = true })
-framed (Some starts) frames x passed = let y = with_frames starts frames x.0 x.1 in (y.0, record { list = y.1; passed = passed })
+framed None frames x passed = (x.0, record { pool = x.1; passed = true })
+framed (Some starts) frames x passed = let y = with_frames starts frames x.0 x.1 in (y.0, record { pool = y.1; passed = passed })
 
 abbrev pub code_by : StatedCode → List Insn → List Row → List Attr → Code
 code_by code insns rows attrs = roll-Code (record { max_stack = code.max_stack; max_locals = code.max_locals; insns = insns; rows = rows; attrs = attrs })
@@ -41,15 +41,15 @@ code_by code insns rows attrs = roll-Code (record { max_stack = code.max_stack; 
 abbrev pub code_behind : StatedCode → ℕ × Entries → Attr × Entries
 code_behind code name =
     let insns = insns_of code.insns name.1 in
-    let rows = rows_of code.rows insns.1.list in
+    let rows = rows_of code.rows insns.1.pool in
     let attrs = framed (starts_of insns.0) code.frames (with_lines code.lines [] rows.1) insns.1.passed in
     (attr_of name.0 (body.Code (code_by code insns.0 rows.0 attrs.0)), attrs.1)
 
 abbrev pub kept : {A : Type 0} → Entries → A × List Const → A × Entries
-kept entries x = (x.0, with_list entries x.1)
+kept entries x = (x.0, with_pool entries x.1)
 
 abbrev pub code_attr : StatedCode → Entries → Attr × Entries
-code_attr code entries = code_behind code (kept entries (text_index (codes "Code") entries.list))
+code_attr code entries = code_behind code (kept entries (text_index (codes "Code") entries.pool))
 
 -- ---- members
 
@@ -64,13 +64,13 @@ codes_of None entries = ([], entries)
 codes_of (Some code) entries = let x = code_attr code entries in (x.0 ∷ [], x.1)
 
 abbrev pub attrs_of : StatedMember → Entries → List Attr × Entries
-attrs_of member entries = let x = codes_of member.code entries in kept x.1 (with_notes member.notes x.0 x.1.list)
+attrs_of member entries = let x = codes_of member.code entries in kept x.1 (with_notes member.notes x.0 x.1.pool)
 
 abbrev pub member_of : StatedMember → Entries → Member × Entries
 member_of member entries =
-    let name = text_index member.name entries.list in
+    let name = text_index member.name entries.pool in
     let desc = text_index member.desc name.1 in
-    let attrs = attrs_of member (with_list entries desc.1) in
+    let attrs = attrs_of member (with_pool entries desc.1) in
     (record { flags = member.flags; name = name.0; desc = desc.0; attrs = attrs.0 }, attrs.1)
 
 abbrev pub members_of : List StatedMember → Entries → List Member × Entries
@@ -89,11 +89,11 @@ with_source (Some source) attrs list =
 
 abbrev pub class_of : StatedClass → Entries → Class × Bool
 class_of stated entries =
-    let this = class_index stated.name entries.list in
+    let this = class_index stated.name entries.pool in
     let parent = class_index stated.parent this.1 in
     let interfaces = interfaces_of stated.interfaces parent.1 in
-    let fields = members_of stated.fields (with_list entries interfaces.1) in
+    let fields = members_of stated.fields (with_pool entries interfaces.1) in
     let methods = members_of stated.methods fields.1 in
-    let source = with_source stated.source [] methods.1.list in
+    let source = with_source stated.source [] methods.1.pool in
     let attrs = with_notes stated.notes source.0 source.1 in
     (record { minor = 0; major = stated.major; pool = attrs.1; flags = stated.flags; this = this.0; parent = parent.0; interfaces = interfaces.0; fields = fields.0; methods = methods.0; attrs = attrs.0 }, methods.1.passed)

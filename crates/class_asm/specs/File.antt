@@ -39,23 +39,23 @@ each number (value ∷ values) state = let first = number value state in let oth
 abbrev pub near_index : ℕ → Entries → ℕ × Entries
 near_index index entries = if nat_lt 0xFF index then (0xFF, record entries { passed = true }) else (index, entries)
 
-abbrev pub with_list : Entries → List Const → Entries
-with_list entries list = record entries { list = list }
+abbrev pub with_pool : Entries → List Const → Entries
+with_pool entries list = record entries { pool = list }
 
 abbrev pub named_arg : Entries → ℕ × List Const → Arg × Entries
-named_arg entries x = (arg.Pool x.0, with_list entries x.1)
+named_arg entries x = (arg.Pool x.0, with_pool entries x.1)
 
 abbrev pub near_arg : Entries → ℕ × List Const → Arg × Entries
-near_arg entries x = let near = near_index x.0 (with_list entries x.1) in (arg.Pool near.0, near.1)
+near_arg entries x = let near = near_index x.0 (with_pool entries x.1) in (arg.Pool near.0, near.1)
 
 abbrev pub counted_arg : ℕ → Entries → ℕ × List Const → Arg × Entries
-counted_arg count entries x = (arg.Multi x.0 count, with_list entries x.1)
+counted_arg count entries x = (arg.Multi x.0 count, with_pool entries x.1)
 
 abbrev pub arg_of : Operand → Entries → Arg × Entries
 arg_of (operand.Done a) entries = (a, entries)
-arg_of (operand.Named e) entries = named_arg entries (entry_index e entries.list)
-arg_of (operand.Near e) entries = near_arg entries (entry_index e entries.list)
-arg_of (operand.Counted e count) entries = counted_arg count entries (entry_index e entries.list)
+arg_of (operand.Named e) entries = named_arg entries (entry_index e entries.pool)
+arg_of (operand.Near e) entries = near_arg entries (entry_index e entries.pool)
+arg_of (operand.Counted e count) entries = counted_arg count entries (entry_index e entries.pool)
 
 abbrev pub insn_of : StatedInsn → Entries → Insn × Entries
 insn_of insn entries = let a = arg_of insn.operand entries in (record { op = insn.op; wide = insn.wide; arg = a.0 }, a.1)

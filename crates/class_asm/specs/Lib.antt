@@ -15,6 +15,7 @@ pub mod Codes
 pub mod Members
 pub mod Classes
 pub mod Numbering
+pub mod Places
 pub mod Stated
 pub mod File
 pub mod ClassFile

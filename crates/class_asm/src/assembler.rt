@@ -11,8 +11,9 @@ use crate::fault::AsmFault;
 use crate::file::class_of;
 use crate::line::{lines_in, lines_of};
 use crate::numbering::Entries;
+use crate::pool::Pool;
 use crate::stated::StatedClass;
-use class_model::{Bytes, Class, LayoutFault, Seq};
+use class_model::{Bytes, Class, LayoutFault};
 use class_writer::write_class;
 use std::alloc::Global;
 
@@ -53,7 +54,7 @@ pub fn assemble(alloc: Global, text: &[u8]) -> Result<Bytes, AsmFault>
         Err(fault) => return Err(fault),
     };
     let entries = Entries {
-        list: Seq::new(alloc),
+        pool: Pool::new(alloc),
         passed: false,
     };
     let numbered = class_of(entries, &stated.0)?;

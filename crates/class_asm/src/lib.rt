@@ -23,6 +23,7 @@ mod operand;
 mod operand_form;
 mod pool;
 mod quoted;
+mod said;
 mod stated;
 #[cfg(test)]
 mod tests;

@@ -4,19 +4,19 @@ ghost use Rattle.std.specs.Prelude.{◌≡◌, length, slice_index, All, IfOk};
 ghost use Rattle.mt_insn.specs.Code.{HasForm, HasTargets};
 ghost use Rattle.class_asm.specs.File.{near_index, arg_of, insn_of, insns_of, item_of, items_of, shape_of, frames_of, row_of, rows_of, pairs_of, note_of, notes_of, starts_of};
 
-use crate::pool::{class_index, entry_index, text_index, word_index};
+use crate::pool::{Pool, class_index, entry_index, text_index, word_index};
 use crate::stated::{
     Operand, StatedFrame, StatedInsn, StatedItem, StatedNote, StatedRow, StatedShape,
 };
 use class_model::{
-    Arg, Bytes, Const, Elem, Frame, Insn, LayoutFault, Memory, Name, Note, Row, Seq, Shape, VItem,
+    Arg, Bytes, Elem, Frame, Insn, LayoutFault, Memory, Name, Note, Row, Seq, Shape, VItem,
 };
 use mt_insn::{places, write_insns};
 
 /// A constant pool that grows, and whether some `ldc` names an entry past its reach, or some code is too large.
 #[derive(Drop)]
 pub struct Entries {
-    pub list: Seq<Const>,
+    pub pool: Pool,
     pub passed: bool,
 }
 
@@ -38,15 +38,15 @@ fn arg_of(entries: &mut Entries, operand: &Operand) -> Result<Arg, Memory>
     match operand {
         Operand::Done(arg) => arg.copy(),
         Operand::Named(entry) => {
-            let index = entry_index(&mut entries.list, entry)?;
+            let index = entry_index(&mut entries.pool, entry)?;
             Ok(Arg::Pool(index))
         }
         Operand::Near(entry) => {
-            let index = entry_index(&mut entries.list, entry)?;
+            let index = entry_index(&mut entries.pool, entry)?;
             Ok(Arg::Pool(near_index(entries, index)))
         }
         Operand::Counted(entry, count) => {
-            let index = entry_index(&mut entries.list, entry)?;
+            let index = entry_index(&mut entries.pool, entry)?;
             Ok(Arg::Multi(index, *count))
         }
     }
@@ -66,7 +66,7 @@ fn insn_of(entries: &mut Entries, insn: &StatedInsn) -> Result<Insn, Memory>
 pub fn insns_of(entries: &mut Entries, stated: &[StatedInsn]) -> Result<Seq<Insn>, Memory>
     ensures { IfOk result (λ insns. insns_of stated.now entries.old ≡ (insns, entries.new)) }
 {
-    let mut insns = Seq::new(entries.list.allocator());
+    let mut insns = Seq::new(entries.pool.allocator());
     for insn in stated {
         insns.push(insn_of(entries, insn)?)?;
     }
@@ -75,36 +75,36 @@ pub fn insns_of(entries: &mut Entries, stated: &[StatedInsn]) -> Result<Seq<Insn
 
 // ---- frames
 
-fn item_of(list: &mut Seq<Const>, item: &StatedItem) -> Result<VItem, Memory>
-    ensures { IfOk result (λ i. item_of item.now list.old ≡ (i, list.new)) }
+fn item_of(pool: &mut Pool, item: &StatedItem) -> Result<VItem, Memory>
+    ensures { IfOk result (λ i. item_of item.now pool.old ≡ (i, pool.new)) }
 {
     match item {
         StatedItem::Done(item) => Ok(*item),
-        StatedItem::Object(name) => Ok(VItem::Object(class_index(list, name)?)),
+        StatedItem::Object(name) => Ok(VItem::Object(class_index(pool, name)?)),
     }
 }
 
-fn items_of(list: &mut Seq<Const>, stated: &[StatedItem]) -> Result<Seq<VItem>, Memory>
-    ensures { IfOk result (λ items. items_of stated.now list.old ≡ (items, list.new)) }
+fn items_of(pool: &mut Pool, stated: &[StatedItem]) -> Result<Seq<VItem>, Memory>
+    ensures { IfOk result (λ items. items_of stated.now pool.old ≡ (items, pool.new)) }
 {
-    let mut items = Seq::new(list.allocator());
+    let mut items = Seq::new(pool.allocator());
     for item in stated {
-        items.push(item_of(list, item)?)?;
+        items.push(item_of(pool, item)?)?;
     }
     Ok(items)
 }
 
-fn shape_of(list: &mut Seq<Const>, far: bool, shape: &StatedShape) -> Result<Shape, Memory>
-    ensures { IfOk result (λ s. shape_of far shape.now list.old ≡ (s, list.new)) }
+fn shape_of(pool: &mut Pool, far: bool, shape: &StatedShape) -> Result<Shape, Memory>
+    ensures { IfOk result (λ s. shape_of far shape.now pool.old ≡ (s, pool.new)) }
 {
     match shape {
         StatedShape::Same => Ok(Shape::Same(far)),
-        StatedShape::One(item) => Ok(Shape::One(far, item_of(list, item)?)),
+        StatedShape::One(item) => Ok(Shape::One(far, item_of(pool, item)?)),
         StatedShape::Chop(count) => Ok(Shape::Chop(*count)),
-        StatedShape::Append(items) => Ok(Shape::Append(items_of(list, items.as_slice())?)),
+        StatedShape::Append(items) => Ok(Shape::Append(items_of(pool, items.as_slice())?)),
         StatedShape::Full(locals, stack) => {
-            let locals = items_of(list, locals.as_slice())?;
-            let stack = items_of(list, stack.as_slice())?;
+            let locals = items_of(pool, locals.as_slice())?;
+            let stack = items_of(pool, stack.as_slice())?;
             Ok(Shape::Full(locals, stack))
         }
     }
@@ -122,17 +122,17 @@ fn place_in(starts: &[u32], at: u32) -> u32
 
 /// The frames, each in its short form where it stands near the one before.
 pub fn frames_of(
-    list: &mut Seq<Const>,
+    pool: &mut Pool,
     starts: &[u32],
     stated: &[StatedFrame],
 ) -> Result<Seq<Frame>, Memory>
-    ensures { IfOk result (λ frames. frames_of starts.now 0 stated.now list.old ≡ (frames, list.new)) }
+    ensures { IfOk result (λ frames. frames_of starts.now 0 stated.now pool.old ≡ (frames, pool.new)) }
 {
-    let mut frames = Seq::new(list.allocator());
+    let mut frames = Seq::new(pool.allocator());
     let mut next = 0u64;
     for frame in stated {
         let start = u64::from(place_in(starts, frame.at));
-        let shape = shape_of(list, 64 <= start.saturating_sub(next), &frame.shape)?;
+        let shape = shape_of(pool, 64 <= start.saturating_sub(next), &frame.shape)?;
         frames.push(Frame {
             at: frame.at,
             shape,
@@ -144,11 +144,11 @@ pub fn frames_of(
 
 // ---- rows and notes
 
-fn row_of(list: &mut Seq<Const>, row: &StatedRow) -> Result<Row, Memory>
-    ensures { IfOk result (λ r. row_of row.now list.old ≡ (r, list.new)) }
+fn row_of(pool: &mut Pool, row: &StatedRow) -> Result<Row, Memory>
+    ensures { IfOk result (λ r. row_of row.now pool.old ≡ (r, pool.new)) }
 {
     let catch = match &row.catch {
-        Some(name) => class_index(list, name)?,
+        Some(name) => class_index(pool, name)?,
         None => 0,
     };
     Ok(Row {
@@ -159,43 +159,43 @@ fn row_of(list: &mut Seq<Const>, row: &StatedRow) -> Result<Row, Memory>
     })
 }
 
-pub fn rows_of(list: &mut Seq<Const>, stated: &[StatedRow]) -> Result<Seq<Row>, Memory>
-    ensures { IfOk result (λ rows. rows_of stated.now list.old ≡ (rows, list.new)) }
+pub fn rows_of(pool: &mut Pool, stated: &[StatedRow]) -> Result<Seq<Row>, Memory>
+    ensures { IfOk result (λ rows. rows_of stated.now pool.old ≡ (rows, pool.new)) }
 {
-    let mut rows = Seq::new(list.allocator());
+    let mut rows = Seq::new(pool.allocator());
     for row in stated {
-        rows.push(row_of(list, row)?)?;
+        rows.push(row_of(pool, row)?)?;
     }
     Ok(rows)
 }
 
 /// The element `expected` of an annotation.
-fn pairs_of(list: &mut Seq<Const>, expected: &Option<Name>) -> Result<Seq<(u16, Elem)>, Memory>
-    ensures { IfOk result (λ pairs. pairs_of expected.now list.old ≡ (pairs, list.new)) }
+fn pairs_of(pool: &mut Pool, expected: &Option<Name>) -> Result<Seq<(u16, Elem)>, Memory>
+    ensures { IfOk result (λ pairs. pairs_of expected.now pool.old ≡ (pairs, pool.new)) }
 {
-    let mut pairs = Seq::new(list.allocator());
+    let mut pairs = Seq::new(pool.allocator());
     if let Some(class) = expected {
-        let name = word_index(list, "expected")?;
-        let class = text_index(list, class)?;
+        let name = word_index(pool, "expected")?;
+        let class = text_index(pool, class)?;
         pairs.push((name, Elem::Class(class)))?;
     }
     Ok(pairs)
 }
 
-fn note_of(list: &mut Seq<Const>, note: &StatedNote) -> Result<Note, Memory>
-    ensures { IfOk result (λ n. note_of note.now list.old ≡ (n, list.new)) }
+fn note_of(pool: &mut Pool, note: &StatedNote) -> Result<Note, Memory>
+    ensures { IfOk result (λ n. note_of note.now pool.old ≡ (n, pool.new)) }
 {
-    let kind = text_index(list, &note.kind)?;
-    let pairs = pairs_of(list, &note.expected)?;
+    let kind = text_index(pool, &note.kind)?;
+    let pairs = pairs_of(pool, &note.expected)?;
     Ok(Note { kind, pairs })
 }
 
-pub fn notes_of(list: &mut Seq<Const>, stated: &[StatedNote]) -> Result<Seq<Note>, Memory>
-    ensures { IfOk result (λ notes. notes_of stated.now list.old ≡ (notes, list.new)) }
+pub fn notes_of(pool: &mut Pool, stated: &[StatedNote]) -> Result<Seq<Note>, Memory>
+    ensures { IfOk result (λ notes. notes_of stated.now pool.old ≡ (notes, pool.new)) }
 {
-    let mut notes = Seq::new(list.allocator());
+    let mut notes = Seq::new(pool.allocator());
     for note in stated {
-        notes.push(note_of(list, note)?)?;
+        notes.push(note_of(pool, note)?)?;
     }
     Ok(notes)
 }

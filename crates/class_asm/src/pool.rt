@@ -1,42 +1,34 @@
 //! The constant pool of a class, to which entries are added as they are needed.
 
-ghost use Rattle.std.specs.Prelude.{◌≡◌, ◌++◌, position, IfOk, OnOk};
-ghost use Rattle.class_asm.specs.Numbering.{is_same, index_of, interned, text_index, class_index, string_index, pair_index, wide_interned, parts_index, entry_index};
+ghost use Rattle.std.specs.Prelude.{◌≡◌, ◌++◌, [], IfOk, OnOk, OnErr};
+ghost use Rattle.class_asm.specs.Numbering.{index_of, interned, text_index, class_index, string_index, pair_index, wide_interned, parts_index, entry_index};
+ghost use Rattle.class_asm.specs.Places.{entry_of};
 
+use crate::said::Said;
 use crate::stated::{Entry, MemberName};
 use class_model::{Const, Memory, Name, Seq};
+use std::alloc::Global;
+use std::collections::HashMap;
+use std::marker::Model;
 
-/// Two entries of the kinds that are added here are the same.
-fn is_same(one: &Const, other: &Const) -> bool
-    ensures { result ≡ is_same one.now other.now }
-{
-    match one {
-        Const::Utf8(units) =>
-            matches!(other, Const::Utf8(text) if units.as_slice() == text.as_slice()),
-        Const::Integer(value) => matches!(other, Const::Integer(number) if *value == *number),
-        Const::Long(value) => matches!(other, Const::Long(number) if *value == *number),
-        Const::Class(name) => matches!(other, Const::Class(index) if *name == *index),
-        Const::Text(text) => matches!(other, Const::Text(index) if *text == *index),
-        Const::Field(class, pair) => {
-            matches!(other, Const::Field(first, second) if *class == *first && *pair == *second)
-        }
-        Const::Method(class, pair) => {
-            matches!(other, Const::Method(first, second) if *class == *first && *pair == *second)
-        }
-        Const::IMethod(class, pair) => {
-            matches!(other, Const::IMethod(first, second) if *class == *first && *pair == *second)
-        }
-        Const::Pair(name, desc) => {
-            matches!(other, Const::Pair(first, second) if *name == *first && *desc == *second)
-        }
-        _ => false,
-    }
+/// A constant pool that grows. Contracts see it as its list of entries.
+#[derive(Drop)]
+pub struct Pool {
+    entries: Vec<Const>,
+    // the first place of each entry, so that adding one costs no walk over the pool
+    places: HashMap<Said, usize>,
 }
 
-fn place_of(list: &[Const], entry: &Const) -> Option<usize>
-    ensures { result ≡ position (is_same entry.now) list.now }
-{
-    list.iter().position(|other| is_same(entry, other))
+impl Model for Pool {
+    ghost use Rattle.std.specs.Prelude.{List};
+    ghost use Rattle.class_model.specs.declared.constant.Const.{Const};
+    ghost use Rattle.class_asm.specs.Places.{HasPlaces};
+
+    ghost Value = { List Const };
+
+    ghost view = { λ p. p.entries.items };
+
+    ghost invariant = { λ p. HasPlaces p.places p.entries.items };
 }
 
 /// The index of the entry at a place. A pool with a place past the last index is refused when it is written.
@@ -50,22 +42,62 @@ fn index_of(place: usize) -> u16
     }
 }
 
-/// The index of an entry, which is added unless an equal one is there.
-fn intern(list: &mut Seq<Const>, entry: Const) -> Result<u16, Memory>
-    ensures { IfOk result (λ index. interned entry list.old ≡ (index, list.new)) }
-{
-    if let Some(place) = place_of(list.as_slice(), &entry) {
-        return Ok(index_of(place));
+impl Pool {
+    pub fn new(alloc: Global) -> Pool
+        ensures { result ≡ [] }
+    {
+        Pool {
+            entries: Vec::new(alloc),
+            places: HashMap::new(alloc),
+        }
     }
-    let place = list.len();
-    list.push(entry)?;
-    Ok(index_of(place))
+
+    /// The allocator that the pool keeps.
+    pub fn allocator(&self) -> Global {
+        *self.entries.allocator()
+    }
+
+    /// The entries in the order in which they were added.
+    pub fn into_entries(self) -> Seq<Const>
+        ensures { result ≡ self }
+    {
+        Seq::from_vec(self.entries)
+    }
+
+    /// The index of an entry, which is added unless an equal one is there. Where memory runs out the pool is unchanged.
+    fn intern(&mut self, said: Said) -> Result<u16, Memory>
+        ensures ok { IfOk result (λ index. interned (entry_of said) self.old ≡ (index, self.new)) }
+        ensures err { OnErr result (self.new ≡ self.old) }
+    {
+        if let Some(place) = self.places.get(&said) {
+            return Ok(index_of(*place));
+        }
+        let place = self.entries.len();
+        self.entries.push(said.entry()?)?;
+        if self.places.insert(said, place).is_err() {
+            self.entries.truncate(place);
+            return Err(Memory);
+        }
+        Ok(index_of(place))
+    }
+
+    /// The same of an entry that takes two places.
+    fn intern_wide(&mut self, said: Said) -> Result<u16, Memory>
+        ensures { IfOk result (λ index. wide_interned (entry_of said) self.old ≡ (index, self.new)) }
+    {
+        let before = self.entries.len();
+        let index = self.intern(said)?;
+        if before < self.entries.len() {
+            self.entries.push(Const::Second)?;
+        }
+        Ok(index)
+    }
 }
 
-pub fn text_index(list: &mut Seq<Const>, text: &Name) -> Result<u16, Memory>
-    ensures { IfOk result (λ index. text_index text.now list.old ≡ (index, list.new)) }
+pub fn text_index(pool: &mut Pool, text: &Name) -> Result<u16, Memory>
+    ensures { IfOk result (λ index. text_index text.now pool.old ≡ (index, pool.new)) }
 {
-    intern(list, Const::Utf8(text.copy()?))
+    pool.intern(Said::Utf8(text.copy()?))
 }
 
 fn push_units(units: &mut Name, word: &str) -> Result<(), Memory>
@@ -78,79 +110,66 @@ fn push_units(units: &mut Name, word: &str) -> Result<(), Memory>
 }
 
 /// The index of a text in ASCII.
-pub fn word_index(list: &mut Seq<Const>, word: &str) -> Result<u16, Memory>
-    ensures { IfOk result (λ index. text_index word.now list.old ≡ (index, list.new)) }
+pub fn word_index(pool: &mut Pool, word: &str) -> Result<u16, Memory>
+    ensures { IfOk result (λ index. text_index word.now pool.old ≡ (index, pool.new)) }
 {
-    let mut units = Seq::new(list.allocator());
+    let mut units = Seq::new(pool.allocator());
     push_units(&mut units, word)?;
-    intern(list, Const::Utf8(units))
+    pool.intern(Said::Utf8(units))
 }
 
-pub fn class_index(list: &mut Seq<Const>, name: &Name) -> Result<u16, Memory>
-    ensures { IfOk result (λ index. class_index name.now list.old ≡ (index, list.new)) }
+pub fn class_index(pool: &mut Pool, name: &Name) -> Result<u16, Memory>
+    ensures { IfOk result (λ index. class_index name.now pool.old ≡ (index, pool.new)) }
 {
-    let name = text_index(list, name)?;
-    intern(list, Const::Class(name))
+    let name = text_index(pool, name)?;
+    pool.intern(Said::Class(name))
 }
 
 /// A text of a constant.
-fn string_index(list: &mut Seq<Const>, text: &Name) -> Result<u16, Memory>
-    ensures { IfOk result (λ index. string_index text.now list.old ≡ (index, list.new)) }
+fn string_index(pool: &mut Pool, text: &Name) -> Result<u16, Memory>
+    ensures { IfOk result (λ index. string_index text.now pool.old ≡ (index, pool.new)) }
 {
-    let text = text_index(list, text)?;
-    intern(list, Const::Text(text))
+    let text = text_index(pool, text)?;
+    pool.intern(Said::Text(text))
 }
 
-/// The same of an entry that takes two places.
-fn intern_wide(list: &mut Seq<Const>, entry: Const) -> Result<u16, Memory>
-    ensures { IfOk result (λ index. wide_interned entry list.old ≡ (index, list.new)) }
+fn pair_index(pool: &mut Pool, name: &Name, desc: &Name) -> Result<u16, Memory>
+    ensures { IfOk result (λ index. pair_index name.now desc.now pool.old ≡ (index, pool.new)) }
 {
-    if let Some(place) = place_of(list.as_slice(), &entry) {
-        return Ok(index_of(place));
-    }
-    let place = list.len();
-    list.push(entry)?;
-    list.push(Const::Second)?;
-    Ok(index_of(place))
-}
-
-fn pair_index(list: &mut Seq<Const>, name: &Name, desc: &Name) -> Result<u16, Memory>
-    ensures { IfOk result (λ index. pair_index name.now desc.now list.old ≡ (index, list.new)) }
-{
-    let name = text_index(list, name)?;
-    let desc = text_index(list, desc)?;
-    intern(list, Const::Pair(name, desc))
+    let name = text_index(pool, name)?;
+    let desc = text_index(pool, desc)?;
+    pool.intern(Said::Pair(name, desc))
 }
 
 /// The class and the pair of a member.
-fn parts_index(list: &mut Seq<Const>, member: &MemberName) -> Result<(u16, u16), Memory>
-    ensures { IfOk result (λ parts. parts_index member.now list.old ≡ (parts, list.new)) }
+fn parts_index(pool: &mut Pool, member: &MemberName) -> Result<(u16, u16), Memory>
+    ensures { IfOk result (λ parts. parts_index member.now pool.old ≡ (parts, pool.new)) }
 {
-    let class = class_index(list, &member.class)?;
-    let pair = pair_index(list, &member.name, &member.desc)?;
+    let class = class_index(pool, &member.class)?;
+    let pair = pair_index(pool, &member.name, &member.desc)?;
     Ok((class, pair))
 }
 
 /// The index of an entry by what it says, behind those that it names.
-pub fn entry_index(list: &mut Seq<Const>, entry: &Entry) -> Result<u16, Memory>
-    ensures { IfOk result (λ index. entry_index entry.now list.old ≡ (index, list.new)) }
+pub fn entry_index(pool: &mut Pool, entry: &Entry) -> Result<u16, Memory>
+    ensures { IfOk result (λ index. entry_index entry.now pool.old ≡ (index, pool.new)) }
 {
     match entry {
-        Entry::Integer(value) => intern(list, Const::Integer(*value)),
-        Entry::Long(value) => intern_wide(list, Const::Long(*value)),
-        Entry::Class(name) => class_index(list, name),
-        Entry::Text(text) => string_index(list, text),
+        Entry::Integer(value) => pool.intern(Said::Integer(*value)),
+        Entry::Long(value) => pool.intern_wide(Said::Long(*value)),
+        Entry::Class(name) => class_index(pool, name),
+        Entry::Text(text) => string_index(pool, text),
         Entry::Field(member) => {
-            let (class, pair) = parts_index(list, member)?;
-            intern(list, Const::Field(class, pair))
+            let (class, pair) = parts_index(pool, member)?;
+            pool.intern(Said::Field(class, pair))
         }
         Entry::Method(member) => {
-            let (class, pair) = parts_index(list, member)?;
-            intern(list, Const::Method(class, pair))
+            let (class, pair) = parts_index(pool, member)?;
+            pool.intern(Said::Method(class, pair))
         }
         Entry::InterfaceMethod(member) => {
-            let (class, pair) = parts_index(list, member)?;
-            intern(list, Const::IMethod(class, pair))
+            let (class, pair) = parts_index(pool, member)?;
+            pool.intern(Said::InterfaceMethod(class, pair))
         }
     }
 }

@@ -5,4 +5,4 @@ use Rattle.class_asm.proofs.EachLaws.{fronted}
 use Rattle.class_asm.proofs.numbering.notes_of.Given as goal
 
 abbrev pub invariant-loop-note : goal.invariant-loop-note
-invariant-loop-note l = fronted l.notes (each note_of (drop l.note-index l.stated) l.list) ≡ each note_of l.stated l.fn.list
+invariant-loop-note l = fronted l.notes (each note_of (drop l.note-index l.stated) l.pool) ≡ each note_of l.stated l.fn.pool
