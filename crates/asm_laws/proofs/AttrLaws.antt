@@ -36,11 +36,11 @@ use Rattle.mt_attrs.specs.declared.owner.Owner.TheVariants as owner
 use Rattle.mt_attrs.specs.declared.kinds.Known.{Known}
 use Rattle.mt_attrs.specs.declared.kinds.Known.TheVariants as known
 use Rattle.mt_attrs.specs.declared.kinds.Unseen.{Unseen}
-use Rattle.class_asm.specs.Words.{says}
+use Rattle.asm_words.specs.Words.{says}
 use Rattle.class_asm.specs.Numbering.{text_index, behind}
 use Rattle.class_asm.specs.File.{pairs_of, note_of, notes_of}
 use Rattle.class_asm.specs.ClassFile.{with_notes}
-use Rattle.class_asm.specs.declared.stated.StatedNote.{StatedNote}
+use Rattle.asm_insns.specs.declared.stated.StatedNote.{StatedNote}
 use Rattle.asm_laws.specs.Fit.{IsFitResult, IsFitNote}
 use Rattle.asm_laws.proofs.PoolLaws.{IsIn, IsNumberOf, IsFormed}
 use Rattle.asm_laws.proofs.Numbered.{stays, joined, each_numbered}

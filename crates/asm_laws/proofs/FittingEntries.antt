@@ -12,16 +12,16 @@ use Rattle.class_model.specs.declared.constant.Const.TheVariants as const
 use Rattle.class_model.specs.declared.kind.MethodType.{MethodType}
 use Rattle.class_model.specs.declared.fault.DescFault.{DescFault}
 use Rattle.mt_insn.specs.Named.{names, is_some_and, is_loaded, is_field, is_interface_method, words as words_of_kind, counted, desc_counted, entry_counted, is_counted}
-use Rattle.class_asm.specs.Words.{says, last_parted}
-use Rattle.class_asm.specs.Numbers.{between}
-use Rattle.class_asm.specs.Entries.{is_class_entry, member_name, fits_byte, call_words_of}
-use Rattle.class_asm.specs.Named.{class_in, class_entry, plain_constant, constant, interface_method}
-use Rattle.class_asm.specs.Quoted.{is_quoted, quoted_in}
-use Rattle.class_asm.specs.declared.stated.MemberName.{MemberName}
-use Rattle.class_asm.specs.declared.stated.Entry.{Entry}
-use Rattle.class_asm.specs.declared.stated.Entry.TheVariants as entry
-use Rattle.class_asm.proofs.IfSome.{of_map, of_then, of_if, of_else, weaker}
-use Rattle.class_asm.proofs.NumberLaws.{between_is, IsBetween, fits_four}
+use Rattle.asm_words.specs.Words.{says, last_parted}
+use Rattle.asm_words.specs.Numbers.{between}
+use Rattle.asm_insns.specs.Entries.{is_class_entry, member_name, fits_byte, call_words_of}
+use Rattle.asm_insns.specs.Named.{class_in, class_entry, plain_constant, constant, interface_method}
+use Rattle.asm_words.specs.Quoted.{is_quoted, quoted_in}
+use Rattle.asm_insns.specs.declared.stated.MemberName.{MemberName}
+use Rattle.asm_insns.specs.declared.stated.Entry.{Entry}
+use Rattle.asm_insns.specs.declared.stated.Entry.TheVariants as entry
+use Rattle.asm_words.proofs.IfSome.{of_map, of_then, of_if, of_else, weaker}
+use Rattle.asm_words.proofs.NumberLaws.{between_is, IsBetween, fits_four}
 use Rattle.asm_laws.specs.Fit.{IsFitName, IsFitPart, IsFitEntry, Says, SaysPart}
 use Rattle.asm_laws.proofs.FittingUnits.{AreUnits, BothUnits, last_parts_are, quoted_is}
 use Rattle.asm_laws.proofs.FittingNames.{has_method_type, fit_name, class_in_is}

@@ -15,24 +15,24 @@ use Rattle.mt_insn.specs.Named.{names, is_loaded, is_long, is_field, is_method, 
 use Rattle.mt_insn.specs.Code.{HasNames, HasFormedNames, NamesRight}
 use Rattle.mt_insn.specs.declared.opcode.Form.{Form}
 use Rattle.mt_insn.specs.declared.opcode.Form.TheVariants as form
-use Rattle.class_asm.specs.Words.{says}
-use Rattle.class_asm.specs.Numbers.{up_to, between}
-use Rattle.class_asm.specs.Mnemonics.{opcode_of}
-use Rattle.class_asm.specs.Forms.{usable, operand_form}
-use Rattle.class_asm.specs.Operands.{only, both, small_number, number, local, increment, jump, table, lookup, array}
-use Rattle.class_asm.specs.Entries.{member_name, call_words_of}
-use Rattle.class_asm.specs.Named.{constant, long_constant, field_entry, field, method_entry, method, interface_method, any_method, interface_entry, interface, class_in, class_entry, class, dimensions_entry, dimensions}
-use Rattle.class_asm.specs.Insns.{plain, operand_of, plain_insn, wide_arg, wide_insn, insn_by, insn_of}
-use Rattle.class_asm.specs.Stated.{insn_with}
-use Rattle.class_asm.specs.declared.line.Line.{Line}
-use Rattle.class_asm.specs.declared.labels.Labels.{Labels}
-use Rattle.class_asm.specs.declared.stated.Entry.{Entry}
-use Rattle.class_asm.specs.declared.stated.Entry.TheVariants as entry
-use Rattle.class_asm.specs.declared.stated.Operand.{Operand}
-use Rattle.class_asm.specs.declared.stated.Operand.TheVariants as operand
-use Rattle.class_asm.specs.declared.stated.StatedInsn.{StatedInsn}
-use Rattle.class_asm.proofs.IfSome.{of_map, of_then, of_if, of_else, weaker, always}
-use Rattle.class_asm.proofs.NumberLaws.{between_is, IsBetween}
+use Rattle.asm_words.specs.Words.{says}
+use Rattle.asm_words.specs.Numbers.{up_to, between}
+use Rattle.asm_insns.specs.Mnemonics.{opcode_of}
+use Rattle.asm_insns.specs.Forms.{usable, operand_form}
+use Rattle.asm_words.specs.Operands.{only, both, small_number, number, local, increment, jump, table, lookup, array}
+use Rattle.asm_insns.specs.Entries.{member_name, call_words_of}
+use Rattle.asm_insns.specs.Named.{constant, long_constant, field_entry, field, method_entry, method, interface_method, any_method, interface_entry, interface, class_in, class_entry, class, dimensions_entry, dimensions}
+use Rattle.asm_insns.specs.Insns.{plain, operand_of, plain_insn, wide_arg, wide_insn, insn_by, insn_of}
+use Rattle.asm_insns.specs.Stated.{insn_with}
+use Rattle.asm_words.specs.declared.line.Line.{Line}
+use Rattle.asm_words.specs.declared.labels.Labels.{Labels}
+use Rattle.asm_insns.specs.declared.stated.Entry.{Entry}
+use Rattle.asm_insns.specs.declared.stated.Entry.TheVariants as entry
+use Rattle.asm_insns.specs.declared.stated.Operand.{Operand}
+use Rattle.asm_insns.specs.declared.stated.Operand.TheVariants as operand
+use Rattle.asm_insns.specs.declared.stated.StatedInsn.{StatedInsn}
+use Rattle.asm_words.proofs.IfSome.{of_map, of_then, of_if, of_else, weaker, always}
+use Rattle.asm_words.proofs.NumberLaws.{between_is, IsBetween}
 use Rattle.asm_laws.specs.Fit.{IsFitName, IsFitPart, IsFitOperand, IsFitInsn}
 use Rattle.asm_laws.proofs.FittingUnits.{AreUnits, IsUnitLine}
 use Rattle.asm_laws.proofs.FittingNames.{has_kind, has_method_type, class_in_is, fits_eight}

@@ -10,12 +10,12 @@ use Rattle.std.proofs.lemmas.Bool.{ltb-true, ltb-false}
 use Rattle.std.proofs.lemmas.Str.{IsUtf8-from_is_utf8, scalars-chars}
 use Rattle.class_model.specs.Text.{IsUnits}
 use Rattle.class_model.specs.Parting.{parted_at}
-use Rattle.class_asm.specs.Lines.{units_in, in_front, pieces, is_some_word, words_of, is_passed, spelled_line, line_of, lines_from}
-use Rattle.class_asm.specs.Words.{last_place, last_parted}
-use Rattle.class_asm.specs.Quoted.{hex_digit, next_digit, quote_step, is_closed, unquoted, quoted_in}
-use Rattle.class_asm.specs.declared.line.Line.{Line}
-use Rattle.class_asm.proofs.IfSome.{of_map, of_then, of_if, of_unless, of_else, weaker, always}
-use Rattle.class_asm.proofs.NumberLaws.{and_left, and_right}
+use Rattle.asm_words.specs.Lines.{units_in, in_front, pieces, is_some_word, words_of, is_passed, spelled_line, line_of, lines_from}
+use Rattle.asm_words.specs.Words.{last_place, last_parted}
+use Rattle.asm_words.specs.Quoted.{hex_digit, next_digit, quote_step, is_closed, unquoted, quoted_in}
+use Rattle.asm_words.specs.declared.line.Line.{Line}
+use Rattle.asm_words.proofs.IfSome.{of_map, of_then, of_if, of_unless, of_else, weaker, always}
+use Rattle.asm_words.proofs.NumberLaws.{and_left, and_right}
 
 -- ---- a fact of each element
 

@@ -1,12 +1,5 @@
-pub mod LineLaws
-pub mod IfSome
-pub mod NumberLaws
-pub mod MnemonicLaws
-pub mod InsnLaws
-pub mod CodeLaws
-pub mod ClassLaws
-pub mod FormLaws
+pub mod AssembledLaws
 pub mod AttrForm
+pub mod FormLaws
 pub mod EachLaws
 pub mod PlaceLaws
-pub mod AssembledLaws

@@ -4,7 +4,7 @@ use Rattle.std.specs.Prelude.{Option, None, Some, Result, IfSome}
 use Rattle.class_model.specs.declared.class.Class.{Class}
 use Rattle.class_reader.specs.Spells.{class_bytes, IsClass}
 use Rattle.class_asm.specs.Assembled.{AssembledClass}
-use Rattle.class_asm.specs.declared.fault.AsmFault.{AsmFault}
+use Rattle.asm_text.specs.declared.fault.AsmFault.{AsmFault}
 use Rattle.asm_laws.specs.Spelled.{IsSpelled}
 use Rattle.mt_edge.specs.Files.{Files}
 use Rattle.mutest_engine.specs.Words.{Assembly}

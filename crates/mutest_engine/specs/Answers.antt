@@ -7,7 +7,7 @@ use Rattle.class_model.specs.declared.fault.ClassFault.{ClassFault}
 use Rattle.class_model.specs.declared.fault.ClassFault.TheVariants as class_fault
 use Rattle.class_reader.specs.Reading.{class_of_file}
 use Rattle.class_asm.specs.Assembled.{AssembledClass}
-use Rattle.class_asm.specs.declared.fault.AsmFault.TheVariants as asm_fault
+use Rattle.asm_text.specs.declared.fault.AsmFault.TheVariants as asm_fault
 use Rattle.mt_edge.specs.Files.{Files}
 use Rattle.class_table.specs.declared.fault.TableFault.TheVariants as table
 use Rattle.mutest_engine.specs.Words.{Command, list_class, run_suite, assemble_class}

@@ -4,7 +4,7 @@ ghost use Rattle.std.specs.Prelude.{◌≡◌, ◌⊎◌, ℕ, MatchResult, Ok, 
 ghost use Rattle.class_model.specs.declared.class.Class.{Class as AnyClass};
 ghost use Rattle.class_reader.specs.Spells.{class_bytes, IsClass};
 ghost use Rattle.class_asm.specs.Assembled.{AssembledClass};
-ghost use Rattle.class_asm.specs.declared.fault.AsmFault.TheVariants as asm_fault;
+ghost use Rattle.asm_text.specs.declared.fault.AsmFault.TheVariants as asm_fault;
 ghost use Rattle.mutest_engine.specs.declared.status.Status.TheVariants.{AsmRefused, WantOfMemory};
 
 use crate::status::Status;

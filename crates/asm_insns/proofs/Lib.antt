@@ -1,0 +1,2 @@
+pub mod MnemonicLaws
+pub mod InsnLaws

@@ -1,0 +1,6 @@
+pub mod Entries
+pub mod Named
+pub mod Mnemonics
+pub mod Forms
+pub mod Insns
+pub mod Stated

@@ -1,0 +1,191 @@
+//! The lines of a code.
+
+ghost use Rattle.std.specs.Prelude.{◌≡◌, IfOk};
+ghost use Rattle.asm_text.specs.Codes.{here, is_behind, line_in, caught, row_of, row_by, row_with, row_in, is_first_label, numbered, framed, guarded, instructed};
+
+use crate::frame::shape_of;
+use asm_insns::{StatedCode, StatedFrame, StatedRow, class_in, insn_of};
+use asm_words::{Labels, Line, end_in, is_first, label_in, says, start_in, u2};
+use class_model::{Memory, Name};
+use std::alloc::Global;
+
+/// The number of the instruction behind what was stated so far, if the method has one.
+fn here(labels: &Labels, code: &StatedCode) -> Option<u32>
+    ensures { result ≡ here labels.now code.now }
+{
+    let at = code.insns.len() as u64;
+    if at < labels.total && at < 0x1_0000_0000 {
+        Some(at as u32)
+    } else {
+        None
+    }
+}
+
+fn line_in(words: &[Name]) -> Option<u16>
+    ensures { result ≡ line_in words.now }
+{
+    match words {
+        [_, number] => u2(number),
+        _ => None,
+    }
+}
+
+/// A line number for the instruction that comes next.
+pub fn numbered(
+    labels: &Labels,
+    mut code: StatedCode,
+    line: &Line,
+) -> Result<Option<StatedCode>, Memory>
+    ensures { IfOk result (λ o. o ≡ numbered labels.now code line.now) }
+{
+    let Some(at) = here(labels, &code) else {
+        return Ok(None);
+    };
+    let Some(number) = line_in(line.words.as_slice()) else {
+        return Ok(None);
+    };
+    code.lines.push((at, number))?;
+    Ok(Some(code))
+}
+
+/// No frame stands at this instruction or behind it.
+fn is_behind(frames: &[StatedFrame], at: u32) -> bool
+    ensures { result ≡ is_behind frames.now at }
+{
+    frames.is_empty() || frames[frames.len() - 1].at < at
+}
+
+/// A frame for the instruction that comes next.
+pub fn framed(
+    alloc: Global,
+    labels: &Labels,
+    mut code: StatedCode,
+    line: &Line,
+) -> Result<Option<StatedCode>, Memory>
+    ensures { IfOk result (λ o. o ≡ framed labels.now code line.now) }
+{
+    let Some(at) = here(labels, &code) else {
+        return Ok(None);
+    };
+    if !is_behind(code.frames.as_slice(), at) {
+        return Ok(None);
+    }
+    let Some(shape) = shape_of(alloc, labels, line.words.as_slice())? else {
+        return Ok(None);
+    };
+    code.frames.push(StatedFrame { at, shape })?;
+    Ok(Some(code))
+}
+
+/// The class that a handler catches: `any` for every class.
+fn caught(alloc: Global, word: &Name) -> Result<Option<Option<Name>>, Memory>
+    ensures { IfOk result (λ o. o ≡ caught word.now) }
+{
+    if says(word, "any") {
+        return Ok(Some(None));
+    }
+    match class_in(alloc, word)? {
+        Some(name) => Ok(Some(Some(name))),
+        None => Ok(None),
+    }
+}
+
+fn row_of(start: u32, end: u32, handler: u32, catch: Option<Option<Name>>) -> Option<StatedRow>
+    ensures { result ≡ row_of start end handler catch }
+{
+    if end <= start {
+        return None;
+    }
+    match catch {
+        Some(catch) => Some(StatedRow {
+            start,
+            end,
+            handler,
+            catch,
+        }),
+        None => None,
+    }
+}
+
+fn row_by(
+    labels: &Labels,
+    start: &Name,
+    end: &Name,
+    handler: &Name,
+    catch: Option<Option<Name>>,
+) -> Option<StatedRow>
+    ensures { result ≡ row_by labels.now start.now end.now handler.now catch }
+{
+    let start = start_in(labels, start.as_slice())?;
+    let end = end_in(labels, end.as_slice())?;
+    let handler = start_in(labels, handler.as_slice())?;
+    row_of(start, end, handler, catch)
+}
+
+fn row_with(
+    alloc: Global,
+    labels: &Labels,
+    start: &Name,
+    end: &Name,
+    handler: &Name,
+    catch: &Name,
+) -> Result<Option<StatedRow>, Memory>
+    ensures { IfOk result (λ o. o ≡ row_with labels.now start.now end.now handler.now catch.now) }
+{
+    let catch = caught(alloc, catch)?;
+    Ok(row_by(labels, start, end, handler, catch))
+}
+
+fn row_in(alloc: Global, labels: &Labels, words: &[Name]) -> Result<Option<StatedRow>, Memory>
+    ensures { IfOk result (λ o. o ≡ row_in labels.now words.now) }
+{
+    match words {
+        [_, start, end, handler, catch] => row_with(alloc, labels, start, end, handler, catch),
+        _ => Ok(None),
+    }
+}
+
+/// A row of the exception table.
+pub fn guarded(
+    alloc: Global,
+    labels: &Labels,
+    mut code: StatedCode,
+    line: &Line,
+) -> Result<Option<StatedCode>, Memory>
+    ensures { IfOk result (λ o. o ≡ guarded labels.now code line.now) }
+{
+    let Some(row) = row_in(alloc, labels, line.words.as_slice())? else {
+        return Ok(None);
+    };
+    code.rows.push(row)?;
+    Ok(Some(code))
+}
+
+/// An instruction.
+pub fn instructed(
+    alloc: Global,
+    labels: &Labels,
+    mut code: StatedCode,
+    line: &Line,
+) -> Result<Option<StatedCode>, Memory>
+    ensures { IfOk result (λ o. o ≡ instructed labels.now code line.now) }
+{
+    let Some(insn) = insn_of(alloc, labels, line)? else {
+        return Ok(None);
+    };
+    code.insns.push(insn)?;
+    Ok(Some(code))
+}
+
+/// The label is the first of its name, and stands alone on its line.
+pub fn is_first_label(labels: &Labels, line: &Line) -> bool
+    ensures { result ≡ is_first_label labels.now line.now }
+{
+    let [word] = line.words.as_slice() else {
+        return false;
+    };
+    match label_in(word.as_slice()) {
+        Some(name) => is_first(labels, name, line.number),
+        None => false,
+    }
+}

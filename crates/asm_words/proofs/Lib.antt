@@ -1,0 +1,3 @@
+pub mod IfSome
+pub mod NumberLaws
+pub mod LineLaws

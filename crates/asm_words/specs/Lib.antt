@@ -1,0 +1,7 @@
+pub mod Words
+pub mod Lines
+pub mod Numbers
+pub mod Keywords
+pub mod Quoted
+pub mod Labels
+pub mod Operands

@@ -1,0 +1,82 @@
+//! Words, compared and taken apart.
+
+ghost use Rattle.std.specs.Prelude.{◌≡◌, ◌==◌, ◌<◌, length, position, IfSome, IfOk, MatchOption, None, Some};
+ghost use Rattle.class_model.specs.Parting.{parted_at};
+ghost use Rattle.asm_words.specs.Words.{says, label_in, last_place, last_parted};
+
+use class_model::Name;
+
+/// What ends a label.
+pub const COLON: u16 = b':' as u16;
+
+const DOT: u16 = b'.' as u16;
+
+fn is_same(units: &[u16], bytes: &[u8]) -> bool
+    ensures { result ≡ says units.now bytes.now }
+{
+    let [unit, units @ ..] = units else {
+        return bytes.is_empty();
+    };
+    let [byte, bytes @ ..] = bytes else {
+        return false;
+    };
+    *unit == u16::from(*byte) && is_same(units, bytes)
+}
+
+/// The word is this text, which is ASCII.
+pub fn says(word: &Name, text: &str) -> bool
+    ensures { result ≡ says word.now text.now }
+{
+    is_same(word.as_slice(), text.as_bytes())
+}
+
+/// The name of a label in a word that ends with a colon.
+pub fn label_in(word: &[u16]) -> Option<&[u16]>
+    ensures { MatchOption result (label_in word.now ≡ None) (λ name. label_in word.now ≡ Some name.now) }
+{
+    if word.len() > 1 && word[word.len() - 1] == COLON {
+        Some(&word[..word.len() - 1])
+    } else {
+        None
+    }
+}
+
+fn place_of(units: &[u16], unit: u16) -> Option<usize>
+    ensures first { result ≡ position (λ other. other == unit) units.now }
+    ensures within { IfSome result (λ place. place < length units.now) }
+{
+    units.iter().position(|other| *other == unit)
+}
+
+/// What stands before the first such unit and what stands behind it, if there is one.
+pub fn parted_at(units: &[u16], unit: u16) -> Option<(&[u16], &[u16])>
+    ensures { MatchOption result (parted_at unit units.now ≡ None) (λ x. parted_at unit units.now ≡ Some (x.0.now, x.1.now)) }
+{
+    match place_of(units, unit) {
+        Some(end) => Some((&units[..end], &units[end + 1..])),
+        None => None,
+    }
+}
+
+fn last_place(units: &[u16], unit: u16) -> Option<usize>
+    ensures last { result ≡ last_place unit units.now }
+    ensures within { IfSome result (λ place. place < length units.now) }
+{
+    let mut last = None;
+    for (place, other) in units.iter().enumerate() {
+        if *other == unit {
+            last = Some(place);
+        }
+    }
+    last
+}
+
+/// What stands before the last dot and what stands behind it, if there is one.
+pub fn parted_at_last_dot(units: &[u16]) -> Option<(&[u16], &[u16])>
+    ensures { MatchOption result (last_parted 46 units.now ≡ None) (λ x. last_parted 46 units.now ≡ Some (x.0.now, x.1.now)) }
+{
+    match last_place(units, DOT) {
+        Some(end) => Some((&units[..end], &units[end + 1..])),
+        None => None,
+    }
+}

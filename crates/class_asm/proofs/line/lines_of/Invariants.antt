@@ -1,6 +1,0 @@
-use Rattle.std.proofs.Common.{◌≡◌, ◌+◌, ◌++◌, drop}
-use Rattle.class_asm.specs.Lines.{lines_from}
-use Rattle.class_asm.proofs.line.lines_of.Given as goal
-
-abbrev pub invariant-loop-index : goal.invariant-loop-index
-invariant-loop-index l = l.lines ++ lines_from (l.index + 1) (drop l.index l.pieces) ≡ lines_from 1 l.pieces

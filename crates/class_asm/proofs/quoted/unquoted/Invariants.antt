@@ -1,8 +1,0 @@
-use Rattle.std.proofs.Common.{◌≡◌, ◌++◌, drop}
-use Rattle.std.specs.Option.{option_map}
-use Rattle.class_asm.specs.Quoted.{unquoted}
-use Rattle.class_asm.specs.declared.quoted.Quote.TheVariants as quote
-use Rattle.class_asm.proofs.quoted.unquoted.Given as goal
-
-abbrev pub invariant-loop-unit : goal.invariant-loop-unit
-invariant-loop-unit l = option_map (λ later. l.text ++ later) (unquoted l.state (drop l.unit-index l.units)) ≡ unquoted quote.Open l.units
