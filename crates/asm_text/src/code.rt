@@ -6,7 +6,7 @@ ghost use Rattle.asm_text.specs.Codes.{here, is_behind, line_in, caught, row_of,
 use crate::frame::shape_of;
 use asm_insns::{StatedCode, StatedFrame, StatedRow, class_in, insn_of};
 use asm_words::{Labels, Line, end_in, is_first, label_in, says, start_in, u2};
-use class_model::{Memory, Name};
+use class_model::{Memory, Name, Seq};
 use std::alloc::Global;
 
 /// The number of the instruction behind what was stated so far, if the method has one.
@@ -116,9 +116,9 @@ fn row_by(
 ) -> Option<StatedRow>
     ensures { result ≡ row_by labels.now start.now end.now handler.now catch }
 {
-    let start = start_in(labels, start.as_slice())?;
-    let end = end_in(labels, end.as_slice())?;
-    let handler = start_in(labels, handler.as_slice())?;
+    let start = start_in(labels, start)?;
+    let end = end_in(labels, end)?;
+    let handler = start_in(labels, handler)?;
     row_of(start, end, handler, catch)
 }
 
@@ -178,14 +178,14 @@ pub fn instructed(
 }
 
 /// The label is the first of its name, and stands alone on its line.
-pub fn is_first_label(labels: &Labels, line: &Line) -> bool
-    ensures { result ≡ is_first_label labels.now line.now }
+pub fn is_first_label(alloc: Global, labels: &Labels, line: &Line) -> Result<bool, Memory>
+    ensures { IfOk result (λ b. b ≡ is_first_label labels.now line.now) }
 {
     let [word] = line.words.as_slice() else {
-        return false;
+        return Ok(false);
     };
     match label_in(word.as_slice()) {
-        Some(name) => is_first(labels, name, line.number),
-        None => false,
+        Some(name) => Ok(is_first(labels, &Seq::from_slice(alloc, name)?, line.number)),
+        None => Ok(false),
     }
 }

@@ -54,7 +54,7 @@ fn item_of(alloc: Global, word: &Name) -> Result<Option<StatedItem>, Memory>
 fn new_item(labels: &Labels, label: &Name) -> Option<StatedItem>
     ensures { result ≡ new_item labels.now label.now }
 {
-    let start = start_in(labels, label.as_slice())?;
+    let start = start_in(labels, label)?;
     Some(StatedItem::Done(VItem::Uninitialized(start)))
 }
 

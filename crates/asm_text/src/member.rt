@@ -140,7 +140,7 @@ fn code_step(
         LineKind::Frame => framed(alloc, labels, code, line),
         LineKind::Handler => guarded(alloc, labels, code, line),
         LineKind::Instruction => instructed(alloc, labels, code, line),
-        LineKind::Label if is_first_label(labels, line) => Ok(Some(code)),
+        LineKind::Label if is_first_label(alloc, labels, line)? => Ok(Some(code)),
         _ => Ok(None),
     }
 }

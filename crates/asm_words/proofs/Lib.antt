@@ -1,3 +1,5 @@
 pub mod IfSome
 pub mod NumberLaws
 pub mod LineLaws
+pub mod Positions
+pub mod LabelLaws

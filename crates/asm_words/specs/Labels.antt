@@ -4,7 +4,7 @@ use Rattle.std.specs.Option.{option_map}
 use Rattle.asm_words.specs.Words.{says, label_in}
 use Rattle.asm_words.specs.Keywords.{line_kind}
 use Rattle.asm_words.specs.declared.line.Line.{Line}
-use Rattle.asm_words.specs.declared.labels.Label.{Label}
+use Rattle.asm_words.specs.declared.known_labels.Label.{Label}
 use Rattle.asm_words.specs.declared.labels.Labels.{Labels}
 use Rattle.asm_words.specs.declared.keyword.LineKind.{LineKind}
 use Rattle.asm_words.specs.declared.keyword.LineKind.TheVariants as kind

@@ -4,4 +4,5 @@ pub mod Numbers
 pub mod Keywords
 pub mod Quoted
 pub mod Labels
+pub mod LabelPlaces
 pub mod Operands

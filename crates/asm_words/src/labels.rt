@@ -1,28 +1,19 @@
 //! The labels of a method.
 
 ghost use Rattle.std.specs.Prelude.{◌≡◌, ◌≤◌, ◌++◌, option_to_list, IfOk, OnOk};
-ghost use Rattle.std.specs.Option.{option_copied};
-ghost use Rattle.asm_words.specs.Labels.{weight, labels_of, first_of, label_at, is_first, place_of, start_in, end_in};
+ghost use Rattle.asm_words.specs.Labels.{weight, labels_of, label_at, is_first, place_of, start_in, end_in};
 
 use crate::keyword::{LineKind, line_kind};
+use crate::known_labels::{KnownLabels, Label};
 use crate::line::Line;
 use crate::word::label_in;
 use class_model::{Memory, Name, Seq};
 use std::alloc::Global;
 
-/// A label, and the number of the instruction before which it stands.
-#[derive(Drop)]
-pub struct Label {
-    pub name: Name,
-    pub at: u64,
-    /// The number of its line.
-    pub line: u64,
-}
-
-/// The labels of a method in their order, and how many instructions it has.
+/// The labels of a method, and how many instructions it has.
 #[derive(Drop)]
 pub struct Labels {
-    pub known: Seq<Label>,
+    pub known: KnownLabels,
     pub total: u64,
 }
 
@@ -45,7 +36,7 @@ fn label_of(alloc: Global, line: &Line, at: u64) -> Result<Option<Label>, Memory
     }
 }
 
-fn push_label(known: &mut Seq<Label>, label: Option<Label>) -> Result<(), Memory>
+fn push_label(known: &mut KnownLabels, label: Option<Label>) -> Result<(), Memory>
     ensures { OnOk result (known.new ≡ known.old ++ option_to_list label) }
 {
     if let Some(label) = label {
@@ -70,7 +61,7 @@ fn weight(line: &Line) -> u64
 pub fn labels_of(alloc: Global, lines: &[Line]) -> Result<Labels, Memory>
     ensures { IfOk result (λ labels. labels ≡ labels_of lines.now) }
 {
-    let mut known = Seq::new(alloc);
+    let mut known = KnownLabels::new(alloc);
     let mut total = 0u64;
     for line in lines {
         let label = label_of(alloc, line, total)?;
@@ -80,38 +71,26 @@ pub fn labels_of(alloc: Global, lines: &[Line]) -> Result<Labels, Memory>
     Ok(Labels { known, total })
 }
 
-/// The first label of a name.
-fn first_of<'a>(labels: &'a [Label], name: &[u16]) -> Option<&'a Label>
-    ensures { option_copied result ≡ first_of labels.now name.now }
-{
-    for label in labels {
-        if label.name.as_slice() == name {
-            return Some(label);
-        }
-    }
-    None
-}
-
 /// Where a label stands.
-fn label_at(labels: &Labels, name: &[u16]) -> Option<u64>
+fn label_at(labels: &Labels, name: &Name) -> Option<u64>
     ensures { result ≡ label_at labels.now name.now }
 {
-    let label = first_of(labels.known.as_slice(), name)?;
+    let label = labels.known.first(name)?;
     Some(label.at)
 }
 
 /// The label of this name on this line is the first of its name.
-pub fn is_first(labels: &Labels, name: &[u16], line: u64) -> bool
+pub fn is_first(labels: &Labels, name: &Name, line: u64) -> bool
     ensures { result ≡ is_first labels.now name.now line }
 {
-    match first_of(labels.known.as_slice(), name) {
+    match labels.known.first(name) {
         Some(label) => label.line == line,
         None => false,
     }
 }
 
 /// The number of the instruction before which a label stands.
-pub fn start_in(labels: &Labels, name: &[u16]) -> Option<u32>
+pub fn start_in(labels: &Labels, name: &Name) -> Option<u32>
     ensures { result ≡ start_in labels.now name.now }
 {
     let at = label_at(labels, name)?;
@@ -123,7 +102,7 @@ pub fn start_in(labels: &Labels, name: &[u16]) -> Option<u32>
 }
 
 /// The same, where a label behind the last instruction names the code's end.
-pub fn end_in(labels: &Labels, name: &[u16]) -> Option<u32>
+pub fn end_in(labels: &Labels, name: &Name) -> Option<u32>
     ensures { result ≡ end_in labels.now name.now }
 {
     let at = label_at(labels, name)?;

@@ -2,6 +2,7 @@
 #![tactic(auto)]
 
 mod keyword;
+mod known_labels;
 mod labels;
 mod line;
 mod number;
@@ -10,6 +11,7 @@ mod quoted;
 mod word;
 
 pub use keyword::{LineKind, begins_part, line_kind};
+pub use known_labels::{KnownLabels, Label};
 pub use labels::{Labels, end_in, is_first, labels_of, start_in};
 pub use line::{Line, lines_in, lines_of};
 pub use number::{s4, s8, u1, u2};

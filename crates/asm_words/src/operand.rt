@@ -75,7 +75,7 @@ pub fn jump(labels: &Labels, words: &[Name]) -> Option<Arg>
     ensures { result ≡ jump labels.now words.now }
 {
     match words {
-        [label] => Some(Arg::To(start_in(labels, label.as_slice())?)),
+        [label] => Some(Arg::To(start_in(labels, label)?)),
         _ => None,
     }
 }
@@ -85,7 +85,7 @@ fn starts_in(alloc: Global, labels: &Labels, words: &[Name]) -> Result<Option<Se
 {
     let mut starts = Seq::new(alloc);
     for word in words {
-        match start_in(labels, word.as_slice()) {
+        match start_in(labels, word) {
             Some(start) => starts.push(start)?,
             None => return Ok(None),
         }
@@ -110,7 +110,7 @@ pub fn table(alloc: Global, labels: &Labels, words: &[Name]) -> Result<Option<Ar
     let Some(low) = s4(low.as_slice()) else {
         return Ok(None);
     };
-    let Some(default) = start_in(labels, default.as_slice()) else {
+    let Some(default) = start_in(labels, default) else {
         return Ok(None);
     };
     if !has_room(low, targets.len()) {
@@ -122,13 +122,20 @@ pub fn table(alloc: Global, labels: &Labels, words: &[Name]) -> Result<Option<Ar
     }
 }
 
-fn pair_in(labels: &Labels, word: &Name) -> Option<(i32, u32)>
-    ensures { result ≡ pair_in labels.now word.now }
+fn pair_in(alloc: Global, labels: &Labels, word: &Name) -> Result<Option<(i32, u32)>, Memory>
+    ensures { IfOk result (λ o. o ≡ pair_in labels.now word.now) }
 {
-    let (key, label) = parted_at(word.as_slice(), COLON)?;
-    let key = s4(key)?;
-    let start = start_in(labels, label)?;
-    Some((key, start))
+    let Some((key, label)) = parted_at(word.as_slice(), COLON) else {
+        return Ok(None);
+    };
+    let Some(key) = s4(key) else {
+        return Ok(None);
+    };
+    let label = Seq::from_slice(alloc, label)?;
+    match start_in(labels, &label) {
+        Some(start) => Ok(Some((key, start))),
+        None => Ok(None),
+    }
 }
 
 fn pairs_in(
@@ -140,7 +147,7 @@ fn pairs_in(
 {
     let mut pairs = Seq::new(alloc);
     for word in words {
-        match pair_in(labels, word) {
+        match pair_in(alloc, labels, word)? {
             Some(pair) => pairs.push(pair)?,
             None => return Ok(None),
         }
@@ -178,7 +185,7 @@ pub fn lookup(alloc: Global, labels: &Labels, words: &[Name]) -> Result<Option<A
     let [default, pairs @ ..] = words else {
         return Ok(None);
     };
-    let Some(default) = start_in(labels, default.as_slice()) else {
+    let Some(default) = start_in(labels, default) else {
         return Ok(None);
     };
     match pairs_in(alloc, labels, pairs)? {

@@ -1,12 +1,11 @@
 -- A map of places that gets the place of what was added has the place of each entry again.
-use Rattle.std.proofs.Common.{◌≡◌, ◌∙◌, sym, refl, ap, ℕ, suc, ◌+◌, ◌==◌, Bool, true, false, ◌&&◌, List, [], ◌∷◌, ◌++◌, length, Option, Some, None, ℤ, arith}
+use Rattle.std.proofs.Common.{◌≡◌, ◌∙◌, sym, refl, ap, ℕ, ◌==◌, Bool, true, false, ◌&&◌, List, [], ◌∷◌, ◌++◌, length, Some, None, ℤ}
 use Rattle.std.specs.Prelude.{position, cond}
-use Rattle.std.specs.List.{position_from}
 use Rattle.std.specs.HashMap.{HashMap, get, Updates}
 use Rattle.std.specs.Cmp.Lexicographic.{same_text}
 use Rattle.std.proofs.lemmas.Bool.{eqb-true}
-use Rattle.std.proofs.lemmas.Iterator.Adapters.{position_from-zero}
 use Rattle.std.proofs.lemmas.Bool.Decides.{Decides-int_eq}
+use Rattle.asm_words.proofs.Positions.{or_behind, none_behind, pushed}
 use Rattle.class_model.specs.declared.constant.Const.{Const}
 use Rattle.class_asm.specs.declared.said.Said.{Said}
 use Rattle.class_asm.specs.declared.said.Said.TheVariants as said
@@ -127,43 +126,16 @@ apart : (s q : Said) (b : Bool) → is_same (entry_of q) (entry_of s) ≡ b → 
 apart s q true e unlike = let t = turned q s (one_of q s e) in let no : true ≡ false = sym e ∙ t ∙ unlike in absurd cc
 apart s q false e unlike = refl
 
-abbrev first_of : Option ℕ → Option ℕ → Option ℕ
-first_of None other = other
-first_of (Some place) other = Some place
-
-pushed_case : (b : Bool) (i : ℕ) (rest behind : Option ℕ) (here : ℕ) → cond b (Some i) (first_of rest behind) ≡ first_of (cond b (Some i) rest) behind
-pushed_case true i rest behind here = refl
-pushed_case false i rest behind here = refl
-
-pushed_from : (p : Const → Bool) (i : ℕ) (xs : List Const) (y : Const) → position_from p i (xs ++ y ∷ []) ≡ first_of (position_from p i xs) (cond (p y) (Some (i + length xs)) None)
-pushed_from p i [] y = let e : i ≡ i + 0 = omega arith in ap (λ k. cond (p y) (Some k) None) e
-pushed_from p i (x ∷ xs) y =
-    let e : (i + 1) + length xs ≡ i + suc (length xs) = omega arith in
-    ap (cond (p x) (Some i)) (pushed_from p (i + 1) xs y ∙ ap (λ k. first_of (position_from p (i + 1) xs) (cond (p y) (Some k) None)) e)
-    ∙ pushed_case (p x) i (position_from p (i + 1) xs) (cond (p y) (Some (i + suc (length xs))) None) i
-
-pushed : (p : Const → Bool) (xs : List Const) (y : Const) → position p (xs ++ y ∷ []) ≡ first_of (position p xs) (cond (p y) (Some (length xs)) None)
-pushed p xs y =
-    let e : 0 + length xs ≡ length xs = omega arith in
-    position_from-zero p (xs ++ y ∷ [])
-    ∙ pushed_from p 0 xs y
-    ∙ ap (λ k. first_of (position_from p 0 xs) (cond (p y) (Some k) None)) e
-    ∙ ap (λ k. first_of k (cond (p y) (Some (length xs)) None)) (sym (position_from-zero p xs))
-
-none_behind : (o : Option ℕ) → o ≡ first_of o None
-none_behind None = refl
-none_behind (Some place) = refl
-
 module _ {S : Type 0} where
-  placed_case : (old : HashMap Said ℕ S) (entries : List Const) (s q : Said) → HasPlaces old entries → get same old s ≡ None → (b : Bool) → same s q ≡ b → cond b (Some (length entries)) (get same old q) ≡ first_of (position (is_same (entry_of q)) entries) (cond (is_same (entry_of q) (entry_of s)) (Some (length entries)) None)
+  placed_case : (old : HashMap Said ℕ S) (entries : List Const) (s q : Said) → HasPlaces old entries → get same old s ≡ None → (b : Bool) → same s q ≡ b → cond b (Some (length entries)) (get same old q) ≡ or_behind (position (is_same (entry_of q)) entries) (cond (is_same (entry_of q) (entry_of s)) (Some (length entries)) None)
   placed_case old entries s q has absent true e =
       let one : s ≡ q = one_of s q (sym (said_same s q) ∙ e) in
       let none : position (is_same (entry_of q)) entries ≡ None = sym (has q) ∙ ap (get same old) (sym one) ∙ absent in
       let it_is : is_same (entry_of q) (entry_of s) ≡ true = sym (turned s q one) ∙ sym (said_same s q) ∙ e in
-      sym (ap (λ b. first_of (position (is_same (entry_of q)) entries) (cond b (Some (length entries)) None)) it_is ∙ ap (λ o. first_of o (Some (length entries))) none)
+      sym (ap (λ b. or_behind (position (is_same (entry_of q)) entries) (cond b (Some (length entries)) None)) it_is ∙ ap (λ o. or_behind o (Some (length entries))) none)
   placed_case old entries s q has absent false e =
       let is_not : is_same (entry_of q) (entry_of s) ≡ false = apart s q (is_same (entry_of q) (entry_of s)) refl (sym (said_same s q) ∙ e) in
-      has q ∙ none_behind (position (is_same (entry_of q)) entries) ∙ sym (ap (λ b. first_of (position (is_same (entry_of q)) entries) (cond b (Some (length entries)) None)) is_not)
+      has q ∙ none_behind (position (is_same (entry_of q)) entries) ∙ sym (ap (λ b. or_behind (position (is_same (entry_of q)) entries) (cond b (Some (length entries)) None)) is_not)
 
   pub placed : (old new : HashMap Said ℕ S) (entries : List Const) (s : Said) → HasPlaces old entries → get same old s ≡ None → Updates same old new s (Some (length entries)) → HasPlaces new (entries ++ entry_of s ∷ [])
   placed old new entries s has absent updates q = updates.0 q ∙ placed_case old entries s q has absent (same s q) refl ∙ sym (pushed (is_same (entry_of q)) entries (entry_of s))
