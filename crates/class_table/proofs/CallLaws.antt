@@ -4,8 +4,8 @@ use Rattle.std.specs.Prelude.{◌&&◌, if◌then◌else◌, option_and_then}
 use Rattle.std.specs.Option.{option_map}
 use Rattle.std.proofs.lemmas.Option.{slice_get-map}
 use Rattle.std.proofs.lemmas.Bool.Decides.{leb_tells}
-use Rattle.machine_rules.specs.Names.{Name, same}
-use Rattle.machine_rules.specs.Linked.{method_from, method_place}
+use Rattle.program_rules.specs.Names.{Name, same}
+use Rattle.program_rules.specs.Linked.{method_from, method_place}
 use Rattle.class_table.specs.declared.calls.Target.{Target}
 use Rattle.class_table.specs.declared.linked.Entry.{Entry}
 use Rattle.class_table.specs.declared.linked.MethodRef.{MethodRef}

@@ -5,7 +5,7 @@ use Rattle.std.specs.Option.{unwrap_or}
 use Rattle.std.proofs.lemmas.Bool.Decides.{nat_tests}
 use Rattle.std.proofs.lemmas.Option.{slice_get_within, slice_get-get_or, get_or_from_slice_get}
 use Rattle.std.proofs.lemmas.List.{get_or-replicate, length-replicate}
-use Rattle.machine_rules.specs.Linked.{LinkedLine, is_later, line_row, line_number, line_at}
+use Rattle.program_rules.specs.Linked.{LinkedLine, is_later, line_row, line_number, line_at}
 use Rattle.class_table.specs.Lines.{some_or, line_from, AreStartsOf, AreLinesOf}
 
 -- The row that counts before an instruction.

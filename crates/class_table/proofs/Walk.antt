@@ -5,9 +5,9 @@ use Rattle.std.specs.List.{list_any}
 use Rattle.std.proofs.lemmas.List.{length-set}
 use Rattle.std.proofs.lemmas.Bool.Decides.{nat_tests}
 use Rattle.std.proofs.lemmas.Cmp.{nat_list_eq_equiv}
-use Rattle.machine_rules.specs.Names.{Name, same}
-use Rattle.machine_rules.specs.Linked.{Linked, parents_with, parents_of, is_library}
-use Rattle.machine_rules.specs.Programs.{Look, joined, supers_within, supers, is_known, consult_one, consult_in, consulted_with}
+use Rattle.program_rules.specs.Names.{Name, same}
+use Rattle.program_rules.specs.Linked.{Linked, parents_with, parents_of, is_library}
+use Rattle.program_rules.specs.Programs.{Look, concat_over, supers_within, supers, is_known, consult_one, consult_in, consulted_with}
 use Rattle.class_table.specs.Info.{Info}
 use Rattle.class_table.specs.Table.{look, name_at}
 use Rattle.class_table.specs.Seen.{Seen, AreKnown, IsConsultedOf}
@@ -82,9 +82,9 @@ module _ (p : Look) where
 
   -- ---- levels
 
-  lower_joined : (ns : List Name) (f g : Name → List Name) → ((n : Name) → AreKnown p ns (f n) → AreKnown p ns (g n)) → (ms : List Name) → AreKnown p ns (joined f ms) → AreKnown p ns (joined g ms)
+  lower_joined : (ns : List Name) (f g : Name → List Name) → ((n : Name) → AreKnown p ns (f n) → AreKnown p ns (g n)) → (ms : List Name) → AreKnown p ns (concat_over f ms) → AreKnown p ns (concat_over g ms)
   lower_joined ns f g h [] k = tt
-  lower_joined ns f g h (m ∷ ms) k = known_both ns (g m) (joined g ms) (h m (known_front ns (f m) (joined f ms) k)) (lower_joined ns f g h ms (known_back ns (f m) (joined f ms) k))
+  lower_joined ns f g h (m ∷ ms) k = known_both ns (g m) (concat_over g ms) (h m (known_front ns (f m) (concat_over f ms) k)) (lower_joined ns f g h ms (known_back ns (f m) (concat_over f ms) k))
 
   lower_one : (ns : List Name) (k : ℕ) (n : Name) → AreKnown p ns (supers_within (suc k) p n) → AreKnown p ns (supers_within k p n)
   lower_one ns zero n h = (h.0, tt)
@@ -102,9 +102,9 @@ module _ (p : Look) where
 
   -- ---- the walk
 
-  joined_both : (f : Name → List Name) (ms ks : List Name) → joined f (ms ++ ks) ≡ joined f ms ++ joined f ks
+  joined_both : (f : Name → List Name) (ms ks : List Name) → concat_over f (ms ++ ks) ≡ concat_over f ms ++ concat_over f ks
   joined_both f [] ks = refl
-  joined_both f (m ∷ ms) ks = ap (λ l. f m ++ l) (joined_both f ms ks) ∙ sym (append_assoc (f m) (joined f ms) (joined f ks))
+  joined_both f (m ∷ ms) ks = ap (λ l. f m ++ l) (joined_both f ms ks) ∙ sym (append_assoc (f m) (concat_over f ms) (concat_over f ks))
 
   parents_both : (parent : Option Name) (is : List Name) → parents_with parent is ≡ parents_with parent [] ++ is
   parents_both None is = refl
@@ -112,23 +112,23 @@ module _ (p : Look) where
 
   pub walk_absent : (n : Name) (ns : List Name) (k : ℕ) → p n ≡ None → consult_one p n ns ≡ consult_in p (supers_within k p n) ns
   walk_absent n ns zero e = refl
-  walk_absent n ns (suc k) e = ap (λ c. consult_in p (joined (supers_within k p) (parents_of c)) (consult_one p n ns)) (sym e)
+  walk_absent n ns (suc k) e = ap (λ c. consult_in p (concat_over (supers_within k p) (parents_of c)) (consult_one p n ns)) (sym e)
 
-  pub walk_one : (n : Name) (ns : List Name) (f : Name → List Name) → consult_in p (f n) ns ≡ consult_in p (joined f (n ∷ [])) ns
+  pub walk_one : (n : Name) (ns : List Name) (f : Name → List Name) → consult_in p (f n) ns ≡ consult_in p (concat_over f (n ∷ [])) ns
   walk_one n ns f = sym (consult_both (f n) [] ns)
 
-  walk_case : (n : Name) (c : Linked) (old one two three : List Name) (k b : ℕ) → p n ≡ Some c → 0 < b → b ≤ k → one ≡ consult_one p n old → ((j : ℕ) → b - 1 ≤ j → two ≡ consult_in p (joined (supers_within j p) (parents_with c.parent [])) one) → ((j : ℕ) → b - 1 ≤ j → three ≡ consult_in p (joined (supers_within j p) c.interfaces) two) → three ≡ consult_in p (supers_within k p n) old
+  walk_case : (n : Name) (c : Linked) (old one two three : List Name) (k b : ℕ) → p n ≡ Some c → 0 < b → b ≤ k → one ≡ consult_one p n old → ((j : ℕ) → b - 1 ≤ j → two ≡ consult_in p (concat_over (supers_within j p) (parents_with c.parent [])) one) → ((j : ℕ) → b - 1 ≤ j → three ≡ consult_in p (concat_over (supers_within j p) c.interfaces) two) → three ≡ consult_in p (supers_within k p n) old
   walk_case n c old one two three zero b e some le first second third = let none : 0 < 0 = omega (arith, some, le) in absurd (omega (arith, none))
   walk_case n c old one two three (suc j) b e some le first second third =
       let below : b - 1 ≤ j = omega (arith, some, le) in
       let f = supers_within j p in
-      let above : consult_in p (joined f (parents_with c.parent c.interfaces)) one ≡ consult_in p (joined f c.interfaces) (consult_in p (joined f (parents_with c.parent [])) one) =
-      ap (λ ms. consult_in p (joined f ms) one) (parents_both c.parent c.interfaces) ∙ ap (λ ms. consult_in p ms one) (joined_both f (parents_with c.parent []) c.interfaces) ∙ consult_both (joined f (parents_with c.parent [])) (joined f c.interfaces) one in
-      third j below ∙ ap (consult_in p (joined f c.interfaces)) (second j below) ∙ sym above
-      ∙ ap (consult_in p (joined f (parents_with c.parent c.interfaces))) first
-      ∙ ap (λ l. consult_in p (joined f (parents_of l)) (consult_one p n old)) (sym e)
+      let above : consult_in p (concat_over f (parents_with c.parent c.interfaces)) one ≡ consult_in p (concat_over f c.interfaces) (consult_in p (concat_over f (parents_with c.parent [])) one) =
+      ap (λ ms. consult_in p (concat_over f ms) one) (parents_both c.parent c.interfaces) ∙ ap (λ ms. consult_in p ms one) (joined_both f (parents_with c.parent []) c.interfaces) ∙ consult_both (concat_over f (parents_with c.parent [])) (concat_over f c.interfaces) one in
+      third j below ∙ ap (consult_in p (concat_over f c.interfaces)) (second j below) ∙ sym above
+      ∙ ap (consult_in p (concat_over f (parents_with c.parent c.interfaces))) first
+      ∙ ap (λ l. consult_in p (concat_over f (parents_of l)) (consult_one p n old)) (sym e)
 
-  pub walk_class : (n : Name) (c : Linked) (old one two three : List Name) (k b : ℕ) → p n ≡ Some c → 0 < b → b ≤ k → one ≡ consult_one p n old → ((j : ℕ) → b - 1 ≤ j → two ≡ consult_in p (joined (supers_within j p) (parents_with c.parent [])) one) → ((j : ℕ) → b - 1 ≤ j → three ≡ consult_in p (joined (supers_within j p) c.interfaces) two) → three ≡ consult_in p (supers_within k p n) old
+  pub walk_class : (n : Name) (c : Linked) (old one two three : List Name) (k b : ℕ) → p n ≡ Some c → 0 < b → b ≤ k → one ≡ consult_one p n old → ((j : ℕ) → b - 1 ≤ j → two ≡ consult_in p (concat_over (supers_within j p) (parents_with c.parent [])) one) → ((j : ℕ) → b - 1 ≤ j → three ≡ consult_in p (concat_over (supers_within j p) c.interfaces) two) → three ≡ consult_in p (supers_within k p n) old
   walk_class n c old one two three k b e some le first second third = walk_case n c old one two three k b e some le first second third
 
 -- ---- marks

@@ -1,7 +1,7 @@
 -- The methods that a program's classes name, by numbers (this project's own).
 use Rattle.std.specs.Prelude.{◌≡◌, ℕ, List, map, Option, Some, None, slice_get, option_and_then, IsSomeAnd, ⊤}
 use Rattle.std.specs.Option.{option_map}
-use Rattle.machine_rules.specs.Names.{Name}
+use Rattle.program_rules.specs.Names.{Name}
 use Rattle.class_table.specs.declared.calls.Target.{Target}
 use Rattle.class_table.specs.declared.linked.Entry.{Entry}
 use Rattle.class_table.specs.declared.linked.MethodRef.{MethodRef}

@@ -1,8 +1,8 @@
 -- A class of a program: its name, where it comes from, and what it means.
 use Rattle.std.specs.Prelude.{◌≡◌, ◌<◌, ◌^◌, List, length, Option, Some, None}
 use Rattle.class_model.specs.declared.class.Class.{Class}
-use Rattle.machine_rules.specs.Names.{Name}
-use Rattle.machine_rules.specs.Linked.{Linked}
+use Rattle.program_rules.specs.Names.{Name}
+use Rattle.program_rules.specs.Linked.{Linked}
 use Rattle.class_table.specs.declared.loaded.ClassBody.{ClassBody}
 use Rattle.class_table.specs.declared.loaded.ClassBody.TheVariants as body
 use Rattle.class_table.specs.declared.linked.LinkedClass.{LinkedClass}

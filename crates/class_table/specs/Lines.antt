@@ -1,6 +1,6 @@
 -- The lines of a code by its instructions (this project's own).
 use Rattle.std.specs.Prelude.{◌≡◌, ℕ, nat_eq, if◌then◌else◌, List, [], ◌∷◌, Option, Some, None, slice_get}
-use Rattle.machine_rules.specs.Linked.{LinkedLine, line_at}
+use Rattle.program_rules.specs.Linked.{LinkedLine, line_at}
 
 -- At each place stands the line of the instruction there.
 abbrev pub AreLinesOf : List ℕ → List LinkedLine → Type 0

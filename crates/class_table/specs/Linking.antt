@@ -12,9 +12,10 @@ use Rattle.class_model.specs.declared.attribute.Body.TheOpen.{Body-F}
 use Rattle.class_model.specs.declared.attribute.Code.{Code, out-Code}
 use Rattle.class_model.specs.declared.attribute.Row.{Row}
 use Rattle.class_model.specs.Pool.{entry_of}
-use Rattle.machine_rules.specs.Names.{Name}
-use Rattle.machine_rules.specs.Kinds.{Kind}
-use Rattle.machine_rules.specs.Linked.{Linked, LinkedMethod, LinkedField, LinkedCode, LinkedRow, LinkedLine, LinkedBody, HasCode, IsNative, NoBody, AssertTrue, AssertFalse, FieldConstant, IntField, LongField, TextField}
+use Rattle.program_rules.specs.Names.{Name}
+use Rattle.program_rules.specs.Kinds.{Kind}
+use Rattle.program_rules.specs.Linked.{Linked, LinkedMethod, LinkedField, LinkedCode, LinkedRow, LinkedLine, LinkedBody, HasCode, IsNative, NoBody, FieldConstant, IntField, LongField, TextField}
+use Rattle.machine_rules.specs.Linked.{AssertTrue, AssertFalse}
 use Rattle.class_table.specs.declared.loaded.LibBody.{LibBody}
 use Rattle.class_table.specs.declared.loaded.LibBody.TheVariants as lib
 use Rattle.class_table.specs.declared.loaded.LibMethod.{LibMethod}

@@ -1,7 +1,7 @@
 -- What a run has consulted.
 use Rattle.std.specs.Prelude.{◌≡◌, ℕ, Bool, true, ⊤, List, [], ◌∷◌, length, slice_get, Some}
-use Rattle.machine_rules.specs.Names.{Name}
-use Rattle.machine_rules.specs.Programs.{Look, supers_within, is_known}
+use Rattle.program_rules.specs.Names.{Name}
+use Rattle.program_rules.specs.Programs.{Look, supers_within, is_known}
 use Rattle.class_table.specs.Info.{Info}
 use Rattle.class_table.specs.Table.{look, name_at}
 

@@ -4,9 +4,9 @@ use Rattle.std.specs.Option.{option_map}
 use Rattle.std.specs.Ordering.{nat_cmp, is_le}
 use Rattle.std.specs.Cmp.Lexicographic.{slice_cmp}
 use Rattle.class_model.specs.Text.{text}
-use Rattle.machine_rules.specs.Names.{Name, same}
-use Rattle.machine_rules.specs.Linked.{Linked, method_place}
-use Rattle.machine_rules.specs.Programs.{Look}
+use Rattle.program_rules.specs.Names.{Name, same}
+use Rattle.program_rules.specs.Linked.{Linked, method_place}
+use Rattle.program_rules.specs.Programs.{Look}
 use Rattle.class_table.specs.declared.loaded.Loaded.{Loaded}
 use Rattle.class_table.specs.declared.loaded.LibClass.{LibClass}
 use Rattle.class_table.specs.declared.loaded.ClassBody.{ClassBody}

@@ -1,9 +1,9 @@
 -- The code's linked class, seen as the linked class of the definitions: what stands in a table of the class or of a code stands in the instruction itself.
 use Rattle.std.specs.Prelude.{ℕ, List, map, Option, Some, None, slice_get}
 use Rattle.std.specs.Option.{option_map}
-use Rattle.machine_rules.specs.Names.{Name}
-use Rattle.machine_rules.specs.Instructions as def
-use Rattle.machine_rules.specs.Linked as def_linked
+use Rattle.program_rules.specs.Names.{Name}
+use Rattle.program_rules.specs.Instructions as def
+use Rattle.program_rules.specs.Linked as def_linked
 use Rattle.class_table.specs.declared.instruction.Operation.{Operation}
 use Rattle.class_table.specs.declared.instruction.Operation.TheVariants as operation
 use Rattle.class_table.specs.declared.instruction.ShiftKind.{ShiftKind}

@@ -1,8 +1,8 @@
 ghost use Rattle.std.specs.Prelude.{◌≡◌, ◌<◌, ◌≤◌, ◌↔◌, ℕ, ◌++◌, [], length, true, slice_get, slice_set, Some, IfOk, OnOk, IsTrue};
 ghost use Rattle.std.specs.List.{list_any};
-ghost use Rattle.machine_rules.specs.Names.{same};
-ghost use Rattle.machine_rules.specs.Linked.{is_library, parents_with};
-ghost use Rattle.machine_rules.specs.Programs.{joined, supers_within, supers, consult_one, consult_in, consulted_with};
+ghost use Rattle.program_rules.specs.Names.{same};
+ghost use Rattle.program_rules.specs.Linked.{is_library, parents_with};
+ghost use Rattle.program_rules.specs.Programs.{concat_over, supers_within, supers, consult_one, consult_in, consulted_with};
 ghost use Rattle.class_table.specs.Table.{look, name_at};
 ghost use Rattle.class_table.specs.Seen.{AreKnown, IsConsultedOf};
 
@@ -149,7 +149,7 @@ impl Program {
         levels: u32,
     ) -> Result<(), Memory>
         requires { IsConsultedOf self.now seen.old }
-        ensures names { OnOk result ((k : ℕ) → levels ≤ k → seen.new.names ≡ consult_in (look self.now) (joined (supers_within k (look self.now)) (parents_with parent.now [])) seen.old.names) }
+        ensures names { OnOk result ((k : ℕ) → levels ≤ k → seen.new.names ≡ consult_in (look self.now) (concat_over (supers_within k (look self.now)) (parents_with parent.now [])) seen.old.names) }
         ensures kept { OnOk result (IsConsultedOf self.now seen.new) }
     {
         let Some(name) = parent else {
@@ -162,7 +162,7 @@ impl Program {
     #[cycle(walk)]
     fn walk_all(&self, seen: &mut Consulted, names: &[Name], levels: u32) -> Result<(), Memory>
         requires { IsConsultedOf self.now seen.old }
-        ensures names { OnOk result ((k : ℕ) → levels ≤ k → seen.new.names ≡ consult_in (look self.now) (joined (supers_within k (look self.now)) names.now) seen.old.names) }
+        ensures names { OnOk result ((k : ℕ) → levels ≤ k → seen.new.names ≡ consult_in (look self.now) (concat_over (supers_within k (look self.now)) names.now) seen.old.names) }
         ensures kept { OnOk result (IsConsultedOf self.now seen.new) }
     {
         for name in names {
@@ -221,7 +221,7 @@ impl Program {
         parent: &Option<Name>,
         levels: u32,
     ) -> Result<(), Memory>
-        ensures { OnOk result ((k : ℕ) → levels ≤ k → out.new.items ≡ out.old.items ++ joined (supers_within k (look self.now)) (parents_with parent.now [])) }
+        ensures { OnOk result ((k : ℕ) → levels ≤ k → out.new.items ≡ out.old.items ++ concat_over (supers_within k (look self.now)) (parents_with parent.now [])) }
     {
         let Some(name) = parent else {
             return Ok(());
@@ -232,7 +232,7 @@ impl Program {
 
     #[cycle(collect)]
     fn collect_all(&self, out: &mut Vec<Name>, names: &[Name], levels: u32) -> Result<(), Memory>
-        ensures { OnOk result ((k : ℕ) → levels ≤ k → out.new.items ≡ out.old.items ++ joined (supers_within k (look self.now)) names.now) }
+        ensures { OnOk result ((k : ℕ) → levels ≤ k → out.new.items ≡ out.old.items ++ concat_over (supers_within k (look self.now)) names.now) }
     {
         for name in names {
             self.collect(out, name, levels)?;

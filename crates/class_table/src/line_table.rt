@@ -2,7 +2,7 @@
 
 ghost use Rattle.std.specs.Prelude.{◌≡◌, ◌&&◌, ◌∷◌, ◌++◌, [], nat_le, if◌then◌else◌, List, map, Some, IfOk};
 ghost use Rattle.std.specs.Option.{option_map};
-ghost use Rattle.machine_rules.specs.Linked.{LinkedLine as Row, is_later, line_row, line_at};
+ghost use Rattle.program_rules.specs.Linked.{LinkedLine as Row, is_later, line_row, line_at};
 ghost use Rattle.class_table.specs.View.{line_of};
 ghost use Rattle.class_table.specs.Lines.{AreStartsOf, AreLinesOf};
 

@@ -1,6 +1,6 @@
 ghost use Rattle.std.specs.Prelude.{◌≡◌, ◌<◌, List, map, length, Some, None, IfSome, IfNone};
 ghost use Rattle.std.specs.Option.{option_copied};
-ghost use Rattle.machine_rules.specs.Linked.{method_place};
+ghost use Rattle.program_rules.specs.Linked.{method_place};
 ghost use Rattle.class_table.specs.View.{method_ref_at, method_of, linked_of};
 ghost use Rattle.class_table.specs.declared.linked.Entry as entry;
 

@@ -5,7 +5,7 @@ ghost use Rattle.std.specs.Arc.{arc_value};
 ghost use Rattle.class_table.specs.Info.{body_name};
 ghost use Rattle.class_table.specs.Table.{bodies_of, names};
 ghost use Rattle.std.specs.HashMap.{get};
-ghost use Rattle.machine_rules.specs.Names.{same};
+ghost use Rattle.program_rules.specs.Names.{same};
 ghost use Rattle.class_table.specs.declared.loaded.ClassBody.TheVariants as body;
 ghost use Rattle.class_table.specs.Numbers.{IsNumbering, with_number, is_before, lesser, is_place, judged, IsTold, IsVerdict};
 

@@ -2,7 +2,7 @@
 #![tactic(auto, unfolding(crate::specs::View::instruction_of))]
 
 ghost use Rattle.std.specs.Prelude.{◌≡◌, ◌==◌, ℕ, List, slice_get, if◌then◌else◌};
-ghost use Rattle.machine_rules.specs.Instructions.{Unlinked};
+ghost use Rattle.program_rules.specs.Instructions.{Unlinked};
 ghost use Rattle.class_table.specs.View.{instruction_of, meaning_at, table_of, lookup_of};
 ghost use Rattle.class_table.specs.Opcodes as opcodes;
 ghost use Rattle.class_table.specs.declared.linked.Entry as entry;

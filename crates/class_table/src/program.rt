@@ -1,7 +1,7 @@
 ghost use Rattle.std.specs.Prelude.{◌≡◌, ◌≢◌, ◌<◌, ℕ, List, map, length, slice_get, slice_set, Some, None, Err, IfOk, OnOk, IfSome, IfNone, IsSomeAnd, option_and_then};
 ghost use Rattle.std.specs.Option.{option_map, option_copied};
 ghost use Rattle.std.specs.Arc.{arc_value};
-ghost use Rattle.machine_rules.specs.Linked.{method_in};
+ghost use Rattle.program_rules.specs.Linked.{method_in};
 ghost use Rattle.class_table.specs.View.{method_of};
 ghost use Rattle.class_table.specs.Info.{class_of, link_body, file_in};
 ghost use Rattle.class_table.specs.Table.{AreDistinct, IsLeastDuplicate, bodies_of, names_of, names, number_of, CanSwap, class_at, name_at, look, entries_at, methods_at, reference_at, named_number, named_place, IsProgram};

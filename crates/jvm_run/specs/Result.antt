@@ -1,7 +1,7 @@
 -- What a run gives, by the names of classes.
 use Rattle.std.specs.Prelude.{◌≡◌, ℕ, List, map, Option, Some, None, slice_get}
 use Rattle.std.proofs.Common.{get_or}
-use Rattle.machine_rules.specs.Names.{Name}
+use Rattle.program_rules.specs.Names.{Name}
 use Rattle.machine_rules.specs.State.{MachineState}
 use Rattle.machine_rules.specs.Runs.{Ran}
 use Rattle.class_table.specs.Info.{Info}

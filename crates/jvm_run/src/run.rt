@@ -1,6 +1,7 @@
 ghost use Rattle.std.specs.Prelude.{◌≡◌, ◌+◌, ◌≤◌, ◌<◌, ◌^◌, IfOk, OnOk, OnErr};
-ghost use Rattle.machine_rules.specs.Runs.{run_from, run_of, at_limit};
-ghost use Rattle.machine_rules.specs.Steps.{ended};
+ghost use Rattle.machine_so_far.specs.Runs.{run_so_far_from, run_so_far};
+ghost use Rattle.machine_rules.specs.Runs.{at_limit};
+ghost use Rattle.machine_rules.specs.Steps.{outcome_of};
 ghost use Rattle.class_table.specs.Table.{look};
 ghost use Rattle.jvm_step.specs.Ending.{ending_of};
 ghost use Rattle.jvm_step.specs.View.{state_of, test_of, limits_of, IsMachineOf};
@@ -25,9 +26,9 @@ pub fn execute(
     part: &mut MeterPart,
 ) -> Result<RunResult, Memory>
     requires { part.old + limit < 2 ^ 64 }
-    ensures run { IfOk result (λ r. IsResultOf r (run_of (look p.now) (test_of test.now) limits limit)) }
+    ensures run { IfOk result (λ r. IsResultOf r (run_so_far (look p.now) (test_of test.now) limits limit)) }
     ensures steps { IfOk result (λ r. part.new ≡ part.old + r.steps) }
-    ensures memory { OnErr result (part.new ≤ part.old + (run_of (look p.now) (test_of test.now) limits limit).steps) }
+    ensures memory { OnErr result (part.new ≤ part.old + (run_so_far (look p.now) (test_of test.now) limits limit).steps) }
 {
     let mut m = Machine::start(alloc, p, test, limits)?;
     let (outcome, steps) = run(alloc, p, &mut m, limit, part)?;
@@ -46,9 +47,9 @@ fn run(
 ) -> Result<(Outcome, u64), Memory>
     requires machine { IsMachineOf p.now m.old }
     requires room { part.old + limit < 2 ^ 64 }
-    ensures run { IfOk result (λ r. IsEndOf r.0 r.1 (state_of p.now m.new) (run_from (look p.now) (limits_of m.old) limit (state_of p.now m.old) 0)) }
+    ensures run { IfOk result (λ r. IsEndOf r.0 r.1 (state_of p.now m.new) (run_so_far_from (look p.now) (limits_of m.old) limit (state_of p.now m.old) 0)) }
     ensures steps { IfOk result (λ r. part.new ≡ part.old + r.1) }
-    ensures memory { OnErr result (part.new ≤ part.old + (run_from (look p.now) (limits_of m.old) limit (state_of p.now m.old) 0).steps) }
+    ensures memory { OnErr result (part.new ≤ part.old + (run_so_far_from (look p.now) (limits_of m.old) limit (state_of p.now m.old) 0).steps) }
 {
     for i in 0..limit {
         match step(alloc, p, m)? {
@@ -64,7 +65,7 @@ fn run(
 
 // How a run ends that has taken all its steps.
 fn outcome_at_limit(p: &Program, m: &Machine) -> Outcome
-    ensures { ending_of result ≡ at_limit (ended (state_of p.now m.now)) }
+    ensures { ending_of result ≡ at_limit (outcome_of (state_of p.now m.now)) }
 {
     match m.end(p) {
         Some(outcome) => Outcome::of(outcome),

@@ -3,9 +3,10 @@ use Rattle.std.proofs.Common.{◌≡◌, ℕ, ◌+◌, ◌<◌, Bool, true, fals
 use Rattle.std.specs.Prelude.{reverse}
 use Rattle.std.proofs.lemmas.List.{reverse-append, length-reverse, length-map, drop_at}
 use Rattle.std.proofs.lemmas.Grind.{reverse_onto}
-use Rattle.machine_rules.specs.declared.value.Value.{Value}
-use Rattle.machine_rules.specs.Kinds.{Kind, is_of_kind}
-use Rattle.machine_rules.specs.Effects.{Effect, NoRow, on_args, on_reversed, reversed_onto}
+use Rattle.program_rules.specs.declared.value.Value.{Value}
+use Rattle.program_rules.specs.Kinds.{Kind, is_of_kind}
+use Rattle.machine_rules.specs.Effects.{Effect, NoRow, on_args, on_reversed}
+use Rattle.program_rules.specs.Kinds.{reversed_onto}
 use Rattle.class_model.specs.declared.kind.Kind as plain
 use Rattle.class_table.specs.Symbols.{kind_of}
 use Rattle.jvm_step.specs.Arguments.{are_of_kinds}

@@ -3,22 +3,26 @@ use Rattle.std.proofs.Common.{◌≡◌, ℕ, Bool, true, false, List, [], ◌�
 use Rattle.std.specs.Prelude.{slice_get, IfSome, IfNone}
 use Rattle.std.specs.Option.{option_map}
 use Rattle.class_model.specs.declared.kind.Kind as plain
-use Rattle.machine_rules.specs.declared.value.Value.{Value}
-use Rattle.machine_rules.specs.declared.value.Value.TheVariants.{Int}
-use Rattle.machine_rules.specs.Kinds.{is_int_kind, narrow}
-use Rattle.machine_rules.specs.Names.{Name, plain_descriptor}
-use Rattle.machine_rules.specs.Steps.{Stuck, act, next_or, place_with, place_of, ended, step_of}
-use Rattle.machine_rules.specs.Script.{calls_next}
+use Rattle.program_rules.specs.declared.value.Value.{Value}
+use Rattle.program_rules.specs.declared.value.Value.TheVariants.{Int}
+use Rattle.program_rules.specs.Kinds.{is_int_kind, narrow}
+use Rattle.program_rules.specs.Names.{Name, plain_descriptor}
+use Rattle.machine_rules.specs.Steps.{Stuck, next_or, place_with, place_of, outcome_of}
+use Rattle.machine_so_far.specs.Steps.{act, step_so_far}
+use Rattle.machine_so_far.specs.Script.{calls_next}
 use Rattle.class_table.specs.Info.{Info}
-use Rattle.machine_rules.specs.State.{Call, Frame, World, MachineState}
+use Rattle.program_rules.specs.Tests.{Call}
+use Rattle.machine_rules.specs.State.{Frame, World, MachineState}
 use Rattle.machine_rules.specs.Effects as rule
 use Rattle.machine_rules.specs.Effects.{Effect, NoRow, Current, on_int, on_args}
 use Rattle.class_table.specs.Symbols.{kind_of}
-use Rattle.machine_rules.specs.Instructions.{MethodRef, Instruction, InvokeStatic}
-use Rattle.machine_rules.specs.Linked.{Linked, LinkedMethod, is_static, is_interface, method_place}
-use Rattle.machine_rules.specs.Programs.{Look}
-use Rattle.machine_rules.specs.Calls.{consult, same_bool, runs, invokes_static, returns, returns_int}
-use Rattle.machine_rules.specs.Initialisation.{Ready, need_of, needed, when_ready}
+use Rattle.program_rules.specs.Instructions.{MethodRef, Instruction, InvokeStatic}
+use Rattle.program_rules.specs.Linked.{Linked, LinkedMethod, is_static, is_interface, method_place}
+use Rattle.program_rules.specs.Programs.{Look}
+use Rattle.machine_rules.specs.Lookups.{consult}
+use Rattle.program_rules.specs.Resolution.{same_bool}
+use Rattle.machine_so_far.specs.Calls.{runs, invokes_static, returns, returns_int}
+use Rattle.machine_so_far.specs.Initialisation.{Ready, need_of, needed, when_ready}
 use Rattle.machine_rules.specs.declared.machine.Limits.{Limits}
 use Rattle.jvm_step.specs.Finding.{FindsStatic, FindsNoStatic}
 use Rattle.jvm_step.specs.declared.frame.Frame as code
@@ -88,8 +92,8 @@ static_ready p q w f fs room r k m n e found need =
 pub stuck_next : (p : Look) (cs rest : List Call) (c : Call) (fs : List Frame) (d : Effect) (class method : Name) → fs ≡ [] → cs ≡ c ∷ rest → d ≡ NoRow → class ≡ c.class → method ≡ c.method ++ plain_descriptor → next_or (place_with p cs fs) d ≡ Stuck (record { class = class; method = method; at = 0 })
 stuck_next p cs rest c fs d class method a b e g h = rw (a, b, e, g, h) refl
 
-pub step_next : (p : Look) (q : Limits) (s : MachineState) → None ≡ ended s → s.thrown ≡ None → s.frames ≡ [] → step_of p q s ≡ next_or (place_of p s) (calls_next p q s.world s.world.script)
-unfolding step_of
+pub step_next : (p : Look) (q : Limits) (s : MachineState) → None ≡ outcome_of s → s.thrown ≡ None → s.frames ≡ [] → step_so_far p q s ≡ next_or (place_of p s) (calls_next p q s.world s.world.script)
+unfolding step_so_far
 step_next p q s e t f = rw (← e, t, f) refl
 
 -- ---- rows of the top frame alone

@@ -3,7 +3,7 @@ use Rattle.std.proofs.Common.{◌≡◌, ℕ, List, map, Option, Some, None, ref
 use Rattle.std.specs.Prelude.{slice_get}
 use Rattle.std.specs.Option.{option_map}
 use Rattle.std.proofs.lemmas.Option.{slice_get-map}
-use Rattle.machine_rules.specs.Instructions as def
+use Rattle.program_rules.specs.Instructions as def
 use Rattle.class_table.specs.declared.linked.MethodRef.{MethodRef}
 use Rattle.class_table.specs.declared.linked.Entry.{Entry}
 use Rattle.class_table.specs.declared.linked.Entry.TheVariants as entry

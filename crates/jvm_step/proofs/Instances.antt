@@ -3,8 +3,8 @@ use Rattle.std.proofs.Common.{◌≡◌, List, [], ◌∷◌, ◌++◌, map, ref
 use Rattle.std.proofs.lemmas.List.{map-append}
 use Rattle.class_model.specs.declared.kind.Kind.{Kind}
 use Rattle.class_model.specs.declared.kind.Kind.TheVariants as kind
-use Rattle.machine_rules.specs.declared.value.Value.{Value}
-use Rattle.machine_rules.specs.Kinds as def
+use Rattle.program_rules.specs.declared.value.Value.{Value}
+use Rattle.program_rules.specs.Kinds as def
 use Rattle.jvm_values.specs.Words.{default_of}
 use Rattle.class_table.specs.Symbols.{kind_of}
 

@@ -6,7 +6,7 @@ use Rattle.std.proofs.lemmas.Cmp.{nat_list_eq_equiv}
 use Rattle.std.proofs.lemmas.Bool.Decides.{nat_tests}
 use Rattle.std.proofs.lemmas.List.{map-append, length-map}
 use Rattle.machine_rules.specs.declared.machine.InitState.{InitState}
-use Rattle.machine_rules.specs.Names.{Name, same}
+use Rattle.program_rules.specs.Names.{Name, same}
 use Rattle.machine_rules.specs.Initialisation.{init_in}
 use Rattle.machine_rules.specs.Steps.{is_reached, reach}
 use Rattle.class_table.specs.Info.{Info}

@@ -1,9 +1,9 @@
 -- A step by its parts.
 use Rattle.std.proofs.Common.{◌≡◌, ℕ, Bool, true, false, List, refl}
 use Rattle.std.specs.Prelude.{if◌then◌else◌}
-use Rattle.machine_rules.specs.Names.{Name}
-use Rattle.machine_rules.specs.Programs.{Look}
-use Rattle.machine_rules.specs.Linked.{is_from_file}
+use Rattle.program_rules.specs.Names.{Name}
+use Rattle.program_rules.specs.Programs.{Look}
+use Rattle.program_rules.specs.Linked.{is_from_file}
 use Rattle.machine_rules.specs.State.{Frame, World}
 use Rattle.machine_rules.specs.Steps.{reach, reaches, line_of}
 use Rattle.jvm_step.specs.View.{reaches_line}

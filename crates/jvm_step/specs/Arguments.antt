@@ -1,7 +1,7 @@
 -- The arguments of a call, and the locals that they become.
 use Rattle.std.specs.Prelude.{ℕ, Bool, true, false, ◌&&◌, nat_le, if◌then◌else◌, List, [], ◌∷◌, length, Option}
-use Rattle.machine_rules.specs.declared.value.Value.{Value}
-use Rattle.machine_rules.specs.Kinds.{Kind, is_of_kind}
+use Rattle.program_rules.specs.declared.value.Value.{Value}
+use Rattle.program_rules.specs.Kinds.{Kind, is_of_kind}
 use Rattle.machine_rules.specs.Effects.{Effect, NoRow, on_args, locals_of}
 use Rattle.jvm_step.specs.View.{filled}
 

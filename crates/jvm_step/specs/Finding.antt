@@ -1,14 +1,17 @@
 -- What a search for a method comes to, apart from what is done with it.
 use Rattle.std.specs.Prelude.{◌≡◌, ℕ, List, []}
 use Rattle.machine_rules.specs.declared.machine.Limits.{Limits}
-use Rattle.machine_rules.specs.Instructions.{MethodRef}
-use Rattle.machine_rules.specs.Linked.{LinkedMethod, LinkedBody}
-use Rattle.machine_rules.specs.Programs.{Look}
-use Rattle.machine_rules.specs.State.{Call, Object, Frame, World}
+use Rattle.program_rules.specs.Instructions.{MethodRef}
+use Rattle.program_rules.specs.Linked.{LinkedMethod, LinkedBody}
+use Rattle.program_rules.specs.Programs.{Look}
+use Rattle.program_rules.specs.Tests.{Call}
+use Rattle.program_rules.specs.Objects.{Object}
+use Rattle.machine_rules.specs.State.{Frame, World}
 use Rattle.machine_rules.specs.Effects.{Effect, NoRow, on_args}
-use Rattle.machine_rules.specs.Calls.{consult, runs, finds_static}
-use Rattle.machine_rules.specs.Initialisation.{need_of, needed, when_ready}
-use Rattle.machine_rules.specs.Script.{new_object, calls_kind, finds_call}
+use Rattle.machine_rules.specs.Lookups.{consult}
+use Rattle.machine_so_far.specs.Calls.{runs, finds_static}
+use Rattle.machine_so_far.specs.Initialisation.{need_of, needed, when_ready}
+use Rattle.machine_so_far.specs.Script.{new_object, calls_kind, finds_call}
 
 -- A static call of this reference finds this method at this place: it goes on with its arguments, once the class is ready.
 abbrev pub FindsStatic : Look → MethodRef → ℕ → LinkedMethod → Type 0

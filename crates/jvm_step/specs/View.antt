@@ -1,17 +1,18 @@
 -- What the machine's numbers and vectors mean: a state by the names of classes.
 use Rattle.std.specs.Prelude.{◌≡◌, ℕ, ◌<◌, ◌+◌, ◌-◌, ◌^◌, ◌++◌, replicate, nat_lt, if◌then◌else◌, Bool, true, false, List, [], ◌∷◌, map, length, Option, Some, None, IfSome, IfNone, codes}
 use Rattle.std.specs.Option.{option_map}
-use Rattle.machine_rules.specs.Names.{Name}
+use Rattle.program_rules.specs.Names.{Name}
 use Rattle.machine_rules.specs.declared.machine.Limits.{Limits}
 use Rattle.machine_rules.specs.State as def
-use Rattle.machine_rules.specs.Effects.{Effect, NoRow, goes_with, Fault, StackOverflow, AssertionFailed, fault_name, throws}
+use Rattle.machine_rules.specs.Effects.{Effect, NoRow, goes_with, Fault, StackOverflow, AssertionFailed, throws}
+use Rattle.program_rules.specs.Faults.{fault_name}
 use Rattle.machine_rules.specs.Effects as effect
-use Rattle.machine_rules.specs.Linked.{is_from_file}
-use Rattle.machine_rules.specs.Programs.{Look}
+use Rattle.program_rules.specs.Linked.{is_from_file}
+use Rattle.program_rules.specs.Programs.{Look}
 use Rattle.machine_rules.specs.Steps as steps
-use Rattle.machine_rules.specs.Natives as natives
+use Rattle.program_rules.specs.Natives as natives
 use Rattle.machine_rules.specs.Initialisation as initialisation
-use Rattle.machine_rules.specs.declared.value.Value.{Value}
+use Rattle.program_rules.specs.declared.value.Value.{Value}
 use Rattle.jvm_values.specs.declared.object.ObjKind.{ObjKind}
 use Rattle.jvm_values.specs.declared.object.ObjKind.TheVariants as kind
 use Rattle.jvm_values.specs.declared.object.Object.{Object}

@@ -1,5 +1,6 @@
 ghost use Rattle.std.specs.Prelude.{◌≡◌};
-ghost use Rattle.machine_rules.specs.Steps.{compares, int_operation};
+ghost use Rattle.machine_rules.specs.Arithmetic.{compares};
+ghost use Rattle.machine_rules.specs.Steps.{int_operation};
 ghost use Rattle.class_table.specs.View.{comparison_of, operation_of};
 
 use class_table::{Comparison, Operation};

@@ -5,12 +5,14 @@ ghost use Rattle.std.specs.Prelude.{◌≡◌, ◌+◌, ◌<◌, ◌^◌, Some, 
 ghost use Rattle.machine_rules.specs.Effects.{on_args, enters};
 ghost use Rattle.machine_rules.specs.Effects as rule;
 ghost use Rattle.machine_rules.specs.Natives.{native};
-ghost use Rattle.machine_rules.specs.Calls.{consult, given, runs, invokes_static, invokes_special, is_object_initializer};
+ghost use Rattle.machine_rules.specs.Lookups.{consult};
+ghost use Rattle.machine_rules.specs.Calls.{given};
+ghost use Rattle.machine_so_far.specs.Calls.{runs, invokes_static, invokes_special, is_object_initializer};
 ghost use Rattle.class_table.specs.Info.{Info};
 ghost use Rattle.class_table.specs.View.{method_ref_of, method_of, body_of, native_of, meaning_at};
 ghost use Rattle.class_table.specs.Opcodes.{on_method};
 ghost use Rattle.class_table.specs.Symbols.{kind_of};
-ghost use Rattle.machine_rules.specs.Instructions.{MethodRef as DefReference, Instruction, Unlinked};
+ghost use Rattle.program_rules.specs.Instructions.{MethodRef as DefReference, Instruction, Unlinked};
 ghost use Rattle.class_table.specs.Table.{look, name_at, entries_at, reference_at};
 ghost use Rattle.jvm_step.specs.Finding.{FindsStatic, FindsNoStatic};
 ghost use Rattle.jvm_step.specs.View.{frame_of, frames_of, callers_of, world_of, state_of, given_in, enters_with, Goes, Comes, IsMachineOf, IsKept};

@@ -2,8 +2,8 @@
 #![tactic(auto, unfolding(class_table::specs::Linking::link_library))]
 
 ghost use Rattle.std.specs.Prelude.{◌≡◌, Some, None, [], ◌∷◌, map, codes, IfOk, OnOk};
-ghost use Rattle.machine_rules.specs.Names.{object_name};
-ghost use Rattle.machine_rules.specs.Library.{library_field as object_field, library_class, library_classes, throwable_fields, assertion};
+ghost use Rattle.program_rules.specs.Names.{object_name};
+ghost use Rattle.program_rules.specs.Library.{library_field as object_field, library_class, library_classes, throwable_fields, assertion};
 ghost use Rattle.machine_rules.specs.Linked.{AssertTrue, AssertFalse};
 ghost use Rattle.class_table.specs.Linking.{link_library, library_field, library_method};
 

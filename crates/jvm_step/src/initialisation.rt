@@ -3,12 +3,12 @@
 
 ghost use Rattle.std.specs.Prelude.{◌≡◌, ◌||◌, ◌&&◌, ◌<◌, None, Some, List, map, length, IfOk, OnOk};
 ghost use Rattle.std.specs.List.{list_any};
-ghost use Rattle.machine_rules.specs.Linked.{is_library, is_class_initializer, has_class_initializer, has_static_constant, fits_kind, is_interface, is_static};
+ghost use Rattle.program_rules.specs.Linked.{is_library, is_class_initializer, has_class_initializer, has_static_constant, fits_kind, is_interface, is_static};
 ghost use Rattle.std.specs.Option.{option_map};
-ghost use Rattle.machine_rules.specs.Kinds.{is_int_kind, is_text_kind};
-ghost use Rattle.machine_rules.specs.Programs.{supers};
-ghost use Rattle.machine_rules.specs.Calls.{consult};
-ghost use Rattle.machine_rules.specs.Initialisation.{init_of, need_of, are_library, behind_first, begins};
+ghost use Rattle.program_rules.specs.Kinds.{is_int_kind, is_text_kind};
+ghost use Rattle.program_rules.specs.Programs.{supers};
+ghost use Rattle.machine_rules.specs.Lookups.{consult};
+ghost use Rattle.machine_so_far.specs.Initialisation.{init_of, need_of, are_library, behind_first, begins};
 ghost use Rattle.class_table.specs.declared.linked.Entry.{Entry};
 ghost use Rattle.class_table.specs.View.{method_of, field_of, constant_of, linked_of};
 ghost use Rattle.class_table.specs.Symbols.{kind_of};

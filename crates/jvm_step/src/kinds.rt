@@ -1,6 +1,6 @@
 ghost use Rattle.std.specs.Prelude.{◌≡◌, List, length, map, drop, reverse, IfSome, IfNone};
-ghost use Rattle.machine_rules.specs.declared.value.Value.{Value};
-ghost use Rattle.machine_rules.specs.Kinds.{is_of_kind};
+ghost use Rattle.program_rules.specs.declared.value.Value.{Value};
+ghost use Rattle.program_rules.specs.Kinds.{is_of_kind};
 ghost use Rattle.machine_rules.specs.Effects.{Effect, NoRow, on_args};
 ghost use Rattle.class_table.specs.Symbols.{kind_of};
 ghost use Rattle.jvm_step.specs.Arguments.{are_of_kinds};

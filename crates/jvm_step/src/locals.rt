@@ -1,6 +1,6 @@
 ghost use Rattle.std.specs.Prelude.{◌≡◌, nat_lt, true, false, length, slice_get, List, Option};
 ghost use Rattle.std.specs.Bool.{OnTrue, OnFalse};
-ghost use Rattle.machine_rules.specs.Effects.{stored, without_long};
+ghost use Rattle.machine_rules.specs.Effects.{with_local, without_long};
 
 use machine_rules::Value;
 use std::marker::Model;
@@ -13,7 +13,7 @@ pub struct Locals {
 
 impl Model for Locals {
     ghost use Rattle.std.specs.Prelude.{List, Option};
-    ghost use Rattle.machine_rules.specs.declared.value.Value.{Value as Word};
+    ghost use Rattle.program_rules.specs.declared.value.Value.{Value as Word};
 
     ghost Value = { List (Option Word) };
 
@@ -37,7 +37,7 @@ impl Locals {
 
     /// Puts a value of one word into a local. It is false, and nothing changes, where there is no such local.
     pub fn store(&mut self, n: usize, v: Value) -> bool
-        ensures stored { OnTrue result ((nat_lt n (length self.old) ≡ true) × (self.new ≡ stored self.old n v)) }
+        ensures with_local { OnTrue result ((nat_lt n (length self.old) ≡ true) × (self.new ≡ with_local self.old n v)) }
         ensures absent { OnFalse result (nat_lt n (length self.old) ≡ false) }
     {
         if n >= self.slots.len() {

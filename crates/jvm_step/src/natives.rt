@@ -2,9 +2,10 @@
 
 ghost use Rattle.std.specs.Prelude.{◌≡◌, Bool, List, map, IfSome, IfNone};
 ghost use Rattle.machine_rules.specs.State.{World};
-ghost use Rattle.machine_rules.specs.declared.value.Value.{Value};
+ghost use Rattle.program_rules.specs.declared.value.Value.{Value};
 ghost use Rattle.machine_rules.specs.Effects.{Effect, NoRow, on_args};
-ghost use Rattle.machine_rules.specs.Natives.{Given as GivenBy, NotGiven, on_boolean, native};
+ghost use Rattle.machine_rules.specs.Natives.{Given as GivenBy, NotGiven, native};
+ghost use Rattle.program_rules.specs.Natives.{on_boolean};
 ghost use Rattle.class_table.specs.Symbols.{kind_of};
 ghost use Rattle.class_table.specs.View.{native_of};
 ghost use Rattle.jvm_step.specs.View.{given_in};

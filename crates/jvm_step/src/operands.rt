@@ -1,7 +1,8 @@
 ghost use Rattle.std.specs.Prelude.{◌≡◌, ℕ, ℤ, Ok, ◌+◌, ◌<◌, ◌^◌, [], ◌∷◌, List, length, map, drop, nat_le, true, false, IfSome, IfNone, OnOk, IfOk};
-ghost use Rattle.machine_rules.specs.Kinds.{height_of, width_of};
-ghost use Rattle.machine_rules.specs.declared.value.Value.{Value};
-ghost use Rattle.machine_rules.specs.Effects.{Effect, NoRow, on_top, on_int, on_ints, on_object, on_args};
+ghost use Rattle.program_rules.specs.Kinds.{height_of, width_of};
+ghost use Rattle.program_rules.specs.declared.value.Value.{Value};
+ghost use Rattle.machine_rules.specs.Effects.{Effect, NoRow, on_top, on_int, on_ints, on_args};
+ghost use Rattle.program_rules.specs.Natives.{on_object};
 ghost use Rattle.class_table.specs.Symbols.{kind_of};
 
 use crate::kinds::last_of_kinds;
@@ -19,8 +20,8 @@ pub struct Operands {
 
 impl Model for Operands {
     ghost use Rattle.std.specs.Prelude.{List, reverse, ◌≡◌, ◌<◌, ◌^◌};
-    ghost use Rattle.machine_rules.specs.declared.value.Value.{Value as Word};
-    ghost use Rattle.machine_rules.specs.Kinds.{height_of};
+    ghost use Rattle.program_rules.specs.declared.value.Value.{Value as Word};
+    ghost use Rattle.program_rules.specs.Kinds.{height_of};
 
     ghost Value = { List Word };
 

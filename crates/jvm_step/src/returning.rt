@@ -3,13 +3,15 @@
 
 ghost use Rattle.std.specs.Prelude.{◌≡◌, ◌+◌, ◌<◌, ◌^◌, ◌&&◌, is_some, ℤ, List, Some, None, length, map, IfOk, OnOk, IfSome, IfNone};
 ghost use Rattle.std.specs.Option.{option_map};
-ghost use Rattle.machine_rules.specs.Linked.{is_covered};
-ghost use Rattle.machine_rules.specs.Kinds.{narrow, is_int_kind};
-ghost use Rattle.machine_rules.specs.declared.value.Value.{Value as ValueOf};
-ghost use Rattle.machine_rules.specs.declared.value.Value.TheVariants.{Int};
+ghost use Rattle.program_rules.specs.Linked.{is_covered};
+ghost use Rattle.program_rules.specs.Kinds.{narrow, is_int_kind};
+ghost use Rattle.program_rules.specs.declared.value.Value.{Value as ValueOf};
+ghost use Rattle.program_rules.specs.declared.value.Value.TheVariants.{Int};
 ghost use Rattle.machine_rules.specs.Effects.{Effect, NoRow, on_int};
-ghost use Rattle.machine_rules.specs.Calls.{goes_on, room_of, is_test_call, returns, returns_int, returns_plain};
-ghost use Rattle.machine_rules.specs.Throwing.{rows_of, unwinds};
+ghost use Rattle.machine_rules.specs.Calls.{goes_on, room_of, is_test_call};
+ghost use Rattle.machine_so_far.specs.Calls.{returns, returns_int, returns_plain};
+ghost use Rattle.machine_rules.specs.Throwing.{rows_of};
+ghost use Rattle.machine_so_far.specs.Throwing.{unwinds};
 ghost use Rattle.class_table.specs.View.{row_of};
 ghost use Rattle.class_table.specs.Symbols.{kind_of};
 ghost use Rattle.class_table.specs.Table.{look};

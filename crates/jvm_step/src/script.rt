@@ -2,11 +2,12 @@
 #![tactic(auto, unfolding(crate::specs::View::frame_of, crate::specs::View::callers_of, crate::specs::View::world_of))]
 
 ghost use Rattle.std.specs.Prelude.{◌≡◌, ◌≢◌, ◌+◌, ◌<◌, ◌++◌, Some, None, List, [], ◌∷◌, drop, slice_get, length, map, IfOk, OnOk, IfSome, IfNone};
-ghost use Rattle.machine_rules.specs.Programs.{supers};
-ghost use Rattle.machine_rules.specs.declared.value.Value.TheVariants.{Ref};
+ghost use Rattle.program_rules.specs.Programs.{supers};
+ghost use Rattle.program_rules.specs.declared.value.Value.TheVariants.{Ref};
 ghost use Rattle.machine_rules.specs.Effects.{allocates, on_some};
-ghost use Rattle.machine_rules.specs.Calls.{consult};
-ghost use Rattle.machine_rules.specs.Script.{instance_values, own_values, values_of, new_object, needs_static, begins_call, begins_with, calls_next};
+ghost use Rattle.machine_rules.specs.Lookups.{consult};
+ghost use Rattle.machine_so_far.specs.Script.{instance_values, own_values, values_of, new_object, begins_call, begins_with, calls_next};
+ghost use Rattle.machine_rules.specs.Script.{needs_static};
 ghost use Rattle.machine_rules.specs.Steps.{next_or, place_of};
 ghost use Rattle.jvm_values.specs.Words.{default_of};
 ghost use Rattle.class_table.specs.View.{field_of, method_of, body_of};

@@ -3,8 +3,9 @@
 
 ghost use Rattle.std.specs.Prelude.{◌≡◌, ◌≢◌, ◌+◌, ◌<◌, ◌^◌, None, [], length, map, IfOk, OnOk, IfSome, IfNone, IsSome};
 ghost use Rattle.std.specs.Option.{option_map};
-ghost use Rattle.machine_rules.specs.Linked.{method_in};
-ghost use Rattle.machine_rules.specs.Steps.{act, goes, ended, step_of, method_text};
+ghost use Rattle.program_rules.specs.Linked.{method_in};
+ghost use Rattle.machine_so_far.specs.Steps.{act, goes, step_so_far};
+ghost use Rattle.machine_rules.specs.Steps.{outcome_of, method_text};
 ghost use Rattle.class_table.specs.View.{instruction_of};
 ghost use Rattle.class_table.specs.Symbols.{kind_of};
 ghost use Rattle.class_table.specs.Table.{look, name_at, entries_at};
@@ -187,9 +188,9 @@ fn go(alloc: Global, p: &Program, m: &mut Machine) -> Result<bool, Memory>
     }
 }
 
-// How a machine has ended, if it has: an object has left the script, or the script is done, or the world says so (this project's own).
+// How a machine has outcome_of, if it has: an object has left the script, or the script is done, or the world says so (this project's own).
 fn end(p: &Program, m: &Machine) -> Option<Outcome>
-    ensures value { result ≡ ended (state_of p.now m.now) }
+    ensures value { result ≡ outcome_of (state_of p.now m.now) }
     ensures quiet { IfNone result (m.now.frame ≡ None → m.now.thrown ≡ None) }
     ensures next { IfNone result (m.now.frame ≡ None → m.now.world.script ≢ []) }
 {
@@ -228,11 +229,11 @@ fn stuck(alloc: Global, p: &Program, class: ClassId, method: u32, at: usize) -> 
     })
 }
 
-/// One step of a machine. A machine that has ended stays as it is. Memory runs out where what the machine or the consulted names take isn't there, and as in `Program::consult`.
+/// One step of a machine. A machine that has outcome_of stays as it is. Memory runs out where what the machine or the consulted names take isn't there, and as in `Program::consult`.
 #[tactic(auto, unfolding(machine_rules::specs::Steps::step_of, crate::specs::View::frame_of))]
 pub fn step(alloc: Global, p: &Program, m: &mut Machine) -> Result<Step, Memory>
     requires machine { IsMachineOf p.now m.old }
-    ensures step { IfOk result (λ r. Answers (step_of (look p.now) m.old.limits (state_of p.now m.old)) r (state_of p.now m.old) (state_of p.now m.new)) }
+    ensures step { IfOk result (λ r. Answers (step_so_far (look p.now) m.old.limits (state_of p.now m.old)) r (state_of p.now m.old) (state_of p.now m.new)) }
     ensures machine { OnOk result (IsMachineOf p.now m.new) }
     ensures limits { OnOk result (m.new.limits ≡ m.old.limits) }
 {
@@ -252,9 +253,9 @@ pub fn step(alloc: Global, p: &Program, m: &mut Machine) -> Result<Step, Memory>
 }
 
 impl Machine {
-    /// How the machine has ended, if it has.
+    /// How the machine has outcome_of, if it has.
     pub fn end(&self, p: &Program) -> Option<Outcome>
-        ensures { result ≡ ended (state_of p.now self.now) }
+        ensures { result ≡ outcome_of (state_of p.now self.now) }
     {
         end(p, self)
     }

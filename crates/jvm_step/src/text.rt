@@ -1,5 +1,5 @@
 ghost use Rattle.std.specs.Prelude.{◌≡◌, ◌++◌, IfOk};
-ghost use Rattle.machine_rules.specs.Names.{same};
+ghost use Rattle.program_rules.specs.Names.{same};
 
 use class_model::{Memory, Name, Seq};
 use std::alloc::Global;

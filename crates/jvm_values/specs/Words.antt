@@ -2,8 +2,8 @@
 use Rattle.std.specs.Prelude.{ℕ, ◌+◌, pos, List, [], length, map, replicate}
 use Rattle.class_model.specs.declared.kind.Kind.{Kind}
 use Rattle.class_model.specs.declared.kind.Kind.TheVariants.{Boolean, Byte, Char, Short, Int as OfInt, Long as OfLong, Ref as OfReference}
-use Rattle.machine_rules.specs.declared.value.Value.{Value}
-use Rattle.machine_rules.specs.declared.value.Value.TheVariants.{Int, Long, Null}
+use Rattle.program_rules.specs.declared.value.Value.{Value}
+use Rattle.program_rules.specs.declared.value.Value.TheVariants.{Int, Long, Null}
 use Rattle.jvm_values.specs.declared.object.Object.{Object}
 use Rattle.jvm_values.specs.declared.object.ObjKind.TheVariants.{Plain, Array, Text}
 

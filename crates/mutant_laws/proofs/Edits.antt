@@ -11,9 +11,9 @@ use Rattle.class_model.specs.declared.class.Class.{Class}
 use Rattle.class_model.specs.declared.class.Member.{Member}
 use Rattle.class_model.specs.declared.instruction.Insn.{Insn}
 use Rattle.class_model.specs.declared.mutator.Mutator.{Mutator}
-use Rattle.machine_rules.specs.Names.{Name, same}
-use Rattle.machine_rules.specs.Linked.{Linked, code_in, code_of, method_in}
-use Rattle.machine_rules.specs.Programs.{Look}
+use Rattle.program_rules.specs.Names.{Name, same}
+use Rattle.program_rules.specs.Linked.{Linked, code_in, code_of, method_in}
+use Rattle.program_rules.specs.Programs.{Look}
 use Rattle.machine_rules.specs.Steps.{Place, line_in, method_text}
 use Rattle.edit_laws.specs.Edit as edit
 use Rattle.class_table.specs.declared.loaded.ClassBody.{ClassBody}

@@ -6,15 +6,16 @@ use Rattle.std.proofs.lemmas.Bool.Decides.{nat_tests}
 use Rattle.class_model.specs.declared.instruction.Arg.{Arg}
 use Rattle.class_model.specs.declared.instruction.Arg.TheVariants as arg
 use Rattle.class_model.specs.declared.instruction.Insn.{Insn}
-use Rattle.machine_rules.specs.declared.value.Value.{Value}
-use Rattle.machine_rules.specs.declared.value.Value.TheVariants.{Int, Long, Ref, Null}
+use Rattle.program_rules.specs.declared.value.Value.{Value}
+use Rattle.program_rules.specs.declared.value.Value.TheVariants.{Int, Long, Ref, Null}
 use Rattle.machine_rules.specs.declared.machine.Limits.{Limits}
-use Rattle.machine_rules.specs.Instructions.{Instruction, IfInt, IfInts, Unlinked}
-use Rattle.machine_rules.specs.Linked.{code_in, method_in}
-use Rattle.machine_rules.specs.Programs.{Look}
+use Rattle.program_rules.specs.Instructions.{Instruction, IfInt, IfInts, Unlinked}
+use Rattle.program_rules.specs.Linked.{code_in, method_in}
+use Rattle.program_rules.specs.Programs.{Look}
 use Rattle.machine_rules.specs.State.{Frame, World}
 use Rattle.machine_rules.specs.Effects.{Effect, NoRow, Current, on_some, on_int, jumps}
-use Rattle.machine_rules.specs.Steps.{act, Fetched, fetched, fetched_in, fetched_at, fetch, reaches, compares}
+use Rattle.machine_rules.specs.Steps.{act, Fetched, fetch_in_method, fetch_in_code, fetch_from, fetch, reaches}
+use Rattle.machine_rules.specs.Arithmetic.{compares}
 use Rattle.edit_laws.specs.Edit.{Edit, IsEdited, place_in, edited_method, is_edited, relocated, moved}
 use Rattle.edit_laws.specs.EditLaws.{GoesOnAlike, moved_frame}
 use Rattle.edit_laws.proofs.Places.{edit_by, get_first, get_map, set_same}
@@ -142,23 +143,23 @@ module _ (e : Edit) (p p' : Look) (ed : IsEdited e p p') (old : Instruction) (ha
 
   fetch_old : (f : Frame) → f.class ≡ e.class → f.method ≡ e.method → f.at ≡ e.at → fetch p f ≡ Some (record { instruction = old; here = old_here })
   fetch_old f hc hk ha =
-      ap (λ c. fetched (method_in (p c) f.method) f.at) hc
-      ∙ ap (λ k. fetched (method_in (p e.class) k) f.at) hk
-      ∙ ap (λ at. fetched (method_in (p e.class) e.method) at) ha
-      ∙ ap (λ o. fetched (method_in o e.method) e.at) ed.had
-      ∙ ap (λ o. fetched o e.at) ed.declares
-      ∙ ap (λ b. fetched_in ed.method e.at (code_in b)) ed.with_code
-      ∙ ap (fetched_at old_here) had
+      ap (λ c. fetch_in_method (method_in (p c) f.method) f.at) hc
+      ∙ ap (λ k. fetch_in_method (method_in (p e.class) k) f.at) hk
+      ∙ ap (λ at. fetch_in_method (method_in (p e.class) e.method) at) ha
+      ∙ ap (λ o. fetch_in_method (method_in o e.method) e.at) ed.had
+      ∙ ap (λ o. fetch_in_method o e.at) ed.declares
+      ∙ ap (λ b. fetch_in_code ed.method e.at (code_in b)) ed.with_code
+      ∙ ap (fetch_from old_here) had
 
   fetch_new : (f : Frame) → f.class ≡ e.class → f.method ≡ e.method → f.at ≡ e.at → fetch p' (moved_frame e f) ≡ Some (record { instruction = e.first; here = new_here })
   fetch_new f hc hk ha =
-      ap (λ c. fetched (method_in (p' c) f.method) (place_in e c f.method f.at)) hc
-      ∙ ap (λ k. fetched (method_in (p' e.class) k) (place_in e e.class k f.at)) hk
-      ∙ ap (λ at. fetched (method_in (p' e.class) e.method) (place_in e e.class e.method at)) ha
-      ∙ ap (λ at. fetched (method_in (p' e.class) e.method) at) (edit_by e (is_edited e e.class e.method))
-      ∙ ap (λ o. fetched (method_in o e.method) e.at) ed.has
-      ∙ ap (λ o. fetched o e.at) (set_same ed.before.methods e.method ed.method (edited_method e ed.method ed.code) ed.declares)
-      ∙ ap (fetched_at new_here) (get_first (map (relocated (moved e)) ed.code.instructions) e.first e.rest e.at (relocated (moved e) old) (get_map (relocated (moved e)) ed.code.instructions e.at old had))
+      ap (λ c. fetch_in_method (method_in (p' c) f.method) (place_in e c f.method f.at)) hc
+      ∙ ap (λ k. fetch_in_method (method_in (p' e.class) k) (place_in e e.class k f.at)) hk
+      ∙ ap (λ at. fetch_in_method (method_in (p' e.class) e.method) (place_in e e.class e.method at)) ha
+      ∙ ap (λ at. fetch_in_method (method_in (p' e.class) e.method) at) (edit_by e (is_edited e e.class e.method))
+      ∙ ap (λ o. fetch_in_method (method_in o e.method) e.at) ed.has
+      ∙ ap (λ o. fetch_in_method o e.at) (set_same ed.before.methods e.method ed.method (edited_method e ed.method ed.code) ed.declares)
+      ∙ ap (fetch_from new_here) (get_first (map (relocated (moved e)) ed.code.instructions) e.first e.rest e.at (relocated (moved e) old) (get_map (relocated (moved e)) ed.code.instructions e.at old had))
 
   pub goes_on_alike : is_alike old e.first ≡ true → GoesOnAlike e p p'
   unfolding moved_to

@@ -15,8 +15,8 @@ use Rattle.class_model.specs.declared.constant.Const.{Const}
 use Rattle.class_model.specs.declared.edit.Edit.{Edit}
 use Rattle.class_model.specs.declared.edit.NewInsn.TheVariants.{Plain}
 use Rattle.class_model.specs.declared.instruction.Insn.{Insn}
-use Rattle.machine_rules.specs.Instructions.{Instruction}
-use Rattle.machine_rules.specs.Linked.{LinkedCode, LinkedRow, LinkedLine, HasCode}
+use Rattle.program_rules.specs.Instructions.{Instruction}
+use Rattle.program_rules.specs.Linked.{LinkedCode, LinkedRow, LinkedLine, HasCode}
 use Rattle.edit_laws.specs.Edit as edit
 use Rattle.edit_laws.proofs.Places.{map_id, relocated_id}
 use Rattle.class_table.specs.Info.{own_name}

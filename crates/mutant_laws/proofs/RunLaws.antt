@@ -4,8 +4,8 @@ use Rattle.std.specs.Prelude.{◌&&◌, ◌==◌}
 use Rattle.std.specs.List.{list_any}
 use Rattle.std.specs.Cmp.Lexicographic.{same_text}
 use Rattle.std.proofs.lemmas.Bool.{eqb-true, eq-eqb, and_parts, or_cases, or_left, or_right}
-use Rattle.machine_rules.specs.Names.{Name, same}
-use Rattle.machine_rules.specs.Programs.{Look}
+use Rattle.program_rules.specs.Names.{Name, same}
+use Rattle.program_rules.specs.Programs.{Look}
 use Rattle.machine_rules.specs.Runs.{Ran}
 use Rattle.machine_laws.specs.Consulted.{Hit}
 use Rattle.edit_laws.specs.EditLaws.{ReachesLine, TestsAlikeUnreached, TestsReachTheSame}

@@ -3,7 +3,7 @@ use Rattle.std.specs.Prelude.{◌≡◌, ℕ, List, map, filter, All, false}
 use Rattle.std.specs.List.{enumerate_from}
 use Rattle.machine_rules.specs.declared.machine.Outcome.TheVariants.{Passed}
 use Rattle.machine_rules.specs.declared.machine.Limits.{Limits}
-use Rattle.machine_rules.specs.Programs.{Look}
+use Rattle.program_rules.specs.Programs.{Look}
 use Rattle.machine_rules.specs.Runs.{With, Ran, run_of}
 use Rattle.machine_laws.specs.Consulted.{IsLibraryWhole}
 use Rattle.machine_laws.specs.FrameLaw.{HasEnded}

@@ -2,7 +2,7 @@
 use Rattle.std.specs.Prelude.{◌≡◌, ◌++◌, List, All, Some}
 use Rattle.std.specs.List.{Contains}
 use Rattle.class_model.specs.declared.class.Class.{Class}
-use Rattle.machine_rules.specs.Programs.{Look}
+use Rattle.program_rules.specs.Programs.{Look}
 use Rattle.machine_rules.specs.Steps.{Place}
 use Rattle.edit_laws.specs.Edit.{Edit, IsEdited, edited_line}
 use Rattle.edit_laws.specs.EditLaws.{edited_place, GoesOnAlike}

@@ -14,7 +14,7 @@ use Rattle.class_table.specs.Symbols.{name_or_empty}
 use Rattle.class_table.specs.Info.{Info, own_name, body_name, file_in}
 use Rattle.class_table.specs.Table.{number_of, name_at}
 use Rattle.class_table.proofs.Places.{name_of_class}
-use Rattle.machine_rules.specs.Names.{Name}
+use Rattle.program_rules.specs.Names.{Name}
 use Rattle.mutator_ops.specs.Edits.{mutators_of}
 use Rattle.mutator_ops.specs.Mutants.{mutant_at, mutants_from, code_of, line_rows, code_mutants, is_left_out, is_synthetic, method_mutants, methods_mutants, class_mutants}
 use Rattle.mutator_ops.specs.declared.mutant.Mutant.{Mutant}

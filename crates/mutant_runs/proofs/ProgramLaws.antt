@@ -9,8 +9,8 @@ use Rattle.class_model.specs.declared.class.Class.{Class}
 use Rattle.class_model.specs.declared.edit.Edit.{Edit}
 use Rattle.class_model.specs.declared.fault.LayoutFault.{LayoutFault}
 use Rattle.class_writer.specs.Writing.{layout, HasClassForm}
-use Rattle.machine_rules.specs.Names.{Name, same}
-use Rattle.machine_rules.specs.Linked.{Linked}
+use Rattle.program_rules.specs.Names.{Name, same}
+use Rattle.program_rules.specs.Linked.{Linked}
 use Rattle.class_table.specs.declared.loaded.Loaded.{Loaded}
 use Rattle.class_table.specs.declared.loaded.ClassBody.TheVariants as body
 use Rattle.class_table.specs.Info.{Info, own_name, body_name, link_body, class_of, file_in}

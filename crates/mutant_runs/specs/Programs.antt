@@ -3,8 +3,8 @@ use Rattle.std.specs.Prelude.{◌≡◌, ℕ, if◌then◌else◌, List, Option,
 use Rattle.std.specs.Option.{option_map}
 use Rattle.class_model.specs.declared.class.Class.{Class}
 use Rattle.class_writer.specs.Writing.{HasClassForm}
-use Rattle.machine_rules.specs.Names.{Name, same}
-use Rattle.machine_rules.specs.Programs.{Look}
+use Rattle.program_rules.specs.Names.{Name, same}
+use Rattle.program_rules.specs.Programs.{Look}
 use Rattle.class_table.specs.Info.{Info, own_name, file_in}
 use Rattle.class_table.specs.Linking.{link}
 use Rattle.class_table.specs.Table.{number_of, look, CanSwap}

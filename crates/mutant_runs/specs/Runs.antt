@@ -1,9 +1,10 @@
 -- The runs of the tests on a mutant, and what they say of it (this project's own).
 use Rattle.std.specs.Prelude.{ℕ, Bool, ◌&&◌, ◌==◌, List, map, Option, Some, None, sum_by}
 use Rattle.std.specs.List.{list_any, zip}
-use Rattle.machine_rules.specs.Names.{Name, same}
-use Rattle.machine_rules.specs.Programs.{Look}
-use Rattle.machine_rules.specs.Runs.{Ending, With, StuckAt, Ran, run_of, limit_of}
+use Rattle.program_rules.specs.Names.{Name, same}
+use Rattle.program_rules.specs.Programs.{Look}
+use Rattle.machine_rules.specs.Runs.{Ending, With, StuckAt, Ran, limit_of}
+use Rattle.machine_so_far.specs.Runs.{run_so_far}
 use Rattle.machine_rules.specs.declared.machine.Limits.{Limits}
 use Rattle.machine_rules.specs.declared.machine.Outcome.TheVariants as outcome
 use Rattle.class_table.specs.declared.scripted.Test.{Test}
@@ -14,7 +15,7 @@ use Rattle.mutator_ops.specs.declared.mutant.State.TheVariants as state
 
 -- The run of a test on the program that an edit makes, where its run on the program as it is took so many steps.
 unfoldable pub mutant_run : Limits → Look → Test → ℕ → Ran
-mutant_run q p t n = run_of p (test_of t) q (limit_of n)
+mutant_run q p t n = run_so_far p (test_of t) q (limit_of n)
 
 -- A test with the steps of its run on the program as it is.
 abbrev pub Timed : Type 0

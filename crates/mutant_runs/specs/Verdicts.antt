@@ -2,7 +2,7 @@
 use Rattle.std.specs.Prelude.{ℕ, List, [], ◌∷◌, map, filter, Option, Some, None, sum_by}
 use Rattle.std.specs.List.{enumerate_from}
 use Rattle.std.specs.Option.{option_map, option_map_or, option_or}
-use Rattle.machine_rules.specs.Programs.{Look}
+use Rattle.program_rules.specs.Programs.{Look}
 use Rattle.machine_rules.specs.Runs.{Ran}
 use Rattle.machine_rules.specs.declared.machine.Limits.{Limits}
 use Rattle.mutator_ops.specs.declared.mutant.Mutant.{Mutant}

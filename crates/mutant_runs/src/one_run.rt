@@ -2,7 +2,7 @@
 
 ghost use Rattle.std.specs.Prelude.{◌≡◌, ◌+◌, ◌≤◌, ◌<◌, ◌^◌, IfOk, OnOk, slice_get};
 ghost use Rattle.std.specs.List.{list_any};
-ghost use Rattle.machine_rules.specs.Names.{same};
+ghost use Rattle.program_rules.specs.Names.{same};
 ghost use Rattle.machine_rules.specs.Runs.{limit_of};
 ghost use Rattle.class_table.specs.Table.{look, name_or_none};
 ghost use Rattle.jvm_step.specs.Ending.{ending_of};

@@ -9,7 +9,7 @@ use Rattle.std.specs.Cmp.Lexicographic.{slice_cmp, same_text, bytes_decides, nat
 use Rattle.std.specs.FinMap.{slice_cmp-IsAntisymmetric, nat_cmp-IsAntisymmetric}
 use Rattle.std.proofs.lemmas.Option.{slice_get_within}
 use Rattle.class_model.specs.Text.{text, unit_bytes, is_single}
-use Rattle.machine_rules.specs.Names.{Name, same}
+use Rattle.program_rules.specs.Names.{Name, same}
 use Rattle.class_table.specs.Numbers.{is_before, lesser}
 use Rattle.class_table.specs.Table.{place_in, name_or_none, AreDistinct, IsDuplicate, IsLeastDuplicate}
 use Rattle.mutest_engine.specs.Duplicates.{again, least, duplicate_in}

@@ -2,7 +2,7 @@
 use Rattle.std.proofs.Common.{◌≡◌, ◌∙◌, refl, ap, ℕ, suc, ◌+◌, Bool, true, false, List, [], ◌∷◌, map, Option, None, Some, slice_get, arith}
 use Rattle.std.specs.Prelude.{if◌then◌else◌, option_and_then}
 use Rattle.class_model.specs.declared.class.Class.{Class}
-use Rattle.machine_rules.specs.Names.{Name, same}
+use Rattle.program_rules.specs.Names.{Name, same}
 use Rattle.class_table.specs.declared.loaded.Loaded.{Loaded}
 use Rattle.class_table.specs.declared.loaded.LibClass.{LibClass}
 use Rattle.class_table.specs.declared.loaded.ClassBody.{ClassBody}

@@ -15,7 +15,7 @@ use Rattle.class_model.specs.declared.attribute.Code.{Code, out-Code}
 use Rattle.class_model.specs.declared.instruction.Insn.{Insn}
 use Rattle.class_model.specs.declared.mutator.Mutator.{Mutator}
 use Rattle.class_writer.specs.Writing.{HasClassForm}
-use Rattle.machine_rules.specs.Names.{Name, same}
+use Rattle.program_rules.specs.Names.{Name, same}
 use Rattle.class_table.specs.declared.loaded.Loaded.{Loaded}
 use Rattle.class_table.specs.Info.{own_name}
 use Rattle.class_table.specs.Symbols.{name_or_empty}

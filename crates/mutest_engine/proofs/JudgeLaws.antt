@@ -1,6 +1,6 @@
 -- What the runs on a suite's program say is said of the suite.
 use Rattle.std.proofs.Common.{◌≡◌, ◌⊎◌, ◌∙◌, ℕ, List, [], map, take, drop, length, Result, Ok, Err, refl, sym, ap, inl, inr, ⊎_elim}
-use Rattle.machine_rules.specs.Programs.{Look}
+use Rattle.program_rules.specs.Programs.{Look}
 use Rattle.class_table.specs.declared.loaded.Loaded.{Loaded}
 use Rattle.class_table.specs.declared.scripted.Test.{Test}
 use Rattle.mutator_ops.specs.declared.mutant.Mutant.{Mutant}

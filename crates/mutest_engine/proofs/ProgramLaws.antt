@@ -2,9 +2,9 @@
 use Rattle.std.proofs.Common.{◌≡◌, ◌∙◌, refl, ap, ℕ, suc, ◌+◌, Bool, true, false, List, [], ◌∷◌, ◌++◌, map, Option, Some, slice_get, arith}
 use Rattle.std.specs.Prelude.{if◌then◌else◌, option_and_then}
 use Rattle.std.specs.Option.{option_map}
-use Rattle.machine_rules.specs.Names.{Name, same}
-use Rattle.machine_rules.specs.Linked.{Linked}
-use Rattle.machine_rules.specs.Library.{class_among, first_of, library_classes}
+use Rattle.program_rules.specs.Names.{Name, same}
+use Rattle.program_rules.specs.Linked.{Linked}
+use Rattle.program_rules.specs.Library.{class_among, first_of, library_classes}
 use Rattle.class_table.specs.declared.loaded.Loaded.{Loaded}
 use Rattle.class_table.specs.declared.loaded.LibClass.{LibClass}
 use Rattle.class_table.specs.declared.loaded.ClassBody.{ClassBody}

@@ -2,7 +2,7 @@
 use Rattle.std.specs.Prelude.{List, [], ◌∷◌, Option, Some, None, if◌then◌else◌}
 use Rattle.std.specs.List.{list_any}
 use Rattle.class_table.specs.Numbers.{lesser}
-use Rattle.machine_rules.specs.Names.{Name, same}
+use Rattle.program_rules.specs.Names.{Name, same}
 
 -- Each name that stands once more behind its place.
 abbrev pub again : List Name → List Name

@@ -3,8 +3,8 @@ use Rattle.std.specs.Prelude.{ℕ, ◌+◌, nat_lt, List, [], ◌∷◌, map, ta
 use Rattle.std.specs.List.{flat_map}
 use Rattle.class_model.specs.Text.{text}
 use Rattle.class_model.specs.declared.class.Class.{Class}
-use Rattle.machine_rules.specs.Names.{same}
-use Rattle.machine_rules.specs.Programs.{Look}
+use Rattle.program_rules.specs.Names.{same}
+use Rattle.program_rules.specs.Programs.{Look}
 use Rattle.class_table.specs.Info.{own_name}
 use Rattle.class_table.specs.declared.scripted.Test.{Test}
 use Rattle.mutator_ops.specs.Mutants.{class_mutants}

@@ -9,11 +9,12 @@ use Rattle.class_model.specs.declared.class.Class.{Class}
 use Rattle.machine_rules.specs.declared.machine.Limits.{Limits}
 use Rattle.machine_rules.specs.declared.machine.Outcome.{Outcome}
 use Rattle.machine_rules.specs.declared.machine.Outcome.TheVariants as outcome
-use Rattle.machine_rules.specs.Names.{Name}
-use Rattle.machine_rules.specs.Linked.{Linked}
-use Rattle.machine_rules.specs.Programs.{Look}
-use Rattle.machine_rules.specs.Library.{library_classes, with_library}
-use Rattle.machine_rules.specs.Runs.{Ending, With, StuckAt, Ran, run_of}
+use Rattle.program_rules.specs.Names.{Name}
+use Rattle.program_rules.specs.Linked.{Linked}
+use Rattle.program_rules.specs.Programs.{Look}
+use Rattle.program_rules.specs.Library.{library_classes, with_library}
+use Rattle.machine_rules.specs.Runs.{Ending, With, StuckAt, Ran}
+use Rattle.machine_so_far.specs.Runs.{run_so_far}
 use Rattle.class_table.specs.declared.fault.TableFault.TheVariants.{Duplicate}
 use Rattle.class_table.specs.declared.loaded.Loaded.{Loaded}
 use Rattle.class_table.specs.declared.scripted.Test.{Test}
@@ -91,7 +92,7 @@ usual = record { heap = 4194304; depth = 1024 }
 
 -- The run of a test on the program as it is, of 10,000,000 steps at most.
 unfoldable pub original_run : Look → Test → Ran
-original_run p t = run_of p (test_of t) usual 10000000
+original_run p t = run_so_far p (test_of t) usual 10000000
 
 -- CLASS.METHOD
 abbrev pub test_text : Test → List ℕ

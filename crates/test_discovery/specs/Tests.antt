@@ -10,9 +10,9 @@ use Rattle.class_model.specs.declared.attribute.Body.{Body, out-Body}
 use Rattle.class_model.specs.declared.attribute.Body.TheOpen.{Body-F}
 use Rattle.class_model.specs.declared.class.Class.{Class}
 use Rattle.class_model.specs.declared.class.Member.{Member}
-use Rattle.machine_rules.specs.declared.machine.CallKind.TheVariants.{Make, TestMethod}
-use Rattle.machine_rules.specs.Names.{Name, same, instance_initializer, plain_descriptor}
-use Rattle.machine_rules.specs.Linked.{is_static}
+use Rattle.program_rules.specs.declared.call_kind.CallKind.TheVariants.{Make, TestMethod}
+use Rattle.program_rules.specs.Names.{Name, same, instance_initializer, plain_descriptor}
+use Rattle.program_rules.specs.Linked.{is_static}
 use Rattle.class_table.specs.Symbols.{name_or_empty}
 use Rattle.class_table.specs.Info.{own_name}
 use Rattle.class_table.specs.declared.scripted.Test.{Test}

@@ -2,7 +2,7 @@
 
 ghost use Rattle.std.specs.Prelude.{◌≡◌, ◌++◌, IfOk, OnOk};
 ghost use Rattle.std.specs.List.{list_any, flat_map};
-ghost use Rattle.machine_rules.specs.Linked.{is_static};
+ghost use Rattle.program_rules.specs.Linked.{is_static};
 ghost use Rattle.test_discovery.specs.Tests.{is_test, is_plain_constructor, test_of, method_tests, class_tests};
 
 use crate::annotated::is_annotated;

@@ -1,7 +1,7 @@
 //! Names that tests are known by.
 
 ghost use Rattle.std.specs.Prelude.{◌≡◌, IfOk};
-ghost use Rattle.machine_rules.specs.Names.{instance_initializer as initializer, plain_descriptor};
+ghost use Rattle.program_rules.specs.Names.{instance_initializer as initializer, plain_descriptor};
 ghost use Rattle.class_model.specs.Pool.{text_of};
 ghost use Rattle.class_table.specs.Symbols.{name_or_empty};
 ghost use Rattle.class_table.specs.Info.{own_name as name_of};

@@ -1,6 +1,6 @@
 use Rattle.std.proofs.Common.{◌≡◌, ◌≤◌, map, drop, length}
 use Rattle.std.specs.Option.{option_map}
-use Rattle.machine_rules.specs.Linked.{line_row}
+use Rattle.program_rules.specs.Linked.{line_row}
 use Rattle.class_table.specs.View.{line_of}
 use Rattle.class_table.proofs.line_table.line_row.Given as goal
 

@@ -1,7 +1,7 @@
 use Rattle.std.proofs.Common.{◌≡◌, ◌+◌, ◌∷◌, ◌++◌, [], List, None, get_or, length, sym, ap, ◌∙◌, subst, arith}
 use Rattle.std.specs.Option.{unwrap_or}
 use Rattle.std.proofs.lemmas.Grind.{common_steps}
-use Rattle.machine_rules.specs.Linked.{LinkedLine, line_number, line_at}
+use Rattle.program_rules.specs.Linked.{LinkedLine, line_number, line_at}
 use Rattle.class_table.specs.Lines.{AreStartsOf, AreLinesOf}
 use Rattle.class_table.proofs.LineLaws.{none_before, line_next, line_step, lines_none, lines_more}
 use Rattle.class_table.proofs.line_table.lines.Goals as goal

@@ -1,5 +1,5 @@
 use Rattle.std.proofs.Common.{◌≡◌, List, length}
-use Rattle.machine_rules.specs.Linked.{LinkedLine}
+use Rattle.program_rules.specs.Linked.{LinkedLine}
 use Rattle.class_table.specs.Lines.{AreStartsOf, AreLinesOf}
 use Rattle.class_table.proofs.LineLaws.{line_before}
 use Rattle.class_table.proofs.line_table.lines.Given as goal

@@ -1,5 +1,5 @@
 use Rattle.std.proofs.Common.{◌≡◌, List, map, drop}
-use Rattle.machine_rules.specs.Linked.{method_from}
+use Rattle.program_rules.specs.Linked.{method_from}
 use Rattle.class_table.specs.declared.linked.Entry.{Entry}
 use Rattle.class_table.specs.View.{method_of}
 use Rattle.class_table.proofs.linked.place_of.Given as goal

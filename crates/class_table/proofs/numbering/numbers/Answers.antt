@@ -1,7 +1,7 @@
 use Rattle.std.proofs.Common.{◌≡◌, ◌∙◌, sym, ap, refl, take, map, length, Some, slice_get}
 use Rattle.std.specs.Arc.{arc_value}
 use Rattle.std.proofs.lemmas.Option.{slice_get_read}
-use Rattle.machine_rules.specs.Names.{same}
+use Rattle.program_rules.specs.Names.{same}
 use Rattle.class_table.specs.Table.{number_of}
 use Rattle.class_table.specs.Numbers.{with_number}
 use Rattle.class_table.proofs.Duplicates.{number_next}

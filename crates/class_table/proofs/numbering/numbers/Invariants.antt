@@ -1,7 +1,7 @@
 use Rattle.std.proofs.Common.{◌≡◌, List, ℕ, map, take}
 use Rattle.std.specs.Arc.{arc_value}
 use Rattle.std.specs.HashMap.{get}
-use Rattle.machine_rules.specs.Names.{same}
+use Rattle.program_rules.specs.Names.{same}
 use Rattle.class_table.specs.Table.{number_of}
 use Rattle.class_table.proofs.numbering.numbers.Given as goal
 

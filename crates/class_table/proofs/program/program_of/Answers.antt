@@ -1,7 +1,7 @@
 use Rattle.std.proofs.Common.{◌≡◌, ◌<◌, ◌^◌, sym, List, map, length, Option, None, arith, subst}
 use Rattle.std.specs.Arc.{arc_value}
 use Rattle.std.proofs.lemmas.List.{length-map}
-use Rattle.machine_rules.specs.Names.{Name}
+use Rattle.program_rules.specs.Names.{Name}
 use Rattle.class_table.specs.Table.{names}
 use Rattle.class_table.specs.Numbers.{IsNumbering, IsVerdict}
 use Rattle.class_table.specs.Calls.{AreTargets}

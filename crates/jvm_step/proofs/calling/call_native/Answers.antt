@@ -1,8 +1,9 @@
 use Rattle.std.proofs.Common.{List, refl, subst}
-use Rattle.machine_rules.specs.declared.value.Value.{Value}
-use Rattle.machine_rules.specs.Natives as natives
+use Rattle.program_rules.specs.declared.value.Value.{Value}
+use Rattle.program_rules.specs.Natives as natives
 use Rattle.machine_rules.specs.Natives.{native}
-use Rattle.machine_rules.specs.Calls.{consult, given}
+use Rattle.machine_rules.specs.Lookups.{consult}
+use Rattle.machine_rules.specs.Calls.{given}
 use Rattle.class_table.specs.Table.{look, name_at}
 use Rattle.class_table.specs.View.{native_of}
 use Rattle.jvm_step.specs.View.{frame_of, callers_of, world_of, state_of, given_in, Comes}

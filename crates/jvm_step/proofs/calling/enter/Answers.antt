@@ -1,8 +1,8 @@
 use Rattle.std.proofs.Common.{◌≡◌, List, ◌∷◌, Option, refl, subst, ◌∙◌}
-use Rattle.machine_rules.specs.declared.value.Value.{Value}
+use Rattle.program_rules.specs.declared.value.Value.{Value}
 use Rattle.machine_rules.specs.Effects as rule
 use Rattle.machine_rules.specs.Effects.{NoRow}
-use Rattle.machine_rules.specs.Calls.{consult}
+use Rattle.machine_rules.specs.Lookups.{consult}
 use Rattle.class_table.specs.Table.{look, name_at}
 use Rattle.jvm_step.specs.View.{frame_of, callers_of, world_of, state_of, enters_with}
 use Rattle.jvm_step.proofs.Calls.{if_some_at, some_of, none_of}

@@ -1,5 +1,5 @@
 use Rattle.std.proofs.Common.{◌≡◌}
-use Rattle.machine_rules.specs.Initialisation.{Ready, need_of}
+use Rattle.machine_so_far.specs.Initialisation.{Ready, need_of}
 use Rattle.class_table.specs.Table.{look, name_at, entries_at}
 use Rattle.class_table.specs.View.{method_of, method_ref_of}
 use Rattle.jvm_step.specs.View.{frame_of, world_of, callers_of}

@@ -1,5 +1,5 @@
 use Rattle.std.proofs.Common.{◌≡◌, drop}
-use Rattle.machine_rules.specs.Initialisation.{are_library}
+use Rattle.machine_so_far.specs.Initialisation.{are_library}
 use Rattle.class_table.specs.Table.{look}
 use Rattle.jvm_step.proofs.initialisation.are_library.Given as goal
 

@@ -1,7 +1,7 @@
 use Rattle.std.proofs.Common.{◌≡◌, map, drop}
 use Rattle.std.specs.Prelude.{◌&&◌, ◌||◌}
 use Rattle.std.specs.List.{list_any}
-use Rattle.machine_rules.specs.Linked.{fits_kind, is_static}
+use Rattle.program_rules.specs.Linked.{fits_kind, is_static}
 use Rattle.class_table.specs.View.{field_of}
 use Rattle.jvm_step.proofs.initialisation.has_constant_among.Given as goal
 

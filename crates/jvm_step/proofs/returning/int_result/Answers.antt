@@ -1,7 +1,7 @@
 use Rattle.std.proofs.Common.{◌≡◌, rules, sym, ap, ◌∙◌, w32, FitsSigned, to_z, of_z}
 use Rattle.std.proofs.lemmas.Int.{to_z-of_z}
-use Rattle.machine_rules.specs.declared.value.Value.TheVariants.{Int}
-use Rattle.machine_rules.specs.Kinds.{narrow}
+use Rattle.program_rules.specs.declared.value.Value.TheVariants.{Int}
+use Rattle.program_rules.specs.Kinds.{narrow}
 use Rattle.class_table.specs.Symbols.{kind_of}
 use Rattle.jvm_step.proofs.returning.int_result.Goals as goal
 

@@ -1,5 +1,5 @@
 use Rattle.std.proofs.Common.{◌≡◌, map, drop}
-use Rattle.machine_rules.specs.Linked.{is_covered}
+use Rattle.program_rules.specs.Linked.{is_covered}
 use Rattle.class_table.specs.View.{row_of}
 use Rattle.jvm_step.proofs.returning.is_covered.Given as goal
 

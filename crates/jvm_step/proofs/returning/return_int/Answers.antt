@@ -1,5 +1,5 @@
 use Rattle.std.proofs.Common.{◌≡◌, true, arith}
-use Rattle.machine_rules.specs.Kinds.{is_int_kind}
+use Rattle.program_rules.specs.Kinds.{is_int_kind}
 use Rattle.class_table.specs.Symbols.{kind_of}
 use Rattle.class_table.specs.Table.{look}
 use Rattle.jvm_step.specs.View.{frame_of, world_of, callers_of}

@@ -1,6 +1,6 @@
 use Rattle.std.proofs.Common.{◌≡◌, Some, ◌++◌, drop, map, sym, ap, ◌∙◌}
 use Rattle.std.specs.Prelude.{slice_get}
-use Rattle.machine_rules.specs.Script.{calls_next}
+use Rattle.machine_so_far.specs.Script.{calls_next}
 use Rattle.class_table.specs.Table.{look}
 use Rattle.jvm_step.specs.View.{frames_of, world_of, call_of}
 use Rattle.jvm_step.proofs.Calls.{headed, stuck_next}

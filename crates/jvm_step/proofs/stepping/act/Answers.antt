@@ -1,8 +1,9 @@
 use Rattle.std.proofs.Common.{rules}
 use Rattle.std.specs.Option.{option_map}
-use Rattle.machine_rules.specs.Instructions.{InvokeStatic}
+use Rattle.program_rules.specs.Instructions.{InvokeStatic}
 use Rattle.machine_rules.specs.Effects.{on_top}
-use Rattle.machine_rules.specs.Steps.{act, pops_word}
+use Rattle.machine_so_far.specs.Steps.{act}
+use Rattle.machine_rules.specs.Steps.{pops_word}
 use Rattle.class_table.specs.View.{instruction_of, method_ref_of}
 use Rattle.class_table.specs.Symbols.{kind_of}
 use Rattle.class_table.specs.Table.{look}

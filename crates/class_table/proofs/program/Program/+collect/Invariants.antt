@@ -1,5 +1,5 @@
 use Rattle.std.proofs.Common.{◌≡◌, ℕ, suc, ◌+◌, ◌≤◌, ◌++◌, take}
-use Rattle.machine_rules.specs.Programs.{joined, supers_within}
+use Rattle.program_rules.specs.Programs.{concat_over, supers_within}
 use Rattle.class_table.specs.Table.{look}
 use Rattle.class_table.proofs.program.Program.+collect.Given as goal
 
@@ -13,4 +13,4 @@ abbrev pub decreases-collect_parent : goal.decreases-collect_parent
 decreases-collect_parent l = suc (l.levels + l.levels)
 
 abbrev pub invariant-collect_all-loop-name : goal.invariant-collect_all-loop-name
-invariant-collect_all-loop-name l = (k : ℕ) → l.levels ≤ k → l.out.items ≡ l.fn.out.items ++ joined (supers_within k (look l.self)) (take l.name-index l.names)
+invariant-collect_all-loop-name l = (k : ℕ) → l.levels ≤ k → l.out.items ≡ l.fn.out.items ++ concat_over (supers_within k (look l.self)) (take l.name-index l.names)

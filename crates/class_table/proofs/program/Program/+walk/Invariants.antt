@@ -1,5 +1,5 @@
 use Rattle.std.proofs.Common.{◌≡◌, ℕ, suc, ◌+◌, ◌≤◌, drop}
-use Rattle.machine_rules.specs.Programs.{joined, supers_within, consult_in}
+use Rattle.program_rules.specs.Programs.{concat_over, supers_within, consult_in}
 use Rattle.class_table.specs.Table.{look}
 use Rattle.class_table.specs.Seen.{IsConsultedOf}
 use Rattle.class_table.proofs.program.Program.+walk.Given as goal
@@ -15,5 +15,5 @@ decreases-walk_parent l = suc (l.levels + l.levels)
 
 abbrev pub invariant-walk_all-loop-name : goal.invariant-walk_all-loop-name
 invariant-walk_all-loop-name l =
-    ((k : ℕ) → l.levels ≤ k → consult_in (look l.self) (joined (supers_within k (look l.self)) l.names) l.fn.seen.names ≡ consult_in (look l.self) (joined (supers_within k (look l.self)) (drop l.name-index l.names)) l.seen.names)
+    ((k : ℕ) → l.levels ≤ k → consult_in (look l.self) (concat_over (supers_within k (look l.self)) l.names) l.fn.seen.names ≡ consult_in (look l.self) (concat_over (supers_within k (look l.self)) (drop l.name-index l.names)) l.seen.names)
     × IsConsultedOf l.self l.seen

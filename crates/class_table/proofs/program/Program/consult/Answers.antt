@@ -1,5 +1,5 @@
 use Rattle.std.proofs.Common.{sym}
-use Rattle.machine_rules.specs.Programs.{supers_within}
+use Rattle.program_rules.specs.Programs.{supers_within}
 use Rattle.class_table.specs.Table.{look, name_at}
 use Rattle.class_table.proofs.Walk.{known_already, consulted_is}
 use Rattle.class_table.proofs.program.Program.consult.Goals as goal

@@ -1,5 +1,5 @@
 use Rattle.std.proofs.Common.{◌∙◌, ◌++◌, ap}
-use Rattle.machine_rules.specs.Programs.{supers_within}
+use Rattle.program_rules.specs.Programs.{supers_within}
 use Rattle.class_table.specs.Table.{look}
 use Rattle.class_table.proofs.Collecting.{collected_is}
 use Rattle.class_table.proofs.program.Program.supers_of.Goals as goal

@@ -1,6 +1,6 @@
 use Rattle.std.proofs.Common.{◌≡◌, ℕ, ◌+◌, List, [], ◌∷◌, drop, drop-drop, Option, Some, None, sym, ap, ◌∙◌}
 use Rattle.std.specs.Prelude.{IfSome, IfNone}
-use Rattle.machine_rules.specs.declared.value.Value.{Value}
+use Rattle.program_rules.specs.declared.value.Value.{Value}
 use Rattle.jvm_step.proofs.operands.Operands.cut.Goals as goal
 
 popped : (top : Option Value) (start before after : List Value) (n : ℕ) → IfSome top (λ v. before ≡ v ∷ after) → IfNone top (before ≡ []) → IfNone top (after ≡ []) → before ≡ drop n start → after ≡ drop (n + 1) start
