@@ -1,5 +1,5 @@
 -- multianewarray goes on from a state that fits to one that fits: the arrays of each level are made by the name of the level, by induction on the counts.
-use Rattle.std.proofs.Common.{◌≡◌, ◌≤◌, ◌<◌, ℕ, zero, suc, ◌+◌, ◌++◌, ◌&&◌, Bool, true, false, List, [], ◌∷◌, length, map, replicate, Option, Some, None, is_none, ℤ, refl, sym, ap, ◌∙◌, subst, arith}
+use Rattle.std.proofs.Common.{◌≡◌, ◌≤◌, ◌<◌, ℕ, zero, suc, ◌+◌, ◌++◌, ◌&&◌, Bool, true, false, List, [], ◌∷◌, length, map, replicate, Option, Some, None, ℤ, refl, sym, ap, ◌∙◌, subst, arith}
 use Rattle.std.specs.Prelude.{codes, nat_eq, nat_le, nat_lt, if◌then◌else◌, unsigned_abs}
 use Rattle.std.specs.Int.{is_negative}
 use Rattle.std.specs.List.{list_any}
@@ -11,28 +11,27 @@ use Rattle.program_rules.specs.declared.value.Value.{Value}
 use Rattle.program_rules.specs.declared.value.Value.TheVariants.{Ref}
 use Rattle.program_rules.specs.declared.fault.Fault.TheVariants.{NegativeArraySizeException}
 use Rattle.machine_rules.specs.declared.machine.Limits.{Limits}
-use Rattle.program_rules.specs.Names.{Name, same, object_name, class_behind, is_array_name, element_of, element_class, descriptor_of, without_first, without_last}
-use Rattle.program_rules.specs.Kinds.{Kind, OfBoolean, OfByte, OfChar, OfShort, OfInt, OfLong, OfReference, default_of, kind_in, kind_of_unit, component_kind, descriptor_in, class_of_kind}
+use Rattle.program_rules.specs.Names.{Name, same, object_name, class_behind, is_array_name, element_of, element_class, without_last}
+use Rattle.program_rules.specs.Kinds.{Kind, OfBoolean, OfByte, OfChar, OfShort, OfInt, OfLong, OfReference, default_of, kind_in, kind_of_unit, descriptor_in, class_of_kind}
 use Rattle.program_rules.specs.Types.{VType, IntType, Obj}
 use Rattle.program_rules.specs.Linked.{method_in}
 use Rattle.program_rules.specs.Programs.{Look}
-use Rattle.program_rules.specs.Objects.{object_at, with_object_at, Object, ArrayOf}
+use Rattle.program_rules.specs.Objects.{with_object_at, Object, ArrayOf}
 use Rattle.machine_rules.specs.State.{Frame, World}
-use Rattle.machine_rules.specs.Effects.{Effect, NoRow, on_int, throws, unless_full}
+use Rattle.machine_rules.specs.Effects.{Effect, NoRow, throws, unless_full}
 use Rattle.machine_rules.specs.Lookups.{consult}
 use Rattle.machine_rules.specs.NewObjects.{array_of, new_array, with_component, next_component, components, fill_array, fill_array_with, new_arrays}
 use Rattle.machine_rules.specs.Arrays.{pushes_new, on_counts, has_dimensions, makes_arrays_in, makes_arrays}
-use Rattle.type_rules.specs.References.{Base, ClassBase, LetterBase, classes_of, dimensions, base_of, base_stated}
+use Rattle.type_rules.specs.References.{ClassBase, LetterBase, classes_of, dimensions, base_of, base_stated}
 use Rattle.type_rules.specs.Assignability.{FrameTypes, same_type, height}
 use Rattle.type_rules.specs.Rows.{Setting, Checked, Falls, Fails, takes_ints, has_room, allows, gives, falls}
 use Rattle.type_laws.specs.Values.{base_within, kind_within, kind_dimensions, kind_base, BaseThere, IsWithin, AllItems, OfKind, EachOfKind}
 use Rattle.type_laws.specs.States.{setting, Leads, Fits, AllLower, FramesFit, WorldFits}
 use Rattle.type_laws.specs.Soundness.{Meanings, IsArrayNamed}
-use Rattle.type_laws.proofs.Kept.{kind_kept, each_kept}
+use Rattle.type_laws.proofs.Kept.{each_kept}
 use Rattle.type_laws.proofs.Accepting.{Right}
 use Rattle.type_laws.proofs.Initialised.{no_dimensions, own_base}
 use Rattle.type_laws.proofs.Taking.{right_if}
-use Rattle.type_laws.proofs.Further.{dims_of, base_array}
 use Rattle.type_laws.proofs.Good.{Given, Good, good_if, good_true, good_unless_full, Grown, Made, keeps_all, keeps_both, made_object, holds_of, good_resolves}
 use Rattle.type_laws.proofs.Rows.{at_int, throws_here}
 use Rattle.type_laws.proofs.Objects.{good_new, defaults_fit}
