@@ -9,6 +9,7 @@ ghost use Rattle.class_table.specs.declared.linked.Switch as switch;
 ghost use Rattle.class_table.specs.View.{meaning_at, instruction_of, row_of, line_of, code_of};
 
 use crate::entries::class_or_none;
+use crate::frames::link_frames;
 use crate::instruction::Instruction;
 use crate::line_table::LineTable;
 use crate::linked::{Entry, LinkedCode, LinkedLine, LinkedRow, Switch};
@@ -179,5 +180,6 @@ pub fn link_code(
         switches,
         rows: link_rows(alloc, pool, code.rows.as_slice())?,
         lines,
+        frames: link_frames(alloc, pool, code.attrs.as_slice())?,
     })
 }

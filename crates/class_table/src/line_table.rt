@@ -12,7 +12,7 @@ use std::alloc::Global;
 use std::marker::Model;
 
 /// The rows of a code's line tables, and the line of each instruction, so that a look-up takes one index. Contracts see the rows in file order.
-#[derive(Debug, Drop)]
+#[derive(Drop)]
 pub struct LineTable {
     rows: Seq<LinkedLine>,
     by_instruction: Vec<u16>,

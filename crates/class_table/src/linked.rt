@@ -4,12 +4,13 @@ ghost use Rattle.program_rules.specs.Linked.{method_place};
 ghost use Rattle.class_table.specs.View.{method_ref_at, method_of, linked_of};
 ghost use Rattle.class_table.specs.declared.linked.Entry as entry;
 
+use crate::frames::StatedFrame;
 use crate::instruction::Instruction;
 use crate::line_table::LineTable;
 use class_model::{Kind, Name, Seq};
 
 /// A method that is named, with what its descriptor states (JVMS 4.3.3, 4.4.2). A result of `None` is void. `interface` is set where the entry names a method of an interface.
-#[derive(Debug, Drop, PartialEq)]
+#[derive(Drop)]
 pub struct MethodRef {
     pub class: Name,
     pub name: Name,
@@ -20,7 +21,7 @@ pub struct MethodRef {
 }
 
 /// A field that is named, with the kind that its descriptor states (JVMS 4.3.2, 4.4.2).
-#[derive(Debug, Drop, PartialEq)]
+#[derive(Drop)]
 pub struct FieldRef {
     pub class: Name,
     pub name: Name,
@@ -29,7 +30,7 @@ pub struct FieldRef {
 }
 
 /// An entry of the run-time constant pool (JVMS 5.1): what an index means to an instruction.
-#[derive(Debug, Drop, PartialEq)]
+#[derive(Drop)]
 pub enum Entry {
     /// Nothing that an instruction of the profile may name.
     Other,
@@ -42,7 +43,7 @@ pub enum Entry {
 }
 
 /// A `tableswitch` or a `lookupswitch` (JVMS 6.5).
-#[derive(Debug, Drop, PartialEq)]
+#[derive(Drop)]
 pub enum Switch {
     /// Where the default goes, the lowest key, and where each key from there on goes.
     Table(u32, i32, Seq<u32>),
@@ -51,7 +52,7 @@ pub enum Switch {
 }
 
 /// A row of the exception table (JVMS 4.7.3): it covers the instructions from `start` up to but not `end`. No class name catches everything.
-#[derive(Debug, Drop, PartialEq)]
+#[derive(Drop)]
 pub struct LinkedRow {
     pub start: u32,
     pub end: u32,
@@ -60,14 +61,15 @@ pub struct LinkedRow {
 }
 
 /// A row of a LineNumberTable (JVMS 4.7.12).
-#[derive(Clone, Copy, Debug, PartialEq, Eq)]
+#[derive(Clone, Copy)]
 pub struct LinkedLine {
     pub start: u32,
     pub line: u16,
 }
 
-/// A Code attribute (JVMS 4.7.3). Lines stand in file order, those of several tables one behind the other.
-#[derive(Debug, Drop)]
+/// A Code attribute (JVMS 4.7.3). Lines stand in file order, those of several tables one behind the
+/// other, and so do frames. No step reads the frames.
+#[derive(Drop)]
 pub struct LinkedCode {
     pub max_stack: u16,
     pub max_locals: u16,
@@ -75,17 +77,20 @@ pub struct LinkedCode {
     pub switches: Seq<Switch>,
     pub rows: Seq<LinkedRow>,
     pub lines: LineTable,
+    pub frames: Seq<StatedFrame>,
 }
 
 /// The native methods of the library that have a row (this project's own).
-#[derive(Clone, Copy, Debug, PartialEq, Eq)]
+#[derive(Clone, Copy)]
 pub enum Native {
+    /// The `<init>` of `java/lang/Object`, which does nothing.
+    InitObject,
     AssertTrue,
     AssertFalse,
 }
 
 /// What stands behind a method's head. An abstract method has no body, nor has a native one without a row.
-#[derive(Debug, Drop)]
+#[derive(Drop)]
 pub enum LinkedBody {
     Code(LinkedCode),
     Native(Native),
@@ -93,7 +98,7 @@ pub enum LinkedBody {
 }
 
 /// A method. A result of `None` is void.
-#[derive(Debug, Drop)]
+#[derive(Drop)]
 pub struct LinkedMethod {
     pub flags: u16,
     pub name: Name,
@@ -104,14 +109,14 @@ pub struct LinkedMethod {
 }
 
 /// What a ConstantValue attribute names (JVMS 4.7.2).
-#[derive(Debug, Drop, PartialEq)]
+#[derive(Drop)]
 pub enum FieldConstant {
     Int(i32),
     Long(i64),
     Text(Name),
 }
 
-#[derive(Debug, Drop, PartialEq)]
+#[derive(Drop)]
 pub struct LinkedField {
     pub flags: u16,
     pub name: Name,
@@ -121,7 +126,7 @@ pub struct LinkedField {
 }
 
 /// A class with names in place of pool indices. `library` is set for the classes that come with the machine and not from a class file.
-#[derive(Debug, Drop)]
+#[derive(Drop)]
 pub struct LinkedClass {
     pub library: bool,
     pub flags: u16,

@@ -209,6 +209,7 @@ fn native_body(number: u16) -> LinkedBody
     ensures { (es : List entry.Entry) → body_of es result ≡ linking.native_body number }
 {
     match number {
+        0 => LinkedBody::Native(Native::InitObject),
         2000 => LinkedBody::Native(Native::AssertTrue),
         2001 => LinkedBody::Native(Native::AssertFalse),
         _ => LinkedBody::Absent,

@@ -8,8 +8,9 @@ ghost use Rattle.class_table.specs.Opcodes as opcodes;
 ghost use Rattle.class_table.specs.declared.linked.Entry as entry;
 ghost use Rattle.class_table.specs.declared.linked.Switch as switch;
 
-use crate::instruction::{Comparison, Conversion, Element, Instruction, Operation, ShiftKind};
+use crate::instruction::Instruction;
 use crate::linked::Entry;
+use program_rules::{Comparison, Conversion, Element, Operation, ShiftKind};
 
 // Constants, and loads of the first four locals.
 fn short_load(op: u8) -> Instruction
@@ -32,21 +33,21 @@ fn array_or_store(op: u8) -> Instruction
     ensures { (es : List entry.Entry) (ss : List switch.Switch) → instruction_of es ss result ≡ opcodes.array_or_store op }
 {
     match op {
-        0x2e => Instruction::ArrayLoad(Element::Int),
-        0x2f => Instruction::ArrayLoad(Element::Long),
-        0x32 => Instruction::ArrayLoad(Element::Reference),
-        0x33 => Instruction::ArrayLoad(Element::Byte),
-        0x34 => Instruction::ArrayLoad(Element::Char),
-        0x35 => Instruction::ArrayLoad(Element::Short),
+        0x2e => Instruction::ArrayLoad(Element::IntElement),
+        0x2f => Instruction::ArrayLoad(Element::LongElement),
+        0x32 => Instruction::ArrayLoad(Element::ReferenceElement),
+        0x33 => Instruction::ArrayLoad(Element::ByteElement),
+        0x34 => Instruction::ArrayLoad(Element::CharElement),
+        0x35 => Instruction::ArrayLoad(Element::ShortElement),
         0x3b..=0x3e => Instruction::IntStore((op - 0x3b) as u16),
         0x3f..=0x42 => Instruction::LongStore((op - 0x3f) as u16),
         0x4b..=0x4e => Instruction::ReferenceStore((op - 0x4b) as u16),
-        0x4f => Instruction::ArrayStore(Element::Int),
-        0x50 => Instruction::ArrayStore(Element::Long),
-        0x53 => Instruction::ArrayStore(Element::Reference),
-        0x54 => Instruction::ArrayStore(Element::Byte),
-        0x55 => Instruction::ArrayStore(Element::Char),
-        0x56 => Instruction::ArrayStore(Element::Short),
+        0x4f => Instruction::ArrayStore(Element::IntElement),
+        0x50 => Instruction::ArrayStore(Element::LongElement),
+        0x53 => Instruction::ArrayStore(Element::ReferenceElement),
+        0x54 => Instruction::ArrayStore(Element::ByteElement),
+        0x55 => Instruction::ArrayStore(Element::CharElement),
+        0x56 => Instruction::ArrayStore(Element::ShortElement),
         _ => Instruction::Unlinked,
     }
 }
@@ -92,12 +93,12 @@ fn bit_operation(op: u8) -> Instruction
     ensures { (es : List entry.Entry) (ss : List switch.Switch) → instruction_of es ss result ≡ opcodes.bit_operation op }
 {
     match op {
-        0x78 => Instruction::IntShift(ShiftKind::Left),
-        0x79 => Instruction::LongShift(ShiftKind::Left),
-        0x7a => Instruction::IntShift(ShiftKind::Right),
-        0x7b => Instruction::LongShift(ShiftKind::Right),
-        0x7c => Instruction::IntShift(ShiftKind::Unsigned),
-        0x7d => Instruction::LongShift(ShiftKind::Unsigned),
+        0x78 => Instruction::IntShift(ShiftKind::ShiftLeft),
+        0x79 => Instruction::LongShift(ShiftKind::ShiftLeft),
+        0x7a => Instruction::IntShift(ShiftKind::ShiftRight),
+        0x7b => Instruction::LongShift(ShiftKind::ShiftRight),
+        0x7c => Instruction::IntShift(ShiftKind::ShiftUnsigned),
+        0x7d => Instruction::LongShift(ShiftKind::ShiftUnsigned),
         0x7e => Instruction::IntOperation(Operation::BitAnd),
         0x7f => Instruction::LongOperation(Operation::BitAnd),
         0x80 => Instruction::IntOperation(Operation::BitOr),
@@ -190,18 +191,18 @@ pub fn with_target(op: u8, to: u32) -> Instruction
     ensures { (es : List entry.Entry) (ss : List switch.Switch) → instruction_of es ss result ≡ opcodes.with_target op to }
 {
     match op {
-        0x99 => Instruction::IfInt(Comparison::Equal, to),
-        0x9a => Instruction::IfInt(Comparison::Unequal, to),
-        0x9b => Instruction::IfInt(Comparison::Less, to),
-        0x9c => Instruction::IfInt(Comparison::AtLeast, to),
-        0x9d => Instruction::IfInt(Comparison::Greater, to),
-        0x9e => Instruction::IfInt(Comparison::AtMost, to),
-        0x9f => Instruction::IfInts(Comparison::Equal, to),
-        0xa0 => Instruction::IfInts(Comparison::Unequal, to),
-        0xa1 => Instruction::IfInts(Comparison::Less, to),
-        0xa2 => Instruction::IfInts(Comparison::AtLeast, to),
-        0xa3 => Instruction::IfInts(Comparison::Greater, to),
-        0xa4 => Instruction::IfInts(Comparison::AtMost, to),
+        0x99 => Instruction::IfInt(Comparison::IsEqual, to),
+        0x9a => Instruction::IfInt(Comparison::IsUnequal, to),
+        0x9b => Instruction::IfInt(Comparison::IsLess, to),
+        0x9c => Instruction::IfInt(Comparison::IsAtLeast, to),
+        0x9d => Instruction::IfInt(Comparison::IsGreater, to),
+        0x9e => Instruction::IfInt(Comparison::IsAtMost, to),
+        0x9f => Instruction::IfInts(Comparison::IsEqual, to),
+        0xa0 => Instruction::IfInts(Comparison::IsUnequal, to),
+        0xa1 => Instruction::IfInts(Comparison::IsLess, to),
+        0xa2 => Instruction::IfInts(Comparison::IsAtLeast, to),
+        0xa3 => Instruction::IfInts(Comparison::IsGreater, to),
+        0xa4 => Instruction::IfInts(Comparison::IsAtMost, to),
         0xa5 => Instruction::IfSame(to),
         0xa6 => Instruction::IfNotSame(to),
         0xa7 | 0xc8 => Instruction::Goto(to),
