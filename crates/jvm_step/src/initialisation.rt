@@ -3,7 +3,7 @@
 
 ghost use Rattle.std.specs.Prelude.{◌≡◌, ◌||◌, ◌&&◌, ◌<◌, None, Some, List, map, length, IfOk, OnOk};
 ghost use Rattle.std.specs.List.{list_any};
-ghost use Rattle.program_rules.specs.Linked.{is_library, is_class_initializer, has_class_initializer, has_static_constant, fits_kind, is_interface, is_static};
+ghost use Rattle.program_rules.specs.Linked.{is_library, is_class_initializer, has_class_initializer, has_static_constant, fits_kind, is_abstract, is_interface, is_static};
 ghost use Rattle.std.specs.Option.{option_map};
 ghost use Rattle.program_rules.specs.Kinds.{is_int_kind, is_text_kind};
 ghost use Rattle.program_rules.specs.Programs.{supers};
@@ -109,6 +109,13 @@ pub fn is_static(flags: u16) -> bool
     ensures { result ≡ is_static flags }
 {
     flags / 8 % 2 == 1
+}
+
+/// Whether a method is abstract (JVMS 4.6).
+pub fn is_abstract(flags: u16) -> bool
+    ensures { result ≡ is_abstract flags }
+{
+    flags / 1024 % 2 == 1
 }
 
 /// Whether a class is an interface (JVMS 4.1).

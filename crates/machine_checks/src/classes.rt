@@ -2,7 +2,7 @@
 
 use class_model::{Arg, Attr, Body, Class, Code, Const, Insn, Member, Name, Seq, SharedBytes};
 use class_table::{Call, Loaded, Test};
-use machine_rules::CallKind;
+use program_rules::CallKind;
 use std::alloc::Global;
 use std::test::Fail;
 
