@@ -17,14 +17,13 @@ use Rattle.machine_rules.specs.Effects as rule
 use Rattle.machine_rules.specs.Effects.{Effect, NoRow, Current, on_int, on_args}
 use Rattle.class_table.specs.Symbols.{kind_of}
 use Rattle.program_rules.specs.Instructions.{MethodRef, Instruction, InvokeStatic}
-use Rattle.program_rules.specs.Linked.{Linked, LinkedMethod, is_static, is_interface, method_place}
+use Rattle.program_rules.specs.Linked.{LinkedMethod}
 use Rattle.program_rules.specs.Programs.{Look}
 use Rattle.machine_rules.specs.Lookups.{consult}
-use Rattle.program_rules.specs.Resolution.{same_bool}
 use Rattle.machine_so_far.specs.Calls.{runs, invokes_static, returns, returns_int}
 use Rattle.machine_so_far.specs.Initialisation.{Ready, need_of, needed, when_ready}
 use Rattle.machine_rules.specs.declared.machine.Limits.{Limits}
-use Rattle.jvm_step.specs.Finding.{FindsStatic, FindsNoStatic}
+use Rattle.jvm_step.specs.Finding.{FindsStatic}
 use Rattle.jvm_step.specs.declared.frame.Frame as code
 use Rattle.jvm_step.specs.View.{frame_of, Goes, Comes, IsNothingNew}
 

@@ -1,14 +1,14 @@
 -- The operations on two ints by their results.
-use Rattle.std.proofs.Common.{◌≡◌, ◌+◌, ℤ, List, [], ◌∷◌, refl, sym}
+use Rattle.std.proofs.Common.{◌≡◌, ℤ, List, [], ◌∷◌, refl, sym}
 use Rattle.program_rules.specs.declared.value.Value.{Value}
 use Rattle.program_rules.specs.declared.value.Value.TheVariants.{Int, Long, Ref, Null}
 use Rattle.program_rules.specs.declared.operation.Operation.{Operation}
 use Rattle.program_rules.specs.declared.operation.Operation.TheVariants.{Plus, Minus, Times, Divide, Remainder, BitAnd, BitOr, BitXor}
 use Rattle.machine_rules.specs.declared.machine.Limits.{Limits}
 use Rattle.machine_rules.specs.State.{Frame, World}
-use Rattle.machine_rules.specs.Effects.{Effect, NoRow, on_some, on_int, on_ints, jumps}
+use Rattle.machine_rules.specs.Effects.{Effect, NoRow, on_int, on_ints}
 use Rattle.machine_so_far.specs.Steps.{operates}
-use Rattle.jvm_step.specs.Arithmetic.{int_operation}
+use Rattle.jvm_step.specs.Arithmetic.{operates_by_result}
 
 no_int : (stack : List Value) (go : ℤ → List Value → Effect) → ((z : ℤ) (rest : List Value) → go z rest ≡ NoRow) → on_int stack go ≡ NoRow
 no_int [] go h = refl
@@ -20,7 +20,7 @@ no_int (Null ∷ rest) go h = refl
 no_ints : (stack : List Value) → NoRow ≡ on_ints stack (λ x y rest. NoRow)
 no_ints stack = sym (no_int stack _ (λ y rest. no_int rest _ (λ x below. refl)))
 
-pub operates_is : (q : Limits) (w : World) (f : Frame) (fs : List Frame) (op : Operation) → operates q w f fs op ≡ on_ints f.stack (λ x y rest. on_some (int_operation op x y) (λ z. jumps w f fs (f.at + 1) (Int z ∷ rest)))
+pub operates_is : (q : Limits) (w : World) (f : Frame) (fs : List Frame) (op : Operation) → operates q w f fs op ≡ operates_by_result w f fs op
 operates_is q w f fs Plus = refl
 operates_is q w f fs Minus = refl
 operates_is q w f fs Times = no_ints f.stack

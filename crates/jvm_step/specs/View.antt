@@ -7,7 +7,6 @@ use Rattle.machine_rules.specs.State as def
 use Rattle.machine_rules.specs.Effects.{Effect, NoRow, Current, goes_with, throws}
 use Rattle.program_rules.specs.declared.fault.Fault.{Fault}
 use Rattle.program_rules.specs.declared.fault.Fault.TheVariants.{StackOverflowError, AssertionError}
-use Rattle.program_rules.specs.declared.operation.Operation.{Operation}
 use Rattle.program_rules.specs.Faults.{fault_name}
 use Rattle.machine_rules.specs.Effects as effect
 use Rattle.program_rules.specs.Objects as objects
@@ -59,11 +58,6 @@ frames_of p (Some f) fs = frame_of p f ∷ callers_of p fs
 abbrev pub Goes : (List Info → def.World → List def.Frame → Effect) → Bool → Frame → Type 0
 Goes row true f = (p : List Info) (w : def.World) (fs : List def.Frame) → row p w fs ≡ goes_with w (frame_of p f ∷ fs)
 Goes row false f = (p : List Info) (w : def.World) (fs : List def.Frame) → row p w fs ≡ NoRow
-
--- The row of an operation on two ints.
-abbrev pub Operates : Operation → Bool → Frame → Frame → Type 0
-Operates op b old new =
-    (q : Limits) → Goes (λ p w fs. rows.operates q w (frame_of p old) fs op) b new
 
 -- ---- the world
 

@@ -4,7 +4,8 @@
 ghost use Rattle.std.specs.Prelude.{◌≡◌, ◌+◌, ◌<◌, ◌^◌, IfOk};
 ghost use Rattle.machine_rules.specs.Effects.{pushes};
 ghost use Rattle.machine_rules.specs.Steps.{loads_int, loads_reference, stores_int, pops_word, branches_on_int, branches_on_ints};
-ghost use Rattle.jvm_step.specs.View.{frame_of, Goes, Operates};
+ghost use Rattle.jvm_step.specs.Arithmetic.{operates_by_result};
+ghost use Rattle.jvm_step.specs.View.{frame_of, Goes};
 
 use crate::arithmetic::{compare, compute};
 use crate::frame::Frame;
@@ -104,10 +105,9 @@ pub fn pop(f: &mut Frame) -> bool
 }
 
 /// iadd and isub: sums and differences wrap.
-#[tactic(auto, using(crate::proofs::Operations::operates_is))]
 pub fn operate(f: &mut Frame, op: Operation) -> Result<bool, Memory>
     requires next { f.old.at + 1 < 2 ^ 64 }
-    ensures row { IfOk result (λ b. Operates op b f.old f.new) }
+    ensures row { IfOk result (λ b. Goes (λ p w fs. operates_by_result w (frame_of p f.old) fs op) b f.new) }
     ensures class { f.new.class ≡ f.old.class }
 {
     let Some((x, y)) = f.stack.pop_ints() else {

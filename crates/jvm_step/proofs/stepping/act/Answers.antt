@@ -1,10 +1,12 @@
 use Rattle.std.proofs.Common.{rules}
 use Rattle.program_rules.specs.Instructions.{InvokeStatic}
-use Rattle.machine_so_far.specs.Steps.{act, operates}
+use Rattle.machine_so_far.specs.Steps.{act}
 use Rattle.machine_rules.specs.Steps.{pops_word}
 use Rattle.class_table.specs.View.{instruction_of, method_ref_of}
 use Rattle.class_table.specs.Table.{look, entries_at}
 use Rattle.jvm_step.specs.View.{frame_of, world_of, callers_of, current_of}
+use Rattle.jvm_step.specs.Arithmetic.{operates_by_result}
+use Rattle.jvm_step.proofs.Operations.{operates_is}
 use Rattle.jvm_step.proofs.Calls.{if_some_at, comes_as, act_static, row_comes}
 use Rattle.jvm_step.proofs.stepping.act.Goals as goal
 
@@ -28,11 +30,14 @@ pub returns-in_ok-goes-in-IntOperation-clause-row : goal.returns-in_ok-goes-in-I
 unfolding act instruction_of
 returns-in_ok-goes-in-IntOperation-clause-row c =
     let p = c.args.p.now in
-    let q = c.args.m.now.limits in
+    let m = c.args.m.now in
     let f = c.in-Some.frame in
     let op = c.in-IntOperation.op in
-    if_some_at _ c.args.m.now.frame f c.in-Some.is
-    (rw c.in-IntOperation.is (row_comes (λ p w fs. operates q w (frame_of p f) fs op) c.in_ok-goes-in-IntOperation.goes c.operate.new.f p (world_of p c.args.m.now.world) (callers_of p c.args.m.now.callers) _ (c.in_ok-goes-in-IntOperation.ensures.row q) (search rules) (search rules)))
+    let w = world_of p m.world in
+    let fs = callers_of p m.callers in
+    if_some_at _ m.frame f c.in-Some.is
+    (rw c.in-IntOperation.is (comes_as _ _ _ _ _ (operates_is m.limits w (frame_of p f) fs op)
+    (row_comes (λ p w fs. operates_by_result w (frame_of p f) fs op) c.in_ok-goes-in-IntOperation.goes c.operate.new.f p w fs _ c.in_ok-goes-in-IntOperation.ensures.row (search rules) (search rules))))
 
 pub returns-in_ok-goes-in-InvokeStatic-clause-row : goal.returns-in_ok-goes-in-InvokeStatic-clause-row
 unfolding instruction_of
