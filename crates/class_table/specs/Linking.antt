@@ -21,6 +21,7 @@ use Rattle.program_rules.specs.Names.{Name}
 use Rattle.program_rules.specs.Kinds.{Kind}
 use Rattle.program_rules.specs.Linked.{Linked, LinkedMethod, LinkedField, LinkedCode, LinkedRow, LinkedLine, LinkedBody, HasCode, IsNative, NoBody, FieldConstant, IntField, LongField, TextField}
 use Rattle.program_rules.specs.Types.{VType, Top, IntType, LongType, NullType, UninitThis, Uninit, Obj, FrameShape, SameLocals, OneItem, Chopped, Appended, Whole, StatedFrame}
+use Rattle.program_rules.specs.Deeds.{Meaning}
 use Rattle.program_rules.specs.Natives.{assert_true, assert_false, do_nothing}
 use Rattle.class_table.specs.declared.loaded.LibBody.{LibBody}
 use Rattle.class_table.specs.declared.loaded.LibBody.TheVariants as lib
@@ -154,13 +155,21 @@ link c = record {
 
 -- ---- classes of the library (this project's own)
 
--- The native methods that have a row, by their numbers.
+-- What the native methods that have a row mean, by their numbers: the `<init>` of Object, and the
+-- two plain assertions of JUnit 4.
+abbrev pub native : ℕ → Option Meaning
+native n =
+    if n == 0 then Some do_nothing
+    else if n == 2000 then Some assert_true
+    else if n == 2001 then Some assert_false
+    else None
+
+abbrev pub native_or_none : Option Meaning → LinkedBody
+native_or_none None = NoBody
+native_or_none (Some meaning) = IsNative meaning
+
 abbrev pub native_body : ℕ → LinkedBody
-native_body n =
-    if n == 0 then IsNative do_nothing
-    else if n == 2000 then IsNative assert_true
-    else if n == 2001 then IsNative assert_false
-    else NoBody
+native_body n = native_or_none (native n)
 
 abbrev pub library_body : LibBody → LinkedBody
 library_body (lib.Native n) = native_body n

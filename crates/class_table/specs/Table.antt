@@ -61,6 +61,10 @@ names_of classes library = map body_name (bodies_of classes library)
 abbrev pub names : List Info → List Name
 names p = map (λ i. i.name) p
 
+-- Where they come from, by their numbers.
+abbrev pub bodies : List Info → List ClassBody
+bodies p = map (λ i. i.body) p
+
 -- There are fewer classes than numbers, and no two have one name.
 pub record IsProgram (p : List Info) : Type 0 where
   pub few : length p < 2 ^ 32

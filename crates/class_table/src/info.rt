@@ -1,12 +1,12 @@
 ghost use Rattle.std.specs.Prelude.{◌≡◌, ◌<◌, ◌^◌, length, IfOk};
 ghost use Rattle.class_table.specs.View.{linked_of};
-ghost use Rattle.class_table.specs.Info.{body_name, link_body, class_of};
+ghost use Rattle.class_table.specs.Info.{own_name, body_name, link_body, class_of};
 
 use crate::entries::class_named;
 use crate::linked::LinkedClass;
 use crate::linking::{link, link_library};
 use crate::loaded::ClassBody;
-use class_model::{Memory, Name};
+use class_model::{Class, Memory, Name};
 use std::alloc::Global;
 use std::marker::Model;
 
@@ -73,15 +73,18 @@ impl ClassInfo {
     }
 }
 
+// The name that a class file gives to its class.
+fn own_name(alloc: Global, class: &Class) -> Result<Name, Memory>
+    ensures { IfOk result (λ name. name ≡ own_name class.now) }
+{
+    Ok(class_named(alloc, class.pool.as_slice(), class.this)?)
+}
+
 fn body_name(alloc: Global, body: &ClassBody) -> Result<Name, Memory>
     ensures { IfOk result (λ name. name ≡ body_name body.now) }
 {
     match body {
-        ClassBody::File(loaded) => Ok(class_named(
-            alloc,
-            loaded.class.pool.as_slice(),
-            loaded.class.this,
-        )?),
+        ClassBody::File(loaded) => Ok(own_name(alloc, &loaded.class)?),
         ClassBody::Library(class) => Ok(class.name.copy()?),
     }
 }

@@ -1,7 +1,7 @@
 use class_model::{Class, Code, Const, Name, Seq, SharedBytes};
 
 /// A class file and what it says.
-#[derive(Debug, Drop)]
+#[derive(Drop)]
 pub struct Loaded {
     pub bytes: SharedBytes,
     pub class: Class,

@@ -3,7 +3,7 @@
 ghost use Rattle.std.specs.Prelude.{◌≡◌, ◌<◌, ◌^◌, ℕ, List, ◌++◌, map, length, IfOk, OnOk};
 ghost use Rattle.std.specs.Arc.{arc_value};
 ghost use Rattle.class_table.specs.Info.{body_name};
-ghost use Rattle.class_table.specs.Table.{bodies_of, names};
+ghost use Rattle.class_table.specs.Table.{bodies, bodies_of, names, names_of};
 ghost use Rattle.std.specs.HashMap.{get};
 ghost use Rattle.program_rules.specs.Names.{same};
 ghost use Rattle.class_table.specs.declared.loaded.ClassBody.TheVariants as body;
@@ -16,47 +16,54 @@ use std::alloc::Global;
 use std::collections::HashMap;
 use std::sync::Arc;
 
-/// The classes of a program by where they come from.
-pub fn bodies(
+// A class with what it means, shared.
+fn info(alloc: Global, body: ClassBody) -> Result<Arc<ClassInfo, Global>, Memory>
+    ensures body { IfOk result (λ i. (arc_value i).body ≡ body) }
+    ensures name { IfOk result (λ i. (arc_value i).name ≡ body_name body) }
+{
+    Ok(Arc::new(alloc, ClassInfo::new(alloc, body)?)?)
+}
+
+fn add_files(
+    alloc: Global,
+    infos: &mut Vec<Arc<ClassInfo, Global>>,
+    classes: Vec<Loaded>,
+) -> Result<(), Memory>
+    ensures bodies { OnOk result (bodies (map (λ i. arc_value i) infos.new.items) ≡ bodies (map (λ i. arc_value i) infos.old.items) ++ map body.File classes.items) }
+    ensures names { OnOk result (names (map (λ i. arc_value i) infos.new.items) ≡ names (map (λ i. arc_value i) infos.old.items) ++ map body_name (map body.File classes.items)) }
+{
+    for loaded in classes {
+        infos.push(info(alloc, ClassBody::File(loaded))?)?;
+    }
+    Ok(())
+}
+
+fn add_library(
+    alloc: Global,
+    infos: &mut Vec<Arc<ClassInfo, Global>>,
+    library: Vec<LibClass>,
+) -> Result<(), Memory>
+    ensures bodies { OnOk result (bodies (map (λ i. arc_value i) infos.new.items) ≡ bodies (map (λ i. arc_value i) infos.old.items) ++ map body.Library library.items) }
+    ensures names { OnOk result (names (map (λ i. arc_value i) infos.new.items) ≡ names (map (λ i. arc_value i) infos.old.items) ++ map body_name (map body.Library library.items)) }
+{
+    for class in library {
+        infos.push(info(alloc, ClassBody::Library(class))?)?;
+    }
+    Ok(())
+}
+
+/// The classes of a program with what they mean, in the order of their numbers.
+pub fn infos(
     alloc: Global,
     classes: Vec<Loaded>,
     library: Vec<LibClass>,
-) -> Result<Vec<ClassBody>, Memory>
-    ensures { IfOk result (λ bs. bs.items ≡ bodies_of classes.items library.items) }
-{
-    let mut bodies = Vec::new(alloc);
-    add_files(&mut bodies, classes)?;
-    add_library(&mut bodies, library)?;
-    Ok(bodies)
-}
-
-fn add_files(bodies: &mut Vec<ClassBody>, classes: Vec<Loaded>) -> Result<(), Memory>
-    ensures { OnOk result (bodies.new.items ≡ bodies.old.items ++ map body.File classes.items) }
-{
-    for loaded in classes {
-        bodies.push(ClassBody::File(loaded))?;
-    }
-    Ok(())
-}
-
-fn add_library(bodies: &mut Vec<ClassBody>, library: Vec<LibClass>) -> Result<(), Memory>
-    ensures { OnOk result (bodies.new.items ≡ bodies.old.items ++ map body.Library library.items) }
-{
-    for class in library {
-        bodies.push(ClassBody::Library(class))?;
-    }
-    Ok(())
-}
-
-/// The classes with what they mean.
-pub fn infos(alloc: Global, bodies: Vec<ClassBody>) -> Result<Vec<Arc<ClassInfo, Global>>, Memory>
-    ensures bodies { IfOk result (λ is. map (λ i. i.body) (map (λ i. arc_value i) is.items) ≡ bodies.items) }
-    ensures names { IfOk result (λ is. names (map (λ i. arc_value i) is.items) ≡ map body_name bodies.items) }
+) -> Result<Vec<Arc<ClassInfo, Global>>, Memory>
+    ensures bodies { IfOk result (λ is. bodies (map (λ i. arc_value i) is.items) ≡ bodies_of classes.items library.items) }
+    ensures names { IfOk result (λ is. names (map (λ i. arc_value i) is.items) ≡ names_of classes.items library.items) }
 {
     let mut infos = Vec::new(alloc);
-    for body in bodies {
-        infos.push(Arc::new(alloc, ClassInfo::new(alloc, body)?)?)?;
-    }
+    add_files(alloc, &mut infos, classes)?;
+    add_library(alloc, &mut infos, library)?;
     Ok(infos)
 }
 

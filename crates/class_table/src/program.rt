@@ -1,11 +1,12 @@
-ghost use Rattle.std.specs.Prelude.{◌≡◌, ◌≢◌, ◌<◌, ℕ, List, map, length, slice_get, slice_set, Some, None, Err, IfOk, OnOk, IfSome, IfNone, IsSomeAnd, option_and_then};
+ghost use Rattle.std.specs.Prelude.{◌≡◌, ◌<◌, ◌^◌, ℕ, List, map, length, slice_get, slice_set, Some, None, Err, IfOk, OnOk, IfSome, IfNone, IsSomeAnd, option_and_then};
 ghost use Rattle.std.specs.Option.{option_map, option_copied};
 ghost use Rattle.std.specs.Arc.{arc_value};
 ghost use Rattle.program_rules.specs.Linked.{method_in};
 ghost use Rattle.class_table.specs.View.{method_of};
 ghost use Rattle.class_table.specs.Info.{class_of, link_body, file_in};
 ghost use Rattle.class_table.specs.Table.{AreDistinct, IsLeastDuplicate, bodies_of, names_of, names, number_of, CanSwap, class_at, name_at, look, entries_at, methods_at, reference_at, named_number, named_place, IsProgram};
-ghost use Rattle.class_table.specs.Calls.{IsTargetOf};
+ghost use Rattle.class_table.specs.Calls.{IsTargetOf, AreTargets};
+ghost use Rattle.class_table.specs.Numbers.{IsNumbering};
 ghost use Rattle.class_table.specs.declared.fault.TableFault.TheVariants.{Duplicate};
 
 use crate::calls::{Target, Targets, copy_targets, forget_unless_right, target_at, targets};
@@ -13,7 +14,7 @@ use crate::fault::TableFault;
 use crate::info::ClassInfo;
 use crate::linked::LinkedMethod;
 use crate::loaded::{ClassBody, LibClass, Loaded};
-use crate::numbering::{bodies, infos, least_duplicate, numbers};
+use crate::numbering::{infos, least_duplicate, numbers};
 use class_model::{Class, ClassId, Memory, Name, Seq};
 use std::alloc::Global;
 use std::collections::HashMap;
@@ -62,8 +63,7 @@ impl Program {
         ensures distinct { OnOk result (AreDistinct (names_of classes library)) }
         ensures duplicate { (name : List ℕ) → result ≡ Err (Duplicate name) → IsLeastDuplicate (names_of classes library) name }
     {
-        let bodies = bodies(alloc, classes.into_vec(), library.into_vec())?;
-        let infos = infos(alloc, bodies)?;
+        let infos = infos(alloc, classes.into_vec(), library.into_vec())?;
         match program_of(alloc, infos) {
             Ok(program) => Ok(program),
             Err(fault) => Err(fault),
@@ -128,8 +128,14 @@ impl Program {
         ensures absent { IfNone result (number_of self.now name.now ≡ None) }
         ensures nothing { IfNone result (look self.now name.now ≡ None) }
     {
-        let number = self.numbers.get(name)?;
-        Some(ClassId(*number))
+        let number = self.number(name)?;
+        Some(ClassId(number))
+    }
+
+    fn number(&self, name: &Name) -> Option<u32>
+        ensures { result ≡ number_of self.now name.now }
+    {
+        self.numbers.get(name).copied()
     }
 
     /// Puts a class in the place of another one of the same name, superclass and interfaces, and gives back the other. Both are of class files.
@@ -245,6 +251,37 @@ fn put(
     mem::replace(&mut classes[at], with)
 }
 
+// Tells the least name that two of the classes have, if there is one.
+fn refuse_duplicates(
+    alloc: Global,
+    infos: &[Arc<ClassInfo, Global>],
+    numbers: &HashMap<Name, u32>,
+) -> Result<(), TableFault>
+    requires few { length infos.now < 2 ^ 32 }
+    requires numbers { IsNumbering numbers.now (map (λ c. arc_value c) infos.now) }
+    ensures distinct { OnOk result (AreDistinct (names (map (λ c. arc_value c) infos.now))) }
+    ensures duplicate { (name : List ℕ) → result ≡ Err (Duplicate name) → IsLeastDuplicate (names (map (λ c. arc_value c) infos.now)) name }
+{
+    match least_duplicate(alloc, infos, numbers)? {
+        Some(name) => Err(TableFault::Duplicate { name }),
+        None => Ok(()),
+    }
+}
+
+// The numbers of these classes, and what they name by number, shared.
+fn number_all(
+    alloc: Global,
+    infos: &[Arc<ClassInfo, Global>],
+) -> Result<(Arc<HashMap<Name, u32>, Global>, Arc<Targets, Global>), Memory>
+    requires few { length infos.now < 2 ^ 32 }
+    ensures numbers { IfOk result (λ both. IsNumbering (arc_value both.0) (map (λ c. arc_value c) infos.now)) }
+    ensures targets { IfOk result (λ both. AreTargets (arc_value both.1) (map (λ c. arc_value c) infos.now)) }
+{
+    let numbers = numbers(alloc, infos)?;
+    let targets = targets(alloc, infos, &numbers)?;
+    Ok((Arc::new(alloc, numbers)?, Arc::new(alloc, targets)?))
+}
+
 fn program_of(alloc: Global, infos: Vec<Arc<ClassInfo, Global>>) -> Result<Program, TableFault>
     ensures classes { IfOk result (λ p. p ≡ map (λ c. arc_value c) infos.items) }
     ensures distinct { OnOk result (AreDistinct (names (map (λ c. arc_value c) infos.items))) }
@@ -253,17 +290,14 @@ fn program_of(alloc: Global, infos: Vec<Arc<ClassInfo, Global>>) -> Result<Progr
     if infos.len() > u32::MAX as usize {
         return Err(TableFault::Memory);
     }
-    let numbers = numbers(alloc, infos.as_slice())?;
-    match least_duplicate(alloc, infos.as_slice(), &numbers)? {
-        Some(name) => Err(TableFault::Duplicate { name }),
-        None => {
-            let targets = targets(alloc, infos.as_slice(), &numbers)?;
-            Ok(Program {
-                classes: infos,
-                numbers: Arc::new(alloc, numbers)?,
-                targets: Some(Arc::new(alloc, targets)?),
-            })
-        }
+    let (numbers, targets) = number_all(alloc, infos.as_slice())?;
+    match refuse_duplicates(alloc, infos.as_slice(), &numbers) {
+        Ok(()) => Ok(Program {
+            classes: infos,
+            numbers,
+            targets: Some(targets),
+        }),
+        Err(fault) => Err(fault),
     }
 }
 

@@ -4,7 +4,7 @@ use class_model::{Copied, Memory, Name, Seq};
 use program_rules::CallKind;
 
 /// A call of a test's script: a method without arguments and without a result.
-#[derive(Debug, Drop)]
+#[derive(Drop)]
 pub struct Call {
     pub class: Name,
     pub method: Name,
@@ -12,7 +12,7 @@ pub struct Call {
 }
 
 /// A test: its class and method, the calls that a run of it makes, and the class of the exception that is to leave it, if one is.
-#[derive(Debug, Drop)]
+#[derive(Drop)]
 pub struct Test {
     pub class: Name,
     pub method: Name,

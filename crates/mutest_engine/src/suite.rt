@@ -17,14 +17,14 @@ const CLASSES_LIMIT: usize = 20_000;
 const BYTES_LIMIT: u64 = 67_108_864;
 
 /// A class file as it was read.
-#[derive(Debug, Drop)]
+#[derive(Drop)]
 pub struct ClassFile {
     pub path: Bytes,
     pub bytes: Bytes,
 }
 
 /// The classes of both folders, those of the tests folder from a number on.
-#[derive(Debug, Drop)]
+#[derive(Drop)]
 pub struct LoadedSuite {
     pub classes: Seq<Loaded>,
     pub first_test: usize,
