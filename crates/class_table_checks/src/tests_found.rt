@@ -27,7 +27,11 @@ fn tests_are_the_annotated_methods_of_a_class_with_a_plain_constructor(
             assert!(rt; method.as_slice() == name.as_bytes(), "at {at}");
             assert!(rt; test.expected.is_none());
             assert_eq!(rt; test.script.len(), 2);
-            assert!(rt; test.script.get(0).is_some_and(|call| call.kind == CallKind::Make));
+            assert!(rt;
+                test.script
+                    .get(0)
+                    .is_some_and(|call| call.kind == CallKind::Make)
+            );
         }
     }
     Ok(())
