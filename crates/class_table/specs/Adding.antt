@@ -18,18 +18,25 @@ use Rattle.class_table.specs.View.{frame_of}
 abbrev pub shared : {Z : Type 0} → List (Arc Info Z) → List Info
 shared cs = map (λ c. arc_value c) cs
 
--- The classes of these bodies stand behind those that were there.
-abbrev pub AddsBodies : {Z : Type 0} → List (Arc Info Z) → List ClassBody → List (Arc Info Z) → Type 0
-AddsBodies old more new = bodies (shared new) ≡ bodies (shared old) ++ more
+-- The bodies of these classes, and their names.
+abbrev pub AreClassesOf : {Z : Type 0} → List (Arc Info Z) → List ClassBody → Type 0
+AreClassesOf cs bs = (bodies (shared cs) ≡ bs) × (names (shared cs) ≡ map body_name bs)
 
--- The same of their names.
-abbrev pub AddsNames : {Z : Type 0} → List (Arc Info Z) → List ClassBody → List (Arc Info Z) → Type 0
-AddsNames old more new = names (shared new) ≡ names (shared old) ++ map body_name more
+-- The classes of these bodies stand behind those that were there.
+abbrev pub AddsClasses :
+    {Z : Type 0} → List (Arc Info Z) → List ClassBody → List (Arc Info Z) → Type 0
+AddsClasses old more new =
+    (bodies (shared new) ≡ bodies (shared old) ++ more)
+    × (names (shared new) ≡ names (shared old) ++ map body_name more)
 
 -- These frames stand behind those that were there.
-abbrev pub AddsFrames : List StatedFrame → List def.StatedFrame → List StatedFrame → Type 0
-AddsFrames old more new = map frame_of new ≡ map frame_of old ++ more
+abbrev pub Adds : List StatedFrame → List def.StatedFrame → List StatedFrame → Type 0
+Adds old more new = map frame_of new ≡ map frame_of old ++ more
+
+-- The frames that an attribute states.
+abbrev pub frames_at : List Const → Attr → List def.StatedFrame
+frames_at pool a = frames_of pool (content_of a)
 
 -- The frames that the attributes of a code state.
 abbrev pub frames_in : List Const → List Attr → List def.StatedFrame
-frames_in pool attrs = flat_map (λ a. frames_of pool (content_of a)) attrs
+frames_in pool attrs = flat_map (frames_at pool) attrs

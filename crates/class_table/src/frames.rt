@@ -1,8 +1,8 @@
 //! Stated frames with names in place of pool indices (JVMS 4.7.4).
 
 ghost use Rattle.std.specs.Prelude.{◌≡◌, map, IfOk, OnOk};
-ghost use Rattle.class_table.specs.Adding.{AddsFrames, frames_in};
-ghost use Rattle.class_table.specs.Linking.{vtype_in, shape_in, frame_in, frames_of, content_of};
+ghost use Rattle.class_table.specs.Adding.{Adds, frames_at, frames_in};
+ghost use Rattle.class_table.specs.Linking.{vtype_in, shape_in, frame_in};
 ghost use Rattle.class_table.specs.View.{vtype_of, shape_of, frame_of};
 
 use crate::entries::class_named;
@@ -90,13 +90,13 @@ fn link_shape(alloc: Global, pool: &[Const], shape: &Shape) -> Result<FrameShape
 fn add_all(
     alloc: Global,
     pool: &[Const],
-    linked: &mut Vec<StatedFrame>,
+    out: &mut Vec<StatedFrame>,
     frames: &[Frame],
 ) -> Result<(), Memory>
-    ensures { OnOk result (AddsFrames linked.old.items (map (frame_in pool.now) frames.now) linked.new.items) }
+    ensures { OnOk result (Adds out.old.items (map (frame_in pool.now) frames.now) out.new.items) }
 {
     for frame in frames {
-        linked.push(StatedFrame {
+        out.push(StatedFrame {
             at: frame.at,
             shape: link_shape(alloc, pool, &frame.shape)?,
         })?;
@@ -108,14 +108,14 @@ fn add_all(
 fn add_frames(
     alloc: Global,
     pool: &[Const],
-    linked: &mut Vec<StatedFrame>,
+    out: &mut Vec<StatedFrame>,
     attr: &Attr,
 ) -> Result<(), Memory>
-    ensures { OnOk result (AddsFrames linked.old.items (frames_of pool.now (content_of attr.now)) linked.new.items) }
+    ensures { OnOk result (Adds out.old.items (frames_at pool.now attr.now) out.new.items) }
 {
     match &attr.body {
         Body::Frames(frames) => {
-            add_all(alloc, pool, linked, frames.as_slice())?;
+            add_all(alloc, pool, out, frames.as_slice())?;
             Ok(())
         }
         _ => Ok(()),
@@ -130,9 +130,9 @@ pub fn link_frames(
 ) -> Result<Seq<StatedFrame>, Memory>
     ensures { IfOk result (λ fs. map frame_of fs ≡ frames_in pool.now attrs.now) }
 {
-    let mut linked = Vec::new(alloc);
+    let mut out = Vec::new(alloc);
     for attr in attrs {
-        add_frames(alloc, pool, &mut linked, attr)?;
+        add_frames(alloc, pool, &mut out, attr)?;
     }
-    Ok(Seq::from_vec(linked))
+    Ok(Seq::from_vec(out))
 }

@@ -7,7 +7,7 @@ ghost use Rattle.class_table.specs.Table.{bodies, bodies_of, names, names_of};
 ghost use Rattle.std.specs.HashMap.{get};
 ghost use Rattle.program_rules.specs.Names.{same};
 ghost use Rattle.class_table.specs.declared.loaded.ClassBody.TheVariants.{File, Library};
-ghost use Rattle.class_table.specs.Adding.{shared, AddsBodies, AddsNames};
+ghost use Rattle.class_table.specs.Adding.{shared, AreClassesOf, AddsClasses};
 ghost use Rattle.class_table.specs.Numbers.{IsNumbering, with_number, is_before, lesser, is_place, judged, IsTold, IsVerdict};
 
 use crate::info::ClassInfo;
@@ -30,8 +30,7 @@ fn add_files(
     infos: &mut Vec<Arc<ClassInfo, Global>>,
     classes: Vec<Loaded>,
 ) -> Result<(), Memory>
-    ensures bodies { OnOk result (AddsBodies infos.old.items (map File classes.items) infos.new.items) }
-    ensures names { OnOk result (AddsNames infos.old.items (map File classes.items) infos.new.items) }
+    ensures { OnOk result (AddsClasses infos.old.items (map File classes.items) infos.new.items) }
 {
     for loaded in classes {
         infos.push(info(alloc, ClassBody::File(loaded))?)?;
@@ -44,8 +43,7 @@ fn add_library(
     infos: &mut Vec<Arc<ClassInfo, Global>>,
     library: Vec<LibClass>,
 ) -> Result<(), Memory>
-    ensures bodies { OnOk result (AddsBodies infos.old.items (map Library library.items) infos.new.items) }
-    ensures names { OnOk result (AddsNames infos.old.items (map Library library.items) infos.new.items) }
+    ensures { OnOk result (AddsClasses infos.old.items (map Library library.items) infos.new.items) }
 {
     for class in library {
         infos.push(info(alloc, ClassBody::Library(class))?)?;
@@ -59,8 +57,7 @@ pub fn infos(
     classes: Vec<Loaded>,
     library: Vec<LibClass>,
 ) -> Result<Vec<Arc<ClassInfo, Global>>, Memory>
-    ensures bodies { IfOk result (λ is. bodies (shared is.items) ≡ bodies_of classes.items library.items) }
-    ensures names { IfOk result (λ is. names (shared is.items) ≡ names_of classes.items library.items) }
+    ensures { IfOk result (λ is. AreClassesOf is.items (bodies_of classes.items library.items)) }
 {
     let mut infos = Vec::new(alloc);
     add_files(alloc, &mut infos, classes)?;

@@ -45,7 +45,7 @@ impl Model for Program {
     ghost use Rattle.class_table.specs.Info.{Info};
     ghost use Rattle.class_table.specs.Table.{IsProgram};
     ghost use Rattle.class_table.specs.Numbers.{IsNumbering};
-ghost use Rattle.class_table.specs.Adding.{shared};
+    ghost use Rattle.class_table.specs.Adding.{shared};
     ghost use Rattle.class_table.specs.Calls.{AreTargetsOrNone};
 
     ghost Value = { List Info };
