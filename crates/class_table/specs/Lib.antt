@@ -13,3 +13,4 @@ pub mod Spelled
 pub mod Lines
 pub mod Calls
 pub mod Seen
+pub mod Walked
