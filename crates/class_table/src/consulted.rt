@@ -1,10 +1,10 @@
 //! What a run has consulted, and the walk over all that stands above a class.
 
-ghost use Rattle.std.specs.Prelude.{◌≡◌, ◌<◌, ◌≤◌, ◌↔◌, ℕ, ◌++◌, [], length, true, slice_get, slice_set, Some, IfOk, OnOk, IsTrue};
+ghost use Rattle.std.specs.Prelude.{◌≡◌, ◌<◌, ◌↔◌, ℕ, [], length, true, slice_get, slice_set, Some, IfOk, OnOk, IsTrue};
 ghost use Rattle.std.specs.List.{list_any};
 ghost use Rattle.program_rules.specs.Names.{same};
-ghost use Rattle.program_rules.specs.Linked.{is_library, parents_with};
-ghost use Rattle.program_rules.specs.Programs.{concat_over, supers_within, supers, consult_one, consult_in, consulted_with};
+ghost use Rattle.program_rules.specs.Linked.{is_library};
+ghost use Rattle.program_rules.specs.Programs.{supers_within, supers, consult_one, consulted_with};
 ghost use Rattle.class_table.specs.Table.{look, name_at};
 ghost use Rattle.class_table.specs.Seen.{AreKnown, IsConsultedOf};
 ghost use Rattle.class_table.specs.Walked.{Consults, ConsultsAll, ConsultsParent, Collects, CollectsAll, CollectsParent};

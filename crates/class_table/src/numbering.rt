@@ -1,9 +1,9 @@
 //! The numbers of a program's classes by their names.
 
-ghost use Rattle.std.specs.Prelude.{◌≡◌, ◌<◌, ◌^◌, ℕ, List, ◌++◌, map, length, IfOk, OnOk};
+ghost use Rattle.std.specs.Prelude.{◌≡◌, ◌<◌, ◌^◌, ℕ, List, map, length, IfOk, OnOk};
 ghost use Rattle.std.specs.Arc.{arc_value};
 ghost use Rattle.class_table.specs.Info.{body_name};
-ghost use Rattle.class_table.specs.Table.{bodies, bodies_of, names, names_of};
+ghost use Rattle.class_table.specs.Table.{bodies_of, names};
 ghost use Rattle.std.specs.HashMap.{get};
 ghost use Rattle.program_rules.specs.Names.{same};
 ghost use Rattle.class_table.specs.declared.loaded.ClassBody.TheVariants.{File, Library};

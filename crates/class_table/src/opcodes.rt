@@ -1,7 +1,7 @@
 //! Which instruction an opcode with its operand spells (JVMS 6.5, 7).
 #![tactic(auto, unfolding(crate::specs::View::instruction_of))]
 
-ghost use Rattle.std.specs.Prelude.{◌≡◌, ◌==◌, ℕ, List, slice_get, if◌then◌else◌};
+ghost use Rattle.std.specs.Prelude.{◌≡◌, ◌==◌, List, slice_get, if◌then◌else◌};
 ghost use Rattle.program_rules.specs.Instructions.{Unlinked};
 ghost use Rattle.class_table.specs.Spelled.{Means, MeansIn};
 ghost use Rattle.class_table.specs.View.{instruction_of, meaning_at, table_of, lookup_of};

@@ -1,6 +1,6 @@
 -- The tests of a class (this project's own, in the manner of JUnit 4): which methods are tests, and
 -- what a run of one calls.
-use Rattle.std.specs.Prelude.{ℕ, Bool, true, false, not, ◌&&◌, List, [], ◌∷◌, ◌++◌, Option, Some, None, codes, if◌then◌else◌}
+use Rattle.std.specs.Prelude.{ℕ, Bool, false, not, ◌&&◌, List, [], ◌∷◌, Option, Some, None, codes, if◌then◌else◌}
 use Rattle.std.specs.List.{list_any, flat_map}
 use Rattle.class_model.specs.Pool.{text_of}
 use Rattle.class_model.specs.declared.annotation.Note.{Note, out-Note}
