@@ -1,6 +1,6 @@
 -- What a class means once indices of its constant pool are resolved to names (JVMS 4.1, 4.5 to
 -- 4.7). Everything is total: no condition on the class is asked.
-use Rattle.std.specs.Prelude.{ℕ, zero, suc, true, false, ◌==◌, if◌then◌else◌, List, [], ◌∷◌, ◌++◌, map, Option, Some, None, option_and_then}
+use Rattle.std.specs.Prelude.{ℕ, true, false, ◌==◌, if◌then◌else◌, List, [], ◌∷◌, map, Option, Some, None, option_and_then}
 use Rattle.std.specs.List.{flat_map}
 use Rattle.std.specs.Option.{option_map}
 use Rattle.class_model.specs.declared.class.Class.{Class}
@@ -19,7 +19,6 @@ use Rattle.class_model.specs.declared.frame.VItem.{VItem}
 use Rattle.class_model.specs.declared.frame.VItem.TheVariants as item
 use Rattle.class_model.specs.Pool.{entry_of}
 use Rattle.program_rules.specs.Names.{Name}
-use Rattle.program_rules.specs.Kinds.{Kind}
 use Rattle.program_rules.specs.Linked.{Linked, LinkedMethod, LinkedField, LinkedCode, LinkedRow, LinkedLine, LinkedBody, HasCode, IsNative, NoBody, FieldConstant, IntField, LongField, TextField}
 use Rattle.program_rules.specs.Types.{VType, Top, IntType, LongType, NullType, UninitThis, Uninit, Obj, FrameShape, SameLocals, OneItem, Chopped, Appended, Whole, StatedFrame}
 use Rattle.program_rules.specs.Deeds.{Meaning}

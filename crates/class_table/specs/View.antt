@@ -2,7 +2,6 @@
 -- the class or of a code stands in the instruction itself.
 use Rattle.std.specs.Prelude.{ℕ, List, map, Option, Some, None, slice_get}
 use Rattle.std.specs.Option.{option_map}
-use Rattle.program_rules.specs.Names.{Name}
 use Rattle.program_rules.specs.Instructions as def
 use Rattle.program_rules.specs.Linked as def_linked
 use Rattle.program_rules.specs.Types as def_types

@@ -5,6 +5,7 @@ ghost use Rattle.std.specs.Option.{option_copied, option_map};
 ghost use Rattle.std.specs.Arc.{arc_value};
 ghost use Rattle.class_table.specs.Info.{Info};
 ghost use Rattle.class_table.specs.Numbers.{IsNumbering};
+ghost use Rattle.class_table.specs.Adding.{shared};
 ghost use Rattle.class_table.specs.View.{method_entry, method_ref_at};
 ghost use Rattle.class_table.specs.declared.calls.Target.{Target};
 ghost use Rattle.class_table.specs.Calls.{target_at, AreTargets, AreTargetsOrNone, entry_target, class_targets, head_of, AreSameNamed, AreNamedAlike};
@@ -41,8 +42,8 @@ fn target_of(
     numbers: &HashMap<Name, u32>,
     entry: &Entry,
 ) -> Option<Target>
-    requires { IsNumbering numbers.now (map (λ i. arc_value i) infos.now) }
-    ensures { result ≡ entry_target (map (λ i. arc_value i) infos.now) entry.now }
+    requires { IsNumbering numbers.now (shared infos.now) }
+    ensures { result ≡ entry_target (shared infos.now) entry.now }
 {
     let Entry::Method(reference) = entry else {
         return None;
@@ -62,8 +63,8 @@ fn class_targets(
     numbers: &HashMap<Name, u32>,
     entries: &[Entry],
 ) -> Result<Seq<Option<Target>>, Memory>
-    requires { IsNumbering numbers.now (map (λ i. arc_value i) infos.now) }
-    ensures { IfOk result (λ row. row ≡ map (entry_target (map (λ i. arc_value i) infos.now)) entries.now) }
+    requires { IsNumbering numbers.now (shared infos.now) }
+    ensures { IfOk result (λ row. row ≡ map (entry_target (shared infos.now)) entries.now) }
 {
     let mut row = Vec::with_capacity(alloc, entries.len())?;
     for entry in entries {
@@ -77,8 +78,8 @@ fn all_targets(
     infos: &[Arc<ClassInfo, Global>],
     numbers: &HashMap<Name, u32>,
 ) -> Result<Targets, Memory>
-    requires { IsNumbering numbers.now (map (λ i. arc_value i) infos.now) }
-    ensures { IfOk result (λ rows. rows ≡ map (class_targets (map (λ i. arc_value i) infos.now)) (map (λ i. arc_value i) infos.now)) }
+    requires { IsNumbering numbers.now (shared infos.now) }
+    ensures { IfOk result (λ rows. rows ≡ map (class_targets (shared infos.now)) (shared infos.now)) }
 {
     let mut rows = Vec::with_capacity(alloc, infos.len())?;
     for info in infos {
@@ -95,8 +96,8 @@ pub fn targets(
     infos: &[Arc<ClassInfo, Global>],
     numbers: &HashMap<Name, u32>,
 ) -> Result<Targets, Memory>
-    requires { IsNumbering numbers.now (map (λ i. arc_value i) infos.now) }
-    ensures { IfOk result (λ rows. AreTargets rows (map (λ i. arc_value i) infos.now)) }
+    requires { IsNumbering numbers.now (shared infos.now) }
+    ensures { IfOk result (λ rows. AreTargets rows (shared infos.now)) }
 {
     Ok(all_targets(alloc, infos, numbers)?)
 }

@@ -1,8 +1,8 @@
 //! Stated frames with names in place of pool indices (JVMS 4.7.4).
 
-ghost use Rattle.std.specs.Prelude.{◌≡◌, ◌++◌, map, IfOk, OnOk};
-ghost use Rattle.std.specs.List.{flat_map};
-ghost use Rattle.class_table.specs.Linking as linking;
+ghost use Rattle.std.specs.Prelude.{◌≡◌, map, IfOk, OnOk};
+ghost use Rattle.class_table.specs.Adding.{Adds, frames_at, frames_in};
+ghost use Rattle.class_table.specs.Linking.{vtype_in, shape_in, frame_in};
 ghost use Rattle.class_table.specs.View.{vtype_of, shape_of, frame_of};
 
 use crate::entries::class_named;
@@ -43,7 +43,7 @@ pub struct StatedFrame {
 }
 
 fn link_item(alloc: Global, pool: &[Const], item: VItem) -> Result<VType, Memory>
-    ensures { IfOk result (λ t. vtype_of t ≡ linking.vtype_in pool.now item) }
+    ensures { IfOk result (λ t. vtype_of t ≡ vtype_in pool.now item) }
 {
     match item {
         VItem::Top => Ok(VType::Top),
@@ -57,7 +57,7 @@ fn link_item(alloc: Global, pool: &[Const], item: VItem) -> Result<VType, Memory
 }
 
 fn link_items(alloc: Global, pool: &[Const], items: &[VItem]) -> Result<Seq<VType>, Memory>
-    ensures { IfOk result (λ ts. map vtype_of ts ≡ map (linking.vtype_in pool.now) items.now) }
+    ensures { IfOk result (λ ts. map vtype_of ts ≡ map (vtype_in pool.now) items.now) }
 {
     let mut linked = Vec::with_capacity(alloc, items.len())?;
     for item in items {
@@ -67,7 +67,7 @@ fn link_items(alloc: Global, pool: &[Const], items: &[VItem]) -> Result<Seq<VTyp
 }
 
 fn link_shape(alloc: Global, pool: &[Const], shape: &Shape) -> Result<FrameShape, Memory>
-    ensures { IfOk result (λ s. shape_of s ≡ linking.shape_in pool.now shape.now) }
+    ensures { IfOk result (λ s. shape_of s ≡ shape_in pool.now shape.now) }
 {
     match shape {
         Shape::Same(_) => Ok(FrameShape::SameLocals),
@@ -90,13 +90,13 @@ fn link_shape(alloc: Global, pool: &[Const], shape: &Shape) -> Result<FrameShape
 fn add_all(
     alloc: Global,
     pool: &[Const],
-    linked: &mut Vec<StatedFrame>,
+    out: &mut Vec<StatedFrame>,
     frames: &[Frame],
 ) -> Result<(), Memory>
-    ensures { OnOk result (map frame_of linked.new.items ≡ map frame_of linked.old.items ++ map (linking.frame_in pool.now) frames.now) }
+    ensures { OnOk result (Adds out.old.items (map (frame_in pool.now) frames.now) out.new.items) }
 {
     for frame in frames {
-        linked.push(StatedFrame {
+        out.push(StatedFrame {
             at: frame.at,
             shape: link_shape(alloc, pool, &frame.shape)?,
         })?;
@@ -108,14 +108,14 @@ fn add_all(
 fn add_frames(
     alloc: Global,
     pool: &[Const],
-    linked: &mut Vec<StatedFrame>,
+    out: &mut Vec<StatedFrame>,
     attr: &Attr,
 ) -> Result<(), Memory>
-    ensures { OnOk result (map frame_of linked.new.items ≡ map frame_of linked.old.items ++ linking.frames_of pool.now (linking.content_of attr.now)) }
+    ensures { OnOk result (Adds out.old.items (frames_at pool.now attr.now) out.new.items) }
 {
     match &attr.body {
         Body::Frames(frames) => {
-            add_all(alloc, pool, linked, frames.as_slice())?;
+            add_all(alloc, pool, out, frames.as_slice())?;
             Ok(())
         }
         _ => Ok(()),
@@ -128,11 +128,11 @@ pub fn link_frames(
     pool: &[Const],
     attrs: &[Attr],
 ) -> Result<Seq<StatedFrame>, Memory>
-    ensures { IfOk result (λ fs. map frame_of fs ≡ flat_map (λ a. linking.frames_of pool.now (linking.content_of a)) attrs.now) }
+    ensures { IfOk result (λ fs. map frame_of fs ≡ frames_in pool.now attrs.now) }
 {
-    let mut linked = Vec::new(alloc);
+    let mut out = Vec::new(alloc);
     for attr in attrs {
-        add_frames(alloc, pool, &mut linked, attr)?;
+        add_frames(alloc, pool, &mut out, attr)?;
     }
-    Ok(Seq::from_vec(linked))
+    Ok(Seq::from_vec(out))
 }

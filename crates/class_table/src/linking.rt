@@ -1,7 +1,7 @@
 //! What a class means once indices of its constant pool are resolved to names (JVMS 4.1, 4.5 to
 //! 4.7).
 
-ghost use Rattle.std.specs.Prelude.{◌≡◌, ℕ, List, map, IfOk, option_and_then};
+ghost use Rattle.std.specs.Prelude.{◌≡◌, List, map, IfOk, option_and_then};
 ghost use Rattle.std.specs.Option.{option_copied, option_map};
 ghost use Rattle.class_model.specs.Pool.{entry_of};
 ghost use Rattle.class_table.specs.Symbols.{class_named};

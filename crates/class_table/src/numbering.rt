@@ -1,12 +1,13 @@
 //! The numbers of a program's classes by their names.
 
-ghost use Rattle.std.specs.Prelude.{◌≡◌, ◌<◌, ◌^◌, ℕ, List, ◌++◌, map, length, IfOk, OnOk};
+ghost use Rattle.std.specs.Prelude.{◌≡◌, ◌<◌, ◌^◌, ℕ, List, map, length, IfOk, OnOk};
 ghost use Rattle.std.specs.Arc.{arc_value};
 ghost use Rattle.class_table.specs.Info.{body_name};
-ghost use Rattle.class_table.specs.Table.{bodies, bodies_of, names, names_of};
+ghost use Rattle.class_table.specs.Table.{bodies_of, names};
 ghost use Rattle.std.specs.HashMap.{get};
 ghost use Rattle.program_rules.specs.Names.{same};
-ghost use Rattle.class_table.specs.declared.loaded.ClassBody.TheVariants as body;
+ghost use Rattle.class_table.specs.declared.loaded.ClassBody.TheVariants.{File, Library};
+ghost use Rattle.class_table.specs.Adding.{shared, AreClassesOf, AddsClasses};
 ghost use Rattle.class_table.specs.Numbers.{IsNumbering, with_number, is_before, lesser, is_place, judged, IsTold, IsVerdict};
 
 use crate::info::ClassInfo;
@@ -29,8 +30,7 @@ fn add_files(
     infos: &mut Vec<Arc<ClassInfo, Global>>,
     classes: Vec<Loaded>,
 ) -> Result<(), Memory>
-    ensures bodies { OnOk result (bodies (map (λ i. arc_value i) infos.new.items) ≡ bodies (map (λ i. arc_value i) infos.old.items) ++ map body.File classes.items) }
-    ensures names { OnOk result (names (map (λ i. arc_value i) infos.new.items) ≡ names (map (λ i. arc_value i) infos.old.items) ++ map body_name (map body.File classes.items)) }
+    ensures { OnOk result (AddsClasses infos.old.items (map File classes.items) infos.new.items) }
 {
     for loaded in classes {
         infos.push(info(alloc, ClassBody::File(loaded))?)?;
@@ -43,8 +43,7 @@ fn add_library(
     infos: &mut Vec<Arc<ClassInfo, Global>>,
     library: Vec<LibClass>,
 ) -> Result<(), Memory>
-    ensures bodies { OnOk result (bodies (map (λ i. arc_value i) infos.new.items) ≡ bodies (map (λ i. arc_value i) infos.old.items) ++ map body.Library library.items) }
-    ensures names { OnOk result (names (map (λ i. arc_value i) infos.new.items) ≡ names (map (λ i. arc_value i) infos.old.items) ++ map body_name (map body.Library library.items)) }
+    ensures { OnOk result (AddsClasses infos.old.items (map Library library.items) infos.new.items) }
 {
     for class in library {
         infos.push(info(alloc, ClassBody::Library(class))?)?;
@@ -58,8 +57,7 @@ pub fn infos(
     classes: Vec<Loaded>,
     library: Vec<LibClass>,
 ) -> Result<Vec<Arc<ClassInfo, Global>>, Memory>
-    ensures bodies { IfOk result (λ is. bodies (map (λ i. arc_value i) is.items) ≡ bodies_of classes.items library.items) }
-    ensures names { IfOk result (λ is. names (map (λ i. arc_value i) is.items) ≡ names_of classes.items library.items) }
+    ensures { IfOk result (λ is. AreClassesOf is.items (bodies_of classes.items library.items)) }
 {
     let mut infos = Vec::new(alloc);
     add_files(alloc, &mut infos, classes)?;
@@ -84,7 +82,7 @@ pub fn numbers(
     infos: &[Arc<ClassInfo, Global>],
 ) -> Result<HashMap<Name, u32>, Memory>
     requires few { length infos.now < 2 ^ 32 }
-    ensures { IfOk result (λ m. IsNumbering m (map (λ i. arc_value i) infos.now)) }
+    ensures { IfOk result (λ m. IsNumbering m (shared infos.now)) }
 {
     let mut numbers = HashMap::new(alloc);
     for (i, info) in infos.iter().enumerate() {
@@ -146,8 +144,8 @@ fn judge_all(
     numbers: &HashMap<Name, u32>,
 ) -> Result<Option<Name>, Memory>
     requires few { length infos.now < 2 ^ 32 }
-    requires numbers { IsNumbering numbers.now (map (λ i. arc_value i) infos.now) }
-    ensures { IfOk result (λ least. IsTold (names (map (λ i. arc_value i) infos.now)) (length infos.now) least) }
+    requires numbers { IsNumbering numbers.now (shared infos.now) }
+    ensures { IfOk result (λ least. IsTold (names (shared infos.now)) (length infos.now) least) }
 {
     let mut least = None;
     for (i, info) in infos.iter().enumerate() {
@@ -164,8 +162,8 @@ pub fn least_duplicate(
     numbers: &HashMap<Name, u32>,
 ) -> Result<Option<Name>, Memory>
     requires few { length infos.now < 2 ^ 32 }
-    requires numbers { IsNumbering numbers.now (map (λ i. arc_value i) infos.now) }
-    ensures { IfOk result (λ least. IsVerdict (names (map (λ i. arc_value i) infos.now)) least) }
+    requires numbers { IsNumbering numbers.now (shared infos.now) }
+    ensures { IfOk result (λ least. IsVerdict (names (shared infos.now)) least) }
 {
     Ok(judge_all(alloc, infos, numbers)?)
 }

@@ -1,8 +1,9 @@
 //! Which instruction an opcode with its operand spells (JVMS 6.5, 7).
 #![tactic(auto, unfolding(crate::specs::View::instruction_of))]
 
-ghost use Rattle.std.specs.Prelude.{◌≡◌, ◌==◌, ℕ, List, slice_get, if◌then◌else◌};
+ghost use Rattle.std.specs.Prelude.{◌≡◌, ◌==◌, List, slice_get, if◌then◌else◌};
 ghost use Rattle.program_rules.specs.Instructions.{Unlinked};
+ghost use Rattle.class_table.specs.Spelled.{Means, MeansIn};
 ghost use Rattle.class_table.specs.View.{instruction_of, meaning_at, table_of, lookup_of};
 ghost use Rattle.class_table.specs.Opcodes as opcodes;
 ghost use Rattle.class_table.specs.declared.linked.Entry as entry;
@@ -14,7 +15,7 @@ use program_rules::{Comparison, Conversion, Element, Operation, ShiftKind};
 
 // Constants, and loads of the first four locals.
 fn short_load(op: u8) -> Instruction
-    ensures { (es : List entry.Entry) (ss : List switch.Switch) → instruction_of es ss result ≡ opcodes.short_load op }
+    ensures { Means result (opcodes.short_load op) }
 {
     match op {
         0x00 => Instruction::Nop,
@@ -30,7 +31,7 @@ fn short_load(op: u8) -> Instruction
 
 // Loads from arrays, stores into the first four locals and into arrays.
 fn array_or_store(op: u8) -> Instruction
-    ensures { (es : List entry.Entry) (ss : List switch.Switch) → instruction_of es ss result ≡ opcodes.array_or_store op }
+    ensures { Means result (opcodes.array_or_store op) }
 {
     match op {
         0x2e => Instruction::ArrayLoad(Element::IntElement),
@@ -53,7 +54,7 @@ fn array_or_store(op: u8) -> Instruction
 }
 
 fn stack_move(op: u8) -> Instruction
-    ensures { (es : List entry.Entry) (ss : List switch.Switch) → instruction_of es ss result ≡ opcodes.stack_move op }
+    ensures { Means result (opcodes.stack_move op) }
 {
     match op {
         0x57 => Instruction::Pop,
@@ -70,7 +71,7 @@ fn stack_move(op: u8) -> Instruction
 }
 
 fn arithmetic(op: u8) -> Instruction
-    ensures { (es : List entry.Entry) (ss : List switch.Switch) → instruction_of es ss result ≡ opcodes.arithmetic op }
+    ensures { Means result (opcodes.arithmetic op) }
 {
     match op {
         0x60 => Instruction::IntOperation(Operation::Plus),
@@ -90,7 +91,7 @@ fn arithmetic(op: u8) -> Instruction
 }
 
 fn bit_operation(op: u8) -> Instruction
-    ensures { (es : List entry.Entry) (ss : List switch.Switch) → instruction_of es ss result ≡ opcodes.bit_operation op }
+    ensures { Means result (opcodes.bit_operation op) }
 {
     match op {
         0x78 => Instruction::IntShift(ShiftKind::ShiftLeft),
@@ -111,7 +112,7 @@ fn bit_operation(op: u8) -> Instruction
 
 // Conversions, the comparison of longs, returns, and what stands behind them.
 fn conversion_or_return(op: u8) -> Instruction
-    ensures { (es : List entry.Entry) (ss : List switch.Switch) → instruction_of es ss result ≡ opcodes.conversion_or_return op }
+    ensures { Means result (opcodes.conversion_or_return op) }
 {
     match op {
         0x85 => Instruction::Convert(Conversion::IntToLong),
@@ -134,7 +135,7 @@ fn conversion_or_return(op: u8) -> Instruction
 
 /// An opcode without an operand.
 pub fn plain(op: u8) -> Instruction
-    ensures { (es : List entry.Entry) (ss : List switch.Switch) → instruction_of es ss result ≡ opcodes.plain_instruction op }
+    ensures { Means result (opcodes.plain_instruction op) }
 {
     if op < 0x2e {
         short_load(op)
@@ -153,7 +154,7 @@ pub fn plain(op: u8) -> Instruction
 
 /// An opcode with a number.
 pub fn with_number(op: u8, number: i16) -> Instruction
-    ensures { (es : List entry.Entry) (ss : List switch.Switch) → instruction_of es ss result ≡ opcodes.with_number op number }
+    ensures { Means result (opcodes.with_number op number) }
 {
     match op {
         0x10 | 0x11 => Instruction::IntConstant(number as i32),
@@ -163,7 +164,7 @@ pub fn with_number(op: u8, number: i16) -> Instruction
 
 /// An opcode with a local.
 pub fn with_local(op: u8, local: u16) -> Instruction
-    ensures { (es : List entry.Entry) (ss : List switch.Switch) → instruction_of es ss result ≡ opcodes.with_local op local }
+    ensures { Means result (opcodes.with_local op local) }
 {
     match op {
         0x15 => Instruction::IntLoad(local),
@@ -178,7 +179,7 @@ pub fn with_local(op: u8, local: u16) -> Instruction
 
 /// An opcode with a local and what is added to it.
 pub fn with_increment(op: u8, local: u16, by: i16) -> Instruction
-    ensures { (es : List entry.Entry) (ss : List switch.Switch) → instruction_of es ss result ≡ opcodes.with_increment op local by }
+    ensures { Means result (opcodes.with_increment op local by) }
 {
     match op {
         0x84 => Instruction::Increment(local, by),
@@ -188,7 +189,7 @@ pub fn with_increment(op: u8, local: u16, by: i16) -> Instruction
 
 /// An opcode with a target.
 pub fn with_target(op: u8, to: u32) -> Instruction
-    ensures { (es : List entry.Entry) (ss : List switch.Switch) → instruction_of es ss result ≡ opcodes.with_target op to }
+    ensures { Means result (opcodes.with_target op to) }
 {
     match op {
         0x99 => Instruction::IfInt(Comparison::IsEqual, to),
@@ -214,7 +215,7 @@ pub fn with_target(op: u8, to: u32) -> Instruction
 
 // What `ldc` gives of an entry.
 fn constant(entries: &[Entry], index: u32) -> Instruction
-    ensures { (ss : List switch.Switch) → instruction_of entries.now ss result ≡ opcodes.constant_of (meaning_at entries.now index) }
+    ensures { MeansIn entries.now result (opcodes.constant_of (meaning_at entries.now index)) }
 {
     let Some(entry) = entries.get(index as usize) else {
         return Instruction::Unlinked;
@@ -232,7 +233,7 @@ fn constant(entries: &[Entry], index: u32) -> Instruction
 
 // What `ldc2_w` gives of an entry.
 fn long_constant(entries: &[Entry], index: u32) -> Instruction
-    ensures { (ss : List switch.Switch) → instruction_of entries.now ss result ≡ opcodes.long_of (meaning_at entries.now index) }
+    ensures { MeansIn entries.now result (opcodes.long_of (meaning_at entries.now index)) }
 {
     let Some(entry) = entries.get(index as usize) else {
         return Instruction::Unlinked;
@@ -250,7 +251,7 @@ fn long_constant(entries: &[Entry], index: u32) -> Instruction
 
 /// An opcode with an index of the constant pool.
 pub fn with_index(entries: &[Entry], op: u8, index: u16) -> Instruction
-    ensures { (ss : List switch.Switch) → instruction_of entries.now ss result ≡ opcodes.with_symbol op (meaning_at entries.now index) }
+    ensures { MeansIn entries.now result (opcodes.with_symbol op (meaning_at entries.now index)) }
 {
     let at = index as u32;
     match op {
@@ -284,7 +285,7 @@ pub fn with_count(op: u8, index: u16, count: u8) -> Instruction
 
 /// An opcode with the number of what an array's elements are.
 pub fn with_elements(op: u8, elements: u8) -> Instruction
-    ensures { (es : List entry.Entry) (ss : List switch.Switch) → instruction_of es ss result ≡ opcodes.with_elements op elements }
+    ensures { Means result (opcodes.with_elements op elements) }
 {
     match op {
         0xbc => Instruction::NewArray(elements),

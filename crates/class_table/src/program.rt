@@ -9,6 +9,7 @@ ghost use Rattle.class_table.specs.Info.{class_of, link_body, file_in};
 ghost use Rattle.class_table.specs.Table.{AreDistinct, IsLeastDuplicate, bodies_of, names_of, names, number_of, CanSwap, class_at, name_at, look, entries_at, methods_at, reference_at, named_number, named_place, IsProgram};
 ghost use Rattle.class_table.specs.Calls.{IsTargetOf, AreTargets};
 ghost use Rattle.class_table.specs.Numbers.{IsNumbering};
+ghost use Rattle.class_table.specs.Adding.{shared};
 ghost use Rattle.class_table.specs.declared.fault.TableFault.TheVariants.{Duplicate};
 
 use crate::calls::{Target, Targets, copy_targets, forget_unless_right, target_at, targets};
@@ -44,6 +45,7 @@ impl Model for Program {
     ghost use Rattle.class_table.specs.Info.{Info};
     ghost use Rattle.class_table.specs.Table.{IsProgram};
     ghost use Rattle.class_table.specs.Numbers.{IsNumbering};
+    ghost use Rattle.class_table.specs.Adding.{shared};
     ghost use Rattle.class_table.specs.Calls.{AreTargetsOrNone};
 
     ghost Value = { List Info };
@@ -265,9 +267,9 @@ fn refuse_duplicates(
     numbers: &HashMap<Name, u32>,
 ) -> Result<(), TableFault>
     requires few { length infos.now < 2 ^ 32 }
-    requires numbers { IsNumbering numbers.now (map (λ c. arc_value c) infos.now) }
-    ensures distinct { OnOk result (AreDistinct (names (map (λ c. arc_value c) infos.now))) }
-    ensures duplicate { (name : List ℕ) → result ≡ Err (Duplicate name) → IsLeastDuplicate (names (map (λ c. arc_value c) infos.now)) name }
+    requires numbers { IsNumbering numbers.now (shared infos.now) }
+    ensures distinct { OnOk result (AreDistinct (names (shared infos.now))) }
+    ensures duplicate { (name : List ℕ) → result ≡ Err (Duplicate name) → IsLeastDuplicate (names (shared infos.now)) name }
 {
     match least_duplicate(alloc, infos, numbers)? {
         Some(name) => Err(TableFault::Duplicate { name }),
@@ -281,8 +283,8 @@ fn number_all(
     infos: &[Arc<ClassInfo, Global>],
 ) -> Result<(Arc<HashMap<Name, u32>, Global>, Arc<Targets, Global>), Memory>
     requires few { length infos.now < 2 ^ 32 }
-    ensures numbers { IfOk result (λ both. IsNumbering (arc_value both.0) (map (λ c. arc_value c) infos.now)) }
-    ensures targets { IfOk result (λ both. AreTargets (arc_value both.1) (map (λ c. arc_value c) infos.now)) }
+    ensures numbers { IfOk result (λ both. IsNumbering (arc_value both.0) (shared infos.now)) }
+    ensures targets { IfOk result (λ both. AreTargets (arc_value both.1) (shared infos.now)) }
 {
     let numbers = numbers(alloc, infos)?;
     let targets = targets(alloc, infos, &numbers)?;
@@ -290,9 +292,9 @@ fn number_all(
 }
 
 fn program_of(alloc: Global, infos: Vec<Arc<ClassInfo, Global>>) -> Result<Program, TableFault>
-    ensures classes { IfOk result (λ p. p ≡ map (λ c. arc_value c) infos.items) }
-    ensures distinct { OnOk result (AreDistinct (names (map (λ c. arc_value c) infos.items))) }
-    ensures duplicate { (name : List ℕ) → result ≡ Err (Duplicate name) → IsLeastDuplicate (names (map (λ c. arc_value c) infos.items)) name }
+    ensures classes { IfOk result (λ p. p ≡ shared infos.items) }
+    ensures distinct { OnOk result (AreDistinct (names (shared infos.items))) }
+    ensures duplicate { (name : List ℕ) → result ≡ Err (Duplicate name) → IsLeastDuplicate (names (shared infos.items)) name }
 {
     if infos.len() > u32::MAX as usize {
         return Err(TableFault::Memory);
@@ -311,7 +313,7 @@ fn program_of(alloc: Global, infos: Vec<Arc<ClassInfo, Global>>) -> Result<Progr
 fn copy_classes(
     classes: &Vec<Arc<ClassInfo, Global>>,
 ) -> Result<Vec<Arc<ClassInfo, Global>>, Memory>
-    ensures { IfOk result (λ copy. map (λ c. arc_value c) copy.items ≡ map (λ c. arc_value c) classes.now.items) }
+    ensures { IfOk result (λ copy. shared copy.items ≡ shared classes.now.items) }
 {
     let mut copy = Vec::with_capacity(*classes.allocator(), classes.len())?;
     for class in classes {
