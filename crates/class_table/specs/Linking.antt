@@ -1,4 +1,5 @@
--- What a class means once indices of its constant pool are resolved to names (JVMS 4.1, 4.5 to 4.7). Everything is total: no condition on the class is asked.
+-- What a class means once indices of its constant pool are resolved to names (JVMS 4.1, 4.5 to
+-- 4.7). Everything is total: no condition on the class is asked.
 use Rattle.std.specs.Prelude.{ℕ, zero, suc, true, false, ◌==◌, if◌then◌else◌, List, [], ◌∷◌, ◌++◌, map, Option, Some, None, option_and_then}
 use Rattle.std.specs.List.{flat_map}
 use Rattle.std.specs.Option.{option_map}

@@ -50,7 +50,8 @@ pub record IsLeastDuplicate (ns : List Name) (n : Name) : Type 0 where
 
 -- ---- programs
 
--- The classes that a program is made of, in the order of their numbers: those of class files, then those of the library.
+-- The classes that a program is made of, in the order of their numbers: those of class files, then
+-- those of the library.
 abbrev pub bodies_of : List Loaded → List LibClass → List ClassBody
 bodies_of classes library = map body.File classes ++ map body.Library library
 

@@ -1,4 +1,5 @@
--- The code's linked class, seen as the linked class of the definitions: what stands in a table of the class or of a code stands in the instruction itself.
+-- The code's linked class, seen as the linked class of the definitions: what stands in a table of
+-- the class or of a code stands in the instruction itself.
 use Rattle.std.specs.Prelude.{ℕ, List, map, Option, Some, None, slice_get}
 use Rattle.std.specs.Option.{option_map}
 use Rattle.program_rules.specs.Names.{Name}

@@ -23,7 +23,8 @@ pub struct Target {
     pub place: u32,
 }
 
-/// For each class and each index of its constant pool the method that is named there, if one is found.
+/// For each class and each index of its constant pool the method that is named there, if one is
+/// found.
 pub type Targets = Seq<Seq<Option<Target>>>;
 
 /// What is kept for an index of a class's constant pool.
@@ -182,7 +183,8 @@ fn stay_right(targets: &Targets, class: usize, old: &LinkedClass, new: &LinkedCl
     }
 }
 
-/// Forgets the targets where a class in the place of another one of its name doesn't leave them right.
+/// Forgets the targets where a class in the place of another one of its name doesn't leave them
+/// right.
 pub fn forget_unless_right(
     targets: &mut Option<Arc<Targets, Global>>,
     class: usize,

@@ -1,4 +1,5 @@
-//! What the code of a method means once indices of its constant pool are resolved to names (JVMS 4.7.3, 4.7.12).
+//! What the code of a method means once indices of its constant pool are resolved to names (JVMS
+//! 4.7.3, 4.7.12).
 
 ghost use Rattle.std.specs.Prelude.{◌≡◌, ◌+◌, ℕ, List, ◌++◌, map, length, drop, IfOk, OnOk, if◌then◌else◌};
 ghost use Rattle.std.specs.List.{flat_map};

@@ -1,3 +1,5 @@
+//! What a run has consulted, and the walk over all that stands above a class.
+
 ghost use Rattle.std.specs.Prelude.{◌≡◌, ◌<◌, ◌≤◌, ◌↔◌, ℕ, ◌++◌, [], length, true, slice_get, slice_set, Some, IfOk, OnOk, IsTrue};
 ghost use Rattle.std.specs.List.{list_any};
 ghost use Rattle.program_rules.specs.Names.{same};
@@ -171,7 +173,9 @@ impl Program {
         Ok(())
     }
 
-    /// Consults a class and all above it. One that was consulted before costs a look at its mark. Where the classes above it stand 1,000 levels high or more, as where a class is above itself, memory runs out.
+    /// Consults a class and all above it. One that was consulted before costs a look at its mark.
+    /// Where the classes above it stand 1,000 levels high or more, as where a class is above
+    /// itself, memory runs out.
     pub fn consult(&self, seen: &mut Consulted, id: ClassId) -> Result<(), Memory>
         requires class { id.0 < length self.now }
         requires seen { IsConsultedOf self.now seen.old }
@@ -249,7 +253,8 @@ impl Program {
         Ok(Seq::from_vec(names))
     }
 
-    /// The names of a class and of all above it, in the order of consulting. Memory runs out as in `consult`.
+    /// The names of a class and of all above it, in the order of consulting. Memory runs out as in
+    /// `consult`.
     pub fn supers(&self, alloc: Global, id: ClassId) -> Result<Seq<Name>, Memory>
         requires class { id.0 < length self.now }
         ensures { IfOk result (λ names. names ≡ supers (look self.now) (name_at self.now id.0)) }

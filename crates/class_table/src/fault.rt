@@ -1,3 +1,5 @@
+//! Why there is no program of given classes.
+
 ghost use Rattle.std.specs.Prelude.{◌≡◌};
 ghost use Rattle.class_table.specs.declared.fault.TableFault.TheVariants.{Memory as NoMemory};
 

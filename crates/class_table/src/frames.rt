@@ -9,7 +9,8 @@ use crate::entries::class_named;
 use class_model::{Attr, Body, Const, Frame, Memory, Name, Seq, Shape, VItem};
 use std::alloc::Global;
 
-/// A verification type (JVMS 4.7.4, 4.10.1.2). Booleans, bytes, chars and shorts are ints. An array's
+/// A verification type (JVMS 4.7.4, 4.10.1.2). Booleans, bytes, chars and shorts are ints. An
+/// array's
 /// name is its descriptor.
 #[derive(Drop)]
 pub enum VType {

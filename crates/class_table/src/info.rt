@@ -1,3 +1,5 @@
+//! A class of a program.
+
 ghost use Rattle.std.specs.Prelude.{◌≡◌, ◌<◌, ◌^◌, length, IfOk};
 ghost use Rattle.class_table.specs.View.{linked_of};
 ghost use Rattle.class_table.specs.Info.{own_name, body_name, link_body, class_of};
@@ -40,11 +42,7 @@ impl ClassInfo {
         ensures name { IfOk result (λ info. info.name ≡ body_name body) }
         ensures class { IfOk result (λ info. class_of info ≡ link_body body) }
     {
-        let name = body_name(alloc, &body)?;
-        let linked = link_body(alloc, &body)?;
-        if linked.methods.len() > u32::MAX as usize {
-            return Err(Memory);
-        }
+        let (name, linked) = name_and_link(alloc, &body)?;
         Ok(ClassInfo { name, body, linked })
     }
 
@@ -96,4 +94,17 @@ fn link_body(alloc: Global, body: &ClassBody) -> Result<LinkedClass, Memory>
         ClassBody::File(loaded) => Ok(link(alloc, &loaded.class)?),
         ClassBody::Library(class) => Ok(link_library(alloc, class)?),
     }
+}
+
+// The name and the meaning of a class that has a number for each of its methods.
+fn name_and_link(alloc: Global, body: &ClassBody) -> Result<(Name, LinkedClass), Memory>
+    ensures name { IfOk result (λ both. both.0 ≡ body_name body.now) }
+    ensures linked { IfOk result (λ both. linked_of both.1 ≡ link_body body.now) }
+    ensures few { IfOk result (λ both. length both.1.methods < 2 ^ 32) }
+{
+    let linked = link_body(alloc, body)?;
+    if linked.methods.len() > u32::MAX as usize {
+        return Err(Memory);
+    }
+    Ok((body_name(alloc, body)?, linked))
 }

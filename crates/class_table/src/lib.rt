@@ -1,4 +1,5 @@
-//! The classes of a program by name and by number, each with what its class file means once pool indices are resolved to names.
+//! The classes of a program by name and by number, each with what its class file means once pool
+//! indices are resolved to names.
 #![tactic(auto)]
 
 mod calls;

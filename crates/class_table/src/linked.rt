@@ -1,3 +1,5 @@
+//! A class with names in place of indices of its constant pool (JVMS 4.1, 4.5 to 4.7).
+
 ghost use Rattle.std.specs.Prelude.{◌≡◌, ◌<◌, List, map, length, Some, None, IfSome, IfNone};
 ghost use Rattle.std.specs.Option.{option_copied};
 ghost use Rattle.program_rules.specs.Linked.{method_place};
@@ -9,7 +11,8 @@ use crate::instruction::Instruction;
 use crate::line_table::LineTable;
 use class_model::{Kind, Name, Seq};
 
-/// A method that is named, with what its descriptor states (JVMS 4.3.3, 4.4.2). A result of `None` is void. `interface` is set where the entry names a method of an interface.
+/// A method that is named, with what its descriptor states (JVMS 4.3.3, 4.4.2). A result of `None`
+/// is void. `interface` is set where the entry names a method of an interface.
 #[derive(Drop)]
 pub struct MethodRef {
     pub class: Name,
@@ -51,7 +54,8 @@ pub enum Switch {
     Lookup(u32, Seq<(i32, u32)>),
 }
 
-/// A row of the exception table (JVMS 4.7.3): it covers the instructions from `start` up to but not `end`. No class name catches everything.
+/// A row of the exception table (JVMS 4.7.3): it covers the instructions from `start` up to but not
+/// `end`. No class name catches everything.
 #[derive(Drop)]
 pub struct LinkedRow {
     pub start: u32,
@@ -89,7 +93,8 @@ pub enum Native {
     AssertFalse,
 }
 
-/// What stands behind a method's head. An abstract method has no body, nor has a native one without a row.
+/// What stands behind a method's head. An abstract method has no body, nor has a native one without
+/// a row.
 #[derive(Drop)]
 pub enum LinkedBody {
     Code(LinkedCode),
@@ -125,7 +130,8 @@ pub struct LinkedField {
     pub constant: Option<FieldConstant>,
 }
 
-/// A class with names in place of pool indices. `library` is set for the classes that come with the machine and not from a class file.
+/// A class with names in place of pool indices. `library` is set for the classes that come with the
+/// machine and not from a class file.
 #[derive(Drop)]
 pub struct LinkedClass {
     pub library: bool,
@@ -134,7 +140,8 @@ pub struct LinkedClass {
     pub interfaces: Seq<Name>,
     pub fields: Seq<LinkedField>,
     pub methods: Seq<LinkedMethod>,
-    /// The run-time constant pool by the indices of the class file. At place 0, which is no index, stands `Other`.
+    /// The run-time constant pool by the indices of the class file. At place 0, which is no index,
+    /// stands `Other`.
     pub entries: Seq<Entry>,
 }
 

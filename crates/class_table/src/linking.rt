@@ -1,4 +1,5 @@
-//! What a class means once indices of its constant pool are resolved to names (JVMS 4.1, 4.5 to 4.7).
+//! What a class means once indices of its constant pool are resolved to names (JVMS 4.1, 4.5 to
+//! 4.7).
 
 ghost use Rattle.std.specs.Prelude.{◌≡◌, ℕ, List, map, IfOk, option_and_then};
 ghost use Rattle.std.specs.Option.{option_copied, option_map};

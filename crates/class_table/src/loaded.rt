@@ -1,3 +1,5 @@
+//! Where the classes of a program come from.
+
 use class_model::{Class, Code, Const, Name, Seq, SharedBytes};
 
 /// A class file and what it says.

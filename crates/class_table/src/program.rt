@@ -1,3 +1,5 @@
+//! The classes of a program by number and by name.
+
 ghost use Rattle.std.specs.Prelude.{◌≡◌, ◌<◌, ◌^◌, ℕ, List, map, length, slice_get, slice_set, Some, None, Err, IfOk, OnOk, IfSome, IfNone, IsSomeAnd, option_and_then};
 ghost use Rattle.std.specs.Option.{option_map, option_copied};
 ghost use Rattle.std.specs.Arc.{arc_value};
@@ -22,7 +24,8 @@ use std::marker::Model;
 use std::mem;
 use std::sync::Arc;
 
-/// The classes of a program. Each has a number: first those of class files in the order in which they were handed in, then those of the library.
+/// The classes of a program. Each has a number: first those of class files in the order in which
+/// they were handed in, then those of the library.
 #[derive(Drop)]
 pub struct Program {
     classes: Vec<Arc<ClassInfo, Global>>,
@@ -138,7 +141,8 @@ impl Program {
         self.numbers.get(name).copied()
     }
 
-    /// Puts a class in the place of another one of the same name, superclass and interfaces, and gives back the other. Both are of class files.
+    /// Puts a class in the place of another one of the same name, superclass and interfaces, and
+    /// gives back the other. Both are of class files.
     pub fn swap(&mut self, id: ClassId, with: Arc<ClassInfo, Global>) -> Arc<ClassInfo, Global>
         requires { CanSwap self.old id.0 (arc_value with) }
         ensures program { self.new ≡ slice_set self.old id.0 (arc_value with) }
@@ -202,7 +206,8 @@ impl Program {
         Some(place as u32)
     }
 
-    /// The number of the class whose method an index of this class's constant pool names. It takes one index where the program keeps it.
+    /// The number of the class whose method an index of this class's constant pool names. It takes
+    /// one index where the program keeps it.
     #[tactic(auto, using(crate::proofs::CallLaws::target_number, crate::proofs::CallLaws::target_within, crate::proofs::CallLaws::target_named))]
     pub fn named_class(&self, class: ClassId, reference: u32) -> Option<ClassId>
         ensures found { IfSome result (λ id. named_number self.now class.0 reference ≡ Some id.0) }
@@ -217,7 +222,9 @@ impl Program {
         }
     }
 
-    /// The place in another class of the method whose name and descriptor an index of this class's constant pool names. Of two such methods it is the first. It takes one index where the program keeps it.
+    /// The place in another class of the method whose name and descriptor an index of this class's
+    /// constant pool names. Of two such methods it is the first. It takes one index where the
+    /// program keeps it.
     #[tactic(auto, using(crate::proofs::CallLaws::target_place))]
     pub fn named_method(&self, class: ClassId, reference: u32, target: ClassId) -> Option<u32>
         ensures found { IfSome result (λ place. named_place self.now class.0 reference target.0 ≡ Some place) }

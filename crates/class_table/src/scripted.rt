@@ -1,3 +1,5 @@
+//! Tests, by the calls that they make.
+
 ghost use Rattle.std.specs.Prelude.{◌≡◌, IfOk};
 
 use class_model::{Copied, Memory, Name, Seq};
@@ -11,7 +13,8 @@ pub struct Call {
     pub kind: CallKind,
 }
 
-/// A test: its class and method, the calls that a run of it makes, and the class of the exception that is to leave it, if one is.
+/// A test: its class and method, the calls that a run of it makes, and the class of the exception
+/// that is to leave it, if one is.
 #[derive(Drop)]
 pub struct Test {
     pub class: Name,
