@@ -1,5 +1,7 @@
 pub mod Arguments
+pub mod Arithmetic
 pub mod Ending
 pub mod Finding
 pub mod Marks
+pub mod Natives
 pub mod View

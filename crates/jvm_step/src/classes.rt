@@ -3,8 +3,9 @@
 
 ghost use Rattle.std.specs.Prelude.{◌≡◌, Some, None, [], ◌∷◌, map, codes, IfOk, OnOk};
 ghost use Rattle.program_rules.specs.Names.{object_name};
-ghost use Rattle.program_rules.specs.Library.{library_field as object_field, library_class, library_classes, throwable_fields, assertion};
-ghost use Rattle.machine_rules.specs.Linked.{AssertTrue, AssertFalse};
+ghost use Rattle.program_rules.specs.Library.{library_field as object_field, library_class, throwable_fields, plain_initializer, assertion};
+ghost use Rattle.program_rules.specs.Natives as meaning;
+ghost use Rattle.machine_so_far.specs.Library.{library_so_far};
 ghost use Rattle.class_table.specs.Linking.{link_library, library_field, library_method};
 
 use crate::text::name;
@@ -27,17 +28,32 @@ fn class(alloc: Global, class: &str, parent: &str, flags: u16) -> Result<LibClas
     })
 }
 
+fn initializer(alloc: Global) -> Result<LibMethod, Memory>
+    ensures { IfOk result (λ m. library_method m ≡ plain_initializer) }
+{
+    let method = name(alloc, "<init>")?;
+    let desc = name(alloc, "()V")?;
+    Ok(LibMethod {
+        name: method,
+        desc,
+        flags: 257,
+        body: LibBody::Native(0),
+    })
+}
+
 fn object(alloc: Global) -> Result<LibClass, Memory>
     ensures name { IfOk result (λ c. c.name ≡ object_name) }
-    ensures class { IfOk result (λ c. link_library c ≡ library_class 33 None [] []) }
+    ensures class { IfOk result (λ c. link_library c ≡ library_class 33 None [] (plain_initializer ∷ [])) }
 {
+    let mut methods = Seq::new(alloc);
+    methods.push(initializer(alloc)?)?;
     Ok(LibClass {
         name: name(alloc, "java/lang/Object")?,
         parent: None,
         interfaces: Seq::new(alloc),
         flags: 33,
         fields: Seq::new(alloc),
-        methods: Seq::new(alloc),
+        methods,
     })
 }
 
@@ -83,7 +99,7 @@ fn throwable(alloc: Global) -> Result<LibClass, Memory>
 }
 
 fn assert_true(alloc: Global) -> Result<LibMethod, Memory>
-    ensures { IfOk result (λ m. library_method m ≡ assertion (codes "assertTrue") AssertTrue) }
+    ensures { IfOk result (λ m. library_method m ≡ assertion (codes "assertTrue") meaning.assert_true) }
 {
     let method = name(alloc, "assertTrue")?;
     let desc = name(alloc, "(Z)V")?;
@@ -96,7 +112,7 @@ fn assert_true(alloc: Global) -> Result<LibMethod, Memory>
 }
 
 fn assert_false(alloc: Global) -> Result<LibMethod, Memory>
-    ensures { IfOk result (λ m. library_method m ≡ assertion (codes "assertFalse") AssertFalse) }
+    ensures { IfOk result (λ m. library_method m ≡ assertion (codes "assertFalse") meaning.assert_false) }
 {
     let method = name(alloc, "assertFalse")?;
     let desc = name(alloc, "(Z)V")?;
@@ -110,7 +126,7 @@ fn assert_false(alloc: Global) -> Result<LibMethod, Memory>
 
 fn assertions(alloc: Global) -> Result<LibClass, Memory>
     ensures name { IfOk result (λ c. c.name ≡ codes "org/junit/Assert") }
-    ensures class { IfOk result (λ c. link_library c ≡ library_class 33 (Some object_name) [] (assertion (codes "assertTrue") AssertTrue ∷ assertion (codes "assertFalse") AssertFalse ∷ [])) }
+    ensures class { IfOk result (λ c. link_library c ≡ library_class 33 (Some object_name) [] (assertion (codes "assertTrue") meaning.assert_true ∷ assertion (codes "assertFalse") meaning.assert_false ∷ [])) }
 {
     let mut methods = Seq::new(alloc);
     methods.push(assert_true(alloc)?)?;
@@ -127,11 +143,14 @@ fn assertions(alloc: Global) -> Result<LibClass, Memory>
 
 /// The classes of the library, for `Program::build`.
 pub fn library(alloc: Global) -> Result<Seq<LibClass>, Memory>
-    ensures { IfOk result (λ classes. map (λ c. (c.name, link_library c)) classes ≡ library_classes) }
+    ensures { IfOk result (λ classes. map (λ c. (c.name, link_library c)) classes ≡ library_so_far) }
 {
+    let object_class = "java/lang/Object";
     let error = "java/lang/Error";
     let mut classes = Seq::new(alloc);
     classes.push(object(alloc)?)?;
+    classes.push(class(alloc, "java/lang/Cloneable", object_class, 1537)?)?;
+    classes.push(class(alloc, "java/io/Serializable", object_class, 1537)?)?;
     classes.push(throwable(alloc)?)?;
     classes.push(class(alloc, error, "java/lang/Throwable", 33)?)?;
     classes.push(class(alloc, "java/lang/AssertionError", error, 33)?)?;

@@ -1,4 +1,5 @@
--- The tests of a class (this project's own, in the manner of JUnit 4): which methods are tests, and what a run of one calls.
+-- The tests of a class (this project's own, in the manner of JUnit 4): which methods are tests, and
+-- what a run of one calls.
 use Rattle.std.specs.Prelude.{ℕ, Bool, true, false, not, ◌&&◌, List, [], ◌∷◌, ◌++◌, Option, Some, None, codes, if◌then◌else◌}
 use Rattle.std.specs.List.{list_any, flat_map}
 use Rattle.class_model.specs.Pool.{text_of}
@@ -31,7 +32,8 @@ abbrev pub notes_in : Body-F Body Attr Code → List Note
 notes_in (Body-F.Notes notes) = notes
 notes_in other = []
 
--- An attribute has an annotation of this type (JVMS 4.7.16, 4.7.17); both kinds of list count alike.
+-- An attribute has an annotation of this type (JVMS 4.7.16, 4.7.17); both kinds of list count
+-- alike.
 abbrev pub has_note : List Const → Name → Attr → Bool
 has_note pool kind attr = list_any (λ note. names_text pool (out-Note note).kind kind) (notes_in (out-Body (out-Attr attr).body))
 
