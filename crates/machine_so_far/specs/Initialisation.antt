@@ -4,8 +4,8 @@ use Rattle.std.specs.Prelude.{Bool, true, false, ◌&&◌, ◌||◌, if◌then�
 use Rattle.machine_rules.specs.declared.machine.InitState.{InitState}
 use Rattle.machine_rules.specs.declared.machine.InitState.TheVariants.{Fresh, Running, Done, Failed}
 use Rattle.program_rules.specs.Names.{Name}
-use Rattle.program_rules.specs.Linked.{Linked, is_library, has_class_initializer, has_static_constant}
-use Rattle.program_rules.specs.Outlines.{outline_of, is_interface_class, interfaces_in}
+use Rattle.program_rules.specs.Linked.{Linked, is_library, has_static_constant}
+use Rattle.program_rules.specs.Outlines.{outline_of, is_interface_class, interfaces_in, has_class_initializer}
 use Rattle.program_rules.specs.Programs.{Look, supers}
 use Rattle.machine_rules.specs.State.{Frame, World}
 use Rattle.machine_rules.specs.Effects.{Effect, NoRow, goes_with}
