@@ -10,7 +10,8 @@ use Rattle.program_rules.specs.declared.value.Value.{Value}
 use Rattle.program_rules.specs.declared.value.Value.TheVariants.{Int, Long, Ref, Null}
 use Rattle.machine_rules.specs.declared.machine.Limits.{Limits}
 use Rattle.program_rules.specs.Instructions.{Instruction, IfInt, IfInts, Unlinked}
-use Rattle.program_rules.specs.Linked.{code_in, method_in, is_class_initializer}
+use Rattle.program_rules.specs.Linked.{code_in, method_in}
+use Rattle.program_rules.specs.Outlines.{is_class_initializer}
 use Rattle.program_rules.specs.Programs.{Look}
 use Rattle.machine_rules.specs.State.{Frame, World}
 use Rattle.machine_rules.specs.Effects.{Effect, NoRow, Current, on_some, on_int, jumps}
