@@ -11,7 +11,8 @@ use Rattle.program_rules.specs.Faults.{fault_name}
 use Rattle.machine_rules.specs.Effects as effect
 use Rattle.program_rules.specs.Objects as objects
 use Rattle.program_rules.specs.Tests as tests
-use Rattle.program_rules.specs.Linked.{is_from_file, is_class_initializer}
+use Rattle.program_rules.specs.Linked.{is_from_file}
+use Rattle.program_rules.specs.Outlines.{is_class_initializer}
 use Rattle.program_rules.specs.Programs.{Look}
 use Rattle.machine_rules.specs.Steps as steps
 use Rattle.machine_so_far.specs.Initialisation as initialisation
@@ -108,8 +109,8 @@ abbrev pub state_of : List Info → Machine → def.MachineState
 state_of p m = record { frames = frames_of p m.frame m.callers; thrown = m.thrown; world = world_of p m.world }
 
 abbrev pub fault_of : Exception → Fault
-fault_of exception.StackOverflow = StackOverflowError
-fault_of exception.AssertionFailed = AssertionError
+fault_of exception.StackOverflowError = StackOverflowError
+fault_of exception.AssertionError = AssertionError
 
 -- What stands before the use of a class of this name.
 abbrev pub need_with : Name → Need → initialisation.Need

@@ -58,7 +58,7 @@ pub fn push_frame(
     ensures kept { OnOk result (IsKept p.now m.old m.new) }
 {
     if !has_room(&m.frame, &m.callers, m.limits.depth) {
-        throw(alloc, p, m, Exception::StackOverflow)?;
+        throw(alloc, p, m, Exception::StackOverflowError)?;
         return Ok(());
     }
     let callee = Frame {

@@ -3,13 +3,13 @@
 
 ghost use Rattle.std.specs.Prelude.{◌≡◌, ◌||◌, ◌&&◌, ◌<◌, None, Some, List, map, length, IfOk, OnOk};
 ghost use Rattle.std.specs.List.{list_any};
-ghost use Rattle.program_rules.specs.Linked.{is_library, is_class_initializer, has_class_initializer, has_static_constant, fits_kind, is_abstract, is_interface, is_static};
+ghost use Rattle.program_rules.specs.Linked.{is_library, has_static_constant, fits_kind, is_abstract, is_interface, is_static};
 ghost use Rattle.std.specs.Option.{option_map};
 ghost use Rattle.program_rules.specs.Kinds.{is_int_kind, is_text_kind};
 ghost use Rattle.program_rules.specs.Programs.{supers};
 ghost use Rattle.machine_rules.specs.Lookups.{consult};
 ghost use Rattle.machine_so_far.specs.Initialisation.{init_of, need_of, are_library, are_interfaces, is_alone, behind_first, begins};
-ghost use Rattle.program_rules.specs.Outlines.{outline_of, is_interface_class};
+ghost use Rattle.program_rules.specs.Outlines.{outline_of, head_of, is_coded, is_interface_class, is_class_initializer, has_class_initializer};
 ghost use Rattle.class_table.specs.declared.linked.Entry.{Entry};
 ghost use Rattle.class_table.specs.View.{method_of, field_of, constant_of, linked_of};
 ghost use Rattle.class_table.specs.Symbols.{kind_of};
@@ -130,6 +130,17 @@ pub fn need(alloc: Global, p: &Program, begun: &Begun, class: ClassId) -> Result
 
 // ---- the begin of a class
 
+// Whether a call of a method runs code of a class file. That of an abstract one doesn't, whatever
+// its body is.
+fn is_coded(method: &LinkedMethod) -> bool
+    ensures { (es : List Entry) → result ≡ is_coded (head_of (method_of es method.now)).callable }
+{
+    if is_abstract(method.flags) {
+        return false;
+    }
+    matches!(method.body, LinkedBody::Code(_))
+}
+
 // Whether a method is the initializer of its class.
 fn is_class_initializer(method: &LinkedMethod) -> bool
     ensures { (es : List Entry) → result ≡ is_class_initializer (method_of es method.now) }
@@ -137,7 +148,7 @@ fn is_class_initializer(method: &LinkedMethod) -> bool
     is_text(method.name.as_slice(), b"<clinit>")
         && is_text(method.desc.as_slice(), b"()V")
         && is_static(method.flags)
-        && matches!(method.body, LinkedBody::Code(_))
+        && is_coded(method)
 }
 
 /// Whether a method or a field is static (JVMS 4.5, 4.6).

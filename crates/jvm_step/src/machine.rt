@@ -7,11 +7,11 @@ use class_table::{Call, Consulted};
 use jvm_values::Heap;
 use machine_rules::{Limits, Outcome};
 
-/// An exception that the machine makes.
+/// An exception that the machine makes, by its class.
 #[derive(Clone, Copy)]
 pub enum Exception {
-    StackOverflow,
-    AssertionFailed,
+    StackOverflowError,
+    AssertionError,
 }
 
 /// The classes of the exceptions that the machine makes.

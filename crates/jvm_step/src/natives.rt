@@ -33,7 +33,7 @@ fn assert_true(args: &[Value]) -> Given
 {
     match boolean(args) {
         Some(true) => Given::Gives,
-        Some(false) => Given::Throws(Exception::AssertionFailed),
+        Some(false) => Given::Throws(Exception::AssertionError),
         None => Given::NotGiven,
     }
 }
@@ -43,7 +43,7 @@ fn assert_false(args: &[Value]) -> Given
     ensures { (heap : List Object) → assert_false heap args.now ≡ deed_of result }
 {
     match boolean(args) {
-        Some(true) => Given::Throws(Exception::AssertionFailed),
+        Some(true) => Given::Throws(Exception::AssertionError),
         Some(false) => Given::Gives,
         None => Given::NotGiven,
     }
