@@ -16,5 +16,4 @@ pub fn what_is_assembled_is_spelled()
 /// What `class_asm::assemble` says of its result leaves one result for each text, unless memory runs out.
 pub fn texts_have_one_answer()
     ensures { TextsHaveOneAnswer }
-{
-}
+{}
