@@ -1,7 +1,7 @@
 ghost use Rattle.std.specs.Prelude.{◌≡◌, ◌<◌};
 ghost use Rattle.mutant_table.specs.Seats.{AreSeats, IsSeatOf, mutants_of, worker_of};
 
-use super::*;
+use mutant_table::{ClaimSeat, ClaimTable};
 use std::sync::atomic::{AtomicU64, Ordering};
 use std::test::Fail;
 use std::thread;
@@ -17,13 +17,11 @@ fn three_cells_are_claimed(rt: HostRuntime) -> Result<(), Fail> {
     assert_eq!(rt; table.claim(&mut second), Some(1));
     assert_eq!(rt; table.look(&mut first, 0), None);
     table.detect(&mut second, 0, 1);
-    assert_eq!(rt; table.look(&mut first, 0), Some(1));
     table.detect(&mut first, 0, 2);
-    assert_eq!(rt; table.look(&mut second, 0), Some(1));
+    assert_eq!(rt; table.look(&mut first, 0), Some(1));
     assert_eq!(rt; table.claim(&mut first), Some(2));
-    assert_eq!(rt; table.claim(&mut first), None);
     assert_eq!(rt; table.claim(&mut second), None);
-    assert_eq!(rt; table.claim(&mut first), None);
+    assert_eq!(rt; table.claim(&mut second), None);
     Ok(())
 }
 
