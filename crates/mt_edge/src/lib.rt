@@ -13,8 +13,4 @@ pub use host::{HostSink, HostTree};
 pub use mem_sink::MemSink;
 pub use mem_tree::MemTree;
 pub use outside::{EdgeFault, Sink, Tree};
-
-#[cfg(test)]
-mod tests;
-
 pub use steps::{Meter, MeterPart};
