@@ -3,9 +3,11 @@
 #![tactic(auto)]
 
 mod host;
+mod listing;
 mod mem_sink;
 mod mem_tree;
 mod outside;
+mod replacing;
 mod script;
 mod steps;
 

@@ -1,6 +1,8 @@
 use class_model::Bytes;
 use mt_edge::{EdgeFault, HostSink, HostTree, MemSink, MemTree, Meter, Sink, Tree};
 use std::alloc::Global;
+use std::fs::Permissions;
+use std::os::unix::fs::{PermissionsExt, symlink};
 use std::test::Fail;
 use std::{env, fs, process};
 
@@ -67,16 +69,16 @@ fn answer<T: Tree>(
     }
 }
 
-// A folder of this process alone, which isn't there yet.
-fn own_folder(rt: &HostRuntime) -> Result<String, Fail> {
+// A folder of one test of this process alone, which isn't there yet.
+fn own_folder(rt: &HostRuntime, test: &str) -> Result<String, Fail> {
     let temp = env::temp_dir(rt)?;
     let number = process::id(rt.process());
-    Ok(format!(in rt.alloc(); "{}/mutest-edge-{number}", temp.as_path().as_str())?)
+    Ok(format!(in rt.alloc(); "{}/mutest-{test}-{number}", temp.as_path().as_str())?)
 }
 
 #[test]
 fn both_trees_list_read_and_replace(rt: HostRuntime) -> Result<(), Fail> {
-    let folder = own_folder(&rt)?;
+    let folder = own_folder(&rt, "both")?;
     let below = format!(in rt.alloc(); "{folder}/below")?;
     let mut memory = MemTree::new(rt.alloc(), Vec::new(rt.alloc()), Vec::new(rt.alloc()))?;
     let mut real = HostTree::new(&rt);
@@ -91,6 +93,100 @@ fn both_trees_list_read_and_replace(rt: HostRuntime) -> Result<(), Fail> {
         assert_eq!(rt; said.as_str(), wanted, "at {name}");
     }
     fs::remove_dir_all(&rt, folder.as_str())?;
+    Ok(())
+}
+
+// Links that are made in the folder, by what they lead to and by their names.
+const LINKS: [(&str, &str); 6] = [
+    ("kept/A.class", "/link.class"),
+    ("kept", "/again"),
+    (".", "/loop"),
+    ("itself", "/itself"),
+    ("missing", "/nowhere"),
+    ("/dev/null", "/null"),
+];
+
+// Calls of the real tree, as above: with these links, the folder `kept` and a file of somebody else in it.
+const CAREFUL_CALLS: [(Call, &str, &str, &str); 16] = [
+    (Call::Replace, "/kept/A.class", "old", "done"),
+    (Call::Replace, "/link.class", "new", "done"),
+    (Call::Read, "/kept/A.class", "", "new"),
+    (Call::Read, "/kept/A.class.mutest-0", "", "theirs"),
+    // Each real folder once, and neither the device nor what leads nowhere.
+    (
+        Call::List,
+        "",
+        "",
+        "/again/A.class /again/A.class.mutest-0 /link.class ",
+    ),
+    (
+        Call::List,
+        "/loop",
+        "",
+        "/again/A.class /again/A.class.mutest-0 /link.class ",
+    ),
+    (Call::List, "/kept/A.class", "", ""),
+    (Call::Read, "/kept/A.class/below", "", "nothing"),
+    (Call::Read, "/nowhere", "", "nothing"),
+    (Call::Read, "/itself", "", "nothing"),
+    (Call::Read, "/kept", "", "failed"),
+    (Call::Replace, "/null", "bytes", "done"),
+    (Call::Replace, "/kept", "", "failed"),
+    (Call::Replace, "/nowhere", "", "failed"),
+    (Call::Replace, "/none/A.class", "", "failed"),
+    (Call::Replace, "/kept/A.class/below", "", "failed"),
+];
+
+// A folder in which all that is asked of care stands: links, a file that only its owner may read, and somebody else's file
+// by the name that a new one would be given first.
+fn make_careful(rt: &HostRuntime, folder: &str) -> Result<(), Fail> {
+    let kept = format!(in rt.alloc(); "{folder}/kept/A.class")?;
+    let theirs = format!(in rt.alloc(); "{folder}/kept/A.class.mutest-0")?;
+    fs::create_dir_all(rt, format!(in rt.alloc(); "{folder}/kept")?)?;
+    fs::write(rt, theirs.as_str(), "theirs")?;
+    fs::write(rt, kept.as_str(), "first")?;
+    fs::set_permissions(rt, kept.as_str(), Permissions::from_mode(0o600))?;
+    for (original, name) in LINKS {
+        symlink(rt, original, format!(in rt.alloc(); "{folder}{name}")?)?;
+    }
+    Ok(())
+}
+
+#[test]
+fn the_real_tree_takes_care(rt: HostRuntime) -> Result<(), Fail> {
+    let folder = own_folder(&rt, "care")?;
+    make_careful(&rt, folder.as_str())?;
+    let mut tree = HostTree::new(&rt);
+    for (call, name, bytes, wanted) in CAREFUL_CALLS {
+        let path = format!(in rt.alloc(); "{folder}{name}")?;
+        let said = answer(rt.alloc(), &mut tree, call, path.as_str(), bytes)?;
+        assert_eq!(rt; said.as_str(), wanted, "at {name}");
+    }
+    for (_, name) in LINKS {
+        let path = format!(in rt.alloc(); "{folder}{name}")?;
+        assert!(rt;
+            fs::symlink_metadata(&rt, path.as_str())?.is_symlink(),
+            "{name}"
+        );
+    }
+    let kept = format!(in rt.alloc(); "{folder}/kept/A.class")?;
+    let mode = fs::metadata(&rt, kept.as_str())?.permissions().mode();
+    assert_eq!(rt; mode & 0o777, 0o600);
+    fs::remove_dir_all(&rt, folder.as_str())?;
+    Ok(())
+}
+
+#[test]
+fn no_device_is_replaced(rt: HostRuntime) -> Result<(), Fail> {
+    let mut tree = HostTree::new(&rt);
+    for (path, wanted) in [
+        ("/dev/null", "done"),
+        ("/dev/full", "failed"),
+        ("/dev", "failed"),
+    ] {
+        let said = answer(rt.alloc(), &mut tree, Call::Replace, path, "bytes")?;
+        assert_eq!(rt; said.as_str(), wanted, "at {path}");
+    }
     Ok(())
 }
 
