@@ -1,5 +1,5 @@
 /// What a worker noted in its list.
-#[derive(Clone, Copy, Debug, PartialEq, Eq)]
+#[derive(Clone, Copy)]
 pub enum Entry {
     /// It drew this number. A number at or past the number of cells stands for no cell.
     Claimed(u64),
@@ -10,7 +10,7 @@ pub enum Entry {
 }
 
 /// What a worker does to the shared state, in one step.
-#[derive(Clone, Copy, Debug, PartialEq, Eq)]
+#[derive(Clone, Copy)]
 pub enum Event {
     /// Asks for a cell.
     Claim {
@@ -30,7 +30,7 @@ pub enum Event {
 }
 
 /// What an event answers.
-#[derive(Clone, Copy, Debug, PartialEq, Eq)]
+#[derive(Clone, Copy)]
 pub enum Reply {
     /// To a claim: the cell's number, or none once the numbers are past the cells.
     Cell(Option<u64>),

@@ -188,6 +188,3 @@ fn drain(workers: &mut [Worker], worker: u64)
 {
     workers[worker as usize].drained = true;
 }
-
-#[cfg(test)]
-mod tests;

@@ -6,8 +6,6 @@ mod laws;
 mod long;
 mod narrowing;
 mod operation;
-#[cfg(test)]
-mod tests;
 
 pub use int::{int_neg, int_op, int_shift};
 pub use laws::{division_rounds_towards_zero, edges};

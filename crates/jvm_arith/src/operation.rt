@@ -1,5 +1,5 @@
 /// An operation on two ints or two longs.
-#[derive(Clone, Copy, Debug, PartialEq, Eq)]
+#[derive(Clone, Copy)]
 pub enum Op2 {
     Add,
     Sub,
@@ -14,7 +14,7 @@ pub enum Op2 {
 }
 
 /// A shift of an int or a long.
-#[derive(Clone, Copy, Debug, PartialEq, Eq)]
+#[derive(Clone, Copy)]
 pub enum Shift {
     Left,
     /// The sign comes in from the left.

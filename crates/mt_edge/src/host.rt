@@ -2,14 +2,15 @@
 ghost use Rattle.std.specs.Prelude.{◌≡◌, None};
 ghost use Rattle.mt_edge.specs.Causes.{HasCause};
 
+use crate::listing::{files_below, is_absent};
 use crate::outside::{EdgeFault, Sink, Tree};
+use crate::replacing::replace_file;
 use class_model::Bytes;
-use std::fs::{File, OpenFile};
-use std::io::{ErrorKind, Write};
+use std::io::ErrorKind;
 use std::rt::Files;
 use std::{fs, io};
 
-/// The files of the system. A folder that isn't there lists as empty.
+/// The files of the system. What isn't there, or stands below a file, holds nothing.
 #[derive(Drop)]
 pub struct HostTree<'a, R: Files + AllocGlobal> {
     rt: &'a R,
@@ -46,71 +47,12 @@ fn counted<T: Drop>(count: &mut u64, outcome: io::Result<T>) -> Result<T, EdgeFa
     }
 }
 
-// One folder: its files go to `files`, its folders to `folders`.
-fn enter<R: Files + AllocGlobal>(
-    rt: &R,
-    folder: &str,
-    files: &mut Vec<String>,
-    folders: &mut Vec<String>,
-) -> io::Result<()> {
-    for entry in fs::read_dir(&rt, folder)? {
-        let entry = entry?;
-        let path = String::from_str(rt.alloc(), entry.path().as_str())?;
-        if entry.file_type()?.is_dir() {
-            folders.push(path)?;
-        } else {
-            files.push(path)?;
-        }
-    }
-    Ok(())
-}
-
-// All files below the folder, in byte order of their paths.
-fn walk<R: Files + AllocGlobal>(rt: &R, folder: &str) -> io::Result<Vec<String>> {
-    let mut files = Vec::new(rt.alloc());
-    let mut folders = Vec::new(rt.alloc());
-    match enter(rt, folder, &mut files, &mut folders) {
-        Ok(()) => (),
-        Err(error) if error.kind() == ErrorKind::NotFound => return Ok(Vec::new(rt.alloc())),
-        Err(error) => return Err(error),
-    }
-    for _ in 0..u64::MAX {
-        let Some(next) = folders.pop() else {
-            break;
-        };
-        enter(rt, next.as_str(), &mut files, &mut folders)?;
-    }
-    files.sort()?;
-    Ok(files)
-}
-
 fn read_if_there<R: Files + AllocGlobal>(rt: &R, path: &str) -> io::Result<Option<Bytes>> {
     match fs::read(rt, path) {
         Ok(items) => Ok(Some(Bytes::from_vec(items))),
-        Err(error) if error.kind() == ErrorKind::NotFound => Ok(None),
+        Err(error) if is_absent(&error) => Ok(None),
         Err(error) => Err(error),
     }
-}
-
-fn write_new<R: Files + AllocGlobal>(rt: &R, path: &str, bytes: &[u8]) -> io::Result<()> {
-    let mut file = File::create(rt, path)?;
-    file.write_all(bytes)?;
-    file.flush()?;
-    file.sync_all()
-}
-
-// The bytes go to a temporary file beside the path, which then takes its place, so that the path never holds a part of them.
-fn replace_file<R: Files + AllocGlobal>(rt: &R, path: &str, bytes: &[u8]) -> io::Result<()> {
-    let beside = format!(in rt.alloc(); "{path}.mutest-new")?;
-    let written = write_new(rt, beside.as_str(), bytes);
-    let replaced = match written {
-        Ok(()) => fs::rename(rt, beside.as_str(), path),
-        Err(error) => Err(error),
-    };
-    if replaced.is_err() {
-        let _ = fs::remove_file(rt, beside.as_str());
-    }
-    replaced
 }
 
 impl<'a, R: Files + AllocGlobal> Tree for HostTree<'a, R> {
@@ -121,7 +63,7 @@ impl<'a, R: Files + AllocGlobal> Tree for HostTree<'a, R> {
     ghost writing = { λ t. t.writing };
 
     fn list(&mut self, folder: &str) -> Result<Vec<String>, EdgeFault> {
-        let listed = walk(self.rt, folder);
+        let listed = files_below(self.rt, folder);
         counted(&mut self.reading, listed)
     }
 

@@ -3,9 +3,11 @@
 #![tactic(auto)]
 
 mod host;
+mod listing;
 mod mem_sink;
 mod mem_tree;
 mod outside;
+mod replacing;
 mod script;
 mod steps;
 
@@ -13,8 +15,4 @@ pub use host::{HostSink, HostTree};
 pub use mem_sink::MemSink;
 pub use mem_tree::MemTree;
 pub use outside::{EdgeFault, Sink, Tree};
-
-#[cfg(test)]
-mod tests;
-
 pub use steps::{Meter, MeterPart};

@@ -12,7 +12,7 @@ use std::alloc::{AllocError, AllocFailed};
 use thiserror::Error;
 
 /// Why a call to the outside gave nothing.
-#[derive(Clone, Copy, Debug, PartialEq, Eq, Error)]
+#[derive(Clone, Copy, Debug, Error)]
 pub enum EdgeFault {
     /// The object failed, and its count of faults of this kind rose.
     #[error("the call failed")]

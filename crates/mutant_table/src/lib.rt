@@ -10,6 +10,3 @@ mod table;
 
 pub use seat::ClaimSeat;
 pub use table::{ClaimEnd, ClaimTable};
-
-#[cfg(test)]
-mod tests;

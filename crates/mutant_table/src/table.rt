@@ -28,7 +28,7 @@ pub struct ClaimTable {
 }
 
 /// What the words say once all workers have ended. A least place of 65,535 stands for none.
-#[derive(Drop, Debug)]
+#[derive(Drop)]
 pub struct ClaimEnd {
     pub next: u64,
     pub least: Seq<u64>,

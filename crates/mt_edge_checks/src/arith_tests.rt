@@ -1,0 +1,155 @@
+// Every number here was computed by `java` (OpenJDK 17).
+
+use class_model::{Kind, Seq};
+use jvm_arith::{
+    Op2, Shift, int_neg, int_op, int_shift, long_compare, long_neg, long_op, long_shift,
+    long_to_int, narrow,
+};
+use std::test::Fail;
+
+const LEAST: i32 = i32::MIN;
+
+const GREATEST: i32 = i32::MAX;
+
+const INT_OPERATIONS: [(Op2, i32, i32, Option<i32>); 18] = [
+    (Op2::Add, LEAST, -1, Some(GREATEST)),
+    (Op2::Add, GREATEST, 1, Some(LEAST)),
+    (Op2::Sub, LEAST, 1, Some(GREATEST)),
+    (Op2::Sub, LEAST, -1, Some(-2147483647)),
+    (Op2::Mul, LEAST, -1, Some(LEAST)),
+    (Op2::Mul, GREATEST, GREATEST, Some(1)),
+    (Op2::Mul, 65536, 65536, Some(0)),
+    (Op2::Div, LEAST, -1, Some(LEAST)),
+    (Op2::Div, -7, 2, Some(-3)),
+    (Op2::Div, 7, -2, Some(-3)),
+    (Op2::Div, 5, 0, None),
+    (Op2::Rem, LEAST, -1, Some(0)),
+    (Op2::Rem, -7, 2, Some(-1)),
+    (Op2::Rem, 7, -2, Some(1)),
+    (Op2::Rem, 5, 0, None),
+    (Op2::And, 7, -2, Some(6)),
+    (Op2::Or, -7, 2, Some(-5)),
+    (Op2::Xor, LEAST, -1, Some(GREATEST)),
+];
+
+const LEAST_LONG: i64 = i64::MIN;
+
+const GREATEST_LONG: i64 = i64::MAX;
+
+const LONG_OPERATIONS: [(Op2, i64, i64, Option<i64>); 18] = [
+    (Op2::Add, LEAST_LONG, -1, Some(GREATEST_LONG)),
+    (Op2::Add, GREATEST_LONG, 1, Some(LEAST_LONG)),
+    (Op2::Sub, LEAST_LONG, 1, Some(GREATEST_LONG)),
+    (Op2::Sub, LEAST_LONG, -1, Some(-9223372036854775807)),
+    (Op2::Mul, LEAST_LONG, -1, Some(LEAST_LONG)),
+    (Op2::Mul, GREATEST_LONG, GREATEST_LONG, Some(1)),
+    (Op2::Mul, 4294967296, 4294967296, Some(0)),
+    (Op2::Div, LEAST_LONG, -1, Some(LEAST_LONG)),
+    (Op2::Div, -7, 2, Some(-3)),
+    (Op2::Div, 7, -2, Some(-3)),
+    (Op2::Div, 5, 0, None),
+    (Op2::Rem, LEAST_LONG, -1, Some(0)),
+    (Op2::Rem, -7, 2, Some(-1)),
+    (Op2::Rem, 7, -2, Some(1)),
+    (Op2::Rem, 5, 0, None),
+    (Op2::And, 7, -2, Some(6)),
+    (Op2::Or, -7, 2, Some(-5)),
+    (Op2::Xor, LEAST_LONG, -1, Some(GREATEST_LONG)),
+];
+
+#[test]
+fn operations_at_the_edges(rt: HostRuntime) -> Result<(), Fail> {
+    for (op, a, b, wanted) in INT_OPERATIONS {
+        assert_eq!(rt; int_op(op, a, b), wanted, "of the ints {a} and {b}");
+    }
+    for (op, a, b, wanted) in LONG_OPERATIONS {
+        assert_eq!(rt; long_op(op, a, b), wanted, "of the longs {a} and {b}");
+    }
+    Ok(())
+}
+
+const INT_SHIFTS: [(Shift, i32, i32, i32); 9] = [
+    (Shift::Left, 1, 31, LEAST),
+    (Shift::Left, 1, 32, 1),
+    (Shift::Left, 1, -1, LEAST),
+    (Shift::Left, GREATEST, 1, -2),
+    (Shift::Right, -8, 1, -4),
+    (Shift::Right, LEAST, 31, -1),
+    (Shift::Unsigned, -8, 1, 2147483644),
+    (Shift::Unsigned, LEAST, -1, 1),
+    (Shift::Unsigned, -1, 0, -1),
+];
+
+const LONG_SHIFTS: [(Shift, i64, i32, i64); 9] = [
+    (Shift::Left, 1, 32, 4294967296),
+    (Shift::Left, 1, 63, LEAST_LONG),
+    (Shift::Left, 1, 64, 1),
+    (Shift::Left, 1, -1, LEAST_LONG),
+    (Shift::Right, -8, 1, -4),
+    (Shift::Right, LEAST_LONG, 63, -1),
+    (Shift::Unsigned, -8, 1, 9223372036854775804),
+    (Shift::Unsigned, LEAST_LONG, -1, 1),
+    (Shift::Unsigned, -1, 0, -1),
+];
+
+#[test]
+fn shifts_go_by_the_low_bits_of_the_count(rt: HostRuntime) -> Result<(), Fail> {
+    for (op, a, by, wanted) in INT_SHIFTS {
+        assert_eq!(rt; int_shift(op, a, by), wanted, "the int {a} by {by}");
+    }
+    for (op, a, by, wanted) in LONG_SHIFTS {
+        assert_eq!(rt; long_shift(op, a, by), wanted, "the long {a} by {by}");
+    }
+    Ok(())
+}
+
+// A kind, an int, and what is left of it at that kind.
+fn narrowed(name: Seq<u16>) -> [(Kind, i32, i32); 12] {
+    [
+        (Kind::Boolean, 2, 0),
+        (Kind::Boolean, -1, 1),
+        (Kind::Boolean, LEAST, 0),
+        (Kind::Byte, 128, -128),
+        (Kind::Byte, -129, 127),
+        (Kind::Char, -1, 65535),
+        (Kind::Char, 65536, 0),
+        (Kind::Short, 32768, -32768),
+        (Kind::Short, -32769, 32767),
+        (Kind::Int, LEAST, LEAST),
+        (Kind::Long, GREATEST, GREATEST),
+        (Kind::Ref(name), GREATEST, GREATEST),
+    ]
+}
+
+#[test]
+fn opposites_comparisons_and_narrowing(rt: HostRuntime) -> Result<(), Fail> {
+    for (a, wanted) in [(LEAST, LEAST), (GREATEST, -2147483647), (0, 0)] {
+        assert_eq!(rt; int_neg(a), wanted);
+    }
+    for (a, wanted) in [
+        (LEAST_LONG, LEAST_LONG),
+        (GREATEST_LONG, -9223372036854775807),
+        (-1, 1),
+    ] {
+        assert_eq!(rt; long_neg(a), wanted);
+    }
+    for (a, b, wanted) in [
+        (LEAST_LONG, GREATEST_LONG, -1),
+        (GREATEST_LONG, LEAST_LONG, 1),
+        (5, 5, 0),
+    ] {
+        assert_eq!(rt; long_compare(a, b), wanted);
+    }
+    for (kind, a, wanted) in narrowed(Seq::new(rt.alloc())) {
+        assert_eq!(rt; narrow(kind, a), wanted, "of {a}");
+    }
+    for (a, wanted) in [
+        (LEAST_LONG, 0),
+        (-2147483649, GREATEST),
+        (4294967295, -1),
+        (GREATEST_LONG, -1),
+    ] {
+        assert_eq!(rt; long_to_int(a), wanted, "of {a}");
+    }
+    Ok(())
+}
