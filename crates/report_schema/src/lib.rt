@@ -1,4 +1,4 @@
-//! What a run says: the report in the mutation testing report schema, and the summary line.
+//! What a run says: the report in the mutation testing report schema, and the summary line. Its tests and wrong bodies stand in `report_checks`.
 #![tactic(auto)]
 
 mod class_file;
@@ -8,8 +8,6 @@ mod groups;
 mod input;
 mod report;
 mod summary;
-#[cfg(test)]
-mod tests;
 mod text;
 mod values;
 

@@ -1,0 +1,188 @@
+//! Reports and summaries of a few mutants, as the schema has them.
+
+use crate::{report_text, summary_text};
+use class_model::{Edit, Memory, Mutator, Name, Seq};
+use class_table::Test;
+use mutator_ops::{Mutant, State, Verdict};
+use report_schema::{ReportInput, file_key};
+use std::alloc::Global;
+use std::test::Fail;
+
+// A mutant of the method f of a class, and what the tests say of it.
+#[derive(Clone, Copy)]
+struct Case<'a> {
+    class: &'a str,
+    key: &'a str,
+    mutator: Mutator,
+    line: u16,
+    state: State,
+    killer: Option<u32>,
+    covering: &'a [u32],
+}
+
+fn name(alloc: Global, text: &str) -> Result<Name, Memory> {
+    let mut name = Name::new(alloc);
+    for byte in text.as_bytes() {
+        name.push(u16::from(*byte))?;
+    }
+    Ok(name)
+}
+
+fn test(alloc: Global, method: &str) -> Result<Test, Memory> {
+    Ok(Test {
+        class: name(alloc, "T")?,
+        method: name(alloc, method)?,
+        script: Seq::new(alloc),
+        expected: None,
+    })
+}
+
+fn mutant(alloc: Global, case: &Case<'_>) -> Result<Mutant, Memory> {
+    Ok(Mutant {
+        class: name(alloc, case.class)?,
+        method: name(alloc, "f")?,
+        desc: name(alloc, "(I)Z")?,
+        at: 1,
+        mutator: case.mutator,
+        line: case.line,
+        edit: Edit {
+            method: 0,
+            at: 1,
+            with: Seq::new(alloc),
+            more_stack: 0,
+        },
+    })
+}
+
+fn verdict(alloc: Global, case: &Case<'_>) -> Result<Verdict, Memory> {
+    Ok(Verdict {
+        state: case.state,
+        killer: case.killer,
+        covering: Seq::from_slice(alloc, case.covering)?,
+    })
+}
+
+// The tests `neg` and `zero` of the class T, of which the first is in a file, and these mutants.
+fn input_of(alloc: Global, cases: &[Case<'_>]) -> Result<ReportInput, Memory> {
+    let mut input = ReportInput {
+        mutants: Seq::new(alloc),
+        verdicts: Seq::new(alloc),
+        tests: Seq::new(alloc),
+        keys: Seq::new(alloc),
+        test_keys: Seq::new(alloc),
+        sources: Seq::new(alloc),
+    };
+    input.tests.push(test(alloc, "neg")?)?;
+    input.tests.push(test(alloc, "zero")?)?;
+    input.test_keys.push(name(alloc, "T.java")?)?;
+    for case in cases {
+        input.mutants.push(mutant(alloc, case)?)?;
+        input.verdicts.push(verdict(alloc, case)?)?;
+        input.keys.push(name(alloc, case.key)?)?;
+    }
+    Ok(input)
+}
+
+#[test]
+fn files_stand_in_byte_order_with_sources_tests_and_killers(rt: HostRuntime) -> Result<(), Fail> {
+    let alloc = rt.alloc();
+    let mut input = input_of(
+        alloc,
+        [
+            Case {
+                class: "p/B",
+                key: "p/B.java",
+                mutator: Mutator::Math,
+                line: 0,
+                state: State::RunError,
+                killer: Some(9),
+                covering: [9].as_slice(),
+            },
+            Case {
+                class: "A",
+                key: "A.java",
+                mutator: Mutator::ConditionalsBoundary,
+                line: 3,
+                state: State::Killed,
+                killer: Some(1),
+                covering: [0, 1].as_slice(),
+            },
+            Case {
+                class: "A",
+                key: "A.java",
+                mutator: Mutator::Math,
+                line: 7,
+                state: State::NoCoverage,
+                killer: None,
+                covering: [].as_slice(),
+            },
+        ]
+        .as_slice(),
+    )?;
+    input
+        .sources
+        .push(Seq::from_slice(alloc, "class A {}\n".as_bytes())?)?;
+    let text = report_text(alloc, &input)?;
+    let wanted =
+        "{\"files\":{\"A.java\":{\"language\":\"java\",\"mutants\":[{\"coveredBy\":[\"T.neg\",\"T.zero\"],\"id\":\"A.f(I)Z@1:CONDITIONALS_BOUNDARY\",\"killedBy\":[\"T.zero\"],\"location\":{\"end\":{\"column\":2,\"line\":3},\"start\":{\"column\":1,\"line\":3}},\"mutatorName\":\"CONDITIONALS_BOUNDARY\",\"status\":\"Killed\"},{\"coveredBy\":[],\"id\":\"A.f(I)Z@1:MATH\",\"location\":{\"end\":{\"column\":2,\"line\":7},\"start\":{\"column\":1,\"line\":7}},\"mutatorName\":\"MATH\",\"status\":\"NoCoverage\"}],\"source\":\"class A {}\\n\"},\"p/B.java\":{\"language\":\"java\",\"mutants\":[{\"coveredBy\":[],\"id\":\"p/B.f(I)Z@1:MATH\",\"location\":{\"end\":{\"column\":2,\"line\":1},\"start\":{\"column\":1,\"line\":1}},\"mutatorName\":\"MATH\",\"status\":\"RuntimeError\",\"statusReason\":\"RUN_ERROR\"}],\"source\":\"\"}},\"schemaVersion\":\"1\",\"testFiles\":{\"T.java\":{\"tests\":[{\"id\":\"T.neg\",\"name\":\"neg\"}]}},\"thresholds\":{\"high\":80,\"low\":60}}";
+    assert!(rt; text.as_slice() == wanted.as_bytes());
+    Ok(())
+}
+
+#[test]
+fn each_state_has_its_status_and_its_count(rt: HostRuntime) -> Result<(), Fail> {
+    let alloc = rt.alloc();
+    let mut verdicts = Seq::new(alloc);
+    for (state, status) in [
+        (State::NonViable, "\"CompileError\""),
+        (State::NoCoverage, "\"NoCoverage\""),
+        (State::Killed, "\"Killed\""),
+        (State::TimedOut, "\"Timeout\""),
+        (
+            State::MemoryError,
+            "\"RuntimeError\",\"statusReason\":\"MEMORY_ERROR\"",
+        ),
+        (
+            State::RunError,
+            "\"RuntimeError\",\"statusReason\":\"RUN_ERROR\"",
+        ),
+        (State::Survived, "\"Survived\""),
+    ] {
+        let case = Case {
+            class: "A",
+            key: "A.java",
+            mutator: Mutator::Math,
+            line: 1,
+            state,
+            killer: None,
+            covering: [].as_slice(),
+        };
+        verdicts.push(verdict(alloc, &case)?)?;
+        let text = report_text(alloc, &input_of(alloc, [case].as_slice())?)?;
+        let before =
+            "{\"files\":{\"A.java\":{\"language\":\"java\",\"mutants\":[{\"coveredBy\":[],\"id\":\"A.f(I)Z@1:MATH\",\"location\":{\"end\":{\"column\":2,\"line\":1},\"start\":{\"column\":1,\"line\":1}},\"mutatorName\":\"MATH\",\"status\":";
+        let wanted = format!(in alloc; "{before}{status}}}],\"source\":\"\"")?;
+        assert!(rt; text.as_slice().starts_with(wanted.as_bytes()));
+    }
+    let text = summary_text(alloc, &verdicts)?;
+    let wanted = "mutants 7 killed 1 survived 1 no_coverage 1 timed_out 1 non_viable 1 errors 2\n";
+    assert!(rt; text.as_slice() == wanted.as_bytes());
+    Ok(())
+}
+
+#[test]
+fn a_class_lies_in_the_file_of_its_outermost_class(rt: HostRuntime) -> Result<(), Fail> {
+    let alloc = rt.alloc();
+    for (class, key) in [
+        ("A", "A.java"),
+        ("p/q/A", "p/q/A.java"),
+        ("p/A$1$B", "p/A.java"),
+        ("p$q/A", "p$q/A.java"),
+        ("p/$A", "p/$A.java"),
+    ] {
+        assert!(rt;
+            file_key(alloc, &name(alloc, class)?)?.as_slice() == name(alloc, key)?.as_slice()
+        );
+    }
+    Ok(())
+}
