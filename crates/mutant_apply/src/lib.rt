@@ -5,8 +5,6 @@ mod code;
 mod items;
 mod laws;
 mod members;
-#[cfg(test)]
-mod tests;
 mod whole;
 
 pub use laws::{applied_is_made, edit_keeps_form, mutants_fit};

@@ -10,8 +10,6 @@ mod mutants;
 mod parts;
 mod place;
 mod printing;
-#[cfg(test)]
-mod tests;
 
 pub use mutant::{CellTable, Mutant, State, Verdict};
 pub use mutants::class_mutants;

@@ -3,7 +3,7 @@ ghost use Rattle.std.specs.Prelude.{◌≡◌, IfOk};
 use class_model::{Copied, Edit, Memory, Mutator, Name, Seq};
 
 /// A mutant: one instruction of one method, the mutator that changes it, and what it puts in its place.
-#[derive(Debug, Drop, PartialEq, Eq)]
+#[derive(Drop)]
 pub struct Mutant {
     pub class: Name,
     pub method: Name,
@@ -59,7 +59,7 @@ pub enum State {
 }
 
 /// A mutant's state, the first test that detects it, and the tests that reach its class and line, by the numbers of the tests.
-#[derive(Debug, Drop)]
+#[derive(Drop)]
 pub struct Verdict {
     pub state: State,
     pub killer: Option<u32>,
@@ -67,7 +67,7 @@ pub struct Verdict {
 }
 
 /// Cells by mutant and then test: each names a mutant and a test by their numbers.
-#[derive(Debug, Drop)]
+#[derive(Drop)]
 pub struct CellTable {
     pub mutant: Seq<u32>,
     pub test: Seq<u32>,

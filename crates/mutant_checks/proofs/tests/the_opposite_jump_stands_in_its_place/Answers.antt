@@ -4,7 +4,7 @@ use Rattle.std.proofs.lemmas.List.Elements.{recursion_from_All}
 use Rattle.mutator_ops.specs.declared.mutant.Mutant.{Mutant}
 use Rattle.mutant_apply.specs.Fitting.{Fits}
 use Rattle.mutant_apply.proofs.Lists.{all_at}
-use Rattle.mutant_apply.proofs.tests.the_opposite_jump_stands_in_its_place.Goals as goal
+use Rattle.mutant_checks.proofs.tests.the_opposite_jump_stands_in_its_place.Goals as goal
 
 pub apply-requires-clause-form : goal.apply-requires-clause-form
 apply-requires-clause-form g c = (c.what_is_spelled_is_written.ensures _ c.in_ok-class.class c.in_ok-class.ensures.found).0

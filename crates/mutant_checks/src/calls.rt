@@ -1,0 +1,27 @@
+ghost use Rattle.std.specs.Prelude.{◌≡◌, IfOk};
+ghost use Rattle.class_writer.specs.Writing.{HasClassForm};
+ghost use Rattle.mutator_ops.specs.Mutants.{class_mutants};
+ghost use Rattle.mutant_apply.specs.Edited.{applied};
+ghost use Rattle.mutant_apply.specs.Fitting.{Fits};
+
+use class_model::{Bytes, Class, Edit, Memory, Seq};
+use mutator_ops::Mutant;
+use std::alloc::Global;
+
+/// `mutator_ops::class_mutants`.
+pub fn class_mutants(alloc: Global, class: &Class) -> Result<Seq<Mutant>, Memory>
+    ensures { IfOk result (λ mutants. mutants ≡ class_mutants class.now) }
+{
+    let mutants = mutator_ops::class_mutants(alloc, class)?;
+    Ok(mutants)
+}
+
+/// `mutant_apply::apply`.
+pub fn apply(alloc: Global, class: &Class, edit: &Edit) -> Result<Option<(Class, Bytes)>, Memory>
+    requires form { HasClassForm class.now }
+    requires fits { Fits class.now edit.now }
+    ensures { IfOk result (λ made. made ≡ applied class.now edit.now) }
+{
+    let made = mutant_apply::apply(alloc, class, edit)?;
+    Ok(made)
+}
