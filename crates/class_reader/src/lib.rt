@@ -7,8 +7,6 @@ mod indices;
 mod laws;
 mod members;
 mod read;
-#[cfg(test)]
-mod tests;
 
 pub use laws::files_are_read_as_spelled;
 pub use read::read_class;

@@ -2,8 +2,6 @@
 #![tactic(auto)]
 
 mod laws;
-#[cfg(test)]
-mod tests;
 mod write;
 
 pub use laws::{what_is_spelled_is_written, what_is_written_is_spelled};

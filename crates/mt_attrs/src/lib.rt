@@ -37,8 +37,6 @@ mod owner;
 mod place;
 mod put;
 mod rows;
-#[cfg(test)]
-mod tests;
 mod write;
 mod write_notes;
 mod write_tables;

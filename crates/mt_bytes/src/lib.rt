@@ -3,8 +3,6 @@
 
 mod cursor;
 mod put;
-#[cfg(test)]
-mod tests;
 
 pub use cursor::{Cursor, Truncated};
 pub use put::{put_u1, put_u2, put_u4, put_u8};

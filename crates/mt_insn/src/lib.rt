@@ -31,8 +31,6 @@ mod read;
 mod size;
 mod switch;
 mod target;
-#[cfg(test)]
-mod tests;
 mod whole;
 mod words;
 mod write;

@@ -28,8 +28,6 @@ mod index;
 mod named;
 mod put;
 mod size;
-#[cfg(test)]
-mod tests;
 mod whole;
 
 pub use named::{class_name_of, entry_of, names_class, pair_of, text_of};
