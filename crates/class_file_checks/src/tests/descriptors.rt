@@ -61,8 +61,8 @@ fn methods_of_real_classes(rt: HostRuntime) -> Result<(), Fail> {
             };
             assert!(rt; is_same, "{word}");
         }
-        let is_same = match types.ret {
-            Some(kind) => is_kind(rt.alloc(), &kind, returned)?,
+        let is_same = match &types.ret {
+            Some(kind) => is_kind(rt.alloc(), kind, returned)?,
             None => returned.is_empty(),
         };
         assert!(rt; is_same, "{desc}");
