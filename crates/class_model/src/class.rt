@@ -32,7 +32,7 @@ pub struct Member {
 }
 
 /// A class of a program, by its number there.
-#[derive(Clone, Copy, Debug, PartialEq, Eq, PartialOrd, Ord, Hash)]
+#[derive(Clone, Copy, Debug, PartialEq, Eq)]
 pub struct ClassId(pub u32);
 
 impl Class {

@@ -18,7 +18,7 @@ pub enum Kind {
 }
 
 /// What a method takes and gives (JVMS 4.3.3).
-#[derive(Debug, Drop, PartialEq, Eq)]
+#[derive(Drop)]
 pub struct MethodType {
     pub args: Seq<Kind>,
     /// None for `void`.
