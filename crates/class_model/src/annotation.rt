@@ -5,7 +5,7 @@ use crate::list::Seq;
 use crate::memory::Memory;
 
 /// An annotation (JVMS 4.7.16): the index of its type, and its elements with the indices of their names.
-#[derive(Debug, Drop, PartialEq)]
+#[derive(Drop)]
 #[cycle(note)]
 pub struct Note {
     pub kind: u16,
@@ -13,7 +13,7 @@ pub struct Note {
 }
 
 /// An element of an annotation (JVMS 4.7.16.1).
-#[derive(Debug, Drop, PartialEq)]
+#[derive(Drop)]
 #[cycle(note)]
 pub enum Elem {
     /// A constant, by its tag and its index: one of `B C D F I J S Z s`.

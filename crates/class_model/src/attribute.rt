@@ -8,7 +8,7 @@ use crate::list::{Bytes, Seq};
 use crate::memory::Memory;
 
 /// An attribute (JVMS 4.7): the index of its name, and its content.
-#[derive(Debug, Drop, PartialEq)]
+#[derive(Drop)]
 #[cycle(attribute)]
 pub struct Attr {
     pub name: u16,
@@ -16,7 +16,7 @@ pub struct Attr {
 }
 
 /// The content of an attribute. One that isn't known in its place is carried as bytes.
-#[derive(Debug, Drop, PartialEq)]
+#[derive(Drop)]
 #[cycle(attribute)]
 pub enum Body {
     /// Code (JVMS 4.7.3).
@@ -35,7 +35,7 @@ pub enum Body {
 }
 
 /// The code of a method (JVMS 4.7.3). All places in it are instruction numbers.
-#[derive(Debug, Drop, PartialEq)]
+#[derive(Drop)]
 #[cycle(attribute)]
 pub struct Code {
     pub max_stack: u16,
@@ -47,7 +47,7 @@ pub struct Code {
 
 /// A row of the exception table (JVMS 4.7.3): the first instruction that it covers, the first behind them, the handler,
 /// and the index of the class that is caught, or 0 for every class.
-#[derive(Clone, Copy, Debug, PartialEq, Eq)]
+#[derive(Clone, Copy)]
 pub struct Row {
     pub start: u32,
     pub end: u32,

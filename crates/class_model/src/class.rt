@@ -7,7 +7,7 @@ use crate::list::Seq;
 use crate::memory::Memory;
 
 /// A class file (JVMS 4.1). Indices are those of the constant pool, counted from 1.
-#[derive(Debug, Drop, PartialEq)]
+#[derive(Drop)]
 pub struct Class {
     pub minor: u16,
     pub major: u16,
@@ -23,7 +23,7 @@ pub struct Class {
 }
 
 /// A field or a method (JVMS 4.5, 4.6): its access flags and the indices of its name and its descriptor.
-#[derive(Debug, Drop, PartialEq)]
+#[derive(Drop)]
 pub struct Member {
     pub flags: u16,
     pub name: u16,
@@ -32,7 +32,7 @@ pub struct Member {
 }
 
 /// A class of a program, by its number there.
-#[derive(Clone, Copy, Debug, PartialEq, Eq, PartialOrd, Ord, Hash)]
+#[derive(Clone, Copy, PartialEq, Eq)]
 pub struct ClassId(pub u32);
 
 impl Class {

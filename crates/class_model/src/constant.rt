@@ -5,7 +5,7 @@ use crate::list::Name;
 use crate::memory::Memory;
 
 /// An entry of the constant pool (JVMS 4.4). An index counts the entries from 1.
-#[derive(Debug, Drop, PartialEq, Eq)]
+#[derive(Drop)]
 pub enum Const {
     /// A text: tag 1.
     Utf8(Name),

@@ -7,7 +7,7 @@ use crate::memory::Memory;
 
 /// The replacement of one instruction of a class: the number of its method, its own number there, what stands in its place,
 /// and by how many words the method's stack may grow higher.
-#[derive(Debug, Drop, PartialEq, Eq)]
+#[derive(Drop)]
 pub struct Edit {
     pub method: u32,
     pub at: u32,
@@ -16,7 +16,7 @@ pub struct Edit {
 }
 
 /// An instruction that stands in the place of another, before it has entries of the constant pool.
-#[derive(Debug, Drop, PartialEq, Eq)]
+#[derive(Drop)]
 pub enum NewInsn {
     Plain(Insn),
     /// An `iinc` of this local variable by this constant, which may pass the bounds of both forms.

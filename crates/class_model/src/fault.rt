@@ -8,40 +8,53 @@ ghost use Rattle.class_model.specs.declared.fault.DescFault.TheVariants as desc_
 
 use crate::memory::Memory;
 use std::alloc::{AllocError, AllocFailed};
-use thiserror::Error;
+use std::error::Error;
+use std::fmt;
 
 /// Why bytes spell no class. A place is a byte offset in the file, from 0.
-#[derive(Clone, Copy, Debug, PartialEq, Eq, Error)]
+#[derive(Clone, Copy, Debug, PartialEq, Eq)]
 pub enum ClassFault {
-    #[error("the file ends inside the item at {at}")]
+    /// The file ends inside the item at this place.
     Truncated { at: u64 },
-    #[error("the text, name or descriptor at {at} is not in its form")]
+    /// The text, name or descriptor is not in its form.
     BadText { at: u64 },
-    #[error("the tag {tag} at {at} is not one of the standard's")]
+    /// The tag is not one of the standard's.
     BadTag { at: u64, tag: u8 },
-    #[error("the index at {at} names no entry of the right kind, or a long entry has no room")]
+    /// The index names no entry of the right kind, or a long entry has no room.
     BadIndex { at: u64 },
-    #[error("the opcode {op} at {at} is not one of the profile's")]
+    /// The opcode is not one of the profile's.
     BadOpcode { at: u64, op: u8 },
-    #[error("a length, a count or an order is wrong at {at}")]
+    /// A length, a count or an order is wrong.
     BadLength { at: u64 },
-    #[error("the padding byte at {at} is not 0")]
+    /// The padding byte is not 0.
     Padding { at: u64 },
-    #[error("a float is used at {at}")]
+    /// A float is used.
     FloatUsed { at: u64 },
-    #[error("a dynamic call or constant is used at {at}")]
+    /// A dynamic call or constant is used.
     DynamicUsed { at: u64 },
-    #[error("a place named at {at} is not the start of an instruction, or a row covers none")]
+    /// A place that is named is not the start of an instruction, or a row covers none.
     BadTarget { at: u64 },
-    #[error("the file does not begin as a class file")]
+    /// The file does not begin as a class file.
     BadMagic,
-    #[error("the major version {major} is not 51 or 52")]
+    /// The major version is not 51 or 52.
     BadVersion { major: u16 },
-    #[error("bytes follow the class at {at}")]
+    /// Bytes follow the class.
     TrailingBytes { at: u64 },
-    #[error("out of memory")]
+    /// Memory has run out.
     Memory,
 }
+
+/// For messages of tests and benchmarks: the tool itself prints the number and the value.
+impl fmt::Display for ClassFault {
+    fn fmt<W: fmt::Write>(&self, f: &mut fmt::Formatter<W>) -> fmt::Result {
+        match self.number() {
+            Some(number) => write!(f, "class file fault {number}, value {}", self.value()),
+            None => write!(f, "out of memory"),
+        }
+    }
+}
+
+impl Error for ClassFault {}
 
 impl ClassFault {
     ghost use Rattle.class_model.specs.Fault.{number_of, value_of};
@@ -132,7 +145,7 @@ pub enum Bound {
 }
 
 /// Why a class has no spelling.
-#[derive(Clone, Copy, Debug, PartialEq, Eq, Error)]
+#[derive(Clone, Copy, Debug, PartialEq, Eq, thiserror::Error)]
 pub enum LayoutFault {
     #[error("too large: {what:?}")]
     TooLarge { what: Bound },
@@ -165,7 +178,7 @@ impl<T: Drop> From<AllocFailed<T>> for LayoutFault {
 }
 
 /// Why bytes spell no text.
-#[derive(Clone, Copy, Debug, PartialEq, Eq, Error)]
+#[derive(Clone, Copy, Debug, PartialEq, Eq, thiserror::Error)]
 pub enum TextFault {
     /// No code unit's spelling begins at this byte.
     #[error("no code unit's spelling begins at {at}")]
@@ -191,7 +204,7 @@ impl From<AllocError> for TextFault {
 }
 
 /// Why a text is no descriptor of this profile.
-#[derive(Clone, Copy, Debug, PartialEq, Eq, Error)]
+#[derive(Clone, Copy, Debug, PartialEq, Eq, thiserror::Error)]
 pub enum DescFault {
     /// It is outside the grammar, in which the name of a class keeps the rule of a declared name.
     #[error("not a descriptor")]

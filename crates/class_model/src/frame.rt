@@ -5,14 +5,14 @@ use crate::list::Seq;
 use crate::memory::Memory;
 
 /// A stated frame (JVMS 4.7.4), at the number of the instruction that it stands for.
-#[derive(Debug, Drop, PartialEq, Eq)]
+#[derive(Drop)]
 pub struct Frame {
     pub at: u32,
     pub shape: Shape,
 }
 
 /// How a frame differs from the one before it. A flag says that the longer form was used, which has two bytes for the offset.
-#[derive(Debug, Drop, PartialEq, Eq)]
+#[derive(Drop)]
 pub enum Shape {
     /// The same locals and no stack: types 0 to 63, or 251.
     Same(bool),
@@ -27,7 +27,7 @@ pub enum Shape {
 }
 
 /// A verification type (JVMS 4.7.4) without the floats.
-#[derive(Clone, Copy, Debug, PartialEq, Eq)]
+#[derive(Clone, Copy)]
 pub enum VItem {
     Top,
     Integer,

@@ -5,7 +5,7 @@ use crate::list::Seq;
 use crate::memory::Memory;
 
 /// An instruction (JVMS 6.5). It keeps the opcode as read, so a list of instructions has one spelling.
-#[derive(Debug, Drop, PartialEq, Eq)]
+#[derive(Drop)]
 pub struct Insn {
     pub op: u8,
     /// Whether `wide` stands before it.
@@ -14,7 +14,7 @@ pub struct Insn {
 }
 
 /// What stands behind an opcode. A place in the code is an instruction number, counted from 0.
-#[derive(Debug, Drop, PartialEq, Eq)]
+#[derive(Drop)]
 pub enum Arg {
     None,
     /// The constant of `bipush` and `sipush`.

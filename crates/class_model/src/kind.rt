@@ -5,7 +5,7 @@ use crate::list::{Name, Seq};
 use crate::memory::Memory;
 
 /// A type of a field, an argument or a result (JVMS 4.3.2), without the floats.
-#[derive(Debug, Drop, PartialEq, Eq)]
+#[derive(Drop)]
 pub enum Kind {
     Boolean,
     Byte,
@@ -18,7 +18,7 @@ pub enum Kind {
 }
 
 /// What a method takes and gives (JVMS 4.3.3).
-#[derive(Debug, Drop, PartialEq, Eq)]
+#[derive(Drop)]
 pub struct MethodType {
     pub args: Seq<Kind>,
     /// None for `void`.

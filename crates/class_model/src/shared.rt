@@ -1,6 +1,4 @@
-ghost use Rattle.std.specs.Prelude.{◌≡◌, nat_eq, IfOk};
-ghost use Rattle.std.specs.Cmp.{partial_equiv_from_equiv};
-ghost use Rattle.std.specs.Cmp.Lexicographic.{pointwise, nat_list_eq_equiv};
+ghost use Rattle.std.specs.Prelude.{◌≡◌, IfOk};
 
 use crate::copies::Copied;
 use crate::list::Bytes;
@@ -10,7 +8,7 @@ use std::marker::Model;
 use std::sync::Arc;
 
 /// Bytes that many records may name, such as one class file. Contracts see them as the list.
-#[derive(Debug, Drop)]
+#[derive(Drop)]
 pub struct SharedBytes {
     bytes: Arc<Bytes, Global>,
 }
@@ -46,20 +44,6 @@ impl SharedBytes {
     {
         self.bytes.as_slice()
     }
-}
-
-impl PartialEq for SharedBytes {
-    ghost eq = { λ x y. pointwise nat_eq x y };
-
-    ghost laws = { partial_equiv_from_equiv nat_list_eq_equiv };
-
-    fn eq(&self, other: &Self) -> bool {
-        self.as_slice() == other.as_slice()
-    }
-}
-
-impl Eq for SharedBytes {
-    ghost laws = { nat_list_eq_equiv };
 }
 
 impl Copied for SharedBytes {

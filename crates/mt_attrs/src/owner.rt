@@ -1,5 +1,5 @@
 /// Whose attributes they are.
-#[derive(Clone, Copy, Debug, PartialEq, Eq)]
+#[derive(Clone, Copy)]
 pub enum Owner {
     OfClass,
     OfField,

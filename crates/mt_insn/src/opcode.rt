@@ -7,7 +7,7 @@ ghost use Rattle.mt_insn.specs.Opcode.{form_of, low_form, middle_form, high_form
 pub const WIDE: u8 = 0xc4;
 
 /// What stands behind an opcode (JVMS 6.5).
-#[derive(Clone, Copy, Debug, PartialEq, Eq)]
+#[derive(Clone, Copy)]
 pub enum Form {
     /// Nothing.
     Plain,

@@ -3,7 +3,7 @@
 use class_model::{Arg, Seq};
 
 /// An instruction before its targets are known: a jump has an offset in bytes, from the instruction's first byte, in place of the number of an instruction.
-#[derive(Debug, Drop)]
+#[derive(Drop)]
 pub struct RawInsn {
     pub op: u8,
     pub wide: bool,
@@ -11,7 +11,7 @@ pub struct RawInsn {
 }
 
 /// What stands behind an opcode, with offsets for targets.
-#[derive(Debug, Drop)]
+#[derive(Drop)]
 pub enum Operand {
     /// It has no target.
     Done(Arg),
@@ -24,7 +24,7 @@ pub enum Operand {
 }
 
 /// The items of a `tableswitch`: the default's offset, the lowest and the highest key, and an offset for each key between them.
-#[derive(Debug, Drop)]
+#[derive(Drop)]
 pub struct TableItems {
     pub default: i32,
     pub low: i32,
@@ -33,7 +33,7 @@ pub struct TableItems {
 }
 
 /// An instruction and its place in the code.
-#[derive(Debug, Drop)]
+#[derive(Drop)]
 pub struct Placed {
     pub place: u64,
     pub insn: RawInsn,

@@ -4,21 +4,23 @@ use class_model::ClassFault;
 use class_reader::read_class;
 use class_writer::{what_is_spelled_is_written, write_class};
 use sample_classes::{A, A_BARE, T};
+use std::alloc::Global;
 use std::test::Fail;
 
-#[test]
-fn a_copy_of_what_is_read_is_written(rt: HostRuntime) -> Result<(), Fail> {
+/// Whether a class file of so many methods is written as it was read, and its class copied.
+fn comes_back(alloc: Global, bytes: &[u8], methods: usize) -> Result<bool, Fail> {
     what_is_spelled_is_written();
+    let class = read_class(alloc, bytes)?;
+    let written = write_class(alloc, &class)?;
+    let copy = class.copy()?;
+    Ok(copy.major == 52 && copy.methods.len() == methods && written.as_slice() == bytes)
+}
+
+#[test]
+fn what_is_read_is_written(rt: HostRuntime) -> Result<(), Fail> {
     let files: [(&[u8], usize); 3] = [(&A, 1), (&A_BARE, 1), (&T, 3)];
     for (bytes, methods) in files {
-        let class = read_class(rt.alloc(), bytes)?;
-        let copy = class.copy()?;
-        let written = write_class(rt.alloc(), &copy)?;
-        assert!(rt;
-            copy.major == 52 && copy.methods.len() == methods,
-            "{methods}"
-        );
-        assert!(rt; written.as_slice() == bytes, "{methods}");
+        assert!(rt; comes_back(rt.alloc(), bytes, methods)?, "{methods}");
     }
     Ok(())
 }
