@@ -1,5 +1,5 @@
 -- What a row of the library's table says.
-use Rattle.std.specs.Prelude.{ℕ, List, [], ◌∷◌, map, Option, Some, None}
+use Rattle.std.specs.Prelude.{[], ◌∷◌, map, Option, Some, None}
 use Rattle.program_rules.specs.Names.{Name}
 use Rattle.program_rules.specs.Linked.{Linked, LinkedField, LinkedMethod}
 use Rattle.program_rules.specs.Library.{library_class}
