@@ -1,4 +1,5 @@
-//! The law that ties the machine so far to the rules: where a run so far isn't stuck, it is the run of the rules. It is the contract of a function that does nothing.
+//! The law that ties the machine so far to the rules: where a run so far isn't stuck, it is the run
+//! of the rules. It is the contract of a function that does nothing.
 #![tactic(auto)]
 
 ghost use Rattle.std.specs.Prelude.{◌≡◌};
@@ -8,7 +9,8 @@ ghost use Rattle.machine_so_far_laws.specs.Built.{IsBuiltSoFar};
 ghost use Rattle.machine_so_far_laws.specs.Law.{RunsSoFarAreRuns};
 ghost use Rattle.machine_so_far_laws.specs.Witness.{sample_program, sample_run};
 
-/// On a program of class files beside the library so far, a run so far that isn't stuck is the run of the rules: outcome, steps, consulted names and reached lines.
+/// On a program of class files beside the library so far, a run so far that isn't stuck is the run
+/// of the rules: outcome, steps, consulted names and reached lines.
 pub fn runs_so_far_are_runs()
     ensures { RunsSoFarAreRuns }
 {}
