@@ -12,7 +12,8 @@ use Rattle.machine_rules.specs.declared.machine.Outcome.TheVariants as outcome
 use Rattle.program_rules.specs.Names.{Name}
 use Rattle.program_rules.specs.Linked.{Linked}
 use Rattle.program_rules.specs.Programs.{Look}
-use Rattle.program_rules.specs.Library.{library_classes, with_library}
+use Rattle.program_rules.specs.Library.{class_among, first_of}
+use Rattle.machine_so_far.specs.Library.{library_so_far}
 use Rattle.machine_rules.specs.Runs.{Ending, With, StuckAt, Ran}
 use Rattle.machine_so_far.specs.Runs.{run_so_far}
 use Rattle.class_table.specs.declared.fault.TableFault.TheVariants.{Duplicate}
@@ -41,7 +42,7 @@ named c = (own_name c, link c)
 
 -- A name means a class of these, else the library's class.
 unfoldable pub program_of : List Class → Look
-program_of classes = with_library (map named classes)
+program_of classes n = first_of (class_among (map named classes) n) (class_among library_so_far n)
 
 -- A class of a program has the name and the meaning of what it was made of.
 abbrev pub IsOfBody : Info → Type 0
@@ -52,7 +53,7 @@ AreOfBodies p = (id : ℕ) → id < length p → IsSomeAnd (slice_get p id) IsOf
 
 -- The names of the classes and of the library's.
 abbrev pub names_in : List Class → List Name
-names_in classes = map own_name classes ++ map (λ c. c.0) library_classes
+names_in classes = map own_name classes ++ map (λ c. c.0) library_so_far
 
 abbrev pub unless_twice : Option Name → Result (Unit {0}) Status
 unless_twice None = Ok tt
