@@ -21,14 +21,12 @@ use Rattle.mutest_engine.specs.declared.stop.Halt.TheVariants as halt
 use Rattle.mutest_engine.specs.declared.top_call.Unwritten.{Unwritten}
 use Rattle.mutest_engine.specs.declared.top_call.Unwritten.TheVariants as unwritten
 use Rattle.mutest_engine.specs.StatusText.{refusal_line, line_of}
-use Rattle.mutest_engine.specs.Steps.{Failed, FailsReading, ReadsBy}
+use Rattle.mutest_engine.specs.Steps.{FailsReading, ReadsBy}
 use Rattle.mutest_engine.specs.Words.{Command, list_class, run_suite, assemble_class}
 use Rattle.mutest_engine.specs.Answers.{Answered, Write, write_of, answered, MayRefuse}
 use Rattle.mutest_engine.specs.Decided.{CanAnswer, CanState}
-use Rattle.mutest_engine.specs.Mutation.{Stays}
 use Rattle.mutest_engine.specs.Ends.{status_of, unwritten_status, IsToldAs, IsReplaced, IsSome, IsWritten, CarriedOut, TextEnds, Agrees, Writes, MayEnd, AgreesUntold, AnswersUntold, HasCauses, MeterRose, MeterStays, HaltRose, HaltStays, AnswerMeters}
 use Rattle.mutest_engine.specs.Said.{Got, Broken, BrokenOff, HalfTold, Interrupted, Prints, Allows, written, all_written, Stopped, Partly, LeavesWrites, FailsWriting, FilesAfter, writes_in}
-
 use Rattle.mutest_engine.proofs.OriginalLaws.{drop_at}
 
 two_pieces : (before : Option (List ℕ)) (p q : List ℕ) → option_map (λ bytes. bytes ++ q) (option_map (λ bytes. bytes ++ p) before) ≡ option_map (λ bytes. bytes ++ (p ++ q)) before
@@ -339,6 +337,7 @@ states_by (Err e) (Err h) P untold said = (Err e, refl, said (Err e) (λ q is. a
   where
     refused_same : (e q : Refusal) → halt.Refused e ≡ halt.Refused q → e ≡ q
     refused_same e q is = cc
+
     lost_refused : (q : Refusal) → halt.WantOfMemory ≡ halt.Refused q → e ≡ q
     lost_refused q is = absurd cc
 

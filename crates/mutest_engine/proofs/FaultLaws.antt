@@ -1,5 +1,5 @@
 -- Faults of a later step are faults of the whole.
-use Rattle.std.proofs.Common.{◌≡◌, ℕ, ◌≤◌, arith}
+use Rattle.std.proofs.Common.{ℕ, ◌≤◌, arith}
 use Rattle.mutest_engine.specs.Steps.{FailsReading}
 use Rattle.mutest_engine.specs.declared.stop.Halt.{Halt}
 

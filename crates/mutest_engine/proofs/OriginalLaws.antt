@@ -1,6 +1,5 @@
 -- The original runs one after the other, as a loop does, and their steps.
-use Rattle.std.proofs.Common.{◌≡◌, ◌⊎◌, ◌∙◌, ℕ, zero, suc, ◌+◌, ◌*◌, ◌<◌, ◌≤◌, List, [], ◌∷◌, length, drop, get_or, subst, inl, inr, ⊎_elim, Result, Ok, Err, refl, sym, ap, arith}
-use Rattle.std.specs.Prelude.{OnErr, MatchResult}
+use Rattle.std.proofs.Common.{◌≡◌, ◌∙◌, ℕ, zero, suc, ◌+◌, ◌*◌, ◌<◌, ◌≤◌, List, [], ◌∷◌, length, drop, get_or, Err, refl, sym, ap, arith}
 use Rattle.machine_rules.specs.declared.machine.Outcome.TheVariants as outcome
 use Rattle.machine_rules.specs.declared.machine.Limits.{Limits}
 use Rattle.program_rules.specs.Programs.{Look}

@@ -1,5 +1,5 @@
 -- What the steps of a call answer: their result, or a refusal that the words and the files decide (this project's own).
-use Rattle.std.specs.Prelude.{◌≡◌, ℕ, ◌+◌, ◌-◌, ◌^◌, ◌<◌, ◌≤◌, min, Result, Ok, Err, MatchResult, IfErr}
+use Rattle.std.specs.Prelude.{◌≡◌, ℕ, ◌+◌, ◌-◌, ◌^◌, ◌<◌, ◌≤◌, min, Result, Ok, Err, MatchResult}
 use Rattle.mutest_engine.specs.declared.refusal.Refusal.{Refusal}
 use Rattle.mutest_engine.specs.declared.stop.Halt.{Halt}
 use Rattle.mutest_engine.specs.declared.stop.Halt.TheVariants as halt

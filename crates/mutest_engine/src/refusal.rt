@@ -29,17 +29,31 @@ pub enum Refusal {
     /// The words are no command.
     Usage,
     /// Nothing is held at the path.
-    NotFound { path: Bytes },
+    NotFound {
+        path: Bytes,
+    },
     /// The folder is an archive.
-    Archive { path: Bytes },
+    Archive {
+        path: Bytes,
+    },
     /// The file at the path is no class file.
-    BadClass { path: Bytes, fault: ClassFault },
+    BadClass {
+        path: Bytes,
+        fault: ClassFault,
+    },
     /// The classes are no program.
-    BadProgram { fault: ProgramFault },
+    BadProgram {
+        fault: ProgramFault,
+    },
     /// Original runs didn't pass: those of these tests.
-    NotGreen { tests: Seq<(Bytes, Outcome)> },
+    NotGreen {
+        tests: Seq<(Bytes, Outcome)>,
+    },
     /// A count passes its limit.
-    TooMany { limit: Limit, number: u64 },
+    TooMany {
+        limit: Limit,
+        number: u64,
+    },
     /// No rule of the machine applies at an instruction, by its number, in the original run of a test.
     MachineCheck {
         test: Bytes,
@@ -48,5 +62,7 @@ pub enum Refusal {
         at: u64,
     },
     /// The text is none of a class: its first line at fault, counted from 1.
-    AsmRefused { line: u64 },
+    AsmRefused {
+        line: u64,
+    },
 }

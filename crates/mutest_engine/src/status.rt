@@ -23,14 +23,9 @@ pub enum Status {
     Done,
     Refused(Refusal),
     /// So many calls that read the tree failed.
-    ReadFault {
-        faults: u64,
-    },
+    ReadFault { faults: u64 },
     /// So many calls that write to this output failed.
-    WriteFault {
-        which: Output,
-        faults: u64,
-    },
+    WriteFault { which: Output, faults: u64 },
     /// Memory ran out.
     WantOfMemory,
 }

@@ -20,9 +20,7 @@ pub enum Stop {
 pub enum Halt {
     Refused(Refusal),
     /// So many calls that read the tree failed.
-    ReadFault {
-        faults: u64,
-    },
+    ReadFault { faults: u64 },
     WantOfMemory,
 }
 

@@ -30,11 +30,7 @@ use std::alloc::Global;
 // ---- answers
 
 // The text that `list` prints for a file.
-fn list_answer<'a, T: Tree>(
-    alloc: Global,
-    tree: &mut T,
-    path: &'a str,
-) -> Result<Answer<'a>, Halt>
+fn list_answer<'a, T: Tree>(alloc: Global, tree: &mut T, path: &'a str) -> Result<Answer<'a>, Halt>
     ensures value { IfSome (T.holds tree.old) (λ files. ReadsBy answered (list_answer path.now files) result) }
     ensures answer { IfOk result (λ a. CanAnswer (list_class path.now) (answered a)) }
     ensures refusal { IfErr result (RefusesReading (MayRefuse (list_class path.now))) }

@@ -9,4 +9,3 @@ original-requires c =
     let few = c.requires.few in
     let steps = c.loop-test.invariant.steps in
     omega (arith, made, few, steps)
-

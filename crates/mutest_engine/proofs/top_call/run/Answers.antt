@@ -6,7 +6,7 @@ use Rattle.mutest_engine.specs.Answers.{Answered}
 use Rattle.mutest_engine.specs.Decided.{answer_of, steps_of}
 use Rattle.mutest_engine.specs.Said.{Prints}
 use Rattle.mutest_engine.specs.Words.{words_of}
-use Rattle.mutest_engine.proofs.Ends.{agrees_by, untold_by, causes_by, prints_by, states_by, files_by, last_by, rose_by, stays_by}
+use Rattle.mutest_engine.proofs.Ends.{agrees_by, untold_by, prints_by, states_by, rose_by, stays_by}
 use Rattle.mutest_engine.proofs.top_call.run.Goals as goal
 
 pub returns-clause-status : goal.returns-clause-status
