@@ -1,17 +1,16 @@
 -- How the numbers of names are made, and how two classes of one name are found.
 use Rattle.std.proofs.Common.{◌≡◌, ◌∙◌, sym, refl, ap, ℕ, zero, suc, ◌+◌, ◌<◌, ◌≤◌, Bool, true, false, List, [], ◌∷◌, ◌++◌, length, Option, None, Some, slice_get, map, take, arith, subst}
-use Rattle.std.specs.Prelude.{◌==◌, nat_lt, if◌then◌else◌, cond, IsTrue}
+use Rattle.std.specs.Prelude.{nat_lt, if◌then◌else◌, cond, IsTrue}
 use Rattle.std.specs.Ordering.{nat_cmp, is_lt, is_le, ordering_reverse}
 use Rattle.std.specs.declared.cmp.Ordering.{Ordering}
 use Rattle.std.specs.declared.cmp.Ordering.TheVariants.{Less, Equal, Greater}
-use Rattle.std.specs.Cmp.{IsTotalOrder}
-use Rattle.std.specs.Cmp.Lexicographic.{slice_cmp, nat_list_cmp_total, same_text, bytes_decides}
+use Rattle.std.specs.Cmp.Lexicographic.{slice_cmp, nat_list_cmp_total, bytes_decides}
 use Rattle.std.proofs.lemmas.List.{length-map}
 use Rattle.std.proofs.lemmas.Option.{slice_get_within}
 use Rattle.class_model.specs.Text.{text}
 use Rattle.program_rules.specs.Names.{Name, same}
 use Rattle.class_table.specs.Info.{Info}
-use Rattle.class_table.specs.Table.{names, number_of, place_from, place_in, name_or_none, AreDistinct, IsDuplicate, IsLeastDuplicate}
+use Rattle.class_table.specs.Table.{names, number_of, place_from, place_in, name_or_none, IsDuplicate, IsLeastDuplicate}
 use Rattle.class_table.specs.Numbers.{with_number, is_before, lesser, is_place, judged, name_of, IsFirst, IsTold, IsVerdict}
 use Rattle.class_table.proofs.Places.{name_at_place}
 

@@ -1,21 +1,20 @@
 -- What an index means in a run-time constant pool is what it means in the pool that it is made of; and the switches of a code by their numbers.
-use Rattle.std.proofs.Common.{◌≡◌, ◌∙◌, sym, refl, ap, ℕ, zero, suc, ◌+◌, ◌-◌, ◌<◌, Bool, true, false, List, [], ◌∷◌, ◌++◌, map, length, drop, Option, None, Some, slice_get, arith, subst}
+use Rattle.std.proofs.Common.{◌≡◌, ◌∙◌, sym, refl, ap, ℕ, zero, suc, ◌+◌, ◌-◌, Bool, true, false, List, [], ◌∷◌, ◌++◌, map, length, drop, Option, None, Some, slice_get, arith, subst}
 use Rattle.std.specs.Prelude.{ℤ, ◌==◌, if◌then◌else◌}
 use Rattle.std.specs.Option.{option_map}
 use Rattle.std.proofs.lemmas.Option.{slice_get-map}
-use Rattle.program_rules.specs.Instructions.{Instruction, TableSwitch, LookupSwitch, Unlinked}
+use Rattle.program_rules.specs.Instructions.{TableSwitch, LookupSwitch, Unlinked}
 use Rattle.class_model.specs.declared.constant.Const.{Const}
 use Rattle.class_model.specs.declared.instruction.Insn.{Insn}
 use Rattle.class_model.specs.declared.instruction.Arg.{Arg}
 use Rattle.class_model.specs.declared.instruction.Arg.TheVariants as arg
-use Rattle.class_model.specs.Pool.{entry_of}
 use Rattle.class_table.specs.declared.linked.Entry.{Entry}
 use Rattle.class_table.specs.declared.linked.Switch.{Switch}
 use Rattle.class_table.specs.declared.linked.Switch.TheVariants as switch
 use Rattle.class_table.specs.Symbols.{Symbol, IsOther, symbol_in, symbol_or_other, symbol_at}
 use Rattle.class_table.specs.Opcodes.{with_operand, instruction_by, instruction_in}
 use Rattle.class_table.specs.View.{symbol_of, entry_symbol, meaning_at, table_of, lookup_of}
-use Rattle.class_table.specs.Switches.{switch_in, switches_in, AreEntries}
+use Rattle.class_table.specs.Switches.{AreEntries}
 
 -- ---- indices
 

@@ -13,6 +13,7 @@ NamesWithin n (arg.Pool index) = index ≤ n
 NamesWithin n (arg.Multi index count) = index ≤ n
 NamesWithin n other = ⊤
 
--- An instruction that names an entry of a well-formed pool means the same where entries are appended.
+-- An instruction that names an entry of a well-formed pool means the same where entries are
+-- appended.
 abbrev pub AppendedMeanTheSame : Type 0
 AppendedMeanTheSame = (pool more : List Const) (i : Insn) → IsPoolForm pool → NamesWithin (length pool) i.arg → instruction_in (pool ++ more) i ≡ instruction_in pool i

@@ -1,5 +1,6 @@
--- Forms of one instruction (JVMS 6.5): those with the local or the number in the opcode, those with `wide`, and those with a wider index or offset.
-use Rattle.std.specs.Prelude.{◌≡◌, ℕ, ◌+◌, ◌<◌, ◌≤◌, ℤ, pos, ◌-ℤ◌, Bool, true, false, List, ◌++◌, length}
+-- Forms of one instruction (JVMS 6.5): those with the local or the number in the opcode, those with
+-- `wide`, and those with a wider index or offset.
+use Rattle.std.specs.Prelude.{◌≡◌, ℕ, ◌+◌, ◌<◌, ℤ, pos, ◌-ℤ◌, true, false, List}
 use Rattle.class_model.specs.declared.constant.Const.{Const}
 use Rattle.class_model.specs.declared.instruction.Insn.{Insn}
 use Rattle.class_model.specs.declared.instruction.Arg.{Arg}

@@ -1,5 +1,5 @@
 -- A class of a program: its name, where it comes from, and what it means.
-use Rattle.std.specs.Prelude.{◌≡◌, ◌<◌, ◌^◌, List, length, Option, Some, None}
+use Rattle.std.specs.Prelude.{◌≡◌, ◌<◌, ◌^◌, length, Option, Some, None}
 use Rattle.class_model.specs.declared.class.Class.{Class}
 use Rattle.program_rules.specs.Names.{Name}
 use Rattle.program_rules.specs.Linked.{Linked}

@@ -8,6 +8,9 @@ pub mod Forms
 pub mod Info
 pub mod Table
 pub mod Numbers
+pub mod Adding
+pub mod Spelled
 pub mod Lines
 pub mod Calls
 pub mod Seen
+pub mod Walked

@@ -1,5 +1,6 @@
--- What a class means once indices of its constant pool are resolved to names (JVMS 4.1, 4.5 to 4.7). Everything is total: no condition on the class is asked.
-use Rattle.std.specs.Prelude.{ℕ, zero, suc, true, false, ◌==◌, if◌then◌else◌, List, [], ◌∷◌, ◌++◌, map, Option, Some, None, option_and_then}
+-- What a class means once indices of its constant pool are resolved to names (JVMS 4.1, 4.5 to
+-- 4.7). Everything is total: no condition on the class is asked.
+use Rattle.std.specs.Prelude.{ℕ, true, false, ◌==◌, if◌then◌else◌, List, [], ◌∷◌, map, Option, Some, None, option_and_then}
 use Rattle.std.specs.List.{flat_map}
 use Rattle.std.specs.Option.{option_map}
 use Rattle.class_model.specs.declared.class.Class.{Class}
@@ -11,11 +12,17 @@ use Rattle.class_model.specs.declared.attribute.Body.{Body, out-Body}
 use Rattle.class_model.specs.declared.attribute.Body.TheOpen.{Body-F}
 use Rattle.class_model.specs.declared.attribute.Code.{Code, out-Code}
 use Rattle.class_model.specs.declared.attribute.Row.{Row}
+use Rattle.class_model.specs.declared.frame.Frame.{Frame}
+use Rattle.class_model.specs.declared.frame.Shape.{Shape}
+use Rattle.class_model.specs.declared.frame.Shape.TheVariants as shape
+use Rattle.class_model.specs.declared.frame.VItem.{VItem}
+use Rattle.class_model.specs.declared.frame.VItem.TheVariants as item
 use Rattle.class_model.specs.Pool.{entry_of}
 use Rattle.program_rules.specs.Names.{Name}
-use Rattle.program_rules.specs.Kinds.{Kind}
 use Rattle.program_rules.specs.Linked.{Linked, LinkedMethod, LinkedField, LinkedCode, LinkedRow, LinkedLine, LinkedBody, HasCode, IsNative, NoBody, FieldConstant, IntField, LongField, TextField}
-use Rattle.machine_rules.specs.Linked.{AssertTrue, AssertFalse}
+use Rattle.program_rules.specs.Types.{VType, Top, IntType, LongType, NullType, UninitThis, Uninit, Obj, FrameShape, SameLocals, OneItem, Chopped, Appended, Whole, StatedFrame}
+use Rattle.program_rules.specs.Deeds.{Meaning}
+use Rattle.program_rules.specs.Natives.{assert_true, assert_false, do_nothing}
 use Rattle.class_table.specs.declared.loaded.LibBody.{LibBody}
 use Rattle.class_table.specs.declared.loaded.LibBody.TheVariants as lib
 use Rattle.class_table.specs.declared.loaded.LibMethod.{LibMethod}
@@ -24,7 +31,7 @@ use Rattle.class_table.specs.declared.loaded.LibClass.{LibClass}
 use Rattle.class_table.specs.Symbols.{kind_of, kind_stated, type_stated, class_named, text_named}
 use Rattle.class_table.specs.Opcodes.{instruction_in}
 
--- ---- code (JVMS 4.7.3, 4.7.12)
+-- ---- code (JVMS 4.7.3, 4.7.4, 4.7.12)
 
 -- The class that an index names, where index 0 stands for none.
 abbrev pub class_or_none : List Const → ℕ → Option Name
@@ -45,6 +52,33 @@ abbrev pub lines_of : Body-F Body Attr Code → List LinkedLine
 lines_of (Body-F.Lines rows) = map line_in rows
 lines_of other = []
 
+-- A verification type, with the name of the class in place of its index.
+abbrev pub vtype_in : List Const → VItem → VType
+vtype_in pool item.Top = Top
+vtype_in pool item.Integer = IntType
+vtype_in pool item.Long = LongType
+vtype_in pool item.Null = NullType
+vtype_in pool item.UninitializedThis = UninitThis
+vtype_in pool (item.Object index) = Obj (class_named pool index)
+vtype_in pool (item.Uninitialized at) = Uninit at
+
+-- Whether the longer form of a frame was used makes no difference.
+abbrev pub shape_in : List Const → Shape → FrameShape
+shape_in pool (shape.Same extended) = SameLocals
+shape_in pool (shape.One extended t) = OneItem (vtype_in pool t)
+shape_in pool (shape.Chop count) = Chopped count
+shape_in pool (shape.Append ts) = Appended (map (vtype_in pool) ts)
+shape_in pool (shape.Full locals stack) =
+    Whole (map (vtype_in pool) locals) (map (vtype_in pool) stack)
+
+abbrev pub frame_in : List Const → Frame → StatedFrame
+frame_in pool f = record { at = f.at; shape = shape_in pool f.shape }
+
+-- The frames of an attribute that is a StackMapTable.
+abbrev pub frames_of : List Const → Body-F Body Attr Code → List StatedFrame
+frames_of pool (Body-F.Frames frames) = map (frame_in pool) frames
+frames_of pool other = []
+
 abbrev pub code_in : List Const → Code → LinkedCode
 code_in pool code = record {
   max_stack = (out-Code code).max_stack;
@@ -52,6 +86,7 @@ code_in pool code = record {
   instructions = map (instruction_in pool) (out-Code code).insns;
   rows = map (row_in pool) (out-Code code).rows;
   lines = flat_map (λ a. lines_of (content_of a)) (out-Code code).attrs;
+  frames = flat_map (λ a. frames_of pool (content_of a)) (out-Code code).attrs;
 }
 
 -- ---- fields and methods (JVMS 4.5 to 4.7)
@@ -120,9 +155,21 @@ link c = record {
 
 -- ---- classes of the library (this project's own)
 
--- The native methods that have a row, by their numbers.
+-- What the native methods that have a row mean, by their numbers: the `<init>` of Object, and the
+-- two plain assertions of JUnit 4.
+abbrev pub native : ℕ → Option Meaning
+native n =
+    if n == 0 then Some do_nothing
+    else if n == 2000 then Some assert_true
+    else if n == 2001 then Some assert_false
+    else None
+
+abbrev pub native_or_none : Option Meaning → LinkedBody
+native_or_none None = NoBody
+native_or_none (Some meaning) = IsNative meaning
+
 abbrev pub native_body : ℕ → LinkedBody
-native_body n = if n == 2000 then IsNative AssertTrue else if n == 2001 then IsNative AssertFalse else NoBody
+native_body n = native_or_none (native n)
 
 abbrev pub library_body : LibBody → LinkedBody
 library_body (lib.Native n) = native_body n

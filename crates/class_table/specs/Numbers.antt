@@ -32,7 +32,8 @@ abbrev pub is_place : Option ℕ → ℕ → Bool
 is_place None i = false
 is_place (Some k) i = k == i
 
--- The least name that has a place before its own one, where this name stands at a place and has a number.
+-- The least name that has a place before its own one, where this name stands at a place and has a
+-- number.
 abbrev pub judged : Option Name → Option ℕ → ℕ → Name → Option Name
 judged least place i m = if is_place place i then least else Some (lesser least m)
 
@@ -43,7 +44,8 @@ name_of ns k = name_or_none (slice_get ns k)
 abbrev pub IsFirst : List Name → ℕ → Type 0
 IsFirst ns k = place_in ns (name_of ns k) ≡ Some k
 
--- Of the names at so many places, none stands at a place before, or this is the least of those that do.
+-- Of the names at so many places, none stands at a place before, or this is the least of those that
+-- do.
 abbrev pub IsTold : List Name → ℕ → Option Name → Type 0
 IsTold ns count None = (k : ℕ) → k < count → IsFirst ns k
 IsTold ns count (Some n) = IsDuplicate ns n × ((k : ℕ) → k < count → (IsFirst ns k → ⊥) → IsTrue (is_le (slice_cmp nat_cmp (text n) (text (name_of ns k)))))

@@ -5,7 +5,8 @@ use Rattle.program_rules.specs.Programs.{Look, supers_within, is_known}
 use Rattle.class_table.specs.Info.{Info}
 use Rattle.class_table.specs.Table.{look, name_at}
 
--- The names in order of first use, and for each class of the program whether it was consulted with all above it.
+-- The names in order of first use, and for each class of the program whether it was consulted with
+-- all above it.
 pub record Seen : Type 0 where
   pub names : List Name
   pub marks : List Bool
@@ -15,7 +16,8 @@ abbrev pub AreKnown : Look → List Name → List Name → Type 0
 AreKnown p ns [] = ⊤
 AreKnown p ns (m ∷ ms) = (is_known p ns m ≡ true) × AreKnown p ns ms
 
--- Each class that is marked was consulted with all above it, however many levels of it are looked at; and there is a mark for each class.
+-- Each class that is marked was consulted with all above it, however many levels of it are looked
+-- at; and there is a mark for each class.
 pub record IsConsultedOf (p : List Info) (c : Seen) : Type 0 where
   pub long : length c.marks ≡ length p
   pub marked : (i levels : ℕ) → slice_get c.marks i ≡ Some true → AreKnown (look p) c.names (supers_within levels (look p) (name_at p i))

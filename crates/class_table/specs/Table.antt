@@ -1,5 +1,5 @@
 -- The classes of a program by number and by name.
-use Rattle.std.specs.Prelude.{◌≡◌, IsTrue, ℕ, zero, suc, ◌<◌, ◌^◌, if◌then◌else◌, List, [], ◌∷◌, ◌++◌, length, map, Option, Some, None, slice_get, option_and_then, IsSomeAnd, ⊤}
+use Rattle.std.specs.Prelude.{◌≡◌, IsTrue, ℕ, suc, ◌<◌, ◌^◌, if◌then◌else◌, List, [], ◌∷◌, ◌++◌, length, map, Option, Some, None, slice_get, option_and_then, IsSomeAnd, ⊤}
 use Rattle.std.specs.Option.{option_map}
 use Rattle.std.specs.Ordering.{nat_cmp, is_le}
 use Rattle.std.specs.Cmp.Lexicographic.{slice_cmp}
@@ -50,7 +50,8 @@ pub record IsLeastDuplicate (ns : List Name) (n : Name) : Type 0 where
 
 -- ---- programs
 
--- The classes that a program is made of, in the order of their numbers: those of class files, then those of the library.
+-- The classes that a program is made of, in the order of their numbers: those of class files, then
+-- those of the library.
 abbrev pub bodies_of : List Loaded → List LibClass → List ClassBody
 bodies_of classes library = map body.File classes ++ map body.Library library
 
@@ -60,6 +61,10 @@ names_of classes library = map body_name (bodies_of classes library)
 -- The names of the classes by their numbers.
 abbrev pub names : List Info → List Name
 names p = map (λ i. i.name) p
+
+-- Where they come from, by their numbers.
+abbrev pub bodies : List Info → List ClassBody
+bodies p = map (λ i. i.body) p
 
 -- There are fewer classes than numbers, and no two have one name.
 pub record IsProgram (p : List Info) : Type 0 where

@@ -1,21 +1,19 @@
--- The code's linked class, seen as the linked class of the definitions: what stands in a table of the class or of a code stands in the instruction itself.
+-- The code's linked class, seen as the linked class of the definitions: what stands in a table of
+-- the class or of a code stands in the instruction itself.
 use Rattle.std.specs.Prelude.{ℕ, List, map, Option, Some, None, slice_get}
 use Rattle.std.specs.Option.{option_map}
-use Rattle.program_rules.specs.Names.{Name}
 use Rattle.program_rules.specs.Instructions as def
 use Rattle.program_rules.specs.Linked as def_linked
-use Rattle.class_table.specs.declared.instruction.Operation.{Operation}
-use Rattle.class_table.specs.declared.instruction.Operation.TheVariants as operation
-use Rattle.class_table.specs.declared.instruction.ShiftKind.{ShiftKind}
-use Rattle.class_table.specs.declared.instruction.ShiftKind.TheVariants as shift
-use Rattle.class_table.specs.declared.instruction.Comparison.{Comparison}
-use Rattle.class_table.specs.declared.instruction.Comparison.TheVariants as comparison
-use Rattle.class_table.specs.declared.instruction.Conversion.{Conversion}
-use Rattle.class_table.specs.declared.instruction.Conversion.TheVariants as conversion
-use Rattle.class_table.specs.declared.instruction.Element.{Element}
-use Rattle.class_table.specs.declared.instruction.Element.TheVariants as element
+use Rattle.program_rules.specs.Types as def_types
+use Rattle.program_rules.specs.Deeds.{Meaning}
+use Rattle.program_rules.specs.Natives.{assert_true, assert_false, do_nothing}
 use Rattle.class_table.specs.declared.instruction.Instruction.{Instruction}
 use Rattle.class_table.specs.declared.instruction.Instruction.TheVariants as code
+use Rattle.class_table.specs.declared.frames.VType.{VType}
+use Rattle.class_table.specs.declared.frames.VType.TheVariants as vtype
+use Rattle.class_table.specs.declared.frames.FrameShape.{FrameShape}
+use Rattle.class_table.specs.declared.frames.FrameShape.TheVariants as shape
+use Rattle.class_table.specs.declared.frames.StatedFrame.{StatedFrame}
 use Rattle.class_table.specs.declared.linked.MethodRef.{MethodRef}
 use Rattle.class_table.specs.declared.linked.FieldRef.{FieldRef}
 use Rattle.class_table.specs.declared.linked.Entry.{Entry}
@@ -36,44 +34,6 @@ use Rattle.class_table.specs.declared.linked.LinkedField.{LinkedField}
 use Rattle.class_table.specs.declared.linked.LinkedClass.{LinkedClass}
 use Rattle.class_table.specs.Symbols.{Symbol, IsOther, IsInteger, IsLong, IsText, IsClass, IsField, IsMethod, kind_of}
 use Rattle.class_table.specs.Opcodes.{on_text, on_class, on_field, on_method, array_of}
-
-abbrev pub operation_of : Operation → def.Operation
-operation_of operation.Plus = def.Plus
-operation_of operation.Minus = def.Minus
-operation_of operation.Times = def.Times
-operation_of operation.Divide = def.Divide
-operation_of operation.Remainder = def.Remainder
-operation_of operation.BitAnd = def.BitAnd
-operation_of operation.BitOr = def.BitOr
-operation_of operation.BitXor = def.BitXor
-
-abbrev pub shift_of : ShiftKind → def.ShiftKind
-shift_of shift.Left = def.ShiftLeft
-shift_of shift.Right = def.ShiftRight
-shift_of shift.Unsigned = def.ShiftUnsigned
-
-abbrev pub comparison_of : Comparison → def.Comparison
-comparison_of comparison.Equal = def.IsEqual
-comparison_of comparison.Unequal = def.IsUnequal
-comparison_of comparison.Less = def.IsLess
-comparison_of comparison.AtLeast = def.IsAtLeast
-comparison_of comparison.Greater = def.IsGreater
-comparison_of comparison.AtMost = def.IsAtMost
-
-abbrev pub conversion_of : Conversion → def.Conversion
-conversion_of conversion.IntToLong = def.IntToLong
-conversion_of conversion.LongToInt = def.LongToInt
-conversion_of conversion.IntToByte = def.IntToByte
-conversion_of conversion.IntToChar = def.IntToChar
-conversion_of conversion.IntToShort = def.IntToShort
-
-abbrev pub element_of : Element → def.Element
-element_of element.Int = def.IntElement
-element_of element.Long = def.LongElement
-element_of element.Reference = def.ReferenceElement
-element_of element.Byte = def.ByteElement
-element_of element.Char = def.CharElement
-element_of element.Short = def.ShortElement
 
 -- ---- entries
 
@@ -132,8 +92,8 @@ instruction_of es ss (code.ReferenceLoad n) = def.ReferenceLoad n
 instruction_of es ss (code.IntStore n) = def.IntStore n
 instruction_of es ss (code.LongStore n) = def.LongStore n
 instruction_of es ss (code.ReferenceStore n) = def.ReferenceStore n
-instruction_of es ss (code.ArrayLoad e) = def.ArrayLoad (element_of e)
-instruction_of es ss (code.ArrayStore e) = def.ArrayStore (element_of e)
+instruction_of es ss (code.ArrayLoad e) = def.ArrayLoad e
+instruction_of es ss (code.ArrayStore e) = def.ArrayStore e
 instruction_of es ss code.Pop = def.Pop
 instruction_of es ss code.Pop2 = def.Pop2
 instruction_of es ss code.Dup = def.Dup
@@ -143,17 +103,17 @@ instruction_of es ss code.Dup2 = def.Dup2
 instruction_of es ss code.Dup2X1 = def.Dup2X1
 instruction_of es ss code.Dup2X2 = def.Dup2X2
 instruction_of es ss code.Swap = def.Swap
-instruction_of es ss (code.IntOperation op) = def.IntOperation (operation_of op)
-instruction_of es ss (code.LongOperation op) = def.LongOperation (operation_of op)
+instruction_of es ss (code.IntOperation op) = def.IntOperation op
+instruction_of es ss (code.LongOperation op) = def.LongOperation op
 instruction_of es ss code.IntNegate = def.IntNegate
 instruction_of es ss code.LongNegate = def.LongNegate
-instruction_of es ss (code.IntShift s) = def.IntShift (shift_of s)
-instruction_of es ss (code.LongShift s) = def.LongShift (shift_of s)
+instruction_of es ss (code.IntShift s) = def.IntShift s
+instruction_of es ss (code.LongShift s) = def.LongShift s
 instruction_of es ss (code.Increment n z) = def.Increment n z
-instruction_of es ss (code.Convert c) = def.Convert (conversion_of c)
+instruction_of es ss (code.Convert c) = def.Convert c
 instruction_of es ss code.LongCompare = def.LongCompare
-instruction_of es ss (code.IfInt c to) = def.IfInt (comparison_of c) to
-instruction_of es ss (code.IfInts c to) = def.IfInts (comparison_of c) to
+instruction_of es ss (code.IfInt c to) = def.IfInt c to
+instruction_of es ss (code.IfInts c to) = def.IfInts c to
 instruction_of es ss (code.IfSame to) = def.IfSame to
 instruction_of es ss (code.IfNotSame to) = def.IfNotSame to
 instruction_of es ss (code.IfNull to) = def.IfNull to
@@ -193,9 +153,31 @@ row_of r = record { start = r.start; end = r.end; handler = r.handler; catch = r
 abbrev pub line_of : LinkedLine → def_linked.LinkedLine
 line_of r = record { start = r.start; line = r.line }
 
-abbrev pub native_of : Native → def_linked.Native
-native_of native.AssertTrue = def_linked.AssertTrue
-native_of native.AssertFalse = def_linked.AssertFalse
+abbrev pub vtype_of : VType → def_types.VType
+vtype_of vtype.Top = def_types.Top
+vtype_of vtype.IntType = def_types.IntType
+vtype_of vtype.LongType = def_types.LongType
+vtype_of vtype.NullType = def_types.NullType
+vtype_of vtype.UninitThis = def_types.UninitThis
+vtype_of (vtype.Uninit at) = def_types.Uninit at
+vtype_of (vtype.Obj n) = def_types.Obj n
+
+abbrev pub shape_of : FrameShape → def_types.FrameShape
+shape_of shape.SameLocals = def_types.SameLocals
+shape_of (shape.OneItem t) = def_types.OneItem (vtype_of t)
+shape_of (shape.Chopped n) = def_types.Chopped n
+shape_of (shape.Appended ts) = def_types.Appended (map vtype_of ts)
+shape_of (shape.Whole locals stack) =
+    def_types.Whole (map vtype_of locals) (map vtype_of stack)
+
+abbrev pub frame_of : StatedFrame → def_types.StatedFrame
+frame_of f = record { at = f.at; shape = shape_of f.shape }
+
+-- What a native method means.
+abbrev pub native_meaning : Native → Meaning
+native_meaning native.InitObject = do_nothing
+native_meaning native.AssertTrue = assert_true
+native_meaning native.AssertFalse = assert_false
 
 abbrev pub code_of : List Entry → LinkedCode → def_linked.LinkedCode
 code_of es c = record {
@@ -204,11 +186,12 @@ code_of es c = record {
   instructions = map (instruction_of es c.switches) c.instructions;
   rows = map row_of c.rows;
   lines = map line_of c.lines;
+  frames = map frame_of c.frames;
 }
 
 abbrev pub body_of : List Entry → LinkedBody → def_linked.LinkedBody
 body_of es (body.Code c) = def_linked.HasCode (code_of es c)
-body_of es (body.Native n) = def_linked.IsNative (native_of n)
+body_of es (body.Native n) = def_linked.IsNative (native_meaning n)
 body_of es body.Absent = def_linked.NoBody
 
 abbrev pub method_of : List Entry → LinkedMethod → def_linked.LinkedMethod

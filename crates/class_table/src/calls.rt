@@ -5,6 +5,7 @@ ghost use Rattle.std.specs.Option.{option_copied, option_map};
 ghost use Rattle.std.specs.Arc.{arc_value};
 ghost use Rattle.class_table.specs.Info.{Info};
 ghost use Rattle.class_table.specs.Numbers.{IsNumbering};
+ghost use Rattle.class_table.specs.Adding.{shared};
 ghost use Rattle.class_table.specs.View.{method_entry, method_ref_at};
 ghost use Rattle.class_table.specs.declared.calls.Target.{Target};
 ghost use Rattle.class_table.specs.Calls.{target_at, AreTargets, AreTargetsOrNone, entry_target, class_targets, head_of, AreSameNamed, AreNamedAlike};
@@ -17,13 +18,14 @@ use std::collections::HashMap;
 use std::sync::Arc;
 
 /// The class of a method and its place there.
-#[derive(Clone, Copy, Debug)]
+#[derive(Clone, Copy)]
 pub struct Target {
     pub class: ClassId,
     pub place: u32,
 }
 
-/// For each class and each index of its constant pool the method that is named there, if one is found.
+/// For each class and each index of its constant pool the method that is named there, if one is
+/// found.
 pub type Targets = Seq<Seq<Option<Target>>>;
 
 /// What is kept for an index of a class's constant pool.
@@ -40,8 +42,8 @@ fn target_of(
     numbers: &HashMap<Name, u32>,
     entry: &Entry,
 ) -> Option<Target>
-    requires { IsNumbering numbers.now (map (λ i. arc_value i) infos.now) }
-    ensures { result ≡ entry_target (map (λ i. arc_value i) infos.now) entry.now }
+    requires { IsNumbering numbers.now (shared infos.now) }
+    ensures { result ≡ entry_target (shared infos.now) entry.now }
 {
     let Entry::Method(reference) = entry else {
         return None;
@@ -61,8 +63,8 @@ fn class_targets(
     numbers: &HashMap<Name, u32>,
     entries: &[Entry],
 ) -> Result<Seq<Option<Target>>, Memory>
-    requires { IsNumbering numbers.now (map (λ i. arc_value i) infos.now) }
-    ensures { IfOk result (λ row. row ≡ map (entry_target (map (λ i. arc_value i) infos.now)) entries.now) }
+    requires { IsNumbering numbers.now (shared infos.now) }
+    ensures { IfOk result (λ row. row ≡ map (entry_target (shared infos.now)) entries.now) }
 {
     let mut row = Vec::with_capacity(alloc, entries.len())?;
     for entry in entries {
@@ -76,8 +78,8 @@ fn all_targets(
     infos: &[Arc<ClassInfo, Global>],
     numbers: &HashMap<Name, u32>,
 ) -> Result<Targets, Memory>
-    requires { IsNumbering numbers.now (map (λ i. arc_value i) infos.now) }
-    ensures { IfOk result (λ rows. rows ≡ map (class_targets (map (λ i. arc_value i) infos.now)) (map (λ i. arc_value i) infos.now)) }
+    requires { IsNumbering numbers.now (shared infos.now) }
+    ensures { IfOk result (λ rows. rows ≡ map (class_targets (shared infos.now)) (shared infos.now)) }
 {
     let mut rows = Vec::with_capacity(alloc, infos.len())?;
     for info in infos {
@@ -94,8 +96,8 @@ pub fn targets(
     infos: &[Arc<ClassInfo, Global>],
     numbers: &HashMap<Name, u32>,
 ) -> Result<Targets, Memory>
-    requires { IsNumbering numbers.now (map (λ i. arc_value i) infos.now) }
-    ensures { IfOk result (λ rows. AreTargets rows (map (λ i. arc_value i) infos.now)) }
+    requires { IsNumbering numbers.now (shared infos.now) }
+    ensures { IfOk result (λ rows. AreTargets rows (shared infos.now)) }
 {
     Ok(all_targets(alloc, infos, numbers)?)
 }
@@ -182,7 +184,8 @@ fn stay_right(targets: &Targets, class: usize, old: &LinkedClass, new: &LinkedCl
     }
 }
 
-/// Forgets the targets where a class in the place of another one of its name doesn't leave them right.
+/// Forgets the targets where a class in the place of another one of its name doesn't leave them
+/// right.
 pub fn forget_unless_right(
     targets: &mut Option<Arc<Targets, Global>>,
     class: usize,

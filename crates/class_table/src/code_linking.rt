@@ -1,6 +1,7 @@
-//! What the code of a method means once indices of its constant pool are resolved to names (JVMS 4.7.3, 4.7.12).
+//! What the code of a method means once indices of its constant pool are resolved to names (JVMS
+//! 4.7.3, 4.7.12).
 
-ghost use Rattle.std.specs.Prelude.{◌≡◌, ◌+◌, ℕ, List, ◌++◌, map, length, drop, IfOk, OnOk, if◌then◌else◌};
+ghost use Rattle.std.specs.Prelude.{◌≡◌, ◌+◌, List, ◌++◌, map, length, drop, IfOk, OnOk, if◌then◌else◌};
 ghost use Rattle.std.specs.List.{flat_map};
 ghost use Rattle.class_table.specs.Linking as linking;
 ghost use Rattle.class_table.specs.Opcodes.{instruction_by};
@@ -9,6 +10,7 @@ ghost use Rattle.class_table.specs.declared.linked.Switch as switch;
 ghost use Rattle.class_table.specs.View.{meaning_at, instruction_of, row_of, line_of, code_of};
 
 use crate::entries::class_or_none;
+use crate::frames::link_frames;
 use crate::instruction::Instruction;
 use crate::line_table::LineTable;
 use crate::linked::{Entry, LinkedCode, LinkedLine, LinkedRow, Switch};
@@ -179,5 +181,6 @@ pub fn link_code(
         switches,
         rows: link_rows(alloc, pool, code.rows.as_slice())?,
         lines,
+        frames: link_frames(alloc, pool, code.attrs.as_slice())?,
     })
 }

@@ -1,10 +1,13 @@
-ghost use Rattle.std.specs.Prelude.{◌≡◌, ◌<◌, ◌≤◌, ◌↔◌, ℕ, ◌++◌, [], length, true, slice_get, slice_set, Some, IfOk, OnOk, IsTrue};
+//! What a run has consulted, and the walk over all that stands above a class.
+
+ghost use Rattle.std.specs.Prelude.{◌≡◌, ◌<◌, ◌↔◌, ℕ, [], length, true, slice_get, slice_set, Some, IfOk, OnOk, IsTrue};
 ghost use Rattle.std.specs.List.{list_any};
 ghost use Rattle.program_rules.specs.Names.{same};
-ghost use Rattle.program_rules.specs.Linked.{is_library, parents_with};
-ghost use Rattle.program_rules.specs.Programs.{concat_over, supers_within, supers, consult_one, consult_in, consulted_with};
+ghost use Rattle.program_rules.specs.Linked.{is_library};
+ghost use Rattle.program_rules.specs.Programs.{supers_within, supers, consult_one, consulted_with};
 ghost use Rattle.class_table.specs.Table.{look, name_at};
 ghost use Rattle.class_table.specs.Seen.{AreKnown, IsConsultedOf};
+ghost use Rattle.class_table.specs.Walked.{Consults, ConsultsAll, ConsultsParent, Collects, CollectsAll, CollectsParent};
 
 use crate::program::Program;
 use class_model::{ClassId, Memory, Name, Seq};
@@ -120,7 +123,7 @@ impl Program {
     #[cycle(walk)]
     fn walk(&self, seen: &mut Consulted, name: &Name, levels: u32) -> Result<(), Memory>
         requires { IsConsultedOf self.now seen.old }
-        ensures names { OnOk result ((k : ℕ) → levels ≤ k → seen.new.names ≡ consult_in (look self.now) (supers_within k (look self.now) name.now) seen.old.names) }
+        ensures names { OnOk result (Consults self.now levels name.now seen.old seen.new) }
         ensures kept { OnOk result (IsConsultedOf self.now seen.new) }
     {
         let Some(id) = self.find(name) else {
@@ -149,7 +152,7 @@ impl Program {
         levels: u32,
     ) -> Result<(), Memory>
         requires { IsConsultedOf self.now seen.old }
-        ensures names { OnOk result ((k : ℕ) → levels ≤ k → seen.new.names ≡ consult_in (look self.now) (concat_over (supers_within k (look self.now)) (parents_with parent.now [])) seen.old.names) }
+        ensures names { OnOk result (ConsultsParent self.now levels parent.now seen.old seen.new) }
         ensures kept { OnOk result (IsConsultedOf self.now seen.new) }
     {
         let Some(name) = parent else {
@@ -162,7 +165,7 @@ impl Program {
     #[cycle(walk)]
     fn walk_all(&self, seen: &mut Consulted, names: &[Name], levels: u32) -> Result<(), Memory>
         requires { IsConsultedOf self.now seen.old }
-        ensures names { OnOk result ((k : ℕ) → levels ≤ k → seen.new.names ≡ consult_in (look self.now) (concat_over (supers_within k (look self.now)) names.now) seen.old.names) }
+        ensures names { OnOk result (ConsultsAll self.now levels names.now seen.old seen.new) }
         ensures kept { OnOk result (IsConsultedOf self.now seen.new) }
     {
         for name in names {
@@ -171,7 +174,9 @@ impl Program {
         Ok(())
     }
 
-    /// Consults a class and all above it. One that was consulted before costs a look at its mark. Where the classes above it stand 1,000 levels high or more, as where a class is above itself, memory runs out.
+    /// Consults a class and all above it. One that was consulted before costs a look at its mark.
+    /// Where the classes above it stand 1,000 levels high or more, as where a class is above
+    /// itself, memory runs out.
     pub fn consult(&self, seen: &mut Consulted, id: ClassId) -> Result<(), Memory>
         requires class { id.0 < length self.now }
         requires seen { IsConsultedOf self.now seen.old }
@@ -199,7 +204,7 @@ impl Program {
     // Adds the names of a class and of all above it, so many levels high.
     #[cycle(collect)]
     fn collect(&self, out: &mut Vec<Name>, name: &Name, levels: u32) -> Result<(), Memory>
-        ensures { OnOk result ((k : ℕ) → levels ≤ k → out.new.items ≡ out.old.items ++ supers_within k (look self.now) name.now) }
+        ensures { OnOk result (Collects self.now levels name.now out.old.items out.new.items) }
     {
         out.push(name.copy()?)?;
         let Some(id) = self.find(name) else {
@@ -221,7 +226,7 @@ impl Program {
         parent: &Option<Name>,
         levels: u32,
     ) -> Result<(), Memory>
-        ensures { OnOk result ((k : ℕ) → levels ≤ k → out.new.items ≡ out.old.items ++ concat_over (supers_within k (look self.now)) (parents_with parent.now [])) }
+        ensures { OnOk result (CollectsParent self.now levels parent.now out.old.items out.new.items) }
     {
         let Some(name) = parent else {
             return Ok(());
@@ -232,7 +237,7 @@ impl Program {
 
     #[cycle(collect)]
     fn collect_all(&self, out: &mut Vec<Name>, names: &[Name], levels: u32) -> Result<(), Memory>
-        ensures { OnOk result ((k : ℕ) → levels ≤ k → out.new.items ≡ out.old.items ++ concat_over (supers_within k (look self.now)) names.now) }
+        ensures { OnOk result (CollectsAll self.now levels names.now out.old.items out.new.items) }
     {
         for name in names {
             self.collect(out, name, levels)?;
@@ -249,7 +254,8 @@ impl Program {
         Ok(Seq::from_vec(names))
     }
 
-    /// The names of a class and of all above it, in the order of consulting. Memory runs out as in `consult`.
+    /// The names of a class and of all above it, in the order of consulting. Memory runs out as in
+    /// `consult`.
     pub fn supers(&self, alloc: Global, id: ClassId) -> Result<Seq<Name>, Memory>
         requires class { id.0 < length self.now }
         ensures { IfOk result (λ names. names ≡ supers (look self.now) (name_at self.now id.0)) }

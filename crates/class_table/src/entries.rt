@@ -1,6 +1,6 @@
 //! The run-time constant pool of a class (JVMS 5.1).
 
-ghost use Rattle.std.specs.Prelude.{◌≡◌, ℕ, List, ◌∷◌, map, IfOk};
+ghost use Rattle.std.specs.Prelude.{◌≡◌, ◌∷◌, map, IfOk};
 ghost use Rattle.std.specs.Option.{option_copied};
 ghost use Rattle.class_model.specs.Pool.{entry_of, text_of, class_name_of, pair_name_of, pair_desc_of};
 ghost use Rattle.class_table.specs.View.{symbol_of, method_ref_of, field_ref_of};

@@ -1,3 +1,5 @@
+//! Why there is no program of given classes.
+
 ghost use Rattle.std.specs.Prelude.{◌≡◌};
 ghost use Rattle.class_table.specs.declared.fault.TableFault.TheVariants.{Memory as NoMemory};
 
@@ -6,7 +8,7 @@ use std::alloc::{AllocError, AllocFailed};
 use thiserror::Error;
 
 /// Why there is no program of these classes.
-#[derive(Debug, Drop, PartialEq, Error)]
+#[derive(Debug, Drop, Error)]
 pub enum TableFault {
     /// Two classes have this name.
     #[error("two classes have one name")]

@@ -1,12 +1,14 @@
+//! A class of a program.
+
 ghost use Rattle.std.specs.Prelude.{◌≡◌, ◌<◌, ◌^◌, length, IfOk};
 ghost use Rattle.class_table.specs.View.{linked_of};
-ghost use Rattle.class_table.specs.Info.{body_name, link_body, class_of};
+ghost use Rattle.class_table.specs.Info.{own_name, body_name, link_body, class_of};
 
 use crate::entries::class_named;
 use crate::linked::LinkedClass;
 use crate::linking::{link, link_library};
 use crate::loaded::ClassBody;
-use class_model::{Memory, Name};
+use class_model::{Class, Memory, Name};
 use std::alloc::Global;
 use std::marker::Model;
 
@@ -40,11 +42,7 @@ impl ClassInfo {
         ensures name { IfOk result (λ info. info.name ≡ body_name body) }
         ensures class { IfOk result (λ info. class_of info ≡ link_body body) }
     {
-        let name = body_name(alloc, &body)?;
-        let linked = link_body(alloc, &body)?;
-        if linked.methods.len() > u32::MAX as usize {
-            return Err(Memory);
-        }
+        let (name, linked) = name_and_link(alloc, &body)?;
         Ok(ClassInfo { name, body, linked })
     }
 
@@ -73,15 +71,18 @@ impl ClassInfo {
     }
 }
 
+// The name that a class file gives to its class.
+fn own_name(alloc: Global, class: &Class) -> Result<Name, Memory>
+    ensures { IfOk result (λ name. name ≡ own_name class.now) }
+{
+    Ok(class_named(alloc, class.pool.as_slice(), class.this)?)
+}
+
 fn body_name(alloc: Global, body: &ClassBody) -> Result<Name, Memory>
     ensures { IfOk result (λ name. name ≡ body_name body.now) }
 {
     match body {
-        ClassBody::File(loaded) => Ok(class_named(
-            alloc,
-            loaded.class.pool.as_slice(),
-            loaded.class.this,
-        )?),
+        ClassBody::File(loaded) => Ok(own_name(alloc, &loaded.class)?),
         ClassBody::Library(class) => Ok(class.name.copy()?),
     }
 }
@@ -93,4 +94,17 @@ fn link_body(alloc: Global, body: &ClassBody) -> Result<LinkedClass, Memory>
         ClassBody::File(loaded) => Ok(link(alloc, &loaded.class)?),
         ClassBody::Library(class) => Ok(link_library(alloc, class)?),
     }
+}
+
+// The name and the meaning of a class that has a number for each of its methods.
+fn name_and_link(alloc: Global, body: &ClassBody) -> Result<(Name, LinkedClass), Memory>
+    ensures name { IfOk result (λ both. both.0 ≡ body_name body.now) }
+    ensures linked { IfOk result (λ both. linked_of both.1 ≡ link_body body.now) }
+    ensures few { IfOk result (λ both. length both.1.methods < 2 ^ 32) }
+{
+    let linked = link_body(alloc, body)?;
+    if linked.methods.len() > u32::MAX as usize {
+        return Err(Memory);
+    }
+    Ok((body_name(alloc, body)?, linked))
 }

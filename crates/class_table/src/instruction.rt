@@ -1,59 +1,16 @@
-/// Operations on two ints or two longs (JVMS 6.5).
-#[derive(Clone, Copy, PartialEq, Eq, Debug)]
-pub enum Operation {
-    Plus,
-    Minus,
-    Times,
-    Divide,
-    Remainder,
-    BitAnd,
-    BitOr,
-    BitXor,
-}
+//! Instructions as the machine has them.
 
-#[derive(Clone, Copy, PartialEq, Eq, Debug)]
-pub enum ShiftKind {
-    Left,
-    Right,
-    Unsigned,
-}
+use program_rules::{Comparison, Conversion, Element, Operation, ShiftKind};
 
-/// How a jump compares an int with 0, or two ints.
-#[derive(Clone, Copy, PartialEq, Eq, Debug)]
-pub enum Comparison {
-    Equal,
-    Unequal,
-    Less,
-    AtLeast,
-    Greater,
-    AtMost,
-}
-
-#[derive(Clone, Copy, PartialEq, Eq, Debug)]
-pub enum Conversion {
-    IntToLong,
-    LongToInt,
-    IntToByte,
-    IntToChar,
-    IntToShort,
-}
-
-/// What an array's elements are to the instructions that read and write them: one kind serves bytes and booleans.
-#[derive(Clone, Copy, PartialEq, Eq, Debug)]
-pub enum Element {
-    Int,
-    Long,
-    Reference,
-    Byte,
-    Char,
-    Short,
-}
-
-/// An instruction, one for each kind of the profile, whichever opcode or `wide` form it was spelled by (JVMS 6.5).
+/// An instruction, one for each kind of the profile, whichever opcode or `wide` form it was spelled
+/// by (JVMS 6.5).
 ///
-/// A place in the code is an instruction number. What names a text, a class, a field or a method has the index of the class's constant pool, counted from 1, and a switch has its number among those of its code: `LinkedClass` and `LinkedCode` say
-/// what is there. Where nothing of the kind that is needed is there, the instruction means nothing, and no row of the machine applies to it.
-#[derive(Clone, Copy, PartialEq, Eq, Debug)]
+/// A place in the code is an instruction number. What names a text, a class, a field or a method
+/// has the index of the class's constant pool, counted from 1, and a switch has its number among
+/// those of its code: `LinkedClass` and `LinkedCode` say
+/// what is there. Where nothing of the kind that is needed is there, the instruction means nothing,
+/// and no row of the machine applies to it.
+#[derive(Clone, Copy)]
 pub enum Instruction {
     Nop,
     NullConstant,
@@ -109,7 +66,8 @@ pub enum Instruction {
     InvokeSpecial(u32),
     InvokeStatic(u32),
     New(u32),
-    /// An array of elements of this number: 4 boolean, 5 char, 8 byte, 9 short, 10 int, 11 long (JVMS 6.5, newarray).
+    /// An array of elements of this number: 4 boolean, 5 char, 8 byte, 9 short, 10 int, 11 long
+    /// (JVMS 6.5, newarray).
     NewArray(u8),
     NewReferenceArray(u32),
     /// The index of the array's class, and its dimensions.

@@ -9,7 +9,8 @@ pub fn forms_mean_the_same()
     ensures { FormsMeanTheSame }
 {}
 
-/// Entries that are appended to a well-formed constant pool change no instruction that names an entry of it.
+/// Entries that are appended to a well-formed constant pool change no instruction that names an
+/// entry of it.
 #[tactic(auto, using(crate::proofs::AppendedLaws::appended_mean_the_same))]
 pub fn appended_mean_the_same()
     ensures { AppendedMeanTheSame }

@@ -1,4 +1,5 @@
-//! The classes of a program by name and by number, each with what its class file means once pool indices are resolved to names.
+//! The classes of a program by name and by number, each with what its class file means once pool
+//! indices are resolved to names.
 #![tactic(auto)]
 
 mod calls;
@@ -6,6 +7,7 @@ mod code_linking;
 mod consulted;
 mod entries;
 mod fault;
+mod frames;
 mod info;
 mod instruction;
 mod laws;
@@ -17,13 +19,12 @@ mod numbering;
 mod opcodes;
 mod program;
 mod scripted;
-#[cfg(test)]
-mod tests;
 
 pub use consulted::Consulted;
 pub use fault::TableFault;
+pub use frames::{FrameShape, StatedFrame, VType};
 pub use info::ClassInfo;
-pub use instruction::{Comparison, Conversion, Element, Instruction, Operation, ShiftKind};
+pub use instruction::Instruction;
 pub use laws::{appended_mean_the_same, forms_mean_the_same};
 pub use line_table::LineTable;
 pub use linked::{
@@ -31,6 +32,6 @@ pub use linked::{
     LinkedMethod, LinkedRow, MethodRef, Native, Switch,
 };
 pub use loaded::{ClassBody, LibBody, LibClass, LibField, LibMethod, Loaded};
-pub use machine_rules::CallKind;
 pub use program::Program;
+pub use program_rules::{CallKind, Comparison, Conversion, Element, Operation, ShiftKind};
 pub use scripted::{Call, Test};

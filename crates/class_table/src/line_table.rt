@@ -1,4 +1,5 @@
-//! The line of each instruction of a code (JVMS 4.7.12; which of several rows counts is this project's own).
+//! The line of each instruction of a code (JVMS 4.7.12; which of several rows counts is this
+//! project's own).
 
 ghost use Rattle.std.specs.Prelude.{◌≡◌, ◌&&◌, ◌∷◌, ◌++◌, [], nat_le, if◌then◌else◌, List, map, Some, IfOk};
 ghost use Rattle.std.specs.Option.{option_map};
@@ -11,8 +12,9 @@ use class_model::{Memory, Seq};
 use std::alloc::Global;
 use std::marker::Model;
 
-/// The rows of a code's line tables, and the line of each instruction, so that a look-up takes one index. Contracts see the rows in file order.
-#[derive(Debug, Drop)]
+/// The rows of a code's line tables, and the line of each instruction, so that a look-up takes one
+/// index. Contracts see the rows in file order.
+#[derive(Drop)]
 pub struct LineTable {
     rows: Seq<LinkedLine>,
     by_instruction: Vec<u16>,
@@ -49,7 +51,8 @@ impl LineTable {
         })
     }
 
-    /// The line of an instruction, 0 where there is none: that of the row with the greatest start at or before it, of several such rows the last.
+    /// The line of an instruction, 0 where there is none: that of the row with the greatest start
+    /// at or before it, of several such rows the last.
     pub fn line(&self, at: usize) -> u16
         ensures { result ≡ line_at at (map line_of self.now) }
     {

@@ -1,15 +1,19 @@
+//! A class with names in place of indices of its constant pool (JVMS 4.1, 4.5 to 4.7).
+
 ghost use Rattle.std.specs.Prelude.{◌≡◌, ◌<◌, List, map, length, Some, None, IfSome, IfNone};
 ghost use Rattle.std.specs.Option.{option_copied};
 ghost use Rattle.program_rules.specs.Linked.{method_place};
 ghost use Rattle.class_table.specs.View.{method_ref_at, method_of, linked_of};
 ghost use Rattle.class_table.specs.declared.linked.Entry as entry;
 
+use crate::frames::StatedFrame;
 use crate::instruction::Instruction;
 use crate::line_table::LineTable;
 use class_model::{Kind, Name, Seq};
 
-/// A method that is named, with what its descriptor states (JVMS 4.3.3, 4.4.2). A result of `None` is void. `interface` is set where the entry names a method of an interface.
-#[derive(Debug, Drop, PartialEq)]
+/// A method that is named, with what its descriptor states (JVMS 4.3.3, 4.4.2). A result of `None`
+/// is void. `interface` is set where the entry names a method of an interface.
+#[derive(Drop)]
 pub struct MethodRef {
     pub class: Name,
     pub name: Name,
@@ -20,7 +24,7 @@ pub struct MethodRef {
 }
 
 /// A field that is named, with the kind that its descriptor states (JVMS 4.3.2, 4.4.2).
-#[derive(Debug, Drop, PartialEq)]
+#[derive(Drop)]
 pub struct FieldRef {
     pub class: Name,
     pub name: Name,
@@ -29,7 +33,7 @@ pub struct FieldRef {
 }
 
 /// An entry of the run-time constant pool (JVMS 5.1): what an index means to an instruction.
-#[derive(Debug, Drop, PartialEq)]
+#[derive(Drop)]
 pub enum Entry {
     /// Nothing that an instruction of the profile may name.
     Other,
@@ -42,7 +46,7 @@ pub enum Entry {
 }
 
 /// A `tableswitch` or a `lookupswitch` (JVMS 6.5).
-#[derive(Debug, Drop, PartialEq)]
+#[derive(Drop)]
 pub enum Switch {
     /// Where the default goes, the lowest key, and where each key from there on goes.
     Table(u32, i32, Seq<u32>),
@@ -50,8 +54,9 @@ pub enum Switch {
     Lookup(u32, Seq<(i32, u32)>),
 }
 
-/// A row of the exception table (JVMS 4.7.3): it covers the instructions from `start` up to but not `end`. No class name catches everything.
-#[derive(Debug, Drop, PartialEq)]
+/// A row of the exception table (JVMS 4.7.3): it covers the instructions from `start` up to but not
+/// `end`. No class name catches everything.
+#[derive(Drop)]
 pub struct LinkedRow {
     pub start: u32,
     pub end: u32,
@@ -60,14 +65,15 @@ pub struct LinkedRow {
 }
 
 /// A row of a LineNumberTable (JVMS 4.7.12).
-#[derive(Clone, Copy, Debug, PartialEq, Eq)]
+#[derive(Clone, Copy)]
 pub struct LinkedLine {
     pub start: u32,
     pub line: u16,
 }
 
-/// A Code attribute (JVMS 4.7.3). Lines stand in file order, those of several tables one behind the other.
-#[derive(Debug, Drop)]
+/// A Code attribute (JVMS 4.7.3). Lines stand in file order, those of several tables one behind the
+/// other, and so do frames. No step reads the frames.
+#[derive(Drop)]
 pub struct LinkedCode {
     pub max_stack: u16,
     pub max_locals: u16,
@@ -75,17 +81,21 @@ pub struct LinkedCode {
     pub switches: Seq<Switch>,
     pub rows: Seq<LinkedRow>,
     pub lines: LineTable,
+    pub frames: Seq<StatedFrame>,
 }
 
 /// The native methods of the library that have a row (this project's own).
-#[derive(Clone, Copy, Debug, PartialEq, Eq)]
+#[derive(Clone, Copy)]
 pub enum Native {
+    /// The `<init>` of `java/lang/Object`, which does nothing.
+    InitObject,
     AssertTrue,
     AssertFalse,
 }
 
-/// What stands behind a method's head. An abstract method has no body, nor has a native one without a row.
-#[derive(Debug, Drop)]
+/// What stands behind a method's head. An abstract method has no body, nor has a native one without
+/// a row.
+#[derive(Drop)]
 pub enum LinkedBody {
     Code(LinkedCode),
     Native(Native),
@@ -93,7 +103,7 @@ pub enum LinkedBody {
 }
 
 /// A method. A result of `None` is void.
-#[derive(Debug, Drop)]
+#[derive(Drop)]
 pub struct LinkedMethod {
     pub flags: u16,
     pub name: Name,
@@ -104,14 +114,14 @@ pub struct LinkedMethod {
 }
 
 /// What a ConstantValue attribute names (JVMS 4.7.2).
-#[derive(Debug, Drop, PartialEq)]
+#[derive(Drop)]
 pub enum FieldConstant {
     Int(i32),
     Long(i64),
     Text(Name),
 }
 
-#[derive(Debug, Drop, PartialEq)]
+#[derive(Drop)]
 pub struct LinkedField {
     pub flags: u16,
     pub name: Name,
@@ -120,8 +130,9 @@ pub struct LinkedField {
     pub constant: Option<FieldConstant>,
 }
 
-/// A class with names in place of pool indices. `library` is set for the classes that come with the machine and not from a class file.
-#[derive(Debug, Drop)]
+/// A class with names in place of pool indices. `library` is set for the classes that come with the
+/// machine and not from a class file.
+#[derive(Drop)]
 pub struct LinkedClass {
     pub library: bool,
     pub flags: u16,
@@ -129,7 +140,8 @@ pub struct LinkedClass {
     pub interfaces: Seq<Name>,
     pub fields: Seq<LinkedField>,
     pub methods: Seq<LinkedMethod>,
-    /// The run-time constant pool by the indices of the class file. At place 0, which is no index, stands `Other`.
+    /// The run-time constant pool by the indices of the class file. At place 0, which is no index,
+    /// stands `Other`.
     pub entries: Seq<Entry>,
 }
 

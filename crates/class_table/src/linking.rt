@@ -1,13 +1,14 @@
-//! What a class means once indices of its constant pool are resolved to names (JVMS 4.1, 4.5 to 4.7).
+//! What a class means once indices of its constant pool are resolved to names (JVMS 4.1, 4.5 to
+//! 4.7).
 
-ghost use Rattle.std.specs.Prelude.{◌≡◌, ℕ, List, map, IfOk, option_and_then};
+ghost use Rattle.std.specs.Prelude.{◌≡◌, List, map, IfOk, option_and_then};
 ghost use Rattle.std.specs.Option.{option_copied, option_map};
 ghost use Rattle.class_model.specs.Pool.{entry_of};
 ghost use Rattle.class_table.specs.Symbols.{class_named};
 ghost use Rattle.class_table.specs.Linking as linking;
 ghost use Rattle.class_table.specs.Switches.{AreEntries};
 ghost use Rattle.class_table.specs.declared.linked.Entry as entry;
-ghost use Rattle.class_table.specs.View.{body_of, method_of, field_of, constant_of, linked_of};
+ghost use Rattle.class_table.specs.View.{body_of, method_of, field_of, constant_of, linked_of, native_meaning};
 
 use crate::code_linking::link_code;
 use crate::entries::{
@@ -205,13 +206,24 @@ pub fn link(alloc: Global, class: &Class) -> Result<LinkedClass, Memory>
 
 // ---- classes of the library
 
+// The native method of a number, if it has a row.
+fn native(number: u16) -> Option<Native>
+    ensures { option_map native_meaning result ≡ linking.native number }
+{
+    match number {
+        0 => Some(Native::InitObject),
+        2000 => Some(Native::AssertTrue),
+        2001 => Some(Native::AssertFalse),
+        _ => None,
+    }
+}
+
 fn native_body(number: u16) -> LinkedBody
     ensures { (es : List entry.Entry) → body_of es result ≡ linking.native_body number }
 {
-    match number {
-        2000 => LinkedBody::Native(Native::AssertTrue),
-        2001 => LinkedBody::Native(Native::AssertFalse),
-        _ => LinkedBody::Absent,
+    match native(number) {
+        Some(native) => LinkedBody::Native(native),
+        None => LinkedBody::Absent,
     }
 }
 

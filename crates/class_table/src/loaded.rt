@@ -1,14 +1,16 @@
+//! Where the classes of a program come from.
+
 use class_model::{Class, Code, Const, Name, Seq, SharedBytes};
 
 /// A class file and what it says.
-#[derive(Debug, Drop, PartialEq)]
+#[derive(Drop)]
 pub struct Loaded {
     pub bytes: SharedBytes,
     pub class: Class,
 }
 
 /// What stands behind the head of a method of the library.
-#[derive(Debug, Drop, PartialEq)]
+#[derive(Drop)]
 pub enum LibBody {
     /// A native method by its number.
     Native(u16),
@@ -17,14 +19,14 @@ pub enum LibBody {
     Abstract,
 }
 
-#[derive(Debug, Drop, PartialEq)]
+#[derive(Drop)]
 pub struct LibField {
     pub name: Name,
     pub desc: Name,
     pub flags: u16,
 }
 
-#[derive(Debug, Drop, PartialEq)]
+#[derive(Drop)]
 pub struct LibMethod {
     pub name: Name,
     pub desc: Name,
@@ -33,7 +35,7 @@ pub struct LibMethod {
 }
 
 /// A class that comes with the machine.
-#[derive(Debug, Drop, PartialEq)]
+#[derive(Drop)]
 pub struct LibClass {
     pub name: Name,
     pub parent: Option<Name>,
@@ -44,7 +46,7 @@ pub struct LibClass {
 }
 
 /// Where a class comes from.
-#[derive(Debug, Drop, PartialEq)]
+#[derive(Drop)]
 pub enum ClassBody {
     File(Loaded),
     Library(LibClass),

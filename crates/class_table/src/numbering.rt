@@ -1,12 +1,13 @@
 //! The numbers of a program's classes by their names.
 
-ghost use Rattle.std.specs.Prelude.{◌≡◌, ◌<◌, ◌^◌, ℕ, List, ◌++◌, map, length, IfOk, OnOk};
+ghost use Rattle.std.specs.Prelude.{◌≡◌, ◌<◌, ◌^◌, ℕ, List, map, length, IfOk, OnOk};
 ghost use Rattle.std.specs.Arc.{arc_value};
 ghost use Rattle.class_table.specs.Info.{body_name};
 ghost use Rattle.class_table.specs.Table.{bodies_of, names};
 ghost use Rattle.std.specs.HashMap.{get};
 ghost use Rattle.program_rules.specs.Names.{same};
-ghost use Rattle.class_table.specs.declared.loaded.ClassBody.TheVariants as body;
+ghost use Rattle.class_table.specs.declared.loaded.ClassBody.TheVariants.{File, Library};
+ghost use Rattle.class_table.specs.Adding.{shared, AreClassesOf, AddsClasses};
 ghost use Rattle.class_table.specs.Numbers.{IsNumbering, with_number, is_before, lesser, is_place, judged, IsTold, IsVerdict};
 
 use crate::info::ClassInfo;
@@ -16,47 +17,51 @@ use std::alloc::Global;
 use std::collections::HashMap;
 use std::sync::Arc;
 
-/// The classes of a program by where they come from.
-pub fn bodies(
+// A class with what it means, shared.
+fn info(alloc: Global, body: ClassBody) -> Result<Arc<ClassInfo, Global>, Memory>
+    ensures body { IfOk result (λ i. (arc_value i).body ≡ body) }
+    ensures name { IfOk result (λ i. (arc_value i).name ≡ body_name body) }
+{
+    Ok(Arc::new(alloc, ClassInfo::new(alloc, body)?)?)
+}
+
+fn add_files(
+    alloc: Global,
+    infos: &mut Vec<Arc<ClassInfo, Global>>,
+    classes: Vec<Loaded>,
+) -> Result<(), Memory>
+    ensures { OnOk result (AddsClasses infos.old.items (map File classes.items) infos.new.items) }
+{
+    for loaded in classes {
+        infos.push(info(alloc, ClassBody::File(loaded))?)?;
+    }
+    Ok(())
+}
+
+fn add_library(
+    alloc: Global,
+    infos: &mut Vec<Arc<ClassInfo, Global>>,
+    library: Vec<LibClass>,
+) -> Result<(), Memory>
+    ensures { OnOk result (AddsClasses infos.old.items (map Library library.items) infos.new.items) }
+{
+    for class in library {
+        infos.push(info(alloc, ClassBody::Library(class))?)?;
+    }
+    Ok(())
+}
+
+/// The classes of a program with what they mean, in the order of their numbers.
+pub fn infos(
     alloc: Global,
     classes: Vec<Loaded>,
     library: Vec<LibClass>,
-) -> Result<Vec<ClassBody>, Memory>
-    ensures { IfOk result (λ bs. bs.items ≡ bodies_of classes.items library.items) }
-{
-    let mut bodies = Vec::new(alloc);
-    add_files(&mut bodies, classes)?;
-    add_library(&mut bodies, library)?;
-    Ok(bodies)
-}
-
-fn add_files(bodies: &mut Vec<ClassBody>, classes: Vec<Loaded>) -> Result<(), Memory>
-    ensures { OnOk result (bodies.new.items ≡ bodies.old.items ++ map body.File classes.items) }
-{
-    for loaded in classes {
-        bodies.push(ClassBody::File(loaded))?;
-    }
-    Ok(())
-}
-
-fn add_library(bodies: &mut Vec<ClassBody>, library: Vec<LibClass>) -> Result<(), Memory>
-    ensures { OnOk result (bodies.new.items ≡ bodies.old.items ++ map body.Library library.items) }
-{
-    for class in library {
-        bodies.push(ClassBody::Library(class))?;
-    }
-    Ok(())
-}
-
-/// The classes with what they mean.
-pub fn infos(alloc: Global, bodies: Vec<ClassBody>) -> Result<Vec<Arc<ClassInfo, Global>>, Memory>
-    ensures bodies { IfOk result (λ is. map (λ i. i.body) (map (λ i. arc_value i) is.items) ≡ bodies.items) }
-    ensures names { IfOk result (λ is. names (map (λ i. arc_value i) is.items) ≡ map body_name bodies.items) }
+) -> Result<Vec<Arc<ClassInfo, Global>>, Memory>
+    ensures { IfOk result (λ is. AreClassesOf is.items (bodies_of classes.items library.items)) }
 {
     let mut infos = Vec::new(alloc);
-    for body in bodies {
-        infos.push(Arc::new(alloc, ClassInfo::new(alloc, body)?)?)?;
-    }
+    add_files(alloc, &mut infos, classes)?;
+    add_library(alloc, &mut infos, library)?;
     Ok(infos)
 }
 
@@ -77,7 +82,7 @@ pub fn numbers(
     infos: &[Arc<ClassInfo, Global>],
 ) -> Result<HashMap<Name, u32>, Memory>
     requires few { length infos.now < 2 ^ 32 }
-    ensures { IfOk result (λ m. IsNumbering m (map (λ i. arc_value i) infos.now)) }
+    ensures { IfOk result (λ m. IsNumbering m (shared infos.now)) }
 {
     let mut numbers = HashMap::new(alloc);
     for (i, info) in infos.iter().enumerate() {
@@ -139,8 +144,8 @@ fn judge_all(
     numbers: &HashMap<Name, u32>,
 ) -> Result<Option<Name>, Memory>
     requires few { length infos.now < 2 ^ 32 }
-    requires numbers { IsNumbering numbers.now (map (λ i. arc_value i) infos.now) }
-    ensures { IfOk result (λ least. IsTold (names (map (λ i. arc_value i) infos.now)) (length infos.now) least) }
+    requires numbers { IsNumbering numbers.now (shared infos.now) }
+    ensures { IfOk result (λ least. IsTold (names (shared infos.now)) (length infos.now) least) }
 {
     let mut least = None;
     for (i, info) in infos.iter().enumerate() {
@@ -157,8 +162,8 @@ pub fn least_duplicate(
     numbers: &HashMap<Name, u32>,
 ) -> Result<Option<Name>, Memory>
     requires few { length infos.now < 2 ^ 32 }
-    requires numbers { IsNumbering numbers.now (map (λ i. arc_value i) infos.now) }
-    ensures { IfOk result (λ least. IsVerdict (names (map (λ i. arc_value i) infos.now)) least) }
+    requires numbers { IsNumbering numbers.now (shared infos.now) }
+    ensures { IfOk result (λ least. IsVerdict (names (shared infos.now)) least) }
 {
     Ok(judge_all(alloc, infos, numbers)?)
 }

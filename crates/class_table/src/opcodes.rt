@@ -1,19 +1,21 @@
 //! Which instruction an opcode with its operand spells (JVMS 6.5, 7).
 #![tactic(auto, unfolding(crate::specs::View::instruction_of))]
 
-ghost use Rattle.std.specs.Prelude.{◌≡◌, ◌==◌, ℕ, List, slice_get, if◌then◌else◌};
+ghost use Rattle.std.specs.Prelude.{◌≡◌, ◌==◌, List, slice_get, if◌then◌else◌};
 ghost use Rattle.program_rules.specs.Instructions.{Unlinked};
+ghost use Rattle.class_table.specs.Spelled.{Means, MeansIn};
 ghost use Rattle.class_table.specs.View.{instruction_of, meaning_at, table_of, lookup_of};
 ghost use Rattle.class_table.specs.Opcodes as opcodes;
 ghost use Rattle.class_table.specs.declared.linked.Entry as entry;
 ghost use Rattle.class_table.specs.declared.linked.Switch as switch;
 
-use crate::instruction::{Comparison, Conversion, Element, Instruction, Operation, ShiftKind};
+use crate::instruction::Instruction;
 use crate::linked::Entry;
+use program_rules::{Comparison, Conversion, Element, Operation, ShiftKind};
 
 // Constants, and loads of the first four locals.
 fn short_load(op: u8) -> Instruction
-    ensures { (es : List entry.Entry) (ss : List switch.Switch) → instruction_of es ss result ≡ opcodes.short_load op }
+    ensures { Means result (opcodes.short_load op) }
 {
     match op {
         0x00 => Instruction::Nop,
@@ -29,30 +31,30 @@ fn short_load(op: u8) -> Instruction
 
 // Loads from arrays, stores into the first four locals and into arrays.
 fn array_or_store(op: u8) -> Instruction
-    ensures { (es : List entry.Entry) (ss : List switch.Switch) → instruction_of es ss result ≡ opcodes.array_or_store op }
+    ensures { Means result (opcodes.array_or_store op) }
 {
     match op {
-        0x2e => Instruction::ArrayLoad(Element::Int),
-        0x2f => Instruction::ArrayLoad(Element::Long),
-        0x32 => Instruction::ArrayLoad(Element::Reference),
-        0x33 => Instruction::ArrayLoad(Element::Byte),
-        0x34 => Instruction::ArrayLoad(Element::Char),
-        0x35 => Instruction::ArrayLoad(Element::Short),
+        0x2e => Instruction::ArrayLoad(Element::IntElement),
+        0x2f => Instruction::ArrayLoad(Element::LongElement),
+        0x32 => Instruction::ArrayLoad(Element::ReferenceElement),
+        0x33 => Instruction::ArrayLoad(Element::ByteElement),
+        0x34 => Instruction::ArrayLoad(Element::CharElement),
+        0x35 => Instruction::ArrayLoad(Element::ShortElement),
         0x3b..=0x3e => Instruction::IntStore((op - 0x3b) as u16),
         0x3f..=0x42 => Instruction::LongStore((op - 0x3f) as u16),
         0x4b..=0x4e => Instruction::ReferenceStore((op - 0x4b) as u16),
-        0x4f => Instruction::ArrayStore(Element::Int),
-        0x50 => Instruction::ArrayStore(Element::Long),
-        0x53 => Instruction::ArrayStore(Element::Reference),
-        0x54 => Instruction::ArrayStore(Element::Byte),
-        0x55 => Instruction::ArrayStore(Element::Char),
-        0x56 => Instruction::ArrayStore(Element::Short),
+        0x4f => Instruction::ArrayStore(Element::IntElement),
+        0x50 => Instruction::ArrayStore(Element::LongElement),
+        0x53 => Instruction::ArrayStore(Element::ReferenceElement),
+        0x54 => Instruction::ArrayStore(Element::ByteElement),
+        0x55 => Instruction::ArrayStore(Element::CharElement),
+        0x56 => Instruction::ArrayStore(Element::ShortElement),
         _ => Instruction::Unlinked,
     }
 }
 
 fn stack_move(op: u8) -> Instruction
-    ensures { (es : List entry.Entry) (ss : List switch.Switch) → instruction_of es ss result ≡ opcodes.stack_move op }
+    ensures { Means result (opcodes.stack_move op) }
 {
     match op {
         0x57 => Instruction::Pop,
@@ -69,7 +71,7 @@ fn stack_move(op: u8) -> Instruction
 }
 
 fn arithmetic(op: u8) -> Instruction
-    ensures { (es : List entry.Entry) (ss : List switch.Switch) → instruction_of es ss result ≡ opcodes.arithmetic op }
+    ensures { Means result (opcodes.arithmetic op) }
 {
     match op {
         0x60 => Instruction::IntOperation(Operation::Plus),
@@ -89,15 +91,15 @@ fn arithmetic(op: u8) -> Instruction
 }
 
 fn bit_operation(op: u8) -> Instruction
-    ensures { (es : List entry.Entry) (ss : List switch.Switch) → instruction_of es ss result ≡ opcodes.bit_operation op }
+    ensures { Means result (opcodes.bit_operation op) }
 {
     match op {
-        0x78 => Instruction::IntShift(ShiftKind::Left),
-        0x79 => Instruction::LongShift(ShiftKind::Left),
-        0x7a => Instruction::IntShift(ShiftKind::Right),
-        0x7b => Instruction::LongShift(ShiftKind::Right),
-        0x7c => Instruction::IntShift(ShiftKind::Unsigned),
-        0x7d => Instruction::LongShift(ShiftKind::Unsigned),
+        0x78 => Instruction::IntShift(ShiftKind::ShiftLeft),
+        0x79 => Instruction::LongShift(ShiftKind::ShiftLeft),
+        0x7a => Instruction::IntShift(ShiftKind::ShiftRight),
+        0x7b => Instruction::LongShift(ShiftKind::ShiftRight),
+        0x7c => Instruction::IntShift(ShiftKind::ShiftUnsigned),
+        0x7d => Instruction::LongShift(ShiftKind::ShiftUnsigned),
         0x7e => Instruction::IntOperation(Operation::BitAnd),
         0x7f => Instruction::LongOperation(Operation::BitAnd),
         0x80 => Instruction::IntOperation(Operation::BitOr),
@@ -110,7 +112,7 @@ fn bit_operation(op: u8) -> Instruction
 
 // Conversions, the comparison of longs, returns, and what stands behind them.
 fn conversion_or_return(op: u8) -> Instruction
-    ensures { (es : List entry.Entry) (ss : List switch.Switch) → instruction_of es ss result ≡ opcodes.conversion_or_return op }
+    ensures { Means result (opcodes.conversion_or_return op) }
 {
     match op {
         0x85 => Instruction::Convert(Conversion::IntToLong),
@@ -133,7 +135,7 @@ fn conversion_or_return(op: u8) -> Instruction
 
 /// An opcode without an operand.
 pub fn plain(op: u8) -> Instruction
-    ensures { (es : List entry.Entry) (ss : List switch.Switch) → instruction_of es ss result ≡ opcodes.plain_instruction op }
+    ensures { Means result (opcodes.plain_instruction op) }
 {
     if op < 0x2e {
         short_load(op)
@@ -152,7 +154,7 @@ pub fn plain(op: u8) -> Instruction
 
 /// An opcode with a number.
 pub fn with_number(op: u8, number: i16) -> Instruction
-    ensures { (es : List entry.Entry) (ss : List switch.Switch) → instruction_of es ss result ≡ opcodes.with_number op number }
+    ensures { Means result (opcodes.with_number op number) }
 {
     match op {
         0x10 | 0x11 => Instruction::IntConstant(number as i32),
@@ -162,7 +164,7 @@ pub fn with_number(op: u8, number: i16) -> Instruction
 
 /// An opcode with a local.
 pub fn with_local(op: u8, local: u16) -> Instruction
-    ensures { (es : List entry.Entry) (ss : List switch.Switch) → instruction_of es ss result ≡ opcodes.with_local op local }
+    ensures { Means result (opcodes.with_local op local) }
 {
     match op {
         0x15 => Instruction::IntLoad(local),
@@ -177,7 +179,7 @@ pub fn with_local(op: u8, local: u16) -> Instruction
 
 /// An opcode with a local and what is added to it.
 pub fn with_increment(op: u8, local: u16, by: i16) -> Instruction
-    ensures { (es : List entry.Entry) (ss : List switch.Switch) → instruction_of es ss result ≡ opcodes.with_increment op local by }
+    ensures { Means result (opcodes.with_increment op local by) }
 {
     match op {
         0x84 => Instruction::Increment(local, by),
@@ -187,21 +189,21 @@ pub fn with_increment(op: u8, local: u16, by: i16) -> Instruction
 
 /// An opcode with a target.
 pub fn with_target(op: u8, to: u32) -> Instruction
-    ensures { (es : List entry.Entry) (ss : List switch.Switch) → instruction_of es ss result ≡ opcodes.with_target op to }
+    ensures { Means result (opcodes.with_target op to) }
 {
     match op {
-        0x99 => Instruction::IfInt(Comparison::Equal, to),
-        0x9a => Instruction::IfInt(Comparison::Unequal, to),
-        0x9b => Instruction::IfInt(Comparison::Less, to),
-        0x9c => Instruction::IfInt(Comparison::AtLeast, to),
-        0x9d => Instruction::IfInt(Comparison::Greater, to),
-        0x9e => Instruction::IfInt(Comparison::AtMost, to),
-        0x9f => Instruction::IfInts(Comparison::Equal, to),
-        0xa0 => Instruction::IfInts(Comparison::Unequal, to),
-        0xa1 => Instruction::IfInts(Comparison::Less, to),
-        0xa2 => Instruction::IfInts(Comparison::AtLeast, to),
-        0xa3 => Instruction::IfInts(Comparison::Greater, to),
-        0xa4 => Instruction::IfInts(Comparison::AtMost, to),
+        0x99 => Instruction::IfInt(Comparison::IsEqual, to),
+        0x9a => Instruction::IfInt(Comparison::IsUnequal, to),
+        0x9b => Instruction::IfInt(Comparison::IsLess, to),
+        0x9c => Instruction::IfInt(Comparison::IsAtLeast, to),
+        0x9d => Instruction::IfInt(Comparison::IsGreater, to),
+        0x9e => Instruction::IfInt(Comparison::IsAtMost, to),
+        0x9f => Instruction::IfInts(Comparison::IsEqual, to),
+        0xa0 => Instruction::IfInts(Comparison::IsUnequal, to),
+        0xa1 => Instruction::IfInts(Comparison::IsLess, to),
+        0xa2 => Instruction::IfInts(Comparison::IsAtLeast, to),
+        0xa3 => Instruction::IfInts(Comparison::IsGreater, to),
+        0xa4 => Instruction::IfInts(Comparison::IsAtMost, to),
         0xa5 => Instruction::IfSame(to),
         0xa6 => Instruction::IfNotSame(to),
         0xa7 | 0xc8 => Instruction::Goto(to),
@@ -213,7 +215,7 @@ pub fn with_target(op: u8, to: u32) -> Instruction
 
 // What `ldc` gives of an entry.
 fn constant(entries: &[Entry], index: u32) -> Instruction
-    ensures { (ss : List switch.Switch) → instruction_of entries.now ss result ≡ opcodes.constant_of (meaning_at entries.now index) }
+    ensures { MeansIn entries.now result (opcodes.constant_of (meaning_at entries.now index)) }
 {
     let Some(entry) = entries.get(index as usize) else {
         return Instruction::Unlinked;
@@ -231,7 +233,7 @@ fn constant(entries: &[Entry], index: u32) -> Instruction
 
 // What `ldc2_w` gives of an entry.
 fn long_constant(entries: &[Entry], index: u32) -> Instruction
-    ensures { (ss : List switch.Switch) → instruction_of entries.now ss result ≡ opcodes.long_of (meaning_at entries.now index) }
+    ensures { MeansIn entries.now result (opcodes.long_of (meaning_at entries.now index)) }
 {
     let Some(entry) = entries.get(index as usize) else {
         return Instruction::Unlinked;
@@ -249,7 +251,7 @@ fn long_constant(entries: &[Entry], index: u32) -> Instruction
 
 /// An opcode with an index of the constant pool.
 pub fn with_index(entries: &[Entry], op: u8, index: u16) -> Instruction
-    ensures { (ss : List switch.Switch) → instruction_of entries.now ss result ≡ opcodes.with_symbol op (meaning_at entries.now index) }
+    ensures { MeansIn entries.now result (opcodes.with_symbol op (meaning_at entries.now index)) }
 {
     let at = index as u32;
     match op {
@@ -283,7 +285,7 @@ pub fn with_count(op: u8, index: u16, count: u8) -> Instruction
 
 /// An opcode with the number of what an array's elements are.
 pub fn with_elements(op: u8, elements: u8) -> Instruction
-    ensures { (es : List entry.Entry) (ss : List switch.Switch) → instruction_of es ss result ≡ opcodes.with_elements op elements }
+    ensures { Means result (opcodes.with_elements op elements) }
 {
     match op {
         0xbc => Instruction::NewArray(elements),

@@ -1,11 +1,15 @@
-ghost use Rattle.std.specs.Prelude.{◌≡◌, ◌≢◌, ◌<◌, ℕ, List, map, length, slice_get, slice_set, Some, None, Err, IfOk, OnOk, IfSome, IfNone, IsSomeAnd, option_and_then};
+//! The classes of a program by number and by name.
+
+ghost use Rattle.std.specs.Prelude.{◌≡◌, ◌<◌, ◌^◌, ℕ, List, map, length, slice_get, slice_set, Some, None, Err, IfOk, OnOk, IfSome, IfNone, IsSomeAnd, option_and_then};
 ghost use Rattle.std.specs.Option.{option_map, option_copied};
 ghost use Rattle.std.specs.Arc.{arc_value};
 ghost use Rattle.program_rules.specs.Linked.{method_in};
 ghost use Rattle.class_table.specs.View.{method_of};
 ghost use Rattle.class_table.specs.Info.{class_of, link_body, file_in};
 ghost use Rattle.class_table.specs.Table.{AreDistinct, IsLeastDuplicate, bodies_of, names_of, names, number_of, CanSwap, class_at, name_at, look, entries_at, methods_at, reference_at, named_number, named_place, IsProgram};
-ghost use Rattle.class_table.specs.Calls.{IsTargetOf};
+ghost use Rattle.class_table.specs.Calls.{IsTargetOf, AreTargets};
+ghost use Rattle.class_table.specs.Numbers.{IsNumbering};
+ghost use Rattle.class_table.specs.Adding.{shared};
 ghost use Rattle.class_table.specs.declared.fault.TableFault.TheVariants.{Duplicate};
 
 use crate::calls::{Target, Targets, copy_targets, forget_unless_right, target_at, targets};
@@ -13,7 +17,7 @@ use crate::fault::TableFault;
 use crate::info::ClassInfo;
 use crate::linked::LinkedMethod;
 use crate::loaded::{ClassBody, LibClass, Loaded};
-use crate::numbering::{bodies, infos, least_duplicate, numbers};
+use crate::numbering::{infos, least_duplicate, numbers};
 use class_model::{Class, ClassId, Memory, Name, Seq};
 use std::alloc::Global;
 use std::collections::HashMap;
@@ -21,7 +25,8 @@ use std::marker::Model;
 use std::mem;
 use std::sync::Arc;
 
-/// The classes of a program. Each has a number: first those of class files in the order in which they were handed in, then those of the library.
+/// The classes of a program. Each has a number: first those of class files in the order in which
+/// they were handed in, then those of the library.
 #[derive(Drop)]
 pub struct Program {
     classes: Vec<Arc<ClassInfo, Global>>,
@@ -40,6 +45,7 @@ impl Model for Program {
     ghost use Rattle.class_table.specs.Info.{Info};
     ghost use Rattle.class_table.specs.Table.{IsProgram};
     ghost use Rattle.class_table.specs.Numbers.{IsNumbering};
+    ghost use Rattle.class_table.specs.Adding.{shared};
     ghost use Rattle.class_table.specs.Calls.{AreTargetsOrNone};
 
     ghost Value = { List Info };
@@ -62,8 +68,7 @@ impl Program {
         ensures distinct { OnOk result (AreDistinct (names_of classes library)) }
         ensures duplicate { (name : List ℕ) → result ≡ Err (Duplicate name) → IsLeastDuplicate (names_of classes library) name }
     {
-        let bodies = bodies(alloc, classes.into_vec(), library.into_vec())?;
-        let infos = infos(alloc, bodies)?;
+        let infos = infos(alloc, classes.into_vec(), library.into_vec())?;
         match program_of(alloc, infos) {
             Ok(program) => Ok(program),
             Err(fault) => Err(fault),
@@ -128,11 +133,18 @@ impl Program {
         ensures absent { IfNone result (number_of self.now name.now ≡ None) }
         ensures nothing { IfNone result (look self.now name.now ≡ None) }
     {
-        let number = self.numbers.get(name)?;
-        Some(ClassId(*number))
+        let number = self.number(name)?;
+        Some(ClassId(number))
     }
 
-    /// Puts a class in the place of another one of the same name, superclass and interfaces, and gives back the other. Both are of class files.
+    fn number(&self, name: &Name) -> Option<u32>
+        ensures { result ≡ number_of self.now name.now }
+    {
+        self.numbers.get(name).copied()
+    }
+
+    /// Puts a class in the place of another one of the same name, superclass and interfaces, and
+    /// gives back the other. Both are of class files.
     pub fn swap(&mut self, id: ClassId, with: Arc<ClassInfo, Global>) -> Arc<ClassInfo, Global>
         requires { CanSwap self.old id.0 (arc_value with) }
         ensures program { self.new ≡ slice_set self.old id.0 (arc_value with) }
@@ -196,7 +208,8 @@ impl Program {
         Some(place as u32)
     }
 
-    /// The number of the class whose method an index of this class's constant pool names. It takes one index where the program keeps it.
+    /// The number of the class whose method an index of this class's constant pool names. It takes
+    /// one index where the program keeps it.
     #[tactic(auto, using(crate::proofs::CallLaws::target_number, crate::proofs::CallLaws::target_within, crate::proofs::CallLaws::target_named))]
     pub fn named_class(&self, class: ClassId, reference: u32) -> Option<ClassId>
         ensures found { IfSome result (λ id. named_number self.now class.0 reference ≡ Some id.0) }
@@ -211,7 +224,9 @@ impl Program {
         }
     }
 
-    /// The place in another class of the method whose name and descriptor an index of this class's constant pool names. Of two such methods it is the first. It takes one index where the program keeps it.
+    /// The place in another class of the method whose name and descriptor an index of this class's
+    /// constant pool names. Of two such methods it is the first. It takes one index where the
+    /// program keeps it.
     #[tactic(auto, using(crate::proofs::CallLaws::target_place))]
     pub fn named_method(&self, class: ClassId, reference: u32, target: ClassId) -> Option<u32>
         ensures found { IfSome result (λ place. named_place self.now class.0 reference target.0 ≡ Some place) }
@@ -245,32 +260,60 @@ fn put(
     mem::replace(&mut classes[at], with)
 }
 
+// Tells the least name that two of the classes have, if there is one.
+fn refuse_duplicates(
+    alloc: Global,
+    infos: &[Arc<ClassInfo, Global>],
+    numbers: &HashMap<Name, u32>,
+) -> Result<(), TableFault>
+    requires few { length infos.now < 2 ^ 32 }
+    requires numbers { IsNumbering numbers.now (shared infos.now) }
+    ensures distinct { OnOk result (AreDistinct (names (shared infos.now))) }
+    ensures duplicate { (name : List ℕ) → result ≡ Err (Duplicate name) → IsLeastDuplicate (names (shared infos.now)) name }
+{
+    match least_duplicate(alloc, infos, numbers)? {
+        Some(name) => Err(TableFault::Duplicate { name }),
+        None => Ok(()),
+    }
+}
+
+// The numbers of these classes, and what they name by number, shared.
+fn number_all(
+    alloc: Global,
+    infos: &[Arc<ClassInfo, Global>],
+) -> Result<(Arc<HashMap<Name, u32>, Global>, Arc<Targets, Global>), Memory>
+    requires few { length infos.now < 2 ^ 32 }
+    ensures numbers { IfOk result (λ both. IsNumbering (arc_value both.0) (shared infos.now)) }
+    ensures targets { IfOk result (λ both. AreTargets (arc_value both.1) (shared infos.now)) }
+{
+    let numbers = numbers(alloc, infos)?;
+    let targets = targets(alloc, infos, &numbers)?;
+    Ok((Arc::new(alloc, numbers)?, Arc::new(alloc, targets)?))
+}
+
 fn program_of(alloc: Global, infos: Vec<Arc<ClassInfo, Global>>) -> Result<Program, TableFault>
-    ensures classes { IfOk result (λ p. p ≡ map (λ c. arc_value c) infos.items) }
-    ensures distinct { OnOk result (AreDistinct (names (map (λ c. arc_value c) infos.items))) }
-    ensures duplicate { (name : List ℕ) → result ≡ Err (Duplicate name) → IsLeastDuplicate (names (map (λ c. arc_value c) infos.items)) name }
+    ensures classes { IfOk result (λ p. p ≡ shared infos.items) }
+    ensures distinct { OnOk result (AreDistinct (names (shared infos.items))) }
+    ensures duplicate { (name : List ℕ) → result ≡ Err (Duplicate name) → IsLeastDuplicate (names (shared infos.items)) name }
 {
     if infos.len() > u32::MAX as usize {
         return Err(TableFault::Memory);
     }
-    let numbers = numbers(alloc, infos.as_slice())?;
-    match least_duplicate(alloc, infos.as_slice(), &numbers)? {
-        Some(name) => Err(TableFault::Duplicate { name }),
-        None => {
-            let targets = targets(alloc, infos.as_slice(), &numbers)?;
-            Ok(Program {
-                classes: infos,
-                numbers: Arc::new(alloc, numbers)?,
-                targets: Some(Arc::new(alloc, targets)?),
-            })
-        }
+    let (numbers, targets) = number_all(alloc, infos.as_slice())?;
+    match refuse_duplicates(alloc, infos.as_slice(), &numbers) {
+        Ok(()) => Ok(Program {
+            classes: infos,
+            numbers,
+            targets: Some(targets),
+        }),
+        Err(fault) => Err(fault),
     }
 }
 
 fn copy_classes(
     classes: &Vec<Arc<ClassInfo, Global>>,
 ) -> Result<Vec<Arc<ClassInfo, Global>>, Memory>
-    ensures { IfOk result (λ copy. map (λ c. arc_value c) copy.items ≡ map (λ c. arc_value c) classes.now.items) }
+    ensures { IfOk result (λ copy. shared copy.items ≡ shared classes.now.items) }
 {
     let mut copy = Vec::with_capacity(*classes.allocator(), classes.len())?;
     for class in classes {

@@ -1,18 +1,21 @@
+//! Tests, by the calls that they make.
+
 ghost use Rattle.std.specs.Prelude.{◌≡◌, IfOk};
 
 use class_model::{Copied, Memory, Name, Seq};
-use machine_rules::CallKind;
+use program_rules::CallKind;
 
 /// A call of a test's script: a method without arguments and without a result.
-#[derive(Debug, Drop, PartialEq)]
+#[derive(Drop)]
 pub struct Call {
     pub class: Name,
     pub method: Name,
     pub kind: CallKind,
 }
 
-/// A test: its class and method, the calls that a run of it makes, and the class of the exception that is to leave it, if one is.
-#[derive(Debug, Drop, PartialEq)]
+/// A test: its class and method, the calls that a run of it makes, and the class of the exception
+/// that is to leave it, if one is.
+#[derive(Drop)]
 pub struct Test {
     pub class: Name,
     pub method: Name,

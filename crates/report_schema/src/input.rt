@@ -3,7 +3,7 @@ use class_table::Test;
 use mutator_ops::{Mutant, Verdict};
 
 /// What a report is made of. Lists that belong together may differ in length: what has no partner is left out.
-#[derive(Debug, Drop)]
+#[derive(Drop)]
 pub struct ReportInput {
     pub mutants: Seq<Mutant>,
     /// What the tests say of each mutant, by the numbers of the tests.

@@ -2,14 +2,13 @@
 
 ghost use Rattle.std.specs.Prelude.{◌≡◌};
 ghost use Rattle.std.specs.List.{list_any};
-ghost use Rattle.class_model.specs.declared.annotation.Note.{out-Note};
-ghost use Rattle.test_discovery.specs.Tests.{names_text, has_note, is_annotated, test_annotation};
+ghost use Rattle.test_discovery.specs.Tests.{names_kind, has_note, is_annotated, test_annotation};
 
 use crate::names::names_test_annotation;
 use class_model::{Attr, Body, Const, Member, Note};
 
 fn any_is_test(pool: &[Const], notes: &[Note]) -> bool
-    ensures { result ≡ list_any (λ note. names_text pool.now (out-Note note).kind test_annotation) notes.now }
+    ensures { result ≡ list_any (names_kind pool.now test_annotation) notes.now }
 {
     notes
         .iter()

@@ -1,9 +1,9 @@
 //! The tests of a class.
 
 ghost use Rattle.std.specs.Prelude.{◌≡◌, ◌++◌, IfOk, OnOk};
-ghost use Rattle.std.specs.List.{list_any, flat_map};
+ghost use Rattle.std.specs.List.{list_any};
 ghost use Rattle.program_rules.specs.Linked.{is_static};
-ghost use Rattle.test_discovery.specs.Tests.{is_test, is_plain_constructor, test_of, method_tests, class_tests};
+ghost use Rattle.test_discovery.specs.Tests.{is_test, is_plain_constructor, test_of, method_tests, tests_among, class_tests};
 
 use crate::annotated::is_annotated;
 use crate::names::{
@@ -94,7 +94,7 @@ fn push_methods_tests(
     class: &Name,
     methods: &[Member],
 ) -> Result<(), Memory>
-    ensures { OnOk result (tests.new ≡ tests.old ++ flat_map (method_tests pool.now class.now) methods.now) }
+    ensures { OnOk result (tests.new ≡ tests.old ++ tests_among pool.now class.now methods.now) }
 {
     for member in methods {
         push_method_tests(alloc, tests, pool, class, member)?;

@@ -1,4 +1,4 @@
-use Rattle.std.proofs.Common.{◌≡◌, ℕ, ◌<◌, Option, None, Some, slice_get, length, subst, arith}
+use Rattle.std.proofs.Common.{Option, None, Some, slice_get, subst, arith}
 use Rattle.std.specs.Option.{option_copied}
 use Rattle.std.proofs.lemmas.Option.{slice_get_within, get_or_from_slice_get}
 use Rattle.class_table.specs.declared.linked.Entry.{Entry}

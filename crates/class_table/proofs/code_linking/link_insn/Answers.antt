@@ -1,6 +1,5 @@
-use Rattle.std.proofs.Common.{◌∙◌, ap}
-use Rattle.class_table.specs.Opcodes.{instruction_by, with_operand}
-use Rattle.class_table.specs.View.{meaning_at}
+use Rattle.std.proofs.Common.{◌∙◌}
+use Rattle.class_table.specs.Opcodes.{instruction_by}
 use Rattle.class_table.proofs.Resolved.{table_switch_is, lookup_switch_is}
 use Rattle.class_table.proofs.code_linking.link_insn.Goals as goal
 

@@ -1,4 +1,4 @@
-use Rattle.std.proofs.Common.{◌≡◌, ◌∷◌, ◌++◌, ◌+◌, drop, arith}
+use Rattle.std.proofs.Common.{◌≡◌, ◌++◌, ◌+◌, drop, arith}
 use Rattle.std.proofs.lemmas.Grind.{common_steps}
 use Rattle.class_table.specs.View.{instruction_of, meaning_at}
 use Rattle.class_table.specs.Opcodes.{instruction_by}

@@ -1,8 +1,7 @@
-use Rattle.std.proofs.Common.{◌≡◌, ◌∙◌, Err, map, arith, subst}
+use Rattle.std.proofs.Common.{◌≡◌, ◌∙◌, map, arith, subst}
 use Rattle.std.proofs.lemmas.Grind.{common_steps}
 use Rattle.std.specs.Arc.{arc_value}
 use Rattle.class_table.specs.Table.{names, names_of, IsLeastDuplicate}
-use Rattle.class_table.specs.declared.fault.TableFault.TheVariants.{Duplicate}
 use Rattle.class_table.proofs.program.Program.build.Goals as goal
 
 pub returns-in-Err-clause-duplicate : goal.returns-in-Err-clause-duplicate

@@ -15,7 +15,7 @@ before c = ap (map (λ i. arc_value i)) c.deref_mut.ensures.value ∙ c.self.vie
 abbrev after : (c : goal.After-self-1) → map (λ i. arc_value i) c.put.new.classes ≡ slice_set c.args.self.now c.args.id.0 (arc_value c.args.with)
 after c = c.put.ensures.program ∙ ap (λ p. slice_set p c.args.id.0 (arc_value c.args.with)) (before c)
 
-abbrev long : (c : goal.After-self-1) → length c.put.new.classes ≡ c.self.inside.classes.len
+long : (c : goal.After-self-1) → length c.put.new.classes ≡ c.self.inside.classes.len
 long c = grind (arith, c.put.auto.classes, c.deref_mut.ensures.value, c.deref_mut.ensures.len, c.self.inside.classes.ok.0)
 
 pub invariant_of-self : goal.invariant_of-self

@@ -1,4 +1,4 @@
-use Rattle.std.proofs.Common.{◌≡◌, ◌∙◌, List, map, ap, subst}
+use Rattle.std.proofs.Common.{◌∙◌, map, ap, subst}
 use Rattle.std.specs.Option.{option_map}
 use Rattle.std.specs.Arc.{arc_value}
 use Rattle.class_table.specs.Calls.{target_at, AreTargets, AreTargetsOrNone}

@@ -1,0 +1,10 @@
+//! Tests of `class_table` and `test_discovery`, and the functions over which wrong bodies are tried.
+#![tactic(auto)]
+
+pub mod calls;
+#[cfg(test)]
+mod classes;
+#[cfg(test)]
+mod programs;
+#[cfg(test)]
+mod tests_found;
