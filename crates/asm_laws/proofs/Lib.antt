@@ -13,3 +13,4 @@ mod FittingCode
 mod FittingMembers
 mod Fitting
 mod SpelledLaws
+mod AnsweredLaws

@@ -18,11 +18,16 @@ use Rattle.asm_text.specs.declared.fault.AsmFault.{AsmFault}
 use Rattle.asm_text.specs.declared.fault.AsmFault.TheVariants as asm_fault
 use Rattle.asm_insns.specs.declared.stated.StatedClass.{StatedClass}
 use Rattle.asm_insns.specs.declared.stated.StatedMember.{StatedMember}
+use Rattle.asm_text.specs.declared.class.ClassHead.{ClassHead}
 use Rattle.asm_text.specs.declared.class.End.{End}
 
 abbrev pub empty_class : List ℕ → List ℕ → ℕ → ℕ → StatedClass
 empty_class name parent flags major =
     record { name = name; parent = parent; flags = flags; major = major; interfaces = []; source = None; notes = []; fields = []; methods = [] }
+
+-- a class of which only the first line was stated
+abbrev pub class_of : ClassHead → StatedClass
+class_of head = empty_class head.name head.parent head.flags head.major
 
 abbrev pub are_keywords : List ℕ → List ℕ → List ℕ → List ℕ → Bool
 are_keywords first second third fourth = says first (codes "class") && says second (codes "super") && says third (codes "flags") && says fourth (codes "major")

@@ -21,6 +21,8 @@ use Rattle.asm_text.specs.declared.fault.AsmFault.TheVariants as asm_fault
 use Rattle.asm_insns.specs.declared.stated.StatedCode.{StatedCode}
 use Rattle.asm_insns.specs.declared.stated.StatedNote.{StatedNote}
 use Rattle.asm_insns.specs.declared.stated.StatedMember.{StatedMember}
+use Rattle.asm_text.specs.declared.member.Sizes.{Sizes}
+use Rattle.asm_text.specs.declared.member.MemberHead.{MemberHead}
 use Rattle.asm_text.specs.declared.member.Stage.{Stage}
 use Rattle.asm_text.specs.declared.member.Stage.TheVariants as stage
 use Rattle.asm_text.specs.declared.member.Progress.{Progress}
@@ -58,6 +60,17 @@ field_in other = None
 
 abbrev pub empty_code : ℕ → ℕ → StatedCode
 empty_code stack locals = record { max_stack = stack; max_locals = locals; insns = []; rows = []; lines = []; frames = [] }
+
+abbrev pub sized : Sizes → StatedCode
+sized sizes = empty_code sizes.max_stack sizes.max_locals
+
+-- the code of a member, where it has one
+abbrev pub code_with : Option Sizes → Option StatedCode
+code_with sizes = option_map sized sizes
+
+-- a member of which only the first line was stated
+abbrev pub member_of : MemberHead → StatedMember
+member_of head = named_member head.flags head.name head.desc (code_with head.sizes)
 
 -- A code without lines, by the words of its sizes; no words are no code.
 abbrev pub code_in : List (List ℕ) → Option (Option StatedCode)

@@ -3,7 +3,9 @@
 ghost use Rattle.std.specs.Prelude.{◌≡◌, ◌≤◌, length, IfOk};
 ghost use Rattle.codec_rules.specs.Meets.{Gives};
 ghost use Rattle.class_reader.specs.Reading.{is_major};
-ghost use Rattle.asm_text.specs.Classes.{are_keywords, headed, class_by, class_in, own_count, first_number, implemented, sourced, class_noted, head_step, head_from, ended, part_step, parts_from, stated_by};
+ghost use Rattle.std.specs.Option.{option_map};
+ghost use Rattle.asm_text.specs.Adding.{given_if};
+ghost use Rattle.asm_text.specs.Classes.{class_of, are_keywords, headed, class_by, class_in, own_count, first_number, implemented, sourced, class_noted, head_step, head_from, ended, part_step, parts_from, stated_by};
 ghost use Rattle.asm_text.specs.declared.fault.AsmFault.TheVariants as asm_fault;
 
 use crate::fault::AsmFault;
@@ -26,14 +28,23 @@ fn is_major(major: u16) -> bool
     major == 51 || major == 52
 }
 
+/// What the first line of a class states.
+#[derive(Drop)]
+pub struct ClassHead {
+    pub name: Name,
+    pub parent: Name,
+    pub flags: u16,
+    pub major: u16,
+}
+
 fn headed(
     alloc: Global,
     name: &Name,
     parent: &Name,
     flags: u16,
     major: u16,
-) -> Result<Option<StatedClass>, Memory>
-    ensures { IfOk result (λ o. o ≡ headed name.now parent.now flags major) }
+) -> Result<Option<ClassHead>, Memory>
+    ensures { IfOk result (λ o. option_map class_of o ≡ headed name.now parent.now flags major) }
 {
     if !is_major(major) {
         return Ok(None);
@@ -44,27 +55,22 @@ fn headed(
     if !is_class_entry(alloc, parent)? {
         return Ok(None);
     }
-    Ok(Some(StatedClass {
+    Ok(Some(ClassHead {
         name: name.copy()?,
         parent: parent.copy()?,
         flags,
         major,
-        interfaces: Seq::new(alloc),
-        source: None,
-        notes: Seq::new(alloc),
-        fields: Seq::new(alloc),
-        methods: Seq::new(alloc),
     }))
 }
 
-fn class_by(
+fn head_by(
     alloc: Global,
     name: &Name,
     parent: &Name,
     flags: &Name,
     major: &Name,
-) -> Result<Option<StatedClass>, Memory>
-    ensures { IfOk result (λ o. o ≡ class_by name.now parent.now flags.now major.now) }
+) -> Result<Option<ClassHead>, Memory>
+    ensures { IfOk result (λ o. option_map class_of o ≡ class_by name.now parent.now flags.now major.now) }
 {
     let Some(flags) = u2(flags) else {
         return Ok(None);
@@ -75,9 +81,9 @@ fn class_by(
     }
 }
 
-/// A class by its first line, without the rest.
-fn class_in(alloc: Global, words: &[Name]) -> Result<Option<StatedClass>, Memory>
-    ensures { IfOk result (λ o. o ≡ class_in words.now) }
+/// What words of the first line state.
+fn head_in(alloc: Global, words: &[Name]) -> Result<Option<ClassHead>, Memory>
+    ensures { IfOk result (λ o. option_map class_of o ≡ class_in words.now) }
 {
     let [first, name, second, parent, third, flags, fourth, major] = words else {
         return Ok(None);
@@ -85,83 +91,91 @@ fn class_in(alloc: Global, words: &[Name]) -> Result<Option<StatedClass>, Memory
     if !are_keywords(first, second, third, fourth) {
         return Ok(None);
     }
-    class_by(alloc, name, parent, flags, major)
+    head_by(alloc, name, parent, flags, major)
+}
+
+/// A class of which only the first line was stated.
+fn class_of(alloc: Global, head: ClassHead) -> StatedClass
+    ensures { result ≡ class_of head }
+{
+    StatedClass {
+        name: head.name,
+        parent: head.parent,
+        flags: head.flags,
+        major: head.major,
+        interfaces: Seq::new(alloc),
+        source: None,
+        notes: Seq::new(alloc),
+        fields: Seq::new(alloc),
+        methods: Seq::new(alloc),
+    }
 }
 
 // ---- the lines before the members
 
-/// The interface that a line names, before the source and the notes.
-fn implemented(
-    alloc: Global,
-    mut class: StatedClass,
-    words: &[Name],
-) -> Result<Option<StatedClass>, Memory>
-    ensures { IfOk result (λ o. o ≡ implemented class words.now) }
+/// Adds the interface that a line names, before the source and the notes. Each of these calls answers whether the line is right.
+fn add_interface(alloc: Global, class: &mut StatedClass, words: &[Name]) -> Result<bool, Memory>
+    ensures { IfOk result (λ ok. given_if ok class.new ≡ implemented class.old words.now) }
 {
     if class.source.is_some() || !class.notes.is_empty() {
-        return Ok(None);
+        return Ok(false);
     }
     let [_, word] = words else {
-        return Ok(None);
+        return Ok(false);
     };
     let Some(name) = asm_insns::class_in(alloc, word)? else {
-        return Ok(None);
+        return Ok(false);
     };
     class.interfaces.push(name)?;
-    Ok(Some(class))
+    Ok(true)
 }
 
-/// The file that a line names, before the notes.
-fn sourced(mut class: StatedClass, words: &[Name]) -> Result<Option<StatedClass>, Memory>
-    ensures { IfOk result (λ o. o ≡ sourced class words.now) }
+/// Adds the file that a line names, before the notes.
+fn add_source(class: &mut StatedClass, words: &[Name]) -> Result<bool, Memory>
+    ensures { IfOk result (λ ok. given_if ok class.new ≡ sourced class.old words.now) }
 {
     if class.source.is_some() || !class.notes.is_empty() {
-        return Ok(None);
+        return Ok(false);
     }
     let [_, word] = words else {
-        return Ok(None);
+        return Ok(false);
     };
     class.source = Some(word.copy()?);
-    Ok(Some(class))
+    Ok(true)
 }
 
-fn class_noted(
-    alloc: Global,
-    mut class: StatedClass,
-    words: &[Name],
-) -> Result<Option<StatedClass>, Memory>
-    ensures { IfOk result (λ o. o ≡ class_noted class words.now) }
+fn add_note(alloc: Global, class: &mut StatedClass, words: &[Name]) -> Result<bool, Memory>
+    ensures { IfOk result (λ ok. given_if ok class.new ≡ class_noted class.old words.now) }
 {
     let Some(note) = class_note_in(alloc, words)? else {
-        return Ok(None);
+        return Ok(false);
     };
     class.notes.push(note)?;
-    Ok(Some(class))
+    Ok(true)
 }
 
-/// What a line before the members adds.
-fn head_step(alloc: Global, class: StatedClass, line: &Line) -> Result<Option<StatedClass>, Memory>
-    ensures { IfOk result (λ o. o ≡ head_step class line.now) }
+/// Adds what a line before the members states.
+fn head_step(alloc: Global, class: &mut StatedClass, line: &Line) -> Result<bool, Memory>
+    ensures { IfOk result (λ ok. given_if ok class.new ≡ head_step class.old line.now) }
 {
     match line_kind(line) {
-        LineKind::Implements => implemented(alloc, class, line.words.as_slice()),
-        LineKind::Source => sourced(class, line.words.as_slice()),
-        LineKind::Note => class_noted(alloc, class, line.words.as_slice()),
-        _ => Ok(None),
+        LineKind::Implements => add_interface(alloc, class, line.words.as_slice()),
+        LineKind::Source => add_source(class, line.words.as_slice()),
+        LineKind::Note => add_note(alloc, class, line.words.as_slice()),
+        _ => Ok(false),
     }
 }
 
-fn head_of(alloc: Global, class: StatedClass, lines: &[Line]) -> Result<StatedClass, AsmFault>
-    ensures { Gives asm_fault.Memory (λ class. class) (head_from class lines.now) result }
+/// Adds what the lines before the members state.
+fn add_head(alloc: Global, class: &mut StatedClass, lines: &[Line]) -> Result<(), AsmFault>
+    ensures { Gives asm_fault.Memory (λ _. class.new) (head_from class.old lines.now) result }
 {
-    let mut class = class;
     for line in lines {
-        class = match head_step(alloc, class, line)? {
-            Some(next) => next,
-            None => return Err(AsmFault::Line { line: line.number }),
-        };
+        if !head_step(alloc, class, line)? {
+            return Err(AsmFault::Line { line: line.number });
+        }
     }
-    Ok(class)
+    Ok(())
 }
 
 // ---- members
@@ -207,14 +221,14 @@ fn ended(line: &Line, lines: &[Line]) -> Result<End, AsmFault>
     })
 }
 
-/// What a line that begins a member adds, with the lines behind it.
+/// Adds what a line that begins a member states, with the lines behind it.
 fn part_step(
     alloc: Global,
-    mut class: StatedClass,
+    class: &mut StatedClass,
     first: &Line,
     lines: &[Line],
-) -> Result<StatedClass, AsmFault>
-    ensures { Gives asm_fault.Memory (λ class. class) (part_step class first.now lines.now) result }
+) -> Result<(), AsmFault>
+    ensures { Gives asm_fault.Memory (λ _. class.new) (part_step class.old first.now lines.now) result }
 {
     if line_kind(first) == LineKind::Field {
         let field = field_of(alloc, first, lines)?;
@@ -223,27 +237,25 @@ fn part_step(
         let method = method_of(alloc, first, lines)?;
         class.methods.push(method)?;
     }
-    Ok(class)
+    Ok(())
 }
 
-/// The class and the line that ends it, by the lines behind its first one.
-fn parts_of(
+/// Adds what the lines behind the first one state of members, up to the line that ends the class.
+fn add_parts(
     alloc: Global,
     last: u64,
-    class: StatedClass,
+    class: &mut StatedClass,
     lines: &[Line],
-) -> Result<(StatedClass, End), AsmFault>
-    ensures { Gives asm_fault.Memory (λ x. x) (parts_from last class lines.now) result }
+) -> Result<End, AsmFault>
+    ensures { Gives asm_fault.Memory (λ end. (class.new, end)) (parts_from last class.old lines.now) result }
 {
-    let mut class = class;
     for (place, line) in lines.iter().enumerate() {
         let behind = &lines[place + 1..];
         if line_kind(line) == LineKind::End {
-            let end = ended(line, behind)?;
-            return Ok((class, end));
+            return ended(line, behind);
         }
         if begins_part(line) {
-            class = part_step(alloc, class, line, &behind[..own_count(behind)])?;
+            part_step(alloc, class, line, &behind[..own_count(behind)])?;
         }
     }
     Err(AsmFault::Line { line: last })
@@ -256,9 +268,11 @@ pub fn stated_by(alloc: Global, last: u64, lines: &[Line]) -> Result<(StatedClas
     let [first, lines @ ..] = lines else {
         return Err(AsmFault::Line { line: last });
     };
-    let Some(class) = class_in(alloc, first.words.as_slice())? else {
+    let Some(head) = head_in(alloc, first.words.as_slice())? else {
         return Err(AsmFault::Line { line: first.number });
     };
-    let class = head_of(alloc, class, &lines[..own_count(lines)])?;
-    parts_of(alloc, last, class, lines)
+    let mut class = class_of(alloc, head);
+    add_head(alloc, &mut class, &lines[..own_count(lines)])?;
+    let end = add_parts(alloc, last, &mut class, lines)?;
+    Ok((class, end))
 }

@@ -1,6 +1,7 @@
 //! The lines of a code.
 
 ghost use Rattle.std.specs.Prelude.{◌≡◌, IfOk};
+ghost use Rattle.asm_text.specs.Adding.{given_if};
 ghost use Rattle.asm_text.specs.Codes.{here, is_behind, line_in, caught, row_of, row_by, row_with, row_in, is_first_label, numbered, framed, guarded, instructed};
 
 use crate::frame::shape_of;
@@ -30,22 +31,18 @@ fn line_in(words: &[Name]) -> Option<u16>
     }
 }
 
-/// A line number for the instruction that comes next.
-pub fn numbered(
-    labels: &Labels,
-    mut code: StatedCode,
-    line: &Line,
-) -> Result<Option<StatedCode>, Memory>
-    ensures { IfOk result (λ o. o ≡ numbered labels.now code line.now) }
+/// Adds a line number for the instruction that comes next. Each of these calls answers whether the line is right.
+pub fn add_line(labels: &Labels, code: &mut StatedCode, line: &Line) -> Result<bool, Memory>
+    ensures { IfOk result (λ ok. given_if ok code.new ≡ numbered labels.now code.old line.now) }
 {
-    let Some(at) = here(labels, &code) else {
-        return Ok(None);
+    let Some(at) = here(labels, code) else {
+        return Ok(false);
     };
     let Some(number) = line_in(line.words.as_slice()) else {
-        return Ok(None);
+        return Ok(false);
     };
     code.lines.push((at, number))?;
-    Ok(Some(code))
+    Ok(true)
 }
 
 /// No frame stands at this instruction or behind it.
@@ -55,26 +52,26 @@ fn is_behind(frames: &[StatedFrame], at: u32) -> bool
     frames.is_empty() || frames[frames.len() - 1].at < at
 }
 
-/// A frame for the instruction that comes next.
-pub fn framed(
+/// Adds a frame for the instruction that comes next.
+pub fn add_frame(
     alloc: Global,
     labels: &Labels,
-    mut code: StatedCode,
+    code: &mut StatedCode,
     line: &Line,
-) -> Result<Option<StatedCode>, Memory>
-    ensures { IfOk result (λ o. o ≡ framed labels.now code line.now) }
+) -> Result<bool, Memory>
+    ensures { IfOk result (λ ok. given_if ok code.new ≡ framed labels.now code.old line.now) }
 {
-    let Some(at) = here(labels, &code) else {
-        return Ok(None);
+    let Some(at) = here(labels, code) else {
+        return Ok(false);
     };
     if !is_behind(code.frames.as_slice(), at) {
-        return Ok(None);
+        return Ok(false);
     }
     let Some(shape) = shape_of(alloc, labels, line.words.as_slice())? else {
-        return Ok(None);
+        return Ok(false);
     };
     code.frames.push(StatedFrame { at, shape })?;
-    Ok(Some(code))
+    Ok(true)
 }
 
 /// The class that a handler catches: `any` for every class.
@@ -145,36 +142,36 @@ fn row_in(alloc: Global, labels: &Labels, words: &[Name]) -> Result<Option<State
     }
 }
 
-/// A row of the exception table.
-pub fn guarded(
+/// Adds a row of the exception table.
+pub fn add_row(
     alloc: Global,
     labels: &Labels,
-    mut code: StatedCode,
+    code: &mut StatedCode,
     line: &Line,
-) -> Result<Option<StatedCode>, Memory>
-    ensures { IfOk result (λ o. o ≡ guarded labels.now code line.now) }
+) -> Result<bool, Memory>
+    ensures { IfOk result (λ ok. given_if ok code.new ≡ guarded labels.now code.old line.now) }
 {
     let Some(row) = row_in(alloc, labels, line.words.as_slice())? else {
-        return Ok(None);
+        return Ok(false);
     };
     code.rows.push(row)?;
-    Ok(Some(code))
+    Ok(true)
 }
 
-/// An instruction.
-pub fn instructed(
+/// Adds an instruction.
+pub fn add_insn(
     alloc: Global,
     labels: &Labels,
-    mut code: StatedCode,
+    code: &mut StatedCode,
     line: &Line,
-) -> Result<Option<StatedCode>, Memory>
-    ensures { IfOk result (λ o. o ≡ instructed labels.now code line.now) }
+) -> Result<bool, Memory>
+    ensures { IfOk result (λ ok. given_if ok code.new ≡ instructed labels.now code.old line.now) }
 {
     let Some(insn) = insn_of(alloc, labels, line)? else {
-        return Ok(None);
+        return Ok(false);
     };
     code.insns.push(insn)?;
-    Ok(Some(code))
+    Ok(true)
 }
 
 /// The label is the first of its name, and stands alone on its line.

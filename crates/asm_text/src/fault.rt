@@ -8,7 +8,7 @@ use std::alloc::{AllocError, AllocFailed};
 use thiserror::Error;
 
 /// Why a text is no class.
-#[derive(Clone, Copy, Debug, PartialEq, Eq, Error)]
+#[derive(Clone, Copy, Debug, Error)]
 pub enum AsmFault {
     /// The first line at fault, counted from 1.
     #[error("line {line} is at fault")]

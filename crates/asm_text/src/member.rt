@@ -2,10 +2,12 @@
 
 ghost use Rattle.std.specs.Prelude.{◌≡◌, IfOk};
 ghost use Rattle.codec_rules.specs.Meets.{Gives};
-ghost use Rattle.asm_text.specs.Members.{field_by, field_in, code_in, method_by, method_in, code_step, noting, noted, coded, body_step, beginning, body_from, code_of, note_of, add_note, notes_of, field_of, method_of, with_lines};
+ghost use Rattle.std.specs.Option.{option_map};
+ghost use Rattle.asm_text.specs.Adding.{given_if};
+ghost use Rattle.asm_text.specs.Members.{sized, code_with, member_of, field_by, field_in, code_in, method_by, method_in, code_step, noting, noted, coded, body_step, beginning, body_from, code_of, note_of, notes_of, field_of, method_of};
 ghost use Rattle.asm_text.specs.declared.fault.AsmFault.TheVariants as asm_fault;
 
-use crate::code::{framed, guarded, instructed, is_first_label, numbered};
+use crate::code::{add_frame, add_insn, add_line, add_row, is_first_label};
 use crate::fault::AsmFault;
 use crate::note::note_in;
 use asm_insns::{StatedCode, StatedMember, StatedNote, is_field_desc, is_method_desc};
@@ -13,13 +15,29 @@ use asm_words::{Labels, Line, LineKind, labels_of, line_kind, says, u2};
 use class_model::{Memory, Name, Seq, is_field_name, is_method_name};
 use std::alloc::Global;
 
+/// The sizes of a code.
+#[derive(Clone, Copy)]
+pub struct Sizes {
+    pub max_stack: u16,
+    pub max_locals: u16,
+}
+
+/// What the first line of a field or a method states. One with sizes has a code.
+#[derive(Drop)]
+pub struct MemberHead {
+    pub flags: u16,
+    pub name: Name,
+    pub desc: Name,
+    pub sizes: Option<Sizes>,
+}
+
 fn field_by(
     alloc: Global,
     flags: &Name,
     name: &Name,
     desc: &Name,
-) -> Result<Option<StatedMember>, Memory>
-    ensures { IfOk result (λ o. o ≡ field_by flags.now name.now desc.now) }
+) -> Result<Option<MemberHead>, Memory>
+    ensures { IfOk result (λ o. option_map member_of o ≡ field_by flags.now name.now desc.now) }
 {
     let Some(flags) = u2(flags) else {
         return Ok(None);
@@ -30,17 +48,16 @@ fn field_by(
     if !is_field_desc(alloc, desc)? {
         return Ok(None);
     }
-    Ok(Some(StatedMember {
+    Ok(Some(MemberHead {
         flags,
         name: name.copy()?,
         desc: desc.copy()?,
-        code: None,
-        notes: Seq::new(alloc),
+        sizes: None,
     }))
 }
 
-fn field_in(alloc: Global, words: &[Name]) -> Result<Option<StatedMember>, Memory>
-    ensures { IfOk result (λ o. o ≡ field_in words.now) }
+fn field_in(alloc: Global, words: &[Name]) -> Result<Option<MemberHead>, Memory>
+    ensures { IfOk result (λ o. option_map member_of o ≡ field_in words.now) }
 {
     match words {
         [_, flags, name, desc] => field_by(alloc, flags, name, desc),
@@ -48,21 +65,17 @@ fn field_in(alloc: Global, words: &[Name]) -> Result<Option<StatedMember>, Memor
     }
 }
 
-/// A code without lines, by the words of its sizes; no words are no code.
-fn code_in(alloc: Global, words: &[Name]) -> Option<Option<StatedCode>>
-    ensures { result ≡ code_in words.now }
+/// The sizes of a code by its words; no words are no code.
+fn sizes_in(words: &[Name]) -> Option<Option<Sizes>>
+    ensures { option_map code_with result ≡ code_in words.now }
 {
     match words {
         [] => Some(None),
         [first, max_stack, second, max_locals] if says(first, "stack") && says(second, "locals") =>
             {
-                Some(Some(StatedCode {
+                Some(Some(Sizes {
                     max_stack: u2(max_stack)?,
                     max_locals: u2(max_locals)?,
-                    insns: Seq::new(alloc),
-                    rows: Seq::new(alloc),
-                    lines: Seq::new(alloc),
-                    frames: Seq::new(alloc),
                 }))
             }
         _ => None,
@@ -74,9 +87,9 @@ fn method_by(
     flags: &Name,
     name: &Name,
     desc: &Name,
-    code: Option<StatedCode>,
-) -> Result<Option<StatedMember>, Memory>
-    ensures { IfOk result (λ o. o ≡ method_by flags.now name.now desc.now code) }
+    sizes: Option<Sizes>,
+) -> Result<Option<MemberHead>, Memory>
+    ensures { IfOk result (λ o. option_map member_of o ≡ method_by flags.now name.now desc.now (code_with sizes)) }
 {
     let Some(flags) = u2(flags) else {
         return Ok(None);
@@ -87,24 +100,37 @@ fn method_by(
     if !is_method_desc(alloc, desc)? {
         return Ok(None);
     }
-    Ok(Some(StatedMember {
+    Ok(Some(MemberHead {
         flags,
         name: name.copy()?,
         desc: desc.copy()?,
-        code,
-        notes: Seq::new(alloc),
+        sizes,
     }))
 }
 
-fn method_in(alloc: Global, words: &[Name]) -> Result<Option<StatedMember>, Memory>
-    ensures { IfOk result (λ o. o ≡ method_in words.now) }
+fn method_in(alloc: Global, words: &[Name]) -> Result<Option<MemberHead>, Memory>
+    ensures { IfOk result (λ o. option_map member_of o ≡ method_in words.now) }
 {
     match words {
-        [_, flags, name, desc, sizes @ ..] => match code_in(alloc, sizes) {
-            Some(code) => method_by(alloc, flags, name, desc, code),
+        [_, flags, name, desc, sizes @ ..] => match sizes_in(sizes) {
+            Some(sizes) => method_by(alloc, flags, name, desc, sizes),
             None => Ok(None),
         },
         _ => Ok(None),
+    }
+}
+
+/// A code of these sizes without lines.
+fn sized(alloc: Global, sizes: Sizes) -> StatedCode
+    ensures { result ≡ sized sizes }
+{
+    StatedCode {
+        max_stack: sizes.max_stack,
+        max_locals: sizes.max_locals,
+        insns: Seq::new(alloc),
+        rows: Seq::new(alloc),
+        lines: Seq::new(alloc),
+        frames: Seq::new(alloc),
     }
 }
 
@@ -126,22 +152,22 @@ struct Progress {
     stage: Stage,
 }
 
-/// What a line of a code adds to it.
+/// Adds what a line of a code states. Each of these calls answers whether the line is right.
 fn code_step(
     alloc: Global,
     labels: &Labels,
-    code: StatedCode,
+    code: &mut StatedCode,
     line: &Line,
-) -> Result<Option<StatedCode>, Memory>
-    ensures { IfOk result (λ o. o ≡ code_step labels.now code line.now) }
+) -> Result<bool, Memory>
+    ensures { IfOk result (λ ok. given_if ok code.new ≡ code_step labels.now code.old line.now) }
 {
     match line_kind(line) {
-        LineKind::LineNumber => numbered(labels, code, line),
-        LineKind::Frame => framed(alloc, labels, code, line),
-        LineKind::Handler => guarded(alloc, labels, code, line),
-        LineKind::Instruction => instructed(alloc, labels, code, line),
-        LineKind::Label if is_first_label(alloc, labels, line)? => Ok(Some(code)),
-        _ => Ok(None),
+        LineKind::LineNumber => add_line(labels, code, line),
+        LineKind::Frame => add_frame(alloc, labels, code, line),
+        LineKind::Handler => add_row(alloc, labels, code, line),
+        LineKind::Instruction => add_insn(alloc, labels, code, line),
+        LineKind::Label => is_first_label(alloc, labels, line),
+        _ => Ok(false),
     }
 }
 
@@ -155,100 +181,79 @@ fn noting(stage: Stage) -> Stage
     }
 }
 
-fn noted(alloc: Global, progress: Progress, line: &Line) -> Result<Option<Progress>, Memory>
-    ensures { IfOk result (λ o. o ≡ noted progress line.now) }
+fn add_note(alloc: Global, progress: &mut Progress, line: &Line) -> Result<bool, Memory>
+    ensures { IfOk result (λ ok. given_if ok progress.new ≡ noted progress.old line.now) }
 {
-    let Progress {
-        code,
-        mut notes,
-        stage,
-    } = progress;
     let Some(note) = note_in(alloc, line.words.as_slice())? else {
-        return Ok(None);
+        return Ok(false);
     };
-    notes.push(note)?;
-    Ok(Some(Progress {
-        code,
-        notes,
-        stage: noting(stage),
-    }))
+    progress.notes.push(note)?;
+    progress.stage = noting(progress.stage);
+    Ok(true)
 }
 
-fn coded(
+fn add_code(
     alloc: Global,
     labels: &Labels,
-    progress: Progress,
+    progress: &mut Progress,
     line: &Line,
-) -> Result<Option<Progress>, Memory>
-    ensures { IfOk result (λ o. o ≡ coded labels.now progress line.now) }
+) -> Result<bool, Memory>
+    ensures { IfOk result (λ ok. given_if ok progress.new ≡ coded labels.now progress.old line.now) }
 {
-    let Progress { code, notes, stage } = progress;
-    if stage == Stage::Behind {
-        return Ok(None);
+    if progress.stage == Stage::Behind || !code_step(alloc, labels, &mut progress.code, line)? {
+        return Ok(false);
     }
-    match code_step(alloc, labels, code, line)? {
-        Some(code) => Ok(Some(Progress {
-            code,
-            notes,
-            stage: Stage::Inside,
-        })),
-        None => Ok(None),
-    }
+    progress.stage = Stage::Inside;
+    Ok(true)
 }
 
-/// What a line of a method with code adds.
+/// Adds what a line of a method with code states.
 fn body_step(
     alloc: Global,
     labels: &Labels,
-    progress: Progress,
+    progress: &mut Progress,
     line: &Line,
-) -> Result<Option<Progress>, Memory>
-    ensures { IfOk result (λ o. o ≡ body_step labels.now progress line.now) }
+) -> Result<bool, Memory>
+    ensures { IfOk result (λ ok. given_if ok progress.new ≡ body_step labels.now progress.old line.now) }
 {
     if line_kind(line) == LineKind::Note {
-        noted(alloc, progress, line)
+        add_note(alloc, progress, line)
     } else {
-        coded(alloc, labels, progress, line)
+        add_code(alloc, labels, progress, line)
     }
 }
 
-/// The lines of a method with code.
+/// The lines of a method with a code of these sizes.
 fn body_of(
     alloc: Global,
     labels: &Labels,
-    code: StatedCode,
+    sizes: Sizes,
     lines: &[Line],
 ) -> Result<Progress, AsmFault>
-    ensures { Gives asm_fault.Memory (λ progress. progress) (body_from labels.now (beginning code) lines.now) result }
+    ensures { Gives asm_fault.Memory (λ x. x) (body_from labels.now (beginning (sized sizes)) lines.now) result }
 {
     let mut progress = Progress {
-        code,
+        code: sized(alloc, sizes),
         notes: Seq::new(alloc),
         stage: Stage::Before,
     };
     for line in lines {
-        progress = match body_step(alloc, labels, progress, line)? {
-            Some(next) => next,
-            None => return Err(AsmFault::Line { line: line.number }),
-        };
+        if !body_step(alloc, labels, &mut progress, line)? {
+            return Err(AsmFault::Line { line: line.number });
+        }
     }
     Ok(progress)
 }
 
 /// A method with code, which has an instruction.
-fn code_of(
-    alloc: Global,
-    number: u64,
-    code: StatedCode,
-    lines: &[Line],
-) -> Result<Progress, AsmFault>
-    ensures { Gives asm_fault.Memory (λ progress. progress) (code_of number code lines.now) result }
+fn code_of(alloc: Global, number: u64, sizes: Sizes, lines: &[Line]) -> Result<Progress, AsmFault>
+    ensures { Gives asm_fault.Memory (λ progress. progress) (code_of number (sized sizes) lines.now) result }
 {
     let labels = labels_of(alloc, lines)?;
     if labels.total == 0 {
         return Err(AsmFault::Line { line: number });
     }
-    body_of(alloc, &labels, code, lines)
+    body_of(alloc, &labels, sizes, lines)
 }
 
 fn note_of(alloc: Global, line: &Line) -> Result<Option<StatedNote>, Memory>
@@ -261,30 +266,16 @@ fn note_of(alloc: Global, line: &Line) -> Result<Option<StatedNote>, Memory>
     }
 }
 
-fn add_note(
-    alloc: Global,
-    mut notes: Seq<StatedNote>,
-    line: &Line,
-) -> Result<Option<Seq<StatedNote>>, Memory>
-    ensures { IfOk result (λ o. o ≡ add_note notes line.now) }
-{
-    let Some(note) = note_of(alloc, line)? else {
-        return Ok(None);
-    };
-    notes.push(note)?;
-    Ok(Some(notes))
-}
-
 /// The lines of a member without code, which are notes.
 fn notes_of(alloc: Global, lines: &[Line]) -> Result<Seq<StatedNote>, AsmFault>
     ensures { Gives asm_fault.Memory (λ notes. notes) (notes_of lines.now) result }
 {
     let mut notes = Seq::new(alloc);
     for line in lines {
-        notes = match add_note(alloc, notes, line)? {
-            Some(next) => next,
+        match note_of(alloc, line)? {
+            Some(note) => notes.push(note)?,
             None => return Err(AsmFault::Line { line: line.number }),
-        };
+        }
     }
     Ok(notes)
 }
@@ -293,55 +284,41 @@ fn notes_of(alloc: Global, lines: &[Line]) -> Result<Seq<StatedNote>, AsmFault>
 pub fn field_of(alloc: Global, first: &Line, lines: &[Line]) -> Result<StatedMember, AsmFault>
     ensures { Gives asm_fault.Memory (λ member. member) (field_of first.now lines.now) result }
 {
-    let Some(mut field) = field_in(alloc, first.words.as_slice())? else {
+    let Some(head) = field_in(alloc, first.words.as_slice())? else {
         return Err(AsmFault::Line { line: first.number });
     };
-    field.notes = notes_of(alloc, lines)?;
-    Ok(field)
+    let notes = notes_of(alloc, lines)?;
+    Ok(with_parts(head, None, notes))
 }
 
 /// A method by its line and the lines behind it.
 pub fn method_of(alloc: Global, first: &Line, lines: &[Line]) -> Result<StatedMember, AsmFault>
     ensures { Gives asm_fault.Memory (λ member. member) (method_of first.now lines.now) result }
 {
-    let Some(method) = method_in(alloc, first.words.as_slice())? else {
+    let Some(head) = method_in(alloc, first.words.as_slice())? else {
         return Err(AsmFault::Line { line: first.number });
     };
-    with_lines(alloc, method, first.number, lines)
+    match head.sizes {
+        None => {
+            let notes = notes_of(alloc, lines)?;
+            Ok(with_parts(head, None, notes))
+        }
+        Some(sizes) => {
+            let Progress { code, notes, .. } = code_of(alloc, first.number, sizes, lines)?;
+            Ok(with_parts(head, Some(code), notes))
+        }
+    }
 }
 
-fn with_lines(
-    alloc: Global,
-    method: StatedMember,
-    number: u64,
-    lines: &[Line],
-) -> Result<StatedMember, AsmFault>
-    ensures { Gives asm_fault.Memory (λ member. member) (with_lines method number lines.now) result }
+/// A member of which all is stated.
+fn with_parts(head: MemberHead, code: Option<StatedCode>, notes: Seq<StatedNote>) -> StatedMember
+    ensures { result ≡ record (member_of head) { code = code; notes = notes } }
 {
-    let StatedMember {
-        flags,
-        name,
-        desc,
+    StatedMember {
+        flags: head.flags,
+        name: head.name,
+        desc: head.desc,
         code,
-        notes: _,
-    } = method;
-    match code {
-        None => Ok(StatedMember {
-            flags,
-            name,
-            desc,
-            code: None,
-            notes: notes_of(alloc, lines)?,
-        }),
-        Some(code) => {
-            let Progress { code, notes, .. } = code_of(alloc, number, code, lines)?;
-            Ok(StatedMember {
-                flags,
-                name,
-                desc,
-                code: Some(code),
-                notes,
-            })
-        }
+        notes,
     }
 }

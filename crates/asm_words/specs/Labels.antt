@@ -17,13 +17,15 @@ abbrev pub is_instruction : LineKind → Bool
 is_instruction kind.Instruction = true
 is_instruction other = false
 
-abbrev pub first_label : List (List ℕ) → Option (List ℕ)
-first_label [] = None
-first_label (first ∷ words) = label_in first
+-- the label that stands alone among words
+abbrev pub label_alone : List (List ℕ) → Option (List ℕ)
+label_alone [] = None
+label_alone (word ∷ []) = label_in word
+label_alone (word ∷ other ∷ words) = None
 
--- the label of a line before an instruction
+-- The label of a line before an instruction. A line with other words is wrong and has none.
 abbrev pub place_of : ℕ → Line → Option Label
-place_of at line = if is_label (line_kind line) then option_map (λ name. record { name = name; at = at; line = line.number }) (first_label line.words) else None
+place_of at line = if is_label (line_kind line) then option_map (λ name. record { name = name; at = at; line = line.number }) (label_alone line.words) else None
 
 -- how many instructions a line has
 abbrev pub weight : Line → ℕ

@@ -17,16 +17,17 @@ pub struct Labels {
     pub total: u64,
 }
 
+/// The label of a line before an instruction. A line with other words is wrong and has none.
 fn label_of(alloc: Global, line: &Line, at: u64) -> Result<Option<Label>, Memory>
     ensures { IfOk result (λ o. o ≡ place_of at line.now) }
 {
     if line_kind(line) != LineKind::Label {
         return Ok(None);
     }
-    let [first, ..] = line.words.as_slice() else {
+    let [word] = line.words.as_slice() else {
         return Ok(None);
     };
-    match label_in(first.as_slice()) {
+    match label_in(word.as_slice()) {
         Some(name) => Ok(Some(Label {
             name: Seq::from_slice(alloc, name)?,
             at,

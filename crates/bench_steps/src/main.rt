@@ -7,7 +7,7 @@ use class_reader::read_class;
 use class_table::{Call, Loaded, Program, Test};
 use jvm_run::{Limits, execute};
 use jvm_step::library;
-use machine_rules::CallKind;
+use program_rules::CallKind;
 use mt_edge::Meter;
 use std::alloc::Global;
 use std::time::Instant;

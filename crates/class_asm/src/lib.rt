@@ -6,8 +6,6 @@ mod file;
 mod numbering;
 mod pool;
 mod said;
-#[cfg(test)]
-mod tests;
 
 pub use asm_text::AsmFault;
 pub use assembler::assemble;

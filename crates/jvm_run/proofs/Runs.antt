@@ -1,5 +1,5 @@
 -- A run, one step on.
-use Rattle.std.proofs.Common.{◌≡◌, ℕ, zero, suc, ◌+◌, ◌-◌, ◌<◌, ◌≤◌, refl, ap, ◌∙◌, arith}
+use Rattle.std.proofs.Common.{◌≡◌, ℕ, zero, suc, ◌+◌, ◌-◌, ◌<◌, ◌≤◌, ap, ◌∙◌, arith}
 use Rattle.machine_rules.specs.declared.machine.Outcome.{Outcome}
 use Rattle.machine_rules.specs.declared.machine.Limits.{Limits}
 use Rattle.program_rules.specs.Programs.{Look}

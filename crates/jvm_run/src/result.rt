@@ -2,7 +2,7 @@ use class_model::{Name, Seq};
 use jvm_step::Outcome;
 
 /// What a run gives.
-#[derive(Debug, Drop, PartialEq)]
+#[derive(Drop)]
 pub struct RunResult {
     pub outcome: Outcome,
     pub steps: u64,

@@ -1,4 +1,4 @@
--- What a search for a static method comes to.
+-- Calls, and rows by their parts.
 use Rattle.std.proofs.Common.{◌≡◌, ℕ, Bool, true, false, List, [], ◌∷◌, ◌++◌, drop, Option, Some, None, refl, sym, ap, subst, ◌∙◌}
 use Rattle.std.specs.Prelude.{slice_get, IfSome, IfNone}
 use Rattle.std.specs.Option.{option_map}
@@ -17,31 +17,15 @@ use Rattle.machine_rules.specs.Effects as rule
 use Rattle.machine_rules.specs.Effects.{Effect, NoRow, Current, on_int, on_args}
 use Rattle.class_table.specs.Symbols.{kind_of}
 use Rattle.program_rules.specs.Instructions.{MethodRef, Instruction, InvokeStatic}
-use Rattle.program_rules.specs.Linked.{Linked, LinkedMethod, is_static, is_interface, method_place}
+use Rattle.program_rules.specs.Linked.{LinkedMethod}
 use Rattle.program_rules.specs.Programs.{Look}
 use Rattle.machine_rules.specs.Lookups.{consult}
-use Rattle.program_rules.specs.Resolution.{same_bool}
 use Rattle.machine_so_far.specs.Calls.{runs, invokes_static, returns, returns_int}
 use Rattle.machine_so_far.specs.Initialisation.{Ready, need_of, needed, when_ready}
 use Rattle.machine_rules.specs.declared.machine.Limits.{Limits}
-use Rattle.jvm_step.specs.Finding.{FindsStatic, FindsNoStatic}
+use Rattle.jvm_step.specs.Finding.{FindsStatic}
 use Rattle.jvm_step.specs.declared.frame.Frame as code
 use Rattle.jvm_step.specs.View.{frame_of, Goes, Comes, IsNothingNew}
-
-pub found_static : (p : Look) (r : MethodRef) (c : Linked) (k : ℕ) (m : LinkedMethod) → p r.class ≡ Some c → same_bool (is_interface c.flags) r.interface ≡ true → method_place r.name r.desc c.methods ≡ Some k → slice_get c.methods k ≡ Some m → is_static m.flags ≡ true → FindsStatic p r k m
-found_static p r c k m a b d e f = λ q w g fs room ready. rw (a, b, d, e, f) refl
-
-pub not_there : (p : Look) (r : MethodRef) → p r.class ≡ None → FindsNoStatic p r
-not_there p r a = λ q w g fs room ready. rw a refl
-
-pub not_fit : (p : Look) (r : MethodRef) (c : Linked) → p r.class ≡ Some c → same_bool (is_interface c.flags) r.interface ≡ false → FindsNoStatic p r
-not_fit p r c a b = λ q w g fs room ready. rw (a, b) refl
-
-pub not_declared : (p : Look) (r : MethodRef) (c : Linked) → p r.class ≡ Some c → same_bool (is_interface c.flags) r.interface ≡ true → method_place r.name r.desc c.methods ≡ None → FindsNoStatic p r
-not_declared p r c a b d = λ q w g fs room ready. rw (a, b, d) refl
-
-pub not_static : (p : Look) (r : MethodRef) (c : Linked) (k : ℕ) (m : LinkedMethod) → p r.class ≡ Some c → same_bool (is_interface c.flags) r.interface ≡ true → method_place r.name r.desc c.methods ≡ Some k → slice_get c.methods k ≡ Some m → is_static m.flags ≡ false → FindsNoStatic p r
-not_static p r c k m a b d e f = λ q w g fs room ready. rw (a, b, d, e, f) refl
 
 -- ---- rows by their parts
 

@@ -1,5 +1,8 @@
 pub mod Arguments
+pub mod Arithmetic
 pub mod Ending
 pub mod Finding
+pub mod Library
 pub mod Marks
+pub mod Natives
 pub mod View

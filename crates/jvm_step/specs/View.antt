@@ -4,29 +4,37 @@ use Rattle.std.specs.Option.{option_map}
 use Rattle.program_rules.specs.Names.{Name}
 use Rattle.machine_rules.specs.declared.machine.Limits.{Limits}
 use Rattle.machine_rules.specs.State as def
-use Rattle.machine_rules.specs.Effects.{Effect, NoRow, goes_with, Fault, StackOverflow, AssertionFailed, throws}
+use Rattle.machine_rules.specs.Effects.{Effect, NoRow, Current, goes_with, throws}
+use Rattle.program_rules.specs.declared.fault.Fault.{Fault}
+use Rattle.program_rules.specs.declared.fault.Fault.TheVariants.{StackOverflowError, AssertionError}
 use Rattle.program_rules.specs.Faults.{fault_name}
 use Rattle.machine_rules.specs.Effects as effect
+use Rattle.program_rules.specs.Objects as objects
+use Rattle.program_rules.specs.Tests as tests
 use Rattle.program_rules.specs.Linked.{is_from_file}
+use Rattle.program_rules.specs.Outlines.{is_class_initializer}
 use Rattle.program_rules.specs.Programs.{Look}
 use Rattle.machine_rules.specs.Steps as steps
-use Rattle.program_rules.specs.Natives as natives
-use Rattle.machine_rules.specs.Initialisation as initialisation
+use Rattle.machine_so_far.specs.Initialisation as initialisation
+use Rattle.machine_so_far.specs.Steps as rows
 use Rattle.program_rules.specs.declared.value.Value.{Value}
 use Rattle.jvm_values.specs.declared.object.ObjKind.{ObjKind}
 use Rattle.jvm_values.specs.declared.object.ObjKind.TheVariants as kind
 use Rattle.jvm_values.specs.declared.object.Object.{Object}
 use Rattle.class_table.specs.declared.scripted.Call.{Call}
 use Rattle.class_table.specs.declared.scripted.Test.{Test}
+use Rattle.class_table.specs.declared.instruction.Instruction.{Instruction}
+use Rattle.class_table.specs.declared.linked.LinkedCode.{LinkedCode}
+use Rattle.class_table.specs.declared.linked.LinkedMethod.{LinkedMethod}
+use Rattle.class_table.specs.declared.linked.Entry.{Entry}
 use Rattle.class_table.specs.Info.{Info}
 use Rattle.class_table.specs.Symbols.{kind_of}
-use Rattle.class_table.specs.Table.{name_at}
+use Rattle.class_table.specs.Table.{look, name_at, entries_at}
+use Rattle.class_table.specs.View.{method_of, instruction_of}
 use Rattle.class_table.specs.Seen.{IsConsultedOf}
 use Rattle.jvm_step.specs.declared.frame.Frame.{Frame}
 use Rattle.jvm_step.specs.declared.machine.Exception.{Exception}
 use Rattle.jvm_step.specs.declared.machine.Exception.TheVariants as exception
-use Rattle.jvm_step.specs.declared.machine.Given.{Given}
-use Rattle.jvm_step.specs.declared.machine.Given.TheVariants as given
 use Rattle.jvm_step.specs.declared.machine.Need.{Need}
 use Rattle.jvm_step.specs.declared.machine.Need.TheVariants as need
 use Rattle.jvm_step.specs.declared.machine.Step.{Step}
@@ -54,18 +62,19 @@ Goes row false f = (p : List Info) (w : def.World) (fs : List def.Frame) → row
 
 -- ---- the world
 
-abbrev pub kind_in : List Info → ObjKind → def.ObjectKind
-kind_in p (kind.Plain class) = def.Plain (name_at p class.0)
-kind_in p (kind.Array k) = def.ArrayOf (kind_of k)
-kind_in p kind.Text = def.Plain (codes "java/lang/String")
+abbrev pub kind_in : List Info → ObjKind → objects.ObjectKind
+kind_in p (kind.Plain class) = objects.Plain (name_at p class.0)
+kind_in p (kind.Array k) = objects.ArrayOf (kind_of k)
+kind_in p kind.Text = objects.Plain (codes "java/lang/String")
 
-abbrev pub object_of : List Info → Object → def.Object
-object_of p o = record { kind = kind_in p o.kind; values = o.values; text = o.text }
+-- No native method keeps values in an object yet.
+abbrev pub object_of : List Info → Object → objects.Object
+object_of p o = record { kind = kind_in p o.kind; values = o.values; text = o.text; items = [] }
 
-abbrev pub call_of : Call → def.Call
+abbrev pub call_of : Call → tests.Call
 call_of c = record { class = c.class; method = c.method; kind = c.kind }
 
-abbrev pub test_of : Test → def.Test
+abbrev pub test_of : Test → tests.Test
 test_of t = record { class = t.class; method = t.method; script = map call_of t.script; expected = t.expected }
 
 -- What is kept of a class by its number, kept by its name.
@@ -100,13 +109,8 @@ abbrev pub state_of : List Info → Machine → def.MachineState
 state_of p m = record { frames = frames_of p m.frame m.callers; thrown = m.thrown; world = world_of p m.world }
 
 abbrev pub fault_of : Exception → Fault
-fault_of exception.StackOverflow = StackOverflow
-fault_of exception.AssertionFailed = AssertionFailed
-
-abbrev pub given_in : def.World → Given → natives.Given
-given_in w given.Gives = natives.Gives w None
-given_in w (given.Throws x) = natives.Throws w (fault_of x)
-given_in w given.NotGiven = natives.NotGiven
+fault_of exception.StackOverflowError = StackOverflowError
+fault_of exception.AssertionError = AssertionError
 
 -- What stands before the use of a class of this name.
 abbrev pub need_with : Name → Need → initialisation.Need
@@ -122,7 +126,7 @@ filled max locals = locals ++ replicate (max - length locals) None
 -- A frame with these locals is put on these frames, where the depth limit allows it.
 abbrev pub enters_with : Limits → def.World → List def.Frame → Name → ℕ → List (Option Value) → Effect
 enters_with q w fs class k locals =
-    if nat_lt (length fs) q.depth then goes_with w (record { class = class; method = k; at = 0; locals = locals; stack = [] } ∷ fs) else throws q w fs StackOverflow
+    if nat_lt (length fs) q.depth then goes_with w (record { class = class; method = k; at = 0; locals = locals; stack = [] } ∷ fs) else throws q w fs StackOverflowError
 
 -- ---- what a row of the machine comes to
 
@@ -134,6 +138,27 @@ IsNothingNew old new = (new.consulted ≡ old.consulted) × (new.reached ≡ old
 abbrev pub Comes : Effect → Bool → def.World → def.MachineState → Type 0
 Comes d true old new = d ≡ effect.Goes new
 Comes d false old new = (d ≡ NoRow) × IsNothingNew old new.world
+
+-- What a row may ask of a method of a class with these entries.
+abbrev pub current_of : List Entry → LinkedMethod → LinkedCode → Current
+current_of es m code = record {
+  result = option_map kind_of m.result;
+  max_stack = code.max_stack;
+  initializes = is_class_initializer (method_of es m);
+}
+
+-- An instruction of a method, and what its row may ask of the method.
+abbrev pub fetched_of : List Entry → LinkedMethod → LinkedCode → Instruction → steps.Fetched
+fetched_of es m code i =
+    record { instruction = instruction_of es code.switches i; here = current_of es m code }
+
+-- The row of an instruction of the running frame's method comes to this machine.
+abbrev pub Acts : List Info → LinkedMethod → LinkedCode → Instruction → Bool → Machine → Machine → Type 0
+Acts p method code i b old new =
+    IfSome old.frame (λ f. Comes
+    (rows.act (look p) old.limits (current_of (entries_at p f.class.0) method code)
+    (instruction_of (entries_at p f.class.0) code.switches i) (world_of p old.world) (frame_of p f)
+    (callers_of p old.callers)) b (world_of p old.world) (state_of p new))
 
 -- ---- what is always so
 
@@ -159,8 +184,8 @@ pub record IsMachineOf (p : List Info) (m : Machine) : Type 0 where
   pub begun : AreClasses p m.world.begun
   pub consulted : IsConsultedOf p m.world.consulted
   pub reached : AreClasses p m.world.reached
-  pub overflow : name_at p m.exceptions.overflow.0 ≡ fault_name StackOverflow
-  pub assertion : name_at p m.exceptions.assertion.0 ≡ fault_name AssertionFailed
+  pub overflow : name_at p m.exceptions.overflow.0 ≡ fault_name StackOverflowError
+  pub assertion : name_at p m.exceptions.assertion.0 ≡ fault_name AssertionError
 
 -- A row leaves a machine that is one still, with its limits and the lines that it has reached.
 pub record IsKept (p : List Info) (old new : Machine) : Type 0 where

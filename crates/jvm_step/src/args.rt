@@ -10,7 +10,7 @@ ghost use Rattle.jvm_step.specs.View.{filled};
 use crate::frame::Frame;
 use crate::locals::Locals;
 use class_model::{Kind, Memory};
-use machine_rules::Value;
+use program_rules::Value;
 use std::alloc::Global;
 
 // What an argument takes of the locals.

@@ -1,28 +1,27 @@
 ghost use Rattle.std.specs.Prelude.{◌≡◌};
 ghost use Rattle.machine_rules.specs.Arithmetic.{compares};
-ghost use Rattle.machine_rules.specs.Steps.{int_operation};
-ghost use Rattle.class_table.specs.View.{comparison_of, operation_of};
+ghost use Rattle.jvm_step.specs.Arithmetic.{int_operation};
 
-use class_table::{Comparison, Operation};
 use jvm_arith::{Op2, int_op};
+use program_rules::{Comparison, Operation};
 
 /// Whether a comparison holds of two ints (JVMS 6.5, `if<cond>` and `if_icmp<cond>`).
 pub fn compare(c: Comparison, x: i32, y: i32) -> bool
-    ensures { result ≡ compares (comparison_of c) x y }
+    ensures { result ≡ compares c x y }
 {
     match c {
-        Comparison::Equal => x == y,
-        Comparison::Unequal => x != y,
-        Comparison::Less => x < y,
-        Comparison::AtLeast => x >= y,
-        Comparison::Greater => x > y,
-        Comparison::AtMost => x <= y,
+        Comparison::IsEqual => x == y,
+        Comparison::IsUnequal => x != y,
+        Comparison::IsLess => x < y,
+        Comparison::IsAtLeast => x >= y,
+        Comparison::IsGreater => x > y,
+        Comparison::IsAtMost => x <= y,
     }
 }
 
 /// The result of an operation on two ints, where it has a row.
 pub fn compute(op: Operation, x: i32, y: i32) -> Option<i32>
-    ensures { result ≡ int_operation (operation_of op) x y }
+    ensures { result ≡ int_operation op x y }
 {
     match op {
         Operation::Plus => int_op(Op2::Add, x, y),

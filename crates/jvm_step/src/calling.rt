@@ -4,22 +4,21 @@
 ghost use Rattle.std.specs.Prelude.{◌≡◌, ◌+◌, ◌<◌, ◌^◌, Some, None, nat_lt, ℕ, List, [], ◌∷◌, length, map, IfOk, OnOk, IfSome, IfNone, IsSome};
 ghost use Rattle.machine_rules.specs.Effects.{on_args, enters};
 ghost use Rattle.machine_rules.specs.Effects as rule;
-ghost use Rattle.machine_rules.specs.Natives.{native};
 ghost use Rattle.machine_rules.specs.Lookups.{consult};
-ghost use Rattle.machine_rules.specs.Calls.{given};
 ghost use Rattle.machine_so_far.specs.Calls.{runs, invokes_static, invokes_special, is_object_initializer};
 ghost use Rattle.class_table.specs.Info.{Info};
-ghost use Rattle.class_table.specs.View.{method_ref_of, method_of, body_of, native_of, meaning_at};
+ghost use Rattle.class_table.specs.View.{method_ref_of, method_of, body_of, native_meaning, meaning_at};
 ghost use Rattle.class_table.specs.Opcodes.{on_method};
 ghost use Rattle.class_table.specs.Symbols.{kind_of};
 ghost use Rattle.program_rules.specs.Instructions.{MethodRef as DefReference, Instruction, Unlinked};
 ghost use Rattle.class_table.specs.Table.{look, name_at, entries_at, reference_at};
 ghost use Rattle.jvm_step.specs.Finding.{FindsStatic, FindsNoStatic};
-ghost use Rattle.jvm_step.specs.View.{frame_of, frames_of, callers_of, world_of, state_of, given_in, enters_with, Goes, Comes, IsMachineOf, IsKept};
+ghost use Rattle.jvm_step.specs.Natives.{CallsNative, EndsWith};
+ghost use Rattle.jvm_step.specs.View.{frame_of, frames_of, callers_of, world_of, state_of, enters_with, Goes, Comes, IsMachineOf, IsKept};
 
 use crate::args::take_locals;
 use crate::frame::Frame;
-use crate::initialisation::{begin, is_interface, is_static, need};
+use crate::initialisation::{begin, is_abstract, is_interface, is_static, need};
 use crate::locals::Locals;
 use crate::machine::{Exception, Given, Machine, Need};
 use crate::natives::take_given;
@@ -59,7 +58,7 @@ pub fn push_frame(
     ensures kept { OnOk result (IsKept p.now m.old m.new) }
 {
     if !has_room(&m.frame, &m.callers, m.limits.depth) {
-        throw(alloc, p, m, Exception::StackOverflow)?;
+        throw(alloc, p, m, Exception::StackOverflowError)?;
         return Ok(());
     }
     let callee = Frame {
@@ -115,7 +114,7 @@ fn go_on_with(
     requires quiet { m.old.thrown ≡ None }
     requires next { IfSome m.old.frame (λ f. f.at + 1 < 2 ^ 64) }
     requires class { class.0 < length p.now }
-    ensures row { IfOk result (λ b. IfSome m.old.frame (λ f. (room : ℕ) → Comes (given m.old.limits (frame_of p.now f) (callers_of p.now m.old.callers) room (given_in (consult (look p.now) (name_at p.now class.0) (world_of p.now m.old.world)) outcome)) b (world_of p.now m.old.world) (state_of p.now m.new))) }
+    ensures row { IfOk result (λ b. EndsWith p.now (name_at p.now class.0) outcome b m.old m.new) }
     ensures kept { OnOk result (IsKept p.now m.old m.new) }
 {
     match outcome {
@@ -149,7 +148,7 @@ fn call_native(
     requires quiet { m.old.thrown ≡ None }
     requires next { IfSome m.old.frame (λ f. f.at + 1 < 2 ^ 64) }
     requires class { class.0 < length p.now }
-    ensures row { IfOk result (λ b. IfSome m.old.frame (λ f. (room : ℕ) → Comes (on_args (map kind_of kinds.now) f.stack (λ args rest. given m.old.limits (record (frame_of p.now f) { stack = rest }) (callers_of p.now m.old.callers) room (native (native_of method) args (consult (look p.now) (name_at p.now class.0) (world_of p.now m.old.world))))) b (world_of p.now m.old.world) (state_of p.now m.new))) }
+    ensures row { IfOk result (λ b. CallsNative p.now (name_at p.now class.0) (native_meaning method) kinds.now b m.old m.new) }
     ensures kept { OnOk result (IsKept p.now m.old m.new) }
 {
     let Some(frame) = &mut m.frame else {
@@ -230,6 +229,9 @@ fn find_static<'a>(
     }
     let place = p.named_method(class, reference, target)?;
     let method = p.method(target, place)?;
+    if is_abstract(method.flags) {
+        return None;
+    }
     if !is_static(method.flags) {
         return None;
     }

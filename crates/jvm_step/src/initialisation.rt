@@ -3,12 +3,13 @@
 
 ghost use Rattle.std.specs.Prelude.{◌≡◌, ◌||◌, ◌&&◌, ◌<◌, None, Some, List, map, length, IfOk, OnOk};
 ghost use Rattle.std.specs.List.{list_any};
-ghost use Rattle.program_rules.specs.Linked.{is_library, is_class_initializer, has_class_initializer, has_static_constant, fits_kind, is_interface, is_static};
+ghost use Rattle.program_rules.specs.Linked.{is_library, has_static_constant, fits_kind, is_abstract, is_interface, is_static};
 ghost use Rattle.std.specs.Option.{option_map};
 ghost use Rattle.program_rules.specs.Kinds.{is_int_kind, is_text_kind};
 ghost use Rattle.program_rules.specs.Programs.{supers};
 ghost use Rattle.machine_rules.specs.Lookups.{consult};
-ghost use Rattle.machine_so_far.specs.Initialisation.{init_of, need_of, are_library, behind_first, begins};
+ghost use Rattle.machine_so_far.specs.Initialisation.{init_of, need_of, are_library, are_interfaces, is_alone, behind_first, begins};
+ghost use Rattle.program_rules.specs.Outlines.{outline_of, head_of, is_coded, is_interface_class, is_class_initializer, has_class_initializer};
 ghost use Rattle.class_table.specs.declared.linked.Entry.{Entry};
 ghost use Rattle.class_table.specs.View.{method_of, field_of, constant_of, linked_of};
 ghost use Rattle.class_table.specs.Symbols.{kind_of};
@@ -58,6 +59,41 @@ fn supers_are_library(alloc: Global, p: &Program, class: ClassId) -> Result<bool
     }
 }
 
+// Whether a name is that of an interface.
+#[tactic(auto, unfolding(class_table::specs::View::linked_of))]
+fn names_interface(p: &Program, name: &Name) -> bool
+    ensures { result ≡ is_interface_class (outline_of (look p.now name.now)) }
+{
+    match p.find(name) {
+        Some(id) => is_interface(p.info(id).linked().flags),
+        None => false,
+    }
+}
+
+// Whether all names are those of interfaces.
+fn are_interfaces(p: &Program, names: &[Name]) -> bool
+    ensures { result ≡ are_interfaces (look p.now) names.now }
+{
+    for name in names {
+        if !names_interface(p, name) {
+            return false;
+        }
+    }
+    true
+}
+
+// Whether all above a class is of the library, and what it names as its interfaces are interfaces.
+#[tactic(auto, unfolding(class_table::specs::View::linked_of))]
+fn is_alone(alloc: Global, p: &Program, class: ClassId) -> Result<bool, Memory>
+    requires { class.0 < length p.now }
+    ensures { IfOk result (λ b. b ≡ is_alone (look p.now) (name_at p.now class.0)) }
+{
+    if !supers_are_library(alloc, p, class)? {
+        return Ok(false);
+    }
+    Ok(are_interfaces(p, p.info(class).linked().interfaces.as_slice()))
+}
+
 // How far a class has come. Classes of the library are done from the start.
 #[tactic(auto, using(crate::proofs::Named::init_named), unfolding(class_table::specs::View::linked_of))]
 fn state_of_class(p: &Program, begun: &Begun, class: ClassId) -> InitState
@@ -81,7 +117,7 @@ pub fn need(alloc: Global, p: &Program, begun: &Begun, class: ClassId) -> Result
 {
     match state_of_class(p, begun, class) {
         InitState::Fresh => {
-            if supers_are_library(alloc, p, class)? {
+            if is_alone(alloc, p, class)? {
                 Ok(Need::Begins)
             } else {
                 Ok(Need::Unlisted)
@@ -94,6 +130,17 @@ pub fn need(alloc: Global, p: &Program, begun: &Begun, class: ClassId) -> Result
 
 // ---- the begin of a class
 
+// Whether a call of a method runs code of a class file. That of an abstract one doesn't, whatever
+// its body is.
+fn is_coded(method: &LinkedMethod) -> bool
+    ensures { (es : List Entry) → result ≡ is_coded (head_of (method_of es method.now)).callable }
+{
+    if is_abstract(method.flags) {
+        return false;
+    }
+    matches!(method.body, LinkedBody::Code(_))
+}
+
 // Whether a method is the initializer of its class.
 fn is_class_initializer(method: &LinkedMethod) -> bool
     ensures { (es : List Entry) → result ≡ is_class_initializer (method_of es method.now) }
@@ -101,7 +148,7 @@ fn is_class_initializer(method: &LinkedMethod) -> bool
     is_text(method.name.as_slice(), b"<clinit>")
         && is_text(method.desc.as_slice(), b"()V")
         && is_static(method.flags)
-        && matches!(method.body, LinkedBody::Code(_))
+        && is_coded(method)
 }
 
 /// Whether a method or a field is static (JVMS 4.5, 4.6).
@@ -109,6 +156,13 @@ pub fn is_static(flags: u16) -> bool
     ensures { result ≡ is_static flags }
 {
     flags / 8 % 2 == 1
+}
+
+/// Whether a method is abstract (JVMS 4.6).
+pub fn is_abstract(flags: u16) -> bool
+    ensures { result ≡ is_abstract flags }
+{
+    flags / 1024 % 2 == 1
 }
 
 /// Whether a class is an interface (JVMS 4.1).

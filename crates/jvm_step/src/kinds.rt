@@ -6,7 +6,7 @@ ghost use Rattle.class_table.specs.Symbols.{kind_of};
 ghost use Rattle.jvm_step.specs.Arguments.{are_of_kinds};
 
 use class_model::Kind;
-use machine_rules::Value;
+use program_rules::Value;
 
 // Whether a value is of a kind. Of references this asks no class.
 fn is_of_kind(kind: &Kind, v: Value) -> bool

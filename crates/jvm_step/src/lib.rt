@@ -1,4 +1,4 @@
-//! One step of the machine (JVMS 2.11, 6.5): what `machine_rules` says by names, done by class numbers and vectors. A step of arithmetic, loads, jumps and static calls looks nothing up by text and takes no memory beyond its frame, but where it uses a class or reaches a line for the first time, or throws an exception.
+//! One step of the machine (JVMS 2.11, 6.5): what `machine_so_far` says by names, done by class numbers and vectors. A step of arithmetic, loads, jumps and static calls looks nothing up by text and takes no memory beyond its frame, but where it uses a class or reaches a line for the first time, or throws an exception.
 #![tactic(auto)]
 
 mod args;

@@ -2,7 +2,7 @@ ghost use Rattle.std.specs.Prelude.{◌≡◌, nat_lt, true, false, length, slic
 ghost use Rattle.std.specs.Bool.{OnTrue, OnFalse};
 ghost use Rattle.machine_rules.specs.Effects.{with_local, without_long};
 
-use machine_rules::Value;
+use program_rules::Value;
 use std::marker::Model;
 
 /// The locals of a frame (JVMS 2.6.1). A local that was never set, or is the second one of a long, holds nothing.
@@ -37,7 +37,7 @@ impl Locals {
 
     /// Puts a value of one word into a local. It is false, and nothing changes, where there is no such local.
     pub fn store(&mut self, n: usize, v: Value) -> bool
-        ensures with_local { OnTrue result ((nat_lt n (length self.old) ≡ true) × (self.new ≡ with_local self.old n v)) }
+        ensures stored { OnTrue result ((nat_lt n (length self.old) ≡ true) × (self.new ≡ with_local self.old n v)) }
         ensures absent { OnFalse result (nat_lt n (length self.old) ≡ false) }
     {
         if n >= self.slots.len() {

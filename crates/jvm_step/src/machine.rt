@@ -7,11 +7,11 @@ use class_table::{Call, Consulted};
 use jvm_values::Heap;
 use machine_rules::{Limits, Outcome};
 
-/// An exception that the machine makes.
-#[derive(Clone, Copy, Debug, PartialEq, Eq)]
+/// An exception that the machine makes, by its class.
+#[derive(Clone, Copy)]
 pub enum Exception {
-    StackOverflow,
-    AssertionFailed,
+    StackOverflowError,
+    AssertionError,
 }
 
 /// The classes of the exceptions that the machine makes.
@@ -22,7 +22,7 @@ pub struct Exceptions {
 }
 
 /// What a native method gives. It is done within the step of its call (this project's own).
-#[derive(Clone, Copy, Debug, PartialEq, Eq)]
+#[derive(Clone, Copy)]
 pub enum Given {
     /// It returns without a result.
     Gives,
@@ -32,7 +32,7 @@ pub enum Given {
 }
 
 /// What stands before the use of a class: nothing, its begin, an initialisation that failed, or the begin of supers, which has no row yet (JVMS 5.5).
-#[derive(Clone, Copy, Debug, PartialEq, Eq)]
+#[derive(Clone, Copy)]
 pub enum Need {
     Ready,
     Begins,
@@ -68,7 +68,7 @@ pub struct Machine {
 }
 
 /// What a step came to.
-#[derive(Debug, Drop, PartialEq, Eq)]
+#[derive(Drop)]
 pub enum Step {
     Next,
     /// The state had ended before the step.

@@ -2,12 +2,12 @@ ghost use Rattle.std.specs.Prelude.{◌≡◌, ℕ, ℤ, Ok, ◌+◌, ◌<◌, �
 ghost use Rattle.program_rules.specs.Kinds.{height_of, width_of};
 ghost use Rattle.program_rules.specs.declared.value.Value.{Value};
 ghost use Rattle.machine_rules.specs.Effects.{Effect, NoRow, on_top, on_int, on_ints, on_args};
-ghost use Rattle.program_rules.specs.Natives.{on_object};
+ghost use Rattle.machine_so_far.specs.Calls.{on_object};
 ghost use Rattle.class_table.specs.Symbols.{kind_of};
 
 use crate::kinds::last_of_kinds;
 use class_model::{Kind, Memory};
-use machine_rules::Value;
+use program_rules::Value;
 use std::alloc::Global;
 use std::marker::Model;
 

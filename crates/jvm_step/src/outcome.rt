@@ -5,7 +5,7 @@ ghost use Rattle.jvm_step.specs.Ending.{ending_of};
 use class_model::Name;
 
 /// How a run came to its end.
-#[derive(Debug, Drop, PartialEq, Eq)]
+#[derive(Debug, Drop)]
 pub enum Outcome {
     Passed,
     Failed,

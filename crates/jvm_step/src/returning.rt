@@ -24,7 +24,7 @@ use crate::rows::{go_on, push};
 use class_model::{Kind, Memory};
 use class_table::{LinkedBody, LinkedRow, Program};
 use jvm_arith::narrow;
-use machine_rules::{CallKind, Value};
+use program_rules::{CallKind, Value};
 
 // The words that a frame's stack may have.
 fn room_of(p: &Program, f: &Frame) -> Option<u16>

@@ -2,16 +2,15 @@
 #![tactic(auto, unfolding(crate::specs::View::frame_of))]
 
 ghost use Rattle.std.specs.Prelude.{◌≡◌, ◌+◌, ◌<◌, ◌^◌, IfOk};
-ghost use Rattle.class_table.specs.View.{comparison_of, operation_of};
-ghost use Rattle.machine_rules.specs.Effects.{pushes, on_top};
-ghost use Rattle.machine_rules.specs.Steps.{loads_int, loads_reference, stores_int, pops_word, operates_int, branches_on_int, branches_on_ints};
+ghost use Rattle.machine_rules.specs.Effects.{pushes};
+ghost use Rattle.machine_rules.specs.Steps.{loads_int, loads_reference, stores_int, pops_word, branches_on_int, branches_on_ints};
+ghost use Rattle.jvm_step.specs.Arithmetic.{operates_by_result};
 ghost use Rattle.jvm_step.specs.View.{frame_of, Goes};
 
 use crate::arithmetic::{compare, compute};
 use crate::frame::Frame;
 use class_model::Memory;
-use class_table::{Comparison, Operation};
-use machine_rules::Value;
+use program_rules::{Comparison, Operation, Value};
 
 /// nop: goes on to the next instruction.
 pub fn go_on(f: &mut Frame)
@@ -92,7 +91,7 @@ pub fn store_int(f: &mut Frame, n: u16) -> bool
 /// pop: takes off a value of one word.
 pub fn pop(f: &mut Frame) -> bool
     requires next { f.old.at + 1 < 2 ^ 64 }
-    ensures row { Goes (λ p w fs. on_top (frame_of p f.old).stack (pops_word w (frame_of p f.old) fs)) result f.new }
+    ensures row { Goes (λ p w fs. pops_word w (frame_of p f.old) fs) result f.new }
     ensures class { f.new.class ≡ f.old.class }
 {
     match f.stack.pop() {
@@ -108,7 +107,7 @@ pub fn pop(f: &mut Frame) -> bool
 /// iadd and isub: sums and differences wrap.
 pub fn operate(f: &mut Frame, op: Operation) -> Result<bool, Memory>
     requires next { f.old.at + 1 < 2 ^ 64 }
-    ensures row { IfOk result (λ b. Goes (λ p w fs. operates_int w (frame_of p f.old) fs (operation_of op)) b f.new) }
+    ensures row { IfOk result (λ b. Goes (λ p w fs. operates_by_result w (frame_of p f.old) fs op) b f.new) }
     ensures class { f.new.class ≡ f.old.class }
 {
     let Some((x, y)) = f.stack.pop_ints() else {
@@ -125,7 +124,7 @@ pub fn operate(f: &mut Frame, op: Operation) -> Result<bool, Memory>
 /// The jumps on an int against 0.
 pub fn branch_on_int(f: &mut Frame, c: Comparison, to: usize) -> bool
     requires next { f.old.at + 1 < 2 ^ 64 }
-    ensures row { Goes (λ p w fs. branches_on_int w (frame_of p f.old) fs (comparison_of c) to) result f.new }
+    ensures row { Goes (λ p w fs. branches_on_int w (frame_of p f.old) fs c to) result f.new }
     ensures class { f.new.class ≡ f.old.class }
 {
     let Some(x) = f.stack.pop_int() else {
@@ -138,7 +137,7 @@ pub fn branch_on_int(f: &mut Frame, c: Comparison, to: usize) -> bool
 /// The jumps on two ints.
 pub fn branch_on_ints(f: &mut Frame, c: Comparison, to: usize) -> bool
     requires next { f.old.at + 1 < 2 ^ 64 }
-    ensures row { Goes (λ p w fs. branches_on_ints w (frame_of p f.old) fs (comparison_of c) to) result f.new }
+    ensures row { Goes (λ p w fs. branches_on_ints w (frame_of p f.old) fs c to) result f.new }
     ensures class { f.new.class ≡ f.old.class }
 {
     let Some((x, y)) = f.stack.pop_ints() else {

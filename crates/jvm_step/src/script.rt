@@ -17,13 +17,14 @@ ghost use Rattle.jvm_step.specs.View.{world_of, state_of, call_of, Comes, Answer
 
 use crate::args::locals_for;
 use crate::calling::{Found, push_frame};
-use crate::initialisation::{begin, is_interface, is_static, need};
+use crate::initialisation::{begin, is_abstract, is_interface, is_static, need};
 use crate::machine::{Machine, Need, Step};
 use crate::text::{joined, name};
 use crate::throwing::make;
 use class_model::{ClassId, Kind, Memory, Name, Seq};
 use class_table::{Call, LinkedBody, LinkedField, Program};
-use machine_rules::{CallKind, Outcome, Value};
+use machine_rules::Outcome;
+use program_rules::{CallKind, Value};
 use std::alloc::Global;
 
 // ---- a new instance
@@ -119,6 +120,9 @@ fn find_call<'a>(
     let Some(method) = p.method(class, place) else {
         return Ok(None);
     };
+    if is_abstract(method.flags) {
+        return Ok(None);
+    }
     if is_static(method.flags) != needs_static(call.kind) {
         return Ok(None);
     }

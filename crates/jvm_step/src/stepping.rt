@@ -2,15 +2,12 @@
 #![tactic(auto, unfolding(crate::specs::View::frame_of, crate::specs::View::callers_of, crate::specs::View::world_of))]
 
 ghost use Rattle.std.specs.Prelude.{◌≡◌, ◌≢◌, ◌+◌, ◌<◌, ◌^◌, None, [], length, map, IfOk, OnOk, IfSome, IfNone, IsSome};
-ghost use Rattle.std.specs.Option.{option_map};
 ghost use Rattle.program_rules.specs.Linked.{method_in};
-ghost use Rattle.machine_so_far.specs.Steps.{act, goes, step_so_far};
+ghost use Rattle.machine_so_far.specs.Steps.{goes, step_so_far};
 ghost use Rattle.machine_rules.specs.Steps.{outcome_of, method_text};
-ghost use Rattle.class_table.specs.View.{instruction_of};
-ghost use Rattle.class_table.specs.Symbols.{kind_of};
-ghost use Rattle.class_table.specs.Table.{look, name_at, entries_at};
+ghost use Rattle.class_table.specs.Table.{look, name_at};
 ghost use Rattle.jvm_step.specs.declared.machine.Step.TheVariants.{Stuck as StuckAt};
-ghost use Rattle.jvm_step.specs.View.{frame_of, frames_of, callers_of, world_of, state_of, named, Comes, Answers, IsMachineOf, IsKept};
+ghost use Rattle.jvm_step.specs.View.{frame_of, frames_of, world_of, state_of, named, Acts, Comes, Answers, IsMachineOf, IsKept};
 
 use crate::calling::{called, invoke_special, invoke_static};
 use crate::fetching::{Fetched, fetch};
@@ -25,16 +22,17 @@ use crate::script::next_call;
 use crate::text::joined;
 use class_model::{ClassId, Memory, Name, Seq};
 use class_table::{Instruction, Program};
-use machine_rules::{Outcome, Value};
+use machine_rules::Outcome;
+use program_rules::Value;
 use std::alloc::Global;
 
 /// What the instruction of the running frame does, by one row for each kind. The kinds that have no row yet are the last ones.
-#[tactic(auto, unfolding(machine_rules::specs::Steps::act, class_table::specs::View::instruction_of))]
+#[tactic(auto, unfolding(machine_so_far::specs::Steps::act, class_table::specs::View::instruction_of))]
 fn act(alloc: Global, p: &Program, m: &mut Machine, here: Fetched<'_>) -> Result<bool, Memory>
     requires machine { IsMachineOf p.now m.old }
     requires quiet { m.old.thrown ≡ None }
     requires next { IfSome m.old.frame (λ f. f.at + 1 < 2 ^ 64) }
-    ensures row { IfOk result (λ b. IfSome m.old.frame (λ f. Comes (act (look p.now) m.old.limits (record { result = option_map kind_of here.entry.result.now; max_stack = here.entry.code.now.max_stack }) (instruction_of (entries_at p.now f.class.0) here.entry.code.now.switches here.entry.instruction) (world_of p.now m.old.world) (frame_of p.now f) (callers_of p.now m.old.callers)) b (world_of p.now m.old.world) (state_of p.now m.new))) }
+    ensures row { IfOk result (λ b. Acts p.now here.entry.method.now here.entry.code.now here.entry.instruction b m.old m.new) }
     ensures kept { OnOk result (IsKept p.now m.old m.new) }
 {
     let Some(frame) = &mut m.frame else {
@@ -71,11 +69,11 @@ fn act(alloc: Global, p: &Program, m: &mut Machine, here: Fetched<'_>) -> Result
             Ok(true)
         }
         Instruction::IntReturn => {
-            let goes = return_int(p, m, here.result)?;
+            let goes = return_int(p, m, &here.method.result)?;
             Ok(goes)
         }
         Instruction::PlainReturn => {
-            let goes = return_plain(p, m, here.result)?;
+            let goes = return_plain(p, m, &here.method.result)?;
             Ok(goes)
         }
         Instruction::InvokeSpecial(reference) => {
@@ -188,7 +186,7 @@ fn go(alloc: Global, p: &Program, m: &mut Machine) -> Result<bool, Memory>
     }
 }
 
-// How a machine has outcome_of, if it has: an object has left the script, or the script is done, or the world says so (this project's own).
+// How a machine has ended, if it has: an object has left the script, or the script is done, or the world says so (this project's own).
 fn end(p: &Program, m: &Machine) -> Option<Outcome>
     ensures value { result ≡ outcome_of (state_of p.now m.now) }
     ensures quiet { IfNone result (m.now.frame ≡ None → m.now.thrown ≡ None) }
@@ -229,8 +227,8 @@ fn stuck(alloc: Global, p: &Program, class: ClassId, method: u32, at: usize) -> 
     })
 }
 
-/// One step of a machine. A machine that has outcome_of stays as it is. Memory runs out where what the machine or the consulted names take isn't there, and as in `Program::consult`.
-#[tactic(auto, unfolding(machine_rules::specs::Steps::step_of, crate::specs::View::frame_of))]
+/// One step of a machine. A machine that has ended stays as it is. Memory runs out where what the machine or the consulted names take isn't there, and as in `Program::consult`.
+#[tactic(auto, unfolding(machine_so_far::specs::Steps::step_so_far, crate::specs::View::frame_of))]
 pub fn step(alloc: Global, p: &Program, m: &mut Machine) -> Result<Step, Memory>
     requires machine { IsMachineOf p.now m.old }
     ensures step { IfOk result (λ r. Answers (step_so_far (look p.now) m.old.limits (state_of p.now m.old)) r (state_of p.now m.old) (state_of p.now m.new)) }
@@ -253,7 +251,7 @@ pub fn step(alloc: Global, p: &Program, m: &mut Machine) -> Result<Step, Memory>
 }
 
 impl Machine {
-    /// How the machine has outcome_of, if it has.
+    /// How the machine has ended, if it has.
     pub fn end(&self, p: &Program) -> Option<Outcome>
         ensures { result ≡ outcome_of (state_of p.now self.now) }
     {

@@ -51,8 +51,8 @@ pub fn throw(
     ensures kept { OnOk result (IsKept p.now m.old m.new) }
 {
     let class = match exception {
-        Exception::StackOverflow => m.exceptions.overflow,
-        Exception::AssertionFailed => m.exceptions.assertion,
+        Exception::StackOverflowError => m.exceptions.overflow,
+        Exception::AssertionError => m.exceptions.assertion,
     };
     let fields = exception_fields(alloc)?;
     match make(&mut m.world.heap, class, &fields)? {

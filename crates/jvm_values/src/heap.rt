@@ -8,7 +8,7 @@ use crate::defaults::{default_elements, default_fields};
 use crate::fault::HeapFault;
 use crate::object::{ArrayKind, ObjKind, Object};
 use class_model::{ClassId, Kind, Name, Seq};
-use machine_rules::Value;
+use program_rules::Value;
 use std::alloc::Global;
 use std::marker::Model;
 use std::mem;

@@ -6,11 +6,8 @@ mod fault;
 mod heap;
 mod kept;
 mod object;
-#[cfg(test)]
-mod tests;
 
 pub use fault::HeapFault;
 pub use heap::Heap;
 pub use kept::Kept;
-pub use machine_rules::Value;
 pub use object::{ArrayKind, ObjKind, Object};

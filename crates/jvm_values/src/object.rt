@@ -1,11 +1,11 @@
 use class_model::{ClassId, Kind, Name, Seq};
-use machine_rules::Value;
+use program_rules::Value;
 
 /// What an array's elements are.
 pub type ArrayKind = Kind;
 
 /// What an object is.
-#[derive(Debug, Drop, PartialEq, Eq)]
+#[derive(Drop)]
 pub enum ObjKind {
     /// An instance of a class.
     Plain(ClassId),
@@ -16,7 +16,7 @@ pub enum ObjKind {
 }
 
 /// An object of the heap (JVMS 2.4, 2.7).
-#[derive(Debug, Drop, PartialEq, Eq)]
+#[derive(Drop)]
 pub struct Object {
     pub kind: ObjKind,
     /// The fields, those of the highest superclass first, or the elements.

@@ -4,7 +4,8 @@ use Rattle.std.specs.Prelude.{Bool, true, false, ◌&&◌, ◌||◌, if◌then�
 use Rattle.machine_rules.specs.declared.machine.InitState.{InitState}
 use Rattle.machine_rules.specs.declared.machine.InitState.TheVariants.{Fresh, Running, Done, Failed}
 use Rattle.program_rules.specs.Names.{Name}
-use Rattle.program_rules.specs.Linked.{Linked, is_library, has_class_initializer, has_static_constant}
+use Rattle.program_rules.specs.Linked.{Linked, is_library, has_static_constant}
+use Rattle.program_rules.specs.Outlines.{outline_of, is_interface_class, interfaces_in, has_class_initializer}
 use Rattle.program_rules.specs.Programs.{Look, supers}
 use Rattle.machine_rules.specs.State.{Frame, World}
 use Rattle.machine_rules.specs.Effects.{Effect, NoRow, goes_with}
@@ -22,7 +23,8 @@ pub data Need : Type 0 where
   Fails : Need
   Unlisted : Need
 
--- What a class needs by how far it has come, and by whether all above it is of the library.
+-- What a class needs by how far it has come, and by whether all above it is as the begin of a class
+-- wants it.
 abbrev pub need_with : InitState → Name → Bool → Need
 need_with Fresh n true = Begins n
 need_with Fresh n false = Unlisted
@@ -40,11 +42,22 @@ abbrev pub behind_first : List Name → List Name
 behind_first [] = []
 behind_first (n ∷ ns) = ns
 
+-- Whether all these names are those of interfaces.
+abbrev pub are_interfaces : Look → List Name → Bool
+are_interfaces p [] = true
+are_interfaces p (n ∷ ns) = is_interface_class (outline_of (p n)) && are_interfaces p ns
+
+-- Whether all above a class is of the library, and what it names as its interfaces are interfaces.
+abbrev pub is_alone : Look → Name → Bool
+is_alone p n =
+    are_library p (behind_first (supers p n))
+    && are_interfaces p (interfaces_in (outline_of (p n)))
+
 -- A class that is done or Running needs nothing (JVMS 5.5, steps 3 and 4). A fresh one is begun,
 -- where all above it is of the library; that supers of the program are begun before it has no row
--- yet.
+-- yet, nor has a class where it names an interface.
 abbrev pub need_of : Look → List (Name × InitState) → Name → Need
-need_of p is n = need_with (init_of p is n) n (are_library p (behind_first (supers p n)))
+need_of p is n = need_with (init_of p is n) n (is_alone p n)
 
 -- A class without an initializer is begun and done in one step, and the instruction stays, to be
 -- executed again (this project's own). One that has an initializer, or a static field with a

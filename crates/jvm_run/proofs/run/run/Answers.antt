@@ -1,8 +1,6 @@
-use Rattle.std.proofs.Common.{◌≡◌, sym, ap, ◌∙◌, arith, ◌<◌}
-use Rattle.machine_so_far.specs.Runs.{run_so_far_from}
-use Rattle.machine_rules.specs.Runs.{With, StuckAt, comes_to}
+use Rattle.std.proofs.Common.{sym, ap, ◌∙◌, arith, ◌<◌}
 use Rattle.class_table.specs.Table.{look}
-use Rattle.jvm_step.specs.View.{state_of, limits_of, Answers}
+use Rattle.jvm_step.specs.View.{state_of, limits_of}
 use Rattle.jvm_run.proofs.Runs.{run_ended, run_stuck}
 use Rattle.jvm_run.proofs.run.run.Goals as goal
 

@@ -1,12 +1,10 @@
 use Rattle.std.proofs.Common.{List, refl, subst}
 use Rattle.program_rules.specs.declared.value.Value.{Value}
-use Rattle.program_rules.specs.Natives as natives
-use Rattle.machine_rules.specs.Natives.{native}
-use Rattle.machine_rules.specs.Lookups.{consult}
-use Rattle.machine_rules.specs.Calls.{given}
-use Rattle.class_table.specs.Table.{look, name_at}
-use Rattle.class_table.specs.View.{native_of}
-use Rattle.jvm_step.specs.View.{frame_of, callers_of, world_of, state_of, given_in, Comes}
+use Rattle.program_rules.specs.Deeds.{Deed}
+use Rattle.class_table.specs.Table.{name_at}
+use Rattle.class_table.specs.View.{native_meaning}
+use Rattle.jvm_step.specs.Natives.{deed_of, ends_with, consulted_in}
+use Rattle.jvm_step.specs.View.{frame_of, callers_of, world_of, state_of, Comes}
 use Rattle.jvm_step.proofs.Calls.{if_some_at, some_of, none_of, comes_as}
 use Rattle.jvm_step.proofs.calling.call_native.Goals as goal
 
@@ -16,10 +14,10 @@ returns-in_default-take_given-clause-row c =
     let p = c.args.p.now in
     let m = c.args.m.now in
     let f = c.in-Some.frame in
-    let w = consult (look p) (name_at p c.args.class.0) (world_of p m.world) in
+    let w = consulted_in p (name_at p c.args.class.0) m in
     if_some_at _ m.frame f c.in-Some.is
     (λ room.
-    let go = λ (args : List Value) (rest : List Value). given m.limits (record (frame_of p f) { stack = rest }) (callers_of p m.callers) room (native (native_of c.args.method) args w) in
+    let go = λ (args : List Value) (rest : List Value). ends_with m.limits w (record (frame_of p f) { stack = rest }) (callers_of p m.callers) room (native_meaning c.args.method w.heap args) in
     (none_of _ c.take_given.result c.in_default-take_given.is c.take_given.ensures.none go, (refl, refl)))
 
 pub returns-clause-row : goal.returns-clause-row
@@ -28,11 +26,11 @@ returns-clause-row c =
     let p = c.args.p.now in
     let m = c.args.m.now in
     let f = c.in-Some.frame in
-    let w = consult (look p) (name_at p c.args.class.0) (world_of p m.world) in
+    let w = consulted_in p (name_at p c.args.class.0) m in
     let outcome = c.in-Some-take_given.outcome in
     if_some_at _ m.frame f c.in-Some.is
     (λ room.
-    let go = λ (g : natives.Given) (rest : List Value). given m.limits (record (frame_of p f) { stack = rest }) (callers_of p m.callers) room g in
+    let go = λ (d : Deed) (rest : List Value). ends_with m.limits w (record (frame_of p f) { stack = rest }) (callers_of p m.callers) room d in
     comes_as _ _ _ _ _
-    (some_of _ c.take_given.result outcome c.in-Some-take_given.is c.take_given.ensures.some w go)
-    (subst (λ x. Comes (given m.limits (frame_of p x) (callers_of p m.callers) room (given_in w outcome)) c.in_ok-goes.goes (world_of p m.world) (state_of p c.go_on_with.new.m)) c.take_given.ensures.rest (c.in_ok-goes.ensures.row room)))
+    (some_of _ c.take_given.result outcome c.in-Some-take_given.is c.take_given.ensures.some w.heap go)
+    (subst (λ x. Comes (ends_with m.limits w (frame_of p x) (callers_of p m.callers) room (deed_of outcome)) c.in_ok-goes.goes (world_of p m.world) (state_of p c.go_on_with.new.m)) c.take_given.ensures.rest (c.in_ok-goes.ensures.row room)))

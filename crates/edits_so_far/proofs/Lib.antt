@@ -1,0 +1,5 @@
+mod Exchange
+mod Lockstep
+mod Kept
+mod Unreached
+mod Reached
