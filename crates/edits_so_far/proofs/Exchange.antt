@@ -10,9 +10,9 @@ use Rattle.machine_rules.specs.declared.machine.InitState.TheVariants.{Done}
 use Rattle.machine_rules.specs.declared.machine.Limits.{Limits}
 use Rattle.program_rules.specs.Names.{Name, same, plain_descriptor, class_initializer}
 use Rattle.program_rules.specs.Instructions.{MethodRef}
-use Rattle.program_rules.specs.Linked.{Linked, LinkedMethod, LinkedRow, is_static, is_interface, is_abstract, method_from, method_place, has_code, is_class_initializer, has_class_initializer, has_static_constant, is_library, covers, is_covered}
+use Rattle.program_rules.specs.Linked.{Linked, LinkedMethod, LinkedRow, is_static, is_interface, is_abstract, method_from, method_place, has_static_constant, is_library, covers, is_covered}
 use Rattle.program_rules.specs.Objects.{Object, Plain}
-use Rattle.program_rules.specs.Outlines.{outline_of, is_interface_class, interfaces_in}
+use Rattle.program_rules.specs.Outlines.{outline_of, is_interface_class, interfaces_in, head_of, is_initializer_head, is_class_initializer, has_class_initializer}
 use Rattle.program_rules.specs.Programs.{Look, supers}
 use Rattle.program_rules.specs.Resolution.{same_bool}
 use Rattle.program_rules.specs.Tests.{Call}
@@ -89,7 +89,7 @@ module _ (e : Edit) (p p' : Look) (ed : IsEdited e p p') where
   initializer_alike : has_class_initializer (Some after) ≡ has_class_initializer (Some ed.before)
   initializer_alike =
       any_set is_class_initializer ed.before.methods e.method ed.method method' ed.declares
-      (ap (λ b. same ed.method.name class_initializer && same ed.method.desc plain_descriptor && is_static ed.method.flags && has_code b) (sym ed.with_code))
+      (ap (λ b. is_initializer_head (head_of (record ed.method { body = b }))) (sym ed.with_code))
 
   begins_same : (w : World) (fs : List Frame) (n : Name) → begins w fs n (p' n) ≡ begins w fs n (p n)
   begins_same w fs n = class_alike e p p' ed (begins w fs n) (ap (λ b. if b || has_static_constant (Some ed.before) then NoRow else goes_with (marks n Done w) fs) initializer_alike) n

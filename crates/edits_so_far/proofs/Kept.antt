@@ -17,7 +17,8 @@ use Rattle.machine_rules.specs.declared.machine.Outcome.TheVariants.{MemoryOut}
 use Rattle.program_rules.specs.Names.{Name, plain_descriptor}
 use Rattle.program_rules.specs.Kinds.{Kind, is_int_kind, is_of_kind, height_of, narrow, reversed_onto}
 use Rattle.program_rules.specs.Instructions.{Instruction, MethodRef, Nop, IntConstant, IntLoad, ReferenceLoad, IntStore, Pop, IntOperation, IfInt, IfInts, Goto, IntReturn, PlainReturn, InvokeSpecial, InvokeStatic}
-use Rattle.program_rules.specs.Linked.{Linked, LinkedBody, HasCode, IsNative, NoBody, is_static, is_interface, is_abstract, is_covered, is_from_file, has_class_initializer, has_static_constant, method_place}
+use Rattle.program_rules.specs.Linked.{Linked, LinkedBody, HasCode, IsNative, NoBody, is_static, is_interface, is_abstract, is_covered, is_from_file, has_static_constant, method_place}
+use Rattle.program_rules.specs.Outlines.{has_class_initializer}
 use Rattle.program_rules.specs.Objects.{Object, object_at}
 use Rattle.program_rules.specs.Deeds.{Change, Deed, Gives, Changes, Makes, Boxes, Throws, NoDeed}
 use Rattle.program_rules.specs.Programs.{Look}

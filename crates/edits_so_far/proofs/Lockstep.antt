@@ -11,7 +11,8 @@ use Rattle.machine_rules.specs.declared.machine.Limits.{Limits}
 use Rattle.program_rules.specs.Names.{Name, plain_descriptor}
 use Rattle.program_rules.specs.Kinds.{Kind, is_int_kind, narrow, reversed_onto}
 use Rattle.program_rules.specs.Instructions.{Instruction, MethodRef, Nop, IntConstant, IntLoad, ReferenceLoad, IntStore, Pop, IntOperation, IfInt, IfInts, Goto, IntReturn, PlainReturn, InvokeSpecial, InvokeStatic}
-use Rattle.program_rules.specs.Linked.{Linked, LinkedMethod, LinkedBody, HasCode, IsNative, NoBody, is_static, is_interface, is_abstract, is_covered, has_class_initializer, has_static_constant, method_place}
+use Rattle.program_rules.specs.Linked.{Linked, LinkedMethod, LinkedBody, HasCode, IsNative, NoBody, is_static, is_interface, is_abstract, is_covered, has_static_constant, method_place}
+use Rattle.program_rules.specs.Outlines.{has_class_initializer}
 use Rattle.program_rules.specs.Objects.{Object}
 use Rattle.program_rules.specs.Programs.{Look}
 use Rattle.program_rules.specs.Resolution.{same_bool}

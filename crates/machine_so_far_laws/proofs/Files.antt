@@ -4,7 +4,8 @@ use Rattle.std.specs.Prelude.{◌&&◌, if◌then◌else◌, slice_get, is_none}
 use Rattle.std.specs.List.{list_all}
 use Rattle.program_rules.specs.Names.{Name, same, plain_descriptor, is_array_name}
 use Rattle.program_rules.specs.Instructions.{Instruction, MethodRef, InvokeSpecial}
-use Rattle.program_rules.specs.Linked.{Linked, LinkedMethod, LinkedCode, method_in, code_in, is_class_initializer}
+use Rattle.program_rules.specs.Linked.{Linked, LinkedMethod, LinkedCode, method_in, code_in}
+use Rattle.program_rules.specs.Outlines.{is_class_initializer}
 use Rattle.program_rules.specs.Library.{class_among, first_of}
 use Rattle.program_rules.specs.Programs.{Look}
 use Rattle.machine_rules.specs.Effects.{Current}

@@ -7,8 +7,8 @@ use Rattle.std.proofs.lemmas.List.{append_assoc}
 use Rattle.machine_rules.specs.declared.machine.InitState.{InitState}
 use Rattle.machine_rules.specs.declared.machine.InitState.TheVariants.{Fresh, Running, Done, Failed}
 use Rattle.program_rules.specs.Names.{Name, same, class_initializer, plain_descriptor}
-use Rattle.program_rules.specs.Linked.{Linked, LinkedField, LinkedMethod, LinkedBody, HasCode, IsNative, NoBody, FieldConstant, is_library, is_interface, is_static, is_abstract, has_code, is_class_initializer, has_class_initializer, fits_kind}
-use Rattle.program_rules.specs.Outlines.{Abstractly, callable_of, head_of, outline_of, is_of_library, is_interface_class, interfaces_in, is_coded, has_default}
+use Rattle.program_rules.specs.Linked.{Linked, LinkedField, LinkedMethod, LinkedBody, HasCode, IsNative, NoBody, FieldConstant, is_library, is_interface, is_static, is_abstract, fits_kind}
+use Rattle.program_rules.specs.Outlines.{Abstractly, callable_of, head_of, outline_of, is_of_library, is_interface_class, interfaces_in, is_coded, has_default, is_class_initializer, has_class_initializer}
 use Rattle.program_rules.specs.Programs.{Look, supers, Node, node, Rising, Beginning, superclass_in, family}
 use Rattle.machine_rules.specs.Initialisation as rules
 use Rattle.machine_rules.specs.Initialisation.{init_in, state_of, is_begun, is_begun_class, behind_begun, is_initialised_before, first_need, first_of, beginning_of, constant_with, constants_from, initializer_from, Constant}
@@ -205,24 +205,11 @@ pub or_right : (a b : Bool) → a || b ≡ false → b ≡ false
 or_right true b h = absurd cc
 or_right false b h = h
 
-coded_same : (b : LinkedBody) → is_coded (callable_of b) ≡ has_code b
-coded_same (HasCode code) = refl
-coded_same (IsNative meaning) = refl
-coded_same NoBody = refl
-
-and_false : (a : Bool) → (a && false) ≡ false
-and_false true = refl
-and_false false = refl
-
 -- no head is that of an initializer where no method is one
-head_case : (m : LinkedMethod) (b : Bool) → is_class_initializer m ≡ false → (same m.name class_initializer && same m.desc plain_descriptor && is_static m.flags && is_coded (if b then Abstractly else callable_of m.body)) ≡ false
-head_case m true h = and_false (same m.name class_initializer && same m.desc plain_descriptor && is_static m.flags)
-head_case m false h = ap (λ c. same m.name class_initializer && same m.desc plain_descriptor && is_static m.flags && c) (coded_same m.body) ∙ h
-
 pub no_initializer : (i : ℕ) (ms : List LinkedMethod) → list_any is_class_initializer ms ≡ false → initializer_from i (map head_of ms) ≡ None
 no_initializer i [] h = refl
 no_initializer i (m ∷ ms) h =
-    ap (λ b. if b then Some (record { place = i; max_locals = rules.locals_in (head_of m).callable }) else initializer_from (suc i) (map head_of ms)) (head_case m (is_abstract m.flags) (or_left _ _ h))
+    ap (λ b. if b then Some (record { place = i; max_locals = rules.locals_in (head_of m).callable }) else initializer_from (suc i) (map head_of ms)) (or_left _ _ h)
     ∙ no_initializer (suc i) ms (or_right _ _ h)
 
 constant_case : (i : ℕ) (f : LinkedField) (c : Option FieldConstant) → fits_kind c f.kind ≡ false → constant_with i f c [] ≡ []

@@ -15,12 +15,12 @@ use Rattle.machine_rules.specs.declared.machine.Limits.{Limits}
 use Rattle.program_rules.specs.Names.{Name, same, object_name, instance_initializer, class_initializer, plain_descriptor, is_array_name, element_of, element_class, is_listed}
 use Rattle.program_rules.specs.Kinds.{Kind, is_int_kind, narrow}
 use Rattle.program_rules.specs.Instructions.{Instruction, MethodRef, Nop, IntConstant, IntLoad, ReferenceLoad, IntStore, Pop, IntOperation, IfInt, IfInts, Goto, IntReturn, PlainReturn, InvokeSpecial, InvokeStatic}
-use Rattle.program_rules.specs.Linked.{Linked, LinkedMethod, LinkedCode, LinkedRow, LinkedBody, HasCode, IsNative, NoBody, is_static, is_abstract, is_interface, is_library, is_from_file, is_class_initializer, has_class_initializer, has_static_constant, method_in, method_place, code_in, has_code, covers}
+use Rattle.program_rules.specs.Linked.{Linked, LinkedMethod, LinkedCode, LinkedRow, LinkedBody, HasCode, IsNative, NoBody, is_static, is_abstract, is_interface, is_library, is_from_file, has_static_constant, method_in, method_place, code_in, covers}
 use Rattle.program_rules.specs.Faults.{Found}
 use Rattle.program_rules.specs.Library.{library_class, plain_initializer}
 use Rattle.program_rules.specs.Layout as layout
 use Rattle.program_rules.specs.Objects.{Object, Plain, object_at}
-use Rattle.program_rules.specs.Outlines.{outline, outline_of, is_present, is_interface_class, callable_of}
+use Rattle.program_rules.specs.Outlines.{head_of, is_coded, outline, outline_of, is_present, is_interface_class, callable_of, is_class_initializer, has_class_initializer}
 use Rattle.program_rules.specs.Programs.{Look, supers, node, Rising, nodes, Family, family, consult_in, consulted_with}
 use Rattle.program_rules.specs.Resolution.{same_bool, MethodAt, resolve_method, is_initializer_name}
 use Rattle.program_rules.specs.Tests.{Call}
@@ -402,7 +402,7 @@ module _ (p : Look) (q : Limits) where
           static_free s = method_plain c.class class k m e got (no_static m s)
             where
               no_static : (m : LinkedMethod) → is_static m.flags ≡ false → is_class_initializer m ≡ false
-              no_static m s = not_static (same m.name class_initializer) (same m.desc plain_descriptor) (is_static m.flags) (has_code m.body) s
+              no_static m s = not_static (same m.name class_initializer) (same m.desc plain_descriptor) (is_static m.flags) (is_coded (head_of m).callable) s
 
           ready_plain : IsPlain p c.class → is_initializer_method (method_in (p c.class) k) ≡ false
           ready_plain x = method_plain c.class class k m e got (plain_by_class c.class class k m e got x)

@@ -5,7 +5,8 @@ use Rattle.std.specs.List.{list_all}
 use Rattle.std.specs.Cmp.Lexicographic.{same_text}
 use Rattle.std.proofs.lemmas.Bool.{eqb-true}
 use Rattle.program_rules.specs.Names.{Name, same, object_name}
-use Rattle.program_rules.specs.Linked.{Linked, is_library, is_interface, has_class_initializer, parents_with, parents_of}
+use Rattle.program_rules.specs.Linked.{Linked, is_library, is_interface, parents_with, parents_of}
+use Rattle.program_rules.specs.Outlines.{has_class_initializer}
 use Rattle.program_rules.specs.Library.{class_among}
 use Rattle.program_rules.specs.Layout.{native_words, words_among}
 use Rattle.program_rules.specs.Programs.{Look, concat_over, supers_within}

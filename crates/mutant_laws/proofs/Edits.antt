@@ -32,7 +32,7 @@ use Rattle.mutant_apply.specs.Edited.{edited_class, applied}
 use Rattle.mutant_apply.specs.Laws.{AppliedIsMade}
 use Rattle.mutant_runs.specs.Programs.{files_of, with_class, edited}
 use Rattle.mutant_laws.specs.Edited.{IsEditOf, MutantsAreEdits}
-use Rattle.mutant_laws.proofs.Jumps.{is_alike, with_op, goes_on_alike}
+use Rattle.mutant_laws.proofs.Jumps.{is_alike, with_op, goes_on_so_far, goes_on_alike}
 use Rattle.mutant_laws.proofs.Lines.{line_is}
 use Rattle.mutant_laws.proofs.Linked.{plain_edit, linked_edit, linked_declares, linked_body, class_edited}
 use Rattle.mutant_laws.proofs.Listed.{name_of, place_of, IsListed, all_listed}
@@ -141,6 +141,7 @@ module _ (law : AppliedIsMade) (p : List Info) (p' : Look) (c : Class) (infos : 
             ∙ ap (λ n. placed (name_of c) (n ++ text_named c.pool member.desc) at) name
             ∙ ap (λ d. placed (name_of c) (m.method ++ d) at) desc;
         goes_on = goes_on_alike e (look p) p' changed old stands (like (symbol_at c.pool));
+        goes_on_so_far = goes_on_so_far e (look p) p' changed old stands (like (symbol_at c.pool));
       }
 
   is_edit : (m : Mutant) → IsListed c m → files_of p m.class ≡ Some c → edited (files_of p) (look p) m ≡ Some p' → IsEditOf m (look p) p'

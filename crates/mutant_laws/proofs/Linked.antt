@@ -17,6 +17,7 @@ use Rattle.class_model.specs.declared.edit.NewInsn.TheVariants.{Plain}
 use Rattle.class_model.specs.declared.instruction.Insn.{Insn}
 use Rattle.program_rules.specs.Instructions.{Instruction}
 use Rattle.program_rules.specs.Linked.{LinkedCode, LinkedRow, LinkedLine, HasCode}
+use Rattle.program_rules.specs.Types.{VType, Top, IntType, LongType, NullType, UninitThis, Uninit, Obj, FrameShape, SameLocals, OneItem, Chopped, Appended, Whole, StatedFrame}
 use Rattle.edit_laws.specs.Edit as edit
 use Rattle.edit_laws.proofs.Places.{map_id, relocated_id}
 use Rattle.class_table.specs.Info.{own_name}
@@ -27,7 +28,32 @@ use Rattle.mt_attrs.specs.CodeParts.{attr_of, name_of, body_of}
 use Rattle.mutator_ops.specs.Mutants.{code_in, code_of}
 use Rattle.mutant_apply.specs.Edited.{changed_at, is_table, edited_code, edited_attrs, edited_member, edited_class}
 use Rattle.mutant_laws.proofs.Lists.{map_changed, map_replaced}
+use Rattle.mutant_laws.proofs.Frames.{linked_frames, frames_kept}
 use Rattle.mutant_laws.proofs.Lines.{linked_lines, lines_kept}
+
+-- ---- the map that moves nothing, over stated frames
+
+type_id : (t : VType) → edit.moved_type (λ to. to) t ≡ t
+type_id Top = refl
+type_id IntType = refl
+type_id LongType = refl
+type_id NullType = refl
+type_id UninitThis = refl
+type_id (Uninit n) = refl
+type_id (Obj n) = refl
+
+types_id : (ts : List VType) → map (edit.moved_type (λ to. to)) ts ≡ ts
+types_id ts = let same : edit.moved_type (λ to. to) ≡ (λ t. t) = λ i t. type_id t i in ap (λ f. map f ts) same ∙ map_id ts
+
+shape_id : (s : FrameShape) → edit.moved_shape (λ to. to) s ≡ s
+shape_id SameLocals = refl
+shape_id (OneItem t) = ap OneItem (type_id t)
+shape_id (Chopped n) = refl
+shape_id (Appended ts) = ap Appended (types_id ts)
+shape_id (Whole ls ts) = ap (λ x. Whole x (map (edit.moved_type (λ to. to)) ts)) (types_id ls) ∙ ap (Whole ls) (types_id ts)
+
+frame_id : (f : StatedFrame) → edit.moved_stated_frame (λ to. to) f ≡ f
+frame_id f = ap (λ s. record { at = f.at; shape = s }) (shape_id f.shape)
 
 -- ---- an edit of one instruction for one moves no other
 
@@ -36,17 +62,22 @@ module _ (e : edit.Edit) (alone : e.rest ≡ []) where
   stays true to = refl
   stays false to = omega arith
 
-  moved_same : edit.moved e ≡ (λ to. to)
+  moved_same : edit.moved_place e ≡ (λ to. to)
   moved_same = λ i to. (ap (λ (r : List Instruction). if nat_le to e.at then to else to + length r) alone ∙ stays (nat_le to e.at) to) i
 
-  relocated_same : (xs : List Instruction) → map (edit.relocated (edit.moved e)) xs ≡ xs
-  relocated_same xs = let same : edit.relocated (λ to. to) ≡ (λ x. x) = λ i x. relocated_id x i in ap (λ mv. map (edit.relocated mv) xs) moved_same ∙ ap (λ f. map f xs) same ∙ map_id xs
+  relocated_same : (xs : List Instruction) → map (edit.relocate (edit.moved_place e)) xs ≡ xs
+  relocated_same xs = let same : edit.relocate (λ to. to) ≡ (λ x. x) = λ i x. relocated_id x i in ap (λ mv. map (edit.relocate mv) xs) moved_same ∙ ap (λ f. map f xs) same ∙ map_id xs
 
-  rows_same : (rows : List LinkedRow) → map (edit.moved_row (edit.moved e)) rows ≡ rows
+  rows_same : (rows : List LinkedRow) → map (edit.moved_row (edit.moved_place e)) rows ≡ rows
   rows_same rows = ap (λ mv. map (edit.moved_row mv) rows) moved_same ∙ map_id rows
 
-  lines_same : (lines : List LinkedLine) → map (edit.moved_line (edit.moved e)) lines ≡ lines
+  lines_same : (lines : List LinkedLine) → map (edit.moved_line (edit.moved_place e)) lines ≡ lines
   lines_same lines = ap (λ mv. map (edit.moved_line mv) lines) moved_same ∙ map_id lines
+
+  frames_same : (frames : List StatedFrame) → map (edit.moved_stated_frame (edit.moved_place e)) frames ≡ frames
+  frames_same frames =
+      let same : edit.moved_stated_frame (λ to. to) ≡ (λ f. f) = λ i f. frame_id f i in
+      ap (λ mv. map (edit.moved_stated_frame mv) frames) moved_same ∙ ap (λ f. map f frames) same ∙ map_id frames
 
 -- ---- code
 
@@ -58,7 +89,7 @@ abbrev pub linked_edit : Class → Code → ℕ → ℕ → Insn → ℕ → edi
 linked_edit c code number at new more = record { class = own_name c; method = number; at = at; first = instruction_in c.pool new; rest = []; max_stack = (out-Code code).max_stack + more }
 
 abbrev linked_parts : List Const → Code-F Body Attr Code → LinkedCode
-linked_parts pool c = record { max_stack = c.max_stack; max_locals = c.max_locals; instructions = map (instruction_in pool) c.insns; rows = map (linking.row_in pool) c.rows; lines = linked_lines c.attrs }
+linked_parts pool c = record { max_stack = c.max_stack; max_locals = c.max_locals; instructions = map (instruction_in pool) c.insns; rows = map (linking.row_in pool) c.rows; lines = linked_lines c.attrs; frames = linked_frames pool c.attrs }
 
 abbrev new_parts : ℕ → Insn → ℕ → Code-F Body Attr Code → Code-F Body Attr Code
 new_parts at new more c = record c { max_stack = c.max_stack + more; insns = changed_at at (λ old. new) c.insns; attrs = filter is_table c.attrs }
@@ -67,17 +98,21 @@ module _ (c : Class) (code : Code) (number at : ℕ) (new : Insn) (more : ℕ) w
   abbrev here : edit.Edit
   here = linked_edit c code number at new more
 
-  abbrev with_parts : List Instruction → List LinkedRow → List LinkedLine → LinkedCode
-  with_parts instructions rows lines = record { max_stack = here.max_stack; max_locals = (out-Code code).max_locals; instructions = instructions; rows = rows; lines = lines }
+  abbrev with_parts : List Instruction → List LinkedRow → List LinkedLine → List StatedFrame → LinkedCode
+  with_parts instructions rows lines frames = record { max_stack = here.max_stack; max_locals = (out-Code code).max_locals; instructions = instructions; rows = rows; lines = lines; frames = frames }
 
   parts_edited : linked_parts c.pool (new_parts at new more (out-Code code)) ≡ edit.edited_code here (linking.code_in c.pool code)
   parts_edited =
       let old = linking.code_in c.pool code in
-      let replaced : map (instruction_in c.pool) (changed_at at (λ i. new) (out-Code code).insns) ≡ edit.replaced_at at (here.first ∷ []) (map (edit.relocated (edit.moved here)) old.instructions) =
+      let replaced : map (instruction_in c.pool) (changed_at at (λ i. new) (out-Code code).insns) ≡ edit.replaced_at at (here.first ∷ []) (map (edit.relocate (edit.moved_place here)) old.instructions) =
       map_replaced (instruction_in c.pool) new (out-Code code).insns at ∙ ap (edit.replaced_at at (here.first ∷ [])) (sym (relocated_same here refl old.instructions)) in
-      ap (λ is. with_parts is old.rows (linked_lines (filter is_table (out-Code code).attrs))) replaced
-      ∙ ap (λ ls. with_parts (edit.replaced_at at (here.first ∷ []) (map (edit.relocated (edit.moved here)) old.instructions)) old.rows ls) (lines_kept (out-Code code).attrs ∙ sym (lines_same here refl old.lines))
-      ∙ ap (λ rs. with_parts (edit.replaced_at at (here.first ∷ []) (map (edit.relocated (edit.moved here)) old.instructions)) rs (map (edit.moved_line (edit.moved here)) old.lines)) (sym (rows_same here refl old.rows))
+      let instructions = edit.replaced_at at (here.first ∷ []) (map (edit.relocate (edit.moved_place here)) old.instructions) in
+      let kept = filter is_table (out-Code code).attrs in
+      ap (λ is. with_parts is old.rows (linked_lines kept) (linked_frames c.pool kept)) replaced
+      ∙ ap (λ ls. with_parts instructions old.rows ls (linked_frames c.pool kept)) (lines_kept (out-Code code).attrs ∙ sym (lines_same here refl old.lines))
+      ∙ ap (λ rs. with_parts instructions rs (map (edit.moved_line (edit.moved_place here)) old.lines) (linked_frames c.pool kept)) (sym (rows_same here refl old.rows))
+      ∙ ap (with_parts instructions (map (edit.moved_row (edit.moved_place here)) old.rows) (map (edit.moved_line (edit.moved_place here)) old.lines))
+      (frames_kept c.pool (out-Code code).attrs ∙ sym (frames_same here refl old.frames))
 
   code_edited : linking.code_in c.pool (edited_code (plain_edit number at new more) code) ≡ edit.edited_code here (linking.code_in c.pool code)
   code_edited = ap (linked_parts c.pool) (out-roll-Code (new_parts at new more (out-Code code))) ∙ parts_edited

@@ -8,7 +8,8 @@ use Rattle.program_rules.specs.Names.{Name, same}
 use Rattle.program_rules.specs.Programs.{Look}
 use Rattle.machine_rules.specs.Runs.{Ran}
 use Rattle.machine_laws.specs.Consulted.{Hit}
-use Rattle.edit_laws.specs.EditLaws.{ReachesLine, TestsAlikeUnreached, TestsReachTheSame}
+use Rattle.edit_laws.specs.EditLaws.{ReachesLine}
+use Rattle.edits_so_far.specs.EditLaws.{TestsAlikeUnreached, TestsReachTheSame}
 use Rattle.class_table.specs.Table.{look}
 use Rattle.jvm_step.specs.View.{test_of}
 use Rattle.mutator_ops.specs.declared.mutant.Mutant.{Mutant}
@@ -44,10 +45,10 @@ module _ (m : Mutant) (p p' : Look) (e : IsEditOf m p p') where
 
 pub unreached_is_alike : MutantsAreEdits → TestsAlikeUnreached → UnreachedIsAlike
 unfolding mutant_run
-unreached_is_alike edits law p m p' t q limit y whole ended miss =
+unreached_is_alike edits law p m p' t q limit y ended miss =
     let e = edits p m p' y in
     let r = original_run p t q limit in
-    law e.edit (look p) p' (test_of t) q limit e.edited whole ended (λ h. let hit = reaches_true m (look p) p' e r h in let no : true ≡ false = sym hit ∙ miss in absurd cc)
+    law e.edit (look p) p' (test_of t) q limit e.edited ended (λ h. let hit = reaches_true m (look p) p' e r h in let no : true ≡ false = sym hit ∙ miss in absurd cc)
 
 same_bool : (a b : Bool) → (a ≡ true → b ≡ true) → (b ≡ true → a ≡ true) → a ≡ b
 same_bool true b there back = sym (there refl)
@@ -56,9 +57,9 @@ same_bool false false there back = refl
 
 pub covering_is_alike : MutantsAreEdits → TestsReachTheSame → CoveringIsAlike
 unfolding mutant_run
-covering_is_alike edits law p m p' t q limit y whole ended =
+covering_is_alike edits law p m p' t q limit y ended =
     let e = edits p m p' y in
     let r = original_run p t q limit in
     let r' = mutant_run q p' t r.steps in
-    let k = law e.edit (look p) p' (test_of t) q limit e.edited e.goes_on whole ended in
+    let k = law e.edit (look p) p' (test_of t) q limit e.edited e.goes_on_so_far ended in
     same_bool (reaches m r') (reaches m r) (λ h. reaches_true m (look p) p' e r (k.0 (reaches_line m (look p) p' e r' h))) (λ h. reaches_true m (look p) p' e r' (k.1 (reaches_line m (look p) p' e r h)))

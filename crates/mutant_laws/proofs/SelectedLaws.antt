@@ -65,9 +65,9 @@ module _ (p : List Info) (m : Mutant) (p' : Look) (q : Limits) (limit : ℕ) whe
 
 pub selected_suffice : UnreachedIsAlike → CoveringIsAlike → SelectedSuffice
 unfolding verdict_of judged
-selected_suffice unreached covers p m p' q limit tests y whole pass =
-    let alike : (t : Test) → HasEnded (original_run p t q limit).ending → reaches m (mutant_run q p' t (original_run p t q limit).steps) ≡ reaches m (original_run p t q limit) = λ t h. covers p m p' t q limit y whole h in
-    let same : (t : Test) → HasEnded (original_run p t q limit).ending → reaches m (original_run p t q limit) ≡ false → mutant_run q p' t (original_run p t q limit).steps ≡ original_run p t q limit = λ t h. unreached p m p' t q limit y whole h in
+selected_suffice unreached covers p m p' q limit tests y pass =
+    let alike : (t : Test) → HasEnded (original_run p t q limit).ending → reaches m (mutant_run q p' t (original_run p t q limit).steps) ≡ reaches m (original_run p t q limit) = λ t h. covers p m p' t q limit y h in
+    let same : (t : Test) → HasEnded (original_run p t q limit).ending → reaches m (original_run p t q limit) ≡ false → mutant_run q p' t (original_run p t q limit).steps ≡ original_run p t q limit = λ t h. unreached p m p' t q limit y h in
     let timed_tests = timed tests (map (λ t. (original_run p t q limit).steps) tests) in
     let all = recursion_from_All (λ t. (original_run p t q limit).ending ≡ With Passed) tests pass in
     ap (λ o. option_map_or (judged m) (option_map (λ made. runs_on q made timed_tests) o) not_viable) y.made

@@ -4,9 +4,9 @@ use Rattle.std.specs.List.{enumerate_from}
 use Rattle.machine_rules.specs.declared.machine.Outcome.TheVariants.{Passed}
 use Rattle.machine_rules.specs.declared.machine.Limits.{Limits}
 use Rattle.program_rules.specs.Programs.{Look}
-use Rattle.machine_rules.specs.Runs.{With, Ran, run_of}
-use Rattle.machine_laws.specs.Consulted.{IsLibraryWhole}
+use Rattle.machine_rules.specs.Runs.{With, Ran}
 use Rattle.machine_laws.specs.FrameLaw.{HasEnded}
+use Rattle.machine_so_far.specs.Runs.{run_so_far}
 use Rattle.class_table.specs.declared.scripted.Test.{Test}
 use Rattle.class_table.specs.Info.{Info}
 use Rattle.class_table.specs.Table.{look}
@@ -19,18 +19,18 @@ use Rattle.mutant_laws.specs.Edited.{IsMutated}
 
 -- The run of a test on a program.
 abbrev pub original_run : List Info → Test → Limits → ℕ → Ran
-original_run p t q limit = run_of (look p) (test_of t) q limit
+original_run p t q limit = run_so_far (look p) (test_of t) q limit
 
 -- A test that ended and doesn't reach the mutant's line runs on the mutant as it did: outcome, steps, consulted names and reached lines.
 abbrev pub UnreachedIsAlike : Type 0
 UnreachedIsAlike =
-    (p : List Info) (m : Mutant) (p' : Look) (t : Test) (q : Limits) (limit : ℕ) → IsMutated p m p' → IsLibraryWhole (look p) → HasEnded (original_run p t q limit).ending → reaches m (original_run p t q limit) ≡ false
+    (p : List Info) (m : Mutant) (p' : Look) (t : Test) (q : Limits) (limit : ℕ) → IsMutated p m p' → HasEnded (original_run p t q limit).ending → reaches m (original_run p t q limit) ≡ false
     → mutant_run q p' t (original_run p t q limit).steps ≡ original_run p t q limit
 
 -- A test that ended reaches the mutant's line exactly where its run on the mutant does, however that ends.
 abbrev pub CoveringIsAlike : Type 0
 CoveringIsAlike =
-    (p : List Info) (m : Mutant) (p' : Look) (t : Test) (q : Limits) (limit : ℕ) → IsMutated p m p' → IsLibraryWhole (look p) → HasEnded (original_run p t q limit).ending
+    (p : List Info) (m : Mutant) (p' : Look) (t : Test) (q : Limits) (limit : ℕ) → IsMutated p m p' → HasEnded (original_run p t q limit).ending
     → reaches m (mutant_run q p' t (original_run p t q limit).steps) ≡ reaches m (original_run p t q limit)
 
 -- ---- all tests
@@ -46,6 +46,6 @@ runs_of p p' q limit tests = map (λ t. (t.0, mutant_run q p' t.1 (original_run 
 -- Where all tests pass, only those need be run on a mutant whose original runs reach its line: its verdict by the runs of all tests is the verdict by theirs, and they are its covering tests.
 abbrev pub SelectedSuffice : Type 0
 SelectedSuffice =
-    (p : List Info) (m : Mutant) (p' : Look) (q : Limits) (limit : ℕ) (tests : List Test) → IsMutated p m p' → IsLibraryWhole (look p) → All (λ t. (original_run p t q limit).ending ≡ With Passed) tests
+    (p : List Info) (m : Mutant) (p' : Look) (q : Limits) (limit : ℕ) (tests : List Test) → IsMutated p m p' → All (λ t. (original_run p t q limit).ending ≡ With Passed) tests
     → verdict_of q (files_of p) (look p) (timed tests (map (λ t. (original_run p t q limit).steps) tests)) m
     ≡ verdict_by (map (λ t. t.0) (selected p m q limit tests)) (killer (runs_of p p' q limit (selected p m q limit tests)))

@@ -6,6 +6,7 @@ use Rattle.program_rules.specs.Programs.{Look}
 use Rattle.machine_rules.specs.Steps.{Place}
 use Rattle.edit_laws.specs.Edit.{Edit, IsEdited, edited_line}
 use Rattle.edit_laws.specs.EditLaws.{edited_place, GoesOnAlike}
+use Rattle.edits_so_far.specs.EditLaws as so_far
 use Rattle.class_table.specs.Info.{Info, IsInfo}
 use Rattle.class_table.specs.Table.{look}
 use Rattle.mutator_ops.specs.Mutants.{class_mutants}
@@ -25,8 +26,9 @@ pub record IsEditOf (m : Mutant) (p p' : Look) : Type 0 where
   pub at : edit.at ≡ m.at
   pub line : edited_line edit p ≡ m.line
   pub place : edited_place edit p ≡ mutant_place m
-  -- the new instruction goes on wherever the one that it replaces does
+  -- the new instruction goes on wherever the one that it replaces does, by the rules and so far
   pub goes_on : GoesOnAlike edit p p'
+  pub goes_on_so_far : so_far.GoesOnAlike edit p p'
 
 -- The mutant is one of a class file of the program, and its edit makes the second program.
 pub record IsMutated (p : List Info) (m : Mutant) (p' : Look) : Type 0 where

@@ -5,7 +5,7 @@
 ghost use Rattle.mutant_laws.specs.Edited.{MutantsAreEdits};
 ghost use Rattle.mutant_laws.specs.Covered.{UnreachedIsAlike, CoveringIsAlike, SelectedSuffice};
 
-use edit_laws::{runs_reach_the_line_the_same, unreached_runs_are_alike};
+use edits_so_far::{runs_so_far_reach_the_line_the_same, unreached_runs_so_far_are_alike};
 use mutant_apply::applied_is_made;
 
 /// The program that a mutant's edit makes is the program with one instruction edited, at the mutant's class, method and place and on its line.
@@ -15,20 +15,20 @@ pub fn mutants_are_edits()
     applied_is_made();
 }
 
-/// A test that ended and doesn't reach the mutant's class and line runs on the mutant exactly as on the program, where the library is whole.
+/// A test that ended and doesn't reach the mutant's class and line runs on the mutant exactly as on the program.
 pub fn unreached_mutants_run_alike()
     ensures { UnreachedIsAlike }
 {
     mutants_are_edits();
-    unreached_runs_are_alike();
+    unreached_runs_so_far_are_alike();
 }
 
-/// A test that ended reaches the mutant's class and line exactly where its run on the mutant does, where the library is whole.
+/// A test that ended reaches the mutant's class and line exactly where its run on the mutant does.
 pub fn mutants_are_covered_alike()
     ensures { CoveringIsAlike }
 {
     mutants_are_edits();
-    runs_reach_the_line_the_same();
+    runs_so_far_reach_the_line_the_same();
 }
 
 /// Where all tests pass, a mutant's verdict by the runs of all tests is that by the tests whose original runs reach its class and line, so no other test need be run on it.

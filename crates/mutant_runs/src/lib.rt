@@ -6,8 +6,6 @@ mod laws;
 mod on_mutant;
 mod one_run;
 mod tally;
-#[cfg(test)]
-mod tests;
 mod tests_run;
 
 pub use all::verdicts;

@@ -2,21 +2,20 @@ ghost use Rattle.std.specs.Prelude.{All, IfOk};
 ghost use Rattle.class_writer.specs.Writing.{HasClassForm};
 ghost use Rattle.mutant_runs.specs.Programs.{files_of, IsMutantOf};
 
-use crate::laws::{files_are_found, mutants_are_of};
-use crate::verdicts;
 use class_model::{Bytes, ClassId, Name, Seq, SharedBytes};
 use class_reader::read_class;
-use class_table::{Call, Loaded, Program, Test};
+use class_table::{Call, CallKind, Loaded, Program, Test};
 use class_writer::what_is_spelled_is_written;
 use jvm_run::Limits;
 use jvm_step::library;
-use machine_rules::CallKind;
 use mt_edge::Meter;
+use mutant_runs::{files_are_found, mutants_are_of, verdicts};
 use mutator_ops::{Mutant, State, Verdict, class_mutants};
 use std::alloc::Global;
 use std::test::Fail;
 
-// `static boolean f(int)` of the class A, which answers whether its argument is below 0, with its lines and frames.
+// `static boolean f(int)` of the class A, which answers whether its argument is below 0, with its
+// lines and frames.
 const A: [u8; 160] = [
     0xca, 0xfe, 0xba, 0xbe, 0x00, 0x00, 0x00, 0x34, 0x00, 0x0a, 0x01, 0x00, 0x01, 0x41, 0x07, 0x00,
     0x01, 0x01, 0x00, 0x10, 0x6a, 0x61, 0x76, 0x61, 0x2f, 0x6c, 0x61, 0x6e, 0x67, 0x2f, 0x4f, 0x62,
@@ -112,7 +111,8 @@ fn test(alloc: Global, method: &str) -> Result<Test, Fail> {
     })
 }
 
-// The verdicts on the mutants of A by both tests, which take 15 steps each on A, and the steps of all runs.
+// The verdicts on the mutants of A by both tests, which take 15 steps each on A, and the steps of
+// all runs.
 fn verdicts_on_a(alloc: Global) -> Result<(Seq<Verdict>, u64), Fail> {
     let (mut program, mutants) = program(alloc)?;
     if mutants.len() != 2 {

@@ -6,7 +6,7 @@ use Rattle.class_table.specs.Info.{Info, own_name, file_in}
 use Rattle.class_table.specs.Table.{bodies_of}
 use Rattle.mutator_ops.specs.declared.mutant.Mutant.{Mutant}
 use Rattle.mutant_runs.specs.Programs.{files_of, IsMutantOf}
-use Rattle.mutant_runs.proofs.tests.program.Goals as goal
+use Rattle.mutant_runs_checks.proofs.tests.program.Goals as goal
 
 first_file : (p : List Info) (i : Info) (l : Loaded) (rest : List ClassBody) → map (λ (x : Info). x.body) p ≡ body.File l ∷ rest → slice_get p 0 ≡ Some i → file_in i ≡ Some l.class
 first_file [] i l rest h place = absurd cc
