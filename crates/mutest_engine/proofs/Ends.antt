@@ -1,21 +1,33 @@
--- What a call leaves in the sink and in the tree at its end.
-use Rattle.std.proofs.Common.{◌≡◌, ◌⊎◌, ℕ, List, [], ◌∷◌, ◌++◌, refl, sym, ap, ◌∙◌, inl, inr, subst, ⊎_elim, append_assoc}
-use Rattle.std.specs.Prelude.{Option, None, Some, option_map, Result, Ok, Err, IfSome, MatchResult}
+-- What a call leaves in the sink and in the tree at its end, and how it ends.
+use Rattle.std.proofs.Common.{◌≡◌, ◌⊎◌, ℕ, suc, ◌+◌, ◌<◌, ◌≤◌, map, length, drop, get_or, List, [], ◌∷◌, ◌++◌, refl, sym, ap, ◌∙◌, inl, inr, subst, ⊎_elim, append_assoc, arith}
+use Rattle.std.specs.Prelude.{Option, None, Some, option_map, Result, Ok, Err, IfSome, IfErr, MatchResult}
 use Rattle.std.proofs.lemmas.List.{append-nil}
 use mathlib.Core.List.{IsPrefix}
 use Rattle.mt_edge.specs.Files.{Files}
 use Rattle.mt_edge.specs.Causes.{Rose}
 use Rattle.mt_edge.specs.Pieces.{Grows, GrowsBy}
-use Rattle.mutest_engine.specs.declared.status.Status.{Status}
-use Rattle.mutest_engine.specs.declared.status.Status.TheVariants.{Done, Usage, NotFound, Archive, BadClass, BadProgram, NotGreen, ReadFault, WriteFault, TooMany, MachineCheck, WantOfMemory, AsmRefused}
-use Rattle.mutest_engine.specs.declared.status.Output.{Output}
-use Rattle.mutest_engine.specs.declared.status.Output.TheVariants.{Report, History, Output as Printed, Journal, Assembled}
 use Rattle.mutest_engine.specs.declared.answer.Answer.{Answer}
-use Rattle.mutest_engine.specs.StatusText.{line_of}
+use Rattle.mutest_engine.specs.declared.answer.Product.{Product}
+use Rattle.mutest_engine.specs.declared.answer.Write.{Write as Written}
+use Rattle.mutest_engine.specs.declared.answer.Product.TheVariants.{Report, Assembled}
+use Rattle.mutest_engine.specs.declared.refusal.Refusal.{Refusal}
+use Rattle.mutest_engine.specs.declared.refusal.Refusal.TheVariants.{NotFound}
+use Rattle.mutest_engine.specs.declared.status.Output.{Output}
+use Rattle.mutest_engine.specs.declared.status.Output.TheVariants.{File, Text}
+use Rattle.mutest_engine.specs.declared.status.Status.{Status}
+use Rattle.mutest_engine.specs.declared.status.Status.TheVariants.{Done, Refused, ReadFault, WriteFault, WantOfMemory}
+use Rattle.mutest_engine.specs.declared.stop.Halt.{Halt}
+use Rattle.mutest_engine.specs.declared.stop.Halt.TheVariants as halt
+use Rattle.mutest_engine.specs.declared.top_call.Unwritten.{Unwritten}
+use Rattle.mutest_engine.specs.declared.top_call.Unwritten.TheVariants as unwritten
+use Rattle.mutest_engine.specs.StatusText.{refusal_line, line_of}
+use Rattle.mutest_engine.specs.Steps.{FailsReading, ReadsBy}
 use Rattle.mutest_engine.specs.Words.{Command, list_class, run_suite, assemble_class}
-use Rattle.mutest_engine.specs.Decided.{CanAnswer, CanSay}
-use Rattle.mutest_engine.specs.Answers.{Answered, Write, answered, GivesAnswer, IsReading, IsRefusal, IsPut, IsWritten, IsWriteFault, Writes, Ends, AgreesUntold}
-use Rattle.mutest_engine.specs.Said.{Got, Broken, BrokenOff, HalfRefused, Interrupted, LeavesFault, Leaves}
+use Rattle.mutest_engine.specs.Answers.{Answered, Write, write_of, answered, MayRefuse}
+use Rattle.mutest_engine.specs.Decided.{CanAnswer, CanState}
+use Rattle.mutest_engine.specs.Ends.{status_of, unwritten_status, IsToldAs, IsReplaced, IsSome, IsWritten, CarriedOut, TextEnds, Agrees, Writes, MayEnd, AgreesUntold, AnswersUntold, HasCauses, MeterRose, MeterStays, HaltRose, HaltStays, AnswerMeters}
+use Rattle.mutest_engine.specs.Said.{Got, Broken, BrokenOff, HalfTold, Interrupted, Prints, Allows, written, all_written, Stopped, Partly, LeavesWrites, FailsWriting, FilesAfter, writes_in}
+use Rattle.mutest_engine.proofs.OriginalLaws.{drop_at}
 
 two_pieces : (before : Option (List ℕ)) (p q : List ℕ) → option_map (λ bytes. bytes ++ q) (option_map (λ bytes. bytes ++ p) before) ≡ option_map (λ bytes. bytes ++ (p ++ q)) before
 two_pieces None p q = refl
@@ -42,186 +54,348 @@ part_then_part before between after text line cut some =
     record { part = cut.0; rest = some.0; begins = cut.1; refused = some.1; grown = some.2 ∙ ap (option_map (λ bytes. bytes ++ some.0)) cut.2 ∙ two_pieces before cut.0 some.0 }
 
 -- a text that isn't empty was broken off
-pub broken_off : (text : List ℕ) (before after : Option (List ℕ)) → (text ≡ [] → ⊥) → Broken before after text (line_of (WriteFault Printed 1)) → BrokenOff text before after
+pub broken_off : (text : List ℕ) (before after : Option (List ℕ)) → (text ≡ [] → ⊥) → Broken before after text (line_of (WriteFault Text 1)) → BrokenOff text before after
 broken_off [] before after some broken = some refl
 broken_off (byte ∷ bytes) before after some broken = broken
 
 -- memory ran out while a text was put
 pub cut_text : (before after : Option (List ℕ)) (a : Answered) → (a.text ≡ [] → ⊥) → GrowsBy before after a.text → Interrupted (Ok a) before after
-cut_text before after a some cut = inl (broken_off a.text before after some (part_then_part before after after a.text (line_of (WriteFault Printed 1)) cut (nothing_of after (line_of (WriteFault Printed 1)))))
+cut_text before after a some cut = inl (broken_off a.text before after some (part_then_part before after after a.text (line_of (WriteFault Text 1)) cut (nothing_of after (line_of (WriteFault Text 1)))))
 
 no_part : (part line rest : List ℕ) → part ++ rest ≡ [] → IsPrefix part line
 no_part [] line rest e = (line, refl)
 no_part (x ∷ part) line rest e = absurd cc
 
 -- memory ran out before anything was said
-pub cut_nothing : (before after : Option (List ℕ)) (stated : Result Answered Status) → GrowsBy before after [] → Interrupted stated before after
+pub cut_nothing : (before after : Option (List ℕ)) (stated : Result Answered Refusal) → GrowsBy before after [] → Interrupted stated before after
 cut_nothing before after (Ok a) some = inr (inr (some.0, no_part some.0 (line_of (ReadFault 1)) some.1.0 some.1.1, some.2))
 cut_nothing before after (Err e) some = inr (some.0, no_part some.0 (line_of (ReadFault 1)) some.1.0 some.1.1, some.2)
 
-cut_read : (before after : Option (List ℕ)) (stated : Result Answered Status) → GrowsBy before after (line_of (ReadFault 1)) → Interrupted stated before after
+cut_read : (before after : Option (List ℕ)) (stated : Result Answered Refusal) → GrowsBy before after (line_of (ReadFault 1)) → Interrupted stated before after
 cut_read before after (Ok a) some = inr (inr some)
 cut_read before after (Err e) some = inr some
-
--- memory ran out while the line of a refusal was put
-pub cut_line : (before after : Option (List ℕ)) (stated : Result Answered Status) (s : Status) → (stated ≡ Err s) ⊎ IsReading s → GrowsBy before after (line_of s) → Interrupted stated before after
-cut_line before after stated s from some =
-    ⊎_elim
-    (λ (is : stated ≡ Err s). subst (λ (r : Result Answered Status). Interrupted r before after) (sym is) (inl some))
-    (λ (q : IsReading s). by_reading s q some)
-    from
-  where
-    by_reading : (s : Status) → IsReading s → GrowsBy before after (line_of s) → Interrupted stated before after
-    by_reading (ReadFault faults) q some = cut_read before after stated some
-    by_reading WantOfMemory q some = cut_nothing before after stated some
-    by_reading Done q some = absurd q
-    by_reading Usage q some = absurd q
-    by_reading (NotFound path) q some = absurd q
-    by_reading (Archive path) q some = absurd q
-    by_reading (BadClass path e) q some = absurd q
-    by_reading (BadProgram fault) q some = absurd q
-    by_reading (NotGreen tests) q some = absurd q
-    by_reading (WriteFault which faults) q some = absurd q
-    by_reading (TooMany what number) q some = absurd q
-    by_reading (MachineCheck test class method at) q some = absurd q
-    by_reading (AsmRefused line) q some = absurd q
 
 got_by : (put0 put1 : ℕ) (before after : Option (List ℕ)) (line : List ℕ) → Got put0 put1 before after line → GrowsBy before after line
 got_by put0 put1 before after line said =
     ⊎_elim (λ (all : Grows before after line). (line, ([], append-nil line), all)) (λ (some : Rose put0 put1 × GrowsBy before after line). some.1) said
 
--- a refusal before anything is written
-refusal_leaves : (put0 put1 : ℕ) (before after : Option (List ℕ)) (stated : Result Answered Status) (s : Status) → IsRefusal s → Got put0 put1 before after (line_of s) → Leaves put0 put1 before after stated s
-refusal_leaves put0 put1 before after stated Done q said = absurd q
-refusal_leaves put0 put1 before after stated (WriteFault which faults) q said = absurd q
-refusal_leaves put0 put1 before after stated Usage q said = said
-refusal_leaves put0 put1 before after stated (NotFound path) q said = said
-refusal_leaves put0 put1 before after stated (Archive path) q said = said
-refusal_leaves put0 put1 before after stated (BadClass path e) q said = said
-refusal_leaves put0 put1 before after stated (BadProgram fault) q said = said
-refusal_leaves put0 put1 before after stated (NotGreen tests) q said = said
-refusal_leaves put0 put1 before after stated (ReadFault faults) q said = said
-refusal_leaves put0 put1 before after stated (TooMany what number) q said = said
-refusal_leaves put0 put1 before after stated (MachineCheck test class method at) q said = said
-refusal_leaves put0 put1 before after stated (AsmRefused line) q said = said
-refusal_leaves put0 put1 before after stated WantOfMemory q said = cut_nothing before after stated (got_by put0 put1 before after [] said)
+-- ---- a line that is told
 
--- a refusal, or memory that ran out while its line was put
-pub refused_leaves : (put0 put1 : ℕ) (before after : Option (List ℕ)) (s end : Status) → IsRefusal s → (end ≡ s) ⊎ (end ≡ WantOfMemory) → Got put0 put1 before after (line_of s) ⊎ ((end ≡ WantOfMemory) × GrowsBy before after (line_of s))
-    → (stated : Result Answered Status) → (stated ≡ Err s) ⊎ IsReading s → Leaves put0 put1 before after stated end
-refused_leaves put0 put1 before after s end q same said stated from =
-    let at = λ (e : Status). Leaves put0 put1 before after stated e in
+-- A line was told, or memory ran out meanwhile.
+abbrev pub Told : ℕ → ℕ → Option (List ℕ) → Option (List ℕ) → List ℕ → Status → Type 0
+Told put0 put1 before after line end = Got put0 put1 before after line ⊎ ((end ≡ WantOfMemory) × GrowsBy before after line)
+
+by_told : (put0 put1 : ℕ) (before after : Option (List ℕ)) (line : List ℕ) (s end : Status) (P : Status → Type 0) → (end ≡ s) ⊎ (end ≡ WantOfMemory) → Told put0 put1 before after line end
+    → (Got put0 put1 before after line → P s) → (GrowsBy before after line → P WantOfMemory) → P end
+by_told put0 put1 before after line s end P same told whole some =
     ⊎_elim
-    (λ (got : Got put0 put1 before after (line_of s)).
+    (λ (got : Got put0 put1 before after line).
+    ⊎_elim (λ (is : end ≡ s). subst P (sym is) (whole got)) (λ (is : end ≡ WantOfMemory). subst P (sym is) (some (got_by put0 put1 before after line got))) same)
+    (λ (lost : (end ≡ WantOfMemory) × GrowsBy before after line). subst P (sym lost.0) (some lost.1))
+    told
+
+by_status : (s end : Status) (P : Status → Type 0) → (end ≡ s) ⊎ (end ≡ WantOfMemory) → P s → P WantOfMemory → P end
+by_status s end P same one lost = ⊎_elim (λ (is : end ≡ s). subst P (sym is) one) (λ (is : end ≡ WantOfMemory). subst P (sym is) lost) same
+
+-- ---- a call that halts before anything is written
+
+pub halt_prints : (put0 put1 : ℕ) (before after : Option (List ℕ)) (h : Halt) (end : Status) → IsToldAs h end → Told put0 put1 before after (line_of (status_of h)) end → (stated : Result Answered Refusal) → Allows h stated
+    → Prints put0 put1 before after stated end
+halt_prints put0 put1 before after (halt.Refused r) end same told stated allowed =
+    by_told put0 put1 before after (refusal_line r) (Refused r) end (λ (e : Status). Prints put0 put1 before after stated e) same told
+    (λ got. got)
+    (λ some. subst (λ (x : Result Answered Refusal). Interrupted x before after) (sym (allowed r refl)) (inl some))
+halt_prints put0 put1 before after (halt.ReadFault faults) end same told stated allowed =
+    by_told put0 put1 before after (line_of (ReadFault faults)) (ReadFault faults) end (λ (e : Status). Prints put0 put1 before after stated e) same told
+    (λ got. got) (λ some. cut_read before after stated some)
+halt_prints put0 put1 before after halt.WantOfMemory end same told stated allowed =
+    by_told put0 put1 before after [] WantOfMemory end (λ (e : Status). Prints put0 put1 before after stated e) same told
+    (λ got. cut_nothing before after stated (got_by put0 put1 before after [] got)) (λ some. cut_nothing before after stated some)
+
+-- ---- a file that wasn't replaced
+
+half_told : (product : Product) (ws : List Write) (old new : Option Files) (before after : Option (List ℕ)) → Stopped product ws old new → GrowsBy before after (line_of (WriteFault (File product) 1)) → HalfTold ws before after
+half_told product [] old new before after stopped some = absurd stopped
+half_told product (w ∷ ws) old new before after stopped some =
     ⊎_elim
-    (λ (is : end ≡ s). subst at (sym is) (refusal_leaves put0 put1 before after stated s q got))
-    (λ (is : end ≡ WantOfMemory). subst at (sym is) (cut_line before after stated s from (got_by put0 put1 before after (line_of s) got)))
-    same)
-    (λ (lost : (end ≡ WantOfMemory) × GrowsBy before after (line_of s)). subst at (sym lost.0) (cut_line before after stated s from lost.1))
-    said
+    (λ (here : (product ≡ w.product) × ((new ≡ old) ⊎ (new ≡ written w old))). inl (subst (λ (p : Product). GrowsBy before after (line_of (WriteFault (File p) 1))) here.0 some))
+    (λ (later : Stopped product ws (written w old) new). inr (half_told product ws (written w old) new before after later some))
+    stopped
 
--- ---- a file that couldn't be replaced
-
-fault_leaves : (put0 put1 : ℕ) (before after : Option (List ℕ)) (text : List ℕ) (which : Output) (faults : ℕ) → Got put0 put1 before after (line_of (WriteFault which faults)) → LeavesFault put0 put1 before after text which faults
-fault_leaves put0 put1 before after text Report faults said = said
-fault_leaves put0 put1 before after text History faults said = said
-fault_leaves put0 put1 before after text Printed faults said = part_then put0 put1 before before after text (line_of (WriteFault Printed faults)) (nothing_of before text) said
-fault_leaves put0 put1 before after text Journal faults said = said
-fault_leaves put0 put1 before after text Assembled faults said = said
-
-half_refused : (before after : Option (List ℕ)) (ws : List Write) (w : Write) → ws ≡ w ∷ [] → GrowsBy before after (line_of (WriteFault w.which 1)) → HalfRefused ws before after
-half_refused before after ws w is some = subst (λ (xs : List Write). HalfRefused xs before after) (sym is) (inl some)
-
--- the refusal of a file that couldn't be replaced, or memory that ran out
-pub unreplaced_leaves : (put0 put1 : ℕ) (before after : Option (List ℕ)) (a : Answered) (w : Write) (s end : Status) → a.writes ≡ w ∷ [] → (s ≡ WriteFault w.which 1) ⊎ (s ≡ WantOfMemory) → (end ≡ s) ⊎ (end ≡ WantOfMemory)
-    → Got put0 put1 before after (line_of s) ⊎ ((end ≡ WantOfMemory) × GrowsBy before after (line_of s)) → Leaves put0 put1 before after (Ok a) end
-unreplaced_leaves put0 put1 before after a w s end is from same said =
-    let at = λ (e : Status). Leaves put0 put1 before after (Ok a) e in
-    let fault = WriteFault w.which 1 in
-    let cut = λ (lost : end ≡ WantOfMemory) (some : GrowsBy before after (line_of s)).
-    subst at (sym lost)
-    (⊎_elim
-    (λ (e : s ≡ fault). inr (inl (half_refused before after a.writes w is (subst (λ (r : Status). GrowsBy before after (line_of r)) e some))))
-    (λ (e : s ≡ WantOfMemory). cut_nothing before after (Ok a) (subst (λ (r : Status). GrowsBy before after (line_of r)) e some))
-    from) in
+is_replaced : (product : Product) (ws : List Write) (old new : Option Files) → Stopped product ws old new → IsReplaced ws product
+is_replaced product [] old new stopped = absurd stopped
+is_replaced product (w ∷ ws) old new stopped =
     ⊎_elim
-    (λ (got : Got put0 put1 before after (line_of s)).
+    (λ (here : (product ≡ w.product) × ((new ≡ old) ⊎ (new ≡ written w old))). inl here.0)
+    (λ (later : Stopped product ws (written w old) new). inr (is_replaced product ws (written w old) new later))
+    stopped
+
+pub none_stands : (ws : List Write) (old new : Option Files) → new ≡ old → Partly ws old new
+none_stands [] old new is = is
+none_stands (w ∷ ws) old new is = inl is
+
+all_stand : (ws : List Write) (old new : Option Files) → new ≡ all_written ws old → Partly ws old new
+all_stand [] old new is = is
+all_stand (w ∷ ws) old new is = inr (all_stand ws (written w old) new is)
+
+stopped_partly : (product : Product) (ws : List Write) (old new : Option Files) → Stopped product ws old new → Partly ws old new
+stopped_partly product [] old new stopped = absurd stopped
+stopped_partly product (w ∷ ws) old new stopped =
     ⊎_elim
-    (λ (e : end ≡ s).
-    ⊎_elim
-    (λ (f : s ≡ fault). subst at (sym (e ∙ f)) (fault_leaves put0 put1 before after a.text w.which 1 (subst (λ (r : Status). Got put0 put1 before after (line_of r)) f got)))
-    (λ (f : s ≡ WantOfMemory). cut (e ∙ f) (got_by put0 put1 before after (line_of s) got))
-    from)
-    (λ (lost : end ≡ WantOfMemory). cut lost (got_by put0 put1 before after (line_of s) got))
-    same)
-    (λ (lost : (end ≡ WantOfMemory) × GrowsBy before after (line_of s)). cut lost.0 lost.1)
-    said
+    (λ (here : (product ≡ w.product) × ((new ≡ old) ⊎ (new ≡ written w old))).
+    ⊎_elim (λ (is : new ≡ old). inl is) (λ (is : new ≡ written w old). inr (none_stands ws (written w old) new is)) here.1)
+    (λ (later : Stopped product ws (written w old) new). inr (stopped_partly product ws (written w old) new later))
+    stopped
 
--- ---- the top call
+one_left : (w : Write) (ws : List Write) (old new : Option Files) (u : Unwritten) → LeavesWrites (w ∷ []) old new u → LeavesWrites (w ∷ ws) old new u
+one_left w ws old new (unwritten.Failed product) left =
+    ⊎_elim (λ (here : (product ≡ w.product) × ((new ≡ old) ⊎ (new ≡ written w old))). inl here) (λ (none : ⊥). absurd none) left
+one_left w ws old new unwritten.Memory left = ⊎_elim (λ (is : new ≡ old). inl is) (λ (is : new ≡ written w old). inr (none_stands ws (written w old) new is)) left
 
--- what the end of a call says of its answer, said of what the files decide
-pub said_by : (held : Option Files) (stated : Files → Result Answered Status) (answer : Result Answer Status) (P : Result Answered Status → Type 0) → IfSome held (λ files. GivesAnswer (stated files) answer)
-    → MatchResult answer (λ a. P (Ok (answered a))) (λ s. (r : Result Answered Status) → (r ≡ Err s) ⊎ IsReading s → P r) → IfSome held (λ files. P (stated files))
-said_by None stated answer P told said = tt
-said_by (Some files) stated (Ok a) P told said = subst P (sym told) said
-said_by (Some files) stated (Err s) P told said = said (stated files) told
+-- a file that wasn't replaced, at its place among several
+pub left_at : (ws : List Written) (i : ℕ) (w : Written) (old new : Option Files) (u : Unwritten) → i < length ws → w ≡ get_or ws i w → LeavesWrites (write_of w ∷ []) old new u → LeavesWrites (map write_of (drop i ws)) old new u
+left_at ws i w old new u lt is left =
+    subst (λ (xs : List Written). LeavesWrites (map write_of xs) old new u) (sym (drop_at ws i w lt is)) (one_left (write_of w) (map write_of (drop (suc i) ws)) old new u left)
 
--- what is said, whatever the tree tells
-pub said_of_some : (words : Result Command Status) (answer : Result Answer Status) (P : Result Answered Status → Type 0) → MatchResult answer (λ a. (command : Command) × (words ≡ Ok command) × CanAnswer command (answered a)) (AgreesUntold words)
-    → MatchResult answer (λ a. P (Ok (answered a))) (λ s. (r : Result Answered Status) → (r ≡ Err s) ⊎ IsReading s → P r) → (r : Result Answered Status) × CanSay words r × P r
-said_of_some words (Ok a) P untold said = (Ok (answered a), subst (λ (w : Result Command Status). CanSay w (Ok (answered a))) (sym untold.1) untold.2, said)
-said_of_some (Ok command) (Err s) P untold said = (Err s, untold, said (Err s) (inl refl))
-said_of_some (Err e) (Err s) P untold said =
-    (Err e, refl, said (Err e) (⊎_elim (λ (is : s ≡ e). inl (ap Err (sym is))) (λ (lost : s ≡ WantOfMemory). inr (subst IsReading (sym lost) tt)) untold))
+pub unwritten_prints : (put0 put1 : ℕ) (before after : Option (List ℕ)) (a : Answered) (old new : Option Files) (u : Unwritten) (end : Status) → LeavesWrites a.writes old new u → (end ≡ unwritten_status u) ⊎ (end ≡ WantOfMemory)
+    → Told put0 put1 before after (line_of (unwritten_status u)) end → Prints put0 put1 before after (Ok a) end
+unwritten_prints put0 put1 before after a old new (unwritten.Failed product) end left same told =
+    by_told put0 put1 before after (line_of (WriteFault (File product) 1)) (WriteFault (File product) 1) end (λ (e : Status). Prints put0 put1 before after (Ok a) e) same told
+    (λ got. got) (λ some. inr (inl (half_told product a.writes old new before after left some)))
+unwritten_prints put0 put1 before after a old new unwritten.Memory end left same told =
+    by_told put0 put1 before after [] WantOfMemory end (λ (e : Status). Prints put0 put1 before after (Ok a) e) same told
+    (λ got. cut_nothing before after (Ok a) (got_by put0 put1 before after [] got)) (λ some. cut_nothing before after (Ok a) some)
+
+pub unwritten_ends : (a : Answered) (old new : Option Files) (u : Unwritten) (end : Status) → LeavesWrites a.writes old new u → (end ≡ unwritten_status u) ⊎ (end ≡ WantOfMemory) → CarriedOut a end
+unwritten_ends a old new (unwritten.Failed product) end left same = by_status (WriteFault (File product) 1) end (CarriedOut a) same (is_replaced product a.writes old new left) tt
+unwritten_ends a old new unwritten.Memory end left same = by_status WantOfMemory end (CarriedOut a) same tt tt
+
+pub unwritten_files : (ws : List Write) (old new : Option Files) (u : Unwritten) (end : Status) → LeavesWrites ws old new u → (end ≡ unwritten_status u) ⊎ (end ≡ WantOfMemory) → FilesAfter ws old new end
+unwritten_files ws old new (unwritten.Failed product) end left same = by_status (WriteFault (File product) 1) end (FilesAfter ws old new) same left (stopped_partly product ws old new left)
+unwritten_files ws old new unwritten.Memory end left same = by_status WantOfMemory end (FilesAfter ws old new) same left left
+
+pub unwritten_causes : (write0 write1 put0 put1 : ℕ) (u : Unwritten) (end : Status) → FailsWriting write0 write1 u → (end ≡ unwritten_status u) ⊎ (end ≡ WantOfMemory) → HasCauses 0 0 write0 write1 put0 put1 end
+unwritten_causes write0 write1 put0 put1 (unwritten.Failed product) end failed same = by_status (WriteFault (File product) 1) end (HasCauses 0 0 write0 write1 put0 put1) same failed tt
+unwritten_causes write0 write1 put0 put1 unwritten.Memory end failed same = by_status WantOfMemory end (HasCauses 0 0 write0 write1 put0 put1) same tt tt
+
+-- ---- a text that is put
+
+-- a text that isn't empty is put
+pub some_put : (text : List ℕ) → (text ≡ [] → ⊥) → IsSome text
+some_put [] some = some refl
+some_put (byte ∷ bytes) some = tt
+
+pub text_ends : (text : List ℕ) (end : Status) → (text ≡ [] → ⊥) → (end ≡ WriteFault Text 1) ⊎ (end ≡ WantOfMemory) → TextEnds text end
+text_ends text end some same = by_status (WriteFault Text 1) end (TextEnds text) same (some_put text some) tt
+
+pub text_carried : (a : Answered) (end : Status) → TextEnds a.text end → CarriedOut a end
+text_carried a Done q = tt
+text_carried a (Refused r) q = q
+text_carried a (ReadFault faults) q = q
+text_carried a (WriteFault (File product) faults) q = absurd q
+text_carried a (WriteFault Text faults) q = q
+text_carried a WantOfMemory q = tt
+
+pub text_files : (ws : List Write) (text : List ℕ) (old new : Option Files) (end : Status) → TextEnds text end → new ≡ all_written ws old → FilesAfter ws old new end
+text_files ws text old new Done q is = is
+text_files ws text old new (Refused r) q is = absurd q
+text_files ws text old new (ReadFault faults) q is = absurd q
+text_files ws text old new (WriteFault (File product) faults) q is = absurd q
+text_files ws text old new (WriteFault Text faults) q is = is
+text_files ws text old new WantOfMemory q is = all_stand ws old new is
+
+pub text_causes : (write0 write1 put0 put1 : ℕ) (text : List ℕ) (end : Status) → TextEnds text end → HasCauses 0 0 0 0 put0 put1 end → HasCauses 0 0 write0 write1 put0 put1 end
+text_causes write0 write1 put0 put1 text Done q has = tt
+text_causes write0 write1 put0 put1 text (Refused r) q has = tt
+text_causes write0 write1 put0 put1 text (ReadFault faults) q has = absurd q
+text_causes write0 write1 put0 put1 text (WriteFault (File product) faults) q has = absurd q
+text_causes write0 write1 put0 put1 text (WriteFault Text faults) q has = has
+text_causes write0 write1 put0 put1 text WantOfMemory q has = tt
+
+-- ---- the status
+
+ok_agrees : (a : Answered) (end : Status) → CarriedOut a end → Agrees (Ok a) end
+ok_agrees a Done q = q
+ok_agrees a (Refused r) q = q
+ok_agrees a (ReadFault faults) q = tt
+ok_agrees a (WriteFault which faults) q = q
+ok_agrees a WantOfMemory q = q
+
+read_agrees : (stated : Result Answered Refusal) (faults : ℕ) → Agrees stated (ReadFault faults)
+read_agrees (Ok a) faults = tt
+read_agrees (Err r) faults = tt
+
+lost_agrees : (stated : Result Answered Refusal) → Agrees stated WantOfMemory
+lost_agrees (Ok a) = tt
+lost_agrees (Err r) = tt
+
+halt_agrees : (stated : Result Answered Refusal) (h : Halt) (end : Status) → Allows h stated → IsToldAs h end → Agrees stated end
+halt_agrees stated (halt.Refused r) end allowed same =
+    by_status (Refused r) end (Agrees stated) same (subst (λ (x : Result Answered Refusal). Agrees x (Refused r)) (sym (allowed r refl)) refl) (lost_agrees stated)
+halt_agrees stated (halt.ReadFault faults) end allowed same = by_status (ReadFault faults) end (Agrees stated) same (read_agrees stated faults) (lost_agrees stated)
+halt_agrees stated halt.WantOfMemory end allowed same = by_status WantOfMemory end (Agrees stated) same (lost_agrees stated) (lost_agrees stated)
+
+abbrev pub Finished : Result Answer Halt → Status → Type 0
+Finished answer end = MatchResult answer (λ a. CarriedOut (answered a) end) (λ h. IsToldAs h end)
+
+pub agrees_by : (held : Option Files) (stated : Files → Result Answered Refusal) (answer : Result Answer Halt) (end : Status) → IfSome held (λ files. ReadsBy answered (stated files) answer) → Finished answer end
+    → IfSome held (λ files. Agrees (stated files) end)
+agrees_by None stated answer end told ended = tt
+agrees_by (Some files) stated (Ok a) end told ended = subst (λ (x : Result Answered Refusal). Agrees x end) (sym told) (ok_agrees (answered a) end ended)
+agrees_by (Some files) stated (Err h) end told ended = halt_agrees (stated files) h end told ended
 
 -- ---- what the words alone decide
 
-put_is : (text : List ℕ) (which : Output) → IsPut text which → which ≡ Printed
-put_is [] which is = absurd is
-put_is (byte ∷ bytes) which is = is
+text_is : (text : List ℕ) → IsSome text → text ≡ [] → ⊥
+text_is [] some is = some
+text_is (byte ∷ bytes) some is = absurd cc
 
--- a text that isn't empty is put
-pub some_put : (text : List ℕ) → (text ≡ [] → ⊥) → IsPut text Printed
-some_put [] some = some refl
-some_put (byte ∷ bytes) some = refl
+written_by : (command : Command) (a : Answered) → CanAnswer command a → (which : Output) → IsWritten a which → Writes command which
+written_by (list_class path) a can (File product) is = absurd (subst (λ (ws : List Write). IsReplaced ws product) (ap (λ (b : Answered). b.writes) can.1) is)
+written_by (list_class path) a can Text is = refl
+written_by (run_suite options) a can (File product) is =
+    ⊎_elim (λ (e : product ≡ Report). inl (ap File e)) (λ (none : ⊥). absurd none) (subst (λ (ws : List Write). IsReplaced ws product) (ap (λ (b : Answered). b.writes) can.3) is)
+written_by (run_suite options) a can Text is = inr refl
+written_by (assemble_class options) a can (File product) is =
+    ⊎_elim (λ (e : product ≡ Assembled). ap File e) (λ (none : ⊥). absurd none) (subst (λ (ws : List Write). IsReplaced ws product) (ap (λ (b : Answered). b.writes) can.4) is)
+written_by (assemble_class options) a can Text is = absurd (text_is a.text is (ap (λ (b : Answered). b.text) can.4))
 
-written_by : (command : Command) (a : Answered) → CanAnswer command a → (which : Output) → IsWritten a.writes a.text which → Writes command which
-written_by (list_class path) a can which is = put_is a.text which (subst (λ (ws : List Write). IsWritten ws a.text which) (ap (λ (b : Answered). b.writes) can.1) is)
-written_by (run_suite suite) a can which is =
-    ⊎_elim (λ (report : which ≡ Report). inl report) (λ (text : IsPut a.text which). inr (put_is a.text which text)) (subst (λ (ws : List Write). IsWritten ws a.text which) (ap (λ (b : Answered). b.writes) can.3) is)
-written_by (assemble_class asked) a can which is =
-    ⊎_elim (λ (file : which ≡ Assembled). file) (λ (none : ⊥). absurd none) (subst (λ (b : Answered). IsWritten b.writes b.text which) can.4 is)
+may_end : (command : Command) (a : Answered) (end : Status) → CanAnswer command a → CarriedOut a end → MayEnd command end
+may_end command a Done can q = tt
+may_end command a (Refused r) can q = absurd q
+may_end command a (ReadFault faults) can q = tt
+may_end command a (WriteFault which faults) can q = written_by command a can which q
+may_end command a WantOfMemory can q = tt
 
-carried_out : (command : Command) (a : Answered) (end : Status) → CanAnswer command a → (end ≡ Done) ⊎ IsWriteFault a.writes a.text end → Ends command end
-carried_out command a Done can q = tt
-carried_out command a (WriteFault which faults) can q = ⊎_elim (λ (d : WriteFault which faults ≡ Done). absurd cc) (λ (is : IsWritten a.writes a.text which). written_by command a can which is) q
-carried_out (list_class path) a WantOfMemory can q = tt
-carried_out (run_suite suite) a WantOfMemory can q = tt
-carried_out (assemble_class asked) a WantOfMemory can q = tt
-carried_out command a Usage can q = absurd (⊎_elim (λ (d : Usage ≡ Done). absurd cc) (λ (n : ⊥). n) q)
-carried_out command a (NotFound path) can q = absurd (⊎_elim (λ (d : NotFound path ≡ Done). absurd cc) (λ (n : ⊥). n) q)
-carried_out command a (Archive path) can q = absurd (⊎_elim (λ (d : Archive path ≡ Done). absurd cc) (λ (n : ⊥). n) q)
-carried_out command a (BadClass path fault) can q = absurd (⊎_elim (λ (d : BadClass path fault ≡ Done). absurd cc) (λ (n : ⊥). n) q)
-carried_out command a (BadProgram fault) can q = absurd (⊎_elim (λ (d : BadProgram fault ≡ Done). absurd cc) (λ (n : ⊥). n) q)
-carried_out command a (NotGreen tests) can q = absurd (⊎_elim (λ (d : NotGreen tests ≡ Done). absurd cc) (λ (n : ⊥). n) q)
-carried_out command a (ReadFault faults) can q = absurd (⊎_elim (λ (d : ReadFault faults ≡ Done). absurd cc) (λ (n : ⊥). n) q)
-carried_out command a (TooMany what number) can q = absurd (⊎_elim (λ (d : TooMany what number ≡ Done). absurd cc) (λ (n : ⊥). n) q)
-carried_out command a (MachineCheck test class method at) can q = absurd (⊎_elim (λ (d : MachineCheck test class method at ≡ Done). absurd cc) (λ (n : ⊥). n) q)
-carried_out command a (AsmRefused line) can q = absurd (⊎_elim (λ (d : AsmRefused line ≡ Done). absurd cc) (λ (n : ⊥). n) q)
+halt_may_end : (command : Command) (h : Halt) (end : Status) → ((r : Refusal) → h ≡ halt.Refused r → MayRefuse command r) → IsToldAs h end → MayEnd command end
+halt_may_end command (halt.Refused r) end may same = by_status (Refused r) end (MayEnd command) same (may r refl) tt
+halt_may_end command (halt.ReadFault faults) end may same = by_status (ReadFault faults) end (MayEnd command) same tt tt
+halt_may_end command halt.WantOfMemory end may same = by_status WantOfMemory end (MayEnd command) same tt tt
 
-lost_untold : (words : Result Command Status) → AgreesUntold words WantOfMemory
-lost_untold (Ok (list_class path)) = tt
-lost_untold (Ok (run_suite suite)) = tt
-lost_untold (Ok (assemble_class asked)) = tt
-lost_untold (Err e) = inr refl
+pub untold_by : (words : Result Command Refusal) (answer : Result Answer Halt) (end : Status) → AnswersUntold words answer → Finished answer end → AgreesUntold words end
+untold_by words (Ok a) end untold ended = subst (λ (w : Result Command Refusal). AgreesUntold w end) (sym untold.1) (may_end untold.0 (answered a) end untold.2 ended)
+untold_by (Ok command) (Err h) end untold ended = halt_may_end command h end untold ended
+untold_by (Err r) (Err h) end untold ended =
+    ⊎_elim
+    (λ (is : h ≡ halt.Refused r). by_status (status_of h) end (AgreesUntold (Err r)) ended (inl (ap status_of is)) (inr refl))
+    (λ (is : h ≡ halt.WantOfMemory). by_status (status_of h) end (AgreesUntold (Err r)) ended (inr (ap status_of is)) (inr refl))
+    untold
 
--- a refusal of the words, or want of memory
-pub words_untold : (words : Result Command Status) (s : Status) → (words ≡ Err s) ⊎ (s ≡ WantOfMemory) → AgreesUntold words s
-words_untold words s told =
-    ⊎_elim (λ (is : words ≡ Err s). subst (λ (w : Result Command Status). AgreesUntold w s) (sym is) (inl refl)) (λ (lost : s ≡ WantOfMemory). subst (AgreesUntold words) (sym lost) (lost_untold words)) told
+-- ---- faults
 
-pub untold_by : (words : Result Command Status) (answer : Result Answer Status) (end : Status) → MatchResult answer (λ a. (command : Command) × (words ≡ Ok command) × CanAnswer command (answered a)) (AgreesUntold words)
-    → MatchResult answer (λ a. (end ≡ Done) ⊎ IsWriteFault (answered a).writes (answered a).text end) (λ s. (end ≡ s) ⊎ (end ≡ WantOfMemory)) → AgreesUntold words end
-untold_by words (Ok a) end untold status = subst (λ (w : Result Command Status). AgreesUntold w end) (sym untold.1) (carried_out untold.0 (answered a) end untold.2 status)
-untold_by words (Err s) end untold status =
-    ⊎_elim (λ (is : end ≡ s). subst (AgreesUntold words) (sym is) untold) (λ (is : end ≡ WantOfMemory). subst (AgreesUntold words) (sym is) (lost_untold words)) status
+ok_causes : (read0 read1 write0 write1 put0 put1 : ℕ) (a : Answered) (end : Status) → CarriedOut a end → HasCauses 0 0 write0 write1 put0 put1 end → HasCauses read0 read1 write0 write1 put0 put1 end
+ok_causes read0 read1 write0 write1 put0 put1 a Done q has = tt
+ok_causes read0 read1 write0 write1 put0 put1 a (Refused r) q has = tt
+ok_causes read0 read1 write0 write1 put0 put1 a (ReadFault faults) q has = absurd q
+ok_causes read0 read1 write0 write1 put0 put1 a (WriteFault (File product) faults) q has = has
+ok_causes read0 read1 write0 write1 put0 put1 a (WriteFault Text faults) q has = has
+ok_causes read0 read1 write0 write1 put0 put1 a WantOfMemory q has = tt
+
+halt_causes : (read0 read1 write0 write1 put0 put1 : ℕ) (h : Halt) (end : Status) → FailsReading read0 read1 h → IsToldAs h end → HasCauses read0 read1 write0 write1 put0 put1 end
+halt_causes read0 read1 write0 write1 put0 put1 (halt.Refused r) end failed same = by_status (Refused r) end (HasCauses read0 read1 write0 write1 put0 put1) same tt tt
+halt_causes read0 read1 write0 write1 put0 put1 (halt.ReadFault faults) end failed same = by_status (ReadFault faults) end (HasCauses read0 read1 write0 write1 put0 put1) same (failed faults refl) tt
+halt_causes read0 read1 write0 write1 put0 put1 halt.WantOfMemory end failed same = by_status WantOfMemory end (HasCauses read0 read1 write0 write1 put0 put1) same tt tt
+
+abbrev pub Causes : ℕ → ℕ → ℕ → ℕ → Result Answer Halt → Status → Type 0
+Causes write0 write1 put0 put1 (Ok a) end = HasCauses 0 0 write0 write1 put0 put1 end
+Causes write0 write1 put0 put1 (Err h) end = Unit {0}
+
+pub causes_by : (read0 read1 write0 write1 put0 put1 : ℕ) (answer : Result Answer Halt) (end : Status) → IfErr answer (FailsReading read0 read1) → Finished answer end → Causes write0 write1 put0 put1 answer end
+    → HasCauses read0 read1 write0 write1 put0 put1 end
+causes_by read0 read1 write0 write1 put0 put1 (Ok a) end failed ended has = ok_causes read0 read1 write0 write1 put0 put1 (answered a) end ended has
+causes_by read0 read1 write0 write1 put0 put1 (Err h) end failed ended has = halt_causes read0 read1 write0 write1 put0 put1 h end failed ended
+
+-- ---- the sink
+
+-- what the end of a call prints of its answer, said of what the files decide
+pub prints_by : (held : Option Files) (stated : Files → Result Answered Refusal) (answer : Result Answer Halt) (P : Result Answered Refusal → Type 0) → IfSome held (λ files. ReadsBy answered (stated files) answer)
+    → MatchResult answer (λ a. P (Ok (answered a))) (λ h. (x : Result Answered Refusal) → Allows h x → P x) → IfSome held (λ files. P (stated files))
+prints_by None stated answer P told said = tt
+prints_by (Some files) stated (Ok a) P told said = subst P (sym told) said
+prints_by (Some files) stated (Err h) P told said = said (stated files) told
+
+abbrev Stateable : Result Command Refusal → (Result Answered Refusal → Type 0) → Type 0
+Stateable words P = (x : Result Answered Refusal) × CanState words x × P x
+
+halt_states : (command : Command) (h : Halt) (P : Result Answered Refusal → Type 0) → ((r : Refusal) → h ≡ halt.Refused r → MayRefuse command r) → (some : Result Answered Refusal) → CanState (Ok command) some
+    → ((x : Result Answered Refusal) → Allows h x → P x) → Stateable (Ok command) P
+halt_states command (halt.Refused r) P may some can said = (Err r, may r refl, said (Err r) (λ q is. let e : r ≡ q = cc in ap Err e))
+halt_states command (halt.ReadFault faults) P may some can said = (some, can, said some (λ q is. absurd cc))
+halt_states command halt.WantOfMemory P may some can said = (some, can, said some (λ q is. absurd cc))
+
+-- each command may be refused, as where it finds nothing
+pub some_stated : (command : Command) → (x : Result Answered Refusal) × CanState (Ok command) x
+some_stated (list_class path) = (Err (NotFound path), refl)
+some_stated (run_suite options) = (Err (NotFound []), tt)
+some_stated (assemble_class options) = (Err (NotFound options.text), refl)
+
+pub states_by : (words : Result Command Refusal) (answer : Result Answer Halt) (P : Result Answered Refusal → Type 0) → AnswersUntold words answer
+    → MatchResult answer (λ a. P (Ok (answered a))) (λ h. (x : Result Answered Refusal) → Allows h x → P x) → Stateable words P
+states_by words (Ok a) P untold said = (Ok (answered a), subst (λ (w : Result Command Refusal). CanState w (Ok (answered a))) (sym untold.1) untold.2, said)
+states_by (Ok command) (Err h) P untold said = let some = some_stated command in halt_states command h P untold some.0 some.1 said
+states_by (Err e) (Err h) P untold said = (Err e, refl, said (Err e) (λ q is. ap Err (⊎_elim (λ (was : h ≡ halt.Refused e). refused_same e q (sym was ∙ is)) (λ (was : h ≡ halt.WantOfMemory). lost_refused q (sym was ∙ is)) untold)))
+  where
+    refused_same : (e q : Refusal) → halt.Refused e ≡ halt.Refused q → e ≡ q
+    refused_same e q is = cc
+
+    lost_refused : (q : Refusal) → halt.WantOfMemory ≡ halt.Refused q → e ≡ q
+    lost_refused q is = absurd cc
+
+-- ---- the tree
+
+halt_files : (ws : List Write) (old new : Option Files) (h : Halt) (end : Status) → new ≡ old → IsToldAs h end → FilesAfter ws old new end
+halt_files ws old new (halt.Refused r) end is same = by_status (Refused r) end (FilesAfter ws old new) same is (none_stands ws old new is)
+halt_files ws old new (halt.ReadFault faults) end is same = by_status (ReadFault faults) end (FilesAfter ws old new) same is (none_stands ws old new is)
+halt_files ws old new halt.WantOfMemory end is same = by_status WantOfMemory end (FilesAfter ws old new) same (none_stands ws old new is) (none_stands ws old new is)
+
+abbrev pub Left : Option Files → Option Files → Result Answer Halt → Status → Type 0
+Left old new (Ok a) end = FilesAfter (answered a).writes old new end
+Left old new (Err h) end = new ≡ old
+
+pub files_by : (held new : Option Files) (stated : Files → Result Answered Refusal) (answer : Result Answer Halt) (end : Status) → IfSome held (λ files. ReadsBy answered (stated files) answer) → Finished answer end → Left held new answer end
+    → IfSome held (λ files. FilesAfter (writes_in (stated files)) (Some files) new end)
+files_by None new stated answer end told ended left = tt
+files_by (Some files) new stated (Ok a) end told ended left = subst (λ (x : Result Answered Refusal). FilesAfter (writes_in x) (Some files) new end) (sym told) left
+files_by (Some files) new stated (Err h) end told ended left = halt_files (writes_in (stated files)) (Some files) new h end left ended
+
+pub last_by : (held new : Option Files) (before after : ℕ) (steps : Files → ℕ) (answer : Result Answer Halt) (end : Status) → IfSome held (λ files. AnswerMeters before after (steps files) answer) → Left held new answer end
+    → IfSome held (λ files. (new ≡ Some files) ⊎ (after ≡ before + steps files))
+last_by None new before after steps answer end meter left = tt
+last_by (Some files) new before after steps (Ok a) end meter left = inr meter
+last_by (Some files) new before after steps (Err h) end meter left = inl left
+
+-- ---- the meter
+
+ok_rose : (before after steps : ℕ) (a : Answered) (end : Status) → CarriedOut a end → after ≡ before + steps → MeterRose before after steps end
+ok_rose before after steps a Done q is = is
+ok_rose before after steps a (Refused r) q is = is
+ok_rose before after steps a (ReadFault faults) q is = absurd q
+ok_rose before after steps a (WriteFault which faults) q is = is
+ok_rose before after steps a WantOfMemory q is = (omega (arith, is), omega (arith, is))
+
+halt_rose : (before after steps : ℕ) (h : Halt) (end : Status) → HaltRose before after steps h → IsToldAs h end → MeterRose before after steps end
+halt_rose before after steps (halt.Refused r) end rose same = by_status (Refused r) end (MeterRose before after steps) same (rose.2 r refl) (rose.0, rose.1)
+halt_rose before after steps (halt.ReadFault faults) end rose same = by_status (ReadFault faults) end (MeterRose before after steps) same (rose.3 faults refl) (rose.0, rose.1)
+halt_rose before after steps halt.WantOfMemory end rose same = by_status WantOfMemory end (MeterRose before after steps) same (rose.0, rose.1) (rose.0, rose.1)
+
+pub rose_by : (held : Option Files) (before after : ℕ) (steps : Files → ℕ) (answer : Result Answer Halt) (end : Status) → IfSome held (λ files. AnswerMeters before after (steps files) answer) → Finished answer end
+    → IfSome held (λ files. MeterRose before after (steps files) end)
+rose_by None before after steps answer end meter ended = tt
+rose_by (Some files) before after steps (Ok a) end meter ended = ok_rose before after (steps files) (answered a) end ended meter
+rose_by (Some files) before after steps (Err h) end meter ended = halt_rose before after (steps files) h end meter ended
+
+ok_stays : (before after : ℕ) (a : Answered) (end : Status) → CarriedOut a end → before ≤ after → MeterStays before after end
+ok_stays before after a Done q le = le
+ok_stays before after a (Refused r) q le = absurd q
+ok_stays before after a (ReadFault faults) q le = absurd q
+ok_stays before after a (WriteFault which faults) q le = le
+ok_stays before after a WantOfMemory q le = le
+
+halt_stays : (before after : ℕ) (h : Halt) (end : Status) → HaltStays before after h → IsToldAs h end → MeterStays before after end
+halt_stays before after (halt.Refused r) end stays same = by_status (Refused r) end (MeterStays before after) same (stays.1 r refl) stays.0
+halt_stays before after (halt.ReadFault faults) end stays same = by_status (ReadFault faults) end (MeterStays before after) same (stays.2 faults refl) stays.0
+halt_stays before after halt.WantOfMemory end stays same = by_status WantOfMemory end (MeterStays before after) same stays.0 stays.0
+
+pub stays_by : (before after : ℕ) (answer : Result Answer Halt) (end : Status) → IfErr answer (HaltStays before after) → before ≤ after → Finished answer end → MeterStays before after end
+stays_by before after (Ok a) end stays le ended = ok_stays before after (answered a) end ended le
+stays_by before after (Err h) end stays le ended = halt_stays before after h end stays ended

@@ -1,5 +1,5 @@
 -- Each mutant of a suite's classes has an edit that its class takes.
-use Rattle.std.proofs.Common.{◌≡◌, ◌∙◌, ℕ, zero, suc, ◌+◌, Bool, true, false, List, [], ◌∷◌, ◌++◌, map, take, Option, Some, None, Ok, refl, sym, ap, subst}
+use Rattle.std.proofs.Common.{◌≡◌, ◌∙◌, ℕ, ◌+◌, Bool, true, false, List, [], ◌∷◌, ◌++◌, map, Option, Some, None, Ok, refl, sym, ap, subst}
 use Rattle.std.specs.Prelude.{All, IfSome, if◌then◌else◌, ◌||◌, unwrap_or}
 use Rattle.std.specs.List.{AllByRecursion, list_any, flat_map, fold}
 use Rattle.std.specs.declared.cmp.Ordering.{Ordering}
@@ -28,8 +28,10 @@ use Rattle.mutant_apply.specs.Fitting.{Fits}
 use Rattle.mutant_apply.specs.Laws.{MutantsFit}
 use Rattle.mutant_runs.specs.Programs.{ClassFiles, IsMutantOf}
 use Rattle.mutest_engine.specs.Duplicates.{again, least, duplicate_in}
-use Rattle.mutest_engine.specs.Originals.{classes_in, names_in, unless_twice, accepted, ordered}
-use Rattle.mutest_engine.specs.Mutation.{mutants_by_name, mutants_among, class_file}
+use Rattle.mutest_engine.specs.SuiteFiles.{IsFormed}
+use Rattle.mutest_engine.specs.declared.suite.LoadedSuite.{LoadedSuite}
+use Rattle.mutest_engine.specs.Originals.{all_classes, classes_in, names_in, unless_twice, accepted, ordered}
+use Rattle.mutest_engine.specs.Mutation.{mutants_by_name, mutants_among, mutants_of, class_file, suite_files, linked}
 
 -- ---- lists
 
@@ -49,15 +51,13 @@ mapped : {X Y : Type 0} (P : Y → Type 0) (f : X → Y) (xs : List X) → AllBy
 mapped P f [] p = tt
 mapped P f (x ∷ xs) p = (p.0, mapped P f xs p.1)
 
-taken : {X : Type 0} (P : X → Type 0) (n : ℕ) (xs : List X) → AllByRecursion P xs → AllByRecursion P (take n xs)
-taken P zero xs p = tt
-taken P (suc n) [] p = tt
-taken P (suc n) (x ∷ xs) p = (p.0, taken P n xs p.1)
+front : {X : Type 0} (P : X → Type 0) (xs ys : List X) → AllByRecursion P (xs ++ ys) → AllByRecursion P xs
+front P [] ys p = tt
+front P (x ∷ xs) ys p = (p.0, front P xs ys p.1)
 
-classes_taken : (n : ℕ) (xs : List Loaded) → classes_in (take n xs) ≡ take n (classes_in xs)
-classes_taken zero xs = refl
-classes_taken (suc n) [] = refl
-classes_taken (suc n) (x ∷ xs) = ap (λ cs. x.class ∷ cs) (classes_taken n xs)
+classes_both : (xs ys : List Loaded) → classes_in (xs ++ ys) ≡ classes_in xs ++ classes_in ys
+classes_both [] ys = refl
+classes_both (x ∷ xs) ys = ap (λ cs. x.class ∷ cs) (classes_both xs ys)
 
 -- ---- what is kept by keys
 
@@ -182,13 +182,16 @@ among_fit fit files cs p =
     (mapped (λ (e : List ℕ × List Mutant). AllByRecursion (IsMutantOf files) e.1) mutants_by_name cs
     (both (λ (c : Class). HasClassForm c × (files (own_name c) ≡ Some c)) (λ (c : Class). Unit {0}) (λ (c : Class). AllByRecursion (IsMutantOf files) (class_mutants c)) cs (λ c q u. class_fits fit files c q.0 q.1) p (every (λ (c : Class). Unit {0}) cs (λ c. tt)))))
 
-pub all_fit : MutantsFit → (classes : List Loaded) (first : ℕ) → All (λ (l : Loaded). HasClassForm l.class) classes → accepted (classes_in classes) ≡ Ok tt
-    → All (IsMutantOf (class_file (classes_in classes))) (mutants_among (classes_in (take first classes)))
-all_fit fit classes first forms ok =
-    let cs = classes_in classes in
+pub all_fit : MutantsFit → (s : LoadedSuite) → IsFormed s → linked s ≡ Ok tt → All (IsMutantOf (suite_files s)) (mutants_of s)
+all_fit fit s forms ok =
+    let all = all_classes s in
+    let cs = classes_in all in
     let files = class_file cs in
+    let formed_all = appended (λ (l : Loaded). HasClassForm l.class) s.classes s.tests (recursion_from_All (λ (l : Loaded). HasClassForm l.class) s.classes forms.0) (recursion_from_All (λ (l : Loaded). HasClassForm l.class) s.tests forms.1) in
     let each : AllByRecursion (λ (c : Class). HasClassForm c × (files (own_name c) ≡ Some c)) cs =
     both HasClassForm (IsFound cs) (λ (c : Class). HasClassForm c × (files (own_name c) ≡ Some c)) cs (λ c form is. (form, is))
-    (formed classes (recursion_from_All (λ (l : Loaded). HasClassForm l.class) classes forms)) (found cs _ (none_again cs ok)) in
-    All-from_recursion (IsMutantOf files) (mutants_among (classes_in (take first classes)))
-    (subst (λ (ds : List Class). AllByRecursion (IsMutantOf files) (mutants_among ds)) (sym (classes_taken first classes)) (among_fit fit files (take first cs) (taken _ first cs each)))
+    (formed all formed_all) (found cs _ (none_again cs ok)) in
+    let some : AllByRecursion (λ (c : Class). HasClassForm c × (files (own_name c) ≡ Some c)) (classes_in s.classes) =
+    front (λ (c : Class). HasClassForm c × (files (own_name c) ≡ Some c)) (classes_in s.classes) (classes_in s.tests)
+    (subst (λ (ds : List Class). AllByRecursion (λ (c : Class). HasClassForm c × (files (own_name c) ≡ Some c)) ds) (classes_both s.classes s.tests) each) in
+    All-from_recursion (IsMutantOf files) (mutants_of s) (among_fit fit files (classes_in s.classes) some)

@@ -1,98 +1,104 @@
--- What the runs on a suite's program say is said of the suite.
-use Rattle.std.proofs.Common.{◌≡◌, ◌⊎◌, ◌∙◌, ℕ, List, [], map, take, drop, length, Result, Ok, Err, refl, sym, ap, inl, inr, ⊎_elim}
+-- What the runs on the program of a suite say of the suite.
+use Rattle.std.proofs.Common.{◌≡◌, ◌∙◌, ℕ, ◌≤◌, List, length, Result, Ok, Err, sym, ap, subst}
+use Rattle.std.specs.Prelude.{All}
 use Rattle.program_rules.specs.Programs.{Look}
-use Rattle.class_table.specs.declared.loaded.Loaded.{Loaded}
 use Rattle.class_table.specs.declared.scripted.Test.{Test}
 use Rattle.mutator_ops.specs.declared.mutant.Mutant.{Mutant}
 use Rattle.mutator_ops.specs.declared.mutant.Verdict.{Verdict}
-use Rattle.mutant_runs.specs.Programs.{ClassFiles}
-use Rattle.report_schema.specs.FileKey.{file_key}
+use Rattle.class_table.specs.declared.loaded.Loaded.{Loaded}
+use Rattle.mutant_apply.specs.Laws.{MutantsFit}
+use Rattle.mutant_runs.specs.Programs.{ClassFiles, IsMutantOf}
 use Rattle.report_schema.specs.declared.input.ReportInput.{ReportInput}
-use Rattle.mutest_engine.specs.Answers.{and_then, IsReading}
-use Rattle.mutest_engine.specs.Originals.{classes_in, program_of, accepted, tests_of, tests_among, few_tests, green}
-use Rattle.mutest_engine.specs.Mutation.{class_file, program, mutants_of, mutants_among, few_mutants, verdicts_by, if_so, all_steps, ready, reported, judged, suite_steps}
+use Rattle.mutest_engine.specs.SuiteFiles.{IsFormed}
 use Rattle.mutest_engine.specs.declared.suite.LoadedSuite.{LoadedSuite}
-use Rattle.mutest_engine.specs.declared.status.Status.{Status}
-use Rattle.mutest_engine.proofs.StepLaws.{all_verdicts}
+use Rattle.mutest_engine.specs.Steps.{and_then}
+use Rattle.mutest_engine.specs.Originals.{all_classes, classes_in, program_of, accepted, tests_of, tests_among, few_tests, green}
+use Rattle.mutest_engine.specs.Mutation.{class_file, suite_files, program, mutants_of, mutants_among, linked, judged, suite_steps, few_mutants, few, verdicts_by, green_verdicts, input_of, if_so, all_steps, tested, tested_steps, Stays}
+use Rattle.mutest_engine.specs.declared.refusal.Refusal.{Refusal}
+use Rattle.mutest_engine.proofs.FitLaws.{all_fit}
+use Rattle.mutest_engine.proofs.RefusalLaws.{of_green}
 
--- These are the class files, the program, the tests and the mutants of a suite that is ready.
-pub record IsReady (s : LoadedSuite) (files : ClassFiles) (p : Look) (ts : List Test) (ms : List Mutant) : Type 0 where
-  pub asked : ready s ≡ Ok tt
-  pub by_file : files ≡ class_file (classes_in s.classes)
+-- The tests and the mutants are few enough, by what the code found of their counts.
+pub is_few : (ts : List Test) (ms : List Mutant) (n m : ℕ) (u v : Unit {0}) → Ok u ≡ few_tests n → n ≡ length ts → Ok v ≡ few_mutants m → m ≡ length ms → few ts ms ≡ Ok tt
+is_few ts ms n m u v tests len mutants len' =
+    let one : few_tests (length ts) ≡ Ok tt = ap few_tests (sym len) ∙ sym tests in
+    let other : few_mutants (length ms) ≡ Ok tt = ap few_mutants (sym len') ∙ sym mutants in
+    ap (λ x. and_then x (λ ok. few_mutants (length ms))) one ∙ other
+
+tested_is : (files : ClassFiles) (p : Look) (ts : List Test) (ms : List Mutant) → few ts ms ≡ Ok tt → tested files p ts ms ≡ and_then (green p ts) (λ ok. Ok (input_of ts ms (verdicts_by files p ts ms)))
+unfolding tested
+tested_is files p ts ms ready = ap (λ x. and_then x (λ ok. and_then (green p ts) (λ ok. Ok (input_of ts ms (verdicts_by files p ts ms))))) ready
+
+steps_are : (files : ClassFiles) (p : Look) (ts : List Test) (ms : List Mutant) → few ts ms ≡ Ok tt → tested_steps files p ts ms ≡ all_steps files p ts ms
+unfolding tested_steps
+steps_are files p ts ms ready = ap (λ x. if_so x (all_steps files p ts ms)) ready
+
+-- the same, with the tests and the mutants as slices
+pub counted_steps : (files : ClassFiles) (p : Look) (ts : List Test) (ms : List Mutant) (ts' : List Test) (ms' : List Mutant) → few ts ms ≡ Ok tt → ts' ≡ ts → ms' ≡ ms → all_steps files p ts' ms' ≡ tested_steps files p ts ms
+counted_steps files p ts ms ts' ms' ready t m = ap (λ l. all_steps files p l ms') t ∙ ap (λ l. all_steps files p ts l) m ∙ sym (steps_are files p ts ms ready)
+
+abbrev pub all_inputs : ReportInput → Result ReportInput Refusal
+all_inputs input = Ok input
+
+refused_by : {X Y : Type 0} (g : Result (Unit {0}) Refusal) (x : X) (y : Y) (r : Refusal) → and_then g (λ ok. Ok x) ≡ Err r → (g ≡ Err r) × (and_then g (λ ok. Ok y) ≡ Err r)
+refused_by (Ok ok) x y r h = absurd cc
+refused_by (Err q) x y r h = (cc, cc)
+
+pub tested_refused : (files : ClassFiles) (p : Look) (ts : List Test) (ms : List Mutant) (r : Refusal) → few ts ms ≡ Ok tt → green_verdicts files p ts ms ≡ Err r → tested files p ts ms ≡ Err r
+tested_refused files p ts ms r ready is =
+    tested_is files p ts ms ready ∙ (refused_by (green p ts) (verdicts_by files p ts ms) (input_of ts ms (verdicts_by files p ts ms)) r is).1
+
+no_case : (P : Type 0) → ⊥ → P
+no_case P q = absurd q
+
+-- Among the runs, a refusal comes not before the first one.
+pub refused_stays : (files : ClassFiles) (p : Look) (ts : List Test) (ms : List Mutant) (r : Refusal) (before after : ℕ) → before ≤ after → green_verdicts files p ts ms ≡ Err r → Stays before after r
+refused_stays files p ts ms r before after le is =
+    (le, λ early. no_case _ ((of_green p ts r (refused_by (green p ts) (verdicts_by files p ts ms) (verdicts_by files p ts ms) r is).0).1 early))
+
+passed_by : {X Y : Type 0} (g : Result (Unit {0}) Refusal) (x y : X) (f : X → Y) → and_then g (λ ok. Ok x) ≡ Ok y → and_then g (λ ok. Ok (f x)) ≡ Ok (f y)
+passed_by (Ok ok) x y f h = let e : x ≡ y = cc in (λ i. Ok (f (e i)))
+passed_by (Err q) x y f h = absurd cc
+
+pub tested_ok : (files : ClassFiles) (p : Look) (ts : List Test) (ms : List Mutant) (vs : List Verdict) → few ts ms ≡ Ok tt → green_verdicts files p ts ms ≡ Ok vs → tested files p ts ms ≡ Ok (input_of ts ms vs)
+tested_ok files p ts ms vs ready is = tested_is files p ts ms ready ∙ passed_by (green p ts) (verdicts_by files p ts ms) vs (input_of ts ms) is
+
+-- ---- a suite
+
+-- These are the class files, the program, the tests and the mutants of a suite whose classes make a program.
+pub record IsLinked (s : LoadedSuite) (files : ClassFiles) (p : Look) (ts : List Test) (ms : List Mutant) : Type 0 where
+  pub asked : linked s ≡ Ok tt
+  pub by_file : files ≡ suite_files s
   pub by_name : p ≡ program s
   pub of_tests : ts ≡ tests_of s
   pub of_mutants : ms ≡ mutants_of s
 
-abbrev pub done : Unit {0} → Result (Unit {0}) Status
-done ok = Ok ok
-
-ready_with : (a b c : Result (Unit {0}) Status) → a ≡ Ok tt → b ≡ Ok tt → c ≡ Ok tt → and_then a (λ ok. and_then b (λ ok. c)) ≡ Ok tt
-ready_with a b c x y z = ap (λ r. and_then r (λ ok. and_then b (λ ok. c))) x ∙ ap (λ r. and_then r (λ ok. c)) y ∙ z
-
 -- What the code found, piece by piece.
-pub is_ready : (s : LoadedSuite) (files : ClassFiles) (p : Look) (classes classes' : List Loaded) (ts ts' : List Test) (ms ms' : List Mutant) (n m : ℕ) (u v : Unit {0}) → accepted (classes_in s.classes) ≡ Ok tt
-    → files ≡ class_file (classes_in s.classes) → p ≡ program_of (classes_in s.classes) → classes ≡ s.classes → classes' ≡ s.classes → ts ≡ tests_among (classes_in (drop s.first_test classes)) → ms ≡ mutants_among (classes_in (take s.first_test classes'))
-    → ts' ≡ ts → ms' ≡ ms → n ≡ length ts → m ≡ length ms → done u ≡ few_tests n → done v ≡ few_mutants m → IsReady s files p ts' ms'
-is_ready s files p classes classes' ts ts' ms ms' n m u v acc fs look c c' t k t' k' len len' few few' =
-    let tests : ts ≡ tests_of s = t ∙ ap (λ l. tests_among (classes_in (drop s.first_test l))) c in
-    let mutants : ms ≡ mutants_of s = k ∙ ap (λ l. mutants_among (classes_in (take s.first_test l))) c' in
-    record {
-      asked = ready_with (accepted (classes_in s.classes)) (few_tests (length (tests_of s))) (few_mutants (length (mutants_of s))) acc (ap few_tests (sym (len ∙ ap length tests)) ∙ sym few) (ap few_mutants (sym (len' ∙ ap length mutants)) ∙ sym few');
-      by_file = fs;
-      by_name = look;
-      of_tests = t' ∙ tests;
-      of_mutants = k' ∙ mutants;
-    }
+pub is_linked : (s : LoadedSuite) (files : ClassFiles) (p : Look) (all classes tests : List Loaded) (ts : List Test) (ms : List Mutant) → accepted (classes_in all) ≡ Ok tt → files ≡ class_file (classes_in all)
+    → p ≡ program_of (classes_in all) → all ≡ all_classes s → tests ≡ s.tests → classes ≡ s.classes → ts ≡ tests_among (classes_in tests) → ms ≡ mutants_among (classes_in classes) → IsLinked s files p ts ms
+is_linked s files p all classes tests ts ms acc fs look is is_tests is_classes t m = record {
+  asked = ap (λ l. accepted (classes_in l)) (sym is) ∙ acc;
+  by_file = fs ∙ ap (λ l. class_file (classes_in l)) is;
+  by_name = look ∙ ap (λ l. program_of (classes_in l)) is;
+  of_tests = t ∙ ap (λ l. tests_among (classes_in l)) is_tests;
+  of_mutants = m ∙ ap (λ l. mutants_among (classes_in l)) is_classes;
+}
 
-green_is : (s : LoadedSuite) (files : ClassFiles) (p : Look) (ts : List Test) (ms : List Mutant) → IsReady s files p ts ms → green p ts ≡ green (program s) (tests_of s)
-green_is s files p ts ms h = ap (λ q. green q ts) h.by_name ∙ ap (λ l. green (program s) l) h.of_tests
+pub fit_of : MutantsFit → (s : LoadedSuite) (files : ClassFiles) (p : Look) (ts : List Test) (ms : List Mutant) → IsFormed s → IsLinked s files p ts ms → All (IsMutantOf files) ms
+fit_of fit s files p ts ms formed h =
+    subst (λ (f : ClassFiles). All (IsMutantOf f) ms) (sym h.by_file) (subst (All (IsMutantOf (suite_files s))) (sym h.of_mutants) (all_fit fit s formed h.asked))
 
-verdicts_are : (s : LoadedSuite) (files : ClassFiles) (p : Look) (ts : List Test) (ms : List Mutant) → IsReady s files p ts ms → verdicts_by files p ts ms ≡ verdicts_by (class_file (classes_in s.classes)) (program s) (tests_of s) (mutants_of s)
-verdicts_are s files p ts ms h =
-    ap (λ f. verdicts_by f p ts ms) h.by_file ∙ ap (λ q. verdicts_by (class_file (classes_in s.classes)) q ts ms) h.by_name ∙ ap (λ l. verdicts_by (class_file (classes_in s.classes)) (program s) l ms) h.of_tests
-    ∙ ap (λ l. verdicts_by (class_file (classes_in s.classes)) (program s) (tests_of s) l) h.of_mutants
+all_tested : (s : LoadedSuite) (files : ClassFiles) (p : Look) (ts : List Test) (ms : List Mutant) → IsLinked s files p ts ms → tested files p ts ms ≡ tested (suite_files s) (program s) (tests_of s) (mutants_of s)
+all_tested s files p ts ms h =
+    ap (λ f. tested f p ts ms) h.by_file ∙ ap (λ q. tested (suite_files s) q ts ms) h.by_name ∙ ap (λ l. tested (suite_files s) (program s) l ms) h.of_tests
+    ∙ ap (λ l. tested (suite_files s) (program s) (tests_of s) l) h.of_mutants
 
--- The steps of all runs are those of the suite.
-pub steps_are : (s : LoadedSuite) (files : ClassFiles) (p : Look) (ts : List Test) (ms : List Mutant) → IsReady s files p ts ms → all_steps files p ts ms ≡ suite_steps s
-steps_are s files p ts ms h =
-    ap (λ f. all_steps f p ts ms) h.by_file ∙ ap (λ q. all_steps (class_file (classes_in s.classes)) q ts ms) h.by_name ∙ ap (λ l. all_steps (class_file (classes_in s.classes)) (program s) l ms) h.of_tests
-    ∙ ap (λ l. all_steps (class_file (classes_in s.classes)) (program s) (tests_of s) l) h.of_mutants
-    ∙ ap (λ r. if_so r (all_steps (class_file (classes_in s.classes)) (program s) (tests_of s) (mutants_of s))) (sym h.asked)
+pub judged_is : (s : LoadedSuite) (files : ClassFiles) (p : Look) (ts : List Test) (ms : List Mutant) → IsLinked s files p ts ms → tested files p ts ms ≡ judged s
+judged_is s files p ts ms h =
+    all_tested s files p ts ms h ∙ ap (λ x. and_then x (λ ok. tested (suite_files s) (program s) (tests_of s) (mutants_of s))) (sym h.asked)
 
--- ---- the answer
-
-green_refused : {X Y : Type 0} (g : Result (Unit {0}) Status) (x : X) (y : Y) (e : Status) → and_then g (λ ok. Ok x) ≡ Err e → and_then g (λ ok. Ok y) ≡ Err e
-green_refused (Ok ok) x y e h = absurd cc
-green_refused (Err f) x y e h = cc
-
--- The runs on the program as it is end all.
-pub judged_refused : (s : LoadedSuite) (files : ClassFiles) (p : Look) (ts : List Test) (ms : List Mutant) (e : Status) → IsReady s files p ts ms → (and_then (green p ts) (λ ok. Ok (verdicts_by files p ts ms)) ≡ Err e) ⊎ IsReading e
-    → (judged s ≡ Err e) ⊎ IsReading e
-judged_refused s files p ts ms e h told =
-    ⊎_elim
-    (λ (is : and_then (green p ts) (λ ok. Ok (verdicts_by files p ts ms)) ≡ Err e).
-    inl (ap (λ r. and_then r (λ ok. and_then (green (program s) (tests_of s)) (λ ok. Ok (reported s)))) h.asked ∙ ap (λ r. and_then r (λ ok. Ok (reported s))) (sym (green_is s files p ts ms h)) ∙ green_refused (green p ts) (verdicts_by files p ts ms) (reported s) e is))
-    (λ (q : IsReading e). inr q)
-    told
-
-green_passed : {X : Type 0} (g : Result (Unit {0}) Status) (x y : X) → and_then g (λ ok. Ok x) ≡ Ok y → (g ≡ Ok tt) × (x ≡ y)
-green_passed (Ok ok) x y h = (refl, cc)
-green_passed (Err e) x y h = absurd cc
-
-abbrev pub input_of : List Test → List Mutant → List Verdict → ReportInput
-input_of ts ms vs = record { mutants = ms; verdicts = vs; tests = ts; keys = map (λ m. file_key m.class) ms; test_keys = []; sources = [] }
-
-abbrev pub all_reported : ReportInput → Result ReportInput Status
-all_reported input = Ok input
-
--- All runs were made.
-pub judged_ok : (s : LoadedSuite) (files : ClassFiles) (p : Look) (ts : List Test) (ms : List Mutant) (vs : List Verdict) → IsReady s files p ts ms → and_then (green p ts) (λ ok. Ok (verdicts_by files p ts ms)) ≡ all_verdicts vs
-    → judged s ≡ all_reported (input_of ts ms vs)
-judged_ok s files p ts ms vs h told =
-    let parts = green_passed (green p ts) (verdicts_by files p ts ms) vs told in
-    let whole : input_of (tests_of s) (mutants_of s) (verdicts_by (class_file (classes_in s.classes)) (program s) (tests_of s) (mutants_of s)) ≡ input_of ts ms vs =
-    ap (λ l. input_of l (mutants_of s) (verdicts_by (class_file (classes_in s.classes)) (program s) (tests_of s) (mutants_of s))) (sym h.of_tests)
-    ∙ ap (λ l. input_of ts l (verdicts_by (class_file (classes_in s.classes)) (program s) (tests_of s) (mutants_of s))) (sym h.of_mutants)
-    ∙ ap (λ l. input_of ts ms l) (sym (verdicts_are s files p ts ms h) ∙ parts.1) in
-    ap (λ r. and_then r (λ ok. and_then (green (program s) (tests_of s)) (λ ok. Ok (reported s)))) h.asked
-    ∙ ap (λ r. and_then r (λ ok. Ok (reported s))) (sym (green_is s files p ts ms h) ∙ parts.0) ∙ ap all_reported whole
+pub suite_steps_are : (s : LoadedSuite) (files : ClassFiles) (p : Look) (ts : List Test) (ms : List Mutant) → IsLinked s files p ts ms → tested_steps files p ts ms ≡ suite_steps s
+suite_steps_are s files p ts ms h =
+    ap (λ f. tested_steps f p ts ms) h.by_file ∙ ap (λ q. tested_steps (suite_files s) q ts ms) h.by_name ∙ ap (λ l. tested_steps (suite_files s) (program s) l ms) h.of_tests
+    ∙ ap (λ l. tested_steps (suite_files s) (program s) (tests_of s) l) h.of_mutants
+    ∙ ap (λ x. if_so x (tested_steps (suite_files s) (program s) (tests_of s) (mutants_of s))) (sym h.asked)

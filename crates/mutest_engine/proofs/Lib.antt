@@ -1,11 +1,13 @@
 mod AsmLaws
 mod DuplicateLaws
 mod Ends
+mod FaultLaws
 mod FileLaws
 mod FitLaws
 mod JudgeLaws
 mod OriginalLaws
 mod ProgramLaws
+mod RefusalLaws
 mod StepLaws
 mod SuiteLaws
 mod WordLaws

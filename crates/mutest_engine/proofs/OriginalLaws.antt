@@ -1,6 +1,5 @@
 -- The original runs one after the other, as a loop does, and their steps.
-use Rattle.std.proofs.Common.{◌≡◌, ◌⊎◌, ◌∙◌, ℕ, zero, suc, ◌+◌, ◌*◌, ◌<◌, ◌≤◌, List, [], ◌∷◌, length, drop, get_or, subst, inl, inr, ⊎_elim, Result, Ok, Err, refl, sym, ap, arith}
-use Rattle.std.specs.Prelude.{OnErr, MatchResult}
+use Rattle.std.proofs.Common.{◌≡◌, ◌∙◌, ℕ, zero, suc, ◌+◌, ◌*◌, ◌<◌, ◌≤◌, List, [], ◌∷◌, length, drop, get_or, Err, refl, sym, ap, arith}
 use Rattle.machine_rules.specs.declared.machine.Outcome.TheVariants as outcome
 use Rattle.machine_rules.specs.declared.machine.Limits.{Limits}
 use Rattle.program_rules.specs.Programs.{Look}
@@ -12,8 +11,7 @@ use Rattle.machine_so_far.specs.Runs.{run_so_far_from, run_so_far}
 use Rattle.class_table.specs.declared.scripted.Test.{Test}
 use Rattle.jvm_step.specs.View.{test_of}
 use Rattle.mutest_engine.specs.Originals.{usual, original_run, settled, unless_stuck, steps_made}
-use Rattle.mutest_engine.specs.declared.status.Status.{Status}
-use Rattle.mutest_engine.specs.declared.status.Status.TheVariants.{WantOfMemory}
+use Rattle.mutest_engine.specs.declared.refusal.Refusal.{Refusal}
 
 -- ---- one run
 
@@ -36,6 +34,9 @@ of_most p q t limit = let most = run_most p q limit (start p (test_of t)) 0 in o
 pub original_most : (p : Look) (t : Test) → (original_run p t).steps ≤ 10000000
 original_most p t = rw (sym (original_is p t)) (of_most p usual t 10000000)
 
+pub at_most : (a b : ℕ) → a ≡ b → a ≤ b
+at_most a b e = omega (arith, e)
+
 -- ---- all runs
 
 unless_most : (e : Ending) (n m : ℕ) → n ≤ m → unless_stuck e n ≤ m
@@ -49,37 +50,24 @@ made_most p (t ∷ ts) =
     let rest = unless_most (original_run p t).ending (steps_made p ts) (length ts * 10000000) (made_most p ts) in
     omega (arith, first, rest)
 
-stuck_steps : (t : Test) (e : Ending) (s : Status) (n : ℕ) → settled t e ≡ Err s → unless_stuck e n ≡ 0
+stuck_steps : (t : Test) (e : Ending) (s : Refusal) (n : ℕ) → settled t e ≡ Err s → unless_stuck e n ≡ 0
 stuck_steps t (With outcome.Passed) s n h = absurd cc
 stuck_steps t (With outcome.Failed) s n h = absurd cc
 stuck_steps t (With outcome.TimedOut) s n h = absurd cc
 stuck_steps t (With outcome.MemoryOut) s n h = absurd cc
 stuck_steps t (StuckAt place) s n h = refl
 
--- ---- what the exit of a step says
+-- ---- where a run ends all
 
-pub on_err : {T E P : Type 0} (r : Result T E) → P → OnErr r P
-on_err (Ok x) p = tt
-on_err (Err e) p = p
-
-pub match_err : {T : Type 0} (P : T → Type 0) (Q : Status → Type 0) (r : Result T Status) (y s : Status) → r ≡ Err y → y ≡ s → Q s → MatchResult r P Q
-match_err P Q (Ok x) y s e f q = absurd cc
-match_err P Q (Err z) y s e f q = let g : z ≡ y = cc in subst Q (sym (g ∙ f)) q
-
-drop_at : (ts : List Test) (i : ℕ) (t : Test) → i < length ts → t ≡ get_or ts i t → drop i ts ≡ t ∷ drop (suc i) ts
+pub drop_at : {X : Type 0} (ts : List X) (i : ℕ) (t : X) → i < length ts → t ≡ get_or ts i t → drop i ts ≡ t ∷ drop (suc i) ts
 drop_at [] i t lt e = absurd (omega (arith, lt))
 drop_at (x ∷ ts) zero t lt e = ap (λ z. z ∷ ts) (sym e)
 drop_at (x ∷ ts) (suc i) t lt e = drop_at ts i t (omega (arith, lt)) e
 
 -- The steps that are counted where a run ends all.
-pub exact_end : (p : Look) (ts : List Test) (i : ℕ) (t : Test) (part new total : ℕ) (s : Status) → i < length ts → t ≡ get_or ts i t → part + steps_made p (drop i ts) ≡ total
-    → (s ≡ WantOfMemory) ⊎ ((settled t (original_run p t).ending ≡ Err s) × (new ≡ part + (original_run p t).steps)) → (s ≡ WantOfMemory) ⊎ (new ≡ total)
-exact_end p ts i t part new total s lt e so_far told =
-    ⊎_elim
-    (λ (m : s ≡ WantOfMemory). inl m)
-    (λ (h : (settled t (original_run p t).ending ≡ Err s) × (new ≡ part + (original_run p t).steps)).
-    let none = stuck_steps t (original_run p t).ending s (steps_made p (drop (suc i) ts)) h.0 in
+pub exact_end : (p : Look) (ts : List Test) (i : ℕ) (t : Test) (part new total : ℕ) (r : Refusal) → i < length ts → t ≡ get_or ts i t → part + steps_made p (drop i ts) ≡ total
+    → settled t (original_run p t).ending ≡ Err r → new ≡ part + (original_run p t).steps → new ≡ total
+exact_end p ts i t part new total r lt e so_far stuck here =
+    let none = stuck_steps t (original_run p t).ending r (steps_made p (drop (suc i) ts)) stuck in
     let whole : part + ((original_run p t).steps + unless_stuck (original_run p t).ending (steps_made p (drop (suc i) ts))) ≡ total = ap (λ l. part + steps_made p l) (sym (drop_at ts i t lt e)) ∙ so_far in
-    let here = h.1 in
-    inr (omega (arith, none, whole, here)))
-    told
+    omega (arith, none, whole, here)

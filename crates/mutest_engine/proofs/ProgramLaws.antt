@@ -4,7 +4,8 @@ use Rattle.std.specs.Prelude.{if◌then◌else◌, option_and_then}
 use Rattle.std.specs.Option.{option_map}
 use Rattle.program_rules.specs.Names.{Name, same}
 use Rattle.program_rules.specs.Linked.{Linked}
-use Rattle.program_rules.specs.Library.{class_among, first_of, library_classes}
+use Rattle.program_rules.specs.Library.{class_among, first_of}
+use Rattle.machine_so_far.specs.Library.{library_so_far}
 use Rattle.class_table.specs.declared.loaded.Loaded.{Loaded}
 use Rattle.class_table.specs.declared.loaded.LibClass.{LibClass}
 use Rattle.class_table.specs.declared.loaded.ClassBody.{ClassBody}
@@ -61,13 +62,13 @@ of_bodies : (classes : List Loaded) (library : List LibClass) → map of_body (b
 of_bodies [] library = of_library library
 of_bodies (c ∷ classes) library = ap (λ z. named c.class ∷ z) (of_bodies classes library)
 
-pub is_program : (p : List Info) (classes : List Loaded) (library : List LibClass) → AreOfBodies p → map (λ i. i.body) p ≡ bodies_of classes library → map (λ c. (c.name, link_library c)) library ≡ library_classes
+pub is_program : (p : List Info) (classes : List Loaded) (library : List LibClass) → AreOfBodies p → map (λ i. i.body) p ≡ bodies_of classes library → map (λ c. (c.name, link_library c)) library ≡ library_so_far
     → look p ≡ program_of (classes_in classes)
 unfolding program_of
 is_program p classes library ok made lib =
-    let pairs : map by_name p ≡ map named (classes_in classes) ++ library_classes =
+    let pairs : map by_name p ≡ map named (classes_in classes) ++ library_so_far =
     all_of_bodies p ok ∙ ap (map of_body) made ∙ of_bodies classes library ∙ ap (λ z. map named (classes_in classes) ++ z) lib in
-    λ i n. (look_among p n ∙ ap (λ z. class_among z n) pairs ∙ among_both (map named (classes_in classes)) library_classes n) i
+    λ i n. (look_among p n ∙ ap (λ z. class_among z n) pairs ∙ among_both (map named (classes_in classes)) library_so_far n) i
 
 -- ---- names
 
@@ -79,5 +80,5 @@ names_with : (classes : List Loaded) (library : List LibClass) → names_of clas
 names_with [] library = of_library_names library
 names_with (c ∷ classes) library = ap (λ z. own_name c.class ∷ z) (names_with classes library)
 
-pub names_are : (classes : List Loaded) (library : List LibClass) → map (λ c. (c.name, link_library c)) library ≡ library_classes → names_of classes library ≡ names_in (classes_in classes)
+pub names_are : (classes : List Loaded) (library : List LibClass) → map (λ c. (c.name, link_library c)) library ≡ library_so_far → names_of classes library ≡ names_in (classes_in classes)
 names_are classes library lib = names_with classes library ∙ ap (λ z. map own_name (classes_in classes) ++ map (λ (c : Name × Linked). c.0) z) lib

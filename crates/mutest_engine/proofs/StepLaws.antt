@@ -1,5 +1,5 @@
 -- The steps of all runs on a suite: their bound, and what is counted where a run ends all.
-use Rattle.std.proofs.Common.{◌≡◌, ◌⊎◌, ◌∙◌, ℕ, suc, ◌+◌, ◌*◌, ◌≤◌, List, [], ◌∷◌, map, length, Option, Some, None, Result, Ok, Err, refl, sym, ap, subst, inl, inr, ⊎_elim, arith}
+use Rattle.std.proofs.Common.{◌≡◌, ◌∙◌, ℕ, suc, ◌+◌, ◌*◌, ◌≤◌, List, [], ◌∷◌, map, length, Option, Some, None, Result, Ok, Err, refl, sym, ap, subst, arith}
 use Rattle.std.specs.Prelude.{All}
 use Rattle.std.specs.List.{AllByRecursion}
 use Rattle.std.proofs.lemmas.List.Elements.{All-from_recursion}
@@ -14,11 +14,10 @@ use Rattle.mutator_ops.specs.declared.mutant.Verdict.{Verdict}
 use Rattle.mutant_runs.specs.Programs.{ClassFiles, edited}
 use Rattle.mutant_runs.specs.Runs.{timed, mutant_run, runs_on, steps_in, most_steps}
 use Rattle.mutant_runs.specs.Verdicts.{verdict_of, steps_on, steps_of_all}
-use Rattle.mutest_engine.specs.Answers.{and_then, IsReading, IsOfRuns}
-use Rattle.mutest_engine.specs.Originals.{usual, original_steps, green, steps_made}
+use Rattle.mutest_engine.specs.Steps.{and_then}
+use Rattle.mutest_engine.specs.Originals.{usual, original_steps, green, green_steps, steps_made}
 use Rattle.mutest_engine.specs.Mutation.{timed_tests, verdicts_by, if_so, all_steps}
-use Rattle.mutest_engine.specs.declared.status.Status.{Status}
-use Rattle.mutest_engine.specs.declared.status.Status.TheVariants.{Done, Usage, NotFound, Archive, BadClass, BadProgram, NotGreen, ReadFault, WriteFault, TooMany, MachineCheck, WantOfMemory, AsmRefused}
+use Rattle.mutest_engine.specs.declared.refusal.Refusal.{Refusal}
 use Rattle.mutest_engine.proofs.OriginalLaws.{of_most, original_most, made_most}
 
 -- ---- one test
@@ -73,7 +72,7 @@ all_mutants_most q files p ts ns (m ∷ ms) few count =
 
 -- ---- all runs
 
-if_so_most : (r : Result (Unit {0}) Status) (n m : ℕ) → n ≤ m → if_so r n ≤ m
+if_so_most : (r : Result (Unit {0}) Refusal) (n m : ℕ) → n ≤ m → if_so r n ≤ m
 if_so_most (Ok ok) n m h = h
 if_so_most (Err s) n m h = omega arith
 
@@ -91,54 +90,34 @@ pub originals_most : (files : ClassFiles) (p : Look) (ts : List Test) (ms : List
 unfolding all_steps
 originals_most files p ts ms = omega arith
 
-abbrev pub all_counts : List ℕ → Result (List ℕ) Status
+abbrev pub all_counts : List ℕ → Result (List ℕ) Refusal
 all_counts ns = Ok ns
 
-abbrev pub all_verdicts : List Verdict → Result (List Verdict) Status
+abbrev pub all_verdicts : List Verdict → Result (List Verdict) Refusal
 all_verdicts vs = Ok vs
 
 -- ---- where a run ends all
 
-not_green : {X : Type 0} (r : Result (Unit {0}) Status) (x : X) (s : Status) → and_then r (λ ok. Ok x) ≡ Err s → r ≡ Err s
+pub not_green : {X : Type 0} (r : Result (Unit {0}) Refusal) (x : X) (s : Refusal) → and_then r (λ ok. Ok x) ≡ Err s → r ≡ Err s
 not_green (Ok ok) x s h = absurd cc
 not_green (Err e) x s h = cc
 
-nothing_more : (r : Result (Unit {0}) Status) (s : Status) (n : ℕ) → r ≡ Err s → if_so r n ≡ 0
+nothing_more : (r : Result (Unit {0}) Refusal) (s : Refusal) (n : ℕ) → r ≡ Err s → if_so r n ≡ 0
 nothing_more (Ok ok) s n h = absurd cc
 nothing_more (Err e) s n h = refl
 
-lost : (s : Status) → IsReading s → IsOfRuns s → s ≡ WantOfMemory
-lost WantOfMemory q r = refl
-lost Done q r = absurd q
-lost Usage q r = absurd q
-lost (NotFound path) q r = absurd q
-lost (Archive path) q r = absurd q
-lost (BadClass path e) q r = absurd q
-lost (BadProgram fault) q r = absurd q
-lost (NotGreen tests) q r = absurd q
-lost (ReadFault faults) q r = absurd r
-lost (WriteFault which faults) q r = absurd q
-lost (TooMany what number) q r = absurd q
-lost (MachineCheck test class method at) q r = absurd q
-lost (AsmRefused line) q r = absurd q
-
 -- The steps that are counted where the runs on the program as it is end all.
-pub originals_end : (files : ClassFiles) (p : Look) (ts : List Test) (ms : List Mutant) (part : ℕ) (s : Status) → (and_then (green p ts) (λ ok. Ok (original_steps p ts)) ≡ Err s) ⊎ IsReading s → IsOfRuns s
-    → (s ≡ WantOfMemory) ⊎ (part ≡ steps_made p ts) → (s ≡ WantOfMemory) ⊎ (part ≡ all_steps files p ts ms)
+pub originals_end : (files : ClassFiles) (p : Look) (ts : List Test) (ms : List Mutant) (part : ℕ) (r : Refusal) → green_steps p ts ≡ Err r → part ≡ steps_made p ts → part ≡ all_steps files p ts ms
 unfolding all_steps
-originals_end files p ts ms part s told runs exact =
-    ⊎_elim
-    (λ (is : and_then (green p ts) (λ ok. Ok (original_steps p ts)) ≡ Err s).
-    let none = nothing_more (green p ts) s (steps_of_all usual files p (timed_tests p ts) ms) (not_green (green p ts) (original_steps p ts) s is) in
-    ⊎_elim (λ (m : s ≡ WantOfMemory). inl m) (λ (e : part ≡ steps_made p ts). inr (omega (arith, e, none))) exact)
-    (λ (q : IsReading s). inl (lost s q runs))
-    told
+originals_end files p ts ms part r is made =
+    let none = nothing_more (green p ts) r (steps_of_all usual files p (timed_tests p ts) ms) (not_green (green p ts) (original_steps p ts) r is) in
+    omega (arith, made, none)
 
-so_much : (r : Result (Unit {0}) Status) (n : ℕ) → r ≡ Ok tt → if_so r n ≡ n
+so_much : (r : Result (Unit {0}) Refusal) (n : ℕ) → r ≡ Ok tt → if_so r n ≡ n
 so_much (Ok ok) n h = refl
 so_much (Err e) n h = absurd cc
 
-green_then : {X : Type 0} (r : Result (Unit {0}) Status) (x y : X) → and_then r (λ ok. Ok x) ≡ Ok y → (r ≡ Ok tt) × (x ≡ y)
+green_then : {X : Type 0} (r : Result (Unit {0}) Refusal) (x y : X) → and_then r (λ ok. Ok x) ≡ Ok y → (r ≡ Ok tt) × (x ≡ y)
 green_then (Ok ok) x y h = (refl, cc)
 green_then (Err e) x y h = absurd cc
 
@@ -161,9 +140,8 @@ verdicts_then files p ts ms counts h =
     ap (λ r. and_then r (λ ok. Ok (verdicts_by files p ts ms))) parts.0 ∙ ap (λ ns. Ok (map (verdict_of usual files p (timed ts ns)) ms)) parts.1
 
 -- None where they don't.
-pub no_verdicts : {X Y : Type 0} (r : Result (Unit {0}) Status) (x : X) (y : Y) (s : Status) → (and_then r (λ ok. Ok x) ≡ Err s) ⊎ IsReading s → (and_then r (λ ok. Ok y) ≡ Err s) ⊎ IsReading s
-no_verdicts r x y s told =
-    ⊎_elim (λ (is : and_then r (λ ok. Ok x) ≡ Err s). inl (ap (λ z. and_then z (λ ok. Ok y)) (not_green r x s is))) (λ (q : IsReading s). inr q) told
+pub no_verdicts : {X Y : Type 0} (g : Result (Unit {0}) Refusal) (x : X) (y : Y) (r : Refusal) → and_then g (λ ok. Ok x) ≡ Err r → and_then g (λ ok. Ok y) ≡ Err r
+no_verdicts g x y r is = ap (λ z. and_then z (λ ok. Ok y)) (not_green g x r is)
 
 -- ---- the counts that the runs on the program as it is give
 

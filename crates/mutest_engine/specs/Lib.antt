@@ -1,9 +1,11 @@
 pub mod Words
+pub mod Steps
 pub mod Answers
 pub mod SuiteFiles
 pub mod Duplicates
 pub mod Originals
 pub mod Mutation
 pub mod Decided
+pub mod Ends
 pub mod StatusText
 pub mod Said

@@ -1,5 +1,5 @@
 -- The mutants of a suite, every test on every mutant, and what is written of them (this project's own).
-use Rattle.std.specs.Prelude.{ℕ, ◌+◌, nat_lt, List, [], ◌∷◌, map, take, length, Some, None, Result, Ok, Err, if◌then◌else◌}
+use Rattle.std.specs.Prelude.{◌≡◌, ℕ, ◌+◌, ◌≤◌, nat_lt, List, [], ◌∷◌, map, length, Some, None, Result, Ok, Err, if◌then◌else◌}
 use Rattle.std.specs.List.{flat_map}
 use Rattle.class_model.specs.Text.{text}
 use Rattle.class_model.specs.declared.class.Class.{Class}
@@ -15,12 +15,13 @@ use Rattle.mutant_runs.specs.Runs.{Timed, timed}
 use Rattle.mutant_runs.specs.Verdicts.{verdict_of, steps_of_all}
 use Rattle.report_schema.specs.FileKey.{file_key}
 use Rattle.report_schema.specs.declared.input.ReportInput.{ReportInput}
-use Rattle.mutest_engine.specs.Answers.{and_then}
-use Rattle.mutest_engine.specs.Originals.{classes_in, program_of, accepted, ordered, tests_of, few_tests, usual, green, original_steps, steps_made}
+use Rattle.mutest_engine.specs.Steps.{and_then, Counts}
+use Rattle.mutest_engine.specs.Originals.{all_classes, classes_in, program_of, accepted, ordered, tests_of, few_tests, usual, green, original_steps, steps_made}
 use Rattle.mutest_engine.specs.declared.suite.LoadedSuite.{LoadedSuite}
-use Rattle.mutest_engine.specs.declared.status.Status.{Status}
-use Rattle.mutest_engine.specs.declared.status.Status.TheVariants.{TooMany}
-use Rattle.mutest_engine.specs.declared.status.Limit.TheVariants as limit
+use Rattle.mutest_engine.specs.declared.refusal.Refusal.{Refusal}
+use Rattle.mutest_engine.specs.declared.stop.Stop.{Stop}
+use Rattle.mutest_engine.specs.declared.refusal.Refusal.TheVariants.{NotGreen, TooMany, MachineCheck}
+use Rattle.mutest_engine.specs.declared.refusal.Limit.TheVariants as limit
 
 -- ---- the mutants
 
@@ -34,10 +35,10 @@ mutants_among classes = flat_map (λ e. e.1) (ordered (map mutants_by_name class
 
 -- The mutants of a suite are those of its classes folder.
 abbrev pub mutants_of : LoadedSuite → List Mutant
-mutants_of s = mutants_among (classes_in (take s.first_test s.classes))
+mutants_of s = mutants_among (classes_in s.classes)
 
 -- So many mutants are at most 262,144.
-abbrev pub few_mutants : ℕ → Result (Unit {0}) Status
+abbrev pub few_mutants : ℕ → Result (Unit {0}) Refusal
 few_mutants count = if nat_lt 262144 count then Err (TooMany limit.Mutants 262145) else Ok tt
 
 -- ---- every test on every mutant
@@ -47,8 +48,11 @@ abbrev pub class_file : List Class → ClassFiles
 class_file [] n = None
 class_file (c ∷ cs) n = if same (own_name c) n then Some c else class_file cs n
 
+abbrev pub suite_files : LoadedSuite → ClassFiles
+suite_files s = class_file (classes_in (all_classes s))
+
 abbrev pub program : LoadedSuite → Look
-program s = program_of (classes_in s.classes)
+program s = program_of (classes_in (all_classes s))
 
 -- The tests, each with the steps of its run on the program as it is.
 abbrev pub timed_tests : Look → List Test → List Timed
@@ -58,34 +62,74 @@ timed_tests p ts = timed ts (original_steps p ts)
 unfoldable pub verdicts_by : ClassFiles → Look → List Test → List Mutant → List Verdict
 verdicts_by files p ts ms = map (verdict_of usual files p (timed_tests p ts)) ms
 
-abbrev pub if_so : Result (Unit {0}) Status → ℕ → ℕ
+-- The same, where all tests pass on the program as it is.
+abbrev pub green_verdicts : ClassFiles → Look → List Test → List Mutant → Result (List Verdict) Refusal
+green_verdicts files p ts ms = and_then (green p ts) (λ ok. Ok (verdicts_by files p ts ms))
+
+abbrev pub if_so : Result (Unit {0}) Refusal → ℕ → ℕ
 if_so (Ok ok) steps = steps
-if_so (Err status) steps = 0
+if_so (Err refusal) steps = 0
 
 -- The steps of all runs: those on the program as it is, and where all tests pass there those on the mutants.
 unfoldable pub all_steps : ClassFiles → Look → List Test → List Mutant → ℕ
-all_steps files p ts ms = steps_made p ts + if_so (green p ts) (steps_of_all usual files p (timed_tests p ts) ms)
+all_steps files p ts ms =
+    steps_made p ts + if_so (green p ts) (steps_of_all usual files p (timed_tests p ts) ms)
 
--- ---- a suite
+-- ---- the tests and mutants of a program
 
--- What is asked of a suite before a test is run.
-abbrev pub ready : LoadedSuite → Result (Unit {0}) Status
-ready s = and_then (accepted (classes_in s.classes)) (λ ok. and_then (few_tests (length (tests_of s))) (λ ok. few_mutants (length (mutants_of s))))
+abbrev pub few : List Test → List Mutant → Result (Unit {0}) Refusal
+few ts ms = and_then (few_tests (length ts)) (λ ok. few_mutants (length ms))
 
--- What the report is made of. Each mutant has a verdict and a key, by its class; no test has a key, and no source is read yet.
-abbrev pub reported : LoadedSuite → ReportInput
-reported s = record {
-  mutants = mutants_of s;
-  verdicts = verdicts_by (class_file (classes_in s.classes)) (program s) (tests_of s) (mutants_of s);
-  tests = tests_of s;
-  keys = map (λ m. file_key m.class) (mutants_of s);
+-- What the report is made of. Each mutant has a key, by its class; no test has one, and no source is read yet.
+abbrev pub input_of : List Test → List Mutant → List Verdict → ReportInput
+input_of ts ms verdicts = record {
+  mutants = ms;
+  verdicts = verdicts;
+  tests = ts;
+  keys = map (λ m. file_key m.class) ms;
   test_keys = [];
   sources = [];
 }
 
-abbrev pub judged : LoadedSuite → Result ReportInput Status
-judged s = and_then (ready s) (λ ok. and_then (green (program s) (tests_of s)) (λ ok. Ok (reported s)))
+-- What is reported, unless there are too many tests or mutants, or a test doesn't pass on the program as it is.
+unfoldable pub tested : ClassFiles → Look → List Test → List Mutant → Result ReportInput Refusal
+tested files p ts ms =
+    and_then (few ts ms) (λ ok.
+    and_then (green p ts) (λ ok. Ok (input_of ts ms (verdicts_by files p ts ms))))
+
+-- The steps of all runs that are made.
+unfoldable pub tested_steps : ClassFiles → Look → List Test → List Mutant → ℕ
+tested_steps files p ts ms = if_so (few ts ms) (all_steps files p ts ms)
+
+-- ---- a suite
+
+-- Its classes make a program.
+abbrev pub linked : LoadedSuite → Result (Unit {0}) Refusal
+linked s = accepted (classes_in (all_classes s))
+
+-- What is reported of a suite.
+abbrev pub judged : LoadedSuite → Result ReportInput Refusal
+judged s =
+    and_then (linked s) (λ ok. tested (suite_files s) (program s) (tests_of s) (mutants_of s))
 
 -- The steps of all runs that are made for a suite.
 abbrev pub suite_steps : LoadedSuite → ℕ
-suite_steps s = if_so (ready s) (all_steps (class_file (classes_in s.classes)) (program s) (tests_of s) (mutants_of s))
+suite_steps s =
+    if_so (linked s) (tested_steps (suite_files s) (program s) (tests_of s) (mutants_of s))
+
+-- ---- what runs count
+
+-- Refusals that come before the first run.
+abbrev pub IsBeforeRuns : Refusal → Type 0
+IsBeforeRuns (NotGreen tests) = ⊥
+IsBeforeRuns (MachineCheck test class method at) = ⊥
+IsBeforeRuns refusal = Unit {0}
+
+-- They leave the meter as it is, and no refusal lets it fall.
+abbrev pub Stays : ℕ → ℕ → Refusal → Type 0
+Stays before after refusal = (before ≤ after) × (IsBeforeRuns refusal → after ≡ before)
+
+-- The meter rose by exactly these steps, or by at most so many where memory ran out.
+abbrev pub Meters : {X : Type 0} → ℕ → ℕ → ℕ → Result X Stop → Type 0
+Meters before after steps result =
+    (before ≤ after) × (after ≤ before + steps) × Counts after (before + steps) result

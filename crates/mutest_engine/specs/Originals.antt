@@ -1,5 +1,5 @@
 -- The program of a suite, its tests, and their runs on the program as it is (this project's own).
-use Rattle.std.specs.Prelude.{◌≡◌, ℕ, ◌+◌, ◌<◌, nat_lt, slice_get, IsSomeAnd, List, [], ◌∷◌, ◌++◌, codes, map, drop, fold, length, Option, Some, None, Result, Ok, Err, if◌then◌else◌}
+use Rattle.std.specs.Prelude.{◌≡◌, ℕ, ◌+◌, ◌<◌, nat_lt, slice_get, IsSomeAnd, List, [], ◌∷◌, ◌++◌, codes, map, fold, length, Option, Some, None, Result, Ok, Err, if◌then◌else◌}
 use Rattle.std.specs.List.{flat_map}
 use Rattle.std.specs.BTreeMap.{insert_entry}
 use Rattle.std.specs.Ordering.{nat_cmp}
@@ -12,10 +12,10 @@ use Rattle.machine_rules.specs.declared.machine.Outcome.TheVariants as outcome
 use Rattle.program_rules.specs.Names.{Name}
 use Rattle.program_rules.specs.Linked.{Linked}
 use Rattle.program_rules.specs.Programs.{Look}
-use Rattle.program_rules.specs.Library.{library_classes, with_library}
+use Rattle.program_rules.specs.Library.{class_among, first_of}
+use Rattle.machine_so_far.specs.Library.{library_so_far}
 use Rattle.machine_rules.specs.Runs.{Ending, With, StuckAt, Ran}
 use Rattle.machine_so_far.specs.Runs.{run_so_far}
-use Rattle.class_table.specs.declared.fault.TableFault.TheVariants.{Duplicate}
 use Rattle.class_table.specs.declared.loaded.Loaded.{Loaded}
 use Rattle.class_table.specs.declared.scripted.Test.{Test}
 use Rattle.class_table.specs.Info.{Info, own_name, body_name, link_body, class_of}
@@ -23,15 +23,19 @@ use Rattle.class_table.specs.Linking.{link}
 use Rattle.jvm_step.specs.View.{test_of}
 use Rattle.test_discovery.specs.Tests.{class_tests}
 use Rattle.mutator_ops.specs.Printing.{printed}
-use Rattle.mutest_engine.specs.Answers.{and_then}
+use Rattle.mutest_engine.specs.Steps.{and_then}
 use Rattle.mutest_engine.specs.Duplicates.{duplicate_in}
 use Rattle.mutest_engine.specs.declared.suite.LoadedSuite.{LoadedSuite}
-use Rattle.mutest_engine.specs.declared.status.ProgramFault.TheVariants.{Table}
-use Rattle.mutest_engine.specs.declared.status.Status.{Status}
-use Rattle.mutest_engine.specs.declared.status.Status.TheVariants.{BadProgram, NotGreen, TooMany, MachineCheck}
-use Rattle.mutest_engine.specs.declared.status.Limit.TheVariants as limit
+use Rattle.mutest_engine.specs.declared.refusal.ProgramFault.TheVariants.{Duplicate}
+use Rattle.mutest_engine.specs.declared.refusal.Refusal.{Refusal}
+use Rattle.mutest_engine.specs.declared.refusal.Refusal.TheVariants.{BadProgram, NotGreen, TooMany, MachineCheck}
+use Rattle.mutest_engine.specs.declared.refusal.Limit.TheVariants as limit
 
 -- ---- the program
+
+-- the classes of both folders, those of the tests behind the others
+abbrev pub all_classes : LoadedSuite → List Loaded
+all_classes s = s.classes ++ s.tests
 
 abbrev pub classes_in : List Loaded → List Class
 classes_in loaded = map (λ l. l.class) loaded
@@ -41,7 +45,8 @@ named c = (own_name c, link c)
 
 -- A name means a class of these, else the library's class.
 unfoldable pub program_of : List Class → Look
-program_of classes = with_library (map named classes)
+program_of classes n =
+    first_of (class_among (map named classes) n) (class_among library_so_far n)
 
 -- A class of a program has the name and the meaning of what it was made of.
 abbrev pub IsOfBody : Info → Type 0
@@ -52,14 +57,14 @@ AreOfBodies p = (id : ℕ) → id < length p → IsSomeAnd (slice_get p id) IsOf
 
 -- The names of the classes and of the library's.
 abbrev pub names_in : List Class → List Name
-names_in classes = map own_name classes ++ map (λ c. c.0) library_classes
+names_in classes = map own_name classes ++ map (λ c. c.0) library_so_far
 
-abbrev pub unless_twice : Option Name → Result (Unit {0}) Status
+abbrev pub unless_twice : Option Name → Result (Unit {0}) Refusal
 unless_twice None = Ok tt
-unless_twice (Some name) = Err (BadProgram (Table (Duplicate name)))
+unless_twice (Some name) = Err (BadProgram (Duplicate name))
 
 -- No two classes have one name.
-abbrev pub accepted : List Class → Result (Unit {0}) Status
+abbrev pub accepted : List Class → Result (Unit {0}) Refusal
 accepted classes = unless_twice (duplicate_in (names_in classes))
 
 -- ---- the tests
@@ -78,10 +83,10 @@ tests_among classes = flat_map (λ e. e.1) (ordered (map tests_by_name classes))
 
 -- The tests of a suite are those of its tests folder.
 abbrev pub tests_of : LoadedSuite → List Test
-tests_of s = tests_among (classes_in (drop s.first_test s.classes))
+tests_of s = tests_among (classes_in s.tests)
 
 -- So many tests are at most 65,535.
-abbrev pub few_tests : ℕ → Result (Unit {0}) Status
+abbrev pub few_tests : ℕ → Result (Unit {0}) Refusal
 few_tests count = if nat_lt 65535 count then Err (TooMany limit.Tests 65536) else Ok tt
 
 -- ---- the original runs
@@ -94,38 +99,54 @@ usual = record { heap = 4194304; depth = 1024 }
 unfoldable pub original_run : Look → Test → Ran
 original_run p t = run_so_far p (test_of t) usual 10000000
 
+abbrev pub run_ending : Look → Test → Ending
+run_ending p t = (original_run p t).ending
+
+abbrev pub run_steps : Look → Test → ℕ
+run_steps p t = (original_run p t).steps
+
 -- CLASS.METHOD
 abbrev pub test_text : Test → List ℕ
 test_text t = printed t.class ++ codes "." ++ printed t.method
 
 -- What is told of a test whose run came to this end: nothing where it passed, its outcome, or where the machine is stuck.
-abbrev pub settled : Test → Ending → Result (Option (List ℕ × Outcome)) Status
+abbrev pub settled : Test → Ending → Result (Option (List ℕ × Outcome)) Refusal
 settled t (With outcome.Passed) = Ok None
 settled t (With outcome.Failed) = Ok (Some (test_text t, outcome.Failed))
 settled t (With outcome.TimedOut) = Ok (Some (test_text t, outcome.TimedOut))
 settled t (With outcome.MemoryOut) = Ok (Some (test_text t, outcome.MemoryOut))
 settled t (StuckAt place) = Err (MachineCheck (test_text t) place.class place.method place.at)
 
+-- the same of its run on the program as it is
+abbrev pub run_settled : Look → Test → Result (Option (List ℕ × Outcome)) Refusal
+run_settled p t = settled t (run_ending p t)
+
 abbrev pub with_first : {X : Type 0} → Option X → List X → List X
 with_first None xs = xs
 with_first (Some x) xs = x ∷ xs
 
 -- The tests that didn't pass, or the first one that is stuck.
-abbrev pub all_settled : Look → List Test → Result (List (List ℕ × Outcome)) Status
+abbrev pub all_settled : Look → List Test → Result (List (List ℕ × Outcome)) Refusal
 all_settled p [] = Ok []
-all_settled p (t ∷ ts) = and_then (settled t (original_run p t).ending) (λ first. and_then (all_settled p ts) (λ others. Ok (with_first first others)))
+all_settled p (t ∷ ts) =
+    and_then (run_settled p t) (λ first.
+    and_then (all_settled p ts) (λ others. Ok (with_first first others)))
 
-abbrev pub all_passed : List (List ℕ × Outcome) → Result (Unit {0}) Status
+abbrev pub all_passed : List (List ℕ × Outcome) → Result (Unit {0}) Refusal
 all_passed [] = Ok tt
 all_passed (test ∷ tests) = Err (NotGreen (test ∷ tests))
 
 -- All tests pass on the program as it is.
-abbrev pub green : Look → List Test → Result (Unit {0}) Status
+abbrev pub green : Look → List Test → Result (Unit {0}) Refusal
 green p ts = and_then (all_settled p ts) all_passed
 
 -- The steps of each test's run on the program as it is.
 abbrev pub original_steps : Look → List Test → List ℕ
-original_steps p ts = map (λ t. (original_run p t).steps) ts
+original_steps p ts = map (run_steps p) ts
+
+-- The same, where all tests pass.
+abbrev pub green_steps : Look → List Test → Result (List ℕ) Refusal
+green_steps p ts = and_then (green p ts) (λ ok. Ok (original_steps p ts))
 
 -- No test is run behind one that is stuck.
 abbrev pub unless_stuck : Ending → ℕ → ℕ
@@ -135,4 +156,4 @@ unless_stuck (StuckAt place) steps = 0
 -- The steps of the runs that are made.
 abbrev pub steps_made : Look → List Test → ℕ
 steps_made p [] = 0
-steps_made p (t ∷ ts) = (original_run p t).steps + unless_stuck (original_run p t).ending (steps_made p ts)
+steps_made p (t ∷ ts) = run_steps p t + unless_stuck (run_ending p t) (steps_made p ts)

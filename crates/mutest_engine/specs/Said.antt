@@ -1,22 +1,29 @@
 -- What each status leaves in the sink and in the tree (this project's own).
-use Rattle.std.specs.Prelude.{◌≡◌, ◌⊎◌, ℕ, List, [], ◌∷◌, ◌++◌, Bool, true, false, Option, option_map, Result, Ok, Err, MatchBool}
+use Rattle.std.specs.Prelude.{◌≡◌, ◌⊎◌, ℕ, List, [], ◌∷◌, ◌++◌, Option, option_map, Result, Ok, Err}
 use Rattle.std.specs.FinMap.{insert}
 use mathlib.Core.List.{IsPrefix}
 use Rattle.mt_edge.specs.Files.{Files}
 use Rattle.mt_edge.specs.Causes.{Rose}
 use Rattle.mt_edge.specs.Pieces.{Grows, GrowsBy}
-use Rattle.mutest_engine.specs.StatusText.{line_of}
+use Rattle.mutest_engine.specs.StatusText.{refusal_line, line_of}
 use Rattle.mutest_engine.specs.Answers.{Answered, Write}
+use Rattle.mutest_engine.specs.declared.answer.Product.{Product}
+use Rattle.mutest_engine.specs.Steps.{Failed}
+use Rattle.mutest_engine.specs.declared.refusal.Refusal.{Refusal}
+use Rattle.mutest_engine.specs.declared.stop.Halt.{Halt}
+use Rattle.mutest_engine.specs.declared.stop.Halt.TheVariants as halt
+use Rattle.mutest_engine.specs.declared.top_call.Unwritten.{Unwritten}
+use Rattle.mutest_engine.specs.declared.top_call.Unwritten.TheVariants as unwritten
+use Rattle.mutest_engine.specs.declared.status.Output.TheVariants.{File, Text}
 use Rattle.mutest_engine.specs.declared.status.Status.{Status}
-use Rattle.mutest_engine.specs.declared.status.Status.TheVariants.{Done, Usage, NotFound, Archive, BadClass, BadProgram, NotGreen, ReadFault, WriteFault, TooMany, MachineCheck, WantOfMemory, AsmRefused}
-use Rattle.mutest_engine.specs.declared.status.Output.{Output}
-use Rattle.mutest_engine.specs.declared.status.Output.TheVariants.{Report, History, Output as Printed, Journal, Assembled}
+use Rattle.mutest_engine.specs.declared.status.Status.TheVariants.{Done, Refused, ReadFault, WriteFault, WantOfMemory}
 
 -- ---- the sink
 
 -- the sink got the piece, or a beginning of it where its faults rose
 abbrev pub Got : ℕ → ℕ → Option (List ℕ) → Option (List ℕ) → List ℕ → Type 0
-Got put0 put1 before after piece = Grows before after piece ⊎ (Rose put0 put1 × GrowsBy before after piece)
+Got put0 put1 before after piece =
+    Grows before after piece ⊎ (Rose put0 put1 × GrowsBy before after piece)
 
 -- the sink got a beginning of a text, and behind it a refusal's line or a beginning of that
 pub record Broken (before after : Option (List ℕ)) (text line : List ℕ) : Type 0 where
@@ -26,49 +33,46 @@ pub record Broken (before after : Option (List ℕ)) (text line : List ℕ) : Ty
   pub refused : IsPrefix rest line
   pub grown : Grows before after (part ++ rest)
 
--- a beginning of the refusal of a file that couldn't be replaced
-abbrev pub HalfRefused : List Write → Option (List ℕ) → Option (List ℕ) → Type 0
-HalfRefused [] before after = ⊥
-HalfRefused (w ∷ ws) before after = GrowsBy before after (line_of (WriteFault w.which 1)) ⊎ HalfRefused ws before after
+-- a beginning of the line of a file that couldn't be replaced
+abbrev pub HalfTold : List Write → Option (List ℕ) → Option (List ℕ) → Type 0
+HalfTold [] before after = ⊥
+HalfTold (w ∷ ws) before after =
+    GrowsBy before after (line_of (WriteFault (File w.product) 1)) ⊎ HalfTold ws before after
 
--- a text was broken off, where there is one, and behind it there may be a beginning of the refusal of a failed output
+-- a text was broken off, where there is one, and behind it there may be a beginning of the line of a failed output
 abbrev pub BrokenOff : List ℕ → Option (List ℕ) → Option (List ℕ) → Type 0
 BrokenOff [] before after = ⊥
-BrokenOff (byte ∷ bytes) before after = Broken before after (byte ∷ bytes) (line_of (WriteFault Printed 1))
+BrokenOff (byte ∷ bytes) before after =
+    Broken before after (byte ∷ bytes) (line_of (WriteFault Text 1))
 
--- Memory ran out: a beginning of what would have been said. That is the text of the command, with the refusal of a failed output behind it; the refusal of a file that couldn't be replaced; the line of
--- the stated refusal; or that of a fault of reading.
-abbrev pub Interrupted : Result Answered Status → Option (List ℕ) → Option (List ℕ) → Type 0
-Interrupted (Ok answered) before after = BrokenOff answered.text before after ⊎ (HalfRefused answered.writes before after ⊎ GrowsBy before after (line_of (ReadFault 1)))
-Interrupted (Err e) before after = GrowsBy before after (line_of e) ⊎ GrowsBy before after (line_of (ReadFault 1))
+-- Memory ran out: a beginning of what would have been said. That is the text of the command, with the line of a failed output behind it; the line of a file that couldn't be replaced; that of the stated
+-- refusal; or that of a fault of reading.
+abbrev pub Interrupted : Result Answered Refusal → Option (List ℕ) → Option (List ℕ) → Type 0
+Interrupted (Ok a) before after =
+    BrokenOff a.text before after
+    ⊎ (HalfTold a.writes before after ⊎ GrowsBy before after (line_of (ReadFault 1)))
+Interrupted (Err r) before after =
+    GrowsBy before after (refusal_line r) ⊎ GrowsBy before after (line_of (ReadFault 1))
 
-abbrev pub text_of : Result Answered Status → List ℕ
-text_of (Ok answered) = answered.text
-text_of (Err e) = []
+abbrev pub text_of : Result Answered Refusal → List ℕ
+text_of (Ok a) = a.text
+text_of (Err r) = []
 
--- A failed output leaves a beginning of the text before its refusal; a file that couldn't be replaced leaves its refusal alone.
-abbrev pub LeavesFault : ℕ → ℕ → Option (List ℕ) → Option (List ℕ) → List ℕ → Output → ℕ → Type 0
-LeavesFault put0 put1 before after text Printed faults = Broken before after text (line_of (WriteFault Printed faults))
-LeavesFault put0 put1 before after text Report faults = Got put0 put1 before after (line_of (WriteFault Report faults))
-LeavesFault put0 put1 before after text History faults = Got put0 put1 before after (line_of (WriteFault History faults))
-LeavesFault put0 put1 before after text Journal faults = Got put0 put1 before after (line_of (WriteFault Journal faults))
-LeavesFault put0 put1 before after text Assembled faults = Got put0 put1 before after (line_of (WriteFault Assembled faults))
+-- What a status leaves in the sink, where this answer or this refusal is stated. A failed output leaves a beginning of the text before its line; a file that couldn't be replaced leaves its line alone.
+abbrev pub Prints : ℕ → ℕ → Option (List ℕ) → Option (List ℕ) → Result Answered Refusal → Status → Type 0
+Prints put0 put1 before after stated Done = Grows before after (text_of stated)
+Prints put0 put1 before after stated (Refused r) = Got put0 put1 before after (refusal_line r)
+Prints put0 put1 before after stated (ReadFault faults) =
+    Got put0 put1 before after (line_of (ReadFault faults))
+Prints put0 put1 before after stated (WriteFault (File product) faults) =
+    Got put0 put1 before after (line_of (WriteFault (File product) faults))
+Prints put0 put1 before after stated (WriteFault Text faults) =
+    Broken before after (text_of stated) (line_of (WriteFault Text faults))
+Prints put0 put1 before after stated WantOfMemory = Interrupted stated before after
 
--- What a status leaves, where this answer or this refusal is stated.
-abbrev pub Leaves : ℕ → ℕ → Option (List ℕ) → Option (List ℕ) → Result Answered Status → Status → Type 0
-Leaves put0 put1 before after stated Done = Grows before after (text_of stated)
-Leaves put0 put1 before after stated (WriteFault which faults) = LeavesFault put0 put1 before after (text_of stated) which faults
-Leaves put0 put1 before after stated WantOfMemory = Interrupted stated before after
-Leaves put0 put1 before after stated Usage = Got put0 put1 before after (line_of Usage)
-Leaves put0 put1 before after stated (NotFound path) = Got put0 put1 before after (line_of (NotFound path))
-Leaves put0 put1 before after stated (Archive path) = Got put0 put1 before after (line_of (Archive path))
-Leaves put0 put1 before after stated (BadClass path fault) = Got put0 put1 before after (line_of (BadClass path fault))
-Leaves put0 put1 before after stated (BadProgram fault) = Got put0 put1 before after (line_of (BadProgram fault))
-Leaves put0 put1 before after stated (NotGreen tests) = Got put0 put1 before after (line_of (NotGreen tests))
-Leaves put0 put1 before after stated (ReadFault faults) = Got put0 put1 before after (line_of (ReadFault faults))
-Leaves put0 put1 before after stated (TooMany what number) = Got put0 put1 before after (line_of (TooMany what number))
-Leaves put0 put1 before after stated (MachineCheck test class method at) = Got put0 put1 before after (line_of (MachineCheck test class method at))
-Leaves put0 put1 before after stated (AsmRefused line) = Got put0 put1 before after (line_of (AsmRefused line))
+-- A call that halts so may have this stated.
+abbrev pub Allows : Halt → Result Answered Refusal → Type 0
+Allows h stated = (r : Refusal) → h ≡ halt.Refused r → stated ≡ Err r
 
 -- ---- the tree
 
@@ -79,39 +83,40 @@ abbrev pub all_written : List Write → Option Files → Option Files
 all_written [] files = files
 all_written (w ∷ ws) files = all_written ws (written w files)
 
-abbrev pub is_same : Output → Output → Bool
-is_same Report Report = true
-is_same History History = true
-is_same Printed Printed = true
-is_same Journal Journal = true
-is_same Assembled Assembled = true
-is_same one other = false
-
--- the named write failed: all before it stand, and it may
-abbrev pub Stopped : Output → List Write → Option Files → Option Files → Type 0
-Stopped which [] old new = new ≡ old
-Stopped which (w ∷ ws) old new = MatchBool (is_same which w.which) ((new ≡ old) ⊎ (new ≡ written w old)) (Stopped which ws (written w old) new)
+-- A write of this product failed: all before it stand, and it may.
+abbrev pub Stopped : Product → List Write → Option Files → Option Files → Type 0
+Stopped product [] old new = ⊥
+Stopped product (w ∷ ws) old new =
+    ((product ≡ w.product) × ((new ≡ old) ⊎ (new ≡ written w old)))
+    ⊎ Stopped product ws (written w old) new
 
 -- some of the writes stand
 abbrev pub Partly : List Write → Option Files → Option Files → Type 0
 Partly [] old new = new ≡ old
 Partly (w ∷ ws) old new = (new ≡ old) ⊎ Partly ws (written w old) new
 
+-- What a file that wasn't replaced, or one of several, leaves of the tree.
+abbrev pub LeavesWrites : List Write → Option Files → Option Files → Unwritten → Type 0
+LeavesWrites ws old new (unwritten.Failed product) = Stopped product ws old new
+LeavesWrites ws old new unwritten.Memory = Partly ws old new
+
+abbrev pub LeavesWrite : Write → Option Files → Option Files → Unwritten → Type 0
+LeavesWrite w old new u = LeavesWrites (w ∷ []) old new u
+
+-- Where replacing is told to have failed, it did, by the count of faults before and after.
+abbrev pub FailsWriting : ℕ → ℕ → Unwritten → Type 0
+FailsWriting before after (unwritten.Failed product) = Failed before after 1
+FailsWriting before after unwritten.Memory = Unit {0}
+
+-- What the tree holds then, where these files are to be replaced.
 abbrev pub FilesAfter : List Write → Option Files → Option Files → Status → Type 0
 FilesAfter ws old new Done = new ≡ all_written ws old
-FilesAfter ws old new (WriteFault which faults) = Stopped which ws old new
-FilesAfter ws old new WantOfMemory = Partly ws old new
-FilesAfter ws old new Usage = new ≡ old
-FilesAfter ws old new (NotFound path) = new ≡ old
-FilesAfter ws old new (Archive path) = new ≡ old
-FilesAfter ws old new (BadClass path fault) = new ≡ old
-FilesAfter ws old new (BadProgram fault) = new ≡ old
-FilesAfter ws old new (NotGreen tests) = new ≡ old
+FilesAfter ws old new (Refused refusal) = new ≡ old
 FilesAfter ws old new (ReadFault faults) = new ≡ old
-FilesAfter ws old new (TooMany what number) = new ≡ old
-FilesAfter ws old new (MachineCheck test class method at) = new ≡ old
-FilesAfter ws old new (AsmRefused line) = new ≡ old
+FilesAfter ws old new (WriteFault (File product) faults) = Stopped product ws old new
+FilesAfter ws old new (WriteFault Text faults) = new ≡ all_written ws old
+FilesAfter ws old new WantOfMemory = Partly ws old new
 
-abbrev pub writes_of_answer : Result Answered Status → List Write
-writes_of_answer (Ok answered) = answered.writes
-writes_of_answer (Err status) = []
+abbrev pub writes_in : Result Answered Refusal → List Write
+writes_in (Ok a) = a.writes
+writes_in (Err r) = []

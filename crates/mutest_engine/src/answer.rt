@@ -2,25 +2,25 @@
 
 use class_model::Bytes;
 
-/// The file that a command replaces.
-#[derive(Clone, Copy, Debug, PartialEq, Eq)]
+/// A file that a command may replace.
+#[derive(Clone, Copy)]
 pub enum Product {
     Report,
     /// A class file that was assembled.
     Assembled,
 }
 
-/// A file that is replaced: its path, and what it holds then.
-#[derive(Debug, Drop)]
-pub struct Replaced<'a> {
+/// A file that is replaced: which it is, its path, and what it holds then.
+#[derive(Drop)]
+pub struct Write<'a> {
     pub product: Product,
     pub path: &'a str,
     pub bytes: Bytes,
 }
 
-/// The file that a command replaces, if it does, and then the text that it puts.
-#[derive(Debug, Drop)]
+/// The files that a command replaces, in order, and then the text that it puts.
+#[derive(Drop)]
 pub struct Answer<'a> {
-    pub replaced: Option<Replaced<'a>>,
+    pub writes: Vec<Write<'a>>,
     pub text: Bytes,
 }

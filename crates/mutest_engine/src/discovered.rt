@@ -1,13 +1,12 @@
 //! The tests of a suite, in the order of their classes' names.
 
-ghost use Rattle.std.specs.Prelude.{◌≡◌, map, drop, IfOk, IfErr};
+ghost use Rattle.std.specs.Prelude.{◌≡◌, map, IfOk};
 ghost use Rattle.std.specs.List.{flat_map};
 ghost use Rattle.class_model.specs.Text.{text};
 ghost use Rattle.class_table.specs.Info.{own_name};
-ghost use Rattle.mutest_engine.specs.Answers.{IsOfClasses, CountsFaults};
 ghost use Rattle.mutest_engine.specs.Originals.{tests_by_name, classes_in, ordered, tests_among, few_tests};
 
-use crate::status::{Limit, Status};
+use crate::refusal::{Limit, Refusal};
 use class_model::{Bytes, Class, Memory, Seq, write_text};
 use class_table::{Loaded, Test};
 use mt_pool::class_name_of;
@@ -60,25 +59,20 @@ pub fn joined<X: Drop>(
     Ok(Seq::from_vec(all))
 }
 
-/// The tests of the classes from this number on.
-pub fn tests_of(alloc: Global, classes: &[Loaded], first: usize) -> Result<Seq<Test>, Memory>
-    ensures { IfOk result (λ tests. tests ≡ tests_among (classes_in (drop first classes.now))) }
+/// The tests of these classes.
+pub fn tests_of(alloc: Global, classes: &[Loaded]) -> Result<Seq<Test>, Memory>
+    ensures { IfOk result (λ tests. tests ≡ tests_among (classes_in classes.now)) }
 {
-    let of_tests = match classes.get(first..) {
-        Some(of_tests) => of_tests,
-        None => &[],
-    };
-    let by_name = all_by_name(alloc, of_tests)?;
+    let by_name = all_by_name(alloc, classes)?;
     joined(alloc, by_name)
 }
 
 /// So many tests are few enough.
-pub fn few_tests(count: usize) -> Result<(), Status>
-    ensures told { result ≡ few_tests count }
-    ensures refusal { IfErr result (λ s. IsOfClasses s × CountsFaults 0 0 0 0 0 0 s) }
+pub fn few_tests(count: usize) -> Result<(), Refusal>
+    ensures { result ≡ few_tests count }
 {
     if count > TESTS_LIMIT {
-        return Err(Status::TooMany {
+        return Err(Refusal::TooMany {
             limit: Limit::Tests,
             number: TESTS_LIMIT as u64 + 1,
         });

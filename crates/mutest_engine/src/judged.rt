@@ -1,24 +1,21 @@
 //! What the tests of a suite say of its mutants.
 
-ghost use Rattle.std.specs.Prelude.{◌≡◌, ◌⊎◌, ◌+◌, ◌<◌, ◌≤◌, ◌^◌, [], length, map, All, IfOk, IfErr, Ok, Err, MatchResult};
-ghost use Rattle.class_writer.specs.Writing.{HasClassForm};
+ghost use Rattle.std.specs.Prelude.{◌≡◌, ◌+◌, ◌<◌, ◌≤◌, ◌^◌, ◌++◌, length, map, All, IfOk, IfErr};
 ghost use Rattle.class_table.specs.Table.{look};
 ghost use Rattle.mutant_runs.specs.Programs.{files_of, IsMutantOf};
 ghost use Rattle.report_schema.specs.FileKey.{file_key};
-ghost use Rattle.mutest_engine.specs.declared.status.Status.TheVariants.{WantOfMemory};
-ghost use Rattle.mutest_engine.specs.Answers.{and_then, Gives, IsOfClasses, IsOfRuns, CountsFaults};
-ghost use Rattle.mutest_engine.specs.Decided.{MeterRose, MeterStays};
-ghost use Rattle.mutest_engine.specs.Originals.{green};
-ghost use Rattle.mutest_engine.specs.Mutation.{verdicts_by, all_steps, judged, suite_steps};
+ghost use Rattle.mutest_engine.specs.Steps.{Gives, Refuses, Counts};
+ghost use Rattle.mutest_engine.specs.SuiteFiles.{IsFormed};
+ghost use Rattle.mutest_engine.specs.Mutation.{green_verdicts, all_steps, input_of, tested, tested_steps, judged, suite_steps, Stays, Meters};
 
 use crate::discovered::{few_tests, tests_of};
 use crate::mutants::{few_mutants, mutants_of};
 use crate::originals::{USUAL, green};
 use crate::program::program_of;
-use crate::status::Status;
+use crate::stop::Stop;
 use crate::suite::LoadedSuite;
 use class_model::{Memory, Name, Seq};
-use class_table::{Program, Test};
+use class_table::{Loaded, Program, Test};
 use mt_edge::{Meter, MeterPart};
 use mutant_apply::mutants_fit;
 use mutant_runs::verdicts;
@@ -33,15 +30,14 @@ fn all_runs(
     tests: &[Test],
     mutants: &[Mutant],
     part: &mut MeterPart,
-) -> Result<Seq<Verdict>, Status>
+) -> Result<Seq<Verdict>, Stop>
     requires few_tests { length tests.now ≤ 65535 }
     requires few_mutants { length mutants.now ≤ 262144 }
     requires fit { All (IsMutantOf (files_of program.old)) mutants.now }
     requires start { part.old ≡ 0 }
-    ensures told { Gives (and_then (green (look program.old) tests.now) (λ ok. Ok (verdicts_by (files_of program.old) (look program.old) tests.now mutants.now))) result }
-    ensures refusal { IfErr result IsOfRuns }
+    ensures value { Gives (green_verdicts (files_of program.old) (look program.old) tests.now mutants.now) result }
     ensures most { part.new ≤ all_steps (files_of program.old) (look program.old) tests.now mutants.now }
-    ensures exact { MatchResult result (λ _. part.new ≡ all_steps (files_of program.old) (look program.old) tests.now mutants.now) (λ s. (s ≡ WantOfMemory) ⊎ (part.new ≡ all_steps (files_of program.old) (look program.old) tests.now mutants.now)) }
+    ensures exact { Counts part.new (all_steps (files_of program.old) (look program.old) tests.now mutants.now) result }
 {
     let steps = green(alloc, program, tests, part)?;
     let verdicts = verdicts(
@@ -57,24 +53,22 @@ fn all_runs(
 }
 
 // The same, with the steps counted in the meter.
-fn metered(
+fn metered_runs(
     alloc: Global,
-    mut program: Program,
+    program: &mut Program,
     tests: &[Test],
     mutants: &[Mutant],
     meter: &mut Meter,
-) -> Result<Seq<Verdict>, Status>
+) -> Result<Seq<Verdict>, Stop>
     requires few_tests { length tests.now ≤ 65535 }
     requires few_mutants { length mutants.now ≤ 262144 }
-    requires fit { All (IsMutantOf (files_of program)) mutants.now }
+    requires fit { All (IsMutantOf (files_of program.old)) mutants.now }
     requires room { meter.old < 2 ^ 63 }
-    ensures told { Gives (and_then (green (look program) tests.now) (λ ok. Ok (verdicts_by (files_of program) (look program) tests.now mutants.now))) result }
-    ensures refusal { IfErr result IsOfRuns }
-    ensures meter { MatchResult result (λ _. meter.new ≡ meter.old + all_steps (files_of program) (look program) tests.now mutants.now) (MeterRose meter.old meter.new (all_steps (files_of program) (look program) tests.now mutants.now)) }
-    ensures later { meter.old ≤ meter.new }
+    ensures value { Gives (green_verdicts (files_of program.old) (look program.old) tests.now mutants.now) result }
+    ensures meter { Meters meter.old meter.new (all_steps (files_of program.old) (look program.old) tests.now mutants.now) result }
 {
     let mut part = meter.split();
-    let verdicts = all_runs(alloc, &mut program, tests, mutants, &mut part);
+    let verdicts = all_runs(alloc, program, tests, mutants, &mut part);
     meter.join(part);
     verdicts
 }
@@ -91,13 +85,13 @@ fn keys_of(alloc: Global, mutants: &[Mutant]) -> Result<Seq<Name>, Memory>
 }
 
 // What the report is made of. No test has a key, and no source is read yet.
-fn reported(
+fn input_of(
     alloc: Global,
     tests: Seq<Test>,
     mutants: Seq<Mutant>,
     verdicts: Seq<Verdict>,
 ) -> Result<ReportInput, Memory>
-    ensures { IfOk result (λ input. input ≡ record { mutants = mutants; verdicts = verdicts; tests = tests; keys = map (λ m. file_key m.class) mutants; test_keys = []; sources = [] }) }
+    ensures { IfOk result (λ input. input ≡ input_of tests mutants verdicts) }
 {
     let keys = keys_of(alloc, mutants.as_slice())?;
     Ok(ReportInput {
@@ -110,21 +104,49 @@ fn reported(
     })
 }
 
-/// What is reported of a suite whose tests all pass on the program as it is. The meter rises by the steps of all runs.
-pub fn judge(alloc: Global, suite: LoadedSuite, meter: &mut Meter) -> Result<ReportInput, Status>
+// What is reported of the tests and the mutants of a program. The meter rises by the steps of all runs.
+#[tactic(auto, unfolding(crate::specs::Mutation::tested, crate::specs::Mutation::tested_steps))]
+fn test_mutants(
+    alloc: Global,
+    program: &mut Program,
+    tests: Seq<Test>,
+    mutants: Seq<Mutant>,
+    meter: &mut Meter,
+) -> Result<ReportInput, Stop>
+    requires fit { All (IsMutantOf (files_of program.old)) mutants }
     requires room { meter.old < 2 ^ 63 }
-    requires form { All (λ l. HasClassForm l.class) suite.classes }
-    ensures told { Gives (judged suite) result }
-    ensures refusal { IfErr result (λ s. IsOfClasses s × CountsFaults 0 0 0 0 0 0 s) }
-    ensures meter { MatchResult result (λ _. meter.new ≡ meter.old + suite_steps suite) (MeterRose meter.old meter.new (suite_steps suite)) }
-    ensures stays { IfErr result (MeterStays meter.old meter.new) }
+    ensures value { Gives (tested (files_of program.old) (look program.old) tests mutants) result }
+    ensures meter { Meters meter.old meter.new (tested_steps (files_of program.old) (look program.old) tests mutants) result }
+    ensures stays { IfErr result (Refuses (Stays meter.old meter.new)) }
 {
-    let tests = tests_of(alloc, suite.classes.as_slice(), suite.first_test)?;
-    let mutants = mutants_of(alloc, suite.classes.as_slice(), suite.first_test)?;
-    let program = program_of(alloc, suite.classes)?;
     few_tests(tests.len())?;
     few_mutants(mutants.len())?;
+    let verdicts = metered_runs(alloc, program, tests.as_slice(), mutants.as_slice(), meter)?;
+    Ok(input_of(alloc, tests, mutants, verdicts)?)
+}
+
+// One list of the classes of both folders.
+fn all_classes(classes: Seq<Loaded>, tests: Seq<Loaded>) -> Result<Seq<Loaded>, Memory>
+    ensures { IfOk result (λ all. all ≡ classes ++ tests) }
+{
+    let mut all = classes.into_vec();
+    let mut tests = tests.into_vec();
+    all.append(&mut tests)?;
+    Ok(Seq::from_vec(all))
+}
+
+/// What is reported of a suite whose tests all pass on the program as it is. The meter rises by the steps of all runs.
+pub fn judge(alloc: Global, suite: LoadedSuite, meter: &mut Meter) -> Result<ReportInput, Stop>
+    requires room { meter.old < 2 ^ 63 }
+    requires form { IsFormed suite }
+    ensures value { Gives (judged suite) result }
+    ensures meter { Meters meter.old meter.new (suite_steps suite) result }
+    ensures stays { IfErr result (Refuses (Stays meter.old meter.new)) }
+{
+    let tests = tests_of(alloc, suite.tests.as_slice())?;
+    let mutants = mutants_of(alloc, suite.classes.as_slice())?;
+    let classes = all_classes(suite.classes, suite.tests)?;
+    let mut program = program_of(alloc, classes)?;
     mutants_fit();
-    let verdicts = metered(alloc, program, tests.as_slice(), mutants.as_slice(), meter)?;
-    Ok(reported(alloc, tests, mutants, verdicts)?)
+    test_mutants(alloc, &mut program, tests, mutants, meter)
 }

@@ -2,19 +2,25 @@
 #![tactic(auto)]
 
 mod answer;
-mod assembled;
-mod commands;
+mod assembling;
+mod command;
 mod discovered;
 mod files;
 mod judged;
+mod line;
 mod mutants;
 mod originals;
 mod program;
+mod refusal;
 mod status;
+mod stop;
 mod suite;
 mod top_call;
 
-pub use class_table::{Loaded, TableFault};
-pub use status::{Limit, Output, ProgramFault, Status};
+pub use answer::Product;
+pub use class_table::Loaded;
+pub use refusal::{Limit, ProgramFault, Refusal};
+pub use status::{Output, Status};
+pub use stop::Halt;
 pub use suite::{ClassFile, LoadedSuite, load_suite};
 pub use top_call::run;

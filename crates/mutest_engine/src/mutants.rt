@@ -1,12 +1,11 @@
 //! The mutants of a suite, in the order of their classes' names.
 
-ghost use Rattle.std.specs.Prelude.{◌≡◌, map, take, IfOk, IfErr};
-ghost use Rattle.mutest_engine.specs.Answers.{IsOfClasses, CountsFaults};
+ghost use Rattle.std.specs.Prelude.{◌≡◌, map, IfOk};
 ghost use Rattle.mutest_engine.specs.Originals.{classes_in, ordered};
 ghost use Rattle.mutest_engine.specs.Mutation.{mutants_by_name, mutants_among, few_mutants};
 
 use crate::discovered::{class_name, joined};
-use crate::status::{Limit, Status};
+use crate::refusal::{Limit, Refusal};
 use class_model::{Bytes, Class, Memory, Seq};
 use class_table::Loaded;
 use mutator_ops::{Mutant, class_mutants};
@@ -33,25 +32,20 @@ fn all_by_name(alloc: Global, classes: &[Loaded]) -> Result<BTreeMap<Bytes, Seq<
     Ok(found)
 }
 
-/// The mutants of the classes up to this number.
-pub fn mutants_of(alloc: Global, classes: &[Loaded], count: usize) -> Result<Seq<Mutant>, Memory>
-    ensures { IfOk result (λ mutants. mutants ≡ mutants_among (classes_in (take count classes.now))) }
+/// The mutants of these classes.
+pub fn mutants_of(alloc: Global, classes: &[Loaded]) -> Result<Seq<Mutant>, Memory>
+    ensures { IfOk result (λ mutants. mutants ≡ mutants_among (classes_in classes.now)) }
 {
-    let of_classes = match classes.get(..count) {
-        Some(of_classes) => of_classes,
-        None => classes,
-    };
-    let by_name = all_by_name(alloc, of_classes)?;
+    let by_name = all_by_name(alloc, classes)?;
     joined(alloc, by_name)
 }
 
 /// So many mutants are few enough.
-pub fn few_mutants(count: usize) -> Result<(), Status>
-    ensures told { result ≡ few_mutants count }
-    ensures refusal { IfErr result (λ s. IsOfClasses s × CountsFaults 0 0 0 0 0 0 s) }
+pub fn few_mutants(count: usize) -> Result<(), Refusal>
+    ensures { result ≡ few_mutants count }
 {
     if count > MUTANTS_LIMIT {
-        return Err(Status::TooMany {
+        return Err(Refusal::TooMany {
             limit: Limit::Mutants,
             number: MUTANTS_LIMIT as u64 + 1,
         });

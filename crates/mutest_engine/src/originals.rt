@@ -1,13 +1,14 @@
 //! The runs of the tests on the program as it is.
 
-ghost use Rattle.std.specs.Prelude.{◌≡◌, ◌⊎◌, ◌+◌, ◌<◌, ◌≤◌, ◌^◌, length, IfOk, OnOk, OnErr, IfErr, Ok, Err, MatchResult};
+ghost use Rattle.std.specs.Prelude.{◌≡◌, ◌+◌, ◌<◌, ◌≤◌, ◌^◌, length, IfOk, OnOk};
 ghost use Rattle.class_table.specs.Table.{look};
-ghost use Rattle.mutest_engine.specs.declared.status.Status.TheVariants.{WantOfMemory};
-ghost use Rattle.mutest_engine.specs.Answers.{and_then, Gives, GivesBy, IsOfRuns};
-ghost use Rattle.mutest_engine.specs.Originals.{test_text, settled, original_run, all_settled, all_passed, green, original_steps, steps_made};
+ghost use Rattle.mutest_engine.specs.Steps.{Gives, GivesBy, Counts};
+ghost use Rattle.mutest_engine.specs.Originals.{test_text, settled, run_ending, run_steps, run_settled, all_settled, all_passed, green_steps, original_steps, steps_made};
 ghost use Rattle.jvm_step.specs.Ending.{ending_of};
 
-use crate::status::{Status, put_name, put_str};
+use crate::line::{put_name, put_str};
+use crate::refusal::Refusal;
+use crate::stop::Stop;
 use class_model::{Bytes, Memory, Seq};
 use class_table::{Program, Test};
 use jvm_run::execute;
@@ -36,10 +37,8 @@ fn test_text(alloc: Global, test: &Test) -> Result<Bytes, Memory>
 }
 
 // A test whose run came to this end: nothing where it passed, its outcome, or where the machine is stuck.
-fn settled(alloc: Global, test: &Test, outcome: Outcome) -> Result<Option<(Bytes, Ended)>, Status>
-    ensures told { Gives (settled test.now (ending_of outcome)) result }
-    ensures refusal { IfErr result IsOfRuns }
-    ensures exact { IfErr result (λ s. (s ≡ WantOfMemory) ⊎ (settled test.now (ending_of outcome) ≡ Err s)) }
+fn settled(alloc: Global, test: &Test, outcome: Outcome) -> Result<Option<(Bytes, Ended)>, Stop>
+    ensures { Gives (settled test.now (ending_of outcome)) result }
 {
     let ended = match outcome {
         Outcome::Passed => return Ok(None),
@@ -47,12 +46,12 @@ fn settled(alloc: Global, test: &Test, outcome: Outcome) -> Result<Option<(Bytes
         Outcome::TimedOut => Ended::TimedOut,
         Outcome::MemoryOut => Ended::MemoryOut,
         Outcome::Stuck { class, method, at } => {
-            return Err(Status::MachineCheck {
+            return Err(Stop::Refused(Refusal::MachineCheck {
                 test: test_text(alloc, test)?,
                 class,
                 method,
                 at: u64::from(at),
-            });
+            }));
         }
     };
     Ok(Some((test_text(alloc, test)?, ended)))
@@ -66,10 +65,10 @@ fn end_of(
     part: &mut MeterPart,
 ) -> Result<(Outcome, u64), Memory>
     requires { part.old + 10000000 < 2 ^ 64 }
-    ensures ending { IfOk result (λ end. ending_of end.0 ≡ (original_run (look program.now) test.now).ending) }
-    ensures count { IfOk result (λ end. end.1 ≡ (original_run (look program.now) test.now).steps) }
-    ensures steps { OnOk result (part.new ≡ part.old + (original_run (look program.now) test.now).steps) }
-    ensures memory { OnErr result (part.new ≤ part.old + (original_run (look program.now) test.now).steps) }
+    ensures ending { IfOk result (λ end. ending_of end.0 ≡ run_ending (look program.now) test.now) }
+    ensures count { IfOk result (λ end. end.1 ≡ run_steps (look program.now) test.now) }
+    ensures steps { OnOk result (part.new ≡ part.old + run_steps (look program.now) test.now) }
+    ensures most { part.new ≤ part.old + run_steps (look program.now) test.now }
 {
     let run = execute(alloc, program, test, USUAL, STEPS, part)?;
     Ok((run.outcome, run.steps))
@@ -81,13 +80,12 @@ fn original(
     program: &Program,
     test: &Test,
     part: &mut MeterPart,
-) -> Result<(Option<(Bytes, Ended)>, u64), Status>
+) -> Result<(Option<(Bytes, Ended)>, u64), Stop>
     requires { part.old + 10000000 < 2 ^ 64 }
-    ensures told { GivesBy (λ run. run.0) (settled test.now (original_run (look program.now) test.now).ending) result }
-    ensures count { IfOk result (λ run. run.1 ≡ (original_run (look program.now) test.now).steps) }
-    ensures refusal { IfErr result IsOfRuns }
-    ensures most { part.new ≤ part.old + (original_run (look program.now) test.now).steps }
-    ensures exact { MatchResult result (λ _. part.new ≡ part.old + (original_run (look program.now) test.now).steps) (λ s. (s ≡ WantOfMemory) ⊎ ((settled test.now (original_run (look program.now) test.now).ending ≡ Err s) × (part.new ≡ part.old + (original_run (look program.now) test.now).steps))) }
+    ensures value { GivesBy (λ run. run.0) (run_settled (look program.now) test.now) result }
+    ensures count { IfOk result (λ run. run.1 ≡ run_steps (look program.now) test.now) }
+    ensures most { part.new ≤ part.old + run_steps (look program.now) test.now }
+    ensures exact { Counts part.new (part.old + run_steps (look program.now) test.now) result }
 {
     let (outcome, steps) = end_of(alloc, program, test, part)?;
     let ended = settled(alloc, test, outcome)?;
@@ -100,14 +98,13 @@ fn all_settled(
     program: &Program,
     tests: &[Test],
     part: &mut MeterPart,
-) -> Result<(Seq<(Bytes, Ended)>, Seq<u64>), Status>
+) -> Result<(Seq<(Bytes, Ended)>, Seq<u64>), Stop>
     requires few { length tests.now ≤ 65535 }
     requires start { part.old ≡ 0 }
-    ensures told { GivesBy (λ runs. runs.0) (all_settled (look program.now) tests.now) result }
+    ensures value { GivesBy (λ runs. runs.0) (all_settled (look program.now) tests.now) result }
     ensures counts { IfOk result (λ runs. runs.1 ≡ original_steps (look program.now) tests.now) }
-    ensures refusal { IfErr result IsOfRuns }
     ensures most { part.new ≤ steps_made (look program.now) tests.now }
-    ensures exact { MatchResult result (λ _. part.new ≡ steps_made (look program.now) tests.now) (λ s. (s ≡ WantOfMemory) ⊎ (part.new ≡ steps_made (look program.now) tests.now)) }
+    ensures exact { Counts part.new (steps_made (look program.now) tests.now) result }
 {
     let mut failed = Seq::new(alloc);
     let mut counts = Seq::new(alloc);
@@ -121,14 +118,13 @@ fn all_settled(
     Ok((failed, counts))
 }
 
-fn all_passed(tests: Seq<(Bytes, Ended)>) -> Result<(), Status>
-    ensures told { result ≡ all_passed tests }
-    ensures refusal { IfErr result IsOfRuns }
+fn all_passed(tests: Seq<(Bytes, Ended)>) -> Result<(), Refusal>
+    ensures { result ≡ all_passed tests }
 {
     if tests.is_empty() {
         return Ok(());
     }
-    Err(Status::NotGreen { tests })
+    Err(Refusal::NotGreen { tests })
 }
 
 /// All tests pass on the program as it is: the steps of each run. They are counted in the part.
@@ -137,13 +133,12 @@ pub fn green(
     program: &Program,
     tests: &[Test],
     part: &mut MeterPart,
-) -> Result<Seq<u64>, Status>
+) -> Result<Seq<u64>, Stop>
     requires few { length tests.now ≤ 65535 }
     requires start { part.old ≡ 0 }
-    ensures told { Gives (and_then (green (look program.now) tests.now) (λ ok. Ok (original_steps (look program.now) tests.now))) result }
-    ensures refusal { IfErr result IsOfRuns }
+    ensures value { Gives (green_steps (look program.now) tests.now) result }
     ensures most { part.new ≤ steps_made (look program.now) tests.now }
-    ensures exact { MatchResult result (λ _. part.new ≡ steps_made (look program.now) tests.now) (λ s. (s ≡ WantOfMemory) ⊎ (part.new ≡ steps_made (look program.now) tests.now)) }
+    ensures exact { Counts part.new (steps_made (look program.now) tests.now) result }
 {
     let (failed, counts) = all_settled(alloc, program, tests, part)?;
     all_passed(failed)?;

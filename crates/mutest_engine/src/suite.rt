@@ -1,12 +1,14 @@
 //! The classes of a suite: two folders are listed, their class files are read, and then each is spelled.
 
-ghost use Rattle.std.specs.Prelude.{◌≡◌, ◌+◌, ◌++◌, ◌≤◌, length, map, string_bytes, All, IfSome, IfOk, IfErr};
+ghost use Rattle.std.specs.Prelude.{◌≡◌, ◌+◌, ◌≤◌, length, map, string_bytes, All, IfSome, IfOk, IfErr};
 ghost use Rattle.class_writer.specs.Writing.{HasClassForm};
-ghost use Rattle.mutest_engine.specs.Answers.{Gives, GivesBy, IsLater, IsOfClasses, CountsFaults};
-ghost use Rattle.mutest_engine.specs.SuiteFiles.{some_listed, is_class_path, class_paths, few_classes, both_listed, within_sum, read_one, read_from, loaded, all_loaded, suite_of};
+ghost use Rattle.mutest_engine.specs.Answers.{IsOfSuite};
+ghost use Rattle.mutest_engine.specs.Steps.{Gives, Reads, Refuses, RefusesReading, FailsReading};
+ghost use Rattle.mutest_engine.specs.SuiteFiles.{Lists, ListsBoth, is_class_path, class_paths, few_classes, within_sum, read_one, read_from, bytes_in, loaded, all_loaded, both_loaded, suite_of, IsFormed};
 
 use crate::files::{read_file, spelled_class};
-use crate::status::{Limit, Status};
+use crate::refusal::{Limit, Refusal};
+use crate::stop::{Halt, Stop};
 use class_model::{Bytes, Seq, SharedBytes};
 use class_table::Loaded;
 use mt_edge::{EdgeFault, Tree};
@@ -23,33 +25,34 @@ pub struct ClassFile {
     pub bytes: Bytes,
 }
 
-/// The classes of both folders, those of the tests folder from a number on.
+/// The classes of a folder of classes and of one of tests.
 #[derive(Drop)]
 pub struct LoadedSuite {
     pub classes: Seq<Loaded>,
-    pub first_test: usize,
+    pub tests: Seq<Loaded>,
 }
 
 // ---- paths
 
 // The paths below a folder, which holds some.
-fn list_folder<T: Tree>(alloc: Global, tree: &mut T, folder: &str) -> Result<Vec<String>, Status>
-    ensures told { IfSome (T.holds tree.old) (λ files. GivesBy (λ paths. map string_bytes paths.items) (some_listed folder.now files) result) }
-    ensures refusal { IfErr result IsLater }
-    ensures faults { IfErr result (λ s. CountsFaults (T.reading tree.old) (T.reading tree.new) 0 0 0 0 s) }
+fn list_folder<T: Tree>(alloc: Global, tree: &mut T, folder: &str) -> Result<Vec<String>, Halt>
+    ensures value { IfSome (T.holds tree.old) (λ files. Lists folder.now files result) }
+    ensures refusal { IfErr result (RefusesReading IsOfSuite) }
+    ensures faults { IfErr result (FailsReading (T.reading tree.old) (T.reading tree.new)) }
     ensures later { T.reading tree.old ≤ T.reading tree.new }
-    ensures tree { (T.holds tree.new ≡ T.holds tree.old) × (T.writing tree.new ≡ T.writing tree.old) }
+    ensures held { T.holds tree.new ≡ T.holds tree.old }
+    ensures unwritten { T.writing tree.new ≡ T.writing tree.old }
 {
     match tree.list(folder) {
         Ok(paths) => {
             if paths.is_empty() {
                 let path = Bytes::from_slice(alloc, folder.as_bytes())?;
-                return Err(Status::NotFound { path });
+                return Err(Halt::Refused(Refusal::NotFound { path }));
             }
             Ok(paths)
         }
-        Err(EdgeFault::Failed) => Err(Status::ReadFault { faults: 1 }),
-        Err(EdgeFault::Memory) => Err(Status::WantOfMemory),
+        Err(EdgeFault::Failed) => Err(Halt::ReadFault { faults: 1 }),
+        Err(EdgeFault::Memory) => Err(Halt::WantOfMemory),
     }
 }
 
@@ -67,12 +70,12 @@ fn class_paths(mut paths: Vec<String>) -> Vec<String>
     paths
 }
 
-fn few_classes(count: usize) -> Result<(), Status>
-    ensures told { result ≡ few_classes count }
-    ensures refusal { IfErr result (λ s. IsOfClasses s × CountsFaults 0 0 0 0 0 0 s) }
+fn few_classes(count: usize) -> Result<(), Refusal>
+    ensures value { result ≡ few_classes count }
+    ensures refusal { IfErr result IsOfSuite }
 {
     if count > CLASSES_LIMIT {
-        return Err(Status::TooMany {
+        return Err(Refusal::TooMany {
             limit: Limit::Classes,
             number: CLASSES_LIMIT as u64 + 1,
         });
@@ -81,17 +84,19 @@ fn few_classes(count: usize) -> Result<(), Status>
 }
 
 // The class files of both folders.
+#[tactic(auto, using(crate::proofs::FaultLaws::fails_since))]
 fn list_both<T: Tree>(
     alloc: Global,
     tree: &mut T,
     classes_folder: &str,
     tests_folder: &str,
-) -> Result<(Vec<String>, Vec<String>), Status>
-    ensures told { IfSome (T.holds tree.old) (λ files. GivesBy (λ paths. (map string_bytes paths.0.items, map string_bytes paths.1.items)) (both_listed classes_folder.now tests_folder.now files) result) }
-    ensures refusal { IfErr result IsLater }
-    ensures faults { IfErr result (λ s. CountsFaults (T.reading tree.old) (T.reading tree.new) 0 0 0 0 s) }
+) -> Result<(Vec<String>, Vec<String>), Halt>
+    ensures value { IfSome (T.holds tree.old) (λ files. ListsBoth classes_folder.now tests_folder.now files result) }
+    ensures refusal { IfErr result (RefusesReading IsOfSuite) }
+    ensures faults { IfErr result (FailsReading (T.reading tree.old) (T.reading tree.new)) }
     ensures later { T.reading tree.old ≤ T.reading tree.new }
-    ensures tree { (T.holds tree.new ≡ T.holds tree.old) × (T.writing tree.new ≡ T.writing tree.old) }
+    ensures held { T.holds tree.new ≡ T.holds tree.old }
+    ensures unwritten { T.writing tree.new ≡ T.writing tree.old }
 {
     let classes = list_folder(alloc, tree, classes_folder)?;
     let tests = list_folder(alloc, tree, tests_folder)?;
@@ -103,12 +108,13 @@ fn list_both<T: Tree>(
 
 // ---- files
 
-fn within_sum(sum: u64) -> Result<u64, Status>
-    ensures told { result ≡ within_sum sum }
-    ensures refusal { IfErr result (λ s. IsOfClasses s × CountsFaults 0 0 0 0 0 0 s) }
+fn within_sum(sum: u64) -> Result<u64, Refusal>
+    ensures value { result ≡ within_sum sum }
+    ensures few { IfOk result (λ total. total ≤ 67108864) }
+    ensures refusal { IfErr result IsOfSuite }
 {
     if sum > BYTES_LIMIT {
-        return Err(Status::TooMany {
+        return Err(Refusal::TooMany {
             limit: Limit::Bytes,
             number: sum,
         });
@@ -116,64 +122,72 @@ fn within_sum(sum: u64) -> Result<u64, Status>
     Ok(sum)
 }
 
-// One more file, where so many bytes were read before, and how many bytes were read then.
+// One more file, where so many bytes were read before. They are as many more then.
 fn read_one<T: Tree>(
     alloc: Global,
     tree: &mut T,
-    sum: u64,
+    sum: &mut u64,
     path: &str,
-) -> Result<(ClassFile, u64), Status>
-    requires { sum ≤ 67108864 }
-    ensures told { IfSome (T.holds tree.old) (λ files. Gives (read_one sum path.now files) result) }
-    ensures few { IfOk result (λ read. read.1 ≤ 67108864) }
-    ensures refusal { IfErr result IsLater }
-    ensures faults { IfErr result (λ s. CountsFaults (T.reading tree.old) (T.reading tree.new) 0 0 0 0 s) }
+) -> Result<ClassFile, Halt>
+    requires { sum.old ≤ 67108864 }
+    ensures value { IfSome (T.holds tree.old) (λ files. Reads (read_one sum.old path.now files) result) }
+    ensures sum { IfOk result (λ file. sum.new ≡ sum.old + length file.bytes) }
+    ensures few { sum.new ≤ 67108864 }
+    ensures refusal { IfErr result (RefusesReading IsOfSuite) }
+    ensures faults { IfErr result (FailsReading (T.reading tree.old) (T.reading tree.new)) }
     ensures later { T.reading tree.old ≤ T.reading tree.new }
-    ensures tree { (T.holds tree.new ≡ T.holds tree.old) × (T.writing tree.new ≡ T.writing tree.old) }
+    ensures held { T.holds tree.new ≡ T.holds tree.old }
+    ensures unwritten { T.writing tree.new ≡ T.writing tree.old }
 {
     let bytes = read_file(alloc, tree, path)?;
-    let total = within_sum(sum + bytes.len() as u64)?;
+    let total = within_sum(*sum + bytes.len() as u64)?;
     let path = Bytes::from_slice(alloc, path.as_bytes())?;
-    Ok((ClassFile { path, bytes }, total))
+    *sum = total;
+    Ok(ClassFile { path, bytes })
 }
 
+// The files of a folder, where so many bytes were read before.
+#[tactic(auto, using(crate::proofs::FaultLaws::fails_since))]
 fn read_files<T: Tree>(
     alloc: Global,
     tree: &mut T,
+    sum: &mut u64,
     paths: &[String],
-) -> Result<Seq<ClassFile>, Status>
-    ensures told { IfSome (T.holds tree.old) (λ files. Gives (read_from 0 (map string_bytes paths.now) files) result) }
-    ensures refusal { IfErr result IsLater }
-    ensures faults { IfErr result (λ s. CountsFaults (T.reading tree.old) (T.reading tree.new) 0 0 0 0 s) }
+) -> Result<Seq<ClassFile>, Halt>
+    requires { sum.old ≤ 67108864 }
+    ensures value { IfSome (T.holds tree.old) (λ files. Reads (read_from sum.old (map string_bytes paths.now) files) result) }
+    ensures sum { IfOk result (λ read. sum.new ≡ sum.old + bytes_in read) }
+    ensures few { sum.new ≤ 67108864 }
+    ensures refusal { IfErr result (RefusesReading IsOfSuite) }
+    ensures faults { IfErr result (FailsReading (T.reading tree.old) (T.reading tree.new)) }
     ensures later { T.reading tree.old ≤ T.reading tree.new }
-    ensures tree { (T.holds tree.new ≡ T.holds tree.old) × (T.writing tree.new ≡ T.writing tree.old) }
+    ensures held { T.holds tree.new ≡ T.holds tree.old }
+    ensures unwritten { T.writing tree.new ≡ T.writing tree.old }
 {
     let mut files = Seq::new(alloc);
-    let mut sum = 0u64;
     for path in paths {
-        let (file, total) = read_one(alloc, tree, sum, path.as_str())?;
+        let file = read_one(alloc, tree, sum, path.as_str())?;
         files.push(file)?;
-        sum = total;
     }
     Ok(files)
 }
 
 // ---- classes
 
-fn load(alloc: Global, file: ClassFile) -> Result<Loaded, Status>
-    ensures told { Gives (loaded file) result }
+fn load(alloc: Global, file: ClassFile) -> Result<Loaded, Stop>
+    ensures value { Gives (loaded file) result }
     ensures form { IfOk result (λ l. HasClassForm l.class) }
-    ensures refusal { IfErr result (λ s. IsOfClasses s × CountsFaults 0 0 0 0 0 0 s) }
+    ensures refusal { IfErr result (Refuses IsOfSuite) }
 {
     let class = spelled_class(alloc, file.path.as_slice(), file.bytes.as_slice())?;
     let bytes = SharedBytes::new(alloc, file.bytes)?;
     Ok(Loaded { bytes, class })
 }
 
-fn load_all(alloc: Global, files: Seq<ClassFile>) -> Result<Seq<Loaded>, Status>
-    ensures told { Gives (all_loaded files) result }
+fn load_all(alloc: Global, files: Seq<ClassFile>) -> Result<Seq<Loaded>, Stop>
+    ensures value { Gives (all_loaded files) result }
     ensures form { IfOk result (All (λ l. HasClassForm l.class)) }
-    ensures refusal { IfErr result (λ s. IsOfClasses s × CountsFaults 0 0 0 0 0 0 s) }
+    ensures refusal { IfErr result (Refuses IsOfSuite) }
 {
     let mut all = Seq::new(alloc);
     for file in files.into_vec() {
@@ -183,27 +197,40 @@ fn load_all(alloc: Global, files: Seq<ClassFile>) -> Result<Seq<Loaded>, Status>
     Ok(all)
 }
 
+// The files of both folders, as they are read.
+fn load_both(
+    alloc: Global,
+    classes: Seq<ClassFile>,
+    tests: Seq<ClassFile>,
+) -> Result<LoadedSuite, Stop>
+    ensures value { Gives (both_loaded classes tests) result }
+    ensures form { IfOk result IsFormed }
+    ensures refusal { IfErr result (Refuses IsOfSuite) }
+{
+    let classes = load_all(alloc, classes)?;
+    let tests = load_all(alloc, tests)?;
+    Ok(LoadedSuite { classes, tests })
+}
+
 /// The classes of a folder of classes and of one of tests.
+#[tactic(auto, using(crate::proofs::FaultLaws::fails_since))]
 pub fn load_suite<T: Tree>(
     alloc: Global,
     tree: &mut T,
     classes_folder: &str,
     tests_folder: &str,
-) -> Result<LoadedSuite, Status>
-    ensures told { IfSome (T.holds tree.old) (λ files. Gives (suite_of classes_folder.now tests_folder.now files) result) }
-    ensures form { IfOk result (λ s. All (λ l. HasClassForm l.class) s.classes) }
-    ensures refusal { IfErr result IsLater }
-    ensures faults { IfErr result (λ s. CountsFaults (T.reading tree.old) (T.reading tree.new) 0 0 0 0 s) }
+) -> Result<LoadedSuite, Halt>
+    ensures value { IfSome (T.holds tree.old) (λ files. Reads (suite_of classes_folder.now tests_folder.now files) result) }
+    ensures form { IfOk result IsFormed }
+    ensures refusal { IfErr result (RefusesReading IsOfSuite) }
+    ensures faults { IfErr result (FailsReading (T.reading tree.old) (T.reading tree.new)) }
     ensures later { T.reading tree.old ≤ T.reading tree.new }
-    ensures tree { (T.holds tree.new ≡ T.holds tree.old) × (T.writing tree.new ≡ T.writing tree.old) }
+    ensures held { T.holds tree.new ≡ T.holds tree.old }
+    ensures unwritten { T.writing tree.new ≡ T.writing tree.old }
 {
-    let (mut paths, mut tests) = list_both(alloc, tree, classes_folder, tests_folder)?;
-    let first_test = paths.len();
-    paths.append(&mut tests)?;
-    let files = read_files(alloc, tree, paths.as_slice())?;
-    let classes = load_all(alloc, files)?;
-    Ok(LoadedSuite {
-        classes,
-        first_test,
-    })
+    let (classes, tests) = list_both(alloc, tree, classes_folder, tests_folder)?;
+    let mut sum = 0u64;
+    let classes = read_files(alloc, tree, &mut sum, classes.as_slice())?;
+    let tests = read_files(alloc, tree, &mut sum, tests.as_slice())?;
+    Ok(load_both(alloc, classes, tests)?)
 }

@@ -1,23 +1,25 @@
 //! The top call: from the words and the files that are held to what is written.
 
-ghost use Rattle.std.specs.Prelude.{◌≡◌, ◌⊎◌, ◌+◌, ◌<◌, ◌≤◌, ◌^◌, ℕ, [], map, string_bytes, IfSome, IfOk, IfErr, MatchResult, Ok, Err, List, Result};
-ghost use Rattle.std.specs.Result.{ForErr};
+ghost use Rattle.std.specs.Prelude.{◌≡◌, ◌⊎◌, ◌+◌, ◌<◌, ◌≤◌, ◌^◌, [], ◌∷◌, map, string_bytes, IfSome, IfOk, IfErr, OnOk, MatchResult, Some, Ok, Result};
 ghost use Rattle.mt_edge.specs.Pieces.{GrowsBy};
-ghost use Rattle.mutest_engine.specs.declared.status.Status.TheVariants.{Done, WriteFault, WantOfMemory};
+ghost use Rattle.mutest_engine.specs.declared.refusal.Refusal.{Refusal};
+ghost use Rattle.mutest_engine.specs.declared.status.Status.TheVariants.{WantOfMemory};
 ghost use Rattle.mutest_engine.specs.StatusText.{line_of};
-ghost use Rattle.mutest_engine.specs.declared.status.Status.{Status as AnyStatus};
-ghost use Rattle.mutest_engine.specs.Words.{Command, list_class, run_suite, assemble_class, words_of, asked, suite_asked, text_asked};
-ghost use Rattle.mutest_engine.specs.Decided.{CanAnswer, CanSay, list_answer, report_answer, run_answer, asm_answer, assembly, answer_of, steps_with, steps_of, MeterRose, MeterStays};
-ghost use Rattle.mutest_engine.specs.SuiteFiles.{suite_of};
-ghost use Rattle.mutest_engine.specs.Answers.{Answered, GivesAnswer, output_of, write_of, answered, Agrees, AgreesUntold, Ends, IsReading, IsWriteFault, IsRefusal, IsLater, Failed, CountsFaults};
-ghost use Rattle.mutest_engine.specs.Said.{Got, Leaves, written, writes_of_answer, FilesAfter};
+ghost use Rattle.mutest_engine.specs.Words.{list_class, run_suite, assemble_class, words_of, run_asked, asm_asked};
+ghost use Rattle.mutest_engine.specs.Decided.{CanAnswer, CanState, list_answer, report_answer, run_answer, asm_answer, answer_of, steps_of_run, steps_of};
+ghost use Rattle.mutest_engine.specs.Answers.{Answered, answered, write_of, MayRefuse};
+ghost use Rattle.mutest_engine.specs.Steps.{ReadsBy, RefusesReading, FailsReading};
+ghost use Rattle.mutest_engine.specs.Ends.{status_of, unwritten_status, CarriedOut, TextEnds, Agrees, AgreesUntold, AnswersUntold, HasCauses, MeterRose, MeterStays, HaltStays, AnswerMeters, IsToldAs};
+ghost use Rattle.mutest_engine.specs.Said.{Got, Prints, Allows, LeavesWrite, LeavesWrites, FailsWriting, all_written, written, writes_in, FilesAfter};
 
-use crate::answer::{Answer, Product, Replaced};
-use crate::assembled::assembled;
-use crate::commands::{Asked, Assembly, Suite, asked_by};
+use crate::answer::{Answer, Product, Write};
+use crate::assembling::class_file_of;
+use crate::command::{AsmOptions, Command, RunOptions, command_of};
 use crate::files::{read_file, spelled_class};
 use crate::judged::judge;
-use crate::status::{Output, Status, line};
+use crate::line::line;
+use crate::status::{Output, Status};
+use crate::stop::Halt;
 use crate::suite::load_suite;
 use class_model::{Bytes, Memory};
 use mt_edge::{EdgeFault, Meter, Sink, Tree};
@@ -28,25 +30,40 @@ use std::alloc::Global;
 // ---- answers
 
 // The text that `list` prints for a file.
-fn list_answer<'a, T: Tree>(
-    alloc: Global,
-    tree: &mut T,
-    path: &'a str,
-) -> Result<Answer<'a>, Status>
-    ensures told { IfSome (T.holds tree.old) (λ files. GivesAnswer (list_answer path.now files) result) }
-    ensures untold { MatchResult result (λ a. CanAnswer (list_class path.now) (answered a)) (Ends (list_class path.now)) }
-    ensures refusal { IfErr result IsLater }
-    ensures faults { IfErr result (λ s. CountsFaults (T.reading tree.old) (T.reading tree.new) 0 0 0 0 s) }
-    ensures tree { (T.holds tree.new ≡ T.holds tree.old) × (T.writing tree.new ≡ T.writing tree.old) }
+fn list_answer<'a, T: Tree>(alloc: Global, tree: &mut T, path: &'a str) -> Result<Answer<'a>, Halt>
+    ensures value { IfSome (T.holds tree.old) (λ files. ReadsBy answered (list_answer path.now files) result) }
+    ensures answer { IfOk result (λ a. CanAnswer (list_class path.now) (answered a)) }
+    ensures refusal { IfErr result (RefusesReading (MayRefuse (list_class path.now))) }
+    ensures faults { IfErr result (FailsReading (T.reading tree.old) (T.reading tree.new)) }
+    ensures held { T.holds tree.new ≡ T.holds tree.old }
+    ensures unwritten { T.writing tree.new ≡ T.writing tree.old }
 {
     let bytes = read_file(alloc, tree, path)?;
     let class = spelled_class(alloc, path.as_bytes(), bytes.as_slice())?;
     let mutants = class_mutants(alloc, &class)?;
     let text = id_lines(alloc, mutants.as_slice())?;
     Ok(Answer {
-        replaced: None,
+        writes: Vec::new(alloc),
         text,
     })
+}
+
+// One file that is replaced.
+fn one_write<'a>(
+    alloc: Global,
+    product: Product,
+    path: &'a str,
+    bytes: Bytes,
+) -> Result<Vec<Write<'a>>, Memory>
+    ensures { IfOk result (λ ws. map write_of ws.items ≡ record { product = product; path = path.now; bytes = bytes } ∷ []) }
+{
+    let mut writes = Vec::new(alloc);
+    writes.push(Write {
+        product,
+        path,
+        bytes,
+    })?;
+    Ok(writes)
 }
 
 // The report at its path, and the summary.
@@ -59,61 +76,52 @@ fn report_answer<'a>(
 {
     let text = summary_text(alloc, &input.verdicts)?;
     let bytes = report_text(alloc, input)?;
-    Ok(Answer {
-        replaced: Some(Replaced {
-            product: Product::Report,
-            path,
-            bytes,
-        }),
-        text,
-    })
+    let writes = one_write(alloc, Product::Report, path, bytes)?;
+    Ok(Answer { writes, text })
 }
 
 // The report on a suite and its summary. The meter rises by the steps of all runs.
+#[tactic(auto, using(crate::proofs::RefusalLaws::of_judged))]
 fn run_answer<'a, T: Tree>(
     alloc: Global,
     tree: &mut T,
-    suite: Suite<'a>,
+    options: RunOptions<'a>,
     meter: &mut Meter,
-) -> Result<Answer<'a>, Status>
+) -> Result<Answer<'a>, Halt>
     requires { meter.old < 2 ^ 63 }
-    ensures told { IfSome (T.holds tree.old) (λ files. GivesAnswer (run_answer (suite_asked suite.entry) files) result) }
-    ensures untold { MatchResult result (λ a. CanAnswer (run_suite (suite_asked suite.entry)) (answered a)) (Ends (run_suite (suite_asked suite.entry))) }
-    ensures refusal { IfErr result IsLater }
-    ensures faults { IfErr result (λ s. CountsFaults (T.reading tree.old) (T.reading tree.new) 0 0 0 0 s) }
-    ensures meter { IfSome (T.holds tree.old) (λ files. MatchResult result (λ _. meter.new ≡ meter.old + steps_with (suite_of suite.entry.classes.now suite.entry.tests.now files)) (MeterRose meter.old meter.new (steps_with (suite_of suite.entry.classes.now suite.entry.tests.now files)))) }
-    ensures stays { MatchResult result (λ _. meter.old ≤ meter.new) (MeterStays meter.old meter.new) }
-    ensures tree { (T.holds tree.new ≡ T.holds tree.old) × (T.writing tree.new ≡ T.writing tree.old) }
+    ensures value { IfSome (T.holds tree.old) (λ files. ReadsBy answered (run_answer (run_asked options.entry) files) result) }
+    ensures answer { IfOk result (λ a. CanAnswer (run_suite (run_asked options.entry)) (answered a)) }
+    ensures refusal { IfErr result (RefusesReading (MayRefuse (run_suite (run_asked options.entry)))) }
+    ensures faults { IfErr result (FailsReading (T.reading tree.old) (T.reading tree.new)) }
+    ensures meter { IfSome (T.holds tree.old) (λ files. AnswerMeters meter.old meter.new (steps_of_run (run_asked options.entry) files) result) }
+    ensures stays { IfErr result (HaltStays meter.old meter.new) }
+    ensures later { meter.old ≤ meter.new }
+    ensures held { T.holds tree.new ≡ T.holds tree.old }
+    ensures unwritten { T.writing tree.new ≡ T.writing tree.old }
 {
-    let loaded = load_suite(alloc, tree, suite.classes, suite.tests)?;
+    let loaded = load_suite(alloc, tree, options.classes, options.tests)?;
     let input = judge(alloc, loaded, meter)?;
-    match report_answer(alloc, suite.report, &input) {
-        Ok(answer) => Ok(answer),
-        Err(Memory) => Err(Status::WantOfMemory),
-    }
+    Ok(report_answer(alloc, options.report, &input)?)
 }
 
 // The class file of a text, at its path.
 fn asm_answer<'a, T: Tree>(
     alloc: Global,
     tree: &mut T,
-    asked: Assembly<'a>,
-) -> Result<Answer<'a>, Status>
-    ensures told { IfSome (T.holds tree.old) (λ files. GivesAnswer (asm_answer (text_asked asked.entry) files) result) }
-    ensures untold { MatchResult result (λ a. CanAnswer (assemble_class (text_asked asked.entry)) (answered a)) (Ends (assemble_class (text_asked asked.entry))) }
-    ensures refusal { IfErr result IsRefusal }
-    ensures faults { IfErr result (λ s. CountsFaults (T.reading tree.old) (T.reading tree.new) 0 0 0 0 s) }
-    ensures stays { IfErr result (λ s. (meter : ℕ) → MeterStays meter meter s) }
-    ensures tree { (T.holds tree.new ≡ T.holds tree.old) × (T.writing tree.new ≡ T.writing tree.old) }
+    options: AsmOptions<'a>,
+) -> Result<Answer<'a>, Halt>
+    ensures value { IfSome (T.holds tree.old) (λ files. ReadsBy answered (asm_answer (asm_asked options.entry) files) result) }
+    ensures answer { IfOk result (λ a. CanAnswer (assemble_class (asm_asked options.entry)) (answered a)) }
+    ensures refusal { IfErr result (RefusesReading (MayRefuse (assemble_class (asm_asked options.entry)))) }
+    ensures faults { IfErr result (FailsReading (T.reading tree.old) (T.reading tree.new)) }
+    ensures held { T.holds tree.new ≡ T.holds tree.old }
+    ensures unwritten { T.writing tree.new ≡ T.writing tree.old }
 {
-    let text = read_file(alloc, tree, asked.text)?;
-    let bytes = assembled(alloc, text.as_slice())?;
+    let text = read_file(alloc, tree, options.text)?;
+    let bytes = class_file_of(alloc, text.as_slice())?;
+    let writes = one_write(alloc, Product::Assembled, options.out, bytes)?;
     Ok(Answer {
-        replaced: Some(Replaced {
-            product: Product::Assembled,
-            path: asked.out,
-            bytes,
-        }),
+        writes,
         text: Bytes::new(alloc),
     })
 }
@@ -124,30 +132,30 @@ fn answer_to<'a, T: Tree>(
     words: &'a Vec<String>,
     tree: &mut T,
     meter: &mut Meter,
-) -> Result<Answer<'a>, Status>
+) -> Result<Answer<'a>, Halt>
     requires { meter.old < 2 ^ 63 }
-    ensures told { IfSome (T.holds tree.old) (λ files. GivesAnswer (answer_of (map string_bytes words.now.items) files) result) }
-    ensures untold { MatchResult result (λ a. (command : Command) × (words_of (map string_bytes words.now.items) ≡ Ok command) × CanAnswer command (answered a)) (AgreesUntold (words_of (map string_bytes words.now.items))) }
-    ensures refusal { IfErr result IsRefusal }
-    ensures faults { IfErr result (λ s. CountsFaults (T.reading tree.old) (T.reading tree.new) 0 0 0 0 s) }
-    ensures meter { IfSome (T.holds tree.old) (λ files. MatchResult result (λ _. meter.new ≡ meter.old + steps_of (map string_bytes words.now.items) files) (MeterRose meter.old meter.new (steps_of (map string_bytes words.now.items) files))) }
-    ensures stays { MatchResult result (λ _. meter.old ≤ meter.new) (MeterStays meter.old meter.new) }
-    ensures tree { (T.holds tree.new ≡ T.holds tree.old) × (T.writing tree.new ≡ T.writing tree.old) }
+    ensures value { IfSome (T.holds tree.old) (λ files. ReadsBy answered (answer_of (map string_bytes words.now.items) files) result) }
+    ensures untold { AnswersUntold (words_of (map string_bytes words.now.items)) result }
+    ensures faults { IfErr result (FailsReading (T.reading tree.old) (T.reading tree.new)) }
+    ensures meter { IfSome (T.holds tree.old) (λ files. AnswerMeters meter.old meter.new (steps_of (map string_bytes words.now.items) files) result) }
+    ensures stays { IfErr result (HaltStays meter.old meter.new) }
+    ensures later { meter.old ≤ meter.new }
+    ensures held { T.holds tree.new ≡ T.holds tree.old }
+    ensures unwritten { T.writing tree.new ≡ T.writing tree.old }
 {
-    match asked_by(alloc, words) {
-        Ok(Asked::List(file)) => list_answer(alloc, tree, file),
-        Ok(Asked::Run(suite)) => run_answer(alloc, tree, suite, meter),
-        Ok(Asked::Assemble(asked)) => asm_answer(alloc, tree, asked),
-        Err(status) => Err(status),
+    match command_of(alloc, words)? {
+        Command::List(file) => list_answer(alloc, tree, file),
+        Command::Run(options) => run_answer(alloc, tree, options, meter),
+        Command::Assemble(options) => asm_answer(alloc, tree, options),
     }
 }
 
 // ---- what is written
 
-// Puts the line of a refusal.
-fn refuse<S: Sink>(alloc: Global, out: &mut S, status: Status) -> Status
+// Puts the line that tells a status.
+fn tell<S: Sink>(alloc: Global, out: &mut S, status: Status) -> Status
     ensures same { (result ≡ status) ⊎ (result ≡ WantOfMemory) }
-    ensures said { Got (S.faults out.old) (S.faults out.new) (S.written out.old) (S.written out.new) (line_of status) ⊎ ((result ≡ WantOfMemory) × GrowsBy (S.written out.old) (S.written out.new) (line_of status)) }
+    ensures printed { Got (S.faults out.old) (S.faults out.new) (S.written out.old) (S.written out.new) (line_of status) ⊎ ((result ≡ WantOfMemory) × GrowsBy (S.written out.old) (S.written out.new) (line_of status)) }
     ensures faults { S.faults out.old ≤ S.faults out.new }
 {
     let Ok(text) = line(alloc, &status) else {
@@ -162,20 +170,20 @@ fn refuse<S: Sink>(alloc: Global, out: &mut S, status: Status) -> Status
 
 // Puts the text of a command, if it has one.
 fn put_text<S: Sink>(alloc: Global, out: &mut S, answer: &Answer<'_>) -> Status
-    ensures status { (result ≡ Done) ⊎ IsWriteFault [] answer.now.text result }
-    ensures faults { CountsFaults 0 0 0 0 (S.faults out.old) (S.faults out.new) result }
-    ensures said { Leaves (S.faults out.old) (S.faults out.new) (S.written out.old) (S.written out.new) (Ok (answered answer.now)) result }
+    ensures status { TextEnds answer.now.text result }
+    ensures faults { HasCauses 0 0 0 0 (S.faults out.old) (S.faults out.new) result }
+    ensures printed { Prints (S.faults out.old) (S.faults out.new) (S.written out.old) (S.written out.new) (Ok (answered answer.now)) result }
 {
     if answer.text.is_empty() {
         return Status::Done;
     }
     match out.put(answer.text.as_slice()) {
         Ok(()) => Status::Done,
-        Err(EdgeFault::Failed) => refuse(
+        Err(EdgeFault::Failed) => tell(
             alloc,
             out,
             Status::WriteFault {
-                which: Output::Output,
+                which: Output::Text,
                 faults: 1,
             },
         ),
@@ -183,79 +191,108 @@ fn put_text<S: Sink>(alloc: Global, out: &mut S, answer: &Answer<'_>) -> Status
     }
 }
 
-// How a file that couldn't be replaced is told.
-fn unreplaced(product: Product) -> Status
-    ensures told { result ≡ WriteFault (output_of product) 1 }
-    ensures faults { (before now : ℕ) → Failed before now 1 → CountsFaults 0 0 before now 0 0 result }
-{
-    match product {
-        Product::Report => Status::WriteFault {
-            which: Output::Report,
-            faults: 1,
-        },
-        Product::Assembled => Status::WriteFault {
-            which: Output::Assembled,
-            faults: 1,
-        },
-    }
+// Why a file wasn't replaced.
+#[derive(Drop)]
+pub enum Unwritten {
+    Failed(Product),
+    Memory,
 }
 
 // Replaces a file.
-fn replace<T: Tree>(tree: &mut T, file: &Replaced<'_>) -> Result<(), Status>
-    ensures status { MatchResult result (λ _. T.holds tree.new ≡ written (write_of file.now) (T.holds tree.old)) (λ s. ((s ≡ WriteFault (output_of file.now.product) 1) ⊎ (s ≡ WantOfMemory)) × ((T.holds tree.new ≡ T.holds tree.old) ⊎ (T.holds tree.new ≡ written (write_of file.now) (T.holds tree.old)))) }
-    ensures faults { IfErr result (λ s. CountsFaults 0 0 (T.writing tree.old) (T.writing tree.new) 0 0 s) }
-    ensures tree { (T.reading tree.new ≡ T.reading tree.old) × (T.writing tree.old ≤ T.writing tree.new) }
+fn replace<T: Tree>(tree: &mut T, write: &Write<'_>) -> Result<(), Unwritten>
+    ensures done { OnOk result (T.holds tree.new ≡ written (write_of write.now) (T.holds tree.old)) }
+    ensures left { IfErr result (LeavesWrite (write_of write.now) (T.holds tree.old) (T.holds tree.new)) }
+    ensures faults { IfErr result (FailsWriting (T.writing tree.old) (T.writing tree.new)) }
+    ensures later { T.writing tree.old ≤ T.writing tree.new }
+    ensures unread { T.reading tree.new ≡ T.reading tree.old }
 {
-    match tree.replace(file.path, file.bytes.as_slice()) {
+    match tree.replace(write.path, write.bytes.as_slice()) {
         Ok(()) => Ok(()),
-        Err(EdgeFault::Failed) => Err(unreplaced(file.product)),
-        Err(EdgeFault::Memory) => Err(Status::WantOfMemory),
+        Err(EdgeFault::Failed) => Err(Unwritten::Failed(write.product)),
+        Err(EdgeFault::Memory) => Err(Unwritten::Memory),
     }
 }
 
-// Replaces the file of an answer, if it has one, and then puts its text.
+// Replaces files, one after the other.
+fn replace_all<T: Tree>(tree: &mut T, writes: &[Write<'_>]) -> Result<(), Unwritten>
+    ensures done { OnOk result (T.holds tree.new ≡ all_written (map write_of writes.now) (T.holds tree.old)) }
+    ensures left { IfErr result (LeavesWrites (map write_of writes.now) (T.holds tree.old) (T.holds tree.new)) }
+    ensures faults { IfErr result (FailsWriting (T.writing tree.old) (T.writing tree.new)) }
+    ensures later { T.writing tree.old ≤ T.writing tree.new }
+    ensures unread { T.reading tree.new ≡ T.reading tree.old }
+{
+    for write in writes {
+        replace(tree, write)?;
+    }
+    Ok(())
+}
+
+// How a file that wasn't replaced is told.
+fn unwritten_status(unwritten: Unwritten) -> Status
+    ensures { result ≡ unwritten_status unwritten }
+{
+    match unwritten {
+        Unwritten::Failed(product) => Status::WriteFault {
+            which: Output::File(product),
+            faults: 1,
+        },
+        Unwritten::Memory => Status::WantOfMemory,
+    }
+}
+
+// Replaces the files of an answer, and then puts its text.
 fn carry_out<T: Tree, S: Sink>(
     alloc: Global,
     tree: &mut T,
     out: &mut S,
     answer: &Answer<'_>,
 ) -> Status
-    ensures status { (result ≡ Done) ⊎ IsWriteFault (answered answer.now).writes (answered answer.now).text result }
-    ensures faults { CountsFaults 0 0 (T.writing tree.old) (T.writing tree.new) (S.faults out.old) (S.faults out.new) result }
-    ensures said { Leaves (S.faults out.old) (S.faults out.new) (S.written out.old) (S.written out.new) (Ok (answered answer.now)) result }
-    ensures tree { FilesAfter (answered answer.now).writes (T.holds tree.old) (T.holds tree.new) result }
-    ensures reading { T.reading tree.new ≡ T.reading tree.old }
+    ensures status { CarriedOut (answered answer.now) result }
+    ensures faults { HasCauses 0 0 (T.writing tree.old) (T.writing tree.new) (S.faults out.old) (S.faults out.new) result }
+    ensures printed { Prints (S.faults out.old) (S.faults out.new) (S.written out.old) (S.written out.new) (Ok (answered answer.now)) result }
+    ensures files { FilesAfter (answered answer.now).writes (T.holds tree.old) (T.holds tree.new) result }
+    ensures unread { T.reading tree.new ≡ T.reading tree.old }
 {
-    if let Some(replaced) = &answer.replaced {
-        if let Err(status) = replace(tree, replaced) {
-            return refuse(alloc, out, status);
-        }
+    match replace_all(tree, answer.writes.as_slice()) {
+        Ok(()) => put_text(alloc, out, answer),
+        Err(unwritten) => tell(alloc, out, unwritten_status(unwritten)),
     }
-    put_text(alloc, out, answer)
 }
 
-// Carries out an answer, or puts the line of the refusal.
+// How a call that halts before anything is written is told.
+fn halt_status(halt: Halt) -> Status
+    ensures { result ≡ status_of halt }
+{
+    match halt {
+        Halt::Refused(refusal) => Status::Refused(refusal),
+        Halt::ReadFault { faults } => Status::ReadFault { faults },
+        Halt::WantOfMemory => Status::WantOfMemory,
+    }
+}
+
+// Carries out an answer, or tells why there is none.
 fn finish<T: Tree, S: Sink>(
     alloc: Global,
     tree: &mut T,
     out: &mut S,
-    answer: Result<Answer<'_>, Status>,
+    answer: Result<Answer<'_>, Halt>,
 ) -> Status
-    requires { ForErr answer IsRefusal }
-    ensures status { MatchResult answer.entry (λ a. (result ≡ Done) ⊎ IsWriteFault (answered a).writes (answered a).text result) (λ s. (result ≡ s) ⊎ (result ≡ WantOfMemory)) }
-    ensures faults { IfOk answer.entry (λ _. CountsFaults 0 0 (T.writing tree.old) (T.writing tree.new) (S.faults out.old) (S.faults out.new) result) }
-    ensures said { MatchResult answer.entry (λ a. Leaves (S.faults out.old) (S.faults out.new) (S.written out.old) (S.written out.new) (Ok (answered a)) result) (λ s. (stated : Result Answered AnyStatus) → (stated ≡ Err s) ⊎ IsReading s → Leaves (S.faults out.old) (S.faults out.new) (S.written out.old) (S.written out.new) stated result) }
-    ensures tree { MatchResult answer.entry (λ a. FilesAfter (answered a).writes (T.holds tree.old) (T.holds tree.new) result) (λ _. T.holds tree.new ≡ T.holds tree.old) }
-    ensures reading { T.reading tree.new ≡ T.reading tree.old }
+    ensures status { MatchResult answer.entry (λ a. CarriedOut (answered a) result) (λ h. IsToldAs h result) }
+    ensures faults { IfOk answer.entry (λ a. HasCauses 0 0 (T.writing tree.old) (T.writing tree.new) (S.faults out.old) (S.faults out.new) result) }
+    ensures printed { MatchResult answer.entry (λ a. Prints (S.faults out.old) (S.faults out.new) (S.written out.old) (S.written out.new) (Ok (answered a)) result) (λ h. (stated : Result Answered Refusal) → Allows h stated → Prints (S.faults out.old) (S.faults out.new) (S.written out.old) (S.written out.new) stated result) }
+    ensures files { MatchResult answer.entry (λ a. FilesAfter (answered a).writes (T.holds tree.old) (T.holds tree.new) result) (λ h. T.holds tree.new ≡ T.holds tree.old) }
+    ensures unread { T.reading tree.new ≡ T.reading tree.old }
 {
     match answer {
         Ok(answer) => carry_out(alloc, tree, out, &answer),
-        Err(status) => refuse(alloc, out, status),
+        Err(halt) => tell(alloc, out, halt_status(halt)),
     }
 }
 
-/// Does what the words behind the program's name say. `list FILE` puts the identifiers of the mutants of the class file FILE, one per line. `run --classes DIR --tests DIR --report FILE` runs each test
-/// of a suite on each of its mutants, replaces the report and puts the summary. `asm FILE --out FILE` replaces the second file by the class file that the text of the first states.
+/// Does what the words behind the program's name say. `list FILE` puts the identifiers of the mutants of the class file FILE,
+/// one per line. `run --classes DIR --tests DIR --report FILE` runs each test of a suite on each of its mutants, replaces the
+/// report and puts the summary. `asm FILE --out FILE` replaces the second file by the class file that the text of the first
+/// states.
 pub fn run<T: Tree, S: Sink>(
     alloc: Global,
     words: &Vec<String>,
@@ -265,22 +302,22 @@ pub fn run<T: Tree, S: Sink>(
 ) -> Status
     requires { meter.old < 2 ^ 63 }
     // Where the tree tells its files, each status comes exactly where words and files say so, but for faults and want of memory.
-    ensures told { IfSome (T.holds tree.old) (λ files. Agrees (answer_of (map string_bytes words.now.items) files) result) }
+    ensures status { IfSome (T.holds tree.old) (λ files. Agrees (answer_of (map string_bytes words.now.items) files) result) }
     // Whatever the tree tells: what the words alone decide.
-    ensures untold { AgreesUntold (words_of (map string_bytes words.now.items)) result }
+    ensures status_untold { AgreesUntold (words_of (map string_bytes words.now.items)) result }
     // A fault comes only where the object's faults rose.
-    ensures faults { CountsFaults (T.reading tree.old) (T.reading tree.new) (T.writing tree.old) (T.writing tree.new) (S.faults out.old) (S.faults out.new) result }
+    ensures faults { HasCauses (T.reading tree.old) (T.reading tree.new) (T.writing tree.old) (T.writing tree.new) (S.faults out.old) (S.faults out.new) result }
     // What the sink got.
-    ensures said { IfSome (T.holds tree.old) (λ files. Leaves (S.faults out.old) (S.faults out.new) (S.written out.old) (S.written out.new) (answer_of (map string_bytes words.now.items) files) result) }
-    ensures said_untold { (stated : Result Answered AnyStatus) × CanSay (words_of (map string_bytes words.now.items)) stated × Leaves (S.faults out.old) (S.faults out.new) (S.written out.old) (S.written out.new) stated result }
+    ensures printed { IfSome (T.holds tree.old) (λ files. Prints (S.faults out.old) (S.faults out.new) (S.written out.old) (S.written out.new) (answer_of (map string_bytes words.now.items) files) result) }
+    ensures printed_untold { (stated : Result Answered Refusal) × CanState (words_of (map string_bytes words.now.items)) stated × Prints (S.faults out.old) (S.faults out.new) (S.written out.old) (S.written out.new) stated result }
     // What the tree holds then.
-    ensures tree { IfSome (T.holds tree.old) (λ files. FilesAfter (writes_of_answer (answer_of (map string_bytes words.now.items) files)) (Some files) (T.holds tree.new) result) }
+    ensures files { IfSome (T.holds tree.old) (λ files. FilesAfter (writes_in (answer_of (map string_bytes words.now.items) files)) (Some files) (T.holds tree.new) result) }
     // Nothing is written before the last run.
     ensures last { IfSome (T.holds tree.old) (λ files. (T.holds tree.new ≡ Some files) ⊎ (meter.new ≡ meter.old + steps_of (map string_bytes words.now.items) files)) }
     // The steps of the runs that were made.
     ensures meter { IfSome (T.holds tree.old) (λ files. MeterRose meter.old meter.new (steps_of (map string_bytes words.now.items) files) result) }
     // Whatever the tree tells: none before the first run.
-    ensures stays { MeterStays meter.old meter.new result }
+    ensures meter_untold { MeterStays meter.old meter.new result }
 {
     let answer = answer_to(alloc, words, tree, meter);
     finish(alloc, tree, out, answer)

@@ -1,11 +1,15 @@
 use Rattle.std.proofs.Common.{ap, ◌∙◌, ◌+◌}
 use Rattle.mutest_engine.specs.Originals.{original_run}
-use Rattle.mutest_engine.proofs.OriginalLaws.{on_err}
+use Rattle.mutest_engine.proofs.OriginalLaws.{at_most}
 use Rattle.mutest_engine.proofs.originals.end_of.Goals as goal
 
-pub returns-in_err-run-clause-memory : goal.returns-in_err-run-clause-memory
+pub returns-in_err-run-clause-most : goal.returns-in_err-run-clause-most
 unfolding original_run
-returns-in_err-run-clause-memory c = on_err c.from_residual.result c.in_err-run.ensures.memory
+returns-in_err-run-clause-most c = c.in_err-run.ensures.memory
+
+pub returns-clause-most : goal.returns-clause-most
+unfolding original_run
+returns-clause-most c = at_most _ _ (c.in_ok-run.ensures.steps ∙ ap (λ n. c.args.part.now + n) c.in_ok-run.ensures.run.steps)
 
 pub returns-clause-ending : goal.returns-clause-ending
 unfolding original_run

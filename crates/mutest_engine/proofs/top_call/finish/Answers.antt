@@ -1,8 +1,16 @@
-use Rattle.mutest_engine.proofs.Ends.{refused_leaves}
+use Rattle.std.proofs.Common.{◌≡◌, ◌⊎◌, subst}
+use Rattle.mutest_engine.specs.StatusText.{line_of}
+use Rattle.mutest_engine.specs.declared.status.Status.{Status}
+use Rattle.mutest_engine.specs.declared.status.Status.TheVariants.{WantOfMemory}
+use Rattle.mutest_engine.proofs.Ends.{Told, halt_prints}
 use Rattle.mutest_engine.proofs.top_call.finish.Goals as goal
 
-pub returns-in-Err-clause-said : goal.returns-in-Err-clause-said
-returns-in-Err-clause-said g c =
-    let w = g.S.Sink.written in
-    let f = g.S.Sink.faults in
-    rw c.in-Err.is (refused_leaves (f c.args.out.now) (f c.refuse.new.out) (w c.args.out.now) (w c.refuse.new.out) c.in-Err.status c.refuse.result (c.requires _ c.in-Err.is) c.refuse.ensures.same c.refuse.ensures.said)
+pub returns-in-Err-clause-printed : goal.returns-in-Err-clause-printed
+returns-in-Err-clause-printed g c =
+    let w0 = g.S.Sink.written c.args.out.now in
+    let w1 = g.S.Sink.written c.tell.new.out in
+    let f0 = g.S.Sink.faults c.args.out.now in
+    let f1 = g.S.Sink.faults c.tell.new.out in
+    let same = subst (λ (s : Status). (c.tell.result ≡ s) ⊎ (c.tell.result ≡ WantOfMemory)) c.halt_status.ensures c.tell.ensures.same in
+    let told = subst (λ (s : Status). Told f0 f1 w0 w1 (line_of s) c.tell.result) c.halt_status.ensures c.tell.ensures.printed in
+    rw c.in-Err.is (halt_prints f0 f1 w0 w1 c.in-Err.halt c.tell.result same told)

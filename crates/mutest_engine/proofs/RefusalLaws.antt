@@ -1,0 +1,82 @@
+-- How a suite is refused once it is loaded.
+use Rattle.std.proofs.Common.{◌≡◌, ℕ, Bool, true, false, List, [], ◌∷◌, length, Option, None, Some, Result, Ok, Err, refl, subst}
+use Rattle.std.specs.Prelude.{nat_lt, if◌then◌else◌}
+use Rattle.machine_rules.specs.declared.machine.Outcome.{Outcome}
+use Rattle.machine_rules.specs.declared.machine.Outcome.TheVariants as outcome
+use Rattle.machine_rules.specs.Runs.{Ending, With, StuckAt}
+use Rattle.program_rules.specs.Names.{Name}
+use Rattle.program_rules.specs.Programs.{Look}
+use Rattle.class_table.specs.declared.scripted.Test.{Test}
+use Rattle.mutator_ops.specs.declared.mutant.Mutant.{Mutant}
+use Rattle.mutant_runs.specs.Programs.{ClassFiles}
+use Rattle.mutest_engine.specs.Answers.{IsOfSuite}
+use Rattle.mutest_engine.specs.Steps.{and_then}
+use Rattle.mutest_engine.specs.Duplicates.{duplicate_in}
+use Rattle.mutest_engine.specs.Originals.{test_text, all_classes, classes_in, names_in, unless_twice, tests_of, few_tests, settled, run_ending, run_settled, all_settled, all_passed, green}
+use Rattle.mutest_engine.specs.Mutation.{few_mutants, few, tested, judged, linked, suite_files, program, mutants_of, IsBeforeRuns}
+use Rattle.mutest_engine.specs.declared.refusal.Limit.{Limit}
+use Rattle.mutest_engine.specs.declared.refusal.Limit.TheVariants as limit
+use Rattle.mutest_engine.specs.declared.refusal.ProgramFault.TheVariants.{Duplicate}
+use Rattle.mutest_engine.specs.declared.refusal.Refusal.{Refusal}
+use Rattle.mutest_engine.specs.declared.refusal.Refusal.TheVariants.{BadProgram, NotGreen, TooMany, MachineCheck}
+use Rattle.mutest_engine.specs.declared.suite.LoadedSuite.{LoadedSuite}
+
+-- one of two steps refuses
+and_err : {X Y : Type 0} (a : Result X Refusal) (f : X → Result Y Refusal) (r : Refusal) (P : Refusal → Type 0) → (a ≡ Err r → P r) → ((x : X) → f x ≡ Err r → P r) → and_then a f ≡ Err r → P r
+and_err (Ok x) f r P one other h = other x h
+and_err (Err q) f r P one other h = let e : q ≡ r = cc in one (λ i. Err (e i))
+
+no_ok : {X : Type 0} (x : X) (r : Refusal) (P : Type 0) → Ok x ≡ Err r → P
+no_ok x r P h = absurd cc
+
+-- ---- by the runs of its tests
+
+-- Such a refusal comes among the runs.
+abbrev pub IsOfRuns : Refusal → Type 0
+IsOfRuns r = IsOfSuite r × (IsBeforeRuns r → ⊥)
+
+of_settled : (t : Test) (e : Ending) (r : Refusal) → settled t e ≡ Err r → IsOfRuns r
+of_settled t (With outcome.Passed) r h = absurd cc
+of_settled t (With outcome.Failed) r h = absurd cc
+of_settled t (With outcome.TimedOut) r h = absurd cc
+of_settled t (With outcome.MemoryOut) r h = absurd cc
+of_settled t (StuckAt place) r h = let e : MachineCheck (test_text t) place.class place.method place.at ≡ r = cc in subst IsOfRuns e (tt, λ before. before)
+
+of_all : (p : Look) (ts : List Test) (r : Refusal) → all_settled p ts ≡ Err r → IsOfRuns r
+of_all p [] r h = absurd cc
+of_all p (t ∷ ts) r h =
+    and_err (run_settled p t) _ r IsOfRuns (of_settled t (run_ending p t) r)
+    (λ first rest. and_err (all_settled p ts) _ r IsOfRuns (of_all p ts r) (λ others none. no_ok _ r (IsOfRuns r) none) rest) h
+
+of_passed : (tests : List (List ℕ × Outcome)) (r : Refusal) → all_passed tests ≡ Err r → IsOfRuns r
+of_passed [] r h = absurd cc
+of_passed (t ∷ ts) r h = let e : NotGreen (t ∷ ts) ≡ r = cc in subst IsOfRuns e (tt, λ before. before)
+
+pub of_green : (p : Look) (ts : List Test) (r : Refusal) → green p ts ≡ Err r → IsOfRuns r
+of_green p ts r h = and_err (all_settled p ts) all_passed r IsOfRuns (of_all p ts r) (λ tests. of_passed tests r) h
+
+-- ---- before them
+
+over : {X : Type 0} (b : Bool) (what : Limit) (n : ℕ) (x : X) (r : Refusal) → IsOfSuite (TooMany what n) → (if b then Err (TooMany what n) else Ok x) ≡ Err r → IsOfSuite r
+over true what n x r is h = let e : TooMany what n ≡ r = cc in subst IsOfSuite e is
+over false what n x r is h = absurd cc
+
+of_few : (ts : List Test) (ms : List Mutant) (r : Refusal) → few ts ms ≡ Err r → IsOfSuite r
+of_few ts ms r h =
+    and_err (few_tests (length ts)) (λ ok. few_mutants (length ms)) r IsOfSuite (over (nat_lt 65535 (length ts)) limit.Tests 65536 tt r refl)
+    (λ ok. over (nat_lt 262144 (length ms)) limit.Mutants 262145 tt r refl) h
+
+of_tested : (files : ClassFiles) (p : Look) (ts : List Test) (ms : List Mutant) (r : Refusal) → tested files p ts ms ≡ Err r → IsOfSuite r
+unfolding tested
+of_tested files p ts ms r h =
+    and_err (few ts ms) _ r IsOfSuite (of_few ts ms r)
+    (λ ok rest. and_err (green p ts) _ r IsOfSuite (λ is. (of_green p ts r is).0) (λ ok none. no_ok _ r (IsOfSuite r) none) rest) h
+
+of_linked : (o : Option Name) (r : Refusal) → unless_twice o ≡ Err r → IsOfSuite r
+of_linked None r h = absurd cc
+of_linked (Some name) r h = let e : BadProgram (Duplicate name) ≡ r = cc in subst IsOfSuite e tt
+
+pub of_judged : (s : LoadedSuite) (r : Refusal) → judged s ≡ Err r → IsOfSuite r
+of_judged s r h =
+    and_err (linked s) _ r IsOfSuite (of_linked (duplicate_in (names_in (classes_in (all_classes s)))) r)
+    (λ ok. of_tested (suite_files s) (program s) (tests_of s) (mutants_of s) r) h

@@ -1,0 +1,6 @@
+use Rattle.mutest_engine.proofs.WordLaws.{folder_stays}
+use Rattle.mutest_engine.proofs.command.folder.Goals as goal
+
+pub returns-in-None : goal.returns-in-None
+unfolding lib.Utf8.encode
+returns-in-None c = folder_stays c.args.word.now c.in-None.ensures.cases

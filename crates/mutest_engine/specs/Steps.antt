@@ -1,0 +1,57 @@
+-- What the steps of a call answer: their result, or a refusal that the words and the files decide (this project's own).
+use Rattle.std.specs.Prelude.{◌≡◌, ℕ, ◌+◌, ◌-◌, ◌^◌, ◌<◌, ◌≤◌, min, Result, Ok, Err, MatchResult}
+use Rattle.mutest_engine.specs.declared.refusal.Refusal.{Refusal}
+use Rattle.mutest_engine.specs.declared.stop.Halt.{Halt}
+use Rattle.mutest_engine.specs.declared.stop.Halt.TheVariants as halt
+use Rattle.mutest_engine.specs.declared.stop.Stop.{Stop}
+use Rattle.mutest_engine.specs.declared.stop.Stop.TheVariants as stop
+
+-- Steps one after the other, up to the first refusal.
+abbrev pub and_then : {X Y : Type 0} → Result X Refusal → (X → Result Y Refusal) → Result Y Refusal
+and_then (Ok x) next = next x
+and_then (Err refusal) next = Err refusal
+
+-- ---- steps that read nothing
+
+-- Of a step that stops with a refusal: this holds of it.
+abbrev pub Refuses : (Refusal → Type 0) → Stop → Type 0
+Refuses P s = (r : Refusal) → s ≡ stop.Refused r → P r
+
+-- The result is the stated one, seen by `view`, or the refusal is, unless memory ran out.
+abbrev pub GivesBy : {X Y : Type 0} → (X → Y) → Result Y Refusal → Result X Stop → Type 0
+GivesBy view stated result = MatchResult result (λ x. stated ≡ Ok (view x)) (Refuses (λ r. stated ≡ Err r))
+
+abbrev pub Gives : {X : Type 0} → Result X Refusal → Result X Stop → Type 0
+Gives stated result = MatchResult result (λ x. stated ≡ Ok x) (Refuses (λ r. stated ≡ Err r))
+
+-- So many steps of runs were counted, but where memory ran out.
+abbrev pub Counts : {X : Type 0} → ℕ → ℕ → Result X Stop → Type 0
+Counts counted total result =
+    MatchResult result (λ x. counted ≡ total) (Refuses (λ r. counted ≡ total))
+
+-- ---- steps that read the tree
+
+-- The same refusal, or want of memory.
+abbrev pub IsHaltOf : Stop → Halt → Type 0
+IsHaltOf s h =
+    ((r : Refusal) → h ≡ halt.Refused r → s ≡ stop.Refused r)
+    × ((faults : ℕ) → h ≡ halt.ReadFault faults → ⊥)
+
+abbrev pub RefusesReading : (Refusal → Type 0) → Halt → Type 0
+RefusesReading P h = (r : Refusal) → h ≡ halt.Refused r → P r
+
+-- The result is the stated one, seen by `view`, or the refusal is, unless a call of the tree failed or memory ran out.
+abbrev pub ReadsBy : {X Y : Type 0} → (X → Y) → Result Y Refusal → Result X Halt → Type 0
+ReadsBy view stated result =
+    MatchResult result (λ x. stated ≡ Ok (view x)) (RefusesReading (λ r. stated ≡ Err r))
+
+abbrev pub Reads : {X : Type 0} → Result X Refusal → Result X Halt → Type 0
+Reads stated result = MatchResult result (λ x. stated ≡ Ok x) (RefusesReading (λ r. stated ≡ Err r))
+
+-- So many calls failed, for a count that stays at its end.
+abbrev pub Failed : ℕ → ℕ → ℕ → Type 0
+Failed before now faults = (0 < faults) × (min (before + faults) (2 ^ 64 - 1) ≤ now)
+
+-- Where calls of the tree are told to have failed, they did, by its count of faults before and after.
+abbrev pub FailsReading : ℕ → ℕ → Halt → Type 0
+FailsReading before now h = (faults : ℕ) → h ≡ halt.ReadFault faults → Failed before now faults

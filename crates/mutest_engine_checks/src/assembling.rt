@@ -1,0 +1,132 @@
+//! Texts that are assembled.
+
+use crate::calls::{A, call};
+use class_model::Bytes;
+use mt_edge::MemTree;
+use std::alloc::Global;
+use std::test::Fail;
+
+// The text of the class `A`.
+const TEXT: &str = "class A super java/lang/Object flags 33 major 52
+method 9 f (I)Z stack 1 locals 1
+line 3
+iload_0
+ifge L
+iconst_1
+ireturn
+L:
+frame same
+iconst_0
+ireturn
+end
+";
+
+const WORDS: [&str; 4] = ["asm", "A.txt", "--out", "A.class"];
+
+// A tree that holds a text at A.txt, some of whose calls fail.
+fn held(alloc: Global, text: &[u8], fails: &[u64]) -> Result<MemTree, Fail> {
+    let mut files = Vec::new(alloc);
+    files.push((
+        String::from_str(alloc, "A.txt")?,
+        Bytes::from_slice(alloc, text)?,
+    ))?;
+    Ok(MemTree::new(alloc, files, fails.to_vec(alloc)?)?)
+}
+
+// The status number and the output of a call, and whether something stands at A.class behind it.
+fn called(
+    alloc: Global,
+    words: &[&str],
+    text: &[u8],
+    fails: &[u64],
+) -> Result<(i32, Bytes, bool), Fail> {
+    let mut tree = held(alloc, text, fails)?;
+    let told = call(alloc, words, &mut tree, &[])?;
+    Ok((told.0, told.1, tree.held("A.class").is_some()))
+}
+
+#[test]
+fn a_text_is_assembled(rt: HostRuntime) -> Result<(), Fail> {
+    let mut tree = held(rt.alloc(), TEXT.as_bytes(), &[])?;
+    let told = call(rt.alloc(), &WORDS, &mut tree, &[])?;
+    assert_eq!(rt; told.0, 0);
+    assert_eq!(rt; told.1.as_slice(), b"".as_slice());
+    assert_eq!(rt; told.2, 0);
+    assert!(rt;
+        tree.held("A.class")
+            .is_some_and(|bytes| bytes == A.as_slice())
+    );
+    assert!(rt;
+        tree.held("A.txt")
+            .is_some_and(|bytes| bytes == TEXT.as_bytes())
+    );
+    Ok(())
+}
+
+#[test]
+fn the_first_line_at_fault_is_told(rt: HostRuntime) -> Result<(), Fail> {
+    let text = "class A super java/lang/Object flags 33 major 52
+method 9 f (I)Z stack 1 locals 1
+lien 3
+iload_0
+ireturn
+end
+";
+    let told = called(rt.alloc(), &WORDS, text.as_bytes(), &[])?;
+    assert_eq!(rt; told.0, 15);
+    assert!(rt; !told.2);
+    assert_eq!(rt; told.1.as_slice(), b"mutest: AsmRefused 3\n".as_slice());
+    Ok(())
+}
+
+#[test]
+fn other_words_for_a_text_are_refused(rt: HostRuntime) -> Result<(), Fail> {
+    let calls: [&[&str]; 6] = [
+        &["asm", "A.txt"],
+        &["asm", "--out", "A.class", "A.txt"],
+        &["asm", "", "--out", "A.class"],
+        &["asm", "A.txt", "--out", "-"],
+        &["asm", "A.txt", "-out", "A.class"],
+        &["asm", "A.txt", "--out=A.class", "x"],
+    ];
+    for words in calls {
+        let told = called(rt.alloc(), words, TEXT.as_bytes(), &[])?;
+        assert_eq!(rt; told.0, 2);
+        assert!(rt; !told.2);
+        assert_eq!(rt; told.1.as_slice(), b"mutest: Usage\n".as_slice());
+    }
+    Ok(())
+}
+
+#[test]
+fn what_else_may_fail_is_told(rt: HostRuntime) -> Result<(), Fail> {
+    let absent = called(
+        rt.alloc(),
+        &["asm", "B.txt", "--out", "A.class"],
+        TEXT.as_bytes(),
+        &[],
+    )?;
+    assert_eq!(rt; absent.0, 3);
+    assert!(rt; !absent.2);
+    assert_eq!(rt; absent.1.as_slice(), b"mutest: NotFound B.txt\n".as_slice());
+    let unread = called(rt.alloc(), &WORDS, TEXT.as_bytes(), &[0])?;
+    assert_eq!(rt; unread.0, 10);
+    assert!(rt; !unread.2);
+    assert_eq!(rt; unread.1.as_slice(), b"mutest: ReadFault\n".as_slice());
+    let unwritten = called(rt.alloc(), &WORDS, TEXT.as_bytes(), &[1])?;
+    assert_eq!(rt; unwritten.0, 11);
+    assert!(rt; !unwritten.2);
+    assert_eq!(rt;
+        unwritten.1.as_slice(),
+        b"mutest: WriteFault assembled\n".as_slice()
+    );
+    let blanks = vec![in rt.alloc(); b'\n'; 4_194_305]?;
+    let long = called(rt.alloc(), &WORDS, blanks.as_slice(), &[])?;
+    assert_eq!(rt; long.0, 12);
+    assert!(rt; !long.2);
+    assert_eq!(rt;
+        long.1.as_slice(),
+        b"mutest: TooMany class 4194305\n".as_slice()
+    );
+    Ok(())
+}

@@ -1,0 +1,15 @@
+//! Tests of the top call, what it prints, writes and counts for small class files and what it tells where something fails,
+//! and wrong bodies of it.
+#![tactic(auto)]
+
+#[cfg(test)]
+mod assembling;
+#[cfg(test)]
+mod calls;
+#[cfg(test)]
+mod listing;
+#[cfg(test)]
+mod running;
+mod same_call;
+
+pub use same_call::called;

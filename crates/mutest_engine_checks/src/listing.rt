@@ -1,0 +1,157 @@
+//! Class files that are listed.
+
+use crate::calls::{A, A_BARE, T, call, damaged};
+use class_model::Bytes;
+use mt_edge::MemTree;
+use std::alloc::Global;
+use std::test::Fail;
+
+// The status number and the output of a call, where the tree holds these bytes at A.class.
+fn called(
+    alloc: Global,
+    words: &[&str],
+    bytes: &[u8],
+    tree_fails: &[u64],
+    sink_fails: &[u64],
+) -> Result<(i32, Bytes), Fail> {
+    let mut files = Vec::new(alloc);
+    files.push((
+        String::from_str(alloc, "A.class")?,
+        Bytes::from_slice(alloc, bytes)?,
+    ))?;
+    let mut tree = MemTree::new(alloc, files, tree_fails.to_vec(alloc)?)?;
+    let told = call(alloc, words, &mut tree, sink_fails)?;
+    Ok((told.0, told.1))
+}
+
+#[test]
+fn the_mutants_of_a_class_are_listed(rt: HostRuntime) -> Result<(), Fail> {
+    let lines = b"A.f(I)Z@1:CONDITIONALS_BOUNDARY\nA.f(I)Z@1:NEGATE_CONDITIONALS\n".as_slice();
+    let bare = called(rt.alloc(), &["list", "A.class"], &A_BARE, &[], &[])?;
+    assert_eq!(rt; bare.0, 0);
+    assert_eq!(rt; bare.1.as_slice(), lines);
+    let whole = called(rt.alloc(), &["list", "A.class"], &A, &[], &[])?;
+    assert_eq!(rt; whole.0, 0);
+    assert_eq!(rt; whole.1.as_slice(), lines);
+    // A jump that compares for equality has no boundary.
+    let equal = damaged(rt.alloc(), 126, 0x99)?;
+    let one = called(rt.alloc(), &["list", "A.class"], equal.as_slice(), &[], &[])?;
+    assert_eq!(rt;
+        one.1.as_slice(),
+        b"A.f(I)Z@1:NEGATE_CONDITIONALS\n".as_slice()
+    );
+    Ok(())
+}
+
+#[test]
+fn a_class_of_tests_is_read(rt: HostRuntime) -> Result<(), Fail> {
+    let read = called(rt.alloc(), &["list", "A.class"], &T, &[], &[])?;
+    assert_eq!(rt; read.0, 0);
+    assert_eq!(rt; read.1.as_slice(), b"".as_slice());
+    Ok(())
+}
+
+#[test]
+fn other_words_are_refused(rt: HostRuntime) -> Result<(), Fail> {
+    let none: [&str; 0] = [];
+    let calls: [&[&str]; 7] = [
+        &none,
+        &["list"],
+        &["list", ""],
+        &["list", "-"],
+        &["list", "--help"],
+        &["lists", "A.class"],
+        &["list", "A.class", "A.class"],
+    ];
+    for words in calls {
+        let told = called(rt.alloc(), words, &A, &[], &[])?;
+        assert_eq!(rt; told.0, 2);
+        assert_eq!(rt; told.1.as_slice(), b"mutest: Usage\n".as_slice());
+    }
+    Ok(())
+}
+
+#[test]
+fn faults_of_the_outside_are_told(rt: HostRuntime) -> Result<(), Fail> {
+    let absent = called(rt.alloc(), &["list", "B.class"], &A, &[], &[])?;
+    assert_eq!(rt; absent.0, 3);
+    assert_eq!(rt;
+        absent.1.as_slice(),
+        b"mutest: NotFound B.class\n".as_slice()
+    );
+    let unread = called(rt.alloc(), &["list", "A.class"], &A, &[0], &[])?;
+    assert_eq!(rt; unread.0, 10);
+    assert_eq!(rt; unread.1.as_slice(), b"mutest: ReadFault\n".as_slice());
+    let unwritten = called(rt.alloc(), &["list", "A.class"], &A, &[], &[0])?;
+    assert_eq!(rt; unwritten.0, 11);
+    assert_eq!(rt;
+        unwritten.1.as_slice(),
+        b"mutest: WriteFault output\n".as_slice()
+    );
+    Ok(())
+}
+
+#[test]
+fn damaged_files_are_refused_at_their_place(rt: HostRuntime) -> Result<(), Fail> {
+    let cuts: [(usize, &str); 4] = [
+        (0, "mutest: BadClass A.class 3 0\n"),
+        (3, "mutest: BadClass A.class 3 0\n"),
+        (9, "mutest: BadClass A.class 3 8\n"),
+        (159, "mutest: BadClass A.class 3 158\n"),
+    ];
+    for (length, text) in cuts {
+        let told = called(
+            rt.alloc(),
+            &["list", "A.class"],
+            &A[..length.min(160)],
+            &[],
+            &[],
+        )?;
+        assert_eq!(rt; told.0, 5);
+        assert_eq!(rt; told.1.as_slice(), text.as_bytes());
+    }
+    let puts: [(usize, u8, i32, &str); 5] = [
+        // An item that crosses the end of Code alone is named by Code, not by the table inside it.
+        (116, 0x28, 5, "mutest: BadClass A.class 8 111\n"),
+        (116, 0x1d, 5, "mutest: BadClass A.class 8 111\n"),
+        (129, 0x12, 5, "mutest: BadClass A.class 6 130\n"),
+        (7, 0x35, 5, "mutest: BadClass A.class 18 53\n"),
+        (0, 0xcb, 5, "mutest: BadClass A.class 17 0\n"),
+    ];
+    for (at, byte, status, text) in puts {
+        let bytes = damaged(rt.alloc(), at, byte)?;
+        let told = called(rt.alloc(), &["list", "A.class"], bytes.as_slice(), &[], &[])?;
+        assert_eq!(rt; told.0, status);
+        assert_eq!(rt; told.1.as_slice(), text.as_bytes());
+    }
+    let mut longer = A.to_vec(rt.alloc())?;
+    longer.push(0)?;
+    let told = called(
+        rt.alloc(),
+        &["list", "A.class"],
+        longer.as_slice(),
+        &[],
+        &[],
+    )?;
+    assert_eq!(rt; told.0, 5);
+    assert_eq!(rt;
+        told.1.as_slice(),
+        b"mutest: BadClass A.class 19 160\n".as_slice()
+    );
+    Ok(())
+}
+
+#[test]
+fn a_file_past_the_limit_is_refused_unread(rt: HostRuntime) -> Result<(), Fail> {
+    let bytes = vec![in rt.alloc(); 0u8; 4_194_305]?;
+    let told = called(rt.alloc(), &["list", "A.class"], bytes.as_slice(), &[], &[])?;
+    assert_eq!(rt; told.0, 12);
+    assert_eq!(rt;
+        told.1.as_slice(),
+        b"mutest: TooMany class 4194305\n".as_slice()
+    );
+    let most = vec![in rt.alloc(); 0u8; 4_194_304]?;
+    let last = called(rt.alloc(), &["list", "A.class"], most.as_slice(), &[], &[])?;
+    assert_eq!(rt; last.0, 5);
+    Ok(())
+}

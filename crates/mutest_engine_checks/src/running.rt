@@ -1,0 +1,194 @@
+//! Suites: what `run` tells, writes and counts.
+
+use crate::calls::{A, T, call, damaged};
+use class_model::Bytes;
+use mt_edge::MemTree;
+use mutest_engine::{Halt, Refusal, load_suite};
+use std::alloc::Global;
+use std::test::Fail;
+
+// The second byte of the index by which `neg` names assertTrue; that of assertFalse is 23.
+const NEG_ASSERTS: usize = 306;
+
+const WORDS: [&str; 7] = [
+    "run",
+    "--classes",
+    "c/",
+    "--tests",
+    "t",
+    "--report",
+    "r.json",
+];
+
+// A tree of some files, each with the bytes of A or T.
+fn held(alloc: Global, paths: &[(&str, bool)]) -> Result<MemTree, Fail> {
+    let mut files = Vec::new(alloc);
+    for (path, is_test) in paths {
+        let bytes = if *is_test { T.as_slice() } else { A.as_slice() };
+        files.push((
+            String::from_str(alloc, path)?,
+            Bytes::from_slice(alloc, bytes)?,
+        ))?;
+    }
+    Ok(MemTree::new(alloc, files, Vec::new(alloc))?)
+}
+
+#[test]
+fn the_classes_of_two_folders_are_loaded(rt: HostRuntime) -> Result<(), Fail> {
+    let paths = [
+        ("t/T.class", true),
+        ("c/x/B.class", false),
+        ("c/A.class", false),
+        ("c/A.txt", true),
+    ];
+    let mut tree = held(rt.alloc(), &paths)?;
+    match load_suite(rt.alloc(), &mut tree, "c", "t") {
+        Ok(suite) => {
+            assert_eq!(rt; suite.classes.len(), 2);
+            assert_eq!(rt; suite.tests.len(), 1);
+        }
+        Err(_) => assert!(rt; false, "both folders hold classes"),
+    }
+    let absent = load_suite(rt.alloc(), &mut tree, "c", "d");
+    match &absent {
+        Err(Halt::Refused(Refusal::NotFound { path })) => assert_eq!(rt; path.as_slice(), b"d".as_slice()),
+        _ => assert!(rt; false, "d holds nothing"),
+    }
+    Ok(())
+}
+
+// A tree with a class and a class of tests, some of whose calls fail.
+fn suite(alloc: Global, class: &[u8], test: &[u8], fails: &[u64]) -> Result<MemTree, Fail> {
+    let mut files = Vec::new(alloc);
+    files.push((
+        String::from_str(alloc, "c/A.class")?,
+        Bytes::from_slice(alloc, class)?,
+    ))?;
+    files.push((
+        String::from_str(alloc, "t/T.class")?,
+        Bytes::from_slice(alloc, test)?,
+    ))?;
+    Ok(MemTree::new(alloc, files, fails.to_vec(alloc)?)?)
+}
+
+// What `run` tells of a class and a class of tests.
+fn run_of(
+    alloc: Global,
+    class: &[u8],
+    test: &[u8],
+    fails: &[u64],
+) -> Result<(i32, Bytes, u64), Fail> {
+    let mut tree = suite(alloc, class, test, fails)?;
+    call(alloc, &WORDS, &mut tree, &[])
+}
+
+#[test]
+fn each_test_runs_on_each_mutant(rt: HostRuntime) -> Result<(), Fail> {
+    let mut tree = suite(rt.alloc(), &A, &T, &[])?;
+    let told = call(rt.alloc(), &WORDS, &mut tree, &[])?;
+    assert_eq!(rt; told.0, 0);
+    assert_eq!(rt;
+        told.1.as_slice(),
+        b"mutants 2 killed 2 survived 0 no_coverage 0 timed_out 0 non_viable 0 errors 0\n".as_slice()
+    );
+    // Each of the six runs takes 15 steps.
+    assert_eq!(rt; told.2, 90);
+    let report =
+        br#"{"files":{"A.java":{"language":"java","mutants":[{"coveredBy":["T.neg","T.zero"],"id":"A.f(I)Z@1:CONDITIONALS_BOUNDARY","killedBy":["T.zero"],"location":{"end":{"column":2,"line":3},"start":{"column":1,"line":3}},"mutatorName":"CONDITIONALS_BOUNDARY","status":"Killed"},{"coveredBy":["T.neg","T.zero"],"id":"A.f(I)Z@1:NEGATE_CONDITIONALS","killedBy":["T.neg"],"location":{"end":{"column":2,"line":3},"start":{"column":1,"line":3}},"mutatorName":"NEGATE_CONDITIONALS","status":"Killed"}],"source":""}},"schemaVersion":"1","testFiles":{},"thresholds":{"high":80,"low":60}}"#.as_slice();
+    match tree.held("r.json") {
+        Some(written) => assert_eq!(rt; written, report),
+        None => assert!(rt; false, "the report is written"),
+    }
+    Ok(())
+}
+
+#[test]
+fn a_report_that_cannot_be_replaced_is_told(rt: HostRuntime) -> Result<(), Fail> {
+    // Two folders are listed and two files are read before.
+    let told = run_of(rt.alloc(), &A, &T, &[4])?;
+    assert_eq!(rt; told.0, 11);
+    assert_eq!(rt;
+        told.1.as_slice(),
+        b"mutest: WriteFault report\n".as_slice()
+    );
+    assert_eq!(rt; told.2, 90);
+    Ok(())
+}
+
+#[test]
+fn archives_are_refused(rt: HostRuntime) -> Result<(), Fail> {
+    let mut tree = suite(rt.alloc(), &A, &T, &[])?;
+    let words = [
+        "run",
+        "--classes",
+        "app.jar",
+        "--tests",
+        "t",
+        "--report",
+        "r.json",
+    ];
+    let told = call(rt.alloc(), &words, &mut tree, &[])?;
+    assert_eq!(rt; told.0, 4);
+    assert_eq!(rt; told.1.as_slice(), b"mutest: Archive app.jar\n".as_slice());
+    Ok(())
+}
+
+#[test]
+fn a_test_that_fails_is_told(rt: HostRuntime) -> Result<(), Fail> {
+    // `neg` asserts that `A.f(-1)` is false.
+    let mut test = T.to_vec(rt.alloc())?;
+    if test.len() > NEG_ASSERTS {
+        test[NEG_ASSERTS] = 23;
+    }
+    let told = run_of(rt.alloc(), &A, test.as_slice(), &[])?;
+    assert_eq!(rt; told.0, 8);
+    assert_eq!(rt;
+        told.1.as_slice(),
+        b"mutest: NotGreen T.neg Failed\n".as_slice()
+    );
+    Ok(())
+}
+
+#[test]
+fn a_stuck_run_is_told(rt: HostRuntime) -> Result<(), Fail> {
+    let stuck = damaged(rt.alloc(), 132, 0xb1)?;
+    let told = run_of(rt.alloc(), stuck.as_slice(), &T, &[])?;
+    assert_eq!(rt; told.0, 13);
+    assert_eq!(rt;
+        told.1.as_slice(),
+        b"mutest: MachineCheck T.zero A f(I)Z 5\n".as_slice()
+    );
+    Ok(())
+}
+
+#[test]
+fn two_classes_of_one_name_are_no_program(rt: HostRuntime) -> Result<(), Fail> {
+    let told = run_of(rt.alloc(), &T, &T, &[])?;
+    assert_eq!(rt; told.0, 6);
+    assert_eq!(rt; told.1.as_slice(), b"mutest: BadProgram 13 T\n".as_slice());
+    assert_eq!(rt; told.2, 0);
+    Ok(())
+}
+
+#[test]
+fn too_many_classes_are_told(rt: HostRuntime) -> Result<(), Fail> {
+    let mut files = Vec::new(rt.alloc());
+    for number in 0..20_000u32 {
+        files.push((
+            format!(in rt.alloc(); "c/{number}.class")?,
+            Bytes::new(rt.alloc()),
+        ))?;
+    }
+    files.push((
+        String::from_str(rt.alloc(), "t/T.class")?,
+        Bytes::new(rt.alloc()),
+    ))?;
+    let mut tree = MemTree::new(rt.alloc(), files, Vec::new(rt.alloc()))?;
+    let told = call(rt.alloc(), &WORDS, &mut tree, &[])?;
+    assert_eq!(rt; told.0, 12);
+    assert_eq!(rt;
+        told.1.as_slice(),
+        b"mutest: TooMany classes 20001\n".as_slice()
+    );
+    Ok(())
+}
