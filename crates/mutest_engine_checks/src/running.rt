@@ -51,7 +51,10 @@ fn the_classes_of_two_folders_are_loaded(rt: HostRuntime) -> Result<(), Fail> {
     }
     let absent = load_suite(rt.alloc(), &mut tree, "c", "d");
     match &absent {
-        Err(Halt::Refused(Refusal::NotFound { path })) => assert_eq!(rt; path.as_slice(), b"d".as_slice()),
+        Err(Halt::Refused(Refusal::NotFound { path })) => assert_eq!(rt;
+            path.as_slice(),
+            b"d".as_slice()
+        ),
         _ => assert!(rt; false, "d holds nothing"),
     }
     Ok(())
