@@ -25,7 +25,7 @@ use Rattle.mutest_engine.specs.Steps.{FailsReading, ReadsBy}
 use Rattle.mutest_engine.specs.Words.{Command, list_class, run_suite, assemble_class}
 use Rattle.mutest_engine.specs.Answers.{Answered, Write, write_of, answered, MayRefuse}
 use Rattle.mutest_engine.specs.Decided.{CanAnswer, CanState}
-use Rattle.mutest_engine.specs.Ends.{status_of, unwritten_status, IsToldAs, IsReplaced, IsSome, IsWritten, CarriedOut, TextEnds, Agrees, Writes, MayEnd, AgreesUntold, AnswersUntold, HasCauses, MeterRose, MeterStays, HaltRose, HaltStays, AnswerMeters}
+use Rattle.mutest_engine.specs.Ends.{status_of, unwritten_status, IsToldAs, IsReplaced, IsSome, IsWritten, CarriedOut, TextEnds, Agrees, Writes, MayEnd, AgreesUntold, AnswersUntold, Finished, ReadsFailed, WritesFailed, PutsFailed, MeterRose, MeterStays, HaltRose, HaltStays, AnswerMeters}
 use Rattle.mutest_engine.specs.Said.{Got, Broken, BrokenOff, HalfTold, Interrupted, Prints, Allows, written, all_written, Stopped, Partly, LeavesWrites, FailsWriting, FilesAfter, writes_in}
 use Rattle.mutest_engine.proofs.OriginalLaws.{drop_at}
 
@@ -174,9 +174,13 @@ pub unwritten_files : (ws : List Write) (old new : Option Files) (u : Unwritten)
 unwritten_files ws old new (unwritten.Failed product) end left same = by_status (WriteFault (File product) 1) end (FilesAfter ws old new) same left (stopped_partly product ws old new left)
 unwritten_files ws old new unwritten.Memory end left same = by_status WantOfMemory end (FilesAfter ws old new) same left left
 
-pub unwritten_causes : (write0 write1 put0 put1 : ℕ) (u : Unwritten) (end : Status) → FailsWriting write0 write1 u → (end ≡ unwritten_status u) ⊎ (end ≡ WantOfMemory) → HasCauses 0 0 write0 write1 put0 put1 end
-unwritten_causes write0 write1 put0 put1 (unwritten.Failed product) end failed same = by_status (WriteFault (File product) 1) end (HasCauses 0 0 write0 write1 put0 put1) same failed tt
-unwritten_causes write0 write1 put0 put1 unwritten.Memory end failed same = by_status WantOfMemory end (HasCauses 0 0 write0 write1 put0 put1) same tt tt
+pub unwritten_causes : (before after : ℕ) (u : Unwritten) (end : Status) → FailsWriting before after u → (end ≡ unwritten_status u) ⊎ (end ≡ WantOfMemory) → WritesFailed before after end
+unwritten_causes before after (unwritten.Failed product) end failed same = by_status (WriteFault (File product) 1) end (WritesFailed before after) same failed tt
+unwritten_causes before after unwritten.Memory end failed same = by_status WantOfMemory end (WritesFailed before after) same tt tt
+
+pub unwritten_puts : (before after : ℕ) (u : Unwritten) (end : Status) → (end ≡ unwritten_status u) ⊎ (end ≡ WantOfMemory) → PutsFailed before after end
+unwritten_puts before after (unwritten.Failed product) end same = by_status (WriteFault (File product) 1) end (PutsFailed before after) same tt tt
+unwritten_puts before after unwritten.Memory end same = by_status WantOfMemory end (PutsFailed before after) same tt tt
 
 -- ---- a text that is put
 
@@ -204,13 +208,13 @@ text_files ws text old new (WriteFault (File product) faults) q is = absurd q
 text_files ws text old new (WriteFault Text faults) q is = is
 text_files ws text old new WantOfMemory q is = all_stand ws old new is
 
-pub text_causes : (write0 write1 put0 put1 : ℕ) (text : List ℕ) (end : Status) → TextEnds text end → HasCauses 0 0 0 0 put0 put1 end → HasCauses 0 0 write0 write1 put0 put1 end
-text_causes write0 write1 put0 put1 text Done q has = tt
-text_causes write0 write1 put0 put1 text (Refused r) q has = tt
-text_causes write0 write1 put0 put1 text (ReadFault faults) q has = absurd q
-text_causes write0 write1 put0 put1 text (WriteFault (File product) faults) q has = absurd q
-text_causes write0 write1 put0 put1 text (WriteFault Text faults) q has = has
-text_causes write0 write1 put0 put1 text WantOfMemory q has = tt
+pub text_writes : (before after : ℕ) (text : List ℕ) (end : Status) → TextEnds text end → WritesFailed before after end
+text_writes before after text Done q = tt
+text_writes before after text (Refused r) q = tt
+text_writes before after text (ReadFault faults) q = tt
+text_writes before after text (WriteFault (File product) faults) q = absurd q
+text_writes before after text (WriteFault Text faults) q = tt
+text_writes before after text WantOfMemory q = tt
 
 -- ---- the status
 
@@ -234,9 +238,6 @@ halt_agrees stated (halt.Refused r) end allowed same =
     by_status (Refused r) end (Agrees stated) same (subst (λ (x : Result Answered Refusal). Agrees x (Refused r)) (sym (allowed r refl)) refl) (lost_agrees stated)
 halt_agrees stated (halt.ReadFault faults) end allowed same = by_status (ReadFault faults) end (Agrees stated) same (read_agrees stated faults) (lost_agrees stated)
 halt_agrees stated halt.WantOfMemory end allowed same = by_status WantOfMemory end (Agrees stated) same (lost_agrees stated) (lost_agrees stated)
-
-abbrev pub Finished : Result Answer Halt → Status → Type 0
-Finished answer end = MatchResult answer (λ a. CarriedOut (answered a) end) (λ h. IsToldAs h end)
 
 pub agrees_by : (held : Option Files) (stated : Files → Result Answered Refusal) (answer : Result Answer Halt) (end : Status) → IfSome held (λ files. ReadsBy answered (stated files) answer) → Finished answer end
     → IfSome held (λ files. Agrees (stated files) end)
@@ -283,27 +284,32 @@ untold_by (Err r) (Err h) end untold ended =
 
 -- ---- faults
 
-ok_causes : (read0 read1 write0 write1 put0 put1 : ℕ) (a : Answered) (end : Status) → CarriedOut a end → HasCauses 0 0 write0 write1 put0 put1 end → HasCauses read0 read1 write0 write1 put0 put1 end
-ok_causes read0 read1 write0 write1 put0 put1 a Done q has = tt
-ok_causes read0 read1 write0 write1 put0 put1 a (Refused r) q has = tt
-ok_causes read0 read1 write0 write1 put0 put1 a (ReadFault faults) q has = absurd q
-ok_causes read0 read1 write0 write1 put0 put1 a (WriteFault (File product) faults) q has = has
-ok_causes read0 read1 write0 write1 put0 put1 a (WriteFault Text faults) q has = has
-ok_causes read0 read1 write0 write1 put0 put1 a WantOfMemory q has = tt
+ok_reads : (before after : ℕ) (a : Answered) (end : Status) → CarriedOut a end → ReadsFailed before after end
+ok_reads before after a Done q = tt
+ok_reads before after a (Refused r) q = tt
+ok_reads before after a (ReadFault faults) q = absurd q
+ok_reads before after a (WriteFault which faults) q = tt
+ok_reads before after a WantOfMemory q = tt
 
-halt_causes : (read0 read1 write0 write1 put0 put1 : ℕ) (h : Halt) (end : Status) → FailsReading read0 read1 h → IsToldAs h end → HasCauses read0 read1 write0 write1 put0 put1 end
-halt_causes read0 read1 write0 write1 put0 put1 (halt.Refused r) end failed same = by_status (Refused r) end (HasCauses read0 read1 write0 write1 put0 put1) same tt tt
-halt_causes read0 read1 write0 write1 put0 put1 (halt.ReadFault faults) end failed same = by_status (ReadFault faults) end (HasCauses read0 read1 write0 write1 put0 put1) same (failed faults refl) tt
-halt_causes read0 read1 write0 write1 put0 put1 halt.WantOfMemory end failed same = by_status WantOfMemory end (HasCauses read0 read1 write0 write1 put0 put1) same tt tt
+halt_reads : (before after : ℕ) (h : Halt) (end : Status) → FailsReading before after h → IsToldAs h end → ReadsFailed before after end
+halt_reads before after (halt.Refused r) end failed same = by_status (Refused r) end (ReadsFailed before after) same tt tt
+halt_reads before after (halt.ReadFault faults) end failed same = by_status (ReadFault faults) end (ReadsFailed before after) same (failed faults refl) tt
+halt_reads before after halt.WantOfMemory end failed same = by_status WantOfMemory end (ReadsFailed before after) same tt tt
 
-abbrev pub Causes : ℕ → ℕ → ℕ → ℕ → Result Answer Halt → Status → Type 0
-Causes write0 write1 put0 put1 (Ok a) end = HasCauses 0 0 write0 write1 put0 put1 end
-Causes write0 write1 put0 put1 (Err h) end = Unit {0}
+pub reads_by : (before after : ℕ) (answer : Result Answer Halt) (end : Status) → IfErr answer (FailsReading before after) → Finished answer end → ReadsFailed before after end
+reads_by before after (Ok a) end failed ended = ok_reads before after (answered a) end ended
+reads_by before after (Err h) end failed ended = halt_reads before after h end failed ended
 
-pub causes_by : (read0 read1 write0 write1 put0 put1 : ℕ) (answer : Result Answer Halt) (end : Status) → IfErr answer (FailsReading read0 read1) → Finished answer end → Causes write0 write1 put0 put1 answer end
-    → HasCauses read0 read1 write0 write1 put0 put1 end
-causes_by read0 read1 write0 write1 put0 put1 (Ok a) end failed ended has = ok_causes read0 read1 write0 write1 put0 put1 (answered a) end ended has
-causes_by read0 read1 write0 write1 put0 put1 (Err h) end failed ended has = halt_causes read0 read1 write0 write1 put0 put1 h end failed ended
+-- What a call that halts tells is no fault of writing.
+pub halt_writes : (before after : ℕ) (h : Halt) (end : Status) → IsToldAs h end → WritesFailed before after end
+halt_writes before after (halt.Refused r) end same = by_status (Refused r) end (WritesFailed before after) same tt tt
+halt_writes before after (halt.ReadFault faults) end same = by_status (ReadFault faults) end (WritesFailed before after) same tt tt
+halt_writes before after halt.WantOfMemory end same = by_status WantOfMemory end (WritesFailed before after) same tt tt
+
+pub halt_puts : (before after : ℕ) (h : Halt) (end : Status) → IsToldAs h end → PutsFailed before after end
+halt_puts before after (halt.Refused r) end same = by_status (Refused r) end (PutsFailed before after) same tt tt
+halt_puts before after (halt.ReadFault faults) end same = by_status (ReadFault faults) end (PutsFailed before after) same tt tt
+halt_puts before after halt.WantOfMemory end same = by_status WantOfMemory end (PutsFailed before after) same tt tt
 
 -- ---- the sink
 

@@ -1,5 +1,5 @@
 -- What a command's answer is made of, and how a command may be refused (this project's own).
-use Rattle.std.specs.Prelude.{◌≡◌, ℕ, ◌<◌, List, nat_lt, if◌then◌else◌, length, map, Option, None, Some, Result, Ok, Err}
+use Rattle.std.specs.Prelude.{◌≡◌, ℕ, ◌<◌, List, [], ◌∷◌, nat_lt, if◌then◌else◌, length, map, Option, None, Some, Result, Ok, Err}
 use Rattle.std.specs.FinMap.{get}
 use Rattle.class_model.specs.declared.class.Class.{Class}
 use Rattle.class_model.specs.declared.fault.ClassFault.{ClassFault}
@@ -34,8 +34,20 @@ pub record Answered : Type 0 where
 abbrev pub write_of : Written → Write
 write_of w = record { product = w.product; path = w.path.now; bytes = w.bytes }
 
+abbrev pub one_write : Product → List ℕ → List ℕ → List Write
+one_write product path bytes = record { product = product; path = path; bytes = bytes } ∷ []
+
+abbrev pub writes_of : List Written → List Write
+writes_of writes = map write_of writes
+
+abbrev pub one : Written → List Write
+one write = write_of write ∷ []
+
 abbrev pub answered : Answer → Answered
 answered a = record { writes = map write_of a.writes.items; text = a.text }
+
+abbrev pub made : Answer → List Write
+made a = (answered a).writes
 
 -- ---- files
 

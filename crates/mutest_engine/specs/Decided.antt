@@ -11,11 +11,12 @@ use Rattle.mutator_ops.specs.Printing.{id_lines}
 use Rattle.report_schema.specs.Report.{ReportText}
 use Rattle.report_schema.specs.Summary.{Summary}
 use Rattle.report_schema.specs.declared.input.ReportInput.{ReportInput}
-use Rattle.mutest_engine.specs.Words.{Command, list_class, run_suite, assemble_class, AsmOptions, RunOptions, words_of}
+use Rattle.mutest_engine.specs.Words.{Command, list_class, run_suite, assemble_class, AsmOptions, RunOptions, words_of, run_asked}
 use Rattle.mutest_engine.specs.Answers.{Answered, file_of, spelled_class, MayRefuse}
 use Rattle.mutest_engine.specs.Steps.{and_then}
 use Rattle.mutest_engine.specs.SuiteFiles.{suite_of}
 use Rattle.mutest_engine.specs.Mutation.{judged, suite_steps}
+use Rattle.mutest_engine.specs.declared.command.RunOptions.{RunOptions as FoundRun}
 use Rattle.mutest_engine.specs.declared.answer.Product.TheVariants.{Report, Assembled}
 use Rattle.mutest_engine.specs.declared.suite.LoadedSuite.{LoadedSuite}
 use Rattle.mutest_engine.specs.declared.refusal.Refusal.{Refusal}
@@ -105,6 +106,9 @@ steps_with (Err refusal) = 0
 
 abbrev pub steps_of_run : RunOptions → Files → ℕ
 steps_of_run options files = steps_with (suite_of options.classes options.tests files)
+
+abbrev pub steps_asked : FoundRun → Files → ℕ
+steps_asked options files = steps_of_run (run_asked options) files
 
 -- The steps of the runs that a command makes.
 abbrev pub steps_to : Result Command Refusal → Files → ℕ

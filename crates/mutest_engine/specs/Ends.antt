@@ -1,10 +1,11 @@
 -- How a call may end: its status by what is stated, the faults that it tells, and the meter (this project's own).
-use Rattle.std.specs.Prelude.{◌≡◌, ◌⊎◌, ℕ, ◌+◌, ◌≤◌, List, [], ◌∷◌, Result, Ok, Err, MatchResult}
+use Rattle.std.specs.Prelude.{◌≡◌, ◌⊎◌, ℕ, ◌+◌, ◌≤◌, List, [], ◌∷◌, Option, IfSome, Result, Ok, Err, MatchResult}
 use Rattle.mutest_engine.specs.Words.{Command, list_class, run_suite, assemble_class}
 use Rattle.mutest_engine.specs.Answers.{Answered, Write, answered, MayRefuse}
 use Rattle.mutest_engine.specs.Decided.{CanAnswer}
 use Rattle.mutest_engine.specs.Mutation.{Stays}
-use Rattle.mutest_engine.specs.Steps.{Failed, RefusesReading}
+use Rattle.mt_edge.specs.Files.{Files}
+use Rattle.mutest_engine.specs.Steps.{Failed, ReadsBy, RefusesReading}
 use Rattle.mutest_engine.specs.declared.answer.Answer.{Answer}
 use Rattle.mutest_engine.specs.declared.answer.Product.{Product}
 use Rattle.mutest_engine.specs.declared.answer.Product.TheVariants.{Report, Assembled}
@@ -107,15 +108,20 @@ AnswersUntold words result =
 
 -- ---- faults
 
--- A fault comes only where calls of its kind failed, and they are as many as are told: reading and writing of the tree, and putting to the sink, by their counts before and after.
-abbrev pub HasCauses : ℕ → ℕ → ℕ → ℕ → ℕ → ℕ → Status → Type 0
-HasCauses read0 read1 write0 write1 put0 put1 Done = Unit {0}
-HasCauses read0 read1 write0 write1 put0 put1 (Refused refusal) = Unit {0}
-HasCauses read0 read1 write0 write1 put0 put1 (ReadFault faults) = Failed read0 read1 faults
-HasCauses read0 read1 write0 write1 put0 put1 (WriteFault (File product) faults) =
-    Failed write0 write1 faults
-HasCauses read0 read1 write0 write1 put0 put1 (WriteFault Text faults) = Failed put0 put1 faults
-HasCauses read0 read1 write0 write1 put0 put1 WantOfMemory = Unit {0}
+-- A fault comes only where calls of its kind failed, and they are as many as are told, by the object's count before and after: reading of the tree,
+abbrev pub ReadsFailed : ℕ → ℕ → Status → Type 0
+ReadsFailed before after (ReadFault faults) = Failed before after faults
+ReadsFailed before after s = Unit {0}
+
+-- replacing of its files,
+abbrev pub WritesFailed : ℕ → ℕ → Status → Type 0
+WritesFailed before after (WriteFault (File product) faults) = Failed before after faults
+WritesFailed before after s = Unit {0}
+
+-- and putting to the sink.
+abbrev pub PutsFailed : ℕ → ℕ → Status → Type 0
+PutsFailed before after (WriteFault Text faults) = Failed before after faults
+PutsFailed before after s = Unit {0}
 
 -- ---- the meter
 
@@ -144,6 +150,19 @@ HaltStays before after h =
     × ((refusal : Refusal) → h ≡ halt.Refused refusal → Stays before after refusal)
     × ((faults : ℕ) → h ≡ halt.ReadFault faults → after ≡ before)
 
+-- What a step answers, where these are the files that the tree tells.
+abbrev pub AnswersHeld : Option Files → (Files → Result Answered Refusal) → Result Answer Halt → Type 0
+AnswersHeld held stated result = IfSome held (λ files. ReadsBy answered (stated files) result)
+
 abbrev pub AnswerMeters : ℕ → ℕ → ℕ → Result Answer Halt → Type 0
 AnswerMeters before after steps result =
     MatchResult result (λ a. after ≡ before + steps) (HaltRose before after steps)
+
+abbrev pub MetersHeld : Option Files → ℕ → ℕ → (Files → ℕ) → Result Answer Halt → Type 0
+MetersHeld held before after steps result =
+    IfSome held (λ files. AnswerMeters before after (steps files) result)
+
+-- ---- a call, by its answer
+
+abbrev pub Finished : Result Answer Halt → Status → Type 0
+Finished answer end = MatchResult answer (λ a. CarriedOut (answered a) end) (λ h. IsToldAs h end)

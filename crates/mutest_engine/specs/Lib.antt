@@ -9,3 +9,4 @@ pub mod Decided
 pub mod Ends
 pub mod StatusText
 pub mod Said
+pub mod Promises

@@ -5,12 +5,13 @@ use Rattle.class_model.specs.Text.{text}
 use Rattle.class_model.specs.declared.class.Class.{Class}
 use Rattle.program_rules.specs.Names.{same}
 use Rattle.program_rules.specs.Programs.{Look}
-use Rattle.class_table.specs.Info.{own_name}
+use Rattle.class_table.specs.Info.{Info, own_name}
+use Rattle.class_table.specs.Table.{look}
 use Rattle.class_table.specs.declared.scripted.Test.{Test}
 use Rattle.mutator_ops.specs.Mutants.{class_mutants}
 use Rattle.mutator_ops.specs.declared.mutant.Mutant.{Mutant}
 use Rattle.mutator_ops.specs.declared.mutant.Verdict.{Verdict}
-use Rattle.mutant_runs.specs.Programs.{ClassFiles}
+use Rattle.mutant_runs.specs.Programs.{ClassFiles, files_of}
 use Rattle.mutant_runs.specs.Runs.{Timed, timed}
 use Rattle.mutant_runs.specs.Verdicts.{verdict_of, steps_of_all}
 use Rattle.report_schema.specs.FileKey.{file_key}
@@ -30,8 +31,11 @@ abbrev pub mutants_by_name : Class → List ℕ × List Mutant
 mutants_by_name c = (text (own_name c), class_mutants c)
 
 -- The mutants of these classes, in the order of the classes' names.
+abbrev pub kept_mutants : List Class → List (List ℕ × List Mutant)
+kept_mutants classes = ordered (map mutants_by_name classes)
+
 abbrev pub mutants_among : List Class → List Mutant
-mutants_among classes = flat_map (λ e. e.1) (ordered (map mutants_by_name classes))
+mutants_among classes = flat_map (λ e. e.1) (kept_mutants classes)
 
 -- The mutants of a suite are those of its classes folder.
 abbrev pub mutants_of : LoadedSuite → List Mutant
@@ -116,6 +120,20 @@ judged s =
 abbrev pub suite_steps : LoadedSuite → ℕ
 suite_steps s =
     if_so (linked s) (tested_steps (suite_files s) (program s) (tests_of s) (mutants_of s))
+
+-- ---- of a program by its classes' numbers
+
+abbrev pub verdicts_in : List Info → List Test → List Mutant → Result (List Verdict) Refusal
+verdicts_in p ts ms = green_verdicts (files_of p) (look p) ts ms
+
+abbrev pub steps_on_all : List Info → List Test → List Mutant → ℕ
+steps_on_all p ts ms = all_steps (files_of p) (look p) ts ms
+
+abbrev pub tested_in : List Info → List Test → List Mutant → Result ReportInput Refusal
+tested_in p ts ms = tested (files_of p) (look p) ts ms
+
+abbrev pub tested_steps_in : List Info → List Test → List Mutant → ℕ
+tested_steps_in p ts ms = tested_steps (files_of p) (look p) ts ms
 
 -- ---- what runs count
 

@@ -78,8 +78,11 @@ abbrev pub tests_by_name : Class → List ℕ × List Test
 tests_by_name c = (text (own_name c), class_tests c)
 
 -- The tests of these classes, in the order of the classes' names.
+abbrev pub kept_tests : List Class → List (List ℕ × List Test)
+kept_tests classes = ordered (map tests_by_name classes)
+
 abbrev pub tests_among : List Class → List Test
-tests_among classes = flat_map (λ e. e.1) (ordered (map tests_by_name classes))
+tests_among classes = flat_map (λ e. e.1) (kept_tests classes)
 
 -- The tests of a suite are those of its tests folder.
 abbrev pub tests_of : LoadedSuite → List Test

@@ -1,13 +1,14 @@
 -- What each status leaves in the sink and in the tree (this project's own).
-use Rattle.std.specs.Prelude.{◌≡◌, ◌⊎◌, ℕ, List, [], ◌∷◌, ◌++◌, Option, option_map, Result, Ok, Err}
+use Rattle.std.specs.Prelude.{◌≡◌, ◌⊎◌, ℕ, List, [], ◌∷◌, ◌++◌, map, Option, option_map, Result, Ok, Err}
 use Rattle.std.specs.FinMap.{insert}
 use mathlib.Core.List.{IsPrefix}
 use Rattle.mt_edge.specs.Files.{Files}
 use Rattle.mt_edge.specs.Causes.{Rose}
 use Rattle.mt_edge.specs.Pieces.{Grows, GrowsBy}
 use Rattle.mutest_engine.specs.StatusText.{refusal_line, line_of}
-use Rattle.mutest_engine.specs.Answers.{Answered, Write}
+use Rattle.mutest_engine.specs.Answers.{Answered, Write, write_of}
 use Rattle.mutest_engine.specs.declared.answer.Product.{Product}
+use Rattle.mutest_engine.specs.declared.answer.Write.{Write as Written}
 use Rattle.mutest_engine.specs.Steps.{Failed}
 use Rattle.mutest_engine.specs.declared.refusal.Refusal.{Refusal}
 use Rattle.mutest_engine.specs.declared.stop.Halt.{Halt}
@@ -95,13 +96,16 @@ abbrev pub Partly : List Write → Option Files → Option Files → Type 0
 Partly [] old new = new ≡ old
 Partly (w ∷ ws) old new = (new ≡ old) ⊎ Partly ws (written w old) new
 
--- What a file that wasn't replaced, or one of several, leaves of the tree.
+-- What is left of the tree where one of these files wasn't replaced.
 abbrev pub LeavesWrites : List Write → Option Files → Option Files → Unwritten → Type 0
 LeavesWrites ws old new (unwritten.Failed product) = Stopped product ws old new
 LeavesWrites ws old new unwritten.Memory = Partly ws old new
 
-abbrev pub LeavesWrite : Write → Option Files → Option Files → Unwritten → Type 0
-LeavesWrite w old new u = LeavesWrites (w ∷ []) old new u
+abbrev pub LeavesAll : List Written → Option Files → Option Files → Unwritten → Type 0
+LeavesAll writes old new u = LeavesWrites (map write_of writes) old new u
+
+abbrev pub Wrote : List Write → Option Files → Option Files → Type 0
+Wrote ws old new = new ≡ all_written ws old
 
 -- Where replacing is told to have failed, it did, by the count of faults before and after.
 abbrev pub FailsWriting : ℕ → ℕ → Unwritten → Type 0

@@ -1,5 +1,6 @@
 -- What the steps of a call answer: their result, or a refusal that the words and the files decide (this project's own).
-use Rattle.std.specs.Prelude.{◌≡◌, ℕ, ◌+◌, ◌-◌, ◌^◌, ◌<◌, ◌≤◌, min, Result, Ok, Err, MatchResult}
+use Rattle.std.specs.Prelude.{◌≡◌, ℕ, ◌+◌, ◌-◌, ◌^◌, ◌<◌, ◌≤◌, min, Option, IfSome, Result, Ok, Err, MatchResult}
+use Rattle.mt_edge.specs.Files.{Files}
 use Rattle.mutest_engine.specs.declared.refusal.Refusal.{Refusal}
 use Rattle.mutest_engine.specs.declared.stop.Halt.{Halt}
 use Rattle.mutest_engine.specs.declared.stop.Halt.TheVariants as halt
@@ -47,6 +48,10 @@ ReadsBy view stated result =
 
 abbrev pub Reads : {X : Type 0} → Result X Refusal → Result X Halt → Type 0
 Reads stated result = MatchResult result (λ x. stated ≡ Ok x) (RefusesReading (λ r. stated ≡ Err r))
+
+-- The same of what the files decide that a tree tells to hold.
+abbrev pub ReadsHeld : {X : Type 0} → Option Files → (Files → Result X Refusal) → Result X Halt → Type 0
+ReadsHeld held stated result = IfSome held (λ files. Reads (stated files) result)
 
 -- So many calls failed, for a count that stays at its end.
 abbrev pub Failed : ℕ → ℕ → ℕ → Type 0

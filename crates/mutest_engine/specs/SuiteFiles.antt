@@ -1,5 +1,5 @@
 -- What the command `run` reads: the class files of two folders, in the order in which refusals come (this project's own).
-use Rattle.std.specs.Prelude.{ℕ, ◌+◌, List, [], ◌∷◌, Bool, nat_lt, ◌==◌, if◌then◌else◌, length, filter, sum_by, codes, map, string_bytes, All, Result, Ok, Err}
+use Rattle.std.specs.Prelude.{ℕ, ◌+◌, List, [], ◌∷◌, Bool, nat_lt, ◌==◌, if◌then◌else◌, length, filter, sum_by, codes, map, string_bytes, All, Option, IfSome, Result, Ok, Err}
 use Rattle.std.specs.Global.{Vec, Global}
 use Rattle.std.specs.declared.string.String.{String}
 use Rattle.class_writer.specs.Writing.{HasClassForm}
@@ -7,7 +7,7 @@ use Rattle.class_table.specs.declared.loaded.Loaded.{Loaded}
 use Rattle.mt_edge.specs.Files.{Files, listed}
 use Rattle.mutest_engine.specs.Words.{ends_in}
 use Rattle.mutest_engine.specs.Answers.{file_of, spelled_class}
-use Rattle.mutest_engine.specs.Steps.{and_then, ReadsBy}
+use Rattle.mutest_engine.specs.Steps.{and_then, Reads, ReadsBy}
 use Rattle.mutest_engine.specs.declared.stop.Halt.{Halt}
 use Rattle.mutest_engine.specs.declared.suite.ClassFile.{ClassFile}
 use Rattle.mutest_engine.specs.declared.suite.LoadedSuite.{LoadedSuite}
@@ -44,12 +44,16 @@ both_listed classes_folder tests_folder files =
 abbrev pub texts : Vec (String Global) → List (List ℕ)
 texts paths = map string_bytes paths.items
 
-abbrev pub Lists : List ℕ → Files → Result (Vec (String Global)) Halt → Type 0
-Lists folder files result = ReadsBy texts (some_listed folder files) result
+abbrev pub Lists : List ℕ → Result (Vec (String Global)) Halt → Files → Type 0
+Lists folder result files = ReadsBy texts (some_listed folder files) result
 
-abbrev pub ListsBoth : List ℕ → List ℕ → Files → Result (Vec (String Global) × Vec (String Global)) Halt → Type 0
-ListsBoth classes tests files result =
-    ReadsBy (λ paths. (texts paths.0, texts paths.1)) (both_listed classes tests files) result
+abbrev pub Found : Type 0
+Found = Vec (String Global) × Vec (String Global)
+
+abbrev pub ListsBoth : Option Files → List ℕ → List ℕ → Result Found Halt → Type 0
+ListsBoth held classes tests result =
+    IfSome held (λ files.
+    ReadsBy (λ paths. (texts paths.0, texts paths.1)) (both_listed classes tests files) result)
 
 -- ---- files
 
@@ -72,6 +76,10 @@ read_from sum [] files = Ok []
 read_from sum (path ∷ paths) files =
     and_then (read_one sum path files) (λ file.
     and_then (read_from (sum + length file.bytes) paths files) (λ others. Ok (file ∷ others)))
+
+-- The code reads the files that a tree tells.
+abbrev pub FilesHeld : Option Files → ℕ → List (List ℕ) → Result (List ClassFile) Halt → Type 0
+FilesHeld held sum paths result = IfSome held (λ files. Reads (read_from sum paths files) result)
 
 abbrev pub bytes_in : List ClassFile → ℕ
 bytes_in files = sum_by (λ file. length file.bytes) files
@@ -103,6 +111,11 @@ abbrev pub suite_of : List ℕ → List ℕ → Files → Result LoadedSuite Ref
 suite_of classes_folder tests_folder files =
     and_then (both_listed classes_folder tests_folder files) (λ paths.
     both_read paths.0 paths.1 files)
+
+-- The code loads the suite of the files that a tree tells.
+abbrev pub LoadsHeld : Option Files → List ℕ → List ℕ → Result LoadedSuite Halt → Type 0
+LoadsHeld held classes tests result =
+    IfSome held (λ files. Reads (suite_of classes tests files) result)
 
 -- Each class has the form of what is read.
 abbrev pub AreFormed : List Loaded → Type 0

@@ -1,5 +1,5 @@
 -- Which command the words behind the program's name are (this project's own).
-use Rattle.std.specs.Prelude.{◌≡◌, ℕ, List, [], ◌∷◌, Bool, ◌&&◌, ◌||◌, not, nat_eq, ◌==◌, if◌then◌else◌, length, slice_index, codes, Option, None, Some, MatchOption, Result, Ok, Err}
+use Rattle.std.specs.Prelude.{◌≡◌, ℕ, List, [], ◌∷◌, Bool, true, ◌&&◌, ◌||◌, not, nat_eq, ◌==◌, if◌then◌else◌, length, slice_index, codes, Option, None, Some, MatchOption, Result, Ok, Err}
 use Rattle.std.specs.List.{ends_with}
 use Rattle.std.specs.Cmp.Lexicographic.{pointwise}
 use Rattle.std.specs.Io.BufRead.{strip_last}
@@ -93,6 +93,9 @@ abbrev pub is_archive : List ℕ → Bool
 is_archive folder =
     ends_in folder (codes ".jar") || (ends_in folder (codes ".zip") || ends_in folder (codes ".war"))
 
+abbrev pub IsArchived : List ℕ → Refusal → Type 0
+IsArchived folder r = (is_archive folder ≡ true) × (r ≡ Archive folder)
+
 -- The command, where none of its folders is an archive; that of the classes is asked first.
 abbrev pub without_archive : Command → Result Command Refusal
 without_archive (list_class path) = Ok (list_class path)
@@ -118,10 +121,16 @@ run_asked o = record { classes = o.classes.now; tests = o.tests.now; report = o.
 abbrev pub asm_asked : FoundAsm → AsmOptions
 asm_asked o = record { text = o.text.now; out = o.out.now }
 
+abbrev pub asked_run : FoundRun → Command
+asked_run o = run_suite (run_asked o)
+
+abbrev pub asked_asm : FoundAsm → Command
+asked_asm o = assemble_class (asm_asked o)
+
 abbrev pub asked : Found → Command
 asked (found.List file) = list_class file.now
-asked (found.Run options) = run_suite (run_asked options)
-asked (found.Assemble options) = assemble_class (asm_asked options)
+asked (found.Run options) = asked_run options
+asked (found.Assemble options) = asked_asm options
 
 -- The code finds the stated command, if there is one.
 abbrev pub Finds : Option Command → Option Found → Type 0

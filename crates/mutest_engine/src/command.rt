@@ -1,17 +1,16 @@
 //! The command that the words of the command line are.
 
-ghost use Rattle.std.specs.Prelude.{◌≡◌, true, false, map, string_bytes, OnOk, IfErr};
+ghost use Rattle.std.specs.Prelude.{◌≡◌, false, map, string_bytes, OnOk, IfErr};
 ghost use Rattle.mutest_engine.specs.Steps.{GivesBy, Refuses};
-ghost use Rattle.mutest_engine.specs.Words.{is_value, is_option, folder_of, is_archive, list_of, run_of, asm_of, command_of, words_of, asked, Finds};
-ghost use Rattle.mutest_engine.specs.declared.refusal.Refusal.TheVariants.{Archive};
+ghost use Rattle.mutest_engine.specs.Words.{is_value, is_option, folder_of, is_archive, IsArchived, list_of, run_of, asm_of, command_of, words_of, asked, Finds};
 
 use crate::refusal::Refusal;
 use crate::stop::Stop;
 use class_model::Bytes;
 use std::alloc::Global;
 
-/// The options of `run`: the folders of classes and of tests, and the path of the report. A folder has no `/` at its end
-/// that the word had.
+/// The options of `run`: the folders of classes and of tests, and the path of the report. A folder
+/// has no `/` at its end that the word had.
 #[derive(Clone, Copy)]
 pub struct RunOptions<'a> {
     pub classes: &'a str,
@@ -19,7 +18,8 @@ pub struct RunOptions<'a> {
     pub report: &'a str,
 }
 
-/// What `asm` is given: the path of a text of the assembler's language, and that of the class file that it states.
+/// What `asm` is given: the path of a text of the assembler's language, and that of the class file
+/// that it states.
 #[derive(Clone, Copy)]
 pub struct AsmOptions<'a> {
     pub text: &'a str,
@@ -141,7 +141,7 @@ fn is_archive(folder: &str) -> bool
 
 fn no_archive(alloc: Global, folder: &str) -> Result<(), Stop>
     ensures passed { OnOk result (is_archive folder.now ≡ false) }
-    ensures refused { IfErr result (Refuses (λ r. (is_archive folder.now ≡ true) × (r ≡ Archive folder.now))) }
+    ensures refused { IfErr result (Refuses (IsArchived folder.now)) }
 {
     if is_archive(folder) {
         let path = Bytes::from_slice(alloc, folder.as_bytes())?;

@@ -4,7 +4,7 @@ ghost use Rattle.std.specs.Prelude.{◌≡◌, map, IfOk};
 ghost use Rattle.std.specs.List.{flat_map};
 ghost use Rattle.class_model.specs.Text.{text};
 ghost use Rattle.class_table.specs.Info.{own_name};
-ghost use Rattle.mutest_engine.specs.Originals.{tests_by_name, classes_in, ordered, tests_among, few_tests};
+ghost use Rattle.mutest_engine.specs.Originals.{tests_by_name, classes_in, kept_tests, tests_among, few_tests};
 
 use crate::refusal::{Limit, Refusal};
 use class_model::{Bytes, Class, Memory, Seq, write_text};
@@ -34,7 +34,7 @@ fn tests_by_name(alloc: Global, class: &Class) -> Result<(Bytes, Seq<Test>), Mem
 }
 
 fn all_by_name(alloc: Global, classes: &[Loaded]) -> Result<BTreeMap<Bytes, Seq<Test>>, Memory>
-    ensures { IfOk result (λ found. found.entries ≡ ordered (map tests_by_name (classes_in classes.now))) }
+    ensures { IfOk result (λ found. found.entries ≡ kept_tests (classes_in classes.now)) }
 {
     let mut found = BTreeMap::new(alloc);
     for loaded in classes {

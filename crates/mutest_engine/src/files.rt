@@ -1,11 +1,11 @@
 //! A class file that is held: its bytes within the limit, and the class that they spell.
 
-ghost use Rattle.std.specs.Prelude.{◌≡◌, ◌≤◌, ℕ, List, IfSome, IfOk, IfErr};
+ghost use Rattle.std.specs.Prelude.{◌≡◌, ◌≤◌, ℕ, List, IfOk, IfErr};
 ghost use Rattle.class_writer.specs.Writing.{HasClassForm};
 ghost use Rattle.mutest_engine.specs.Answers.{within_limit as within, file_of, spelled_class, IsClassFault, IsOfFile, IsOfSuite, IsUnheld};
 ghost use Rattle.mutest_engine.specs.declared.refusal.Refusal.TheVariants.{NotFound, BadClass};
 ghost use Rattle.mutest_engine.specs.declared.stop.Halt.TheVariants.{ReadFault};
-ghost use Rattle.mutest_engine.specs.Steps.{Gives, Reads, Refuses, RefusesReading, FailsReading};
+ghost use Rattle.mutest_engine.specs.Steps.{Gives, ReadsHeld, Refuses, RefusesReading, FailsReading};
 
 use crate::refusal::{Limit, Refusal};
 use crate::stop::{Halt, Stop};
@@ -45,7 +45,7 @@ fn not_found(alloc: Global, path: &str) -> Halt
 
 /// The bytes of a file.
 pub fn read_file<T: Tree>(alloc: Global, tree: &mut T, path: &str) -> Result<Bytes, Halt>
-    ensures value { IfSome (T.holds tree.old) (λ files. Reads (file_of path.now files) result) }
+    ensures value { ReadsHeld (T.holds tree.old) (file_of path.now) result }
     ensures refusal { IfErr result (RefusesReading (IsUnheld path.now)) }
     ensures faults { IfErr result (FailsReading (T.reading tree.old) (T.reading tree.new)) }
     ensures later { T.reading tree.old ≤ T.reading tree.new }

@@ -1,12 +1,11 @@
 //! What the tests of a suite say of its mutants.
 
 ghost use Rattle.std.specs.Prelude.{◌≡◌, ◌+◌, ◌<◌, ◌≤◌, ◌^◌, ◌++◌, length, map, All, IfOk, IfErr};
-ghost use Rattle.class_table.specs.Table.{look};
 ghost use Rattle.mutant_runs.specs.Programs.{files_of, IsMutantOf};
 ghost use Rattle.report_schema.specs.FileKey.{file_key};
 ghost use Rattle.mutest_engine.specs.Steps.{Gives, Refuses, Counts};
 ghost use Rattle.mutest_engine.specs.SuiteFiles.{IsFormed};
-ghost use Rattle.mutest_engine.specs.Mutation.{green_verdicts, all_steps, input_of, tested, tested_steps, judged, suite_steps, Stays, Meters};
+ghost use Rattle.mutest_engine.specs.Mutation.{verdicts_in, steps_on_all, input_of, tested_in, tested_steps_in, judged, suite_steps, Stays, Meters};
 
 use crate::discovered::{few_tests, tests_of};
 use crate::mutants::{few_mutants, mutants_of};
@@ -23,7 +22,8 @@ use mutator_ops::{Mutant, Verdict};
 use report_schema::{ReportInput, file_key};
 use std::alloc::Global;
 
-// The verdicts on the mutants, where all tests pass on the program as it is. The steps of all runs are counted in the part.
+// The verdicts on the mutants, where all tests pass on the program as it is. The steps of all runs are
+// counted in the part.
 fn all_runs(
     alloc: Global,
     program: &mut Program,
@@ -35,9 +35,9 @@ fn all_runs(
     requires few_mutants { length mutants.now ≤ 262144 }
     requires fit { All (IsMutantOf (files_of program.old)) mutants.now }
     requires start { part.old ≡ 0 }
-    ensures value { Gives (green_verdicts (files_of program.old) (look program.old) tests.now mutants.now) result }
-    ensures most { part.new ≤ all_steps (files_of program.old) (look program.old) tests.now mutants.now }
-    ensures exact { Counts part.new (all_steps (files_of program.old) (look program.old) tests.now mutants.now) result }
+    ensures value { Gives (verdicts_in program.old tests.now mutants.now) result }
+    ensures most { part.new ≤ steps_on_all program.old tests.now mutants.now }
+    ensures exact { Counts part.new (steps_on_all program.old tests.now mutants.now) result }
 {
     let steps = green(alloc, program, tests, part)?;
     let verdicts = verdicts(
@@ -64,8 +64,8 @@ fn metered_runs(
     requires few_mutants { length mutants.now ≤ 262144 }
     requires fit { All (IsMutantOf (files_of program.old)) mutants.now }
     requires room { meter.old < 2 ^ 63 }
-    ensures value { Gives (green_verdicts (files_of program.old) (look program.old) tests.now mutants.now) result }
-    ensures meter { Meters meter.old meter.new (all_steps (files_of program.old) (look program.old) tests.now mutants.now) result }
+    ensures value { Gives (verdicts_in program.old tests.now mutants.now) result }
+    ensures meter { Meters meter.old meter.new (steps_on_all program.old tests.now mutants.now) result }
 {
     let mut part = meter.split();
     let verdicts = all_runs(alloc, program, tests, mutants, &mut part);
@@ -104,7 +104,8 @@ fn input_of(
     })
 }
 
-// What is reported of the tests and the mutants of a program. The meter rises by the steps of all runs.
+// What is reported of the tests and the mutants of a program. The meter rises by the steps of all
+// runs.
 #[tactic(auto, unfolding(crate::specs::Mutation::tested, crate::specs::Mutation::tested_steps))]
 fn test_mutants(
     alloc: Global,
@@ -115,8 +116,8 @@ fn test_mutants(
 ) -> Result<ReportInput, Stop>
     requires fit { All (IsMutantOf (files_of program.old)) mutants }
     requires room { meter.old < 2 ^ 63 }
-    ensures value { Gives (tested (files_of program.old) (look program.old) tests mutants) result }
-    ensures meter { Meters meter.old meter.new (tested_steps (files_of program.old) (look program.old) tests mutants) result }
+    ensures value { Gives (tested_in program.old tests mutants) result }
+    ensures meter { Meters meter.old meter.new (tested_steps_in program.old tests mutants) result }
     ensures stays { IfErr result (Refuses (Stays meter.old meter.new)) }
 {
     few_tests(tests.len())?;
@@ -135,7 +136,8 @@ fn all_classes(classes: Seq<Loaded>, tests: Seq<Loaded>) -> Result<Seq<Loaded>, 
     Ok(Seq::from_vec(all))
 }
 
-/// What is reported of a suite whose tests all pass on the program as it is. The meter rises by the steps of all runs.
+/// What is reported of a suite whose tests all pass on the program as it is. The meter rises by the
+/// steps of all runs.
 pub fn judge(alloc: Global, suite: LoadedSuite, meter: &mut Meter) -> Result<ReportInput, Stop>
     requires room { meter.old < 2 ^ 63 }
     requires form { IsFormed suite }

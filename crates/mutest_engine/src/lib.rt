@@ -1,4 +1,5 @@
-//! The top call: from the words of the command line and the files that are held to what is printed. Its answers stand as modules of their own below it.
+//! The top call: from the words of the command line and the files that are held to what is printed.
+//! `README.md` says which module is what, and each place that a new thing touches.
 #![tactic(auto)]
 
 mod answer;

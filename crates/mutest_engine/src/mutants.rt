@@ -1,8 +1,8 @@
 //! The mutants of a suite, in the order of their classes' names.
 
 ghost use Rattle.std.specs.Prelude.{◌≡◌, map, IfOk};
-ghost use Rattle.mutest_engine.specs.Originals.{classes_in, ordered};
-ghost use Rattle.mutest_engine.specs.Mutation.{mutants_by_name, mutants_among, few_mutants};
+ghost use Rattle.mutest_engine.specs.Originals.{classes_in};
+ghost use Rattle.mutest_engine.specs.Mutation.{mutants_by_name, kept_mutants, mutants_among, few_mutants};
 
 use crate::discovered::{class_name, joined};
 use crate::refusal::{Limit, Refusal};
@@ -22,7 +22,7 @@ fn mutants_by_name(alloc: Global, class: &Class) -> Result<(Bytes, Seq<Mutant>),
 }
 
 fn all_by_name(alloc: Global, classes: &[Loaded]) -> Result<BTreeMap<Bytes, Seq<Mutant>>, Memory>
-    ensures { IfOk result (λ found. found.entries ≡ ordered (map mutants_by_name (classes_in classes.now))) }
+    ensures { IfOk result (λ found. found.entries ≡ kept_mutants (classes_in classes.now)) }
 {
     let mut found = BTreeMap::new(alloc);
     for loaded in classes {

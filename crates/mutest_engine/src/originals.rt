@@ -36,7 +36,8 @@ fn test_text(alloc: Global, test: &Test) -> Result<Bytes, Memory>
     Ok(text)
 }
 
-// A test whose run came to this end: nothing where it passed, its outcome, or where the machine is stuck.
+// A test whose run came to this end: nothing where it passed, its outcome, or where the machine is
+// stuck.
 fn settled(alloc: Global, test: &Test, outcome: Outcome) -> Result<Option<(Bytes, Ended)>, Stop>
     ensures { Gives (settled test.now (ending_of outcome)) result }
 {
@@ -57,7 +58,8 @@ fn settled(alloc: Global, test: &Test, outcome: Outcome) -> Result<Option<(Bytes
     Ok(Some((test_text(alloc, test)?, ended)))
 }
 
-// How the run of a test on the program as it is comes to its end, and after how many steps. They are counted in the part.
+// How the run of a test on the program as it is comes to its end, and after how many steps. They are
+// counted in the part.
 fn end_of(
     alloc: Global,
     program: &Program,
@@ -74,7 +76,8 @@ fn end_of(
     Ok((run.outcome, run.steps))
 }
 
-// The run of a test on the program as it is: nothing where it passed, or how it ended; and its steps.
+// The run of a test on the program as it is: nothing where it passed, or how it ended; and its
+// steps.
 fn original(
     alloc: Global,
     program: &Program,

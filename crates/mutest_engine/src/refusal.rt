@@ -54,7 +54,7 @@ pub enum Refusal {
         limit: Limit,
         number: u64,
     },
-    /// No rule of the machine applies at an instruction, by its number, in the original run of a test.
+    /// No rule of the machine applies at an instruction, by its number, in a test's original run.
     MachineCheck {
         test: Bytes,
         class: Name,

@@ -1,10 +1,10 @@
-//! The classes of a suite: two folders are listed, their class files are read, and then each is spelled.
+//! The classes of a suite: two folders are listed, their files are read, and then each is spelled.
 
 ghost use Rattle.std.specs.Prelude.{◌≡◌, ◌+◌, ◌≤◌, length, map, string_bytes, All, IfSome, IfOk, IfErr};
 ghost use Rattle.class_writer.specs.Writing.{HasClassForm};
 ghost use Rattle.mutest_engine.specs.Answers.{IsOfSuite};
-ghost use Rattle.mutest_engine.specs.Steps.{Gives, Reads, Refuses, RefusesReading, FailsReading};
-ghost use Rattle.mutest_engine.specs.SuiteFiles.{Lists, ListsBoth, is_class_path, class_paths, few_classes, within_sum, read_one, read_from, bytes_in, loaded, all_loaded, both_loaded, suite_of, IsFormed};
+ghost use Rattle.mutest_engine.specs.Steps.{Gives, ReadsHeld, Refuses, RefusesReading, FailsReading};
+ghost use Rattle.mutest_engine.specs.SuiteFiles.{Lists, ListsBoth, is_class_path, class_paths, few_classes, within_sum, read_one, FilesHeld, bytes_in, loaded, all_loaded, both_loaded, LoadsHeld, IsFormed};
 
 use crate::files::{read_file, spelled_class};
 use crate::refusal::{Limit, Refusal};
@@ -36,7 +36,7 @@ pub struct LoadedSuite {
 
 // The paths below a folder, which holds some.
 fn list_folder<T: Tree>(alloc: Global, tree: &mut T, folder: &str) -> Result<Vec<String>, Halt>
-    ensures value { IfSome (T.holds tree.old) (λ files. Lists folder.now files result) }
+    ensures value { IfSome (T.holds tree.old) (Lists folder.now result) }
     ensures refusal { IfErr result (RefusesReading IsOfSuite) }
     ensures faults { IfErr result (FailsReading (T.reading tree.old) (T.reading tree.new)) }
     ensures later { T.reading tree.old ≤ T.reading tree.new }
@@ -91,7 +91,7 @@ fn list_both<T: Tree>(
     classes_folder: &str,
     tests_folder: &str,
 ) -> Result<(Vec<String>, Vec<String>), Halt>
-    ensures value { IfSome (T.holds tree.old) (λ files. ListsBoth classes_folder.now tests_folder.now files result) }
+    ensures value { ListsBoth (T.holds tree.old) classes_folder.now tests_folder.now result }
     ensures refusal { IfErr result (RefusesReading IsOfSuite) }
     ensures faults { IfErr result (FailsReading (T.reading tree.old) (T.reading tree.new)) }
     ensures later { T.reading tree.old ≤ T.reading tree.new }
@@ -130,7 +130,7 @@ fn read_one<T: Tree>(
     path: &str,
 ) -> Result<ClassFile, Halt>
     requires { sum.old ≤ 67108864 }
-    ensures value { IfSome (T.holds tree.old) (λ files. Reads (read_one sum.old path.now files) result) }
+    ensures value { ReadsHeld (T.holds tree.old) (read_one sum.old path.now) result }
     ensures sum { IfOk result (λ file. sum.new ≡ sum.old + length file.bytes) }
     ensures few { sum.new ≤ 67108864 }
     ensures refusal { IfErr result (RefusesReading IsOfSuite) }
@@ -155,7 +155,7 @@ fn read_files<T: Tree>(
     paths: &[String],
 ) -> Result<Seq<ClassFile>, Halt>
     requires { sum.old ≤ 67108864 }
-    ensures value { IfSome (T.holds tree.old) (λ files. Reads (read_from sum.old (map string_bytes paths.now) files) result) }
+    ensures value { FilesHeld (T.holds tree.old) sum.old (map string_bytes paths.now) result }
     ensures sum { IfOk result (λ read. sum.new ≡ sum.old + bytes_in read) }
     ensures few { sum.new ≤ 67108864 }
     ensures refusal { IfErr result (RefusesReading IsOfSuite) }
@@ -220,7 +220,7 @@ pub fn load_suite<T: Tree>(
     classes_folder: &str,
     tests_folder: &str,
 ) -> Result<LoadedSuite, Halt>
-    ensures value { IfSome (T.holds tree.old) (λ files. Reads (suite_of classes_folder.now tests_folder.now files) result) }
+    ensures value { LoadsHeld (T.holds tree.old) classes_folder.now tests_folder.now result }
     ensures form { IfOk result IsFormed }
     ensures refusal { IfErr result (RefusesReading IsOfSuite) }
     ensures faults { IfErr result (FailsReading (T.reading tree.old) (T.reading tree.new)) }

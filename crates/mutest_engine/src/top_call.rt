@@ -1,16 +1,16 @@
 //! The top call: from the words and the files that are held to what is written.
 
-ghost use Rattle.std.specs.Prelude.{◌≡◌, ◌⊎◌, ◌+◌, ◌<◌, ◌≤◌, ◌^◌, [], ◌∷◌, map, string_bytes, IfSome, IfOk, IfErr, OnOk, MatchResult, Some, Ok, Result};
-ghost use Rattle.mt_edge.specs.Pieces.{GrowsBy};
-ghost use Rattle.mutest_engine.specs.declared.refusal.Refusal.{Refusal};
+ghost use Rattle.std.specs.Prelude.{◌≡◌, ◌⊎◌, ◌<◌, ◌≤◌, ◌^◌, IfOk, IfErr, OnOk, Ok};
 ghost use Rattle.mutest_engine.specs.declared.status.Status.TheVariants.{WantOfMemory};
 ghost use Rattle.mutest_engine.specs.StatusText.{line_of};
-ghost use Rattle.mutest_engine.specs.Words.{list_class, run_suite, assemble_class, words_of, run_asked, asm_asked};
-ghost use Rattle.mutest_engine.specs.Decided.{CanAnswer, CanState, list_answer, report_answer, run_answer, asm_answer, answer_of, steps_of_run, steps_of};
-ghost use Rattle.mutest_engine.specs.Answers.{Answered, answered, write_of, MayRefuse};
-ghost use Rattle.mutest_engine.specs.Steps.{ReadsBy, RefusesReading, FailsReading};
-ghost use Rattle.mutest_engine.specs.Ends.{status_of, unwritten_status, CarriedOut, TextEnds, Agrees, AgreesUntold, AnswersUntold, HasCauses, MeterRose, MeterStays, HaltStays, AnswerMeters, IsToldAs};
-ghost use Rattle.mutest_engine.specs.Said.{Got, Prints, Allows, LeavesWrite, LeavesWrites, FailsWriting, all_written, written, writes_in, FilesAfter};
+ghost use Rattle.mutest_engine.specs.Words.{list_class, words_of, run_asked, asm_asked, asked_run, asked_asm};
+ghost use Rattle.mutest_engine.specs.Decided.{CanAnswer, list_answer, report_answer, run_answer, asm_answer, answer_of, steps_asked, steps_of};
+ghost use Rattle.mutest_engine.specs.Answers.{answered, one_write, writes_of, made, one, MayRefuse};
+ghost use Rattle.mutest_engine.specs.SuiteFiles.{texts};
+ghost use Rattle.mutest_engine.specs.Steps.{RefusesReading, FailsReading};
+ghost use Rattle.mutest_engine.specs.Ends.{status_of, unwritten_status, CarriedOut, TextEnds, AgreesUntold, AnswersUntold, AnswersHeld, MetersHeld, Finished, ReadsFailed, WritesFailed, PutsFailed, MeterStays, HaltStays};
+ghost use Rattle.mutest_engine.specs.Said.{Wrote, LeavesWrites, LeavesAll, FailsWriting, FilesAfter};
+ghost use Rattle.mutest_engine.specs.Promises.{Tells, PrintsIn, PrintsOf, PrintsHeld, PrintsUntold, AgreesHeld, LeavesOf, LeavesHeld, WritesLast, MeterHeld};
 
 use crate::answer::{Answer, Product, Write};
 use crate::assembling::class_file_of;
@@ -31,7 +31,7 @@ use std::alloc::Global;
 
 // The text that `list` prints for a file.
 fn list_answer<'a, T: Tree>(alloc: Global, tree: &mut T, path: &'a str) -> Result<Answer<'a>, Halt>
-    ensures value { IfSome (T.holds tree.old) (λ files. ReadsBy answered (list_answer path.now files) result) }
+    ensures value { AnswersHeld (T.holds tree.old) (list_answer path.now) result }
     ensures answer { IfOk result (λ a. CanAnswer (list_class path.now) (answered a)) }
     ensures refusal { IfErr result (RefusesReading (MayRefuse (list_class path.now))) }
     ensures faults { IfErr result (FailsReading (T.reading tree.old) (T.reading tree.new)) }
@@ -55,7 +55,7 @@ fn one_write<'a>(
     path: &'a str,
     bytes: Bytes,
 ) -> Result<Vec<Write<'a>>, Memory>
-    ensures { IfOk result (λ ws. map write_of ws.items ≡ record { product = product; path = path.now; bytes = bytes } ∷ []) }
+    ensures { IfOk result (λ ws. writes_of ws.items ≡ one_write product path.now bytes) }
 {
     let mut writes = Vec::new(alloc);
     writes.push(Write {
@@ -89,11 +89,11 @@ fn run_answer<'a, T: Tree>(
     meter: &mut Meter,
 ) -> Result<Answer<'a>, Halt>
     requires { meter.old < 2 ^ 63 }
-    ensures value { IfSome (T.holds tree.old) (λ files. ReadsBy answered (run_answer (run_asked options.entry) files) result) }
-    ensures answer { IfOk result (λ a. CanAnswer (run_suite (run_asked options.entry)) (answered a)) }
-    ensures refusal { IfErr result (RefusesReading (MayRefuse (run_suite (run_asked options.entry)))) }
+    ensures value { AnswersHeld (T.holds tree.old) (run_answer (run_asked options.entry)) result }
+    ensures answer { IfOk result (λ a. CanAnswer (asked_run options.entry) (answered a)) }
+    ensures refusal { IfErr result (RefusesReading (MayRefuse (asked_run options.entry))) }
     ensures faults { IfErr result (FailsReading (T.reading tree.old) (T.reading tree.new)) }
-    ensures meter { IfSome (T.holds tree.old) (λ files. AnswerMeters meter.old meter.new (steps_of_run (run_asked options.entry) files) result) }
+    ensures meter { MetersHeld (T.holds tree.old) meter.old meter.new (steps_asked options.entry) result }
     ensures stays { IfErr result (HaltStays meter.old meter.new) }
     ensures later { meter.old ≤ meter.new }
     ensures held { T.holds tree.new ≡ T.holds tree.old }
@@ -110,9 +110,9 @@ fn asm_answer<'a, T: Tree>(
     tree: &mut T,
     options: AsmOptions<'a>,
 ) -> Result<Answer<'a>, Halt>
-    ensures value { IfSome (T.holds tree.old) (λ files. ReadsBy answered (asm_answer (asm_asked options.entry) files) result) }
-    ensures answer { IfOk result (λ a. CanAnswer (assemble_class (asm_asked options.entry)) (answered a)) }
-    ensures refusal { IfErr result (RefusesReading (MayRefuse (assemble_class (asm_asked options.entry)))) }
+    ensures value { AnswersHeld (T.holds tree.old) (asm_answer (asm_asked options.entry)) result }
+    ensures answer { IfOk result (λ a. CanAnswer (asked_asm options.entry) (answered a)) }
+    ensures refusal { IfErr result (RefusesReading (MayRefuse (asked_asm options.entry))) }
     ensures faults { IfErr result (FailsReading (T.reading tree.old) (T.reading tree.new)) }
     ensures held { T.holds tree.new ≡ T.holds tree.old }
     ensures unwritten { T.writing tree.new ≡ T.writing tree.old }
@@ -134,10 +134,10 @@ fn answer_to<'a, T: Tree>(
     meter: &mut Meter,
 ) -> Result<Answer<'a>, Halt>
     requires { meter.old < 2 ^ 63 }
-    ensures value { IfSome (T.holds tree.old) (λ files. ReadsBy answered (answer_of (map string_bytes words.now.items) files) result) }
-    ensures untold { AnswersUntold (words_of (map string_bytes words.now.items)) result }
+    ensures value { AnswersHeld (T.holds tree.old) (answer_of (texts words.now)) result }
+    ensures untold { AnswersUntold (words_of (texts words.now)) result }
     ensures faults { IfErr result (FailsReading (T.reading tree.old) (T.reading tree.new)) }
-    ensures meter { IfSome (T.holds tree.old) (λ files. AnswerMeters meter.old meter.new (steps_of (map string_bytes words.now.items) files) result) }
+    ensures meter { MetersHeld (T.holds tree.old) meter.old meter.new (steps_of (texts words.now)) result }
     ensures stays { IfErr result (HaltStays meter.old meter.new) }
     ensures later { meter.old ≤ meter.new }
     ensures held { T.holds tree.new ≡ T.holds tree.old }
@@ -155,7 +155,7 @@ fn answer_to<'a, T: Tree>(
 // Puts the line that tells a status.
 fn tell<S: Sink>(alloc: Global, out: &mut S, status: Status) -> Status
     ensures same { (result ≡ status) ⊎ (result ≡ WantOfMemory) }
-    ensures printed { Got (S.faults out.old) (S.faults out.new) (S.written out.old) (S.written out.new) (line_of status) ⊎ ((result ≡ WantOfMemory) × GrowsBy (S.written out.old) (S.written out.new) (line_of status)) }
+    ensures printed { Tells S.faults S.written out.old out.new (line_of status) result }
     ensures faults { S.faults out.old ≤ S.faults out.new }
 {
     let Ok(text) = line(alloc, &status) else {
@@ -171,8 +171,8 @@ fn tell<S: Sink>(alloc: Global, out: &mut S, status: Status) -> Status
 // Puts the text of a command, if it has one.
 fn put_text<S: Sink>(alloc: Global, out: &mut S, answer: &Answer<'_>) -> Status
     ensures status { TextEnds answer.now.text result }
-    ensures faults { HasCauses 0 0 0 0 (S.faults out.old) (S.faults out.new) result }
-    ensures printed { Prints (S.faults out.old) (S.faults out.new) (S.written out.old) (S.written out.new) (Ok (answered answer.now)) result }
+    ensures faults { PutsFailed (S.faults out.old) (S.faults out.new) result }
+    ensures printed { PrintsIn S.faults S.written out.old out.new (Ok (answered answer.now)) result }
 {
     if answer.text.is_empty() {
         return Status::Done;
@@ -200,8 +200,8 @@ pub enum Unwritten {
 
 // Replaces a file.
 fn replace<T: Tree>(tree: &mut T, write: &Write<'_>) -> Result<(), Unwritten>
-    ensures done { OnOk result (T.holds tree.new ≡ written (write_of write.now) (T.holds tree.old)) }
-    ensures left { IfErr result (LeavesWrite (write_of write.now) (T.holds tree.old) (T.holds tree.new)) }
+    ensures done { OnOk result (Wrote (one write.now) (T.holds tree.old) (T.holds tree.new)) }
+    ensures left { IfErr result (LeavesWrites (one write.now) (T.holds tree.old) (T.holds tree.new)) }
     ensures faults { IfErr result (FailsWriting (T.writing tree.old) (T.writing tree.new)) }
     ensures later { T.writing tree.old ≤ T.writing tree.new }
     ensures unread { T.reading tree.new ≡ T.reading tree.old }
@@ -215,8 +215,8 @@ fn replace<T: Tree>(tree: &mut T, write: &Write<'_>) -> Result<(), Unwritten>
 
 // Replaces files, one after the other.
 fn replace_all<T: Tree>(tree: &mut T, writes: &[Write<'_>]) -> Result<(), Unwritten>
-    ensures done { OnOk result (T.holds tree.new ≡ all_written (map write_of writes.now) (T.holds tree.old)) }
-    ensures left { IfErr result (LeavesWrites (map write_of writes.now) (T.holds tree.old) (T.holds tree.new)) }
+    ensures done { OnOk result (Wrote (writes_of writes.now) (T.holds tree.old) (T.holds tree.new)) }
+    ensures left { IfErr result (LeavesAll writes.now (T.holds tree.old) (T.holds tree.new)) }
     ensures faults { IfErr result (FailsWriting (T.writing tree.old) (T.writing tree.new)) }
     ensures later { T.writing tree.old ≤ T.writing tree.new }
     ensures unread { T.reading tree.new ≡ T.reading tree.old }
@@ -248,9 +248,10 @@ fn carry_out<T: Tree, S: Sink>(
     answer: &Answer<'_>,
 ) -> Status
     ensures status { CarriedOut (answered answer.now) result }
-    ensures faults { HasCauses 0 0 (T.writing tree.old) (T.writing tree.new) (S.faults out.old) (S.faults out.new) result }
-    ensures printed { Prints (S.faults out.old) (S.faults out.new) (S.written out.old) (S.written out.new) (Ok (answered answer.now)) result }
-    ensures files { FilesAfter (answered answer.now).writes (T.holds tree.old) (T.holds tree.new) result }
+    ensures write_faults { WritesFailed (T.writing tree.old) (T.writing tree.new) result }
+    ensures put_faults { PutsFailed (S.faults out.old) (S.faults out.new) result }
+    ensures printed { PrintsIn S.faults S.written out.old out.new (Ok (answered answer.now)) result }
+    ensures files { FilesAfter (made answer.now) (T.holds tree.old) (T.holds tree.new) result }
     ensures unread { T.reading tree.new ≡ T.reading tree.old }
 {
     match replace_all(tree, answer.writes.as_slice()) {
@@ -277,10 +278,11 @@ fn finish<T: Tree, S: Sink>(
     out: &mut S,
     answer: Result<Answer<'_>, Halt>,
 ) -> Status
-    ensures status { MatchResult answer.entry (λ a. CarriedOut (answered a) result) (λ h. IsToldAs h result) }
-    ensures faults { IfOk answer.entry (λ a. HasCauses 0 0 (T.writing tree.old) (T.writing tree.new) (S.faults out.old) (S.faults out.new) result) }
-    ensures printed { MatchResult answer.entry (λ a. Prints (S.faults out.old) (S.faults out.new) (S.written out.old) (S.written out.new) (Ok (answered a)) result) (λ h. (stated : Result Answered Refusal) → Allows h stated → Prints (S.faults out.old) (S.faults out.new) (S.written out.old) (S.written out.new) stated result) }
-    ensures files { MatchResult answer.entry (λ a. FilesAfter (answered a).writes (T.holds tree.old) (T.holds tree.new) result) (λ h. T.holds tree.new ≡ T.holds tree.old) }
+    ensures status { Finished answer.entry result }
+    ensures write_faults { WritesFailed (T.writing tree.old) (T.writing tree.new) result }
+    ensures put_faults { PutsFailed (S.faults out.old) (S.faults out.new) result }
+    ensures printed { PrintsOf S.faults S.written out.old out.new answer.entry result }
+    ensures files { LeavesOf (T.holds tree.old) (T.holds tree.new) answer.entry result }
     ensures unread { T.reading tree.new ≡ T.reading tree.old }
 {
     match answer {
@@ -289,10 +291,10 @@ fn finish<T: Tree, S: Sink>(
     }
 }
 
-/// Does what the words behind the program's name say. `list FILE` puts the identifiers of the mutants of the class file FILE,
-/// one per line. `run --classes DIR --tests DIR --report FILE` runs each test of a suite on each of its mutants, replaces the
-/// report and puts the summary. `asm FILE --out FILE` replaces the second file by the class file that the text of the first
-/// states.
+/// Does what the words behind the program's name say. `list FILE` puts the identifiers of the mutants of
+/// the class file FILE, one per line. `run --classes DIR --tests DIR --report FILE` runs each test of a
+/// suite on each of its mutants, replaces the report and puts the summary. `asm FILE --out FILE` replaces
+/// the second file by the class file that the text of the first states.
 pub fn run<T: Tree, S: Sink>(
     alloc: Global,
     words: &Vec<String>,
@@ -301,21 +303,24 @@ pub fn run<T: Tree, S: Sink>(
     meter: &mut Meter,
 ) -> Status
     requires { meter.old < 2 ^ 63 }
-    // Where the tree tells its files, each status comes exactly where words and files say so, but for faults and want of memory.
-    ensures status { IfSome (T.holds tree.old) (λ files. Agrees (answer_of (map string_bytes words.now.items) files) result) }
+    // Where the tree tells its files, each status comes exactly where words and files say so, but for
+    // faults and want of memory.
+    ensures status { AgreesHeld (T.holds tree.old) (texts words.now) result }
     // Whatever the tree tells: what the words alone decide.
-    ensures status_untold { AgreesUntold (words_of (map string_bytes words.now.items)) result }
+    ensures status_untold { AgreesUntold (words_of (texts words.now)) result }
     // A fault comes only where the object's faults rose.
-    ensures faults { HasCauses (T.reading tree.old) (T.reading tree.new) (T.writing tree.old) (T.writing tree.new) (S.faults out.old) (S.faults out.new) result }
+    ensures read_faults { ReadsFailed (T.reading tree.old) (T.reading tree.new) result }
+    ensures write_faults { WritesFailed (T.writing tree.old) (T.writing tree.new) result }
+    ensures put_faults { PutsFailed (S.faults out.old) (S.faults out.new) result }
     // What the sink got.
-    ensures printed { IfSome (T.holds tree.old) (λ files. Prints (S.faults out.old) (S.faults out.new) (S.written out.old) (S.written out.new) (answer_of (map string_bytes words.now.items) files) result) }
-    ensures printed_untold { (stated : Result Answered Refusal) × CanState (words_of (map string_bytes words.now.items)) stated × Prints (S.faults out.old) (S.faults out.new) (S.written out.old) (S.written out.new) stated result }
+    ensures printed { PrintsHeld S.faults S.written out.old out.new (T.holds tree.old) (texts words.now) result }
+    ensures printed_untold { PrintsUntold S.faults S.written out.old out.new (texts words.now) result }
     // What the tree holds then.
-    ensures files { IfSome (T.holds tree.old) (λ files. FilesAfter (writes_in (answer_of (map string_bytes words.now.items) files)) (Some files) (T.holds tree.new) result) }
+    ensures files { LeavesHeld (T.holds tree.old) (T.holds tree.new) (texts words.now) result }
     // Nothing is written before the last run.
-    ensures last { IfSome (T.holds tree.old) (λ files. (T.holds tree.new ≡ Some files) ⊎ (meter.new ≡ meter.old + steps_of (map string_bytes words.now.items) files)) }
+    ensures last { WritesLast (T.holds tree.old) (T.holds tree.new) (texts words.now) meter.old meter.new }
     // The steps of the runs that were made.
-    ensures meter { IfSome (T.holds tree.old) (λ files. MeterRose meter.old meter.new (steps_of (map string_bytes words.now.items) files) result) }
+    ensures meter { MeterHeld (T.holds tree.old) (texts words.now) meter.old meter.new result }
     // Whatever the tree tells: none before the first run.
     ensures meter_untold { MeterStays meter.old meter.new result }
 {

@@ -1,13 +1,11 @@
 //! The top call once more, for the wrong bodies in `must-fail/`: each puts another body in the place of this one, which
 //! the same contract refuses.
 
-ghost use Rattle.std.specs.Prelude.{◌≡◌, ◌⊎◌, ◌+◌, ◌<◌, ◌^◌, map, string_bytes, IfSome, Some, Result};
-ghost use Rattle.mutest_engine.specs.declared.refusal.Refusal.{Refusal};
+ghost use Rattle.std.specs.Prelude.{◌<◌, ◌^◌};
 ghost use Rattle.mutest_engine.specs.Words.{words_of};
-ghost use Rattle.mutest_engine.specs.Decided.{CanState, answer_of, steps_of};
-ghost use Rattle.mutest_engine.specs.Answers.{Answered};
-ghost use Rattle.mutest_engine.specs.Ends.{Agrees, AgreesUntold, HasCauses, MeterRose, MeterStays};
-ghost use Rattle.mutest_engine.specs.Said.{Prints, writes_in, FilesAfter};
+ghost use Rattle.mutest_engine.specs.SuiteFiles.{texts};
+ghost use Rattle.mutest_engine.specs.Ends.{AgreesUntold, ReadsFailed, WritesFailed, PutsFailed, MeterStays};
+ghost use Rattle.mutest_engine.specs.Promises.{PrintsHeld, PrintsUntold, AgreesHeld, LeavesHeld, WritesLast, MeterHeld};
 
 use mt_edge::{Meter, Sink, Tree};
 use mutest_engine::{Status, run};
@@ -22,21 +20,24 @@ pub fn called<T: Tree, S: Sink>(
     meter: &mut Meter,
 ) -> Status
     requires { meter.old < 2 ^ 63 }
-    // Where the tree tells its files, each status comes exactly where words and files say so, but for faults and want of memory.
-    ensures status { IfSome (T.holds tree.old) (λ files. Agrees (answer_of (map string_bytes words.now.items) files) result) }
+    // Where the tree tells its files, each status comes exactly where words and files say so, but for
+    // faults and want of memory.
+    ensures status { AgreesHeld (T.holds tree.old) (texts words.now) result }
     // Whatever the tree tells: what the words alone decide.
-    ensures status_untold { AgreesUntold (words_of (map string_bytes words.now.items)) result }
+    ensures status_untold { AgreesUntold (words_of (texts words.now)) result }
     // A fault comes only where the object's faults rose.
-    ensures faults { HasCauses (T.reading tree.old) (T.reading tree.new) (T.writing tree.old) (T.writing tree.new) (S.faults out.old) (S.faults out.new) result }
+    ensures read_faults { ReadsFailed (T.reading tree.old) (T.reading tree.new) result }
+    ensures write_faults { WritesFailed (T.writing tree.old) (T.writing tree.new) result }
+    ensures put_faults { PutsFailed (S.faults out.old) (S.faults out.new) result }
     // What the sink got.
-    ensures printed { IfSome (T.holds tree.old) (λ files. Prints (S.faults out.old) (S.faults out.new) (S.written out.old) (S.written out.new) (answer_of (map string_bytes words.now.items) files) result) }
-    ensures printed_untold { (stated : Result Answered Refusal) × CanState (words_of (map string_bytes words.now.items)) stated × Prints (S.faults out.old) (S.faults out.new) (S.written out.old) (S.written out.new) stated result }
+    ensures printed { PrintsHeld S.faults S.written out.old out.new (T.holds tree.old) (texts words.now) result }
+    ensures printed_untold { PrintsUntold S.faults S.written out.old out.new (texts words.now) result }
     // What the tree holds then.
-    ensures files { IfSome (T.holds tree.old) (λ files. FilesAfter (writes_in (answer_of (map string_bytes words.now.items) files)) (Some files) (T.holds tree.new) result) }
+    ensures files { LeavesHeld (T.holds tree.old) (T.holds tree.new) (texts words.now) result }
     // Nothing is written before the last run.
-    ensures last { IfSome (T.holds tree.old) (λ files. (T.holds tree.new ≡ Some files) ⊎ (meter.new ≡ meter.old + steps_of (map string_bytes words.now.items) files)) }
+    ensures last { WritesLast (T.holds tree.old) (T.holds tree.new) (texts words.now) meter.old meter.new }
     // The steps of the runs that were made.
-    ensures meter { IfSome (T.holds tree.old) (λ files. MeterRose meter.old meter.new (steps_of (map string_bytes words.now.items) files) result) }
+    ensures meter { MeterHeld (T.holds tree.old) (texts words.now) meter.old meter.new result }
     // Whatever the tree tells: none before the first run.
     ensures meter_untold { MeterStays meter.old meter.new result }
 {

@@ -5,7 +5,7 @@ use Rattle.mutest_engine.specs.StatusText.{line_of}
 use Rattle.mutest_engine.specs.declared.answer.Write.{Write as Written}
 use Rattle.mutest_engine.specs.declared.status.Status.{Status}
 use Rattle.mutest_engine.specs.declared.status.Status.TheVariants.{WantOfMemory}
-use Rattle.mutest_engine.proofs.Ends.{Told, text_files, unwritten_prints, unwritten_ends, unwritten_files}
+use Rattle.mutest_engine.proofs.Ends.{Told, text_files, text_writes, unwritten_causes, unwritten_puts, unwritten_prints, unwritten_ends, unwritten_files}
 use Rattle.mutest_engine.proofs.top_call.carry_out.Goals as goal
 
 pub returns-in-Ok-clause-files : goal.returns-in-Ok-clause-files
@@ -44,3 +44,16 @@ returns-in-Err-clause-printed g c =
     let same = subst (λ (s : Status). (c.tell.result ≡ s) ⊎ (c.tell.result ≡ WantOfMemory)) c.unwritten_status.ensures c.tell.ensures.same in
     let told = subst (λ (s : Status). Told f0 f1 w0 w1 (line_of s) c.tell.result) c.unwritten_status.ensures c.tell.ensures.printed in
     unwritten_prints f0 f1 w0 w1 (answered c.args.answer.now) old new u c.tell.result left same told
+
+pub returns-in-Ok-clause-write_faults : goal.returns-in-Ok-clause-write_faults
+returns-in-Ok-clause-write_faults g c = text_writes (g.T.Tree.writing c.args.tree.now) (g.T.Tree.writing c.replace_all.new.tree) c.args.answer.now.text c.put_text.result c.put_text.ensures.status
+
+pub returns-in-Err-clause-write_faults : goal.returns-in-Err-clause-write_faults
+returns-in-Err-clause-write_faults g c =
+    let same = subst (λ (s : Status). (c.tell.result ≡ s) ⊎ (c.tell.result ≡ WantOfMemory)) c.unwritten_status.ensures c.tell.ensures.same in
+    unwritten_causes (g.T.Tree.writing c.args.tree.now) (g.T.Tree.writing c.replace_all.new.tree) c.in-Err.unwritten c.tell.result c.in-Err.ensures.faults same
+
+pub returns-in-Err-clause-put_faults : goal.returns-in-Err-clause-put_faults
+returns-in-Err-clause-put_faults g c =
+    let same = subst (λ (s : Status). (c.tell.result ≡ s) ⊎ (c.tell.result ≡ WantOfMemory)) c.unwritten_status.ensures c.tell.ensures.same in
+    unwritten_puts (g.S.Sink.faults c.args.out.now) (g.S.Sink.faults c.tell.new.out) c.in-Err.unwritten c.tell.result same

@@ -1,4 +1,5 @@
-use Rattle.std.proofs.Common.{map}
+use Rattle.std.proofs.Common.{map, ℕ, sym, subst}
+use Rattle.mutest_engine.specs.Ends.{ReadsFailed}
 use Rattle.std.specs.Prelude.{string_bytes, Result}
 use Rattle.mt_edge.specs.Files.{Files}
 use Rattle.mutest_engine.specs.declared.refusal.Refusal.{Refusal}
@@ -6,7 +7,7 @@ use Rattle.mutest_engine.specs.Answers.{Answered}
 use Rattle.mutest_engine.specs.Decided.{answer_of, steps_of}
 use Rattle.mutest_engine.specs.Said.{Prints}
 use Rattle.mutest_engine.specs.Words.{words_of}
-use Rattle.mutest_engine.proofs.Ends.{agrees_by, untold_by, prints_by, states_by, rose_by, stays_by}
+use Rattle.mutest_engine.proofs.Ends.{agrees_by, untold_by, reads_by, prints_by, states_by, rose_by, stays_by}
 use Rattle.mutest_engine.proofs.top_call.run.Goals as goal
 
 pub returns-clause-status : goal.returns-clause-status
@@ -15,6 +16,12 @@ returns-clause-status g c =
 
 pub returns-clause-status_untold : goal.returns-clause-status_untold
 returns-clause-status_untold g c = untold_by (words_of (map string_bytes c.args.words.now.items)) c.answer_to-answer.result c.finish.result c.answer_to-answer.ensures.untold c.finish.ensures.status
+
+pub returns-clause-read_faults : goal.returns-clause-read_faults
+returns-clause-read_faults g c =
+    let r = g.T.Tree.reading in
+    subst (λ (n : ℕ). ReadsFailed (r c.args.tree.now) n c.finish.result) (sym c.finish.ensures.unread)
+    (reads_by (r c.args.tree.now) (r c.answer_to-answer.new.tree) c.answer_to-answer.result c.finish.result c.answer_to-answer.ensures.faults c.finish.ensures.status)
 
 pub returns-clause-printed : goal.returns-clause-printed
 returns-clause-printed g c =
