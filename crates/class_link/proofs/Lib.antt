@@ -2,3 +2,4 @@ pub mod AppendedLaws
 pub mod FormLaws
 pub mod Resolved
 pub mod LineLaws
+pub mod StatedLaws

@@ -2,6 +2,7 @@
 
 ghost use Rattle.class_link.specs.Appended.{AppendedMeanTheSame};
 ghost use Rattle.class_link.specs.Forms.{FormsMeanTheSame};
+ghost use Rattle.class_link.specs.Stated.{LinkedHaveStatedKinds};
 
 /// Another form of an instruction, as `iload_1`, `iload 1` and `wide iload 1`, means the same.
 #[tactic(auto, using(crate::proofs::FormLaws::forms_mean_the_same))]
@@ -14,4 +15,11 @@ pub fn forms_mean_the_same()
 #[tactic(auto, using(crate::proofs::AppendedLaws::appended_mean_the_same))]
 pub fn appended_mean_the_same()
     ensures { AppendedMeanTheSame }
+{}
+
+/// What is linked has the kinds that its descriptors state: so where a call and a method, or a use
+/// and a field, have one descriptor, they have the same kinds.
+#[tactic(auto, using(crate::proofs::StatedLaws::linked_have_stated_kinds))]
+pub fn linked_have_stated_kinds()
+    ensures { LinkedHaveStatedKinds }
 {}

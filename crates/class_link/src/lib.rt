@@ -17,7 +17,7 @@ mod opcodes;
 pub use frames::{FrameShape, StatedFrame, VType};
 pub use info::ClassInfo;
 pub use instruction::Instruction;
-pub use laws::{appended_mean_the_same, forms_mean_the_same};
+pub use laws::{appended_mean_the_same, forms_mean_the_same, linked_have_stated_kinds};
 pub use line_table::LineTable;
 pub use linked::{
     Entry, FieldConstant, FieldRef, LinkedBody, LinkedClass, LinkedCode, LinkedField, LinkedLine,
