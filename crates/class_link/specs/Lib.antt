@@ -9,3 +9,4 @@ pub mod Info
 pub mod Framed
 pub mod Spelled
 pub mod Lines
+pub mod Texts
