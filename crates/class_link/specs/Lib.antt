@@ -9,4 +9,5 @@ pub mod Info
 pub mod Framed
 pub mod Spelled
 pub mod Lines
+pub mod Texts
 pub mod Stated

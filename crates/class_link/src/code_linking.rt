@@ -9,13 +9,13 @@ ghost use Rattle.class_link.specs.Switches.{switch_in, switches_in, AreEntries};
 ghost use Rattle.class_link.specs.declared.linked.Switch as switch;
 ghost use Rattle.class_link.specs.View.{meaning_at, instruction_of, row_of, line_of, code_of};
 
-use crate::entries::class_or_none;
 use crate::frames::link_frames;
 use crate::instruction::Instruction;
 use crate::line_table::LineTable;
 use crate::linked::{Entry, LinkedCode, LinkedLine, LinkedRow, Switch};
 use crate::opcodes;
-use class_model::{Arg, Attr, Body, Code, Const, Insn, Memory, Row, Seq};
+use crate::texts::Texts;
+use class_model::{Arg, Attr, Body, Code, Insn, Memory, Row, Seq};
 use std::alloc::Global;
 
 // Adds the switch that an instruction is, if it is one.
@@ -103,23 +103,23 @@ fn link_insns(
     Ok(Seq::from_vec(instructions))
 }
 
-fn link_row(alloc: Global, pool: &[Const], row: &Row) -> Result<LinkedRow, Memory>
-    ensures { IfOk result (λ r. row_of r ≡ linking.row_in pool.now row.now) }
+fn link_row(texts: &Texts, row: &Row) -> Result<LinkedRow, Memory>
+    ensures { IfOk result (λ r. row_of r ≡ linking.row_in texts.now row.now) }
 {
     Ok(LinkedRow {
         start: row.start,
         end: row.end,
         handler: row.handler,
-        catch: class_or_none(alloc, pool, row.catch)?,
+        catch: texts.class_or_none(row.catch)?,
     })
 }
 
-fn link_rows(alloc: Global, pool: &[Const], rows: &[Row]) -> Result<Seq<LinkedRow>, Memory>
-    ensures { IfOk result (λ rs. map row_of rs ≡ map (linking.row_in pool.now) rows.now) }
+fn link_rows(alloc: Global, texts: &Texts, rows: &[Row]) -> Result<Seq<LinkedRow>, Memory>
+    ensures { IfOk result (λ rs. map row_of rs ≡ map (linking.row_in texts.now) rows.now) }
 {
     let mut linked = Vec::with_capacity(alloc, rows.len())?;
     for row in rows {
-        linked.push(link_row(alloc, pool, row)?)?;
+        linked.push(link_row(texts, row)?)?;
     }
     Ok(Seq::from_vec(linked))
 }
@@ -164,11 +164,11 @@ fn link_lines(alloc: Global, attrs: &[Attr]) -> Result<Seq<LinkedLine>, Memory>
 pub fn link_code(
     alloc: Global,
     entries: &[Entry],
-    pool: &[Const],
+    texts: &Texts,
     code: &Code,
 ) -> Result<LinkedCode, Memory>
-    requires { AreEntries entries.now pool.now }
-    ensures { IfOk result (λ c. code_of entries.now c ≡ linking.code_in pool.now code.now) }
+    requires { AreEntries entries.now texts.now }
+    ensures { IfOk result (λ c. code_of entries.now c ≡ linking.code_in texts.now code.now) }
 {
     let switches = switches_in(alloc, code.insns.as_slice())?;
     let instructions = link_insns(alloc, entries, switches.as_slice(), code.insns.as_slice())?;
@@ -179,8 +179,8 @@ pub fn link_code(
         max_locals: code.max_locals,
         instructions,
         switches,
-        rows: link_rows(alloc, pool, code.rows.as_slice())?,
+        rows: link_rows(alloc, texts, code.rows.as_slice())?,
         lines,
-        frames: link_frames(alloc, pool, code.attrs.as_slice())?,
+        frames: link_frames(alloc, texts, code.attrs.as_slice())?,
     })
 }

@@ -1,14 +1,16 @@
 //! A class of a program.
 
 ghost use Rattle.std.specs.Prelude.{◌≡◌, ◌<◌, ◌^◌, length, IfOk};
+ghost use Rattle.std.specs.Option.{option_copied};
+ghost use Rattle.class_model.specs.Pool.{text_of, class_name_of};
 ghost use Rattle.class_link.specs.View.{linked_of};
 ghost use Rattle.class_link.specs.Info.{own_name, body_name, link_body, class_of};
 
-use crate::entries::class_named;
 use crate::linked::LinkedClass;
 use crate::linking::{link, link_library};
 use crate::loaded::ClassBody;
-use class_model::{Class, Memory, Name};
+use crate::texts::entry;
+use class_model::{Class, Const, Memory, Name, Seq};
 use std::alloc::Global;
 use std::marker::Model;
 
@@ -71,11 +73,33 @@ impl ClassInfo {
     }
 }
 
+// The text of an index, if there is one.
+fn text_at(pool: &[Const], index: u16) -> Option<&Name>
+    ensures { option_copied result ≡ text_of pool.now index }
+{
+    match entry(pool, index)? {
+        Const::Utf8(text) => Some(text),
+        _ => None,
+    }
+}
+
+fn class_name_at(pool: &[Const], index: u16) -> Option<&Name>
+    ensures { option_copied result ≡ class_name_of pool.now index }
+{
+    match entry(pool, index)? {
+        Const::Class(name) => text_at(pool, *name),
+        _ => None,
+    }
+}
+
 // The name that a class file gives to its class.
 fn own_name(alloc: Global, class: &Class) -> Result<Name, Memory>
     ensures { IfOk result (λ name. name ≡ own_name class.now) }
 {
-    Ok(class_named(alloc, class.pool.as_slice(), class.this)?)
+    match class_name_at(class.pool.as_slice(), class.this) {
+        Some(name) => Ok(name.copy()?),
+        None => Ok(Seq::new(alloc)),
+    }
 }
 
 fn body_name(alloc: Global, body: &ClassBody) -> Result<Name, Memory>

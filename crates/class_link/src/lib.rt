@@ -13,6 +13,8 @@ mod linked;
 mod linking;
 mod loaded;
 mod opcodes;
+mod shared;
+mod texts;
 
 pub use frames::{FrameShape, StatedFrame, VType};
 pub use info::ClassInfo;
@@ -24,4 +26,5 @@ pub use linked::{
     LinkedMethod, LinkedRow, MethodRef, Native, Switch,
 };
 pub use loaded::{ClassBody, LibBody, LibClass, LibField, LibMethod, Loaded};
+pub use shared::Shared;
 pub use program_rules::{CallKind, Comparison, Conversion, Element, Operation, ShiftKind};

@@ -1,4 +1,5 @@
-//! A class with names in place of indices of its constant pool (JVMS 4.1, 4.5 to 4.7).
+//! A class with names in place of indices of its constant pool (JVMS 4.1, 4.5 to 4.7). Each text is
+//! kept once, and so is what it states as a descriptor.
 
 ghost use Rattle.std.specs.Prelude.{◌≡◌, ◌<◌, List, map, length, Some, None, IfSome, IfNone};
 ghost use Rattle.std.specs.Option.{option_copied};
@@ -9,27 +10,28 @@ ghost use Rattle.class_link.specs.declared.linked.Entry as entry;
 use crate::frames::StatedFrame;
 use crate::instruction::Instruction;
 use crate::line_table::LineTable;
+use crate::shared::Shared;
 use class_model::{Kind, Name, Seq};
 
 /// A method that is named, with what its descriptor states (JVMS 4.3.3, 4.4.2). A result of `None`
 /// is void. `interface` is set where the entry names a method of an interface.
 #[derive(Drop)]
 pub struct MethodRef {
-    pub class: Name,
-    pub name: Name,
-    pub desc: Name,
-    pub args: Seq<Kind>,
-    pub result: Option<Kind>,
+    pub class: Shared<Name>,
+    pub name: Shared<Name>,
+    pub desc: Shared<Name>,
+    pub args: Shared<Seq<Kind>>,
+    pub result: Shared<Option<Kind>>,
     pub interface: bool,
 }
 
 /// A field that is named, with the kind that its descriptor states (JVMS 4.3.2, 4.4.2).
 #[derive(Drop)]
 pub struct FieldRef {
-    pub class: Name,
-    pub name: Name,
-    pub desc: Name,
-    pub kind: Kind,
+    pub class: Shared<Name>,
+    pub name: Shared<Name>,
+    pub desc: Shared<Name>,
+    pub kind: Shared<Kind>,
 }
 
 /// An entry of the run-time constant pool (JVMS 5.1): what an index means to an instruction.
@@ -39,8 +41,8 @@ pub enum Entry {
     Other,
     Integer(i32),
     Long(i64),
-    Text(Name),
-    Class(Name),
+    Text(Shared<Name>),
+    Class(Shared<Name>),
     Field(FieldRef),
     Method(MethodRef),
 }
@@ -61,7 +63,7 @@ pub struct LinkedRow {
     pub start: u32,
     pub end: u32,
     pub handler: u32,
-    pub catch: Option<Name>,
+    pub catch: Option<Shared<Name>>,
 }
 
 /// A row of a LineNumberTable (JVMS 4.7.12).
@@ -106,10 +108,10 @@ pub enum LinkedBody {
 #[derive(Drop)]
 pub struct LinkedMethod {
     pub flags: u16,
-    pub name: Name,
-    pub desc: Name,
-    pub args: Seq<Kind>,
-    pub result: Option<Kind>,
+    pub name: Shared<Name>,
+    pub desc: Shared<Name>,
+    pub args: Shared<Seq<Kind>>,
+    pub result: Shared<Option<Kind>>,
     pub body: LinkedBody,
 }
 
@@ -118,15 +120,15 @@ pub struct LinkedMethod {
 pub enum FieldConstant {
     Int(i32),
     Long(i64),
-    Text(Name),
+    Text(Shared<Name>),
 }
 
 #[derive(Drop)]
 pub struct LinkedField {
     pub flags: u16,
-    pub name: Name,
-    pub desc: Name,
-    pub kind: Kind,
+    pub name: Shared<Name>,
+    pub desc: Shared<Name>,
+    pub kind: Shared<Kind>,
     pub constant: Option<FieldConstant>,
 }
 
@@ -136,8 +138,8 @@ pub struct LinkedField {
 pub struct LinkedClass {
     pub library: bool,
     pub flags: u16,
-    pub parent: Option<Name>,
-    pub interfaces: Seq<Name>,
+    pub parent: Option<Shared<Name>>,
+    pub interfaces: Seq<Shared<Name>>,
     pub fields: Seq<LinkedField>,
     pub methods: Seq<LinkedMethod>,
     /// The run-time constant pool by the indices of the class file. At place 0, which is no index,
@@ -173,7 +175,7 @@ fn place_of(methods: &[LinkedMethod], name: &Name, desc: &Name) -> Option<usize>
     ensures absent { IfNone result ((es : List entry.Entry) → method_place name.now desc.now (map (method_of es) methods.now) ≡ None) }
 {
     for (place, method) in methods.iter().enumerate() {
-        if method.name == *name && method.desc == *desc {
+        if *method.name == *name && *method.desc == *desc {
             return Some(place);
         }
     }

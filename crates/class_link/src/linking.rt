@@ -7,17 +7,18 @@ ghost use Rattle.class_model.specs.Pool.{entry_of};
 ghost use Rattle.class_link.specs.Symbols.{class_named};
 ghost use Rattle.class_link.specs.Linking as linking;
 ghost use Rattle.class_link.specs.Switches.{AreEntries};
+ghost use Rattle.class_link.specs.Texts.{stated};
 ghost use Rattle.class_link.specs.declared.linked.Entry as entry;
 ghost use Rattle.class_link.specs.View.{body_of, method_of, field_of, constant_of, linked_of, native_meaning};
 
 use crate::code_linking::link_code;
-use crate::entries::{
-    class_named, class_or_none, entries, entry, kind_stated, text_named, type_stated,
-};
+use crate::entries::entries;
 use crate::linked::{
     Entry, FieldConstant, LinkedBody, LinkedClass, LinkedField, LinkedMethod, Native,
 };
 use crate::loaded::{LibBody, LibClass, LibField, LibMethod};
+use crate::shared::Shared;
+use crate::texts::{Text, Texts};
 use class_model::{Attr, Body, Class, Code, Const, Member, Memory, Name, Seq};
 use std::alloc::Global;
 
@@ -44,67 +45,62 @@ fn first_code(attrs: &[Attr]) -> Option<&Code>
     None
 }
 
-fn constant_in(alloc: Global, pool: &[Const], index: u16) -> Result<Option<FieldConstant>, Memory>
-    ensures { IfOk result (λ k. option_map constant_of k ≡ linking.constant_of pool.now (entry_of pool.now index)) }
+fn constant_in(texts: &Texts, index: u16) -> Result<Option<FieldConstant>, Memory>
+    ensures { IfOk result (λ k. option_map constant_of k ≡ linking.constant_of texts.now (entry_of texts.now index)) }
 {
-    let Some(constant) = entry(pool, index) else {
+    let Some(constant) = texts.entry(index) else {
         return Ok(None);
     };
     match constant {
         Const::Integer(number) => Ok(Some(FieldConstant::Int(*number))),
         Const::Long(number) => Ok(Some(FieldConstant::Long(*number))),
-        Const::Text(text) => Ok(Some(FieldConstant::Text(text_named(alloc, pool, *text)?))),
+        Const::Text(text) => Ok(Some(FieldConstant::Text(texts.text(*text).name.share()?))),
         _ => Ok(None),
     }
 }
 
-fn field_constant(
-    alloc: Global,
-    pool: &[Const],
-    attrs: &[Attr],
-) -> Result<Option<FieldConstant>, Memory>
-    ensures { IfOk result (λ k. option_map constant_of k ≡ option_and_then (λ index. linking.constant_of pool.now (entry_of pool.now index)) (linking.first_of linking.value_of attrs.now)) }
+fn field_constant(texts: &Texts, attrs: &[Attr]) -> Result<Option<FieldConstant>, Memory>
+    ensures { IfOk result (λ k. option_map constant_of k ≡ option_and_then (λ index. linking.constant_of texts.now (entry_of texts.now index)) (linking.first_of linking.value_of attrs.now)) }
 {
     match constant_index(attrs) {
-        Some(index) => Ok(constant_in(alloc, pool, index)?),
+        Some(index) => Ok(constant_in(texts, index)?),
         None => Ok(None),
     }
 }
 
 fn field_with(
-    alloc: Global,
     flags: u16,
-    name: Name,
-    desc: Name,
+    name: &Text,
+    desc: &Text,
     constant: Option<FieldConstant>,
 ) -> Result<LinkedField, Memory>
-    ensures { IfOk result (λ f. field_of f ≡ linking.field_with flags name desc (option_map constant_of constant)) }
+    requires { desc.now ≡ stated desc.now.name }
+    ensures { IfOk result (λ f. field_of f ≡ linking.field_with flags name.now.name desc.now.name (option_map constant_of constant)) }
 {
-    let kind = kind_stated(alloc, &desc)?;
     Ok(LinkedField {
         flags,
-        name,
-        desc,
-        kind,
+        name: name.name.share()?,
+        desc: desc.name.share()?,
+        kind: desc.kind.share()?,
         constant,
     })
 }
 
-fn link_field(alloc: Global, pool: &[Const], field: &Member) -> Result<LinkedField, Memory>
-    ensures { IfOk result (λ f. field_of f ≡ linking.field_in pool.now field.now) }
+fn link_field(texts: &Texts, field: &Member) -> Result<LinkedField, Memory>
+    ensures { IfOk result (λ f. field_of f ≡ linking.field_in texts.now field.now) }
 {
-    let name = text_named(alloc, pool, field.name)?;
-    let desc = text_named(alloc, pool, field.desc)?;
-    let constant = field_constant(alloc, pool, field.attrs.as_slice())?;
-    Ok(field_with(alloc, field.flags, name, desc, constant)?)
+    let constant = field_constant(texts, field.attrs.as_slice())?;
+    let name = texts.text(field.name);
+    let desc = texts.text(field.desc);
+    Ok(field_with(field.flags, name, desc, constant)?)
 }
 
-fn link_fields(alloc: Global, pool: &[Const], fields: &[Member]) -> Result<Seq<LinkedField>, Memory>
-    ensures { IfOk result (λ fs. map field_of fs ≡ map (linking.field_in pool.now) fields.now) }
+fn link_fields(alloc: Global, texts: &Texts, fields: &[Member]) -> Result<Seq<LinkedField>, Memory>
+    ensures { IfOk result (λ fs. map field_of fs ≡ map (linking.field_in texts.now) fields.now) }
 {
     let mut linked = Vec::with_capacity(alloc, fields.len())?;
     for field in fields {
-        linked.push(link_field(alloc, pool, field)?)?;
+        linked.push(link_field(texts, field)?)?;
     }
     Ok(Seq::from_vec(linked))
 }
@@ -112,34 +108,33 @@ fn link_fields(alloc: Global, pool: &[Const], fields: &[Member]) -> Result<Seq<L
 fn link_body(
     alloc: Global,
     entries: &[Entry],
-    pool: &[Const],
+    texts: &Texts,
     attrs: &[Attr],
 ) -> Result<LinkedBody, Memory>
-    requires { AreEntries entries.now pool.now }
-    ensures { IfOk result (λ b. body_of entries.now b ≡ linking.body_of pool.now (linking.first_of linking.code_within attrs.now)) }
+    requires { AreEntries entries.now texts.now }
+    ensures { IfOk result (λ b. body_of entries.now b ≡ linking.body_of texts.now (linking.first_of linking.code_within attrs.now)) }
 {
     match first_code(attrs) {
-        Some(code) => Ok(LinkedBody::Code(link_code(alloc, entries, pool, code)?)),
+        Some(code) => Ok(LinkedBody::Code(link_code(alloc, entries, texts, code)?)),
         None => Ok(LinkedBody::Absent),
     }
 }
 
 fn method_with(
-    alloc: Global,
     flags: u16,
-    name: Name,
-    desc: Name,
+    name: &Text,
+    desc: &Text,
     body: LinkedBody,
 ) -> Result<LinkedMethod, Memory>
-    ensures { IfOk result (λ m. (es : List entry.Entry) → method_of es m ≡ linking.method_with flags name desc (body_of es body)) }
+    requires { desc.now ≡ stated desc.now.name }
+    ensures { IfOk result (λ m. (es : List entry.Entry) → method_of es m ≡ linking.method_with flags name.now.name desc.now.name (body_of es body)) }
 {
-    let types = type_stated(alloc, &desc)?;
     Ok(LinkedMethod {
         flags,
-        name,
-        desc,
-        args: types.args,
-        result: types.ret,
+        name: name.name.share()?,
+        desc: desc.name.share()?,
+        args: desc.args.share()?,
+        result: desc.result.share()?,
         body,
     })
 }
@@ -147,40 +142,44 @@ fn method_with(
 fn link_method(
     alloc: Global,
     entries: &[Entry],
-    pool: &[Const],
+    texts: &Texts,
     method: &Member,
 ) -> Result<LinkedMethod, Memory>
-    requires { AreEntries entries.now pool.now }
-    ensures { IfOk result (λ m. method_of entries.now m ≡ linking.method_in pool.now method.now) }
+    requires { AreEntries entries.now texts.now }
+    ensures { IfOk result (λ m. method_of entries.now m ≡ linking.method_in texts.now method.now) }
 {
-    let name = text_named(alloc, pool, method.name)?;
-    let desc = text_named(alloc, pool, method.desc)?;
-    let body = link_body(alloc, entries, pool, method.attrs.as_slice())?;
-    Ok(method_with(alloc, method.flags, name, desc, body)?)
+    let body = link_body(alloc, entries, texts, method.attrs.as_slice())?;
+    let name = texts.text(method.name);
+    let desc = texts.text(method.desc);
+    Ok(method_with(method.flags, name, desc, body)?)
 }
 
 fn link_methods(
     alloc: Global,
     entries: &[Entry],
-    pool: &[Const],
+    texts: &Texts,
     methods: &[Member],
 ) -> Result<Seq<LinkedMethod>, Memory>
-    requires { AreEntries entries.now pool.now }
-    ensures { IfOk result (λ ms. map (method_of entries.now) ms ≡ map (linking.method_in pool.now) methods.now) }
+    requires { AreEntries entries.now texts.now }
+    ensures { IfOk result (λ ms. map (method_of entries.now) ms ≡ map (linking.method_in texts.now) methods.now) }
 {
     let mut linked = Vec::with_capacity(alloc, methods.len())?;
     for method in methods {
-        linked.push(link_method(alloc, entries, pool, method)?)?;
+        linked.push(link_method(alloc, entries, texts, method)?)?;
     }
     Ok(Seq::from_vec(linked))
 }
 
-fn class_names(alloc: Global, pool: &[Const], indices: &[u16]) -> Result<Seq<Name>, Memory>
-    ensures { IfOk result (λ ns. ns ≡ map (class_named pool.now) indices.now) }
+fn class_names(
+    alloc: Global,
+    texts: &Texts,
+    indices: &[u16],
+) -> Result<Seq<Shared<Name>>, Memory>
+    ensures { IfOk result (λ ns. ns ≡ map (class_named texts.now) indices.now) }
 {
     let mut names = Vec::with_capacity(alloc, indices.len())?;
     for index in indices {
-        names.push(class_named(alloc, pool, *index)?)?;
+        names.push(texts.class(*index).name.share()?)?;
     }
     Ok(Seq::from_vec(names))
 }
@@ -191,14 +190,20 @@ pub fn link(alloc: Global, class: &Class) -> Result<LinkedClass, Memory>
     ensures { IfOk result (λ c. linked_of c ≡ linking.link class.now) }
 {
     let pool = class.pool.as_slice();
-    let entries = entries(alloc, pool)?;
-    let methods = link_methods(alloc, entries.as_slice(), pool, class.methods.as_slice())?;
+    let texts = Texts::new(alloc, pool)?;
+    let entries = entries(alloc, &texts, pool)?;
+    let methods = link_methods(
+        alloc,
+        entries.as_slice(),
+        &texts,
+        class.methods.as_slice(),
+    )?;
     Ok(LinkedClass {
         library: false,
         flags: class.flags,
-        parent: class_or_none(alloc, pool, class.parent)?,
-        interfaces: class_names(alloc, pool, class.interfaces.as_slice())?,
-        fields: link_fields(alloc, pool, class.fields.as_slice())?,
+        parent: texts.class_or_none(class.parent)?,
+        interfaces: class_names(alloc, &texts, class.interfaces.as_slice())?,
+        fields: link_fields(alloc, &texts, class.fields.as_slice())?,
         methods,
         entries,
     })
@@ -242,13 +247,9 @@ fn library_method(alloc: Global, method: &LibMethod) -> Result<LinkedMethod, Mem
     ensures { IfOk result (λ m. (es : List entry.Entry) → method_of es m ≡ linking.library_method method.now) }
 {
     let body = library_body(&method.body)?;
-    Ok(method_with(
-        alloc,
-        method.flags,
-        method.name.copy()?,
-        method.desc.copy()?,
-        body,
-    )?)
+    let name = Text::new(alloc, method.name.copy()?)?;
+    let desc = Text::new(alloc, method.desc.copy()?)?;
+    Ok(method_with(method.flags, &name, &desc, body)?)
 }
 
 fn library_methods(alloc: Global, methods: &[LibMethod]) -> Result<Seq<LinkedMethod>, Memory>
@@ -264,13 +265,9 @@ fn library_methods(alloc: Global, methods: &[LibMethod]) -> Result<Seq<LinkedMet
 fn library_field(alloc: Global, field: &LibField) -> Result<LinkedField, Memory>
     ensures { IfOk result (λ f. field_of f ≡ linking.library_field field.now) }
 {
-    Ok(field_with(
-        alloc,
-        field.flags,
-        field.name.copy()?,
-        field.desc.copy()?,
-        None,
-    )?)
+    let name = Text::new(alloc, field.name.copy()?)?;
+    let desc = Text::new(alloc, field.desc.copy()?)?;
+    Ok(field_with(field.flags, &name, &desc, None)?)
 }
 
 fn library_fields(alloc: Global, fields: &[LibField]) -> Result<Seq<LinkedField>, Memory>
@@ -283,13 +280,26 @@ fn library_fields(alloc: Global, fields: &[LibField]) -> Result<Seq<LinkedField>
     Ok(Seq::from_vec(linked))
 }
 
-fn copy_parent(parent: &Option<Name>) -> Result<Option<Name>, Memory>
+fn share_parent(
+    alloc: Global,
+    parent: &Option<Name>,
+) -> Result<Option<Shared<Name>>, Memory>
     ensures { IfOk result (λ p. p ≡ parent.now) }
 {
     match parent {
-        Some(name) => Ok(Some(name.copy()?)),
+        Some(name) => Ok(Some(Shared::new(alloc, name.copy()?)?)),
         None => Ok(None),
     }
+}
+
+fn share_names(alloc: Global, names: &[Name]) -> Result<Seq<Shared<Name>>, Memory>
+    ensures { IfOk result (λ ns. ns ≡ names.now) }
+{
+    let mut shared = Vec::with_capacity(alloc, names.len())?;
+    for name in names {
+        shared.push(Shared::new(alloc, name.copy()?)?)?;
+    }
+    Ok(Seq::from_vec(shared))
 }
 
 /// What a class of the library means.
@@ -301,8 +311,8 @@ pub fn link_library(alloc: Global, class: &LibClass) -> Result<LinkedClass, Memo
     Ok(LinkedClass {
         library: true,
         flags: class.flags,
-        parent: copy_parent(&class.parent)?,
-        interfaces: class.interfaces.copy()?,
+        parent: share_parent(alloc, &class.parent)?,
+        interfaces: share_names(alloc, class.interfaces.as_slice())?,
         fields: library_fields(alloc, class.fields.as_slice())?,
         methods,
         entries: Seq::from_vec(vec![in alloc; Entry::Other]?),

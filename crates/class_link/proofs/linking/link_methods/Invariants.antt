@@ -4,4 +4,4 @@ use Rattle.class_link.specs.Linking.{method_in}
 use Rattle.class_link.proofs.linking.link_methods.Given as goal
 
 abbrev pub invariant-loop-method : goal.invariant-loop-method
-invariant-loop-method l = map (method_of l.entries) l.linked.items ≡ map (method_in l.pool) (take l.method-index l.methods)
+invariant-loop-method l = map (method_of l.entries) l.linked.items ≡ map (method_in l.texts) (take l.method-index l.methods)

@@ -1,0 +1,209 @@
+//! The texts of a constant pool, each kept once, with what it states as a descriptor (JVMS 4.3,
+//! 4.4.7).
+
+ghost use Rattle.std.specs.Prelude.{◌≡◌, [], map, IfOk};
+ghost use Rattle.std.specs.Option.{option_copied};
+ghost use Rattle.class_model.specs.Pool.{entry_of, text_in, pair_name_of, pair_desc_of};
+ghost use Rattle.class_link.specs.Linking.{class_or_none};
+ghost use Rattle.class_link.specs.Symbols.{name_or_empty, class_named, text_named, kind_stated, type_stated};
+ghost use Rattle.class_link.specs.Texts.{stated, stated_in, AreTexts};
+
+use crate::shared::Shared;
+use class_model::{
+    Const, DescFault, Kind, Memory, MethodType, Name, Seq, parse_field, parse_method,
+};
+use std::alloc::Global;
+use std::marker::Model;
+
+/// A text, and what it states as the descriptor of a field and as that of a method.
+#[derive(Drop)]
+pub struct Text {
+    pub name: Shared<Name>,
+    pub kind: Shared<Kind>,
+    pub args: Shared<Seq<Kind>>,
+    pub result: Shared<Option<Kind>>,
+}
+
+/// A constant pool and its texts. Contracts see the pool.
+#[derive(Drop)]
+pub struct Texts<'a> {
+    pool: &'a [Const],
+    none: Text,
+    by_place: Vec<Text>,
+}
+
+impl<'a> Model for Texts<'a> {
+    ghost use Rattle.std.specs.Prelude.{◌≡◌, List, []};
+    ghost use Rattle.class_model.specs.declared.constant.Const.{Const};
+    ghost use Rattle.class_link.specs.Texts.{stated, AreTexts};
+
+    ghost Value = { List Const };
+
+    ghost view = { λ t. t.pool.now };
+
+    ghost invariant = { λ t. (t.none ≡ stated []) × AreTexts t.by_place.items t.pool.now };
+}
+
+// What a field's descriptor states.
+fn kind_stated(alloc: Global, desc: &Name) -> Result<Kind, Memory>
+    ensures { IfOk result (λ k. k ≡ kind_stated desc.now) }
+{
+    match parse_field(alloc, desc) {
+        Ok(kind) => Ok(kind),
+        Err(DescFault::Memory) => Err(Memory),
+        Err(DescFault::Bad) => Ok(Kind::Ref(Seq::new(alloc))),
+        Err(DescFault::Float) => Ok(Kind::Ref(Seq::new(alloc))),
+    }
+}
+
+// What a method's descriptor states.
+fn type_stated(alloc: Global, desc: &Name) -> Result<MethodType, Memory>
+    ensures { IfOk result (λ t. t ≡ type_stated desc.now) }
+{
+    match parse_method(alloc, desc) {
+        Ok(types) => Ok(types),
+        Err(DescFault::Memory) => Err(Memory),
+        Err(DescFault::Bad) => Ok(MethodType {
+            args: Seq::new(alloc),
+            ret: None,
+        }),
+        Err(DescFault::Float) => Ok(MethodType {
+            args: Seq::new(alloc),
+            ret: None,
+        }),
+    }
+}
+
+impl Text {
+    /// A text with what it states.
+    pub fn new(alloc: Global, name: Name) -> Result<Text, Memory>
+        ensures { IfOk result (λ t. t ≡ stated name) }
+    {
+        let kind = kind_stated(alloc, &name)?;
+        let types = type_stated(alloc, &name)?;
+        Ok(Text {
+            name: Shared::new(alloc, name)?,
+            kind: Shared::new(alloc, kind)?,
+            args: Shared::new(alloc, types.args)?,
+            result: Shared::new(alloc, types.ret)?,
+        })
+    }
+
+    /// The same text, shared.
+    pub fn share(&self) -> Result<Text, Memory>
+        ensures { IfOk result (λ t. t ≡ self.now) }
+    {
+        Ok(Text {
+            name: self.name.share()?,
+            kind: self.kind.share()?,
+            args: self.args.share()?,
+            result: self.result.share()?,
+        })
+    }
+}
+
+fn text_in(alloc: Global, none: &Text, constant: &Const) -> Result<Text, Memory>
+    requires { none.now ≡ stated [] }
+    ensures { IfOk result (λ t. t ≡ stated_in constant.now) }
+{
+    match constant {
+        Const::Utf8(text) => Ok(Text::new(alloc, text.copy()?)?),
+        _ => Ok(none.share()?),
+    }
+}
+
+fn texts_in(alloc: Global, none: &Text, pool: &[Const]) -> Result<Vec<Text>, Memory>
+    requires { none.now ≡ stated [] }
+    ensures { IfOk result (λ ts. AreTexts ts.items pool.now) }
+{
+    let mut texts = Vec::with_capacity(alloc, pool.len())?;
+    for constant in pool {
+        texts.push(text_in(alloc, none, constant)?)?;
+    }
+    Ok(texts)
+}
+
+/// The entry of an index, if there is one.
+pub fn entry(pool: &[Const], index: u16) -> Option<&Const>
+    ensures { option_copied result ≡ entry_of pool.now index }
+{
+    if index == 0 {
+        return None;
+    }
+    pool.get(index as usize - 1)
+}
+
+impl<'a> Texts<'a> {
+    /// A constant pool with its texts.
+    pub fn new(alloc: Global, pool: &'a [Const]) -> Result<Texts<'a>, Memory>
+        ensures { IfOk result (λ t. t ≡ pool.entry.now) }
+    {
+        let none = Text::new(alloc, Seq::new(alloc))?;
+        let by_place = texts_in(alloc, &none, pool)?;
+        Ok(Texts {
+            pool,
+            none,
+            by_place,
+        })
+    }
+
+    /// The entry of an index, if there is one.
+    pub fn entry(&self, index: u16) -> Option<&Const>
+        ensures { option_copied result ≡ entry_of self.now index }
+    {
+        entry(self.pool, index)
+    }
+
+    /// The text of an index, empty where there is none.
+    pub fn text(&self, index: u16) -> &Text
+        ensures { result.now ≡ stated (text_named self.now index) }
+    {
+        if index == 0 {
+            return &self.none;
+        }
+        match self.by_place.get(index as usize - 1) {
+            Some(text) => text,
+            None => &self.none,
+        }
+    }
+
+    /// The name of the class of an index, empty where there is none.
+    pub fn class(&self, index: u16) -> &Text
+        ensures { result.now ≡ stated (class_named self.now index) }
+    {
+        match self.entry(index) {
+            Some(Const::Class(name)) => self.text(*name),
+            _ => &self.none,
+        }
+    }
+
+    /// The name of the pair of an index, empty where there is none.
+    pub fn pair_name(&self, index: u16) -> &Text
+        ensures { result.now ≡ stated (name_or_empty (pair_name_of self.now index)) }
+    {
+        match self.entry(index) {
+            Some(Const::Pair(name, _)) => self.text(*name),
+            _ => &self.none,
+        }
+    }
+
+    /// The descriptor of the pair of an index, empty where there is none.
+    pub fn pair_desc(&self, index: u16) -> &Text
+        ensures { result.now ≡ stated (name_or_empty (pair_desc_of self.now index)) }
+    {
+        match self.entry(index) {
+            Some(Const::Pair(_, desc)) => self.text(*desc),
+            _ => &self.none,
+        }
+    }
+
+    /// The name of the class of an index, and none for index 0.
+    pub fn class_or_none(&self, index: u16) -> Result<Option<Shared<Name>>, Memory>
+        ensures { IfOk result (λ n. n ≡ class_or_none self.now index) }
+    {
+        if index == 0 {
+            return Ok(None);
+        }
+        Ok(Some(self.class(index).name.share()?))
+    }
+}
