@@ -20,7 +20,7 @@ mod mutator;
 mod shared;
 mod text;
 
-pub use annotation::{Elem, Note};
+pub use annotation::{Note, Token};
 pub use attribute::{Attr, Body, Code, Row};
 pub use class::{Class, ClassId, Member};
 pub use constant::Const;

@@ -1,6 +1,5 @@
 pub mod Loops
 pub mod Starts
-pub mod Elements
 pub mod Codecs
 pub mod PlaceLaws
 pub mod RowLaws

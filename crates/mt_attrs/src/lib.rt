@@ -26,6 +26,7 @@ use std::alloc::Global;
 mod attributes;
 mod code;
 mod content;
+mod due;
 mod fault;
 mod frames;
 mod item;
