@@ -4,6 +4,7 @@ pub mod Codecs
 pub mod PlaceLaws
 pub mod RowLaws
 pub mod FrameLaws
+pub mod TokenLoop
 pub mod NoteLaws
 pub mod CodeLaws
 pub mod AttrsLaws

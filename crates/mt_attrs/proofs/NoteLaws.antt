@@ -297,9 +297,9 @@ token_codec pool due =
 
 -- ---- all tokens that are due
 
-tokens_take : (pool : List Const) (turns : ℕ) (open : List Due) (input : Input) (ts : List Token) (rest : Input) → IsBytes input.bytes → tokens_at pool turns open input ≡ Ok (ts, rest) → Takes input (flat_map token_bytes ts) rest × AreTokens pool open ts
+tokens_take : (pool : List Const) (turns : ℕ) (dues : List Due) (input : Input) (ts : List Token) (rest : Input) → IsBytes input.bytes → tokens_at pool turns dues input ≡ Ok (ts, rest) → Takes input (flat_map token_bytes ts) rest × AreTokens pool dues ts
 unfolding tokens_at
-tokens_take pool zero open input ts rest bytes e = absurd cc
+tokens_take pool zero dues input ts rest bytes e = absurd cc
 tokens_take pool (suc turns) [] input ts rest bytes e =
     subst (λ (z : List Token × Input). Takes input (flat_map token_bytes z.0) z.1 × AreTokens pool [] z.0) (ok_is {F = ItemFault} ([], input) (ts, rest) e) (record { parts = refl; place = omega arith; rest_fits = bytes }, tt)
 tokens_take pool (suc turns) (due ∷ others) input ts rest bytes e =
@@ -311,10 +311,10 @@ tokens_take pool (suc turns) (due ∷ others) input ts rest bytes e =
     let m : List Token × Input = (a.0.0 ∷ b.0.0, b.0.1) in
     subst (λ (z : List Token × Input). Takes input (flat_map token_bytes z.0) z.1 × AreTokens pool (due ∷ others) z.0) (ok_is {F = ItemFault} m (ts, rest) b.2) (both, (t.1, u.1))
 
-tokens_again : (pool : List Const) (turns : ℕ) (open : List Due) (ts : List Token) (at : ℕ) (rest : List ℕ) → length ts < turns → AreTokens pool open ts
-    → tokens_at pool turns open (input_at at (flat_map token_bytes ts ++ rest)) ≡ Ok (ts, input_at (at + length (flat_map token_bytes ts)) rest)
+tokens_again : (pool : List Const) (turns : ℕ) (dues : List Due) (ts : List Token) (at : ℕ) (rest : List ℕ) → length ts < turns → AreTokens pool dues ts
+    → tokens_at pool turns dues (input_at at (flat_map token_bytes ts ++ rest)) ≡ Ok (ts, input_at (at + length (flat_map token_bytes ts)) rest)
 unfolding tokens_at
-tokens_again pool zero open ts at rest lt q = absurd (omega (arith, lt))
+tokens_again pool zero dues ts at rest lt q = absurd (omega (arith, lt))
 tokens_again pool (suc turns) [] [] at rest lt q = let h : at ≡ at + 0 = omega arith in ap (λ (n : ℕ). done ([], input_at n rest)) h
 tokens_again pool (suc turns) [] (t ∷ ts) at rest lt q = absurd q
 tokens_again pool (suc turns) (due ∷ others) [] at rest lt q = absurd q
@@ -338,10 +338,10 @@ tokens_fit : (ts : List Token) → length ts ≤ length (flat_map token_bytes ts
 tokens_fit [] = omega arith
 tokens_fit (t ∷ ts) = omega (arith, token_takes t, tokens_fit ts, length-append (token_bytes t) (flat_map token_bytes ts))
 
-tokens_codec : (pool : List Const) (open : List Due) → IsCodecAt (all_tokens_at pool open) (λ at. flat_map token_bytes) (AreTokens pool open)
-tokens_codec pool open = record {
-  takes = λ input ts rest bytes e. tokens_take pool (suc (length input.bytes)) open input ts rest bytes e;
-  again = λ ts at rest q. tokens_again pool (suc (length (flat_map token_bytes ts ++ rest))) open ts at rest (omega (arith, tokens_fit ts, length-append (flat_map token_bytes ts) rest)) q;
+tokens_codec : (pool : List Const) (dues : List Due) → IsCodecAt (all_tokens_at pool dues) (λ at. flat_map token_bytes) (AreTokens pool dues)
+tokens_codec pool dues = record {
+  takes = λ input ts rest bytes e. tokens_take pool (suc (length input.bytes)) dues input ts rest bytes e;
+  again = λ ts at rest q. tokens_again pool (suc (length (flat_map token_bytes ts ++ rest))) dues ts at rest (omega (arith, tokens_fit ts, length-append (flat_map token_bytes ts) rest)) q;
 }
 
 -- ---- annotations

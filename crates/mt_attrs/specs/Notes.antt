@@ -80,7 +80,7 @@ token_at pool due input = if due.named then (index_at is_text pool input >>= λ 
 
 -- The tokens of all that is due, in so many turns. Each token takes a byte and more, so a turn more than there are bytes is never used up.
 unfoldable pub tokens_at : List Const → ℕ → List Due → PartReader (List Token)
-tokens_at pool zero open input = Err (item_fault.Bad (fault.BadLength input.at))
+tokens_at pool zero dues input = Err (item_fault.Bad (fault.BadLength input.at))
 tokens_at pool (suc turns) [] input = Ok ([], input)
 tokens_at pool (suc turns) (due ∷ others) input = do
   first ← token_at pool due input
@@ -88,7 +88,7 @@ tokens_at pool (suc turns) (due ∷ others) input = do
   Ok (first.0 ∷ behind.0, behind.1)
 
 abbrev pub all_tokens_at : List Const → List Due → PartReader (List Token)
-all_tokens_at pool open input = tokens_at pool (suc (length input.bytes)) open input
+all_tokens_at pool dues input = tokens_at pool (suc (length input.bytes)) dues input
 
 -- an annotation of an attribute
 unfoldable pub note_at : List Const → PartReader Note

@@ -18,25 +18,25 @@ pub struct Due {
 
 /// All that is still due. Contracts see it with the innermost first.
 #[derive(Drop)]
-pub struct Open {
+pub struct Dues {
     stack: Vec<Due>,
 }
 
-impl Model for Open {
+impl Model for Dues {
     ghost use Rattle.std.specs.Prelude.{List, reverse};
     ghost use Rattle.mt_attrs.specs.declared.due.Due.{Due};
 
     ghost Value = { List Due };
 
-    ghost view = { λ o. reverse o.stack.items };
+    ghost view = { λ d. reverse d.stack.items };
 }
 
-impl Open {
+impl Dues {
     /// Nothing is due.
-    pub fn new(alloc: Global) -> Open
+    pub fn new(alloc: Global) -> Dues
         ensures { result ≡ [] }
     {
-        Open {
+        Dues {
             stack: Vec::new(alloc),
         }
     }
@@ -57,7 +57,7 @@ impl Open {
     }
 
     /// Puts one in front, unless it has none left.
-    pub fn open(&mut self, due: Due) -> Result<(), Memory>
+    pub fn put(&mut self, due: Due) -> Result<(), Memory>
         ensures { OnOk result (self.new ≡ with_due due self.old) }
     {
         if due.left == 0 {
@@ -67,7 +67,7 @@ impl Open {
     }
 
     /// Puts what is due behind a token in front of what was due around it, where so many more annotations may be opened.
-    fn open_behind(&mut self, token: Token, depth: u8) -> Result<(), Memory>
+    fn put_behind(&mut self, token: Token, depth: u8) -> Result<(), Memory>
         ensures { OnOk result (self.new ≡ due_behind token depth self.old) }
     {
         match token {
@@ -76,12 +76,12 @@ impl Open {
                 left: 1,
                 depth,
             }),
-            Token::Inner(_, count) => self.open(Due {
+            Token::Inner(_, count) => self.put(Due {
                 named: true,
                 left: count,
                 depth: depth.saturating_sub(1),
             }),
-            Token::Many(count) => self.open(Due {
+            Token::Many(count) => self.put(Due {
                 named: false,
                 left: count,
                 depth,
@@ -94,11 +94,11 @@ impl Open {
     pub fn go_on(&mut self, due: Due, token: Token) -> Result<(), Memory>
         ensures { OnOk result (self.new ≡ next_due due self.old token) }
     {
-        self.open(Due {
+        self.put(Due {
             named: due.named,
             left: due.left.saturating_sub(1),
             depth: due.depth,
         })?;
-        self.open_behind(token, due.depth)
+        self.put_behind(token, due.depth)
     }
 }

@@ -5,7 +5,7 @@ ghost use Rattle.codec_rules.specs.Reading.{many_at};
 ghost use Rattle.mt_attrs.specs.Item.{ReadsPart, counted_at};
 ghost use Rattle.mt_attrs.specs.Notes.{is_constant_tag, enum_at, inner_at, value_at, front_at, token_at, tokens_at, all_tokens_at, outer_due, note_at, notes_at};
 
-use crate::due::{Due, Open};
+use crate::due::{Due, Dues};
 use crate::fault::ItemFault;
 use crate::item::{u1, u2};
 use crate::named::{read_constant, read_result, read_text, read_type};
@@ -114,19 +114,19 @@ fn read_turns(
     alloc: Global,
     pool: &Seq<Const>,
     turns: u64,
-    open: &mut Open,
+    dues: &mut Dues,
     cur: &mut Cursor,
 ) -> Result<Seq<Token>, ItemFault>
-    ensures { ReadsPart (tokens_at pool.now turns open.old) cur.old cur.new result }
+    ensures { ReadsPart (tokens_at pool.now turns dues.old) cur.old cur.new result }
 {
     let mut tokens = Seq::new(alloc);
     for _ in 0..turns {
-        let Some(due) = open.pop() else {
+        let Some(due) = dues.pop() else {
             return Ok(tokens);
         };
         let token = read_token(alloc, pool, due, cur)?;
         tokens.push(token)?;
-        open.go_on(due, token)?;
+        dues.go_on(due, token)?;
     }
     Err(ItemFault::Bad(ClassFault::BadLength { at: cur.at() }))
 }
@@ -142,13 +142,13 @@ fn read_tokens(
 {
     let _place = cur.at();
     let turns = cur.left() + 1;
-    let mut open = Open::new(alloc);
-    open.open(Due {
+    let mut dues = Dues::new(alloc);
+    dues.put(Due {
         named: true,
         left: count,
         depth: 31,
     })?;
-    read_turns(alloc, pool, turns, &mut open, cur)
+    read_turns(alloc, pool, turns, &mut dues, cur)
 }
 
 #[tactic(auto, unfolding(crate::specs::Notes::note_at))]
