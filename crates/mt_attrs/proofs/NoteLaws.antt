@@ -13,11 +13,11 @@ use Rattle.codec_rules.specs.Input.{Input, IsBytes}
 use Rattle.codec_rules.specs.Sequence.{◌>>=◌}
 use Rattle.codec_rules.specs.Spelling.{Takes, IsCodecAt, input_at}
 use Rattle.codec_rules.proofs.Sequence.{bind_ok, ok_is, done}
-use Rattle.codec_rules.proofs.Codec.{chain, made, either, nothing, reread, renamed, respelled}
+use Rattle.codec_rules.proofs.Codec.{chain, made, either, nothing, reread, renamed, respelled, Takes-then}
 use Rattle.mt_insn.specs.Named.{names}
 use Rattle.mt_attrs.specs.Item.{PartReader, number, u1, u2}
 use Rattle.mt_attrs.specs.Named.{is_text, is_constant, names_type, names_result, type_refusal, index_refusal, index_at, type_at, result_at, IsIndex}
-use Rattle.mt_attrs.specs.Notes.{is_constant_tag, next_due, outer_due, enum_at, inner_at, value_at, front_at, token_at, tokens_at, all_tokens_at, note_at, notes_at, token_bytes, note_bytes, notes_bytes, IsToken, AreTokens, IsNote, AreNotes}
+use Rattle.mt_attrs.specs.Notes.{is_constant_tag, next_due, outer_due, enum_at, inner_at, value_at, front_at, token_at, tokens_at, all_tokens_at, note_at, notes_at, token_bytes, note_bytes, notes_bytes, IsValue, IsToken, AreTokens, IsNote, AreNotes}
 use Rattle.mt_attrs.specs.declared.due.Due.{Due}
 use Rattle.mt_attrs.specs.declared.fault.ItemFault.{ItemFault}
 use Rattle.mt_attrs.specs.declared.fault.ItemFault.TheVariants as item_fault
@@ -77,15 +77,6 @@ tag_of (token.Enum kind name) = 101
 tag_of (token.Class index) = 99
 tag_of (token.Inner kind count) = 64
 tag_of (token.Many count) = 91
-
--- a value where so many more annotations may be opened
-abbrev IsValue : List Const → ℕ → Token → Type 0
-IsValue pool depth (token.Name name) = ⊥
-IsValue pool depth (token.Plain tag index) = (tag < 2 ^ 8) × (is_constant_tag tag ≡ true) × IsIndex (names (is_constant tag) pool) index
-IsValue pool depth (token.Enum kind name) = IsIndex (names_type pool) kind × IsIndex (names is_text pool) name
-IsValue pool depth (token.Class index) = IsIndex (names_result pool) index
-IsValue pool depth (token.Inner kind count) = (0 < depth) × IsIndex (names_type pool) kind × (count < 2 ^ 16)
-IsValue pool depth (token.Many count) = count < 2 ^ 16
 
 abbrev Tagged : List Const → ℕ → ℕ → Token → Type 0
 Tagged pool depth tag t = IsValue pool depth t × (tag_of t ≡ tag)
@@ -162,7 +153,7 @@ no_depth pool (token.Enum kind name) q = omega (arith, q.1)
 no_depth pool (token.Class index) q = omega (arith, q.1)
 no_depth pool (token.Many count) q = omega (arith, q.1)
 
-past_depth : PartReader Token
+abbrev past_depth : PartReader Token
 past_depth input = number w16 input >>= λ kind. Err (item_fault.Bad (class_fault.BadLength input.at))
 
 past_codec : (s : Token → List ℕ) (P : Token → Type 0) → ((t : Token) → P t → ⊥) → IsCodecAt past_depth (λ at. s) P

@@ -119,14 +119,23 @@ notes_bytes notes = counted note_bytes notes
 
 -- ---- which annotations have bytes
 
+-- the front of a value, where so many more annotations may be opened
+abbrev pub IsValue : List Const → ℕ → Token → Type 0
+IsValue pool depth (token.Name name) = ⊥
+IsValue pool depth (token.Plain tag index) = (tag < 2 ^ 8) × (is_constant_tag tag ≡ true) × IsIndex (names (is_constant tag) pool) index
+IsValue pool depth (token.Enum kind name) = IsIndex (names_type pool) kind × IsIndex (names is_text pool) name
+IsValue pool depth (token.Class index) = IsIndex (names_result pool) index
+IsValue pool depth (token.Inner kind count) = (0 < depth) × IsIndex (names_type pool) kind × (count < 2 ^ 16)
+IsValue pool depth (token.Many count) = count < 2 ^ 16
+
 -- a token that may stand where this is due
 abbrev pub IsToken : List Const → Due → Token → Type 0
 IsToken pool due (token.Name name) = (due.named ≡ true) × IsIndex (names is_text pool) name
-IsToken pool due (token.Plain tag index) = (due.named ≡ false) × (tag < 2 ^ 8) × (is_constant_tag tag ≡ true) × IsIndex (names (is_constant tag) pool) index
-IsToken pool due (token.Enum kind name) = (due.named ≡ false) × IsIndex (names_type pool) kind × IsIndex (names is_text pool) name
-IsToken pool due (token.Class index) = (due.named ≡ false) × IsIndex (names_result pool) index
-IsToken pool due (token.Inner kind count) = (due.named ≡ false) × (0 < due.depth) × IsIndex (names_type pool) kind × (count < 2 ^ 16)
-IsToken pool due (token.Many count) = (due.named ≡ false) × (count < 2 ^ 16)
+IsToken pool due (token.Plain tag index) = (due.named ≡ false) × IsValue pool due.depth (token.Plain tag index)
+IsToken pool due (token.Enum kind name) = (due.named ≡ false) × IsValue pool due.depth (token.Enum kind name)
+IsToken pool due (token.Class index) = (due.named ≡ false) × IsValue pool due.depth (token.Class index)
+IsToken pool due (token.Inner kind count) = (due.named ≡ false) × IsValue pool due.depth (token.Inner kind count)
+IsToken pool due (token.Many count) = (due.named ≡ false) × IsValue pool due.depth (token.Many count)
 
 -- The tokens are all that is due: each opening is followed by as many items as it says.
 abbrev pub AreTokens : List Const → List Due → List Token → Type 0

@@ -113,7 +113,7 @@ fn read_token(
 fn read_turns(
     alloc: Global,
     pool: &Seq<Const>,
-    turns: u64,
+    turns: u128,
     dues: &mut Dues,
     cur: &mut Cursor,
 ) -> Result<Seq<Token>, ItemFault>
@@ -140,8 +140,7 @@ fn read_tokens(
 ) -> Result<Seq<Token>, ItemFault>
     ensures { ReadsPart (all_tokens_at pool.now (outer_due count)) cur.old cur.new result }
 {
-    let _place = cur.at();
-    let turns = cur.left() + 1;
+    let turns = u128::from(cur.left()) + 1;
     let mut dues = Dues::new(alloc);
     dues.put(Due {
         named: true,
