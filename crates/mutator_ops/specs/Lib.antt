@@ -1,4 +1,5 @@
-pub mod Lines
-pub mod Edits
+pub mod Calls
+pub mod Changes
+pub mod Table
 pub mod Mutants
 pub mod Printing
