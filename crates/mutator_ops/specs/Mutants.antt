@@ -73,15 +73,19 @@ pub record Place : Type 0 where
   pub lines : List LinkedLine
   pub asked : Asked
 
-abbrev pub place_of : Class → ℕ → Member → Code → Place
-place_of class number member code = record {
-  class = own_name class;
-  method = text_named class.pool member.name;
-  desc = text_named class.pool member.desc;
+-- The place of a method of a class of this name and constant pool.
+abbrev pub place_in : List ℕ → List Const → ℕ → Member → Code → Place
+place_in class pool number member code = record {
+  class = class;
+  method = text_named pool member.name;
+  desc = text_named pool member.desc;
   number = number;
   lines = line_rows (out-Code code).attrs;
-  asked = asked_of class.pool member;
+  asked = asked_of pool member;
 }
+
+abbrev pub place_of : Class → ℕ → Member → Code → Place
+place_of class = place_in (own_name class) class.pool
 
 -- The edit that makes a change of an instruction.
 abbrev pub edit_of : Place → ℕ → Insn → Change → Edit

@@ -101,21 +101,31 @@ empty_value class =
 abbrev pub is_boolean_class : List ℕ → Bool
 is_boolean_class class = same class (codes "java/lang/Boolean")
 
--- areturn (b0) of a class
-abbrev pub on_class : Insn → Option Kind → (List ℕ → Option Change) → Option Change
-on_class insn gives row = if insn.op == 0xb0 then option_and_then row (class_given gives) else None
+-- the class of an areturn (b0)
+abbrev pub returned_class : Asked → Insn → Option (List ℕ)
+returned_class asked insn = if insn.op == 0xb0 then class_given asked.gives else None
 
--- false by iconst_0 (03) or true by iconst_1 (04), before ireturn (ac) or boxed before areturn
-abbrev pub truth : ℕ → Insn → Option Kind → Option Change
-truth constant insn gives =
-    if insn.op == 0xac then when (gives_boolean gives) (change.Returns (value.Constant constant))
-    else on_class insn gives (λ class. when (is_boolean_class class) (change.Returns (value.Boxed constant callee.BoxedBoolean)))
+abbrev pub empty_return : List ℕ → Option Change
+empty_return class = option_map change.Returns (empty_value class)
 
--- iconst_0 (03) before ireturn, or lconst_0 (09) before lreturn (ad)
-abbrev pub zero_value : Insn → Option Kind → Option Change
-zero_value insn gives =
-    if insn.op == 0xac then when (gives_number gives) (change.Returns (value.Constant 0x03))
-    else when (insn.op == 0xad && gives_long gives) (change.Returns (value.Constant 0x09))
+abbrev pub boxed_truth : ℕ → List ℕ → Option Change
+boxed_truth constant class = when (is_boolean_class class) (change.Returns (value.Boxed constant callee.BoxedBoolean))
+
+-- a constant before ireturn (ac), or boxed before areturn
+abbrev pub truth : ℕ → Asked → Insn → Option Change
+truth constant asked insn =
+    if insn.op == 0xac then when (gives_boolean asked.gives) (change.Returns (value.Constant constant))
+    else option_and_then (boxed_truth constant) (returned_class asked insn)
+
+-- aconst_null (01), where no other row stands for the class
+abbrev pub null_return : Asked → List ℕ → Option Change
+null_return asked class = when (not asked.is_not_null && is_none (empty_value class) && not (is_boolean_class class)) (change.Returns (value.Constant 0x01))
+
+-- iconst_0 (03) before ireturn (ac), or lconst_0 (09) before lreturn (ad)
+abbrev pub zero_return : Asked → Insn → Option Change
+zero_return asked insn =
+    if insn.op == 0xac then when (gives_number asked.gives) (change.Returns (value.Constant 0x03))
+    else when (insn.op == 0xad && gives_long asked.gives) (change.Returns (value.Constant 0x09))
 
 -- ---- the table
 
@@ -135,10 +145,9 @@ row mutator.InvertNegs asked insn = when (insn.op == 0x74 || insn.op == 0x75) ch
 row mutator.Math asked insn = exchange operations insn
 row mutator.NegateConditionals asked insn = exchange opposites insn
 row mutator.VoidMethodCalls asked insn = when (is_void_call asked.pool insn) change.Pops
-row mutator.EmptyReturns asked insn = on_class insn asked.gives (λ class. option_map change.Returns (empty_value class))
-row mutator.FalseReturns asked insn = truth 0x03 insn asked.gives
-row mutator.TrueReturns asked insn = truth 0x04 insn asked.gives
--- aconst_null (01), where no other row stands for the class
-row mutator.NullReturns asked insn = on_class insn asked.gives (λ class.
-    when (not asked.is_not_null && is_none (empty_value class) && not (is_boolean_class class)) (change.Returns (value.Constant 0x01)))
-row mutator.PrimitiveReturns asked insn = zero_value insn asked.gives
+row mutator.EmptyReturns asked insn = option_and_then empty_return (returned_class asked insn)
+-- iconst_0 (03), iconst_1 (04)
+row mutator.FalseReturns asked insn = truth 0x03 asked insn
+row mutator.TrueReturns asked insn = truth 0x04 asked insn
+row mutator.NullReturns asked insn = option_and_then (null_return asked) (returned_class asked insn)
+row mutator.PrimitiveReturns asked insn = zero_return asked insn

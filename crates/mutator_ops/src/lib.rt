@@ -1,9 +1,13 @@
 //! The mutants of a class.
 #![tactic(auto)]
 
+mod asked;
 mod change;
 mod mutant;
+mod pool;
 mod printing;
+mod table;
+mod text;
 
 pub use change::{Callee, Change, Value};
 pub use mutant::{CellTable, Mutant, State, Verdict};
