@@ -84,9 +84,6 @@ place_in class pool number member code = record {
   asked = asked_of pool member;
 }
 
-abbrev pub place_of : Class → ℕ → Member → Code → Place
-place_of class = place_in (own_name class) class.pool
-
 -- The edit that makes a change of an instruction.
 abbrev pub edit_of : Place → ℕ → Insn → Change → Edit
 edit_of place at insn change = record { method = place.number; at = at; with = new_insns place.asked.pool change insn; more_stack = more_words change }
@@ -116,9 +113,9 @@ abbrev pub mutants_from : Place → ℕ → List Insn → List Mutant
 mutants_from place at [] = []
 mutants_from place at (insn ∷ insns) = mutants_by mutators place at insn ++ mutants_from place (at + 1) insns
 
-abbrev pub code_mutants : Class → ℕ → Member → Option Code → List Mutant
-code_mutants class number member None = []
-code_mutants class number member (Some code) = mutants_from (place_of class number member code) 0 (out-Code code).insns
+abbrev pub code_mutants : List ℕ → List Const → ℕ → Member → Option Code → List Mutant
+code_mutants class pool number member None = []
+code_mutants class pool number member (Some code) = mutants_from (place_in class pool number member code) 0 (out-Code code).insns
 
 -- the flags of JVMS 4.1 and 4.6 whose methods aren't mutated: synthetic, and bridge on methods
 abbrev pub is_synthetic : ℕ → Bool
@@ -127,13 +124,14 @@ is_synthetic flags = not (bit_and flags 0x1000 == 0)
 abbrev pub is_left_out : ℕ → Bool
 is_left_out flags = is_synthetic flags || not (bit_and flags 0x0040 == 0)
 
-abbrev pub method_mutants : Class → ℕ → Member → List Mutant
-method_mutants class number member = if is_left_out member.flags then [] else code_mutants class number member (code_of member.attrs)
+-- The mutants of a method of a class of this name and constant pool.
+abbrev pub method_mutants : List ℕ → List Const → ℕ → Member → List Mutant
+method_mutants class pool number member = if is_left_out member.flags then [] else code_mutants class pool number member (code_of member.attrs)
 
 -- The mutants of methods, the first of which has a number.
-abbrev pub methods_mutants : Class → ℕ → List Member → List Mutant
-methods_mutants class number [] = []
-methods_mutants class number (member ∷ members) = method_mutants class number member ++ methods_mutants class (number + 1) members
+abbrev pub methods_mutants : List ℕ → List Const → ℕ → List Member → List Mutant
+methods_mutants class pool number [] = []
+methods_mutants class pool number (member ∷ members) = method_mutants class pool number member ++ methods_mutants class pool (number + 1) members
 
 abbrev pub class_mutants : Class → List Mutant
-class_mutants class = if is_synthetic class.flags then [] else methods_mutants class 0 class.methods
+class_mutants class = if is_synthetic class.flags then [] else methods_mutants (own_name class) class.pool 0 class.methods

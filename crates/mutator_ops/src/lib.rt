@@ -4,6 +4,9 @@
 mod asked;
 mod change;
 mod mutant;
+mod mutants;
+mod parts;
+mod place;
 mod pool;
 mod printing;
 mod table;
@@ -11,4 +14,5 @@ mod text;
 
 pub use change::{Callee, Change, Value};
 pub use mutant::{CellTable, Mutant, State, Verdict};
+pub use mutants::class_mutants;
 pub use printing::{id_lines, id_text};
