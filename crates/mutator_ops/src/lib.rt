@@ -3,16 +3,20 @@
 
 mod asked;
 mod change;
+mod counting;
+mod listing;
 mod mutant;
-mod mutants;
 mod parts;
 mod place;
 mod pool;
 mod printing;
+mod program;
 mod table;
 mod text;
 
 pub use change::{Callee, Change, Value};
+pub use counting::count_mutants;
+pub use listing::class_mutants;
 pub use mutant::{CellTable, Mutant, State, Verdict};
-pub use mutants::class_mutants;
 pub use printing::{id_lines, id_text};
+pub use program::mutants;
