@@ -1,5 +1,5 @@
 -- The mutants of classes of a program (this project's own): classes in the order of their names' bytes in modified UTF-8.
-use Rattle.std.specs.Prelude.{ℕ, List, [], fold, map, flat_map, filter_map, slice_get, Option, option_and_then}
+use Rattle.std.specs.Prelude.{ℕ, List, [], fold, map, flat_map, filter_map, slice_get, Option, None, Some, option_and_then}
 use Rattle.std.specs.BTreeMap.{insert_entry}
 use Rattle.std.specs.Ordering.{nat_cmp}
 use Rattle.std.specs.Cmp.Lexicographic.{slice_cmp}
@@ -32,3 +32,10 @@ mutants_among classes = flat_map (λ e. e.1) (in_order (map mutants_by_name clas
 -- The mutants of the class files of these numbers.
 abbrev pub mutants : List Info → List ClassId → List Mutant
 mutants p ids = mutants_among (files_among p ids)
+
+-- ---- how they are gathered. No public clause cites this.
+
+-- the mutants of one more class, if it is one
+abbrev pub with_class : List (List ℕ × List Mutant) → Option Class → List (List ℕ × List Mutant)
+with_class kept None = kept
+with_class kept (Some class) = insert_entry (slice_cmp nat_cmp) kept (text (own_name class)) (class_mutants class)

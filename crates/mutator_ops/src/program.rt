@@ -1,7 +1,7 @@
 //! The mutants of classes of a program.
 
-ghost use Rattle.std.specs.Prelude.{◌≡◌, map, flat_map, IfOk};
-ghost use Rattle.mutator_ops.specs.Programs.{files_among, in_order, mutants_by_name, mutants};
+ghost use Rattle.std.specs.Prelude.{◌≡◌, map, flat_map, option_copied, IfOk, OnOk};
+ghost use Rattle.mutator_ops.specs.Programs.{files_among, in_order, mutants_by_name, mutants, with_class};
 
 use crate::listing::class_mutants;
 use crate::mutant::Mutant;
@@ -22,6 +22,22 @@ fn mutants_by_name(alloc: Global, class: &Class) -> Result<(Bytes, Seq<Mutant>),
     Ok((name, class_mutants(alloc, class)?))
 }
 
+// The mutants of one more class, if it is one.
+fn insert_class(
+    alloc: Global,
+    found: &mut BTreeMap<Bytes, Seq<Mutant>>,
+    class: Option<&Class>,
+) -> Result<(), Memory>
+    ensures { OnOk result (found.new.entries ≡ with_class found.old.entries (option_copied class.entry)) }
+{
+    if let Some(class) = class {
+        let (name, mutants) = mutants_by_name(alloc, class)?;
+        found.insert(name, mutants)?;
+    }
+    Ok(())
+}
+
+#[tactic(auto, using(crate::proofs::ProgramLaws::one_more))]
 fn all_by_name(
     alloc: Global,
     p: &Program,
@@ -31,10 +47,7 @@ fn all_by_name(
 {
     let mut found = BTreeMap::new(alloc);
     for id in ids {
-        if let Some(class) = p.file_class(*id) {
-            let (name, mutants) = mutants_by_name(alloc, class)?;
-            found.insert(name, mutants)?;
-        }
+        insert_class(alloc, &mut found, p.file_class(*id))?;
     }
     Ok(found)
 }
