@@ -1,2 +1,4 @@
 mod CountLaws
 mod ProgramLaws
+mod Lists
+pub mod Listed

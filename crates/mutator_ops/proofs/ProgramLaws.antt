@@ -1,5 +1,5 @@
 -- One more class of a program in the order of names.
-use Rattle.std.proofs.Common.{◌≡◌, ◌∙◌, refl, sym, ap, ℕ, ◌+◌, ◌<◌, List, [], ◌∷◌, ◌++◌, map, length, take, get_or, Option, None, Some}
+use Rattle.std.proofs.Common.{◌≡◌, ◌∙◌, refl, ap, ℕ, ◌+◌, ◌<◌, List, [], ◌∷◌, ◌++◌, map, length, take, get_or, Option, None, Some}
 use Rattle.std.specs.Prelude.{fold}
 use Rattle.std.specs.List.{cons_option}
 use Rattle.std.specs.BTreeMap.{insert_entry}

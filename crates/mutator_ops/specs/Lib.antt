@@ -4,4 +4,5 @@ pub mod Table
 pub mod Mutants
 pub mod Counts
 pub mod Programs
+pub mod Laws
 pub mod Printing

@@ -4,6 +4,7 @@
 mod asked;
 mod change;
 mod counting;
+mod laws;
 mod listing;
 mod mutant;
 mod parts;
@@ -16,6 +17,7 @@ mod text;
 
 pub use change::{Callee, Change, Value};
 pub use counting::count_mutants;
+pub use laws::{listed_exactly, listed_in_order, listed_once};
 pub use listing::class_mutants;
 pub use mutant::{CellTable, Mutant, State, Verdict};
 pub use printing::{id_lines, id_text};
