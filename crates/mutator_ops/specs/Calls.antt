@@ -28,8 +28,10 @@ type_of pool index = option_and_then type_in (entry_of pool index)
 abbrev pub is_call : ℕ → Bool
 is_call op = nat_le 0xb6 op && nat_le op 0xb9
 
+-- the index of the method that is called; invokeinterface keeps its count beside it
 abbrev pub pool_index : Arg → ℕ
 pool_index (arg.Pool index) = index
+pool_index (arg.Multi index count) = index
 pool_index other = 0
 
 -- the pair that a method's entry names

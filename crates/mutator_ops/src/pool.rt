@@ -62,11 +62,13 @@ fn is_call(op: u8) -> bool
     0xb6 <= op && op <= 0xb9
 }
 
+// The index of the method that is called; invokeinterface keeps its count beside it.
 fn pool_index(arg: &Arg) -> u16
     ensures { result ≡ pool_index arg.now }
 {
     match arg {
         Arg::Pool(index) => *index,
+        Arg::Multi(index, _) => *index,
         _ => 0,
     }
 }
