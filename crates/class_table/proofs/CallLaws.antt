@@ -2,7 +2,6 @@
 use Rattle.std.proofs.Common.{◌≡◌, ◌≢◌, ◌⊎◌, inl, inr, ◌∙◌, sym, refl, ap, ℕ, zero, suc, ◌+◌, ◌<◌, List, [], ◌∷◌, map, length, Option, None, Some, slice_get, slice_set, arith, subst, IfSome, IsSomeAnd}
 use Rattle.std.specs.Prelude.{◌&&◌, if◌then◌else◌, option_and_then}
 use Rattle.std.specs.Option.{option_map}
-use Rattle.std.proofs.lemmas.Option.{slice_get-map}
 use Rattle.std.proofs.lemmas.Bool.Decides.{leb_tells}
 use Rattle.program_rules.specs.Names.{Name, same}
 use Rattle.program_rules.specs.Linked.{method_from, method_place}
@@ -11,9 +10,9 @@ use Rattle.class_link.specs.declared.linked.Entry.{Entry}
 use Rattle.class_link.specs.declared.linked.MethodRef.{MethodRef}
 use Rattle.class_link.specs.declared.linked.LinkedMethod.{LinkedMethod}
 use Rattle.class_link.specs.Info.{Info, class_of}
-use Rattle.class_link.specs.View.{method_entry, method_ref_at, method_of, linked_of}
+use Rattle.class_link.specs.View.{method_ref_at, method_of, linked_of}
 use Rattle.class_table.specs.Table.{names, number_of, place_in, place_at, reference_at, named_number, named_place, name_at, look, class_at}
-use Rattle.class_table.specs.Calls.{IsTargetOf, target_at, AreTargets, target_in, target_of, entry_target, class_targets, head_of, IsSameNamed, AreSameNamed}
+use Rattle.class_table.specs.Calls.{IsTargetOf, target_at, AreTargets, head_of, IsSameNamed, AreSameNamed}
 use Rattle.class_table.proofs.Places.{names_kept, number_within, number_named}
 
 -- ---- what a target says of the index that it is kept for
@@ -48,37 +47,6 @@ named_case p (Some r) t h = (number_named p r.class t.class.0 h.class, ap (optio
 
 pub target_named : (p : List Info) (class index : ℕ) (t : Target) → IsSomeAnd (reference_at p class index) (λ r. IsTargetOf p r t) → IsSomeAnd (reference_at p class index) (λ r. (name_at p t.class.0 ≡ r.class) × (look p r.class ≡ class_at p t.class.0))
 target_named p class index t h = named_case p (reference_at p class index) t h
-
--- ---- the targets of a program
-
-made_case : (p : List Info) (r : MethodRef) (n : ℕ) (t : Target) (place : Option ℕ) → place_at p r n ≡ place → number_of p r.class ≡ Some n → option_map (λ k. (let made : Target = record { class = record { 0 = n }; place = k } in made)) place ≡ Some t → IsTargetOf p r t
-made_case p r n t None e number h = absurd cc
-made_case p r n t (Some k) e number h =
-    let made : Target = record { class = record { 0 = n }; place = k } in
-    let same : made ≡ t = cc in
-    record { class = number ∙ ap (λ (x : Target). Some x.class.0) same; place = (let P : Target → Type 0 = λ x. place_at p r x.class.0 ≡ Some x.place in subst P same e) }
-
-found_case : (p : List Info) (r : MethodRef) (t : Target) (number : Option ℕ) → number_of p r.class ≡ number → option_and_then (target_in p r) number ≡ Some t → IsTargetOf p r t
-found_case p r t None e h = absurd cc
-found_case p r t (Some n) e h = made_case p r n t (place_at p r n) refl e h
-
-entry_case : (p : List Info) (o : Option MethodRef) (t : Target) → option_and_then (target_of p) o ≡ Some t → IsSomeAnd o (λ r. IsTargetOf p r t)
-entry_case p None t h = absurd cc
-entry_case p (Some r) t h = found_case p r t (number_of p r.class) refl h
-
-index_case : (p : List Info) (t : Target) (e : Option Entry) → option_and_then (λ t. t) (option_map (entry_target p) e) ≡ Some t → IsSomeAnd (method_entry e) (λ r. IsTargetOf p r t)
-index_case p t None h = absurd cc
-index_case p t (Some e) h = entry_case p (method_entry (Some e)) t h
-
-class_case : (p : List Info) (index : ℕ) (t : Target) (i : Option Info) → option_and_then (λ row. option_and_then (λ t. t) (slice_get row index)) (option_map (class_targets p) i) ≡ Some t → IsSomeAnd (option_and_then (λ c. method_ref_at c.linked index) i) (λ r. IsTargetOf p r t)
-class_case p index t None h = absurd cc
-class_case p index t (Some i) h = index_case p t (slice_get i.linked.entries index) (ap (option_and_then (λ t. t)) (sym (slice_get-map (entry_target p) i.linked.entries index)) ∙ h)
-
-pub all_are_targets : (p : List Info) (rows : List (List (Option Target))) → rows ≡ map (class_targets p) p → AreTargets rows p
-all_are_targets p rows e class index t h =
-    let inner : List (Option Target) → Option Target = λ row. option_and_then (λ t. t) (slice_get row index) in
-    let at : slice_get rows class ≡ option_map (class_targets p) (slice_get p class) = ap (λ rs. slice_get rs class) e ∙ slice_get-map (class_targets p) p class in
-    class_case p index t (slice_get p class) (sym (ap (option_and_then inner) at) ∙ h)
 
 -- ---- one class in the place of another
 

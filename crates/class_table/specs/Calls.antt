@@ -1,6 +1,5 @@
 -- The methods that a program's classes name, by numbers (this project's own).
-use Rattle.std.specs.Prelude.{◌≡◌, ℕ, List, map, Option, Some, None, slice_get, option_and_then, IsSomeAnd, ⊤}
-use Rattle.std.specs.Option.{option_map}
+use Rattle.std.specs.Prelude.{◌≡◌, ℕ, List, Option, Some, None, slice_get, option_and_then, IsSomeAnd, ⊤}
 use Rattle.program_rules.specs.Names.{Name}
 use Rattle.class_table.specs.declared.calls.Target.{Target}
 use Rattle.class_link.specs.declared.linked.Entry.{Entry}
@@ -28,18 +27,6 @@ AreTargetsOrNone None p = ⊤
 AreTargetsOrNone (Some rows) p = AreTargets rows p
 
 -- ---- how they are made and kept. No public clause cites these.
-
-abbrev pub target_in : List Info → MethodRef → ℕ → Option Target
-target_in p r class = option_map (λ place. record { class = record { 0 = class }; place = place }) (place_at p r class)
-
-abbrev pub target_of : List Info → MethodRef → Option Target
-target_of p r = option_and_then (target_in p r) (number_of p r.class)
-
-abbrev pub entry_target : List Info → Entry → Option Target
-entry_target p e = option_and_then (target_of p) (method_entry (Some e))
-
-abbrev pub class_targets : List Info → Info → List (Option Target)
-class_targets p i = map (entry_target p) i.linked.entries
 
 abbrev pub head_of : LinkedMethod → Name × Name
 head_of m = (m.name, m.desc)
