@@ -50,7 +50,7 @@ look_at p i x distinct h = ap (option_and_then (class_at p)) (number_at p i x di
 
 -- ---- methods
 
-none_past : {A : Type 0} (xs : List A) (i : ℕ) → slice_get xs i ≡ None → i < length xs → ⊥
+pub none_past : {A : Type 0} (xs : List A) (i : ℕ) → slice_get xs i ≡ None → i < length xs → ⊥
 none_past [] i e lt = omega (arith, lt)
 none_past (x ∷ xs) zero e lt = absurd cc
 none_past (x ∷ xs) (suc i) e lt = none_past xs i e (omega (arith, lt))

@@ -4,3 +4,4 @@ pub mod Adding
 pub mod Calls
 pub mod Seen
 pub mod Walked
+pub mod Words

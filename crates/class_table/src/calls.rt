@@ -8,9 +8,11 @@ ghost use Rattle.class_table.specs.Numbers.{IsNumbering};
 ghost use Rattle.class_table.specs.Adding.{shared};
 ghost use Rattle.class_link.specs.View.{method_entry, method_ref_at};
 ghost use Rattle.class_table.specs.declared.calls.Target.{Target};
-ghost use Rattle.class_table.specs.Calls.{target_at, AreTargets, AreTargetsOrNone, entry_target, class_targets, head_of, AreSameNamed, AreNamedAlike};
+ghost use Rattle.class_table.specs.Words.{AreWords, target_by, ref_target, entry_target};
+ghost use Rattle.class_table.specs.Calls.{target_at, AreTargets, AreTargetsOrNone, brief, head_of, AreSameNamed, AreNamedAlike};
 
-use class_link::{ClassInfo, Entry, LinkedClass, LinkedMethod};
+use crate::words::{Places, SHORT, head, places, words};
+use class_link::{ClassInfo, Entry, LinkedClass, LinkedMethod, MethodRef};
 use class_model::{ClassId, Memory, Name, Seq};
 use std::alloc::Global;
 use std::collections::HashMap;
@@ -36,60 +38,85 @@ pub fn target_at(targets: &Targets, class: usize, index: usize) -> Option<Target
 
 // ---- the targets of a program
 
-fn target_of(
-    infos: &[Arc<ClassInfo, Global>],
+fn target_by(places: &[Places], class: u32, head: (u32, u32)) -> Option<Target>
+    ensures { result ≡ target_by places.now class head }
+{
+    let place = *places.get(class as usize)?.get(&head)?;
+    Some(Target {
+        class: ClassId(class),
+        place,
+    })
+}
+
+// The target of what is named, where its class, its name and its descriptor have numbers.
+fn ref_target(
     numbers: &HashMap<Name, u32>,
+    words: &HashMap<Name, u32>,
+    places: &[Places],
+    reference: &MethodRef,
+) -> Option<Target>
+    requires { AreWords words.now }
+    ensures { result ≡ ref_target numbers.now words.now places.now reference.now }
+{
+    if reference.class.len() > SHORT {
+        return None;
+    }
+    let class = *numbers.get(&*reference.class)?;
+    let head = head(words, &reference.name, &reference.desc)?;
+    target_by(places, class, head)
+}
+
+fn entry_target(
+    numbers: &HashMap<Name, u32>,
+    words: &HashMap<Name, u32>,
+    places: &[Places],
     entry: &Entry,
 ) -> Option<Target>
-    requires { IsNumbering numbers.now (shared infos.now) }
-    ensures { result ≡ entry_target (shared infos.now) entry.now }
+    requires { AreWords words.now }
+    ensures { result ≡ entry_target numbers.now words.now places.now entry.now }
 {
-    let Entry::Method(reference) = entry else {
-        return None;
-    };
-    let number = *numbers.get(&reference.class)?;
-    let class = infos.get(number as usize)?.linked();
-    let place = class.method_place(&reference.name, &reference.desc)?;
-    Some(Target {
-        class: ClassId(number),
-        place: place as u32,
-    })
+    match entry {
+        Entry::Method(reference) => ref_target(numbers, words, places, reference),
+        _ => None,
+    }
 }
 
 fn class_targets(
     alloc: Global,
-    infos: &[Arc<ClassInfo, Global>],
     numbers: &HashMap<Name, u32>,
+    words: &HashMap<Name, u32>,
+    places: &[Places],
     entries: &[Entry],
 ) -> Result<Seq<Option<Target>>, Memory>
-    requires { IsNumbering numbers.now (shared infos.now) }
-    ensures { IfOk result (λ row. row ≡ map (entry_target (shared infos.now)) entries.now) }
+    requires { AreWords words.now }
+    ensures { IfOk result (λ row. row ≡ map (entry_target numbers.now words.now places.now) entries.now) }
 {
     let mut row = Vec::with_capacity(alloc, entries.len())?;
     for entry in entries {
-        row.push(target_of(infos, numbers, entry))?;
+        row.push(entry_target(numbers, words, places, entry))?;
     }
     Ok(Seq::from_vec(row))
 }
 
 fn all_targets(
     alloc: Global,
-    infos: &[Arc<ClassInfo, Global>],
     numbers: &HashMap<Name, u32>,
+    words: &HashMap<Name, u32>,
+    places: &[Places],
+    infos: &[Arc<ClassInfo, Global>],
 ) -> Result<Targets, Memory>
-    requires { IsNumbering numbers.now (shared infos.now) }
-    ensures { IfOk result (λ rows. rows ≡ map (class_targets (shared infos.now)) (shared infos.now)) }
+    requires { AreWords words.now }
+    ensures { IfOk result (λ rows. rows ≡ map (λ i. map (entry_target numbers.now words.now places.now) i.linked.entries) (shared infos.now)) }
 {
     let mut rows = Vec::with_capacity(alloc, infos.len())?;
     for info in infos {
         let entries = info.linked().entries.as_slice();
-        rows.push(class_targets(alloc, infos, numbers, entries)?)?;
+        rows.push(class_targets(alloc, numbers, words, places, entries)?)?;
     }
     Ok(Seq::from_vec(rows))
 }
 
-/// The targets of a program.
-#[tactic(auto, using(crate::proofs::CallLaws::all_are_targets))]
+/// The targets of a program: of each method that is named by short texts, and that is found.
 pub fn targets(
     alloc: Global,
     infos: &[Arc<ClassInfo, Global>],
@@ -98,7 +125,15 @@ pub fn targets(
     requires { IsNumbering numbers.now (shared infos.now) }
     ensures { IfOk result (λ rows. AreTargets rows (shared infos.now)) }
 {
-    Ok(all_targets(alloc, infos, numbers)?)
+    let words = words(alloc, infos)?;
+    let places = places(alloc, &words, infos)?;
+    Ok(all_targets(
+        alloc,
+        numbers,
+        &words,
+        places.as_slice(),
+        infos,
+    )?)
 }
 
 /// The same targets, shared.
@@ -115,14 +150,24 @@ pub fn copy_targets(
 
 // ---- one class in the place of another
 
-// Whether two methods have one name and one descriptor.
+// Whether two texts are the same, or both have more units than any by which a target is kept.
+fn are_alike(old: &Name, new: &Name) -> bool
+    ensures { result ≡ true → brief new.now ≡ brief old.now }
+{
+    if old.len() > SHORT {
+        return new.len() > SHORT;
+    }
+    *old == *new
+}
+
+// Whether two methods are found by the same words.
 fn has_same_head(old: &LinkedMethod, new: &LinkedMethod) -> bool
     ensures { result ≡ true → head_of new.now ≡ head_of old.now }
 {
-    old.name == new.name && old.desc == new.desc
+    are_alike(&old.name, &new.name) && are_alike(&old.desc, &new.desc)
 }
 
-// Whether the methods have the same names and descriptors in the same order.
+// Whether the methods are found by the same words, in the same order.
 fn have_same_heads(old: &[LinkedMethod], new: &[LinkedMethod]) -> bool
     ensures { result ≡ true → map head_of new.now ≡ map head_of old.now }
 {
@@ -144,7 +189,7 @@ fn are_same_named(old: Option<&Entry>, new: Option<&Entry>) -> bool
     let (Some(Entry::Method(old)), Some(Entry::Method(new))) = (old, new) else {
         return false;
     };
-    old.class == new.class && old.name == new.name && old.desc == new.desc
+    *old.class == *new.class && *old.name == *new.name && *old.desc == *new.desc
 }
 
 // Whether two entries name methods by the same words, where a target is kept.

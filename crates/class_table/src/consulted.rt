@@ -10,6 +10,7 @@ ghost use Rattle.class_table.specs.Seen.{AreKnown, IsConsultedOf};
 ghost use Rattle.class_table.specs.Walked.{Consults, ConsultsAll, ConsultsParent, Collects, CollectsAll, CollectsParent};
 
 use crate::program::Program;
+use class_link::Shared;
 use class_model::{ClassId, Memory, Name, Seq};
 use std::alloc::Global;
 use std::marker::Model;
@@ -148,7 +149,7 @@ impl Program {
     fn walk_parent(
         &self,
         seen: &mut Consulted,
-        parent: &Option<Name>,
+        parent: &Option<Shared<Name>>,
         levels: u32,
     ) -> Result<(), Memory>
         requires { IsConsultedOf self.now seen.old }
@@ -163,7 +164,7 @@ impl Program {
     }
 
     #[cycle(walk)]
-    fn walk_all(&self, seen: &mut Consulted, names: &[Name], levels: u32) -> Result<(), Memory>
+    fn walk_all(&self, seen: &mut Consulted, names: &[Shared<Name>], levels: u32) -> Result<(), Memory>
         requires { IsConsultedOf self.now seen.old }
         ensures names { OnOk result (ConsultsAll self.now levels names.now seen.old seen.new) }
         ensures kept { OnOk result (IsConsultedOf self.now seen.new) }
@@ -223,7 +224,7 @@ impl Program {
     fn collect_parent(
         &self,
         out: &mut Vec<Name>,
-        parent: &Option<Name>,
+        parent: &Option<Shared<Name>>,
         levels: u32,
     ) -> Result<(), Memory>
         ensures { OnOk result (CollectsParent self.now levels parent.now out.old.items out.new.items) }
@@ -236,7 +237,7 @@ impl Program {
     }
 
     #[cycle(collect)]
-    fn collect_all(&self, out: &mut Vec<Name>, names: &[Name], levels: u32) -> Result<(), Memory>
+    fn collect_all(&self, out: &mut Vec<Name>, names: &[Shared<Name>], levels: u32) -> Result<(), Memory>
         ensures { OnOk result (CollectsAll self.now levels names.now out.old.items out.new.items) }
     {
         for name in names {

@@ -20,7 +20,9 @@ use crate::begun::Begun;
 use crate::machine::{Machine, Need};
 use crate::text::is_text;
 use class_model::{ClassId, Kind, Memory, Name};
-use class_table::{FieldConstant, LinkedBody, LinkedClass, LinkedField, LinkedMethod, Program};
+use class_table::{
+    FieldConstant, LinkedBody, LinkedClass, LinkedField, LinkedMethod, Program, Shared,
+};
 use machine_rules::InitState;
 use std::alloc::Global;
 
@@ -71,7 +73,7 @@ fn names_interface(p: &Program, name: &Name) -> bool
 }
 
 // Whether all names are those of interfaces.
-fn are_interfaces(p: &Program, names: &[Name]) -> bool
+fn are_interfaces(p: &Program, names: &[Shared<Name>]) -> bool
     ensures { result ≡ are_interfaces (look p.now) names.now }
 {
     for name in names {
@@ -187,7 +189,7 @@ fn has_initializer_among(methods: &[LinkedMethod]) -> bool
 fn has_constant(field: &LinkedField) -> bool
     ensures { result ≡ fits_kind (option_map constant_of field.now.constant) (kind_of field.now.kind) }
 {
-    match (&field.constant, &field.kind) {
+    match (&field.constant, &*field.kind) {
         (None, _) => false,
         (Some(FieldConstant::Int(_)), kind) => is_int(kind),
         (Some(FieldConstant::Long(_)), kind) => matches!(kind, Kind::Long),

@@ -22,5 +22,5 @@ collect_all-loop-name-preserved t c = λ k le.
     let f = supers_within k p in
     let e : take (c.loop-name.name-index + 1) c.args.names.now ≡ take c.loop-name.name-index c.args.names.now ++ c.name-item.result ∷ [] = grind (arith, common_steps) in
     let before = concat_over f (take c.loop-name.name-index c.args.names.now) in
-    c.in_ok-collect.ensures k le ∙ ap (λ l. l ++ f c.name-item.result) (c.loop-name.invariant k le) ∙ append_assoc c.args.out.now.items before (f c.name-item.result)
+    c.in_ok-collect.ensures k le ∙ ap (λ n. c.loop-name.out.items ++ f n) c.deref.ensures ∙ ap (λ l. l ++ f c.name-item.result) (c.loop-name.invariant k le) ∙ append_assoc c.args.out.now.items before (f c.name-item.result)
     ∙ ap (λ l. c.args.out.now.items ++ l) (sym (ap (concat_over f) e ∙ collect_next f (take c.loop-name.name-index c.args.names.now) c.name-item.result))

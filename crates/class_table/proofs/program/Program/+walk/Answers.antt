@@ -41,6 +41,6 @@ walk_all-loop-name-preserved t c =
       λ k le.
           let f = supers_within k p in
           let rest = concat_over f (drop (c.loop-name.name-index + 1) c.args.names.now) in
-          c.loop-name.invariant.0 k le ∙ ap (λ l. consult_in p (concat_over f l) c.loop-name.seen.names) e ∙ consult_both p (f c.name-item.result) rest c.loop-name.seen.names ∙ ap (consult_in p rest) (sym (c.in_ok-walk.ensures.names k le)),
+          c.loop-name.invariant.0 k le ∙ ap (λ l. consult_in p (concat_over f l) c.loop-name.seen.names) e ∙ consult_both p (f c.name-item.result) rest c.loop-name.seen.names ∙ ap (consult_in p rest) (sym (c.in_ok-walk.ensures.names k le ∙ ap (λ n. consult_in p (f n) c.loop-name.seen.names) c.deref.ensures)),
       c.in_ok-walk.ensures.kept,
     )
