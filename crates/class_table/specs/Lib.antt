@@ -14,3 +14,4 @@ pub mod Lines
 pub mod Calls
 pub mod Seen
 pub mod Walked
+pub mod Faults

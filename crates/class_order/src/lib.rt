@@ -1,0 +1,7 @@
+//! The supers of a program's classes, by number: which classes stand above themselves, and in which
+//! order classes stand above one another.
+#![tactic(auto)]
+
+mod links;
+
+pub use links::Links;
