@@ -3,5 +3,8 @@
 #![tactic(auto)]
 
 mod links;
+mod standing;
+mod walk;
 
 pub use links::Links;
+pub use standing::Standing;
