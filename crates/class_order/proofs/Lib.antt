@@ -1,3 +1,5 @@
 mod Lists
 mod Entering
 mod Looking
+mod Joining
+mod Closing
