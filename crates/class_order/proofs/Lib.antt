@@ -3,3 +3,5 @@ mod Entering
 mod Looking
 mod Joining
 mod Closing
+mod Parts
+mod Steps

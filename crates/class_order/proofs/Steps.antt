@@ -1,0 +1,1 @@
+-- A step of the walk keeps what it is.
