@@ -1,17 +1,14 @@
 -- The last part is closed: all above its classes is closed, or stands in it.
-use Rattle.std.proofs.Common.{◌≡◌, ◌≢◌, ◌⊎◌, inl, inr, ◌∙◌, sym, refl, ap, subst, ℕ, zero, suc, ◌+◌, ◌-◌, ◌<◌, ◌≤◌, Bool, true, false, List, [], ◌∷◌, ◌++◌, length, length-set, length-take, take, drop, min, Option, None, Some, slice_get, slice_set, arith}
-use Rattle.std.specs.List.{list_any}
-use Rattle.std.specs.Prelude.{nat_eq}
+use Rattle.std.proofs.Common.{◌≡◌, ◌⊎◌, inl, inr, ◌∙◌, sym, refl, ap, subst, ℕ, ◌+◌, ◌-◌, ◌<◌, ◌≤◌, true, List, length, length-set, length-take, take, Option, None, Some, slice_get, slice_set, arith}
 use Rattle.std.proofs.lemmas.Option.{slice_get_within, slice_get-get_or}
-use Rattle.std.proofs.lemmas.Bool.Decides.{nat_tests}
 use Rattle.class_order.specs.declared.links.Links.{Links}
 use Rattle.class_order.specs.declared.standing.Standing.{Standing}
 use Rattle.class_order.specs.declared.standing.Standing.TheVariants.{New, Open, Ranked, Cyclic}
 use Rattle.class_order.specs.Graph.{supers_at, Leads, same, up, IsAboveItself}
 use Rattle.class_order.specs.Standings.{IsLower, cyclic, ranked}
-use Rattle.class_order.specs.Walks.{is_closed, IsBehind, closed, waits, Stands, IsWalk, without_end, all_cyclic}
-use Rattle.class_order.proofs.Lists.{set_case, set_here, set_there, one_item, taken, take_has, dropped, drop_has, stands_taken}
-use Rattle.class_order.proofs.Looking.{leads_on, less_case}
+use Rattle.class_order.specs.Walks.{is_closed, IsBehind, closed, waits, Stands, IsWalk, without_end}
+use Rattle.class_order.proofs.Lists.{set_case, set_here, set_there, one_item, taken, take_has, stands_taken}
+use Rattle.class_order.proofs.Looking.{less_case}
 
 module _ (g : List Links) (found : List Standing) (looked stack bounds path : List ℕ) (next : ℕ) (ok : IsWalk g found looked stack bounds path next) (b : ℕ) (last : slice_get bounds (length bounds - 1) ≡ Some b) (below : (i k : ℕ) → slice_get path i ≡ Some k → k < b) where
   there_last : Stands bounds b

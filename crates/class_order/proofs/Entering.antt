@@ -1,10 +1,10 @@
 -- A class is entered: it is a part of its own.
-use Rattle.std.proofs.Common.{◌≡◌, ◌≢◌, ◌⊎◌, inl, inr, ◌∙◌, sym, refl, ap, subst, ℕ, zero, suc, ◌+◌, ◌<◌, ◌≤◌, true, List, [], ◌∷◌, ◌++◌, length, length-append, length-set, Option, None, Some, slice_get, slice_set, arith}
+use Rattle.std.proofs.Common.{◌≡◌, ◌≢◌, inl, inr, ◌∙◌, sym, refl, ap, subst, ℕ, zero, suc, ◌+◌, ◌<◌, ◌≤◌, true, List, [], ◌∷◌, ◌++◌, length, length-append, length-set, Some, slice_get, slice_set, arith}
 use Rattle.std.proofs.lemmas.Option.{slice_get_within}
 use Rattle.class_order.specs.declared.links.Links.{Links}
 use Rattle.class_order.specs.declared.standing.Standing.{Standing}
 use Rattle.class_order.specs.declared.standing.Standing.TheVariants.{New, Open, Ranked, Cyclic}
-use Rattle.class_order.specs.Graph.{supers_at, Leads, same, up}
+use Rattle.class_order.specs.Graph.{Leads, same}
 use Rattle.class_order.specs.Standings.{IsLower, cyclic, ranked}
 use Rattle.class_order.specs.Walks.{is_closed, IsBehind, closed, waits, Stands, IsWalk}
 use Rattle.class_order.proofs.Lists.{last_case, more, at_last, set_case, set_here, set_there, one_item, stands_more, stands_last, stands_case}

@@ -1,12 +1,11 @@
 -- All parts behind the one of an open class are joined with it.
-use Rattle.std.proofs.Common.{◌≡◌, ◌≢◌, ◌⊎◌, inl, inr, ◌∙◌, sym, refl, ap, subst, ℕ, zero, suc, ◌+◌, ◌-◌, ◌<◌, ◌≤◌, List, [], ◌∷◌, length, length-take, take, Option, None, Some, slice_get, arith, min}
+use Rattle.std.proofs.Common.{◌≡◌, ◌⊎◌, inl, inr, sym, refl, subst, ℕ, zero, suc, ◌-◌, ◌<◌, ◌≤◌, List, [], ◌∷◌, length, Some, slice_get, arith}
 use Rattle.std.proofs.lemmas.Option.{slice_get_within, slice_get-get_or}
 use Rattle.class_order.specs.declared.links.Links.{Links}
 use Rattle.class_order.specs.declared.standing.Standing.{Standing}
-use Rattle.class_order.specs.declared.standing.Standing.TheVariants.{New, Open, Ranked, Cyclic}
-use Rattle.class_order.specs.Graph.{supers_at, Leads, same, up}
+use Rattle.class_order.specs.Graph.{supers_at, Leads, up}
 use Rattle.class_order.specs.Walks.{IsBehind, Stands, IsWalk, DropsBehind}
-use Rattle.class_order.proofs.Lists.{one_item, taken, take_has, stands_taken}
+use Rattle.class_order.proofs.Lists.{taken, take_has, stands_taken}
 use Rattle.class_order.proofs.Looking.{leads_on, less_case}
 
 -- The greatest of these numbers that is at most this one.

@@ -1,13 +1,13 @@
 -- A super is looked at, the last class of the path has none more, and parts are joined.
-use Rattle.std.proofs.Common.{◌≡◌, ◌≢◌, ◌⊎◌, inl, inr, ◌∙◌, sym, refl, ap, subst, ℕ, zero, suc, ◌+◌, ◌-◌, ◌<◌, ◌≤◌, Bool, true, false, List, [], ◌∷◌, ◌++◌, length, length-set, length-take, take, Option, None, Some, slice_get, slice_set, arith}
-use Rattle.std.specs.Prelude.{nat_lt, nat_le}
+use Rattle.std.proofs.Common.{◌≡◌, ◌≢◌, ◌⊎◌, inl, inr, ◌∙◌, sym, refl, ap, subst, ℕ, ◌+◌, ◌-◌, ◌<◌, ◌≤◌, Bool, true, false, List, length, length-set, Some, slice_get, slice_set, arith}
+use Rattle.std.specs.Prelude.{nat_lt}
 use Rattle.std.proofs.lemmas.Option.{slice_get_within}
 use Rattle.class_order.specs.declared.links.Links.{Links}
 use Rattle.class_order.specs.declared.standing.Standing.{Standing}
-use Rattle.class_order.specs.declared.standing.Standing.TheVariants.{New, Open, Ranked, Cyclic}
+use Rattle.class_order.specs.declared.standing.Standing.TheVariants.{New, Open}
 use Rattle.class_order.specs.Graph.{supers_at, Leads, same, up}
-use Rattle.class_order.specs.Walks.{IsBehind, Stands, IsWalk, DropsBehind, without_end}
-use Rattle.class_order.proofs.Lists.{set_case, set_there, one_item, taken, take_has, stands_taken}
+use Rattle.class_order.specs.Walks.{IsBehind, Stands, IsWalk, without_end}
+use Rattle.class_order.proofs.Lists.{set_case, set_there, one_item, taken, take_has}
 
 pub leads_on : (g : List Links) (a b c : ℕ) → Leads g a b → Leads g b c → Leads g a c
 leads_on g a b c (same x) k = k

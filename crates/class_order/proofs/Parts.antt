@@ -8,7 +8,7 @@ use Rattle.class_order.specs.declared.standing.Standing.{Standing}
 use Rattle.class_order.specs.declared.standing.Standing.TheVariants.{New, Open, Ranked, Cyclic}
 use Rattle.class_order.specs.Graph.{supers_at, Leads, same, up, IsAboveItself}
 use Rattle.class_order.specs.Walks.{is_closed, Stands, IsWalk, without_end, all_cyclic}
-use Rattle.class_order.proofs.Lists.{set_case, set_here, set_there, one_item, dropped, drop_has}
+use Rattle.class_order.proofs.Lists.{set_here, set_there, one_item, dropped, drop_has}
 use Rattle.class_order.proofs.Looking.{leads_on, less_case}
 use Rattle.class_order.proofs.Closing.{upto_last, closes, lower_same}
 
@@ -109,6 +109,9 @@ module _ (g : List Links) (found : List Standing) (looked stack bounds path : Li
         | inl lt ↦ unless (λ p j. let q : Some (Open k) ≡ Some (Open p) = sym e ∙ j in let n : k ≡ p = cc in omega (arith, lt, n))
         | inr le ↦ inl (k, e, le, one_item part' x s Cyclic h (part_cyclic x k e le))
       ]
+
+  pub part_new : (x : ℕ) → slice_get part' x ≡ Some New → slice_get found x ≡ Some New
+  part_new x h = elim (was x New h) [ inl e ↦ absurd (let q = e.3 in cc) | inr e ↦ e ]
 
   pub closed_part : IsWalk g part' looked (take b stack) (without_end bounds) path next
   closed_part =

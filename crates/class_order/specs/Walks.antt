@@ -1,6 +1,6 @@
 -- The state of the walk over all classes that finds those above themselves (this project's own). No
 -- public clause cites these.
-use Rattle.std.specs.Prelude.{◌≡◌, ◌+◌, ◌<◌, ◌≤◌, ◌-◌, ℕ, Bool, true, false, List, [], ◌∷◌, ◌++◌, Option, Some, None, slice_get, slice_set, length, take, drop}
+use Rattle.std.specs.Prelude.{◌≡◌, ◌+◌, ◌<◌, ◌≤◌, ◌-◌, ℕ, Bool, true, false, List, [], ◌∷◌, ◌++◌, Option, Some, None, slice_get, slice_set, length, take, drop, replicate}
 use Rattle.class_order.specs.declared.links.Links.{Links}
 use Rattle.class_order.specs.declared.standing.Standing.{Standing}
 use Rattle.class_order.specs.declared.standing.Standing.TheVariants.{New, Open, Ranked, Cyclic}
@@ -156,3 +156,46 @@ pub record ClosesPart (bound : ℕ) (old new : Walk) : Type 0 where
   pub bounds : new.bounds.items ≡ without_end old.bounds.items
   pub path : new.path.items ≡ old.path.items
   pub next : new.next ≡ old.next
+
+-- A super was met: it is entered if it is new, joined with what stands behind it if it is open, and
+-- else nothing is done.
+pub data Meets (c : ℕ) (old new : Walk) : Type 0 where
+  enters : slice_get old.found.items c ≡ Some New → Enters c old new → Meets c old new
+  joins :
+      (p : ℕ) → slice_get old.found.items c ≡ Some (Open p) → Joins p old new → Meets c old new
+  passes : is_closed (slice_get old.found.items c) ≡ true → new ≡ old → Meets c old new
+
+-- One super more of a class was looked at.
+pub record Counts (a n : ℕ) (old new : Walk) : Type 0 where
+  pub found : new.found.items ≡ old.found.items
+  pub looked : new.looked.items ≡ slice_set old.looked.items a (n + 1)
+  pub stack : new.stack.items ≡ old.stack.items
+  pub bounds : new.bounds.items ≡ old.bounds.items
+  pub path : new.path.items ≡ old.path.items
+  pub next : new.next ≡ old.next
+
+-- The last place of the path, and where the last part begins.
+abbrev pub IsLast : ℕ → List ℕ → Type 0
+IsLast n ns = slice_get ns (length ns - 1) ≡ Some n
+
+-- A class that isn't met now wasn't met before.
+abbrev pub KeepsMet : Walk → Walk → Type 0
+KeepsMet old new = (x : ℕ) → slice_get new.found.items x ≡ Some New → slice_get old.found.items x ≡ Some New
+
+-- A class was met.
+abbrev pub IsMet : ℕ → Walk → Type 0
+IsMet x w = slice_get w.found.items x ≡ Some New → ⊥
+
+-- The walk over so many classes before its first step.
+pub record IsStart (count : ℕ) (w : Walk) : Type 0 where
+  pub found : w.found.items ≡ replicate count New
+  pub looked : w.looked.items ≡ replicate count 0
+  pub stack : w.stack.items ≡ []
+  pub bounds : w.bounds.items ≡ []
+  pub path : w.path.items ≡ []
+
+-- The walk at its end: no class is open, and each was met.
+pub record IsEnd (g : List Links) (w : Walk) : Type 0 where
+  pub walk : IsWalkOf g w
+  pub none : length w.stack.items ≡ 0
+  pub met : (x : ℕ) → x < length g → IsMet x w

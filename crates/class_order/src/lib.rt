@@ -8,3 +8,4 @@ mod walk;
 
 pub use links::Links;
 pub use standing::Standing;
+pub use walk::standings;

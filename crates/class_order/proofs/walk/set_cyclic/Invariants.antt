@@ -1,4 +1,4 @@
-use Rattle.std.proofs.Common.{◌≡◌, length, drop}
+use Rattle.std.proofs.Common.{◌≡◌, drop}
 use Rattle.class_order.specs.Walks.{all_cyclic}
 use Rattle.class_order.proofs.walk.set_cyclic.Given as goal
 
