@@ -9,7 +9,7 @@ use Rattle.std.proofs.lemmas.List.{length-map}
 use Rattle.std.proofs.lemmas.Option.{slice_get_within}
 use Rattle.class_model.specs.Text.{text}
 use Rattle.program_rules.specs.Names.{Name, same}
-use Rattle.class_table.specs.Info.{Info}
+use Rattle.class_link.specs.Info.{Info}
 use Rattle.class_table.specs.Table.{names, number_of, place_from, place_in, name_or_none, IsDuplicate, IsLeastDuplicate}
 use Rattle.class_table.specs.Numbers.{with_number, is_before, lesser, is_place, judged, name_of, IsFirst, IsTold, IsVerdict}
 use Rattle.class_table.proofs.Places.{name_at_place}

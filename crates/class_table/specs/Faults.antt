@@ -6,8 +6,8 @@ use Rattle.std.specs.Option.{option_map}
 use Rattle.program_rules.specs.Names.{Name}
 use Rattle.program_rules.specs.Programs.{Look}
 use Rattle.class_order.specs.Supers.{is_super_missing, IsOwnSuper, is_super_of_wrong_kind, IsLeastWith}
-use Rattle.class_table.specs.declared.loaded.ClassBody.{ClassBody}
-use Rattle.class_table.specs.Info.{body_name, link_body}
+use Rattle.class_link.specs.declared.loaded.ClassBody.{ClassBody}
+use Rattle.class_link.specs.Info.{body_name, link_body}
 use Rattle.class_table.specs.Table.{place_in, AreDistinct}
 
 -- The class that these have for a name: of several the first.

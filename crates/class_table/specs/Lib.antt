@@ -1,16 +1,6 @@
-pub mod Symbols
-pub mod Opcodes
-pub mod Linking
-pub mod View
-pub mod Switches
-pub mod Appended
-pub mod Forms
-pub mod Info
 pub mod Table
 pub mod Numbers
 pub mod Adding
-pub mod Spelled
-pub mod Lines
 pub mod Calls
 pub mod Seen
 pub mod Walked
