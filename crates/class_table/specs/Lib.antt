@@ -4,4 +4,5 @@ pub mod Adding
 pub mod Calls
 pub mod Seen
 pub mod Walked
+pub mod Least
 pub mod Faults

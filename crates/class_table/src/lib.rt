@@ -4,6 +4,7 @@
 mod calls;
 mod consulted;
 mod fault;
+mod least;
 mod numbering;
 mod program;
 mod scripted;
