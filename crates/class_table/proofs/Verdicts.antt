@@ -1,5 +1,5 @@
 -- What is found of the classes by number is what is asked of them by name.
-use Rattle.std.proofs.Common.{◌≡◌, ◌≢◌, ◌⊎◌, inl, inr, ◌∙◌, sym, refl, ap, subst, ℕ, zero, suc, ◌+◌, ◌<◌, Bool, true, false, List, [], ◌∷◌, ◌++◌, length, length-append, map, Option, None, Some, slice_get, arith}
+use Rattle.std.proofs.Common.{◌≡◌, ◌≢◌, ◌⊎◌, inl, inr, ◌∙◌, sym, refl, ap, subst, ℕ, zero, suc, ◌+◌, ◌<◌, ◌^◌, Bool, true, false, List, [], ◌∷◌, ◌++◌, length, length-append, map, Option, None, Some, slice_get, arith}
 use Rattle.std.specs.Prelude.{IsTrue, ◌||◌, is_none, option_and_then}
 use Rattle.std.specs.List.{list_any, flat_map}
 use Rattle.std.specs.Option.{option_map, option_to_list}
@@ -15,11 +15,11 @@ use Rattle.class_order.specs.declared.standing.Standing.{Standing}
 use Rattle.class_order.specs.declared.standing.Standing.TheVariants.{New, Open, Ranked, Cyclic}
 use Rattle.class_order.specs.Graph as graph
 use Rattle.class_order.specs.Graph.{with_parent, supers_of, supers_in, supers_at, AreWithin, Leads, IsAboveItself}
-use Rattle.class_order.specs.Standings.{AreStandings, IsStanding}
+use Rattle.class_order.specs.Standings.{AreStandings, IsStanding, IsLower, cyclic, ranked}
 use Rattle.class_order.specs.Supers.{is_super_missing, IsBelow, next, further, IsOwnSuper, is_super_of_wrong_kind, names_wrong_kind, lacks_superclass, IsLeastWith}
 use Rattle.class_table.specs.Table.{names, number_of, class_at, name_at, look, AreDistinct}
 use Rattle.class_table.specs.Least.{IsMarked, IsLeastName, IsLeastMarked}
-use Rattle.class_table.specs.Supers.{misses, names_wrong, numbers_known, IsLinked, AreLinked, AreLinks, is_cyclic}
+use Rattle.class_table.specs.Supers.{misses, names_wrong, numbers_known, IsLinked, AreLinked, AreLinks, is_cyclic, IsRanked, AreOrdered}
 use Rattle.class_table.proofs.Places.{name_at_place, number_within, number_named, name_of_class, number_at, look_at, none_past}
 
 -- ---- one class more
@@ -351,3 +351,63 @@ module _ (p : List Info) (distinct : AreDistinct (names p)) where
             let lt = within c.0 m c.2 in
             let each = links.each in
             h c.0 m c.2 (own_marked c.0 (omega (arith, lt, each)) (own_number m c.0 has c.1))
+
+-- ---- ranks
+
+abbrev rank_of : Option Standing → ℕ
+rank_of None = 0
+rank_of (Some New) = 0
+rank_of (Some (Open place)) = 0
+rank_of (Some (Ranked rank)) = rank
+rank_of (Some Cyclic) = 0
+
+module _ (p : List Info) (g : List Links) (links : AreLinks p g) (found : List Standing) (right : AreStandings g found) (none : (k : ℕ) → IsMarked (map is_cyclic found) k → k < length p → ⊥) where
+  each : length found ≡ length p
+  each = right.each ∙ links.each
+
+  not_cyclic : (a : ℕ) → slice_get found a ≡ Some Cyclic → ⊥
+  not_cyclic a h = none a (slice_get-map is_cyclic found a ∙ ap (option_map is_cyclic) h) (let w = slice_get_within found a Cyclic h in omega (arith, w, each))
+
+  few : (a : ℕ) → rank_of (slice_get found a) < 2 ^ 32
+  few a = by_standing (slice_get found a) refl
+    where
+      by_standing : (o : Option Standing) → slice_get found a ≡ o → rank_of (slice_get found a) < 2 ^ 32
+      by_standing None e = subst (λ o. rank_of o < 2 ^ 32) (sym e) (omega arith)
+      by_standing (Some New) e = subst (λ o. rank_of o < 2 ^ 32) (sym e) (omega arith)
+      by_standing (Some (Open place)) e = subst (λ o. rank_of o < 2 ^ 32) (sym e) (omega arith)
+      by_standing (Some (Ranked rank)) e = subst (λ o. rank_of o < 2 ^ 32) (sym e) (right.few a rank e)
+      by_standing (Some Cyclic) e = subst (λ o. rank_of o < 2 ^ 32) (sym e) (omega arith)
+
+  lower_rank : (b rank : ℕ) → IsLower (slice_get found b) rank → rank_of (slice_get found b) < rank
+  lower_rank b rank (cyclic e) = absurd (not_cyclic b e)
+  lower_rank b rank (ranked r e lt) = subst (λ o. rank_of o < rank) (sym e) lt
+
+  lower : (a k b : ℕ) → slice_get (supers_at g a) k ≡ Some b → rank_of (slice_get found b) < rank_of (slice_get found a)
+  lower a k b sup = by_standing (slice_get found a) refl
+    where
+      in_range : a < length g
+      in_range = by_links (slice_get g a) refl
+        where
+          by_links : (o : Option Links) → slice_get g a ≡ o → a < length g
+          by_links None q = let z : slice_get {X = ℕ} [] k ≡ Some b = subst (λ x. slice_get (supers_in x) k ≡ Some b) q sup in absurd cc
+          by_links (Some l) q = slice_get_within g a l q
+
+      by_standing : (o : Option Standing) → slice_get found a ≡ o → rank_of (slice_get found b) < rank_of (slice_get found a)
+      by_standing None e = let long = right.each in let w = in_range in absurd (none_past found a e (omega (arith, w, long)))
+      by_standing (Some New) e = absurd (right.fit a New e)
+      by_standing (Some (Open place)) e = absurd (right.fit a (Open place) e)
+      by_standing (Some (Ranked rank)) e = subst (λ o. rank_of (slice_get found b) < rank_of o) (sym e) (lower_rank b rank ((right.fit a (Ranked rank) e).1 k b sup))
+      by_standing (Some Cyclic) e = absurd (not_cyclic a e)
+
+  pub are_ordered : AreOrdered p g
+  are_ordered = record { links = links; ranked = record { rank = λ a. rank_of (slice_get found a); few = few; lower = lower } }
+
+-- ---- together
+
+-- No mark means no mark at a place.
+pub unmarked : (p : List Info) (marks : List Bool) → IsLeastMarked (names p) marks None → (k : ℕ) → IsMarked marks k → k < length p → ⊥
+unmarked p marks h k mark lt = h k _ (slice_get-map (λ i. i.name) p k ∙ ap (option_map (λ i. i.name)) (slice_get-get_or p k (some_class p k lt) lt)) mark
+  where
+    some_class : (p : List Info) (k : ℕ) → k < length p → Info
+    some_class [] k lt = absurd (omega (arith, lt))
+    some_class (i ∷ is) k lt = i
