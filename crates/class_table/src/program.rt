@@ -1,14 +1,14 @@
 //! The classes of a program by number and by name.
 
-ghost use Rattle.std.specs.Prelude.{◌≡◌, ◌<◌, ◌^◌, ℕ, List, map, length, slice_get, slice_set, Some, None, Err, IfOk, OnOk, IfSome, IfNone, IsSomeAnd, option_and_then};
+ghost use Rattle.std.specs.Prelude.{◌≡◌, ◌<◌, ◌^◌, ℕ, List, All, map, length, slice_get, slice_set, Some, None, Err, IfOk, OnOk, IfSome, IfNone, IsSomeAnd, option_and_then};
 ghost use Rattle.std.specs.Option.{option_map, option_copied};
 ghost use Rattle.std.specs.Arc.{arc_value};
 ghost use Rattle.program_rules.specs.Linked.{method_in};
 ghost use Rattle.class_link.specs.View.{method_of};
-ghost use Rattle.class_link.specs.Info.{class_of, link_body, file_in};
+ghost use Rattle.class_link.specs.Info.{IsInfo, class_of, link_body, file_in};
 ghost use Rattle.class_table.specs.Table.{AreDistinct, IsLeastDuplicate, bodies_of, names_of, names, number_of, CanSwap, class_at, name_at, look, entries_at, methods_at, reference_at, named_number, named_place, IsProgram};
 ghost use Rattle.class_table.specs.Calls.{IsTargetOf, AreTargets};
-ghost use Rattle.class_table.specs.Faults.{IsFaultless, MissesFirst, CyclesFirst, IsWrongFirst, AreProgram, IsFirstMissing, IsFirstCycle, IsFirstWrongKind};
+ghost use Rattle.class_table.specs.Faults.{look_of, IsFaultless, MissesFirst, CyclesFirst, IsWrongFirst, AreProgram, IsFirstMissing, IsFirstCycle, IsFirstWrongKind};
 ghost use Rattle.class_table.specs.Supers.{AreOrdered};
 ghost use Rattle.class_table.specs.Numbers.{IsNumbering};
 ghost use Rattle.class_table.specs.Adding.{shared};
@@ -60,15 +60,24 @@ impl Model for Program {
 }
 
 impl Program {
-    /// The program of these classes. Where there are 2^32 classes or more, memory runs out.
+    /// The program of these classes: exactly where no two have one name, each names supers that are
+    /// there and of the right kind, and none stands above itself. Else the first of these faults is
+    /// told, with the least class that has it. Where there are 2^32 classes or more, memory runs
+    /// out. Faults are found in time by the number of classes, of names and of supers.
     pub fn build(
         alloc: Global,
         classes: Seq<Loaded>,
         library: Seq<LibClass>,
     ) -> Result<Program, TableFault>
         ensures classes { IfOk result (λ p. map (λ i. i.body) p ≡ bodies_of classes library) }
+        ensures program { OnOk result (AreProgram (bodies_of classes library)) }
         ensures distinct { OnOk result (AreDistinct (names_of classes library)) }
+        ensures meant { IfOk result (λ p. All IsInfo p) }
+        ensures looks { IfOk result (λ p. look p ≡ look_of (bodies_of classes library)) }
         ensures duplicate { (name : List ℕ) → result ≡ Err (Duplicate name) → IsLeastDuplicate (names_of classes library) name }
+        ensures missing { (name : List ℕ) → result ≡ Err (SuperMissing name) → IsFirstMissing (bodies_of classes library) name }
+        ensures cycle { (name : List ℕ) → result ≡ Err (SuperCycle name) → IsFirstCycle (bodies_of classes library) name }
+        ensures kind { (name : List ℕ) → result ≡ Err (SuperKind name) → IsFirstWrongKind (bodies_of classes library) name }
     {
         let infos = infos(alloc, classes.into_vec(), library.into_vec())?;
         match program_of(alloc, infos) {
