@@ -7,6 +7,7 @@ use Rattle.std.specs.declared.sync.Arc.{Arc}
 use Rattle.std.proofs.lemmas.Option.{slice_get-map, slice_get_within, get_or_from_slice_get}
 use Rattle.std.proofs.lemmas.List.Elements.{All-append, All-nil, All-from_recursion, All-get_or}
 use Rattle.program_rules.specs.Names.{Name}
+use Rattle.program_rules.specs.Programs.{Look}
 use Rattle.class_link.specs.declared.loaded.ClassBody.{ClassBody}
 use Rattle.class_link.specs.Info.{Info, IsInfo, body_name, link_body, class_of}
 use Rattle.class_table.specs.Table.{bodies, names, number_of, class_at, look, place_in}
@@ -50,3 +51,7 @@ look_meant p meant n =
 
 pub looks_meant : (p : List Info) → All IsInfo p → look p ≡ look_of (bodies p)
 looks_meant p meant = λ i n. look_meant p meant n i
+
+-- what is so of the names and the meaning of a program's classes is so of their bodies
+pub of_bodies : (p : List Info) (bs : List ClassBody) → bodies p ≡ bs → All IsInfo p → (R : List Name → Look → Type 0) → R (names p) (look p) → R (map body_name bs) (look_of bs)
+of_bodies p bs e meant R h = subst (λ cs. R (map body_name cs) (look_of cs)) e (subst (λ q. R (map body_name (bodies p)) q) (looks_meant p meant) (subst (λ ns. R ns (look p)) (names_meant p meant) h))
