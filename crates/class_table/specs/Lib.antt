@@ -5,3 +5,6 @@ pub mod Calls
 pub mod Seen
 pub mod Walked
 pub mod Words
+pub mod Least
+pub mod Supers
+pub mod Faults

@@ -4,10 +4,12 @@
 mod calls;
 mod consulted;
 mod fault;
+mod least;
 mod numbering;
 mod program;
 mod scripted;
 mod words;
+mod supers;
 
 pub use class_link::{
     ClassBody, ClassInfo, Entry, FieldConstant, FieldRef, FrameShape, Instruction, LibBody,
