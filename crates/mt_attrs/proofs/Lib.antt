@@ -1,3 +1,4 @@
+pub mod Described
 pub mod Loops
 pub mod Starts
 pub mod Codecs

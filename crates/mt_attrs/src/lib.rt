@@ -19,7 +19,7 @@ ghost use Rattle.mt_attrs.specs.Attributes.{attrs_at, attrs_bytes, AreAttrs};
 ghost use Rattle.mt_attrs.specs.Naming.{WrittenIsSpelled};
 ghost use Rattle.mt_attrs.specs.Layout.{attrs_layout, HasAttrForm, SpelledIsWritten};
 
-use class_model::{Attr, Bytes, ClassFault, Const, LayoutFault, Seq};
+use class_model::{Attr, Bytes, ClassFault, Judged, LayoutFault, Seq};
 use mt_bytes::Cursor;
 use std::alloc::Global;
 
@@ -51,7 +51,7 @@ pub fn read_attrs(
     alloc: Global,
     cur: &mut Cursor,
     owner: Owner,
-    pool: &Seq<Const>,
+    pool: &Judged,
 ) -> Result<Seq<Attr>, ClassFault>
     // The bytes that were read spell what is answered.
     ensures found { IfOk result (λ attrs. AreAttrs pool.now owner attrs × (cur.old.bytes ≡ attrs_bytes attrs ++ cur.new.bytes) × (cur.new.at ≡ cur.old.at + length (attrs_bytes attrs))) }

@@ -9,7 +9,7 @@ use crate::due::{Due, Dues};
 use crate::fault::ItemFault;
 use crate::item::{u1, u2};
 use crate::named::{read_constant, read_result, read_text, read_type};
-use class_model::{ClassFault, Const, Note, Seq, Token};
+use class_model::{ClassFault, Judged, Note, Seq, Token};
 use mt_bytes::Cursor;
 use std::alloc::Global;
 
@@ -21,18 +21,17 @@ fn is_constant_tag(tag: u8) -> bool
 }
 
 #[tactic(auto, unfolding(crate::specs::Notes::enum_at))]
-fn read_enum(alloc: Global, pool: &Seq<Const>, cur: &mut Cursor) -> Result<Token, ItemFault>
+fn read_enum(pool: &Judged, cur: &mut Cursor) -> Result<Token, ItemFault>
     ensures { ReadsPart (enum_at pool.now) cur.old cur.new result }
 {
-    let kind = read_type(alloc, pool, cur)?;
+    let kind = read_type(pool, cur)?;
     let name = read_text(pool, cur)?;
     Ok(Token::Enum(kind, name))
 }
 
 /// An annotation where so many more may be opened.
 fn read_inner(
-    alloc: Global,
-    pool: &Seq<Const>,
+    pool: &Judged,
     depth: u8,
     cur: &mut Cursor,
 ) -> Result<Token, ItemFault>
@@ -43,15 +42,14 @@ fn read_inner(
         u2(cur)?;
         return Err(ItemFault::Bad(ClassFault::BadLength { at: first }));
     }
-    let kind = read_type(alloc, pool, cur)?;
+    let kind = read_type(pool, cur)?;
     let count = u2(cur)?;
     Ok(Token::Inner(kind, count))
 }
 
 /// What stands behind a tag at a place.
 fn read_value(
-    alloc: Global,
-    pool: &Seq<Const>,
+    pool: &Judged,
     depth: u8,
     at: u64,
     tag: u8,
@@ -63,12 +61,12 @@ fn read_value(
         let index = read_constant(pool, tag, cur)?;
         Ok(Token::Plain(tag, index))
     } else if tag == 101 {
-        read_enum(alloc, pool, cur)
+        read_enum(pool, cur)
     } else if tag == 99 {
-        let index = read_result(alloc, pool, cur)?;
+        let index = read_result(pool, cur)?;
         Ok(Token::Class(index))
     } else if tag == 64 {
-        read_inner(alloc, pool, depth, cur)
+        read_inner(pool, depth, cur)
     } else if tag == 91 {
         let count = u2(cur)?;
         Ok(Token::Many(count))
@@ -80,8 +78,7 @@ fn read_value(
 /// The front of a value.
 #[tactic(auto, unfolding(crate::specs::Notes::front_at))]
 fn read_front(
-    alloc: Global,
-    pool: &Seq<Const>,
+    pool: &Judged,
     depth: u8,
     cur: &mut Cursor,
 ) -> Result<Token, ItemFault>
@@ -89,14 +86,13 @@ fn read_front(
 {
     let at = cur.at();
     let tag = u1(cur)?;
-    read_value(alloc, pool, depth, at, tag, cur)
+    read_value(pool, depth, at, tag, cur)
 }
 
 /// The next token of what is due.
 #[tactic(auto, unfolding(crate::specs::Notes::token_at))]
 fn read_token(
-    alloc: Global,
-    pool: &Seq<Const>,
+    pool: &Judged,
     due: Due,
     cur: &mut Cursor,
 ) -> Result<Token, ItemFault>
@@ -106,13 +102,13 @@ fn read_token(
         let name = read_text(pool, cur)?;
         return Ok(Token::Name(name));
     }
-    read_front(alloc, pool, due.depth, cur)
+    read_front(pool, due.depth, cur)
 }
 
 /// The tokens of all that is due, in so many turns.
 fn read_turns(
     alloc: Global,
-    pool: &Seq<Const>,
+    pool: &Judged,
     turns: u128,
     dues: &mut Dues,
     cur: &mut Cursor,
@@ -124,7 +120,7 @@ fn read_turns(
         let Some(due) = dues.pop() else {
             return Ok(tokens);
         };
-        let token = read_token(alloc, pool, due, cur)?;
+        let token = read_token(pool, due, cur)?;
         tokens.push(token)?;
         dues.go_on(due, token)?;
     }
@@ -134,7 +130,7 @@ fn read_turns(
 /// The tokens of an annotation with so many elements.
 fn read_tokens(
     alloc: Global,
-    pool: &Seq<Const>,
+    pool: &Judged,
     count: u16,
     cur: &mut Cursor,
 ) -> Result<Seq<Token>, ItemFault>
@@ -151,10 +147,10 @@ fn read_tokens(
 }
 
 #[tactic(auto, unfolding(crate::specs::Notes::note_at))]
-fn read_note(alloc: Global, pool: &Seq<Const>, cur: &mut Cursor) -> Result<Note, ItemFault>
+fn read_note(alloc: Global, pool: &Judged, cur: &mut Cursor) -> Result<Note, ItemFault>
     ensures { ReadsPart (note_at pool.now) cur.old cur.new result }
 {
-    let kind = read_type(alloc, pool, cur)?;
+    let kind = read_type(pool, cur)?;
     let count = u2(cur)?;
     let tokens = read_tokens(alloc, pool, count, cur)?;
     Ok(Note {
@@ -166,7 +162,7 @@ fn read_note(alloc: Global, pool: &Seq<Const>, cur: &mut Cursor) -> Result<Note,
 
 fn read_counted_notes(
     alloc: Global,
-    pool: &Seq<Const>,
+    pool: &Judged,
     count: u16,
     cur: &mut Cursor,
 ) -> Result<Seq<Note>, ItemFault>
@@ -183,7 +179,7 @@ fn read_counted_notes(
 /// The annotations of an attribute.
 pub fn read_notes(
     alloc: Global,
-    pool: &Seq<Const>,
+    pool: &Judged,
     cur: &mut Cursor,
 ) -> Result<Seq<Note>, ItemFault>
     ensures { ReadsPart (notes_at pool.now) cur.old cur.new result }
