@@ -2,3 +2,4 @@ mod CountLaws
 mod ProgramLaws
 mod Lists
 pub mod Listed
+mod Among

@@ -85,8 +85,8 @@ each_mutant P class p = by (is_synthetic class.flags) refl
 
 -- ---- each is what a row makes, and what a row makes is listed
 
-pub are_mutants : (class : Class) → All (IsMutant class) (class_mutants class)
-are_mutants class = All-from_recursion (IsMutant class) (class_mutants class) (each_mutant (IsMutant class) class
+pub is_mutant : (class : Class) → Each (IsMutant class) (class_mutants class)
+is_mutant class = each_mutant (IsMutant class) class
     (λ real number member declared kept code coded at insn stands mutator change listed applies. record {
       real = real;
       member = member;
@@ -100,7 +100,10 @@ are_mutants class = All-from_recursion (IsMutant class) (class_mutants class) (e
       change = change;
       applies = applies;
       is = refl;
-    }))
+    })
+
+pub are_mutants : (class : Class) → All (IsMutant class) (class_mutants class)
+are_mutants class = All-from_recursion (IsMutant class) (class_mutants class) (is_mutant class)
 
 has_row : (place : Place) (at : ℕ) (insn : Insn) (table : List Mutator) (mutator : Mutator) (change : Change) → Has table mutator → row mutator place.asked insn ≡ Some change
     → Has (mutants_by table place at insn) (mutant_of place at insn mutator change)
@@ -138,7 +141,7 @@ has_method class pool number (i ∷ members) (suc k) member m e h =
     has_right (method_mutants class pool number i) (methods_mutants class pool (number + 1) members) m
     (has_method class pool (number + 1) members k member m e (subst (λ (n : ℕ). Has (method_mutants class pool n member) m) there h))
 
-listed : (class : Class) (m : Mutant) → IsMutant class m → Has (class_mutants class) m
+pub listed : (class : Class) (m : Mutant) → IsMutant class m → Has (class_mutants class) m
 listed class m q =
     let name = own_name class in
     let place = place_in name class.pool m.edit.method q.member q.code in
@@ -216,7 +219,11 @@ in_methods class pool number (member ∷ members) =
     each_method (ComesBefore (mutant_of (place_in class pool number member code) at insn mutator change)) class pool (number + 1) members (λ k other declared.
     each_numbered (ComesBefore (mutant_of (place_in class pool number member code) at insn mutator change)) class pool (number + 1 + k) other (λ c a i m ch. inl (omega arith)))))
 
-in_class : (class : Class) → Pairs ComesBefore (class_mutants class)
+-- each names its class
+pub each_named : (class : Class) → Each (λ m. m.class ≡ own_name class) (class_mutants class)
+each_named class = each_mutant (λ m. m.class ≡ own_name class) class (λ real number member declared kept code coded at insn stands mutator change listed applies. refl)
+
+pub in_class : (class : Class) → Pairs ComesBefore (class_mutants class)
 in_class class = by (is_synthetic class.flags)
   where
     by : (b : Bool) → Pairs ComesBefore (if b then [] else methods_mutants (own_name class) class.pool 0 class.methods)
@@ -226,7 +233,7 @@ in_class class = by (is_synthetic class.flags)
 pub listed_in_order : ListedInOrder
 listed_in_order class = all_pairs ComesBefore (class_mutants class) (in_class class)
 
-apart : (a b : Mutant) → ComesBefore a b → HaveOnePlace a b → ⊥
+pub apart : (a b : Mutant) → ComesBefore a b → HaveOnePlace a b → ⊥
 apart a b (inl below) one = let e = one.0 in omega (arith, below, e)
 apart a b (inr (e, inl below)) one = let at = one.1 in omega (arith, below, at)
 apart a b (inr (e, inr (at, below))) one = let p = ap table_place one.2 in omega (arith, below, p)

@@ -15,10 +15,15 @@ mod program;
 mod table;
 mod text;
 
+pub use asked::Asked;
 pub use change::{Callee, Change, Value};
 pub use counting::count_mutants;
-pub use laws::{listed_exactly, listed_in_order, listed_once};
+pub use laws::{
+    among_exactly, among_in_order, among_once, listed_exactly, listed_in_order, listed_once,
+};
 pub use listing::class_mutants;
 pub use mutant::{CellTable, Mutant, State, Verdict};
+pub use pool::Pool;
 pub use printing::{id_lines, id_text};
 pub use program::mutants;
+pub use table::{mutators, row};

@@ -1,0 +1,5 @@
+use Rattle.mutator_ops.proofs.Among as law
+use Rattle.mutator_ops.proofs.laws.among_in_order.Goals as goal
+
+pub returns : goal.returns
+returns c = law.among_in_order
