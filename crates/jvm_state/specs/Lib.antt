@@ -1,0 +1,4 @@
+pub mod Slots
+pub mod Tops
+pub mod Rows
+pub mod Zero
