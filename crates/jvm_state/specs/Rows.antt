@@ -30,35 +30,35 @@ pub record GoesOn (row : Row) (top at sp : ℕ) (ls xs ms ys : List Slot) (to le
   pub stack : IsStack ys left
   pub within : left ≤ top
 
--- No row applies to a frame of these slots, and they are as they were.
-pub record Refuses (row : Row) (at sp : ℕ) (ls xs ms ys : List Slot) : Type 0 where
-  pub none : (class : Name) (method : ℕ) (w : World) (fs : List Frame) →
-      row w (frame_in class method at ls xs sp) fs ≡ NoRow
-  pub locals : ms ≡ ls
-  pub operands : ys ≡ xs
-
 -- A row does to a frame of these slots what another one does, and they are as they were.
-pub record Leaves (row other : Row) (at sp : ℕ) (ls xs ys : List Slot) : Type 0 where
+pub record Leaves (row other : Row) (at sp : ℕ) (ls xs ms ys : List Slot) : Type 0 where
   pub same : (class : Name) (method : ℕ) (w : World) (fs : List Frame) →
       row w (frame_in class method at ls xs sp) fs
       ≡ other w (frame_in class method at ls xs sp) fs
+  pub locals : ms ≡ ls
   pub operands : ys ≡ xs
 
--- What a function of a row gives: the next instruction and the words that are left; or none, where
--- no row applies.
+-- What a function of a row gives: the next instruction and the words that are left; or none, and
+-- then the row is this other one.
+abbrev pub ActsElse :
+    Row → Row → ℕ → ℕ → ℕ → List Slot → List Slot → List Slot → List Slot → Option (ℕ × ℕ) →
+    Type 0
+ActsElse row other top at sp ls xs ms ys result =
+    IfSome result (λ r. GoesOn row top at sp ls xs ms ys r.0 r.1)
+    × IfNone result (Leaves row other at sp ls xs ms ys)
+
+-- The same where none says that no row applies.
 abbrev pub Acts :
     Row → ℕ → ℕ → ℕ → List Slot → List Slot → List Slot → List Slot → Option (ℕ × ℕ) → Type 0
 Acts row top at sp ls xs ms ys result =
-    IfSome result (λ r. GoesOn row top at sp ls xs ms ys r.0 r.1)
-    × IfNone result (Refuses row at sp ls xs ms ys)
+    ActsElse row (λ w f fs. NoRow) top at sp ls xs ms ys result
 
 -- The same where the locals stay, whatever they are.
 abbrev pub Lays : Row → ℕ → ℕ → ℕ → List Slot → List Slot → Option (ℕ × ℕ) → Type 0
 Lays row top at sp xs ys result = (ls : List Slot) → Acts row top at sp ls xs ls ys result
 
--- The same where another row is left to be taken in place of none. Both are told the limits.
-abbrev pub LaysElse : (Limits → Row) → (Limits → Row) → ℕ → ℕ → ℕ → List Slot → List Slot → Option (ℕ × ℕ) → Type 0
+-- The same with another row that is left, where both ask for the limits.
+abbrev pub LaysElse :
+    (Limits → Row) → (Limits → Row) → ℕ → ℕ → ℕ → List Slot → List Slot → Option (ℕ × ℕ) → Type 0
 LaysElse row other top at sp xs ys result =
-    (q : Limits) (ls : List Slot) →
-    IfSome result (λ r. GoesOn (row q) top at sp ls xs ls ys r.0 r.1)
-    × IfNone result (Leaves (row q) (other q) at sp ls xs ys)
+    (q : Limits) (ls : List Slot) → ActsElse (row q) (other q) top at sp ls xs ls ys result
