@@ -2,3 +2,4 @@ pub mod Slots
 pub mod Tops
 pub mod Rows
 pub mod Zero
+pub mod Ops

@@ -1,14 +1,17 @@
 //! What a machine's frames hold, and the rows that touch the top frame alone.
 #![tactic(auto)]
 
+mod acting;
 mod jumping;
 mod locals;
+mod op;
 mod operating;
 mod pushing;
 mod slot;
 mod stacking;
 mod words;
 
+pub use acting::act;
 pub use jumping::{
     branch_on_int, branch_on_ints, branch_on_null, branch_on_object, branch_on_other,
     branch_on_same, go_on, go_to, switch_by_keys, switch_by_table,
@@ -16,6 +19,7 @@ pub use jumping::{
 pub use locals::{
     increment, load_int, load_long, load_reference, store_int, store_long, store_reference,
 };
+pub use op::Op;
 pub use operating::{
     compare_longs, convert, negate_int, negate_long, operate_int, operate_long, shift_int,
     shift_long,
