@@ -3,3 +3,4 @@ pub mod Tops
 pub mod Rows
 pub mod Zero
 pub mod Ops
+pub mod Stores

@@ -2,6 +2,7 @@
 #![tactic(auto)]
 
 mod acting;
+mod frame;
 mod jumping;
 mod locals;
 mod op;
@@ -9,9 +10,11 @@ mod operating;
 mod pushing;
 mod slot;
 mod stacking;
+mod store;
 mod words;
 
 pub use acting::act;
+pub use frame::Frame;
 pub use jumping::{
     branch_on_int, branch_on_ints, branch_on_null, branch_on_object, branch_on_other,
     branch_on_same, go_on, go_to, switch_by_keys, switch_by_table,
@@ -30,3 +33,4 @@ pub use stacking::{
     dup, dup_two, dup_two_under_one, dup_two_under_two, dup_under_one, dup_under_two, pop, pop_two,
     swap,
 };
+pub use store::{act_in, enter};
