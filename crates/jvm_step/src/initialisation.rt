@@ -16,7 +16,7 @@ ghost use Rattle.class_table.specs.Symbols.{kind_of};
 ghost use Rattle.class_table.specs.Table.{look, name_at};
 ghost use Rattle.jvm_step.specs.View.{world_of, frames_of, state_of, named, need_with, AreClasses, IsMachineOf, IsKept, Comes};
 
-use crate::begun::Begun;
+use jvm_marks::Begun;
 use crate::machine::{Machine, Need};
 use crate::text::is_text;
 use class_model::{ClassId, Kind, Memory, Name};

@@ -4,7 +4,7 @@ ghost use Rattle.std.specs.Prelude.{◌≡◌, ◌<◌, Ok, true, false, List, [
 ghost use Rattle.class_table.specs.Table.{look, name_at};
 ghost use Rattle.jvm_step.specs.View.{named, AreClasses, reaches_line};
 
-use crate::reached::Reached;
+use jvm_marks::Reached;
 use class_model::{ClassId, Memory};
 use class_table::Program;
 

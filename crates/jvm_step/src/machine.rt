@@ -1,6 +1,6 @@
-use crate::begun::Begun;
+use jvm_marks::Begun;
 use crate::frame::Frame;
-use crate::reached::Reached;
+use jvm_marks::Reached;
 use crate::stack::Stack;
 use class_model::{ClassId, Name};
 use class_table::{Call, Consulted};

@@ -1,6 +1,8 @@
+//! The lines that a run reaches.
+
 ghost use Rattle.std.specs.Prelude.{◌≡◌, ℕ, map, nat_eq, ◌&&◌, if◌then◌else◌, Ok, true, false, ◌∷◌, ◌++◌, [], List, OnOk, OnErr, ◌<◌, length};
 ghost use Rattle.std.proofs.Common.{get_or};
-ghost use Rattle.jvm_step.specs.Marks.{is_listed, is_marked, with_pair};
+ghost use Rattle.jvm_marks.specs.Marks.{is_listed, is_marked, with_pair};
 
 use crate::slots::make_place;
 use class_model::{ClassId, Memory};
@@ -21,7 +23,8 @@ impl Model for Lines {
     ghost view = { λ l. l.marks.items };
 }
 
-/// The classes and lines that a run reached, each once, in order of first use. Contracts see the list, classes by their numbers.
+/// The classes and lines that a run reached, each once, in order of first use. Contracts see the
+/// list, classes by their numbers.
 #[derive(Drop)]
 pub struct Reached {
     pairs: Vec<(ClassId, u16)>,
@@ -30,7 +33,7 @@ pub struct Reached {
 
 impl Model for Reached {
     ghost use Rattle.std.specs.Prelude.{List, map, ℕ};
-    ghost use Rattle.jvm_step.specs.Marks.{AreMarksOf};
+    ghost use Rattle.jvm_marks.specs.Marks.{AreMarksOf};
 
     ghost Value = { List (ℕ × ℕ) };
 
@@ -57,7 +60,8 @@ impl Reached {
         &self.pairs
     }
 
-    /// Counts a line of a class among those that were reached. It is true where the line was new. Where memory runs out nothing changes.
+    /// Counts a line of a class among those that were reached. It is true where the line was new.
+    /// Where memory runs out nothing changes.
     pub fn note(&mut self, class: ClassId, line: u16) -> Result<bool, Memory>
         ensures noted { OnOk result (self.new ≡ with_pair class.0 line self.old) }
         ensures new { result ≡ Ok true → self.new ≡ self.old ++ (class.0, line) ∷ [] }
@@ -71,6 +75,22 @@ impl Reached {
         self.pairs.push((class, line))?;
         mark(&mut self.lines, class.0 as usize, line as usize);
         Ok(true)
+    }
+
+    /// Whether a line of a class was reached.
+    pub fn has(&self, class: ClassId, line: u16) -> bool
+        ensures { result ≡ is_listed class.0 line self.now }
+    {
+        is_reached(&self.lines, class.0 as usize, line as usize)
+    }
+
+    /// Nothing was reached. It takes the time of the lines that were, and keeps the places of their
+    /// marks.
+    pub fn clear(&mut self)
+        ensures { self.new ≡ [] }
+    {
+        unmark_all(&mut self.lines, &self.pairs);
+        self.pairs.clear();
     }
 
     /// Takes back the newest pair.
@@ -140,6 +160,16 @@ fn unmark_unless(lines: &mut [Lines], class: usize, line: usize, stays: bool)
 {
     if class < lines.len() {
         lines[class].unmark_unless(line, stays);
+    }
+}
+
+// Takes the marks of these lines away.
+fn unmark_all(lines: &mut [Lines], pairs: &[(ClassId, u16)])
+    requires marks { (c l : ℕ) → is_marked lines.old c l ≡ true → is_listed c l (map (λ x. (x.0.0, x.1)) pairs.now) ≡ true }
+    ensures { (c l : ℕ) → is_marked lines.new c l ≡ false }
+{
+    for pair in pairs {
+        unmark_unless(lines, pair.0.0 as usize, pair.1 as usize, false);
     }
 }
 

@@ -5,6 +5,20 @@ use Rattle.std.specs.List.{list_any}
 use Rattle.machine_rules.specs.declared.machine.InitState.{InitState}
 use Rattle.machine_rules.specs.declared.machine.InitState.TheVariants.{Fresh}
 
+-- ---- numbers
+
+-- Whether a number is among these.
+abbrev pub is_among : ℕ → List ℕ → Bool
+is_among n ns = list_any (λ x. nat_eq x n) ns
+
+-- Each number once, in order of first use.
+abbrev pub with_number : ℕ → List ℕ → List ℕ
+with_number n ns = if is_among n ns then ns else ns ++ n ∷ []
+
+-- The marks say which numbers are listed. Where there is no mark a number isn't.
+abbrev pub AreNumberMarksOf : List Bool → List ℕ → Type 0
+AreNumberMarksOf marks ns = (n : ℕ) → get_or marks n false ≡ is_among n ns
+
 -- ---- reached lines
 
 -- Whether a class and a line are among these.
@@ -13,7 +27,8 @@ is_listed class line pairs = list_any (λ x. nat_eq x.0 class && nat_eq x.1 line
 
 -- Each class and line once, in order of first use.
 abbrev pub with_pair : ℕ → ℕ → List (ℕ × ℕ) → List (ℕ × ℕ)
-with_pair class line pairs = if is_listed class line pairs then pairs else pairs ++ (class, line) ∷ []
+with_pair class line pairs =
+    if is_listed class line pairs then pairs else pairs ++ (class, line) ∷ []
 
 -- Whether a line of a class is marked. Where there is no mark it isn't.
 abbrev pub is_marked : List (List Bool) → ℕ → ℕ → Bool

@@ -1,5 +1,5 @@
 ghost use Rattle.std.specs.Prelude.{◌≡◌, [], ◌∷◌, OnOk};
-ghost use Rattle.jvm_step.specs.Marks.{state_among};
+ghost use Rattle.jvm_marks.specs.Marks.{state_among};
 
 use crate::slots::make_place;
 use class_model::{ClassId, Memory};
@@ -17,7 +17,7 @@ pub struct Begun {
 impl Model for Begun {
     ghost use Rattle.std.specs.Prelude.{List, map, reverse, ℕ};
     ghost use Rattle.machine_rules.specs.declared.machine.InitState.{InitState};
-    ghost use Rattle.jvm_step.specs.Marks.{AreStatesOf};
+    ghost use Rattle.jvm_marks.specs.Marks.{AreStatesOf};
 
     ghost Value = { List (ℕ × InitState) };
 
