@@ -16,11 +16,11 @@ ghost use Rattle.class_table.specs.Symbols.{kind_of};
 ghost use Rattle.class_table.specs.Table.{look, name_at};
 ghost use Rattle.jvm_step.specs.View.{world_of, frames_of, state_of, named, need_with, AreClasses, IsMachineOf, IsKept, Comes};
 
-use jvm_marks::Begun;
 use crate::machine::{Machine, Need};
 use crate::text::is_text;
 use class_model::{ClassId, Kind, Memory, Name};
 use class_table::{FieldConstant, LinkedBody, LinkedClass, LinkedField, LinkedMethod, Program};
+use jvm_marks::Begun;
 use machine_rules::InitState;
 use std::alloc::Global;
 

@@ -1,9 +1,8 @@
-use jvm_marks::Begun;
 use crate::frame::Frame;
-use jvm_marks::Reached;
 use crate::stack::Stack;
 use class_model::{ClassId, Name};
 use class_table::{Call, Consulted};
+use jvm_marks::{Begun, Reached};
 use jvm_values::Heap;
 use machine_rules::{Limits, Outcome};
 
