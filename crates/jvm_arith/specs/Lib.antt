@@ -1,2 +1,2 @@
-pub mod Arithmetic
+pub mod Narrowing
 pub mod Division

@@ -1,43 +1,47 @@
-ghost use Rattle.std.specs.Prelude.{◌≡◌, ◌↔◌, IsNone, IfSome};
+//! Ints (JVMS 6.5).
+
+ghost use Rattle.std.specs.Prelude.{◌≡◌, true, false, IfSome, IfNone};
 ghost use Rattle.std.specs.Int.{w32};
-ghost use Rattle.jvm_arith.specs.Arithmetic.{result_of, DividesByZero, shifted, int_distance, negated};
+ghost use Rattle.machine_rules.specs.Arithmetic.{operate, divides_by_zero, shift_by, int_distance, negate};
 
-use crate::operation::{Op2, Shift};
+use program_rules::{Operation, ShiftKind};
 
-/// The operation on two ints, the first one `a` (JVMS 6.5: iadd, isub, imul, idiv, irem, iand, ior, ixor).
-pub fn int_op(op: Op2, a: i32, b: i32) -> Option<i32>
-    ensures none { IsNone result ↔ DividesByZero op b }
-    ensures some { IfSome result (λ c. c ≡ result_of w32 op a b) }
+/// The operation on two ints, the first one `a`: none where it divides by 0 (JVMS 6.5: iadd, isub,
+/// imul, idiv, irem, iand, ior, ixor).
+pub fn int_op(op: Operation, a: i32, b: i32) -> Option<i32>
+    ensures none { IfNone result (divides_by_zero op b ≡ true) }
+    ensures some { IfSome result (λ c. c ≡ operate w32 op a b) }
+    ensures divided { IfSome result (λ c. divides_by_zero op b ≡ false) }
 {
     match op {
-        Op2::Add => Some(a.wrapping_add(b)),
-        Op2::Sub => Some(a.wrapping_sub(b)),
-        Op2::Mul => Some(a.wrapping_mul(b)),
-        Op2::Div if b == 0 => None,
-        Op2::Div => Some(a.wrapping_div(b)),
-        Op2::Rem if b == 0 => None,
-        Op2::Rem => Some(a.wrapping_rem(b)),
-        Op2::And => Some(a & b),
-        Op2::Or => Some(a | b),
-        Op2::Xor => Some(a ^ b),
+        Operation::Plus => Some(a.wrapping_add(b)),
+        Operation::Minus => Some(a.wrapping_sub(b)),
+        Operation::Times => Some(a.wrapping_mul(b)),
+        Operation::Divide if b == 0 => None,
+        Operation::Divide => Some(a.wrapping_div(b)),
+        Operation::Remainder if b == 0 => None,
+        Operation::Remainder => Some(a.wrapping_rem(b)),
+        Operation::BitAnd => Some(a & b),
+        Operation::BitOr => Some(a | b),
+        Operation::BitXor => Some(a ^ b),
     }
 }
 
 /// The int shifted by the low five bits of `by` (JVMS 6.5: ishl, ishr, iushr).
-pub fn int_shift(op: Shift, a: i32, by: i32) -> i32
-    ensures { result ≡ shifted w32 op a (int_distance by) }
+pub fn int_shift(op: ShiftKind, a: i32, by: i32) -> i32
+    ensures { result ≡ shift_by w32 op a (int_distance by) }
 {
     let distance = by.cast_unsigned();
     match op {
-        Shift::Left => a.wrapping_shl(distance),
-        Shift::Right => a.wrapping_shr(distance),
-        Shift::Unsigned => a.cast_unsigned().wrapping_shr(distance).cast_signed(),
+        ShiftKind::ShiftLeft => a.wrapping_shl(distance),
+        ShiftKind::ShiftRight => a.wrapping_shr(distance),
+        ShiftKind::ShiftUnsigned => a.cast_unsigned().wrapping_shr(distance).cast_signed(),
     }
 }
 
 /// The opposite int; of the least int that one itself (JVMS 6.5: ineg).
 pub fn int_neg(a: i32) -> i32
-    ensures { result ≡ negated w32 a }
+    ensures { result ≡ negate w32 a }
 {
     a.wrapping_neg()
 }

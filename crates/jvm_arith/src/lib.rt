@@ -5,10 +5,8 @@ mod int;
 mod laws;
 mod long;
 mod narrowing;
-mod operation;
 
 pub use int::{int_neg, int_op, int_shift};
 pub use laws::{division_rounds_towards_zero, edges};
 pub use long::{long_compare, long_neg, long_op, long_shift, long_to_int};
-pub use narrowing::narrow;
-pub use operation::{Op2, Shift};
+pub use narrowing::{low_byte, low_char, low_short, narrow};

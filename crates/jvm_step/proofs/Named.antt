@@ -11,7 +11,7 @@ use Rattle.machine_rules.specs.Initialisation.{init_in}
 use Rattle.machine_rules.specs.Steps.{is_reached, reach}
 use Rattle.class_link.specs.Info.{Info}
 use Rattle.class_table.specs.Table.{names, name_at, place_in, IsProgram}
-use Rattle.jvm_step.specs.Marks.{is_listed, with_pair, state_among}
+use Rattle.jvm_marks.specs.Marks.{is_listed, with_pair, state_among}
 use Rattle.jvm_step.specs.View.{named, AreClasses}
 
 alike : (p : List Info) (i j : ℕ) → IsProgram p → i < length p → j < length p → name_at p i ≡ name_at p j → i ≡ j

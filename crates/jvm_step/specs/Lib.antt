@@ -3,6 +3,5 @@ pub mod Arithmetic
 pub mod Ending
 pub mod Finding
 pub mod Library
-pub mod Marks
 pub mod Natives
 pub mod View

@@ -2,7 +2,7 @@ ghost use Rattle.std.specs.Prelude.{◌≡◌};
 ghost use Rattle.machine_rules.specs.Arithmetic.{compares};
 ghost use Rattle.jvm_step.specs.Arithmetic.{int_operation};
 
-use jvm_arith::{Op2, int_op};
+use jvm_arith::int_op;
 use program_rules::{Comparison, Operation};
 
 /// Whether a comparison holds of two ints (JVMS 6.5, `if<cond>` and `if_icmp<cond>`).
@@ -24,8 +24,8 @@ pub fn compute(op: Operation, x: i32, y: i32) -> Option<i32>
     ensures { result ≡ int_operation op x y }
 {
     match op {
-        Operation::Plus => int_op(Op2::Add, x, y),
-        Operation::Minus => int_op(Op2::Sub, x, y),
+        Operation::Plus => int_op(op, x, y),
+        Operation::Minus => int_op(op, x, y),
         Operation::Times => None,
         Operation::Divide => None,
         Operation::Remainder => None,

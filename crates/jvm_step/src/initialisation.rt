@@ -16,13 +16,13 @@ ghost use Rattle.class_link.specs.Symbols.{kind_of};
 ghost use Rattle.class_table.specs.Table.{look, name_at};
 ghost use Rattle.jvm_step.specs.View.{world_of, frames_of, state_of, named, need_with, AreClasses, IsMachineOf, IsKept, Comes};
 
-use crate::begun::Begun;
 use crate::machine::{Machine, Need};
 use crate::text::is_text;
 use class_model::{ClassId, Kind, Memory, Name};
 use class_table::{
     FieldConstant, LinkedBody, LinkedClass, LinkedField, LinkedMethod, Program, Shared,
 };
+use jvm_marks::Begun;
 use machine_rules::InitState;
 use std::alloc::Global;
 

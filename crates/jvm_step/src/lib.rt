@@ -3,7 +3,6 @@
 
 mod args;
 mod arithmetic;
-mod begun;
 mod calling;
 mod classes;
 mod fetching;
@@ -16,11 +15,9 @@ mod machine;
 mod natives;
 mod operands;
 mod outcome;
-mod reached;
 mod returning;
 mod rows;
 mod script;
-mod slots;
 mod stack;
 mod starting;
 mod stepping;

@@ -4,9 +4,9 @@ ghost use Rattle.std.specs.Prelude.{◌≡◌, ◌<◌, Ok, true, false, List, [
 ghost use Rattle.class_table.specs.Table.{look, name_at};
 ghost use Rattle.jvm_step.specs.View.{named, AreClasses, reaches_line};
 
-use crate::reached::Reached;
 use class_model::{ClassId, Memory};
 use class_table::Program;
+use jvm_marks::Reached;
 
 /// A line of a class is reached, where the class comes from a class file. It is true where the line was new.
 #[tactic(auto, using(crate::proofs::Named::reach_named, crate::proofs::Named::classes_listed), unfolding(class_link::specs::View::linked_of))]

@@ -1,9 +1,8 @@
-use crate::begun::Begun;
 use crate::frame::Frame;
-use crate::reached::Reached;
 use crate::stack::Stack;
 use class_model::{ClassId, Name};
 use class_table::{Call, Consulted};
+use jvm_marks::{Begun, Reached};
 use jvm_values::Heap;
 use machine_rules::{Limits, Outcome};
 

@@ -5,13 +5,12 @@ ghost use Rattle.machine_rules.specs.State.{start};
 ghost use Rattle.class_table.specs.Table.{look};
 ghost use Rattle.jvm_step.specs.View.{world_of, state_of, test_of, IsMachineOf};
 
-use crate::begun::Begun;
 use crate::machine::{Exceptions, Machine, World};
-use crate::reached::Reached;
 use crate::stack::Stack;
 use crate::text::name;
 use class_model::{Memory, Name};
 use class_table::{Consulted, Program, Test};
+use jvm_marks::{Begun, Reached};
 use jvm_values::Heap;
 use machine_rules::Limits;
 use std::alloc::Global;

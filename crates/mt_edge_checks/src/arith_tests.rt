@@ -2,59 +2,59 @@
 
 use class_model::{Kind, Seq};
 use jvm_arith::{
-    Op2, Shift, int_neg, int_op, int_shift, long_compare, long_neg, long_op, long_shift,
-    long_to_int, narrow,
+    int_neg, int_op, int_shift, long_compare, long_neg, long_op, long_shift, long_to_int, narrow,
 };
+use program_rules::{Operation, ShiftKind};
 use std::test::Fail;
 
 const LEAST: i32 = i32::MIN;
 
 const GREATEST: i32 = i32::MAX;
 
-const INT_OPERATIONS: [(Op2, i32, i32, Option<i32>); 18] = [
-    (Op2::Add, LEAST, -1, Some(GREATEST)),
-    (Op2::Add, GREATEST, 1, Some(LEAST)),
-    (Op2::Sub, LEAST, 1, Some(GREATEST)),
-    (Op2::Sub, LEAST, -1, Some(-2147483647)),
-    (Op2::Mul, LEAST, -1, Some(LEAST)),
-    (Op2::Mul, GREATEST, GREATEST, Some(1)),
-    (Op2::Mul, 65536, 65536, Some(0)),
-    (Op2::Div, LEAST, -1, Some(LEAST)),
-    (Op2::Div, -7, 2, Some(-3)),
-    (Op2::Div, 7, -2, Some(-3)),
-    (Op2::Div, 5, 0, None),
-    (Op2::Rem, LEAST, -1, Some(0)),
-    (Op2::Rem, -7, 2, Some(-1)),
-    (Op2::Rem, 7, -2, Some(1)),
-    (Op2::Rem, 5, 0, None),
-    (Op2::And, 7, -2, Some(6)),
-    (Op2::Or, -7, 2, Some(-5)),
-    (Op2::Xor, LEAST, -1, Some(GREATEST)),
+const INT_OPERATIONS: [(Operation, i32, i32, Option<i32>); 18] = [
+    (Operation::Plus, LEAST, -1, Some(GREATEST)),
+    (Operation::Plus, GREATEST, 1, Some(LEAST)),
+    (Operation::Minus, LEAST, 1, Some(GREATEST)),
+    (Operation::Minus, LEAST, -1, Some(-2147483647)),
+    (Operation::Times, LEAST, -1, Some(LEAST)),
+    (Operation::Times, GREATEST, GREATEST, Some(1)),
+    (Operation::Times, 65536, 65536, Some(0)),
+    (Operation::Divide, LEAST, -1, Some(LEAST)),
+    (Operation::Divide, -7, 2, Some(-3)),
+    (Operation::Divide, 7, -2, Some(-3)),
+    (Operation::Divide, 5, 0, None),
+    (Operation::Remainder, LEAST, -1, Some(0)),
+    (Operation::Remainder, -7, 2, Some(-1)),
+    (Operation::Remainder, 7, -2, Some(1)),
+    (Operation::Remainder, 5, 0, None),
+    (Operation::BitAnd, 7, -2, Some(6)),
+    (Operation::BitOr, -7, 2, Some(-5)),
+    (Operation::BitXor, LEAST, -1, Some(GREATEST)),
 ];
 
 const LEAST_LONG: i64 = i64::MIN;
 
 const GREATEST_LONG: i64 = i64::MAX;
 
-const LONG_OPERATIONS: [(Op2, i64, i64, Option<i64>); 18] = [
-    (Op2::Add, LEAST_LONG, -1, Some(GREATEST_LONG)),
-    (Op2::Add, GREATEST_LONG, 1, Some(LEAST_LONG)),
-    (Op2::Sub, LEAST_LONG, 1, Some(GREATEST_LONG)),
-    (Op2::Sub, LEAST_LONG, -1, Some(-9223372036854775807)),
-    (Op2::Mul, LEAST_LONG, -1, Some(LEAST_LONG)),
-    (Op2::Mul, GREATEST_LONG, GREATEST_LONG, Some(1)),
-    (Op2::Mul, 4294967296, 4294967296, Some(0)),
-    (Op2::Div, LEAST_LONG, -1, Some(LEAST_LONG)),
-    (Op2::Div, -7, 2, Some(-3)),
-    (Op2::Div, 7, -2, Some(-3)),
-    (Op2::Div, 5, 0, None),
-    (Op2::Rem, LEAST_LONG, -1, Some(0)),
-    (Op2::Rem, -7, 2, Some(-1)),
-    (Op2::Rem, 7, -2, Some(1)),
-    (Op2::Rem, 5, 0, None),
-    (Op2::And, 7, -2, Some(6)),
-    (Op2::Or, -7, 2, Some(-5)),
-    (Op2::Xor, LEAST_LONG, -1, Some(GREATEST_LONG)),
+const LONG_OPERATIONS: [(Operation, i64, i64, Option<i64>); 18] = [
+    (Operation::Plus, LEAST_LONG, -1, Some(GREATEST_LONG)),
+    (Operation::Plus, GREATEST_LONG, 1, Some(LEAST_LONG)),
+    (Operation::Minus, LEAST_LONG, 1, Some(GREATEST_LONG)),
+    (Operation::Minus, LEAST_LONG, -1, Some(-9223372036854775807)),
+    (Operation::Times, LEAST_LONG, -1, Some(LEAST_LONG)),
+    (Operation::Times, GREATEST_LONG, GREATEST_LONG, Some(1)),
+    (Operation::Times, 4294967296, 4294967296, Some(0)),
+    (Operation::Divide, LEAST_LONG, -1, Some(LEAST_LONG)),
+    (Operation::Divide, -7, 2, Some(-3)),
+    (Operation::Divide, 7, -2, Some(-3)),
+    (Operation::Divide, 5, 0, None),
+    (Operation::Remainder, LEAST_LONG, -1, Some(0)),
+    (Operation::Remainder, -7, 2, Some(-1)),
+    (Operation::Remainder, 7, -2, Some(1)),
+    (Operation::Remainder, 5, 0, None),
+    (Operation::BitAnd, 7, -2, Some(6)),
+    (Operation::BitOr, -7, 2, Some(-5)),
+    (Operation::BitXor, LEAST_LONG, -1, Some(GREATEST_LONG)),
 ];
 
 #[test]
@@ -68,28 +68,28 @@ fn operations_at_the_edges(rt: HostRuntime) -> Result<(), Fail> {
     Ok(())
 }
 
-const INT_SHIFTS: [(Shift, i32, i32, i32); 9] = [
-    (Shift::Left, 1, 31, LEAST),
-    (Shift::Left, 1, 32, 1),
-    (Shift::Left, 1, -1, LEAST),
-    (Shift::Left, GREATEST, 1, -2),
-    (Shift::Right, -8, 1, -4),
-    (Shift::Right, LEAST, 31, -1),
-    (Shift::Unsigned, -8, 1, 2147483644),
-    (Shift::Unsigned, LEAST, -1, 1),
-    (Shift::Unsigned, -1, 0, -1),
+const INT_SHIFTS: [(ShiftKind, i32, i32, i32); 9] = [
+    (ShiftKind::ShiftLeft, 1, 31, LEAST),
+    (ShiftKind::ShiftLeft, 1, 32, 1),
+    (ShiftKind::ShiftLeft, 1, -1, LEAST),
+    (ShiftKind::ShiftLeft, GREATEST, 1, -2),
+    (ShiftKind::ShiftRight, -8, 1, -4),
+    (ShiftKind::ShiftRight, LEAST, 31, -1),
+    (ShiftKind::ShiftUnsigned, -8, 1, 2147483644),
+    (ShiftKind::ShiftUnsigned, LEAST, -1, 1),
+    (ShiftKind::ShiftUnsigned, -1, 0, -1),
 ];
 
-const LONG_SHIFTS: [(Shift, i64, i32, i64); 9] = [
-    (Shift::Left, 1, 32, 4294967296),
-    (Shift::Left, 1, 63, LEAST_LONG),
-    (Shift::Left, 1, 64, 1),
-    (Shift::Left, 1, -1, LEAST_LONG),
-    (Shift::Right, -8, 1, -4),
-    (Shift::Right, LEAST_LONG, 63, -1),
-    (Shift::Unsigned, -8, 1, 9223372036854775804),
-    (Shift::Unsigned, LEAST_LONG, -1, 1),
-    (Shift::Unsigned, -1, 0, -1),
+const LONG_SHIFTS: [(ShiftKind, i64, i32, i64); 9] = [
+    (ShiftKind::ShiftLeft, 1, 32, 4294967296),
+    (ShiftKind::ShiftLeft, 1, 63, LEAST_LONG),
+    (ShiftKind::ShiftLeft, 1, 64, 1),
+    (ShiftKind::ShiftLeft, 1, -1, LEAST_LONG),
+    (ShiftKind::ShiftRight, -8, 1, -4),
+    (ShiftKind::ShiftRight, LEAST_LONG, 63, -1),
+    (ShiftKind::ShiftUnsigned, -8, 1, 9223372036854775804),
+    (ShiftKind::ShiftUnsigned, LEAST_LONG, -1, 1),
+    (ShiftKind::ShiftUnsigned, -1, 0, -1),
 ];
 
 #[test]

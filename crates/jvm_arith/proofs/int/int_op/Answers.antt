@@ -3,11 +3,11 @@ use Rattle.std.proofs.lemmas.Int.{wrapping_add_is, wrapping_sub_is}
 use Rattle.jvm_arith.proofs.Wrapping.{quotient}
 use Rattle.jvm_arith.proofs.int.int_op.Goals as goal
 
-pub returns-in-Add-clause-some : goal.returns-in-Add-clause-some
-returns-in-Add-clause-some c = rw c.in-Add.is (wrapping_add_is w32 c.args.a c.args.b c.ranges.a c.ranges.b)
+pub returns-in-Plus-clause-some : goal.returns-in-Plus-clause-some
+returns-in-Plus-clause-some c = rw c.in-Plus.is (wrapping_add_is w32 c.args.a c.args.b c.ranges.a c.ranges.b)
 
-pub returns-in-Sub-clause-some : goal.returns-in-Sub-clause-some
-returns-in-Sub-clause-some c = rw c.in-Sub.is (wrapping_sub_is w32 c.args.a c.args.b c.ranges.a c.ranges.b)
+pub returns-in-Minus-clause-some : goal.returns-in-Minus-clause-some
+returns-in-Minus-clause-some c = rw c.in-Minus.is (wrapping_sub_is w32 c.args.a c.args.b c.ranges.a c.ranges.b)
 
-pub returns-in-Div-2-clause-some : goal.returns-in-Div-2-clause-some
-returns-in-Div-2-clause-some c = rw c.in-Div.is (quotient w32 c.args.a c.args.b c.wrapping_div.result c.ranges.a c.ranges.b c.wrapping_div.ensures)
+pub returns-in-Divide-2-clause-some : goal.returns-in-Divide-2-clause-some
+returns-in-Divide-2-clause-some c = rw c.in-Divide.is (quotient w32 c.args.a c.args.b c.wrapping_div.result c.ranges.a c.ranges.b c.wrapping_div.ensures)

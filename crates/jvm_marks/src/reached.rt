@@ -1,0 +1,201 @@
+//! The lines that a run reaches.
+
+ghost use Rattle.std.specs.Prelude.{◌≡◌, ℕ, map, nat_eq, ◌&&◌, if◌then◌else◌, Ok, true, false, ◌∷◌, ◌++◌, [], List, OnOk, OnErr, ◌<◌, length};
+ghost use Rattle.std.proofs.Common.{get_or};
+ghost use Rattle.jvm_marks.specs.Marks.{is_listed, is_marked, with_pair};
+
+use crate::slots::make_place;
+use class_model::{ClassId, Memory};
+use std::alloc::Global;
+use std::marker::Model;
+
+/// The lines of a class that were reached, a mark for each line up to the last one.
+#[derive(Drop)]
+struct Lines {
+    marks: Vec<bool>,
+}
+
+impl Model for Lines {
+    ghost use Rattle.std.specs.Prelude.{List, Bool};
+
+    ghost Value = { List Bool };
+
+    ghost view = { λ l. l.marks.items };
+}
+
+/// The classes and lines that a run reached, each once, in order of first use. Contracts see the
+/// list, classes by their numbers.
+#[derive(Drop)]
+pub struct Reached {
+    pairs: Vec<(ClassId, u16)>,
+    lines: Vec<Lines>,
+}
+
+impl Model for Reached {
+    ghost use Rattle.std.specs.Prelude.{List, map, ℕ};
+    ghost use Rattle.jvm_marks.specs.Marks.{AreMarksOf};
+
+    ghost Value = { List (ℕ × ℕ) };
+
+    ghost view = { λ r. map (λ x. (x.0.0, x.1)) r.pairs.items };
+
+    ghost invariant = { λ r. AreMarksOf r.lines.items (map (λ x. (x.0.0, x.1)) r.pairs.items) };
+}
+
+impl Reached {
+    /// Nothing was reached.
+    pub fn new(alloc: Global) -> Reached
+        ensures { result ≡ [] }
+    {
+        Reached {
+            pairs: Vec::new(alloc),
+            lines: Vec::new(alloc),
+        }
+    }
+
+    /// The pairs in order of first use.
+    pub fn pairs(&self) -> &[(ClassId, u16)]
+        ensures { map (λ x. (x.0.0, x.1)) result.now ≡ self.now }
+    {
+        &self.pairs
+    }
+
+    /// Counts a line of a class among those that were reached. It is true where the line was new.
+    /// Where memory runs out nothing changes.
+    pub fn note(&mut self, class: ClassId, line: u16) -> Result<bool, Memory>
+        ensures noted { OnOk result (self.new ≡ with_pair class.0 line self.old) }
+        ensures new { result ≡ Ok true → self.new ≡ self.old ++ (class.0, line) ∷ [] }
+        ensures known { result ≡ Ok false → self.new ≡ self.old }
+        ensures err { OnErr result (self.new ≡ self.old) }
+    {
+        if is_reached(&self.lines, class.0 as usize, line as usize) {
+            return Ok(false);
+        }
+        make_mark(&mut self.lines, class.0 as usize, line as usize)?;
+        self.pairs.push((class, line))?;
+        mark(&mut self.lines, class.0 as usize, line as usize);
+        Ok(true)
+    }
+
+    /// Whether a line of a class was reached.
+    pub fn has(&self, class: ClassId, line: u16) -> bool
+        ensures { result ≡ is_listed class.0 line self.now }
+    {
+        is_reached(&self.lines, class.0 as usize, line as usize)
+    }
+
+    /// Nothing was reached. It takes the time of the lines that were, and keeps the places of their
+    /// marks.
+    pub fn clear(&mut self)
+        ensures { self.new ≡ [] }
+    {
+        unmark_all(&mut self.lines, &self.pairs);
+        self.pairs.clear();
+    }
+
+    /// Takes back the newest pair.
+    pub fn take_back(&mut self)
+        ensures { (before : List (ℕ × ℕ)) (pair : ℕ × ℕ) → self.old ≡ before ++ pair ∷ [] → self.new ≡ before }
+    {
+        let Some((class, line)) = self.pairs.pop() else {
+            return;
+        };
+        let again = is_among(&self.pairs, class, line);
+        unmark_unless(&mut self.lines, class.0 as usize, line as usize, again);
+    }
+}
+
+// Whether a line of a class is marked.
+fn is_reached(lines: &[Lines], class: usize, line: usize) -> bool
+    ensures { result ≡ is_marked lines.now class line }
+{
+    let Some(lines) = lines.get(class) else {
+        return false;
+    };
+    let Some(reached) = lines.marks.get(line) else {
+        return false;
+    };
+    *reached
+}
+
+// Makes place for the mark of a line of a class.
+fn make_mark(lines: &mut Vec<Lines>, class: usize, line: usize) -> Result<(), Memory>
+    ensures same { (c l : ℕ) → is_marked lines.new.items c l ≡ is_marked lines.old.items c l }
+    ensures class { OnOk result (class < length lines.new.items) }
+    ensures line { OnOk result (line < length (get_or lines.new.items class [])) }
+{
+    let alloc = *lines.allocator();
+    while lines.len() <= class {
+        lines.push(Lines {
+            marks: Vec::new(alloc),
+        })?;
+    }
+    lines[class].make_place(line)
+}
+
+// Whether a line of a class is among these.
+fn is_among(pairs: &[(ClassId, u16)], class: ClassId, line: u16) -> bool
+    ensures { result ≡ is_listed class.0 line (map (λ x. (x.0.0, x.1)) pairs.now) }
+{
+    for pair in pairs {
+        if pair.0.0 == class.0 && pair.1 == line {
+            return true;
+        }
+    }
+    false
+}
+
+// Marks a line of a class.
+fn mark(lines: &mut [Lines], class: usize, line: usize)
+    requires class { class < length lines.old }
+    requires line { line < length (get_or lines.old class []) }
+    ensures { (c l : ℕ) → is_marked lines.new c l ≡ (if nat_eq class c && nat_eq line l then true else is_marked lines.old c l) }
+{
+    lines[class].mark(line);
+}
+
+// Takes the mark of a line of a class away, where it isn't to stay.
+fn unmark_unless(lines: &mut [Lines], class: usize, line: usize, stays: bool)
+    ensures { (c l : ℕ) → is_marked lines.new c l ≡ (if nat_eq class c && nat_eq line l then is_marked lines.old c l && stays else is_marked lines.old c l) }
+{
+    if class < lines.len() {
+        lines[class].unmark_unless(line, stays);
+    }
+}
+
+// Takes the marks of these lines away.
+fn unmark_all(lines: &mut [Lines], pairs: &[(ClassId, u16)])
+    requires marks { (c l : ℕ) → is_marked lines.old c l ≡ true → is_listed c l (map (λ x. (x.0.0, x.1)) pairs.now) ≡ true }
+    ensures { (c l : ℕ) → is_marked lines.new c l ≡ false }
+{
+    for pair in pairs {
+        unmark_unless(lines, pair.0.0 as usize, pair.1 as usize, false);
+    }
+}
+
+impl Lines {
+    // Makes place for the mark of a line.
+    fn make_place(&mut self, line: usize) -> Result<(), Memory>
+        ensures same { (l : ℕ) → get_or self.new l false ≡ get_or self.old l false }
+        ensures place { OnOk result (line < length self.new) }
+    {
+        make_place(&mut self.marks, line, false)
+    }
+
+    // Marks a line.
+    fn mark(&mut self, line: usize)
+        requires { line < length self.old }
+        ensures { (l : ℕ) → get_or self.new l false ≡ (if nat_eq line l then true else get_or self.old l false) }
+    {
+        self.marks[line] = true;
+    }
+
+    // Takes the mark of a line away, where it isn't to stay.
+    fn unmark_unless(&mut self, line: usize, stays: bool)
+        ensures { (l : ℕ) → get_or self.new l false ≡ (if nat_eq line l then get_or self.old l false && stays else get_or self.old l false) }
+    {
+        if line < self.marks.len() {
+            self.marks[line] = self.marks[line] && stays;
+        }
+    }
+}

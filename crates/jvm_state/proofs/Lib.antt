@@ -1,0 +1,4 @@
+pub mod Stacks
+pub mod Pairs
+pub mod LocalLaws
+pub mod StoreLaws

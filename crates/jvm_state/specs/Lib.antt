@@ -1,0 +1,6 @@
+pub mod Slots
+pub mod Tops
+pub mod Rows
+pub mod Zero
+pub mod Ops
+pub mod Stores
