@@ -71,7 +71,7 @@ has_any pool types attrs = list_any (has_one_of pool types) attrs
 -- ---- a method
 
 -- What the annotations of a method with these attributes make of it. One that is ignored is no test.
-abbrev pub marks_of : List Const → List Attr → Marks
+unfoldable pub marks_of : List Const → List Attr → Marks
 marks_of pool attrs = record {
   test = has_any pool test_types attrs && not (has_any pool ignored_types attrs);
   before = has_any pool before_types attrs;

@@ -86,9 +86,9 @@ listed_above lower (c ∷ above) =
     listed_in (declares_any lower) c ∷ listed_above (lower ++ c ∷ []) above
 
 -- The listed methods of a class and its superclasses, class by class, the lowest first.
-abbrev pub listed_of : List Class → List (List Listed)
+unfoldable pub listed_of : List Class → List (List Listed)
 listed_of classes = listed_above [] classes
 
 -- List order: the highest class first.
-abbrev pub downwards : List (List Listed) → List Listed
+unfoldable pub downwards : List (List Listed) → List Listed
 downwards ls = flat_map (λ l. l) (reverse ls)

@@ -35,14 +35,14 @@ abbrev pub makes_instance : List Const → Member → Bool
 makes_instance pool m =
     is_plain_constructor pool m && not (is_static m.flags) && not (is_abstract m.flags)
 
-abbrev pub makes_instances : Class → Bool
+unfoldable pub makes_instances : Class → Bool
 makes_instances c = list_any (makes_instance c.pool) c.methods
 
 -- Whether a method breaks a rule. By B1 it takes and gives nothing. By B2 one of the instance isn't
 -- static, and one of the class is. By B3 it is neither abstract nor private, and its name doesn't
 -- begin with `<`. By B4 the test class makes its instances, which is looked at once for all methods.
 -- By B5 a test expects a class, if it expects anything.
-abbrev pub breaks : Bool → Rule → Listed → Bool
+unfoldable pub breaks : Bool → Rule → Listed → Bool
 breaks makes B1 l = not (same l.desc plain_descriptor)
 breaks makes B2 l =
     (is_static l.flags && is_of_instance l.marks) || (not (is_static l.flags) && is_of_class l.marks)
@@ -66,7 +66,7 @@ abbrev pub has_runner : List Const → Member → Bool
 has_runner pool m = has_any pool runner_types m.attrs
 
 -- An annotation of a runner stands on the class, a field or a method.
-abbrev pub uses_runner : Class → Bool
+unfoldable pub uses_runner : Class → Bool
 uses_runner c =
     has_any c.pool runner_types c.attrs
     || list_any (has_runner c.pool) c.fields
@@ -79,7 +79,7 @@ may_test c =
     && not (has_any c.pool ignored_types c.attrs)
 
 -- A test class is such a class with a test among its listed methods.
-abbrev pub is_test_class : Class → List Listed → Bool
+unfoldable pub is_test_class : Class → List Listed → Bool
 is_test_class c ls = may_test c && list_any (λ l. l.marks.test) ls
 
 -- What is told where a method breaks this rule. The method is named by its name and its descriptor,
@@ -100,19 +100,22 @@ abbrev pub first_fault : {X : Type 0} → (X → Option TestFault) → List X �
 first_fault fault_of [] = None
 first_fault fault_of (x ∷ xs) = or_else (fault_of x) (first_fault fault_of xs)
 
+-- The first fault of these methods, looked at for this class.
+abbrev pub methods_fault : Class → List Listed → Option TestFault
+methods_fault c ls = first_fault (method_fault (own_name c) (makes_instances c)) ls
+
 -- The fault among the listed methods of a class. Only a test class is asked the rules.
 abbrev pub listed_fault : Class → List Listed → Option TestFault
-listed_fault c ls =
-    if is_test_class c ls then first_fault (method_fault (own_name c) (makes_instances c)) ls
-    else None
+listed_fault c ls = if is_test_class c ls then methods_fault c ls else None
 
--- The fault of a class that stands before its superclasses, if it has one: a runner comes before
--- all else.
+-- A runner comes before all else.
+abbrev pub fault_with : Class → List Listed → Option TestFault
+fault_with c ls = if uses_runner c then Some (RunnerUsed (own_name c)) else listed_fault c ls
+
+-- The fault of a class that stands before its superclasses, if it has one.
 abbrev pub class_fault : List Class → Option TestFault
 class_fault [] = None
-class_fault (c ∷ above) =
-    if uses_runner c then Some (RunnerUsed (own_name c))
-    else listed_fault c (downwards (listed_of (c ∷ above)))
+class_fault (c ∷ above) = fault_with c (downwards (listed_of (c ∷ above)))
 
 -- A call passed where no fault is meant, and else told it, unless memory ran out.
 abbrev pub Passes : {A : Type 0} → Option TestFault → Result A TestFault → Type 0

@@ -41,15 +41,22 @@ call_as part l = if has_part part l.marks then call_of (kind_of part) l ∷ [] e
 abbrev pub calls_as : Part → List Listed → List Call
 calls_as part ls = flat_map (call_as part) ls
 
--- What stands around each test of a class: what runs before it in list order, and what runs behind
--- it from the lowest class upwards, in list order within one.
-abbrev pub fixture_of : List (List Listed) → Fixture
-fixture_of ls = record {
-  before_all = calls_as part.BeforeAll (downwards ls);
-  before = calls_as part.Before (downwards ls);
-  after = flat_map (calls_as part.After) ls;
-  after_all = flat_map (calls_as part.AfterAll) ls;
+-- What stands around each test of a class with these listed methods, where what runs behind it is
+-- given.
+abbrev pub fixture_with : List Listed → List Call → List Call → Fixture
+fixture_with ls after after_all = record {
+  before_all = calls_as part.BeforeAll ls;
+  before = calls_as part.Before ls;
+  after = after;
+  after_all = after_all;
 }
+
+-- What runs before a test stands in list order, and what runs behind it from the lowest class
+-- upwards, in list order within one.
+abbrev pub fixture_of : List (List Listed) → Fixture
+fixture_of ls =
+    fixture_with (downwards ls) (flat_map (calls_as part.After) ls)
+    (flat_map (calls_as part.AfterAll) ls)
 
 -- The new instance of the test class.
 abbrev pub make_call : Name → Call

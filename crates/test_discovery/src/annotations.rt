@@ -65,10 +65,16 @@ pub fn names_text(pool: &[Const], index: u16, text: &str) -> bool
     }
 }
 
+fn names_one_of(pool: &[Const], types: &[&str], index: u16) -> bool
+    ensures { result ≡ list_any (λ t. names_text pool.now index t.now) types.now }
+{
+    types.iter().any(|text| names_text(pool, index, text))
+}
+
 fn is_one_of(pool: &[Const], types: &[&str], note: &Note) -> bool
     ensures { result ≡ is_one_of pool.now (map (λ t. t.now) types.now) note.now }
 {
-    types.iter().any(|text| names_text(pool, note.kind, text))
+    names_one_of(pool, types, note.kind)
 }
 
 fn any_is_one_of(pool: &[Const], types: &[&str], notes: &[Note]) -> bool
@@ -107,6 +113,7 @@ pub fn is_ignored(pool: &[Const], attrs: &[Attr]) -> bool
 }
 
 /// What the annotations of a method make of it.
+#[tactic(auto, unfolding(crate::specs::Annotations::marks_of))]
 pub fn marks_of(alloc: Global, pool: &[Const], attrs: &[Attr]) -> Result<Marks, Memory>
     ensures { IfOk result (λ marks. marks ≡ marks_of pool.now attrs.now) }
 {

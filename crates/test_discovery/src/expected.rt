@@ -22,6 +22,7 @@ pub enum Expected {
 }
 
 // A name without its last unit.
+#[tactic(auto, using(crate::proofs::Cut::without_last_take))]
 fn without_last(alloc: Global, name: &[u16]) -> Result<Name, Memory>
     ensures { IfOk result (λ cut. cut ≡ without_last name.now) }
 {

@@ -139,6 +139,7 @@ fn add_heads(
 }
 
 /// The listed methods of a class and its superclasses, class by class, the lowest first.
+#[tactic(auto, unfolding(crate::specs::Listed::listed_of))]
 pub fn listed_of(alloc: Global, classes: &[&Class]) -> Result<Vec<Seq<Listed>>, Memory>
     ensures { IfOk result (λ listed. listed.items ≡ listed_of (map (λ c. c.now) classes.now)) }
 {
@@ -157,6 +158,7 @@ pub fn listed_of(alloc: Global, classes: &[&Class]) -> Result<Vec<Seq<Listed>>, 
 }
 
 /// One list behind the other, from the last one on: the methods of the highest class come first.
+#[tactic(auto, unfolding(crate::specs::Listed::downwards))]
 pub fn downwards(alloc: Global, mut by_class: Vec<Seq<Listed>>) -> Result<Seq<Listed>, Memory>
     ensures { IfOk result (λ listed. listed ≡ downwards by_class.items) }
 {

@@ -1,10 +1,11 @@
 //! When a class of the tests folder is refused.
 
-ghost use Rattle.std.specs.Prelude.{◌≡◌, ◌++◌, Bool, IfOk};
+ghost use Rattle.std.specs.Prelude.{◌≡◌, ◌++◌, ◌&&◌, ◌||◌, not, IfOk};
 ghost use Rattle.std.specs.List.{list_any};
 ghost use Rattle.class_table.specs.Info.{own_name};
-ghost use Rattle.test_discovery.specs.Rules.{is_special, is_no_class, makes_instance, makes_instances, breaks, rules, first_broken, has_runner, uses_runner, may_test, is_test_class, method_fault, first_fault, listed_fault, Passes};
-ghost use Rattle.test_discovery.specs.declared.fault.Rule.TheVariants.{B2, B3};
+ghost use Rattle.test_discovery.specs.Rules.{is_special, is_no_class, makes_instance, makes_instances, breaks, rules, first_broken, has_runner, uses_runner, may_test, is_test_class, method_fault, first_fault, methods_fault, Passes};
+ghost use Rattle.program_rules.specs.Linked.{is_static};
+ghost use Rattle.test_discovery.specs.Annotations.{is_of_instance, is_of_class};
 ghost use Rattle.test_discovery.specs.declared.fault.TestFault.TheVariants.{BadTest};
 
 use crate::annotations::{has_runner as stands_among, is_ignored};
@@ -48,6 +49,7 @@ fn any_makes_instances(pool: &[Const], members: &[Member]) -> bool
     members.iter().any(|member| makes_instance(pool, member))
 }
 
+#[tactic(auto, unfolding(crate::specs::Rules::makes_instances))]
 fn makes_instances(class: &Class) -> bool
     ensures { result ≡ makes_instances class.now }
 {
@@ -55,7 +57,7 @@ fn makes_instances(class: &Class) -> bool
 }
 
 fn is_wrongly_static(listed: &Listed) -> bool
-    ensures { (makes : Bool) → result ≡ breaks makes B2 listed.now }
+    ensures { result ≡ ((is_static listed.now.flags && is_of_instance listed.now.marks) || (not (is_static listed.now.flags) && is_of_class listed.now.marks)) }
 {
     if is_static(listed.flags) {
         listed.marks.is_of_instance()
@@ -64,29 +66,40 @@ fn is_wrongly_static(listed: &Listed) -> bool
     }
 }
 
-fn is_uncallable(listed: &Listed) -> bool
-    ensures { (makes : Bool) → result ≡ breaks makes B3 listed.now }
+#[tactic(auto, unfolding(crate::specs::Rules::breaks))]
+fn breaks(makes: bool, rule: Rule, listed: &Listed) -> bool
+    ensures { result ≡ breaks makes rule listed.now }
 {
-    is_abstract(listed.flags) || is_private(listed.flags) || is_special(listed.name.as_slice())
+    match rule {
+        Rule::B1 => !is_plain_descriptor(listed.desc.as_slice()),
+        Rule::B2 => is_wrongly_static(listed),
+        Rule::B3 => {
+            is_abstract(listed.flags)
+                || is_private(listed.flags)
+                || is_special(listed.name.as_slice())
+        }
+        Rule::B4 => !makes,
+        Rule::B5 => listed.marks.test && is_no_class(&listed.marks.expected),
+    }
 }
 
 // The first rule that a method breaks.
 fn first_broken(makes: bool, listed: &Listed) -> Option<Rule>
     ensures { result ≡ first_broken makes rules listed.now }
 {
-    if !is_plain_descriptor(listed.desc.as_slice()) {
+    if breaks(makes, Rule::B1, listed) {
         return Some(Rule::B1);
     }
-    if is_wrongly_static(listed) {
+    if breaks(makes, Rule::B2, listed) {
         return Some(Rule::B2);
     }
-    if is_uncallable(listed) {
+    if breaks(makes, Rule::B3, listed) {
         return Some(Rule::B3);
     }
-    if !makes {
+    if breaks(makes, Rule::B4, listed) {
         return Some(Rule::B4);
     }
-    if listed.marks.test && is_no_class(&listed.marks.expected) {
+    if breaks(makes, Rule::B5, listed) {
         return Some(Rule::B5);
     }
     None
@@ -135,6 +148,7 @@ fn any_has_runner(pool: &[Const], members: &[Member]) -> bool
 }
 
 /// An annotation of a runner stands on the class, a field or a method.
+#[tactic(auto, unfolding(crate::specs::Rules::uses_runner))]
 pub fn uses_runner(class: &Class) -> bool
     ensures { result ≡ uses_runner class.now }
 {
@@ -160,15 +174,17 @@ fn any_is_test(listed: &[Listed]) -> bool
 }
 
 /// It is a test class, by its listed methods.
+#[tactic(auto, unfolding(crate::specs::Rules::is_test_class))]
 pub fn is_test_class(class: &Class, listed: &[Listed]) -> bool
     ensures { result ≡ is_test_class class.now listed.now }
 {
     may_test(class) && any_is_test(listed)
 }
 
-/// The listed methods of a test class of this name keep to the rules.
+/// The listed methods of a test class keep to the rules.
 pub fn check_listed(class: &Class, name: &Name, listed: &[Listed]) -> Result<(), TestFault>
-    ensures { Passes (first_fault (method_fault name.now (makes_instances class.now)) listed.now) result }
+    requires { name.now ≡ own_name class.now }
+    ensures { Passes (methods_fault class.now listed.now) result }
 {
     check_methods(name, makes_instances(class), listed)
 }

@@ -1,10 +1,10 @@
 //! The search through the classes of the tests folder.
 
 ghost use Rattle.std.specs.Prelude.{◌≡◌, map, fold, IfOk, [], length};
-ghost use Rattle.test_discovery.specs.Listed.{files_of, downwards};
-ghost use Rattle.test_discovery.specs.Rules.{listed_fault, class_fault};
-ghost use Rattle.test_discovery.specs.Scripts.{calls_as, tests_in, tests_of};
-ghost use Rattle.test_discovery.specs.declared.marks.Part.TheVariants.{Before, BeforeAll};
+ghost use Rattle.test_discovery.specs.Listed.{files_of, listed_of, downwards};
+ghost use Rattle.class_table.specs.Info.{own_name as name_in};
+ghost use Rattle.test_discovery.specs.Rules.{methods_fault, listed_fault, fault_with, class_fault};
+ghost use Rattle.test_discovery.specs.Scripts.{fixture_with, tests_listed, tests_in, tests_of};
 ghost use Rattle.test_discovery.specs.Discovery.{put_name, in_order, risings, tests_among, name_of, program_tests, Adds, Finds};
 
 use crate::fault::TestFault;
@@ -25,7 +25,7 @@ fn fixture_with(
     after: Seq<Call>,
     after_all: Seq<Call>,
 ) -> Result<Fixture, Memory>
-    ensures { IfOk result (λ fixture. fixture ≡ record { before_all = calls_as BeforeAll listed.now; before = calls_as Before listed.now; after = after; after_all = after_all }) }
+    ensures { IfOk result (λ fixture. fixture ≡ fixture_with listed.now after after_all) }
 {
     Ok(Fixture {
         before_all: calls_as(alloc, Part::BeforeAll, listed)?,
@@ -33,6 +33,22 @@ fn fixture_with(
         after,
         after_all,
     })
+}
+
+// Adds the tests of a test class, by its listed methods and what runs behind its tests.
+fn add_checked(
+    alloc: Global,
+    tests: &mut Seq<Test>,
+    class: &Class,
+    listed: &[Listed],
+    fixture: Fixture,
+) -> Result<(), TestFault>
+    ensures { Adds (methods_fault class.now listed.now) (tests_listed (name_in class.now) fixture listed.now) tests.old tests.new result }
+{
+    let name = own_name(alloc, class)?;
+    check_listed(class, &name, listed)?;
+    push_tests(alloc, tests, &name, &fixture, listed)?;
+    Ok(())
 }
 
 // Adds the tests of a class, by its listed methods.
@@ -50,24 +66,19 @@ fn add_listed(
     if !is_test_class(class, listed.as_slice()) {
         return Ok(());
     }
-    let name = own_name(alloc, class)?;
-    check_listed(class, &name, listed.as_slice())?;
     let fixture = fixture_with(alloc, listed.as_slice(), after, after_all)?;
-    push_tests(alloc, tests, &name, &fixture, listed.as_slice())?;
-    Ok(())
+    add_checked(alloc, tests, class, listed.as_slice(), fixture)
 }
 
-// Adds the tests of a class that stands before its superclasses.
-fn add_class(
+// Adds the tests of a class, which stands before its superclasses.
+fn add_with(
     alloc: Global,
     tests: &mut Seq<Test>,
+    class: &Class,
     classes: &[&Class],
 ) -> Result<(), TestFault>
-    ensures { Adds (class_fault (map (λ c. c.now) classes.now)) (tests_of (map (λ c. c.now) classes.now)) tests.old tests.new result }
+    ensures { Adds (fault_with class.now (downwards (listed_of (map (λ c. c.now) classes.now)))) (tests_in class.now (listed_of (map (λ c. c.now) classes.now))) tests.old tests.new result }
 {
-    let Some(class) = classes.first() else {
-        return Ok(());
-    };
     if uses_runner(class) {
         return Err(TestFault::RunnerUsed {
             class: own_name(alloc, class)?,
@@ -75,6 +86,20 @@ fn add_class(
     }
     let by_class = listed_of(alloc, classes)?;
     add_listed(alloc, tests, class, by_class)
+}
+
+// The same where the class stands first, if there is one.
+fn add_class(
+    alloc: Global,
+    tests: &mut Seq<Test>,
+    classes: &[&Class],
+) -> Result<(), TestFault>
+    ensures { Adds (class_fault (map (λ c. c.now) classes.now)) (tests_of (map (λ c. c.now) classes.now)) tests.old tests.new result }
+{
+    match classes {
+        [] => Ok(()),
+        [class, ..] => add_with(alloc, tests, class, classes),
+    }
 }
 
 // The tests of the classes of these names, in their order.

@@ -8,10 +8,9 @@ use Rattle.test_discovery.specs.Discovery.{risings}
 use Rattle.test_discovery.proofs.search.tests_of.Given as goal
 
 abbrev pub invariant-loop-name : goal.invariant-loop-name
-invariant-loop-name g l =
-    let of : _ = risings (length l.program) (files_of l.program) in
-    (l.tests ++ flat_map tests_of (of l.names.entries) ≡ flat_map tests_of (of l.fn.names.entries))
-    × (first_fault class_fault (of l.names.entries) ≡ first_fault class_fault (of l.fn.names.entries))
+invariant-loop-name l =
+    (l.tests ++ flat_map tests_of (risings (length l.program) (files_of l.program) l.names.entries) ≡ flat_map tests_of (risings (length l.program) (files_of l.program) l.fn.names.entries))
+    × (first_fault class_fault (risings (length l.program) (files_of l.program) l.names.entries) ≡ first_fault class_fault (risings (length l.program) (files_of l.program) l.fn.names.entries))
 
 abbrev pub decreases-loop-name : goal.decreases-loop-name
-decreases-loop-name g l = btree_map_len l.names
+decreases-loop-name l = btree_map_len l.names
