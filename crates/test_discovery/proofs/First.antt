@@ -1,5 +1,5 @@
 -- The class that stands before its superclasses.
-use Rattle.std.proofs.Common.{◌≡◌, sym, ap, arith, ◌≤◌, List, [], ◌∷◌, map, length, get_or}
+use Rattle.std.proofs.Common.{◌≡◌, ap, arith, ◌≤◌, List, [], ◌∷◌, map, length, get_or}
 use Rattle.class_model.specs.declared.class.Class.{Class}
 use Rattle.test_discovery.specs.Listed.{listed_of, downwards}
 use Rattle.test_discovery.specs.Rules.{fault_with, class_fault}

@@ -2,3 +2,4 @@ mod Rising
 mod Cut
 mod Lists
 mod First
+mod Whole

@@ -1,7 +1,7 @@
 -- The annotations of JUnit 4 and JUnit 5 that count here, and what they make of a method (this
 -- project's own, in the manner of JUnit). Annotations count alike in both lists of an owner, that
 -- which is visible when the program runs and the other one (JVMS 4.7.16, 4.7.17).
-use Rattle.std.specs.Prelude.{ℕ, Bool, not, ◌&&◌, ◌||◌, List, [], ◌∷◌, codes}
+use Rattle.std.specs.Prelude.{Bool, not, ◌&&◌, ◌||◌, List, [], ◌∷◌, codes}
 use Rattle.std.specs.List.{list_any}
 use Rattle.class_model.specs.declared.annotation.Note.{Note, out-Note}
 use Rattle.class_model.specs.declared.attribute.Attr.{Attr}

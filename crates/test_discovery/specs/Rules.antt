@@ -1,10 +1,10 @@
 -- When a class of the tests folder is refused (this project's own).
-use Rattle.std.specs.Prelude.{◌≡◌, ◌≢◌, ℕ, nat_eq, Bool, true, false, not, ◌&&◌, ◌||◌, List, [], ◌∷◌, ◌++◌, Option, Some, None, Result, MatchResult, if◌then◌else◌}
+use Rattle.std.specs.Prelude.{◌≡◌, ◌≢◌, nat_eq, Bool, true, false, not, ◌&&◌, ◌||◌, List, [], ◌∷◌, ◌++◌, Option, Some, None, Result, MatchResult, if◌then◌else◌}
 use Rattle.std.specs.List.{list_any}
 use Rattle.class_model.specs.declared.class.Class.{Class}
 use Rattle.class_model.specs.declared.class.Member.{Member}
 use Rattle.class_model.specs.declared.constant.Const.{Const}
-use Rattle.program_rules.specs.Names.{Name, same, instance_initializer, plain_descriptor}
+use Rattle.program_rules.specs.Names.{Name, same, plain_descriptor}
 use Rattle.program_rules.specs.Linked.{is_static, is_private, is_abstract, is_interface}
 use Rattle.class_table.specs.Info.{own_name}
 use Rattle.test_discovery.specs.Tests.{is_plain_constructor}

@@ -1,5 +1,5 @@
 -- What a run of a test calls (this project's own, in the manner of JUnit).
-use Rattle.std.specs.Prelude.{Bool, List, [], ◌∷◌, ◌++◌, map, Option, Some, None, if◌then◌else◌}
+use Rattle.std.specs.Prelude.{Bool, List, [], ◌∷◌, ◌++◌, Option, Some, None, if◌then◌else◌}
 use Rattle.std.specs.List.{filter, flat_map}
 use Rattle.class_model.specs.declared.class.Class.{Class}
 use Rattle.program_rules.specs.declared.call_kind.CallKind.{CallKind}

@@ -1,4 +1,4 @@
-use Rattle.std.proofs.Common.{◌≡◌, ◌++◌, take}
+use Rattle.std.proofs.Common.{◌≡◌, take}
 use Rattle.std.specs.List.{flat_map}
 use Rattle.test_discovery.specs.Expected.{said_at}
 use Rattle.test_discovery.specs.Annotations.{test_type}

@@ -1,4 +1,4 @@
-use Rattle.std.proofs.Common.{◌∙◌, sym, ap, Bool, true, cond, ◌||◌, take}
+use Rattle.std.proofs.Common.{◌∙◌, sym, ap, true, cond, ◌||◌, take}
 use Rattle.std.specs.List.{list_any}
 use Rattle.std.proofs.lemmas.List.Folds.{list_any_more}
 use Rattle.class_model.specs.declared.class.Member.{Member}

@@ -1,6 +1,5 @@
 use Rattle.std.proofs.Common.{arith, ap, ◌<◌, length}
 use Rattle.std.specs.Option.{option_copied}
-use Rattle.class_model.specs.declared.class.Class.{Class}
 use Rattle.test_discovery.specs.Listed.{files_of, rising}
 use Rattle.test_discovery.proofs.Rising.{rising_step}
 use Rattle.test_discovery.proofs.listed.rising.Goals as goal

@@ -1,4 +1,4 @@
-use Rattle.std.proofs.Common.{◌≡◌, ◌++◌, take}
+use Rattle.std.proofs.Common.{◌≡◌, take}
 use Rattle.std.specs.List.{flat_map}
 use Rattle.test_discovery.specs.Scripts.{calls_as}
 use Rattle.test_discovery.proofs.script.calls_by_class.Given as goal

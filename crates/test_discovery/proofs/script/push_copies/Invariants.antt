@@ -1,5 +1,4 @@
 use Rattle.std.proofs.Common.{◌≡◌, ◌++◌, take}
-use Rattle.std.specs.List.{flat_map}
 use Rattle.test_discovery.proofs.script.push_copies.Given as goal
 
 abbrev pub invariant-loop-call : goal.invariant-loop-call

@@ -1,5 +1,4 @@
 use Rattle.std.proofs.Common.{◌≡◌, ◌++◌, take}
-use Rattle.std.specs.List.{flat_map}
 use Rattle.test_discovery.specs.Scripts.{tests_listed}
 use Rattle.test_discovery.proofs.script.push_tests.Given as goal
 
