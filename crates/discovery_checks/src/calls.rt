@@ -9,11 +9,7 @@ use std::alloc::Global;
 use test_discovery::{Rule, TestFault};
 
 /// `test_discovery::tests`
-pub fn tests(
-    alloc: Global,
-    program: &Program,
-    from: &Seq<ClassId>,
-) -> Result<Seq<Test>, TestFault>
+pub fn tests(alloc: Global, program: &Program, from: &Seq<ClassId>) -> Result<Seq<Test>, TestFault>
     ensures { Finds (program_tests program.now from.now) result }
 {
     match test_discovery::tests(alloc, program, from) {

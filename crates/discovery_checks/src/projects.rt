@@ -62,18 +62,31 @@ fn are(text: &[u8], pieces: &[&str]) -> bool {
 fn tests_of_a_project_are_those_that_junit_runs(rt: HostRuntime) -> Result<(), Fail> {
     let four = program(
         rt.alloc(),
-        &[FOUR_OLD.as_slice(), FOUR_TEST.as_slice(), FOUR_BASE.as_slice()],
+        &[
+            FOUR_OLD.as_slice(),
+            FOUR_TEST.as_slice(),
+            FOUR_BASE.as_slice(),
+        ],
     )?;
     let found = tests_text(rt.alloc(), &four, &[0, 1, 2])?;
     assert!(rt; are(found.as_slice(), &[STARTS, REFUSES, TOTAL, REDECLARED]));
     let five = program(
         rt.alloc(),
-        &[FIVE_OLD.as_slice(), FIVE_TEST.as_slice(), FIVE_BASE.as_slice()],
+        &[
+            FIVE_OLD.as_slice(),
+            FIVE_TEST.as_slice(),
+            FIVE_BASE.as_slice(),
+        ],
     )?;
     let found = tests_text(rt.alloc(), &five, &[2, 1, 0, 1])?;
     assert!(rt; are(found.as_slice(), &[STARTS, TOTAL]));
     // the superclass is no test class, and without it in the search nothing changes
     assert!(rt; tests_text(rt.alloc(), &four, &[0, 2])?.is_empty());
-    assert!(rt; are(tests_text(rt.alloc(), &five, &[1])?.as_slice(), &[STARTS, TOTAL]));
+    assert!(rt;
+        are(
+            tests_text(rt.alloc(), &five, &[1])?.as_slice(),
+            &[STARTS, TOTAL]
+        )
+    );
     Ok(())
 }

@@ -40,6 +40,6 @@ fn a_runner_comes_before_a_broken_rule_of_its_class(rt: HostRuntime) -> Result<(
     }
     // classes come by name
     let found = tests_text(rt.alloc(), &p, &[0, 1])?;
-    assert!(rt; found.as_slice() == b"BadTest odd/Expects nothing()V B5");
+    assert!(rt; found.as_slice() == b"BadTest odd/Expects nothing()V B5".as_slice());
     Ok(())
 }

@@ -21,7 +21,7 @@ adds_listed c by_class flat fixture old new r flat_is test fixture_is h =
     let fault : methods_fault c flat ≡ listed_fault c all = ap (methods_fault c) flat_is ∙ sym (ap (λ b. if b then methods_fault c all else None) tested) in
     let whole : fixture ≡ fixture_of by_class = fixture_is ∙ ap (λ l. fixture_with l (flat_map (calls_as After) by_class) (flat_map (calls_as AfterAll) by_class)) flat_is in
     let more : tests_listed (own_name c) fixture flat ≡ tests_in c by_class =
-        ap (λ f. tests_listed (own_name c) f flat) whole
-        ∙ ap (tests_listed (own_name c) (fixture_of by_class)) flat_is
-        ∙ sym (ap (λ b. if b then tests_listed (own_name c) (fixture_of by_class) all else []) tested) in
+    ap (λ f. tests_listed (own_name c) f flat) whole
+    ∙ ap (tests_listed (own_name c) (fixture_of by_class)) flat_is
+    ∙ sym (ap (λ b. if b then tests_listed (own_name c) (fixture_of by_class) all else []) tested) in
     subst (λ f. Adds f (tests_in c by_class) old new r) fault (subst (λ ts. Adds (methods_fault c flat) ts old new r) more h)

@@ -70,7 +70,8 @@ has_any pool types attrs = list_any (has_one_of pool types) attrs
 
 -- ---- a method
 
--- What the annotations of a method with these attributes make of it. One that is ignored is no test.
+-- What the annotations of a method with these attributes make of it. One that is ignored is no
+-- test.
 unfoldable pub marks_of : List Const → List Attr → Marks
 marks_of pool attrs = record {
   test = has_any pool test_types attrs && not (has_any pool ignored_types attrs);

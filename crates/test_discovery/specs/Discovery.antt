@@ -52,9 +52,12 @@ name_in (Some i) = i.name
 abbrev pub name_of : List Info → ClassId → Name
 name_of p id = name_in (slice_get p id.0)
 
+abbrev pub names_of : List Info → List ClassId → List Name
+names_of p ids = map (name_of p) ids
+
 -- The tests of a program's classes of these numbers.
 abbrev pub program_tests : List Info → List ClassId → Result (List Test) TestFault
-program_tests p from = Tests (length p) (files_of p) (map (name_of p) from)
+program_tests p from = Tests (length p) (files_of p) (names_of p from)
 
 -- ---- what calls promise
 

@@ -45,9 +45,12 @@ abbrev pub said_of : List Const → Name → Note → List Expected
 said_of pool type note =
     if names_text pool (out-Note note).kind type then said_in pool note else []
 
--- What the attributes of a method say of `expected` in annotations of this type, in file order.
+abbrev pub said_among : List Const → Name → List Note → List Expected
+said_among pool type notes = flat_map (said_of pool type) notes
+
+-- What an attribute says of `expected` in annotations of this type, in file order.
 abbrev pub said_at : List Const → Name → Attr → List Expected
-said_at pool type attr = flat_map (said_of pool type) (notes_at attr)
+said_at pool type attr = said_among pool type (notes_at attr)
 
 abbrev pub first_said : List Expected → Option Expected
 first_said [] = None

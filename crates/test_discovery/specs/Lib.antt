@@ -6,3 +6,4 @@ pub mod Heads
 pub mod Rules
 pub mod Scripts
 pub mod Discovery
+pub mod Searching

@@ -11,6 +11,7 @@ use Rattle.class_table.specs.Symbols.{name_or_empty}
 use Rattle.class_table.specs.Info.{Info, own_name, file_in}
 use Rattle.class_table.specs.Table.{number_of}
 use Rattle.test_discovery.specs.declared.listed.Listed.{Listed}
+use Rattle.test_discovery.specs.declared.marks.Marks.{Marks}
 use Rattle.test_discovery.specs.Annotations.{marks_of, is_marked}
 
 -- ---- the class and its superclasses
@@ -27,12 +28,16 @@ files_of p n = option_and_then (λ id. option_and_then file_in (slice_get p id))
 abbrev pub superclass_of : Class → Option Name
 superclass_of c = class_name_of c.pool c.parent
 
+-- The class file of the superclass.
+abbrev pub file_above : Files → Class → Option Class
+file_above files c = option_and_then files (superclass_of c)
+
 -- The class file and those of its superclasses, the lowest first; so many at most.
 abbrev pub rising_from : ℕ → Files → Option Class → List Class
 rising_from k files None = []
 rising_from zero files (Some c) = []
 rising_from (suc k) files (Some c) =
-    c ∷ rising_from k files (option_and_then files (superclass_of c))
+    c ∷ rising_from k files (file_above files c)
 
 -- The class file of a name and those of its superclasses, the lowest first, up to one that has no
 -- class file. Where as many are allowed as a program has classes and no class is above itself, none
@@ -57,15 +62,18 @@ declares head c = list_any (λ m. same_head (head_of c.pool m) head) c.methods
 abbrev pub declares_any : List Class → Name × Name → Bool
 declares_any classes head = list_any (declares head) classes
 
+abbrev pub listed_with : Name → Name × Name → ℕ → Marks → Listed
+listed_with class head flags marks = record {
+  class = class;
+  name = head.0;
+  desc = head.1;
+  flags = flags;
+  marks = marks;
+}
+
 -- A method with what its annotations make of it.
 abbrev pub listed_as : Class → Member → Listed
-listed_as c m = record {
-  class = own_name c;
-  name = (head_of c.pool m).0;
-  desc = (head_of c.pool m).1;
-  flags = m.flags;
-  marks = marks_of c.pool m.attrs;
-}
+listed_as c m = listed_with (own_name c) (head_of c.pool m) m.flags (marks_of c.pool m.attrs)
 
 -- A method is listed where it plays a part in a test and isn't hidden.
 abbrev pub is_listed : (Name × Name → Bool) → Class → Member → Bool

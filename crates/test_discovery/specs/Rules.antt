@@ -38,14 +38,18 @@ makes_instance pool m =
 unfoldable pub makes_instances : Class → Bool
 makes_instances c = list_any (makes_instance c.pool) c.methods
 
+abbrev pub is_wrongly_static : Listed → Bool
+is_wrongly_static l =
+    (is_static l.flags && is_of_instance l.marks)
+    || (not (is_static l.flags) && is_of_class l.marks)
+
 -- Whether a method breaks a rule. By B1 it takes and gives nothing. By B2 one of the instance isn't
 -- static, and one of the class is. By B3 it is neither abstract nor private, and its name doesn't
--- begin with `<`. By B4 the test class makes its instances, which is looked at once for all methods.
--- By B5 a test expects a class, if it expects anything.
+-- begin with `<`. By B4 the test class makes its instances, which is looked at once for all its
+-- methods. By B5 a test expects a class, if it expects anything.
 unfoldable pub breaks : Bool → Rule → Listed → Bool
 breaks makes B1 l = not (same l.desc plain_descriptor)
-breaks makes B2 l =
-    (is_static l.flags && is_of_instance l.marks) || (not (is_static l.flags) && is_of_class l.marks)
+breaks makes B2 l = is_wrongly_static l
 breaks makes B3 l = is_abstract l.flags || is_private l.flags || is_special l.name
 breaks makes B4 l = not makes
 breaks makes B5 l = l.marks.test && is_no_class l.marks.expected
@@ -82,11 +86,14 @@ may_test c =
 unfoldable pub is_test_class : Class → List Listed → Bool
 is_test_class c ls = may_test c && list_any (λ l. l.marks.test) ls
 
--- What is told where a method breaks this rule. The method is named by its name and its descriptor,
--- and the class is the test class, also where a superclass declares the method.
+-- What is told of a method that breaks a rule. It is named by its name and its descriptor, and the
+-- class is the test class, also where a superclass declares the method.
+abbrev pub bad_test : Name → Listed → Rule → TestFault
+bad_test class l rule = BadTest class (l.name ++ l.desc) rule
+
 abbrev pub told : Name → Listed → Option Rule → Option TestFault
 told class l None = None
-told class l (Some rule) = Some (BadTest class (l.name ++ l.desc) rule)
+told class l (Some rule) = Some (bad_test class l rule)
 
 abbrev pub method_fault : Name → Bool → Listed → Option TestFault
 method_fault class makes l = told class l (first_broken makes rules l)
@@ -119,4 +126,5 @@ class_fault (c ∷ above) = fault_with c (downwards (listed_of (c ∷ above)))
 
 -- A call passed where no fault is meant, and else told it, unless memory ran out.
 abbrev pub Passes : {A : Type 0} → Option TestFault → Result A TestFault → Type 0
-Passes meant result = MatchResult result (λ _. meant ≡ None) (λ fault. fault ≢ Memory → meant ≡ Some fault)
+Passes meant result =
+    MatchResult result (λ _. meant ≡ None) (λ fault. fault ≢ Memory → meant ≡ Some fault)

@@ -62,15 +62,19 @@ fixture_of ls =
 abbrev pub make_call : Name → Call
 make_call class = record { class = class; method = instance_initializer; kind = Make }
 
+-- The calls of a run of a test, in their order.
+abbrev pub script_of : Name → Fixture → Listed → List Call
+script_of class fixture l =
+    fixture.before_all ++ make_call class ∷ []
+    ++ fixture.before ++ call_of TestMethod l ∷ []
+    ++ fixture.after ++ fixture.after_all
+
 -- A test of this class.
 abbrev pub test_in : Name → Fixture → Listed → Test
 test_in class fixture l = record {
   class = class;
   method = l.name;
-  script =
-      fixture.before_all ++ make_call class ∷ []
-      ++ fixture.before ++ call_of TestMethod l ∷ []
-      ++ fixture.after ++ fixture.after_all;
+  script = script_of class fixture l;
   expected = expected_class l.marks.expected;
 }
 

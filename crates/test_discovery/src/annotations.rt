@@ -1,10 +1,12 @@
 //! The annotations of JUnit 4 and JUnit 5 that count, and what they make of an owner.
 
-ghost use Rattle.std.specs.Prelude.{◌≡◌, map, IfOk};
+ghost use Rattle.std.specs.Prelude.{◌≡◌, IfOk};
 ghost use Rattle.std.specs.List.{list_any};
 ghost use Rattle.program_rules.specs.Names.{same};
 ghost use Rattle.test_discovery.specs.Tests.{names_text};
-ghost use Rattle.test_discovery.specs.Annotations.{test_types, before_types, after_types, before_all_types, after_all_types, ignored_types, runner_types, is_one_of, has_one_of, has_any, marks_of};
+ghost use Rattle.test_discovery.specs.Annotations.{ignored_types, runner_types, is_one_of};
+ghost use Rattle.test_discovery.specs.Annotations.{has_one_of, has_any, marks_of};
+ghost use Rattle.test_discovery.specs.Searching.{behind, names_one_of};
 
 use crate::expected::expected_of;
 use crate::marks::Marks;
@@ -23,10 +25,7 @@ const BEFORE_ALL: [&'static str; 2] = [
     "Lorg/junit/jupiter/api/BeforeAll;",
 ];
 
-const AFTER_ALL: [&'static str; 2] = [
-    "Lorg/junit/AfterClass;",
-    "Lorg/junit/jupiter/api/AfterAll;",
-];
+const AFTER_ALL: [&'static str; 2] = ["Lorg/junit/AfterClass;", "Lorg/junit/jupiter/api/AfterAll;"];
 
 const IGNORED: [&'static str; 2] = ["Lorg/junit/Ignore;", "Lorg/junit/jupiter/api/Disabled;"];
 
@@ -66,25 +65,25 @@ pub fn names_text(pool: &[Const], index: u16, text: &str) -> bool
 }
 
 fn names_one_of(pool: &[Const], types: &[&str], index: u16) -> bool
-    ensures { result ≡ list_any (λ t. names_text pool.now index t.now) types.now }
+    ensures { result ≡ names_one_of pool.now types.now index }
 {
     types.iter().any(|text| names_text(pool, index, text))
 }
 
 fn is_one_of(pool: &[Const], types: &[&str], note: &Note) -> bool
-    ensures { result ≡ is_one_of pool.now (map (λ t. t.now) types.now) note.now }
+    ensures { result ≡ is_one_of pool.now (behind types.now) note.now }
 {
     names_one_of(pool, types, note.kind)
 }
 
 fn any_is_one_of(pool: &[Const], types: &[&str], notes: &[Note]) -> bool
-    ensures { result ≡ list_any (is_one_of pool.now (map (λ t. t.now) types.now)) notes.now }
+    ensures { result ≡ list_any (is_one_of pool.now (behind types.now)) notes.now }
 {
     notes.iter().any(|note| is_one_of(pool, types, note))
 }
 
 fn has_one_of(pool: &[Const], types: &[&str], attr: &Attr) -> bool
-    ensures { result ≡ has_one_of pool.now (map (λ t. t.now) types.now) attr.now }
+    ensures { result ≡ has_one_of pool.now (behind types.now) attr.now }
 {
     match &attr.body {
         Body::Notes(notes) => any_is_one_of(pool, types, notes.as_slice()),
@@ -93,7 +92,7 @@ fn has_one_of(pool: &[Const], types: &[&str], attr: &Attr) -> bool
 }
 
 fn has_any(pool: &[Const], types: &[&str], attrs: &[Attr]) -> bool
-    ensures { result ≡ has_any pool.now (map (λ t. t.now) types.now) attrs.now }
+    ensures { result ≡ has_any pool.now (behind types.now) attrs.now }
 {
     attrs.iter().any(|attr| has_one_of(pool, types, attr))
 }

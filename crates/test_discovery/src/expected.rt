@@ -5,7 +5,9 @@ ghost use Rattle.std.specs.List.{flat_map};
 ghost use Rattle.class_model.specs.Pool.{text_of};
 ghost use Rattle.program_rules.specs.Names.{without_last};
 ghost use Rattle.test_discovery.specs.Annotations.{test_type};
-ghost use Rattle.test_discovery.specs.Expected.{class_named_in, class_in, said_by, said_by_pair, said_of, said_at, first_said, first_expected, expected_class};
+ghost use Rattle.test_discovery.specs.Expected.{class_named_in, class_in, said_by, said_by_pair};
+ghost use Rattle.test_discovery.specs.Expected.{said_of, said_among, said_at, first_said};
+ghost use Rattle.test_discovery.specs.Expected.{first_expected, expected_class};
 
 use crate::annotations::names_text;
 use class_model::{Attr, Body, Const, Elem, Memory, Name, Note, Seq};
@@ -109,7 +111,7 @@ fn push_said_in_notes(
     pool: &[Const],
     notes: &[Note],
 ) -> Result<(), Memory>
-    ensures { OnOk result (said.new ≡ said.old ++ flat_map (said_of pool.now test_type) notes.now) }
+    ensures { OnOk result (said.new ≡ said.old ++ said_among pool.now test_type notes.now) }
 {
     for note in notes {
         push_said_of(alloc, said, pool, note)?;

@@ -32,7 +32,9 @@ pub enum TestFault {
         rule: Rule,
     },
     /// A runner, an extension or a rule of its own stands on the class, a field or a method.
-    RunnerUsed { class: Name },
+    RunnerUsed {
+        class: Name,
+    },
     /// Memory has run out.
     Memory,
 }

@@ -1,9 +1,11 @@
 //! The methods of a test class: those of the class and of its superclasses that play a part.
 
-ghost use Rattle.std.specs.Prelude.{◌≡◌, ◌++◌, ◌∷◌, [], map, length, IfOk, OnOk, option_and_then};
+ghost use Rattle.std.specs.Prelude.{◌≡◌, ◌++◌, ◌∷◌, [], IfOk, OnOk};
 ghost use Rattle.std.specs.Option.{option_copied};
-ghost use Rattle.test_discovery.specs.Listed.{files_of, superclass_of, rising, head_of, listed_at, listed_in, listed_of, downwards};
-ghost use Rattle.test_discovery.specs.Heads.{has_head, AddsHeads};
+ghost use Rattle.test_discovery.specs.Listed.{files_of, file_above, head_of, listed_with};
+ghost use Rattle.test_discovery.specs.Listed.{listed_in, listed_of, downwards};
+ghost use Rattle.test_discovery.specs.Heads.{has_head, AddsAt, AddsHeads};
+ghost use Rattle.test_discovery.specs.Searching.{behind, rising_in};
 
 use crate::annotations::marks_of;
 use crate::marks::Marks;
@@ -34,7 +36,7 @@ fn file_of<'a>(program: &'a Program, name: &Name) -> Option<&'a Class>
 
 // The class file of the superclass.
 fn file_above<'a>(program: &'a Program, class: &Class) -> Option<&'a Class>
-    ensures { option_copied result ≡ option_and_then (files_of program.now) (superclass_of class.now) }
+    ensures { option_copied result ≡ file_above (files_of program.now) class.now }
 {
     file_of(program, class_name_of(class.pool.as_slice(), class.parent)?)
 }
@@ -46,7 +48,7 @@ pub fn rising<'a>(
     program: &'a Program,
     name: &Name,
 ) -> Result<Vec<&'a Class>, Memory>
-    ensures { IfOk result (λ cs. map (λ c. c.now) cs.items ≡ rising (length program.now) (files_of program.now) name.now) }
+    ensures { IfOk result (λ cs. behind cs.items ≡ rising_in program.now name.now) }
 {
     let mut classes = Vec::new(alloc);
     let mut next = file_of(program, name);
@@ -77,7 +79,7 @@ fn push_as_listed(
     flags: u16,
     marks: Marks,
 ) -> Result<(), Memory>
-    ensures { OnOk result (listed.new ≡ listed.old ++ record { class = class; name = head.0; desc = head.1; flags = flags; marks = marks } ∷ []) }
+    ensures { OnOk result (listed.new ≡ listed.old ++ listed_with class head flags marks ∷ []) }
 {
     let (name, desc) = head;
     listed.push(Listed {
@@ -96,7 +98,7 @@ fn push_listed_at(
     class: &Class,
     member: &Member,
 ) -> Result<(), Memory>
-    ensures { OnOk result (listed.new ≡ listed.old ++ listed_at (has_head hidden.now) class.now member.now) }
+    ensures { OnOk result (AddsAt hidden.now class.now member.now listed.old listed.new) }
 {
     let pool = class.pool.as_slice();
     let marks = marks_of(alloc, pool, member.attrs.as_slice())?;
@@ -141,7 +143,7 @@ fn add_heads(
 /// The listed methods of a class and its superclasses, class by class, the lowest first.
 #[tactic(auto, unfolding(crate::specs::Listed::listed_of))]
 pub fn listed_of(alloc: Global, classes: &[&Class]) -> Result<Vec<Seq<Listed>>, Memory>
-    ensures { IfOk result (λ listed. listed.items ≡ listed_of (map (λ c. c.now) classes.now)) }
+    ensures { IfOk result (λ listed. listed.items ≡ listed_of (behind classes.now)) }
 {
     let mut listed = Vec::new(alloc);
     let mut lower = HashSet::new(alloc);

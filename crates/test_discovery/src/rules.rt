@@ -1,12 +1,13 @@
 //! When a class of the tests folder is refused.
 
-ghost use Rattle.std.specs.Prelude.{◌≡◌, ◌++◌, ◌&&◌, ◌||◌, not, IfOk};
+ghost use Rattle.std.specs.Prelude.{◌≡◌, IfOk};
 ghost use Rattle.std.specs.List.{list_any};
 ghost use Rattle.class_table.specs.Info.{own_name};
-ghost use Rattle.test_discovery.specs.Rules.{is_special, is_no_class, makes_instance, makes_instances, breaks, rules, first_broken, has_runner, uses_runner, may_test, is_test_class, method_fault, first_fault, methods_fault, Passes};
-ghost use Rattle.program_rules.specs.Linked.{is_static};
-ghost use Rattle.test_discovery.specs.Annotations.{is_of_instance, is_of_class};
-ghost use Rattle.test_discovery.specs.declared.fault.TestFault.TheVariants.{BadTest};
+ghost use Rattle.test_discovery.specs.Rules.{is_special, is_no_class, makes_instance};
+ghost use Rattle.test_discovery.specs.Rules.{makes_instances, is_wrongly_static, breaks, rules};
+ghost use Rattle.test_discovery.specs.Rules.{first_broken, has_runner, uses_runner, may_test};
+ghost use Rattle.test_discovery.specs.Rules.{is_test_class, bad_test, method_fault, first_fault};
+ghost use Rattle.test_discovery.specs.Rules.{methods_fault, Passes};
 
 use crate::annotations::{has_runner as stands_among, is_ignored};
 use crate::expected::Expected;
@@ -57,7 +58,7 @@ fn makes_instances(class: &Class) -> bool
 }
 
 fn is_wrongly_static(listed: &Listed) -> bool
-    ensures { result ≡ ((is_static listed.now.flags && is_of_instance listed.now.marks) || (not (is_static listed.now.flags) && is_of_class listed.now.marks)) }
+    ensures { result ≡ is_wrongly_static listed.now }
 {
     if is_static(listed.flags) {
         listed.marks.is_of_instance()
@@ -106,7 +107,7 @@ fn first_broken(makes: bool, listed: &Listed) -> Option<Rule>
 }
 
 fn bad_test(class: &Name, listed: &Listed, rule: Rule) -> Result<TestFault, Memory>
-    ensures { IfOk result (λ fault. fault ≡ BadTest class.now (listed.now.name ++ listed.now.desc) rule) }
+    ensures { IfOk result (λ fault. fault ≡ bad_test class.now listed.now rule) }
 {
     let mut method = listed.name.copy()?;
     method.extend_from_slice(listed.desc.as_slice())?;

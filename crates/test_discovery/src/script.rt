@@ -1,10 +1,9 @@
 //! What a run of a test calls.
 
-ghost use Rattle.std.specs.Prelude.{◌≡◌, ◌++◌, ◌∷◌, [], IfOk, OnOk};
+ghost use Rattle.std.specs.Prelude.{◌≡◌, ◌++◌, IfOk, OnOk};
 ghost use Rattle.std.specs.List.{flat_map};
-ghost use Rattle.program_rules.specs.declared.call_kind.CallKind.TheVariants.{TestMethod};
-ghost use Rattle.test_discovery.specs.Listed.{downwards};
-ghost use Rattle.test_discovery.specs.Scripts.{call_of, call_as, calls_as, make_call, test_in, test_at, tests_listed};
+ghost use Rattle.test_discovery.specs.Scripts.{call_of, call_as, calls_as, make_call};
+ghost use Rattle.test_discovery.specs.Scripts.{script_of, test_in, test_at, tests_listed};
 
 use crate::expected::expected_class;
 use crate::listed::Listed;
@@ -100,7 +99,7 @@ fn script_of(
     fixture: &Fixture,
     listed: &Listed,
 ) -> Result<Seq<Call>, Memory>
-    ensures { IfOk result (λ script. script ≡ (test_in class.now fixture.now listed.now).script) }
+    ensures { IfOk result (λ script. script ≡ script_of class.now fixture.now listed.now) }
 {
     let mut script = fixture.before_all.copy()?;
     script.push(make_call(alloc, class)?)?;
@@ -111,12 +110,7 @@ fn script_of(
     Ok(script)
 }
 
-fn test_in(
-    alloc: Global,
-    class: &Name,
-    fixture: &Fixture,
-    listed: &Listed,
-) -> Result<Test, Memory>
+fn test_in(alloc: Global, class: &Name, fixture: &Fixture, listed: &Listed) -> Result<Test, Memory>
     ensures { IfOk result (λ test. test ≡ test_in class.now fixture.now listed.now) }
 {
     Ok(Test {

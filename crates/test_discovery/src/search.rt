@@ -1,11 +1,10 @@
 //! The search through the classes of the tests folder.
 
-ghost use Rattle.std.specs.Prelude.{◌≡◌, map, fold, IfOk, [], length};
-ghost use Rattle.test_discovery.specs.Listed.{files_of, listed_of, downwards};
-ghost use Rattle.class_table.specs.Info.{own_name as name_in};
-ghost use Rattle.test_discovery.specs.Rules.{methods_fault, listed_fault, fault_with, class_fault};
-ghost use Rattle.test_discovery.specs.Scripts.{fixture_with, tests_listed, tests_in, tests_of};
-ghost use Rattle.test_discovery.specs.Discovery.{put_name, in_order, risings, tests_among, name_of, program_tests, Adds, Finds};
+ghost use Rattle.std.specs.Prelude.{◌≡◌, IfOk};
+ghost use Rattle.test_discovery.specs.Scripts.{fixture_with};
+ghost use Rattle.test_discovery.specs.Discovery.{in_order, name_of, names_of, program_tests, Finds};
+ghost use Rattle.test_discovery.specs.Searching.{behind, tests_named, AddsTests, AddsListed};
+ghost use Rattle.test_discovery.specs.Searching.{AddsWith, AddsClass};
 
 use crate::fault::TestFault;
 use crate::listed::{Listed, downwards, listed_of, rising};
@@ -43,7 +42,7 @@ fn add_checked(
     listed: &[Listed],
     fixture: Fixture,
 ) -> Result<(), TestFault>
-    ensures { Adds (methods_fault class.now listed.now) (tests_listed (name_in class.now) fixture listed.now) tests.old tests.new result }
+    ensures { AddsTests class.now listed.now fixture tests.old tests.new result }
 {
     let name = own_name(alloc, class)?;
     check_listed(class, &name, listed)?;
@@ -58,7 +57,7 @@ fn add_listed(
     class: &Class,
     by_class: Vec<Seq<Listed>>,
 ) -> Result<(), TestFault>
-    ensures { Adds (listed_fault class.now (downwards by_class.items)) (tests_in class.now by_class.items) tests.old tests.new result }
+    ensures { AddsListed class.now by_class.items tests.old tests.new result }
 {
     let after = calls_by_class(alloc, Part::After, by_class.as_slice())?;
     let after_all = calls_by_class(alloc, Part::AfterAll, by_class.as_slice())?;
@@ -77,7 +76,7 @@ fn add_with(
     class: &Class,
     classes: &[&Class],
 ) -> Result<(), TestFault>
-    ensures { Adds (fault_with class.now (downwards (listed_of (map (λ c. c.now) classes.now)))) (tests_in class.now (listed_of (map (λ c. c.now) classes.now))) tests.old tests.new result }
+    ensures { AddsWith class.now (behind classes.now) tests.old tests.new result }
 {
     if uses_runner(class) {
         return Err(TestFault::RunnerUsed {
@@ -89,12 +88,8 @@ fn add_with(
 }
 
 // The same where the class stands first, if there is one.
-fn add_class(
-    alloc: Global,
-    tests: &mut Seq<Test>,
-    classes: &[&Class],
-) -> Result<(), TestFault>
-    ensures { Adds (class_fault (map (λ c. c.now) classes.now)) (tests_of (map (λ c. c.now) classes.now)) tests.old tests.new result }
+fn add_class(alloc: Global, tests: &mut Seq<Test>, classes: &[&Class]) -> Result<(), TestFault>
+    ensures { AddsClass (behind classes.now) tests.old tests.new result }
 {
     match classes {
         [] => Ok(()),
@@ -108,7 +103,7 @@ fn tests_of(
     program: &Program,
     mut names: BTreeMap<Bytes, Name>,
 ) -> Result<Seq<Test>, TestFault>
-    ensures { Finds (tests_among (risings (length program.now) (files_of program.now) names.entries)) result }
+    ensures { Finds (tests_named program.now names.entries) result }
 {
     let mut tests = Seq::new(alloc);
     while let Some((_, name)) = names.pop_first() {
@@ -134,7 +129,7 @@ fn in_order(
     program: &Program,
     from: &[ClassId],
 ) -> Result<BTreeMap<Bytes, Name>, Memory>
-    ensures { IfOk result (λ names. names.entries ≡ in_order (map (name_of program.now) from.now)) }
+    ensures { IfOk result (λ names. names.entries ≡ in_order (names_of program.now from.now)) }
 {
     let mut names = BTreeMap::new(alloc);
     for id in from {
@@ -150,11 +145,7 @@ fn in_order(
 /// `RunnerUsed`: a class of these uses a runner. `BadTest`: a listed method of a test class of these
 /// breaks a rule. The first fault is told: by classes in order, a runner first in each, then by
 /// methods in list order, then by rules.
-pub fn tests(
-    alloc: Global,
-    program: &Program,
-    from: &Seq<ClassId>,
-) -> Result<Seq<Test>, TestFault>
+pub fn tests(alloc: Global, program: &Program, from: &Seq<ClassId>) -> Result<Seq<Test>, TestFault>
     ensures { Finds (program_tests program.now from.now) result }
 {
     let names = in_order(alloc, program, from.as_slice())?;
