@@ -1,5 +1,6 @@
--- The tests of a class (this project's own, in the manner of JUnit 4): which methods are tests, and
--- what a run of one calls.
+-- The plain tests of a class (this project's own, in the manner of JUnit 4): which methods are tests,
+-- and what a run of one calls. They go once nobody asks for `class_tests`; the words on annotations
+-- stay.
 use Rattle.std.specs.Prelude.{ℕ, Bool, false, not, ◌&&◌, List, [], ◌∷◌, Option, Some, None, codes, if◌then◌else◌}
 use Rattle.std.specs.List.{list_any, flat_map}
 use Rattle.class_model.specs.Pool.{text_of}
@@ -31,6 +32,10 @@ names_text pool index wanted = is_text wanted (text_of pool index)
 abbrev pub notes_in : Body-F Body Attr Code → List Note
 notes_in (Body-F.Notes notes) = notes
 notes_in other = []
+
+-- The annotations that an attribute lists, in file order (JVMS 4.7.16, 4.7.17).
+abbrev pub notes_at : Attr → List Note
+notes_at attr = notes_in (out-Body (out-Attr attr).body)
 
 -- An annotation is of this type.
 abbrev pub names_kind : List Const → Name → Note → Bool

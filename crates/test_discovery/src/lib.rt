@@ -1,11 +1,23 @@
-//! The tests of a program.
+//! The tests of a program, in the manner of JUnit 4 and JUnit 5: which methods are tests, what a
+//! run of one calls, and which classes are refused.
 //!
-//! So far a test is a method that is annotated with JUnit 4's `Test`, takes and gives nothing, and
-//! isn't static, of a class that has a constructor which takes nothing.
+//! A further annotation is a text in one list of `specs/Annotations.antt` and of
+//! `src/annotations.rt`; the README says what else one may owe.
 #![tactic(auto)]
 
 mod annotated;
-mod discovery;
+mod annotations;
+mod expected;
+mod fault;
+mod flags;
+mod listed;
+mod marks;
 mod names;
+mod plain;
+mod rules;
+mod script;
+mod search;
 
-pub use discovery::class_tests;
+pub use fault::{Rule, TestFault};
+pub use plain::class_tests;
+pub use search::tests;

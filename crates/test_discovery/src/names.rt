@@ -1,7 +1,7 @@
 //! Names that tests are known by.
 
 ghost use Rattle.std.specs.Prelude.{◌≡◌, IfOk};
-ghost use Rattle.program_rules.specs.Names.{instance_initializer as initializer, plain_descriptor};
+ghost use Rattle.program_rules.specs.Names.{same, instance_initializer as initializer, plain_descriptor};
 ghost use Rattle.class_model.specs.Pool.{text_of};
 ghost use Rattle.class_link.specs.Symbols.{name_or_empty};
 ghost use Rattle.class_link.specs.Info.{own_name as name_of};
@@ -50,6 +50,13 @@ pub fn names_plain_descriptor(pool: &[Const], index: u16) -> bool
         Some(text) => text.as_slice() == PLAIN.as_slice(),
         None => false,
     }
+}
+
+/// The descriptor is that without arguments and result.
+pub fn is_plain_descriptor(desc: &[u16]) -> bool
+    ensures { result ≡ same desc.now plain_descriptor }
+{
+    desc == PLAIN.as_slice()
 }
 
 /// A copy of the text that an index names, empty where it names none.

@@ -1,23 +1,17 @@
-//! The tests of a class.
+//! The plain tests of a class. They go once nobody asks for them.
 
 ghost use Rattle.std.specs.Prelude.{◌≡◌, ◌++◌, IfOk, OnOk};
 ghost use Rattle.std.specs.List.{list_any};
-ghost use Rattle.program_rules.specs.Linked.{is_static};
 ghost use Rattle.test_discovery.specs.Tests.{is_test, is_plain_constructor, test_of, method_tests, tests_among, class_tests};
 
 use crate::annotated::is_annotated;
+use crate::flags::is_static;
 use crate::names::{
     INITIALIZER, names_initializer, names_plain_descriptor, own_name, text_or_empty,
 };
 use class_model::{Class, Const, Member, Memory, Name, Seq};
 use class_table::{Call, CallKind, Test};
 use std::alloc::Global;
-
-fn is_static(flags: u16) -> bool
-    ensures { result ≡ is_static flags }
-{
-    flags / 8 % 2 == 1
-}
 
 fn is_test(pool: &[Const], member: &Member) -> bool
     ensures { result ≡ is_test pool.now member.now }
@@ -27,7 +21,8 @@ fn is_test(pool: &[Const], member: &Member) -> bool
         && is_annotated(pool, member)
 }
 
-fn is_plain_constructor(pool: &[Const], member: &Member) -> bool
+/// The method is `<init>()V`.
+pub fn is_plain_constructor(pool: &[Const], member: &Member) -> bool
     ensures { result ≡ is_plain_constructor pool.now member.now }
 {
     names_initializer(pool, member.name) && names_plain_descriptor(pool, member.desc)

@@ -1,0 +1,5 @@
+mod Rising
+mod Cut
+mod Lists
+mod First
+mod Whole
