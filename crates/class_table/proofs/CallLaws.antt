@@ -1,8 +1,9 @@
 -- The targets of a program are those of the methods that are named, and a class in the place of another one leaves them so.
-use Rattle.std.proofs.Common.{◌≡◌, ◌≢◌, ◌⊎◌, inl, inr, ◌∙◌, sym, refl, ap, ℕ, zero, suc, ◌+◌, ◌<◌, List, [], ◌∷◌, map, length, Option, None, Some, slice_get, slice_set, arith, subst, IfSome, IsSomeAnd}
-use Rattle.std.specs.Prelude.{◌&&◌, if◌then◌else◌, option_and_then}
+use Rattle.std.proofs.Common.{◌≡◌, ◌≢◌, ◌⊎◌, inl, inr, ◌∙◌, sym, refl, ap, ℕ, zero, suc, ◌+◌, ◌<◌, ◌≤◌, Bool, true, false, List, [], ◌∷◌, map, length, Option, None, Some, slice_get, slice_set, arith, subst, IfSome, IsSomeAnd}
+use Rattle.std.specs.Prelude.{◌&&◌, nat_le, if◌then◌else◌, option_and_then}
 use Rattle.std.specs.Option.{option_map}
-use Rattle.std.proofs.lemmas.Bool.Decides.{leb_tells}
+use Rattle.std.proofs.lemmas.Bool.Decides.{leb_tells, nat_tests}
+use Rattle.std.specs.Cmp.Lexicographic.{same_text}
 use Rattle.program_rules.specs.Names.{Name, same}
 use Rattle.program_rules.specs.Linked.{method_from, method_place}
 use Rattle.class_table.specs.declared.calls.Target.{Target}
@@ -12,7 +13,7 @@ use Rattle.class_link.specs.declared.linked.LinkedMethod.{LinkedMethod}
 use Rattle.class_link.specs.Info.{Info, class_of}
 use Rattle.class_link.specs.View.{method_ref_at, method_of, linked_of}
 use Rattle.class_table.specs.Table.{names, number_of, place_in, place_at, reference_at, named_number, named_place, name_at, look, class_at}
-use Rattle.class_table.specs.Calls.{IsTargetOf, target_at, AreTargets, head_of, IsSameNamed, AreSameNamed}
+use Rattle.class_table.specs.Calls.{IsTargetOf, target_at, AreTargets, brief, head_of, IsSameNamed, AreSameNamed}
 use Rattle.class_table.proofs.Places.{names_kept, number_within, number_named}
 
 -- ---- what a target says of the index that it is kept for
@@ -60,27 +61,47 @@ get_set (y ∷ p) zero (suc k) x = inr ((λ e. omega (arith, e)), refl)
 get_set (y ∷ p) (suc i) zero x = inr ((λ e. omega (arith, e)), refl)
 get_set (y ∷ p) (suc i) (suc k) x = elim (get_set p i k x) [ inl h ↦ inl (ap suc h.0, h.1) | inr h ↦ inr ((λ e. h.0 (omega (arith, e))), h.1) ]
 
-heads_from : (name desc : Name) (i : ℕ) (es fs : List Entry) (ms ns : List LinkedMethod) → map head_of ns ≡ map head_of ms → method_from name desc i (map (method_of fs) ns) ≡ method_from name desc i (map (method_of es) ms)
-heads_from name desc i es fs [] [] h = refl
-heads_from name desc i es fs [] (n ∷ ns) h = absurd cc
-heads_from name desc i es fs (m ∷ ms) [] h = absurd cc
-heads_from name desc i es fs (m ∷ ms) (n ∷ ns) h =
+-- Whether a text is this one, by what counts of it.
+abbrev in_brief : Option Name → Name → Bool
+in_brief None n = false
+in_brief (Some x) n = same x n
+
+long_apart : (x n : Name) (t : Bool) → t ≡ same x n → nat_le (length x) 256 ≡ false → length n ≤ 256 → false ≡ t
+long_apart x n true e long short =
+    let one : length x ≡ length n = ap length (same_text x n e) in
+    absurd (let le : length x ≤ 256 = omega (arith, one, short) in grind (arith, nat_tests, le, long))
+long_apart x n false e long short = refl
+
+brief_case : (b : Bool) (x n : Name) → nat_le (length x) 256 ≡ b → length n ≤ 256 → in_brief (if b then Some x else None) n ≡ same x n
+brief_case true x n e short = refl
+brief_case false x n e short = long_apart x n (same x n) refl e short
+
+brief_same : (x n : Name) → length n ≤ 256 → in_brief (brief x) n ≡ same x n
+brief_same x n short = brief_case (nat_le (length x) 256) x n refl short
+
+heads_from : (name desc : Name) → length name ≤ 256 → length desc ≤ 256 → (i : ℕ) (es fs : List Entry) (ms ns : List LinkedMethod) → map head_of ns ≡ map head_of ms → method_from name desc i (map (method_of fs) ns) ≡ method_from name desc i (map (method_of es) ms)
+heads_from name desc short brief_desc i es fs [] [] h = refl
+heads_from name desc short brief_desc i es fs [] (n ∷ ns) h = absurd cc
+heads_from name desc short brief_desc i es fs (m ∷ ms) [] h = absurd cc
+heads_from name desc short brief_desc i es fs (m ∷ ms) (n ∷ ns) h =
     let head : head_of n ≡ head_of m = cc in
     let tail : map head_of ns ≡ map head_of ms = cc in
-    let test : Name × Name → Option ℕ = λ x. if same x.0 name && same x.1 desc then Some i else method_from name desc (suc i) (map (method_of fs) ns) in
-    ap test head ∙ ap (λ rest. if same m.name name && same m.desc desc then Some i else rest) (heads_from name desc (suc i) es fs ms ns tail)
+    let rest = method_from name desc (suc i) (map (method_of fs) ns) in
+    let test : Option Name × Option Name → Option ℕ = λ x. if in_brief x.0 name && in_brief x.1 desc then Some i else rest in
+    let seen : (k : LinkedMethod) → test (head_of k) ≡ (if same k.name name && same k.desc desc then Some i else rest) = λ k. ap (λ t. if t && in_brief (brief k.desc) desc then Some i else rest) (brief_same k.name name short) ∙ ap (λ t. if same k.name name && t then Some i else rest) (brief_same k.desc desc brief_desc) in
+    sym (seen n) ∙ ap test head ∙ seen m ∙ ap (λ o. if same m.name name && same m.desc desc then Some i else o) (heads_from name desc short brief_desc (suc i) es fs ms ns tail)
 
 abbrev place_of : MethodRef → Option Info → Option ℕ
 place_of r o = option_and_then (λ i. method_place r.name r.desc (class_of i).methods) o
 
-place_alike : (old new : Info) (r : MethodRef) → map head_of new.linked.methods ≡ map head_of old.linked.methods → place_of r (Some new) ≡ place_of r (Some old)
+place_alike : (old new : Info) (r : MethodRef) → length r.name ≤ 256 → length r.desc ≤ 256 → map head_of new.linked.methods ≡ map head_of old.linked.methods → place_of r (Some new) ≡ place_of r (Some old)
 unfolding linked_of
-place_alike old new r h = heads_from r.name r.desc 0 old.linked.entries new.linked.entries old.linked.methods new.linked.methods h
+place_alike old new r name desc h = heads_from r.name r.desc name desc 0 old.linked.entries new.linked.entries old.linked.methods new.linked.methods h
 
-place_kept : (p : List Info) (i : ℕ) (old new : Info) → slice_get p i ≡ Some old → map head_of new.linked.methods ≡ map head_of old.linked.methods → (r : MethodRef) (k : ℕ) → place_at (slice_set p i new) r k ≡ place_at p r k
-place_kept p i old new is heads r k =
+place_kept : (p : List Info) (i : ℕ) (old new : Info) → slice_get p i ≡ Some old → map head_of new.linked.methods ≡ map head_of old.linked.methods → (r : MethodRef) (k : ℕ) → length r.name ≤ 256 → length r.desc ≤ 256 → place_at (slice_set p i new) r k ≡ place_at p r k
+place_kept p i old new is heads r k name desc =
     elim (get_set p i k new) [
-      | inl h ↦ ap (place_of r) (h.1 ∙ ap (option_map (λ y. new)) is) ∙ place_alike old new r heads ∙ sym (ap (place_of r) (ap (slice_get p) h.0 ∙ is))
+      | inl h ↦ ap (place_of r) (h.1 ∙ ap (option_map (λ y. new)) is) ∙ place_alike old new r name desc heads ∙ sym (ap (place_of r) (ap (slice_get p) h.0 ∙ is))
       | inr h ↦ ap (place_of r) h.1
     ]
 
@@ -92,10 +113,12 @@ place_named p r s k h =
     ap (λ n. option_and_then (λ i. method_place n s.desc (class_of i).methods) (slice_get p k)) h.name
     ∙ ap (λ d. option_and_then (λ i. method_place r.name d (class_of i).methods) (slice_get p k)) h.desc
 
-moves : (p q : List Info) (t : Target) → names q ≡ names p → ((r : MethodRef) (k : ℕ) → place_at q r k ≡ place_at p r k) → Moves p q t
+moves : (p q : List Info) (t : Target) → names q ≡ names p → ((r : MethodRef) (k : ℕ) → length r.name ≤ 256 → length r.desc ≤ 256 → place_at q r k ≡ place_at p r k) → Moves p q t
 moves p q t same places r s h f = record {
+  name = subst (λ n. length n ≤ 256) (sym h.name) f.name;
+  desc = subst (λ n. length n ≤ 256) (sym h.desc) f.desc;
   class = ap (λ ns. place_in ns s.class) same ∙ ap (place_in (names p)) h.class ∙ f.class;
-  place = places s t.class.0 ∙ place_named p r s t.class.0 h ∙ f.place;
+  place = places s t.class.0 (subst (λ n. length n ≤ 256) (sym h.name) f.name) (subst (λ n. length n ≤ 256) (sym h.desc) f.desc) ∙ place_named p r s t.class.0 h ∙ f.place;
 }
 
 moved_case : (p q : List Info) (t : Target) (o n : Option MethodRef) → Moves p q t → AreSameNamed o n → IsSomeAnd o (λ r. IsTargetOf p r t) → IsSomeAnd n (λ r. IsTargetOf q r t)

@@ -161,7 +161,7 @@ zip_push R (z ∷ xs) (w ∷ ys) x y all here = (all.0, zip_push R xs ys x y all
 past : (p : List Info) (n : Name) (class : ℕ) → number_of p n ≡ Some class → slice_get p class ≡ None → ⊥
 past p n class number none = none_past p class none (number_within p n class number)
 
-module _ {N S Z : Type 0} (numbers : HashMap Name ℕ N) (words : HashMap Name ℕ S) (all : List (HashMap (ℕ × ℕ) ℕ Z)) (p : List Info) (numbering : IsNumbering numbers p) (are : ArePlacesOf words all p) where
+module _ {N S Z : Type 0} (numbers : HashMap Name ℕ N) (words : HashMap Name ℕ S) (all : List (HashMap (ℕ × ℕ) ℕ Z)) (p : List Info) (numbering : IsNumbering numbers p) (told : AreWords words) (are : ArePlacesOf words all p) where
 
   place_case : (r : MethodRef) (class place : ℕ) (h : ℕ × ℕ) (ps : Option (HashMap (ℕ × ℕ) ℕ Z)) (i : Option Info) → slice_get all class ≡ ps → slice_get p class ≡ i → number_of p r.class ≡ Some class → get same words r.name ≡ Some h.0 → get same words r.desc ≡ Some h.1 → option_and_then (λ places. get same_head places h) ps ≡ Some place → place_at p r class ≡ Some place
   unfolding linked_of
@@ -171,18 +171,18 @@ module _ {N S Z : Type 0} (numbers : HashMap Name ℕ N) (words : HashMap Name �
       ap (option_and_then (λ i. method_place r.name r.desc (class_of i).methods)) ei
       ∙ sym (zip_at (λ ps i. ArePlaces words ps i.linked.methods) all p class ps i are eps ei i.linked.entries r.name r.desc h name desc) ∙ e
 
-  made_case : (r : MethodRef) (class : ℕ) (t : Target) (o : Option ℕ) → number_of p r.class ≡ Some class → ((place : ℕ) → o ≡ Some place → place_at p r class ≡ Some place) → option_map (λ place. (let made : Target = record { class = record { 0 = class }; place = place } in made)) o ≡ Some t → IsTargetOf p r t
-  made_case r class t None number right e = absurd cc
-  made_case r class t (Some place) number right e =
+  made_case : (r : MethodRef) (class : ℕ) (t : Target) (o : Option ℕ) → length r.name ≤ 256 → length r.desc ≤ 256 → number_of p r.class ≡ Some class → ((place : ℕ) → o ≡ Some place → place_at p r class ≡ Some place) → option_map (λ place. (let made : Target = record { class = record { 0 = class }; place = place } in made)) o ≡ Some t → IsTargetOf p r t
+  made_case r class t None name desc number right e = absurd cc
+  made_case r class t (Some place) name desc number right e =
       let made : Target = record { class = record { 0 = class }; place = place } in
       let same : made ≡ t = cc in
-      record { class = number ∙ ap (λ (x : Target). Some x.class.0) same; place = (let P : Target → Type 0 = λ x. place_at p r x.class.0 ≡ Some x.place in subst P same (right place refl)) }
+      record { name = name; desc = desc; class = number ∙ ap (λ (x : Target). Some x.class.0) same; place = (let P : Target → Type 0 = λ x. place_at p r x.class.0 ≡ Some x.place in subst P same (right place refl)) }
 
   head_case : (r : MethodRef) (class : ℕ) (t : Target) (x y : Option ℕ) → get same words r.name ≡ x → get same words r.desc ≡ y → number_of p r.class ≡ Some class → option_and_then (target_by all class) (both x y) ≡ Some t → IsTargetOf p r t
   head_case r class t None y ex ey number e = absurd cc
   head_case r class t (Some x) None ex ey number e = absurd cc
   head_case r class t (Some x) (Some y) ex ey number e =
-      made_case r class t (place_by all class (x, y)) number (λ place. place_case r class place (x, y) (slice_get all class) (slice_get p class) refl refl number ex ey) e
+      made_case r class t (place_by all class (x, y)) (told.short r.name x ex) (told.short r.desc y ey) number (λ place. place_case r class place (x, y) (slice_get all class) (slice_get p class) refl refl number ex ey) e
 
   class_case : (r : MethodRef) (t : Target) (o : Option ℕ) → number_of p r.class ≡ o → option_and_then (λ class. option_and_then (target_by all class) (head_in words r.name r.desc)) o ≡ Some t → IsTargetOf p r t
   class_case r t None number e = absurd cc

@@ -1,5 +1,5 @@
 -- The methods that a program's classes name, by numbers (this project's own).
-use Rattle.std.specs.Prelude.{◌≡◌, ℕ, List, Option, Some, None, slice_get, option_and_then, IsSomeAnd, ⊤}
+use Rattle.std.specs.Prelude.{◌≡◌, ℕ, ◌≤◌, nat_le, if◌then◌else◌, List, length, Option, Some, None, slice_get, option_and_then, IsSomeAnd, ⊤}
 use Rattle.program_rules.specs.Names.{Name}
 use Rattle.class_table.specs.declared.calls.Target.{Target}
 use Rattle.class_link.specs.declared.linked.Entry.{Entry}
@@ -9,8 +9,11 @@ use Rattle.class_link.specs.Info.{Info}
 use Rattle.class_table.specs.Table.{number_of, place_at, reference_at}
 use Rattle.class_link.specs.View.{method_entry}
 
--- The class and the place are those of the method that is named.
+-- The class and the place are those of the method that is named, by a name and a descriptor of at
+-- most 256 units.
 pub record IsTargetOf (p : List Info) (r : MethodRef) (t : Target) : Type 0 where
+  pub name : length r.name ≤ 256
+  pub desc : length r.desc ≤ 256
   pub class : number_of p r.class ≡ Some t.class.0
   pub place : place_at p r t.class.0 ≡ Some t.place
 
@@ -28,8 +31,13 @@ AreTargetsOrNone (Some rows) p = AreTargets rows p
 
 -- ---- how they are made and kept. No public clause cites these.
 
-abbrev pub head_of : LinkedMethod → Name × Name
-head_of m = (m.name, m.desc)
+-- A text of at most 256 units.
+abbrev pub brief : Name → Option Name
+brief n = if nat_le (length n) 256 then Some n else None
+
+-- What a method is found by. Its name and its descriptor count where they are that short.
+abbrev pub head_of : LinkedMethod → Option Name × Option Name
+head_of m = (brief m.name, brief m.desc)
 
 -- Two entries name methods by the same words.
 pub record IsSameNamed (r s : MethodRef) : Type 0 where

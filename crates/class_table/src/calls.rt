@@ -9,7 +9,7 @@ ghost use Rattle.class_table.specs.Adding.{shared};
 ghost use Rattle.class_link.specs.View.{method_entry, method_ref_at};
 ghost use Rattle.class_table.specs.declared.calls.Target.{Target};
 ghost use Rattle.class_table.specs.Words.{AreWords, target_by, ref_target, entry_target};
-ghost use Rattle.class_table.specs.Calls.{target_at, AreTargets, AreTargetsOrNone, head_of, AreSameNamed, AreNamedAlike};
+ghost use Rattle.class_table.specs.Calls.{target_at, AreTargets, AreTargetsOrNone, brief, head_of, AreSameNamed, AreNamedAlike};
 
 use crate::words::{Places, SHORT, head, places, words};
 use class_link::{ClassInfo, Entry, LinkedClass, LinkedMethod, MethodRef};
@@ -150,14 +150,24 @@ pub fn copy_targets(
 
 // ---- one class in the place of another
 
-// Whether two methods have one name and one descriptor.
+// Whether two texts are the same, or both have more units than any by which a target is kept.
+fn are_alike(old: &Name, new: &Name) -> bool
+    ensures { result ≡ true → brief new.now ≡ brief old.now }
+{
+    if old.len() > SHORT {
+        return new.len() > SHORT;
+    }
+    *old == *new
+}
+
+// Whether two methods are found by the same words.
 fn has_same_head(old: &LinkedMethod, new: &LinkedMethod) -> bool
     ensures { result ≡ true → head_of new.now ≡ head_of old.now }
 {
-    *old.name == *new.name && *old.desc == *new.desc
+    are_alike(&old.name, &new.name) && are_alike(&old.desc, &new.desc)
 }
 
-// Whether the methods have the same names and descriptors in the same order.
+// Whether the methods are found by the same words, in the same order.
 fn have_same_heads(old: &[LinkedMethod], new: &[LinkedMethod]) -> bool
     ensures { result ≡ true → map head_of new.now ≡ map head_of old.now }
 {
