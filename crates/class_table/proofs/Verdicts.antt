@@ -1,13 +1,13 @@
 -- What is found of the classes by number is what is asked of them by name.
-use Rattle.std.proofs.Common.{◌≡◌, ◌≢◌, ◌⊎◌, inl, inr, ◌∙◌, sym, refl, ap, subst, ℕ, zero, suc, ◌+◌, ◌<◌, ◌^◌, Bool, true, false, List, [], ◌∷◌, ◌++◌, length, length-append, map, Option, None, Some, slice_get, arith}
+use Rattle.std.proofs.Common.{◌≡◌, ◌⊎◌, inl, inr, ◌∙◌, sym, refl, ap, subst, ℕ, zero, suc, ◌+◌, ◌<◌, ◌^◌, Bool, true, false, List, [], ◌∷◌, ◌++◌, length, length-append, map, Option, None, Some, slice_get, arith}
 use Rattle.std.specs.Prelude.{IsTrue, ◌||◌, is_none, option_and_then}
-use Rattle.std.specs.List.{list_any, flat_map}
+use Rattle.std.specs.List.{list_any}
 use Rattle.std.specs.Option.{option_map, option_to_list}
 use Rattle.std.specs.Cmp.Lexicographic.{same_text, bytes_decides}
 use Rattle.std.proofs.lemmas.List.{length-map}
 use Rattle.std.proofs.lemmas.Option.{slice_get-map, slice_get_within, slice_get-get_or}
 use Rattle.program_rules.specs.Names.{Name, same, is_listed}
-use Rattle.program_rules.specs.Linked.{Linked, parents_of, parents_with}
+use Rattle.program_rules.specs.Linked.{parents_of, parents_with}
 use Rattle.program_rules.specs.Programs.{Look}
 use Rattle.class_link.specs.Info.{Info, class_of}
 use Rattle.class_order.specs.declared.links.Links.{Links}
@@ -18,8 +18,8 @@ use Rattle.class_order.specs.Graph.{with_parent, supers_of, supers_in, supers_at
 use Rattle.class_order.specs.Standings.{AreStandings, IsStanding, IsLower, cyclic, ranked}
 use Rattle.class_order.specs.Supers.{is_super_missing, IsBelow, next, further, IsOwnSuper, is_super_of_wrong_kind, names_wrong_kind, lacks_superclass, IsLeastWith}
 use Rattle.class_table.specs.Table.{names, number_of, class_at, name_at, look, AreDistinct}
-use Rattle.class_table.specs.Least.{IsMarked, IsLeastName, IsLeastMarked}
-use Rattle.class_table.specs.Supers.{misses, names_wrong, numbers_known, IsLinked, AreLinked, AreLinks, is_cyclic, IsRanked, AreOrdered}
+use Rattle.class_table.specs.Least.{IsMarked, IsLeastMarked}
+use Rattle.class_table.specs.Supers.{misses, names_wrong, numbers_known, IsLinked, AreLinked, AreLinks, is_cyclic, AreOrdered}
 use Rattle.class_table.proofs.Places.{name_at_place, number_within, number_named, name_of_class, number_at, look_at, none_past}
 
 -- ---- one class more

@@ -1,15 +1,12 @@
-use Rattle.std.proofs.Common.{◌≡◌, ◌∙◌, sym, ap, subst, map, length, Some, None, Err, List, ℕ}
+use Rattle.std.proofs.Common.{◌≡◌, sym, subst, map, length, Some, None}
 use Rattle.std.specs.Arc.{arc_value}
-use Rattle.class_link.specs.Info.{Info}
-use Rattle.class_order.specs.Supers.{is_super_missing, IsLeastWith, IsOwnSuper, is_super_of_wrong_kind}
 use Rattle.class_order.specs.Standings.{AreStandings}
 use Rattle.class_order.specs.Graph.{AreWithin}
-use Rattle.std.specs.Prelude.{IsTrue}
 use Rattle.class_table.specs.Table.{names, look, AreDistinct}
 use Rattle.class_table.specs.Faults.{MissesFirst, CyclesFirst, IsWrongFirst}
 use Rattle.class_table.specs.Numbers.{IsVerdict}
 use Rattle.class_table.specs.Least.{IsLeastMarked}
-use Rattle.class_table.specs.Supers.{AreLinks, misses, names_wrong, is_cyclic}
+use Rattle.class_table.specs.Supers.{misses, names_wrong, is_cyclic}
 use Rattle.class_table.proofs.Verdicts.{missing_least, none_missing, links_within, cyclic_least, none_cyclic, wrong_least, none_wrong, are_ordered, unmarked}
 use Rattle.class_table.proofs.program.links_of.Goals as goal
 
