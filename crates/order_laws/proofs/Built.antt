@@ -146,4 +146,127 @@ module _ (p : Look) (ok : IsOrdered p) where
 
   -- each class is Object or stands below it
   to_object : (k : ℕ) (n : Name) → ok.ranks.rank n ≤ k → is_none (p n) ≡ false → IsWithin p n object_name
-  to_object k n le there = ?
+  to_object zero n le there = by_class (p n) refl
+    where
+      by_class : (o : Option Linked) → p n ≡ o → IsWithin p n object_name
+      by_class None e = let q : is_none (p n) ≡ true = subst (λ o. is_none o ≡ true) (sym e) refl in let r : true ≡ false = sym q ∙ there in absurd cc
+      by_class (Some c) e = by_parent c.parent refl
+        where
+          lacks : lacks_superclass n (Some c) ≡ false
+          lacks = subst (λ o. lacks_superclass n o ≡ false) e (or_left (lacks_superclass n (p n)) (list_any (λ x. is_none (p x)) (parents_of (p n))) (ok.present n))
+
+          by_parent : (o : Option Name) → c.parent ≡ o → IsWithin p n object_name
+          by_parent None q = inl (same_text n object_name (sym (and_not true (same n object_name) (subst (λ o. (is_none o && not (same n object_name)) ≡ false) q lacks) refl)))
+          by_parent (Some m) q =
+              let l : is_listed m (parents_of (p n)) ≡ true = subst (λ o. is_listed m (parents_of o) ≡ true) (sym e) (subst (λ o. is_listed m (parents_with o c.interfaces) ≡ true) (sym q) (or_first (same m m) (is_listed m c.interfaces) (same_itself m))) in
+              let lt = ok.ranks.lower n m l in
+              absurd (omega (arith, lt, le))
+  to_object (suc k) n le there = by_class (p n) refl (to_object k)
+    where
+      by_class : (o : Option Linked) → p n ≡ o → ((m : Name) → ok.ranks.rank m ≤ k → is_none (p m) ≡ false → IsWithin p m object_name) → IsWithin p n object_name
+      by_class None e up = let q : is_none (p n) ≡ true = subst (λ o. is_none o ≡ true) (sym e) refl in let r : true ≡ false = sym q ∙ there in absurd cc
+      by_class (Some c) e up = by_parent c.parent refl
+        where
+          lacks : lacks_superclass n (Some c) ≡ false
+          lacks = subst (λ o. lacks_superclass n o ≡ false) e (or_left (lacks_superclass n (p n)) (list_any (λ x. is_none (p x)) (parents_of (p n))) (ok.present n))
+
+          by_parent : (o : Option Name) → c.parent ≡ o → IsWithin p n object_name
+          by_parent None q = inl (same_text n object_name (sym (and_not true (same n object_name) (subst (λ o. (is_none o && not (same n object_name)) ≡ false) q lacks) refl)))
+          by_parent (Some m) q =
+              let l : is_listed m (parents_of (p n)) ≡ true = subst (λ o. is_listed m (parents_of o) ≡ true) (sym e) (subst (λ o. is_listed m (parents_with o c.interfaces) ≡ true) (sym q) (or_first (same m m) (is_listed m c.interfaces) (same_itself m))) in
+              let lt = ok.ranks.lower n m l in
+              within_on p n m object_name (inr (next n m l)) (up m (omega (arith, lt, le)) (super_there n m l))
+
+  -- nothing stands above Object
+  object_alone : (b : Name) → IsBelow p object_name b → ⊥
+  object_alone b h =
+      let there = below_there object_name b h in
+      let lt = below_lower object_name b h in
+      elim (to_object (ok.ranks.rank b) b (omega arith) there) [
+        | inl e ↦ (let same_rank : ok.ranks.rank b ≡ ok.ranks.rank object_name = ap ok.ranks.rank e in absurd (omega (arith, lt, same_rank)))
+        | inr l ↦ (let lt2 = below_lower b object_name l in absurd (omega (arith, lt, lt2)))
+      ]
+
+  -- ---- above an interface
+
+  is_interface_at : (n : Name) (c : Linked) → p n ≡ Some c → is_interface_class (outline_of (p n)) ≡ true → is_interface c.flags ≡ true
+  is_interface_at n c e h = subst (λ o. is_interface_class (outline_of o) ≡ true) e h
+
+  interface_entry : (m : Name) → is_no_interface (p m) ≡ false → is_none (p m) ≡ false → is_interface_class (outline_of (p m)) ≡ true
+  interface_entry m e there = by_class (p m) refl
+    where
+      by_class : (o : Option Linked) → p m ≡ o → is_interface_class (outline_of (p m)) ≡ true
+      by_class None q = let r : true ≡ false = subst (λ o. is_none o ≡ false) q there in absurd cc
+      by_class (Some c) q = subst (λ o. is_interface_class (outline_of o) ≡ true) (sym q) (and_not true (is_interface c.flags) (subst (λ o. is_no_interface o ≡ false) q e) refl)
+
+  above_interface : (n m : Name) → is_interface_class (outline_of (p n)) ≡ true → is_listed m (parents_of (p n)) ≡ true → (m ≡ object_name) ⊎ (is_interface_class (outline_of (p m)) ≡ true)
+  above_interface n m h l = by_class (p n) refl
+    where
+      by_class : (o : Option Linked) → p n ≡ o → (m ≡ object_name) ⊎ (is_interface_class (outline_of (p m)) ≡ true)
+      by_class None e = let q : is_listed m (parents_of None) ≡ true = subst (λ o. is_listed m (parents_of o) ≡ true) e l in absurd cc
+      by_class (Some c) e = by_place
+        where
+          right : (list_any (is_wrong_superclass p c) (option_list c.parent) || list_any (λ x. is_no_interface (p x)) c.interfaces) ≡ false
+          right = subst (λ o. names_wrong_kind p o ≡ false) e (ok.kinds n)
+
+          flags : is_interface c.flags ≡ true
+          flags = is_interface_at n c e h
+
+          of_interfaces : is_listed m c.interfaces ≡ true → (m ≡ object_name) ⊎ (is_interface_class (outline_of (p m)) ≡ true)
+          of_interfaces i = inr (interface_entry m (each_false (λ x. is_no_interface (p x)) m c.interfaces (or_right (list_any (is_wrong_superclass p c) (option_list c.parent)) (list_any (λ x. is_no_interface (p x)) c.interfaces) right) i) (super_there n m l))
+
+          of_parent : (x : Name) → c.parent ≡ Some x → x ≡ m → (m ≡ object_name) ⊎ (is_interface_class (outline_of (p m)) ≡ true)
+          of_parent x q s =
+              let one : list_any (is_wrong_superclass p c) (option_list (Some x)) ≡ false = subst (λ o. list_any (is_wrong_superclass p c) (option_list o) ≡ false) q (or_left (list_any (is_wrong_superclass p c) (option_list c.parent)) (list_any (λ y. is_no_interface (p y)) c.interfaces) right) in
+              let wrong : is_wrong_superclass p c x ≡ false = or_left (is_wrong_superclass p c x) false one in
+              let object : same x object_name ≡ true = and_not (is_interface c.flags) (same x object_name) (or_right (is_no_superclass (p x)) (is_interface c.flags && not (same x object_name)) wrong) flags in
+              inl (sym s ∙ same_text x object_name (sym object))
+
+          by_parent : (o : Option Name) → c.parent ≡ o → is_listed m (parents_with o c.interfaces) ≡ true → (m ≡ object_name) ⊎ (is_interface_class (outline_of (p m)) ≡ true)
+          by_parent None q i = of_interfaces i
+          by_parent (Some x) q i = elim (or_either (same x m) (is_listed m c.interfaces) i) [
+            | inl s ↦ of_parent x q (same_text x m (sym s))
+            | inr k ↦ of_interfaces k
+          ]
+
+          by_place : (m ≡ object_name) ⊎ (is_interface_class (outline_of (p m)) ≡ true)
+          by_place = by_parent c.parent refl (subst (λ o. is_listed m (parents_of o) ≡ true) e l)
+
+  below_interface : (a b : Name) → IsBelow p a b → is_interface_class (outline_of (p a)) ≡ true → (b ≡ object_name) ⊎ (is_interface_class (outline_of (p b)) ≡ true)
+  below_interface a b (next x y l) h = above_interface a b h l
+  below_interface a b (further x y z l rest) h = elim (above_interface a y h l) [
+    | inl e ↦ absurd (object_alone b (subst (λ x. IsBelow p x b) e rest))
+    | inr i ↦ below_interface y b rest i
+  ]
+
+  interface_there : (a : Name) → is_interface_class (outline_of (p a)) ≡ true → is_none (p a) ≡ false
+  interface_there a h = by_class (p a) refl
+    where
+      by_class : (o : Option Linked) → p a ≡ o → is_none (p a) ≡ false
+      by_class None e = let q : false ≡ true = subst (λ o. is_interface_class (outline_of o) ≡ true) e h in absurd cc
+      by_class (Some c) e = subst (λ o. is_none o ≡ false) (sym e) refl
+
+  pub built : HasArrays p → IsBuilt (classes_of p)
+  built arrays = record {
+    closed = λ a b c h k. within_subtype a c (within_on p a b c (subtype_within a b h) (subtype_within b c k));
+    reflexive = λ a. within_subtype a a (inl refl);
+    present = λ a b there h. elim (subtype_within a b h) [
+      | inl e ↦ subst (λ x. is_none (p x) ≡ false) e there
+      | inr l ↦ below_there a b l
+    ];
+    there = interface_there;
+    interfaces = λ a b h k. elim (subtype_within a b k) [
+      | inl e ↦ or_second (same b object_name) (is_interface_class (outline_of (p b))) (subst (λ x. is_interface_class (outline_of (p x)) ≡ true) e h)
+      | inr l ↦ elim (below_interface a b l h) [
+        | inl e ↦ or_first (same b object_name) (is_interface_class (outline_of (p b))) (subst (λ x. same x object_name ≡ true) (sym e) (same_itself object_name))
+        | inr i ↦ or_second (same b object_name) (is_interface_class (outline_of (p b))) i
+      ]
+    ];
+    object = λ b h. elim (subtype_within object_name b h) [
+      | inl e ↦ subst (λ x. same x object_name ≡ true) e (same_itself object_name)
+      | inr l ↦ absurd (object_alone b l)
+    ];
+    has_object = arrays.object;
+    arrays = arrays.arrays;
+    no_array = arrays.none;
+  }
