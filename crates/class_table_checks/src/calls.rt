@@ -7,6 +7,7 @@ ghost use Rattle.program_rules.specs.Programs.{consulted_with};
 ghost use Rattle.class_table.specs.Table.{AreDistinct, IsLeastDuplicate, bodies_of, names_of, number_of, CanSwap, class_at, name_at, look, named_place};
 ghost use Rattle.class_link.specs.Info.{IsInfo};
 ghost use Rattle.class_order.specs.Graph.{AreWithin};
+ghost use Rattle.class_order.specs.Ranks.{HasRanks};
 ghost use Rattle.class_order.specs.Standings.{AreStandings};
 ghost use Rattle.class_table.specs.Faults.{look_of, AreProgram, IsFirstMissing, IsFirstCycle, IsFirstWrongKind};
 ghost use Rattle.class_table.specs.Seen.{IsConsultedOf};
@@ -27,6 +28,7 @@ pub fn build(
 ) -> Result<Program, TableFault>
     ensures classes { IfOk result (λ p. map (λ i. i.body) p ≡ bodies_of classes library) }
     ensures program { OnOk result (AreProgram (bodies_of classes library)) }
+    ensures ranks { OnOk result (HasRanks (look_of (bodies_of classes library))) }
     ensures distinct { OnOk result (AreDistinct (names_of classes library)) }
     ensures meant { IfOk result (λ p. All IsInfo p) }
     ensures looks { IfOk result (λ p. look p ≡ look_of (bodies_of classes library)) }

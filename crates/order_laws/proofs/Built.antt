@@ -1,5 +1,5 @@
 -- What stands above a class, by the walk and by steps.
-use Rattle.std.proofs.Common.{◌≡◌, ◌≢◌, ◌⊎◌, inl, inr, ◌∙◌, sym, refl, ap, subst, ℕ, zero, suc, ◌+◌, ◌<◌, ◌≤◌, ◌^◌, Bool, true, false, List, [], ◌∷◌, ◌++◌, Option, None, Some, arith}
+use Rattle.std.proofs.Common.{◌≡◌, ◌⊎◌, inl, inr, ◌∙◌, sym, refl, ap, subst, ℕ, zero, suc, ◌<◌, ◌≤◌, Bool, true, false, List, [], ◌∷◌, ◌++◌, Option, None, Some, arith}
 use Rattle.std.specs.Prelude.{◌||◌, ◌&&◌, not, is_none}
 use Rattle.std.specs.List.{list_any}
 use Rattle.std.specs.Cmp.Lexicographic.{same_text, bytes_decides}
@@ -9,8 +9,9 @@ use Rattle.program_rules.specs.Outlines.{outline_of, is_interface_class}
 use Rattle.program_rules.specs.Programs.{Look, concat_over, supers_within, supers, option_list}
 use Rattle.type_rules.specs.References.{is_subtype, classes_of}
 use Rattle.type_laws.specs.Soundness.{IsBuilt}
-use Rattle.class_order.specs.Supers.{IsBelow, next, further, is_super_missing, is_super_of_wrong_kind, names_wrong_kind, lacks_superclass, is_no_superclass, is_no_interface, is_wrong_superclass}
-use Rattle.order_laws.specs.Ordered.{IsOrdered, HasArrays}
+use Rattle.class_order.specs.Supers.{IsBelow, next, further, names_wrong_kind, lacks_superclass, is_no_superclass, is_no_interface, is_wrong_superclass}
+use Rattle.class_order.specs.Ranks.{IsOrdered}
+use Rattle.order_laws.specs.Ordered.{HasArrays}
 
 -- ---- tests
 
@@ -101,11 +102,11 @@ walk_above zero p a b e = elim (or_either (same a b) false e) [ inl s ↦ inl (s
 walk_above (suc k) p a b e = elim (or_either (same a b) (is_listed b (concat_over (supers_within k p) (parents_of (p a)))) e) [
   | inl s ↦ inl (same_text a b (sym s))
   | inr h ↦
-  let r = of_one (supers_within k p) b (parents_of (p a)) h in
-  elim (walk_above k p r.0 b r.2) [
-    | inl same_one ↦ inr (next a b (subst (λ x. is_listed x (parents_of (p a)) ≡ true) same_one r.1))
-    | inr below ↦ inr (further a r.0 b r.1 below)
-  ]
+      let r = of_one (supers_within k p) b (parents_of (p a)) h in
+      elim (walk_above k p r.0 b r.2) [
+        | inl same_one ↦ inr (next a b (subst (λ x. is_listed x (parents_of (p a)) ≡ true) same_one r.1))
+        | inr below ↦ inr (further a r.0 b r.1 below)
+      ]
 ]
 
 module _ (p : Look) (ok : IsOrdered p) where

@@ -1,25 +1,12 @@
 -- A program whose supers are as they have to be is built as accepted code asks.
-use Rattle.std.specs.Prelude.{◌≡◌, ◌<◌, ◌^◌, ◌||◌, ℕ, true, false, is_none}
-use Rattle.program_rules.specs.Names.{Name, same, object_name, is_listed, is_array_name}
-use Rattle.program_rules.specs.Linked.{parents_of}
+use Rattle.std.specs.Prelude.{◌≡◌, ◌||◌, true, false, is_none}
+use Rattle.program_rules.specs.Names.{Name, same, object_name, is_array_name}
 use Rattle.program_rules.specs.Outlines.{outline_of, is_interface_class}
 use Rattle.program_rules.specs.Programs.{Look}
 use Rattle.type_rules.specs.References.{classes_of}
 use Rattle.type_rules.specs.Assignability.{takes_arrays}
 use Rattle.type_laws.specs.Soundness.{IsBuilt}
-use Rattle.class_order.specs.Supers.{is_super_missing, is_super_of_wrong_kind}
-
--- Each class has a rank, and each of its supers a lower one. So no class stands above itself.
-pub record HasRanks (p : Look) : Type 0 where
-  pub rank : Name → ℕ
-  pub few : (n : Name) → rank n < 2 ^ 32
-  pub lower : (n m : Name) → is_listed m (parents_of (p n)) ≡ true → rank m < rank n
-
--- No super is missing or of a wrong kind, and classes have ranks.
-pub record IsOrdered (p : Look) : Type 0 where
-  pub present : (n : Name) → is_super_missing p n ≡ false
-  pub kinds : (n : Name) → is_super_of_wrong_kind p n ≡ false
-  pub ranks : HasRanks p
+use Rattle.class_order.specs.Ranks.{IsOrdered}
 
 -- What the library and the reader of class files give: Object and the supers of arrays are there,
 -- and no class is named as an array.
