@@ -19,9 +19,9 @@ module _ (g : List Links) (found : List Standing) (looked stack bounds path : Li
       elim (less_case i (length bounds - 1)) [
         | inl lt ↦ inl lt
         | inr past ↦
-        let w = slice_get_within bounds i d h in
-        let here : i ≡ length bounds - 1 = omega (arith, past, w) in
-        inr (one_item bounds (length bounds - 1) d b (subst (λ k. slice_get bounds k ≡ Some d) here h) last)
+            let w = slice_get_within bounds i d h in
+            let here : i ≡ length bounds - 1 = omega (arith, past, w) in
+            inr (one_item bounds (length bounds - 1) d b (subst (λ k. slice_get bounds k ≡ Some d) here h) last)
       ]
 
   before : (i d : ℕ) → slice_get bounds i ≡ Some d → i < length bounds - 1 → d < b
@@ -42,9 +42,9 @@ module _ (g : List Links) (found : List Standing) (looked stack bounds path : Li
       let in_supers = slice_get_within (supers_at g a) j c sup in
       elim (less_case _ (length (supers_at g a))) [
         | inl lt ↦
-        let s = ok.finished k a _ there count lt in
-        let q = below s.place k s.there in
-        absurd (omega (arith, q, le))
+            let s = ok.finished k a _ there count lt in
+            let q = below s.place k s.there in
+            absurd (omega (arith, q, le))
         | inr all ↦ ok.seen b k a _ j c there_last le there count (omega (arith, all, in_supers)) sup
       ]
 
@@ -219,9 +219,9 @@ module _ (g : List Links) (found : List Standing) (looked stack bounds path : Li
         (λ x r h. elim (set_case found a (Ranked next) x (Ranked r) h) [ inl e ↦ (λ q. not_above (subst (IsAboveItself g) e.0 q)) | inr e ↦ ok.apart x r e.1 ])
         (λ x r k c h sup. elim (set_case found a (Ranked next) x (Ranked r) h) [
           | inl e ↦
-          let q : Ranked r ≡ Ranked next = e.1 in
-          let n : r ≡ next = cc in
-          subst (IsLower (slice_get one' c)) (sym n) (lower_same one' (next + 1) fits' (length-set found a (Ranked next)) one_shut one_others c next (super_lower k c (subst (λ y. slice_get (supers_at g y) k ≡ Some c) e.0 sup)))
+              let q : Ranked r ≡ Ranked next = e.1 in
+              let n : r ≡ next = cc in
+              subst (IsLower (slice_get one' c)) (sym n) (lower_same one' (next + 1) fits' (length-set found a (Ranked next)) one_shut one_others c next (super_lower k c (subst (λ y. slice_get (supers_at g y) k ≡ Some c) e.0 sup)))
           | inr e ↦ lower_same one' (next + 1) fits' (length-set found a (Ranked next)) one_shut one_others c r (ok.lower x r k c e.1 sup)
         ])
         (λ x r h. elim (set_case found a (Ranked next) x (Ranked r) h) [

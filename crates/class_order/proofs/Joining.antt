@@ -31,34 +31,46 @@ base_or_none (n ∷ ns) k =
     elim (base_or_none ns k) [
       | inl r ↦ elim (less_case k n) [
         | inl above ↦
-        inl (r.0, record {
-          there = stands_behind n ns r.0 r.1.there;
-          upto = r.1.upto;
-          near = λ d h le. elim (behind_first n ns d h) [ inl e ↦ absurd (omega (arith, e, le, above)) | inr s ↦ r.1.near d s le ];
-        })
+            inl (
+              r.0,
+              record {
+                there = stands_behind n ns r.0 r.1.there;
+                upto = r.1.upto;
+                near = λ d h le. elim (behind_first n ns d h) [ inl e ↦ absurd (omega (arith, e, le, above)) | inr s ↦ r.1.near d s le ];
+              },
+            )
         | inr below ↦ elim (less_case n r.0) [
           | inl less ↦
-          inl (r.0, record {
-            there = stands_behind n ns r.0 r.1.there;
-            upto = r.1.upto;
-            near = λ d h le. elim (behind_first n ns d h) [ inl e ↦ omega (arith, e, less) | inr s ↦ r.1.near d s le ];
-          })
+              inl (
+                r.0,
+                record {
+                  there = stands_behind n ns r.0 r.1.there;
+                  upto = r.1.upto;
+                  near = λ d h le. elim (behind_first n ns d h) [ inl e ↦ omega (arith, e, less) | inr s ↦ r.1.near d s le ];
+                },
+              )
           | inr more ↦
-          inl (n, record {
-            there = record { place = 0; there = refl };
-            upto = below;
-            near = λ d h le. elim (behind_first n ns d h) [ inl e ↦ omega (arith, e) | inr s ↦ (let q = r.1.near d s le in omega (arith, q, more)) ];
-          })
+              inl (
+                n,
+                record {
+                  there = record { place = 0; there = refl };
+                  upto = below;
+                  near = λ d h le. elim (behind_first n ns d h) [ inl e ↦ omega (arith, e) | inr s ↦ (let q = r.1.near d s le in omega (arith, q, more)) ];
+                },
+              )
         ]
       ]
       | inr none ↦ elim (less_case k n) [
         | inl above ↦ inr (λ d h. elim (behind_first n ns d h) [ inl e ↦ omega (arith, e, above) | inr s ↦ none d s ])
         | inr below ↦
-        inl (n, record {
-          there = record { place = 0; there = refl };
-          upto = below;
-          near = λ d h le. elim (behind_first n ns d h) [ inl e ↦ omega (arith, e) | inr s ↦ (let q = none d s in absurd (omega (arith, q, le))) ];
-        })
+            inl (
+              n,
+              record {
+                there = record { place = 0; there = refl };
+                upto = below;
+                near = λ d h le. elim (behind_first n ns d h) [ inl e ↦ omega (arith, e) | inr s ↦ (let q = none d s in absurd (omega (arith, q, le))) ];
+              },
+            )
       ]
     ]
 
@@ -69,10 +81,10 @@ module _ (g : List Links) (found : List Standing) (looked stack bounds path : Li
       elim (base_or_none bounds k) [
         | inl r ↦ r
         | inr none ↦
-        let w = slice_get_within stack k a h in
-        let zero_there : Stands bounds 0 = record { place = 0; there = ok.bounds_first (omega (arith, w)) } in
-        let q = none 0 zero_there in
-        absurd (omega (arith, q))
+            let w = slice_get_within stack k a h in
+            let zero_there : Stands bounds 0 = record { place = 0; there = ok.bounds_first (omega (arith, w)) } in
+            let q = none 0 zero_there in
+            absurd (omega (arith, q))
       ]
 
   -- the first of the part of an open class
@@ -111,8 +123,8 @@ module _ (g : List Links) (found : List Standing) (looked stack bounds path : Li
         elim (less_case h.place (length left - 1)) [
           | inl lt ↦ (let q = left_rise h.place (length left - 1) d _ h.there end lt in omega (arith, q, le))
           | inr past ↦
-          let here : h.place ≡ length left - 1 = omega (arith, past, w) in
-          drops.upto d (subst (λ i. slice_get left i ≡ Some d) here h.there)
+              let here : h.place ≡ length left - 1 = omega (arith, past, w) in
+              drops.upto d (subst (λ i. slice_get left i ≡ Some d) here h.there)
         ]
 
     back_now : (b i x y : ℕ) → Stands left b → b ≤ i → ((d : ℕ) → Stands left d → d ≤ i → d ≤ b) → slice_get stack b ≡ Some x → slice_get stack i ≡ Some y → Leads g y x
@@ -124,21 +136,21 @@ module _ (g : List Links) (found : List Standing) (looked stack bounds path : Li
         let over = base.near b (was b h) le in
         elim (less_case p e) [
           | inl behind ↦
-          let f = first_of e i y base.upto hy in
-          let to_first : Leads g y f.0 = ok.back e i f.0 y base.there base.upto base.near f.1 hy in
-          let to_a : Leads g f.0 a = ok.down e k f.0 a base.there (last e base.there) f.1 there in
-          let r2 = base_of p c at in
-          let le2 = r2.1.upto in
-          let mine = near r2.0 (kept r2.0 r2.1.there le2) (omega (arith, le2, behind, up_to)) in
-          let theirs = r2.1.near b (was b h) (upto b h) in
-          let one : r2.0 ≡ b = omega (arith, mine, theirs) in
-          let first : slice_get stack r2.0 ≡ Some x = subst (λ n. slice_get stack n ≡ Some x) (sym one) hx in
-          let to_x : Leads g c x = ok.back r2.0 p x c r2.1.there le2 r2.1.near first at in
-          leads_on g y f.0 x to_first (leads_on g f.0 a x to_a (up a j c x names to_x))
+              let f = first_of e i y base.upto hy in
+              let to_first : Leads g y f.0 = ok.back e i f.0 y base.there base.upto base.near f.1 hy in
+              let to_a : Leads g f.0 a = ok.down e k f.0 a base.there (last e base.there) f.1 there in
+              let r2 = base_of p c at in
+              let le2 = r2.1.upto in
+              let mine = near r2.0 (kept r2.0 r2.1.there le2) (omega (arith, le2, behind, up_to)) in
+              let theirs = r2.1.near b (was b h) (upto b h) in
+              let one : r2.0 ≡ b = omega (arith, mine, theirs) in
+              let first : slice_get stack r2.0 ≡ Some x = subst (λ n. slice_get stack n ≡ Some x) (sym one) hx in
+              let to_x : Leads g c x = ok.back r2.0 p x c r2.1.there le2 r2.1.near first at in
+              leads_on g y f.0 x to_first (leads_on g f.0 a x to_a (up a j c x names to_x))
           | inr kept_too ↦
-          let mine = near e (kept e base.there kept_too) up_to in
-          let one : e ≡ b = omega (arith, mine, over) in
-          ok.back e i x y base.there up_to base.near (subst (λ n. slice_get stack n ≡ Some x) (sym one) hx) hy
+              let mine = near e (kept e base.there kept_too) up_to in
+              let one : e ≡ b = omega (arith, mine, over) in
+              ok.back e i x y base.there up_to base.near (subst (λ n. slice_get stack n ≡ Some x) (sym one) hx) hy
         ]
 
     first_kept : 0 < length stack → slice_get left 0 ≡ Some 0

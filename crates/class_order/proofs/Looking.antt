@@ -52,16 +52,16 @@ module _ (g : List Links) (found : List Standing) (looked stack bounds path : Li
       ];
       seen = λ b i x m j d h le hx e lt sup. elim (set_case looked a (n + 1) x m e) [
         | inl q ↦
-        let at : slice_get looked x ≡ Some n = ap (slice_get looked) q.0 ∙ count in
-        let place : i ≡ k = one_place i k x hx (there ∙ ap Some (sym q.0)) in
-        let q1 = q.1 in
-        elim (less_case j n) [
-          | inl below ↦ ok.seen b i x n j d h le hx at below sup
-          | inr above ↦
-          let here : j ≡ n = omega (arith, above, lt, q1) in
-          let one : c ≡ d = one_item (supers_at g a) n c d names (subst (λ y. slice_get (supers_at g y) n ≡ Some d) q.0 (subst (λ y. slice_get (supers_at g x) y ≡ Some d) here sup)) in
-          subst (λ y. IsBehind (slice_get found y) b) one (behind b h (omega (arith, le, place)))
-        ]
+            let at : slice_get looked x ≡ Some n = ap (slice_get looked) q.0 ∙ count in
+            let place : i ≡ k = one_place i k x hx (there ∙ ap Some (sym q.0)) in
+            let q1 = q.1 in
+            elim (less_case j n) [
+              | inl below ↦ ok.seen b i x n j d h le hx at below sup
+              | inr above ↦
+                  let here : j ≡ n = omega (arith, above, lt, q1) in
+                  let one : c ≡ d = one_item (supers_at g a) n c d names (subst (λ y. slice_get (supers_at g y) n ≡ Some d) q.0 (subst (λ y. slice_get (supers_at g x) y ≡ Some d) here sup)) in
+                  subst (λ y. IsBehind (slice_get found y) b) one (behind b h (omega (arith, le, place)))
+            ]
         | inr q ↦ ok.seen b i x m j d h le hx q.1 lt sup
       ];
       down = ok.down;
@@ -93,12 +93,12 @@ module _ (g : List Links) (found : List Standing) (looked stack bounds path : Li
           elim (less_case s.place (length path - 1)) [
             | inl w ↦ record { place = s.place; there = take_has (length path - 1) path s.place i w s.there }
             | inr w ↦
-            let in_path = slice_get_within path s.place i s.there in
-            let end : s.place ≡ length path - 1 = omega (arith, w, in_path) in
-            let place : i ≡ k = one_item path (length path - 1) i k (subst (λ y. slice_get path y ≡ Some i) end s.there) last in
-            let one : x ≡ a = one_item stack k x a (subst (λ y. slice_get stack y ≡ Some x) place h) there in
-            let all : length (supers_at g x) ≤ n = subst (λ y. length (supers_at g y) ≤ n) (sym one) (none n (subst (λ y. slice_get looked y ≡ Some n) one e)) in
-            absurd (omega (arith, all, lt))
+                let in_path = slice_get_within path s.place i s.there in
+                let end : s.place ≡ length path - 1 = omega (arith, w, in_path) in
+                let place : i ≡ k = one_item path (length path - 1) i k (subst (λ y. slice_get path y ≡ Some i) end s.there) last in
+                let one : x ≡ a = one_item stack k x a (subst (λ y. slice_get stack y ≡ Some x) place h) there in
+                let all : length (supers_at g x) ≤ n = subst (λ y. length (supers_at g y) ≤ n) (sym one) (none n (subst (λ y. slice_get looked y ≡ Some n) one e)) in
+                absurd (omega (arith, all, lt))
           ];
       seen = ok.seen;
       down = ok.down;

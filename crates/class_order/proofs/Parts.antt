@@ -68,10 +68,10 @@ module _ (g : List Links) (found : List Standing) (looked stack bounds path : Li
       let w = slice_get_within stack k x h in
       elim (same_case (length stack) (b + 1)) [
         | inl alone ↦
-        let here : k ≡ b = omega (arith, w, le, alone) in
-        let one : a ≡ x = one_item stack b a x there (subst (λ n. slice_get stack n ≡ Some x) here h) in
-        let self = named alone in
-        subst (IsAboveItself g) one (record { place = self.0; over = a; names = self.1; back = same a })
+            let here : k ≡ b = omega (arith, w, le, alone) in
+            let one : a ≡ x = one_item stack b a x there (subst (λ n. slice_get stack n ≡ Some x) here h) in
+            let self = named alone in
+            subst (IsAboveItself g) one (record { place = self.0; over = a; names = self.1; back = same a })
         | inr several ↦ elim (same_case k b) [
           | inl here ↦ (let more : b + 1 < length stack = omega (arith, w, le, several) in round k (b + 1) x _ le here refl h (slice_get-get_or stack (b + 1) 0 more))
           | inr behind ↦ first_step g x a (ok.back b k a x there_last le (near k) there h) (apart k b x a h there behind) (ok.down b k a x there_last le there h)

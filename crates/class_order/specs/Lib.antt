@@ -1,4 +1,5 @@
 pub mod Supers
+pub mod Ranks
 pub mod Graph
 pub mod Standings
 pub mod Walks

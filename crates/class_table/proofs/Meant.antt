@@ -1,17 +1,17 @@
 -- All classes of a program have the name and the meaning of their bodies.
-use Rattle.std.proofs.Common.{◌≡◌, ◌∙◌, sym, refl, ap, subst, ℕ, suc, ◌<◌, List, [], ◌∷◌, ◌++◌, length, map, Option, None, Some, slice_get, All}
+use Rattle.std.proofs.Common.{◌≡◌, ◌∙◌, sym, refl, ap, subst, ℕ, suc, List, [], ◌∷◌, ◌++◌, map, Option, None, Some, slice_get, All}
 use Rattle.std.specs.Prelude.{option_and_then}
 use Rattle.std.specs.Option.{option_map}
 use Rattle.std.specs.Arc.{arc_value}
 use Rattle.std.specs.declared.sync.Arc.{Arc}
 use Rattle.std.proofs.lemmas.Option.{slice_get-map, slice_get_within, get_or_from_slice_get}
-use Rattle.std.proofs.lemmas.List.Elements.{All-append, All-nil, All-from_recursion, All-get_or}
+use Rattle.std.proofs.lemmas.List.Elements.{All-append, All-from_recursion, All-get_or}
 use Rattle.program_rules.specs.Names.{Name}
 use Rattle.program_rules.specs.Programs.{Look}
 use Rattle.class_link.specs.declared.loaded.ClassBody.{ClassBody}
 use Rattle.class_link.specs.Info.{Info, IsInfo, body_name, link_body, class_of}
-use Rattle.class_table.specs.Table.{bodies, names, number_of, class_at, look, place_in}
-use Rattle.class_table.specs.Faults.{body_named, look_of}
+use Rattle.class_table.specs.Table.{bodies, names, class_at, look, place_in}
+use Rattle.class_table.specs.Faults.{look_of}
 
 info_in : {Z : Type 0} → Arc Info Z → Info
 info_in c = arc_value c

@@ -1,13 +1,13 @@
 -- What is found of the classes by number is what is asked of them by name.
-use Rattle.std.proofs.Common.{◌≡◌, ◌≢◌, ◌⊎◌, inl, inr, ◌∙◌, sym, refl, ap, subst, ℕ, zero, suc, ◌+◌, ◌<◌, ◌^◌, Bool, true, false, List, [], ◌∷◌, ◌++◌, length, length-append, map, Option, None, Some, slice_get, arith}
+use Rattle.std.proofs.Common.{◌≡◌, ◌⊎◌, inl, inr, ◌∙◌, sym, refl, ap, subst, ℕ, zero, suc, ◌+◌, ◌<◌, ◌^◌, Bool, true, false, List, [], ◌∷◌, ◌++◌, length, length-append, map, Option, None, Some, slice_get, arith}
 use Rattle.std.specs.Prelude.{IsTrue, ◌||◌, is_none, option_and_then}
-use Rattle.std.specs.List.{list_any, flat_map}
+use Rattle.std.specs.List.{list_any}
 use Rattle.std.specs.Option.{option_map, option_to_list}
 use Rattle.std.specs.Cmp.Lexicographic.{same_text, bytes_decides}
 use Rattle.std.proofs.lemmas.List.{length-map}
 use Rattle.std.proofs.lemmas.Option.{slice_get-map, slice_get_within, slice_get-get_or}
 use Rattle.program_rules.specs.Names.{Name, same, is_listed}
-use Rattle.program_rules.specs.Linked.{Linked, parents_of, parents_with}
+use Rattle.program_rules.specs.Linked.{parents_of, parents_with}
 use Rattle.program_rules.specs.Programs.{Look}
 use Rattle.class_link.specs.Info.{Info, class_of}
 use Rattle.class_order.specs.declared.links.Links.{Links}
@@ -17,8 +17,9 @@ use Rattle.class_order.specs.Graph as graph
 use Rattle.class_order.specs.Graph.{with_parent, supers_of, supers_in, supers_at, AreWithin, Leads, IsAboveItself}
 use Rattle.class_order.specs.Standings.{AreStandings, IsStanding, IsLower, cyclic, ranked}
 use Rattle.class_order.specs.Supers.{is_super_missing, IsBelow, next, further, IsOwnSuper, is_super_of_wrong_kind, names_wrong_kind, lacks_superclass, IsLeastWith}
+use Rattle.class_order.specs.Ranks.{HasRanks}
 use Rattle.class_table.specs.Table.{names, number_of, class_at, name_at, look, AreDistinct}
-use Rattle.class_table.specs.Least.{IsMarked, IsLeastName, IsLeastMarked}
+use Rattle.class_table.specs.Least.{IsMarked, IsLeastMarked}
 use Rattle.class_table.specs.Supers.{misses, names_wrong, numbers_known, IsLinked, AreLinked, AreLinks, is_cyclic, IsRanked, AreOrdered}
 use Rattle.class_table.proofs.Places.{name_at_place, number_within, number_named, name_of_class, number_at, look_at, none_past}
 
@@ -295,6 +296,27 @@ module _ (p : List Info) (distinct : AreDistinct (names p)) where
       own_class : (n m : Name) → IsBelow (look p) n m → (a : ℕ) × (number_of p n ≡ Some a) × (slice_get (names p) a ≡ Some n)
       own_class n m (next x y listed) = let c = class_number n m listed in (c.0, c.1, name_at_place n c.0 (names p) c.1)
       own_class n m (further x j y listed rest) = let c = class_number n j listed in (c.0, c.1, name_at_place n c.0 (names p) c.1)
+
+      module _ (ranked : IsRanked g) where
+        number_rank : Option ℕ → ℕ
+        number_rank None = 0
+        number_rank (Some a) = ranked.rank a
+
+        few_ranks : (o : Option ℕ) → number_rank o < 2 ^ 32
+        unfolding number_rank
+        few_ranks None = omega arith
+        few_ranks (Some a) = ranked.few a
+
+        lower_name : (n m : Name) → is_listed m (parents_of (look p n)) ≡ true → number_rank (number_of p m) < number_rank (number_of p n)
+        unfolding number_rank
+        lower_name n m l =
+            let c = class_number n m l in
+            let d = super_number n m l in
+            let r = step_number n m c.0 d.0 l c.1 d.1 in
+            subst (λ o. number_rank o < number_rank (number_of p n)) (sym d.1) (subst (λ o. ranked.rank d.0 < number_rank o) (sym c.1) (ranked.lower c.0 r.0 d.0 r.1))
+
+        pub ranks_named : HasRanks (look p)
+        ranks_named = record { rank = λ n. number_rank (number_of p n); few = λ n. few_ranks (number_of p n); lower = lower_name }
 
       module _ (found : List Standing) (right : AreStandings g found) where
         marked_cyclic : (k : ℕ) → IsMarked (map is_cyclic found) k → slice_get found k ≡ Some Cyclic

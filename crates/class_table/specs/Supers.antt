@@ -1,10 +1,10 @@
 -- The supers of a program's classes by number, and which classes have a fault of theirs (this
 -- project's own).
-use Rattle.std.specs.Prelude.{◌≡◌, ℕ, ◌<◌, ◌^◌, Bool, true, false, ◌||◌, List, map, Option, Some, None, slice_get, option_and_then, is_none, length}
+use Rattle.std.specs.Prelude.{◌≡◌, ℕ, ◌<◌, ◌^◌, Bool, true, false, ◌||◌, List, Some, slice_get, option_and_then, is_none, length}
 use Rattle.std.specs.List.{list_any, flat_map}
 use Rattle.std.specs.Option.{option_to_list}
 use Rattle.program_rules.specs.Names.{Name}
-use Rattle.program_rules.specs.Linked.{Linked, parents_of}
+use Rattle.program_rules.specs.Linked.{parents_of}
 use Rattle.class_link.specs.Info.{Info, class_of}
 use Rattle.class_order.specs.declared.links.Links.{Links}
 use Rattle.class_order.specs.declared.standing.Standing.{Standing}

@@ -7,6 +7,7 @@ ghost use Rattle.program_rules.specs.Linked.{method_in};
 ghost use Rattle.class_link.specs.View.{method_of};
 ghost use Rattle.class_link.specs.Info.{IsInfo, class_of, link_body, file_in};
 ghost use Rattle.class_table.specs.Table.{AreDistinct, IsLeastDuplicate, bodies_of, names_of, names, number_of, CanSwap, class_at, name_at, look, entries_at, methods_at, reference_at, named_number, named_place, IsProgram};
+ghost use Rattle.class_order.specs.Ranks.{HasRanks};
 ghost use Rattle.class_table.specs.Calls.{IsTargetOf, AreTargets};
 ghost use Rattle.class_table.specs.Faults.{look_of, IsFaultless, MissesFirst, CyclesFirst, IsWrongFirst, AreProgram, IsFirstMissing, IsFirstCycle, IsFirstWrongKind};
 ghost use Rattle.class_table.specs.Supers.{AreOrdered};
@@ -71,6 +72,7 @@ impl Program {
     ) -> Result<Program, TableFault>
         ensures classes { IfOk result (λ p. map (λ i. i.body) p ≡ bodies_of classes library) }
         ensures program { OnOk result (AreProgram (bodies_of classes library)) }
+        ensures ranks { OnOk result (HasRanks (look_of (bodies_of classes library))) }
         ensures distinct { OnOk result (AreDistinct (names_of classes library)) }
         ensures meant { IfOk result (λ p. All IsInfo p) }
         ensures looks { IfOk result (λ p. look p ≡ look_of (bodies_of classes library)) }
@@ -281,6 +283,7 @@ fn links_of(
     requires few { length infos.now < 2 ^ 32 }
     requires numbers { IsNumbering numbers.now (shared infos.now) }
     ensures faultless { OnOk result (IsFaultless (names (shared infos.now)) (look (shared infos.now))) }
+    ensures ranks { OnOk result (HasRanks (look (shared infos.now))) }
     ensures links { IfOk result (λ g. AreOrdered (shared infos.now) g.items) }
     ensures duplicate { (name : List ℕ) → result ≡ Err (Duplicate name) → IsLeastDuplicate (names (shared infos.now)) name }
     ensures missing { (name : List ℕ) → result ≡ Err (SuperMissing name) → MissesFirst (names (shared infos.now)) (look (shared infos.now)) name }
@@ -321,6 +324,7 @@ fn number_all(
 fn program_of(alloc: Global, infos: Vec<Arc<ClassInfo, Global>>) -> Result<Program, TableFault>
     ensures classes { IfOk result (λ p. p ≡ shared infos.items) }
     ensures faultless { OnOk result (IsFaultless (names (shared infos.items)) (look (shared infos.items))) }
+    ensures ranks { OnOk result (HasRanks (look (shared infos.items))) }
     ensures duplicate { (name : List ℕ) → result ≡ Err (Duplicate name) → IsLeastDuplicate (names (shared infos.items)) name }
     ensures missing { (name : List ℕ) → result ≡ Err (SuperMissing name) → MissesFirst (names (shared infos.items)) (look (shared infos.items)) name }
     ensures cycle { (name : List ℕ) → result ≡ Err (SuperCycle name) → CyclesFirst (names (shared infos.items)) (look (shared infos.items)) name }

@@ -1,16 +1,13 @@
-use Rattle.std.proofs.Common.{◌≡◌, ◌∙◌, sym, ap, subst, map, length, Some, None, Err, List, ℕ}
+use Rattle.std.proofs.Common.{◌≡◌, sym, subst, map, length, Some, None}
 use Rattle.std.specs.Arc.{arc_value}
-use Rattle.class_link.specs.Info.{Info}
-use Rattle.class_order.specs.Supers.{is_super_missing, IsLeastWith, IsOwnSuper, is_super_of_wrong_kind}
 use Rattle.class_order.specs.Standings.{AreStandings}
 use Rattle.class_order.specs.Graph.{AreWithin}
-use Rattle.std.specs.Prelude.{IsTrue}
 use Rattle.class_table.specs.Table.{names, look, AreDistinct}
 use Rattle.class_table.specs.Faults.{MissesFirst, CyclesFirst, IsWrongFirst}
 use Rattle.class_table.specs.Numbers.{IsVerdict}
 use Rattle.class_table.specs.Least.{IsLeastMarked}
-use Rattle.class_table.specs.Supers.{AreLinks, misses, names_wrong, is_cyclic}
-use Rattle.class_table.proofs.Verdicts.{missing_least, none_missing, links_within, cyclic_least, none_cyclic, wrong_least, none_wrong, are_ordered, unmarked}
+use Rattle.class_table.specs.Supers.{misses, names_wrong, is_cyclic}
+use Rattle.class_table.proofs.Verdicts.{missing_least, none_missing, links_within, cyclic_least, none_cyclic, wrong_least, none_wrong, are_ordered, unmarked, ranks_named}
 use Rattle.class_table.proofs.program.links_of.Goals as goal
 
 pub returns-in-Some-2-clause-missing : goal.returns-in-Some-2-clause-missing
@@ -86,3 +83,15 @@ returns-clause-links c =
     let right : AreStandings g found = subst (λ l. AreStandings l found) c.as_slice.ensures.value c.in_ok-found.ensures in
     let marked : IsLeastMarked (names p) (map is_cyclic found) None = subst (λ l. IsLeastMarked (names p) (map is_cyclic l) None) c.as_slice-2.ensures.value (subst (IsLeastMarked (names p) (map is_cyclic c.as_slice-2.result.now)) c.in_default-3.is c.in_ok-name-3.ensures) in
     are_ordered p g c.in_ok-links.ensures found right (unmarked p (map is_cyclic found) marked)
+
+pub returns-clause-ranks : goal.returns-clause-ranks
+returns-clause-ranks c =
+    let p = map (λ i. arc_value i) c.args.infos.now in
+    let g = c.in_ok-links.links.items in
+    let found = c.in_ok-found.found.items in
+    let distinct : AreDistinct (names p) = subst (IsVerdict (names p)) c.in_default.is c.in_ok-name.ensures in
+    let present = none_missing p distinct (subst (IsLeastMarked (names p) (map (misses p) p)) c.in_default-2.is c.in_ok-name-2.ensures) in
+    let right : AreStandings g found = subst (λ l. AreStandings l found) c.as_slice.ensures.value c.in_ok-found.ensures in
+    let marked : IsLeastMarked (names p) (map is_cyclic found) None = subst (λ l. IsLeastMarked (names p) (map is_cyclic l) None) c.as_slice-2.ensures.value (subst (IsLeastMarked (names p) (map is_cyclic c.as_slice-2.result.now)) c.in_default-3.is c.in_ok-name-3.ensures) in
+    let ordered = are_ordered p g c.in_ok-links.ensures found right (unmarked p (map is_cyclic found) marked) in
+    ranks_named p distinct g c.in_ok-links.ensures present ordered.ranked

@@ -1,7 +1,7 @@
 use Rattle.std.proofs.Common.{◌≡◌, ◌∙◌, ap, Err, map, subst}
 use Rattle.std.specs.Arc.{arc_value}
 use Rattle.class_table.specs.Table.{names, look, IsLeastDuplicate}
-use Rattle.class_table.specs.Faults.{IsFaultless, MissesFirst, CyclesFirst, IsWrongFirst}
+use Rattle.class_table.specs.Faults.{MissesFirst, CyclesFirst, IsWrongFirst}
 use Rattle.class_table.specs.declared.fault.TableFault.TheVariants.{Duplicate, SuperMissing, SuperCycle, SuperKind}
 use Rattle.class_table.proofs.program.program_of.Goals as goal
 

@@ -1,8 +1,7 @@
-use Rattle.std.proofs.Common.{◌≡◌, ◌∙◌, sym, ap, refl, map, length, Some, slice_get, subst, ◌++◌, ◌∷◌, [], ◌+◌}
+use Rattle.std.proofs.Common.{◌≡◌, ◌∙◌, sym, ap, refl, map, length, Some, slice_get, subst, ◌+◌}
 use Rattle.std.specs.Arc.{arc_value}
 use Rattle.std.specs.Option.{option_map}
 use Rattle.std.proofs.lemmas.Option.{slice_get_read, slice_get-map}
-use Rattle.std.proofs.lemmas.Grind.{common_steps}
 use Rattle.class_table.specs.Supers.{AreLinked, IsLinked}
 use Rattle.class_table.proofs.Verdicts.{linked_next}
 use Rattle.class_table.proofs.supers.all_links.Goals as goal

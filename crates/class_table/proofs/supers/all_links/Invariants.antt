@@ -1,4 +1,4 @@
-use Rattle.std.proofs.Common.{◌≡◌, map, take}
+use Rattle.std.proofs.Common.{map}
 use Rattle.std.specs.Arc.{arc_value}
 use Rattle.class_table.specs.Supers.{AreLinked}
 use Rattle.class_table.proofs.supers.all_links.Given as goal

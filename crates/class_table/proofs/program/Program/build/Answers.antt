@@ -1,5 +1,6 @@
 use Rattle.std.proofs.Common.{◌≡◌, ◌∙◌, ap, map}
 use Rattle.std.specs.Arc.{arc_value}
+use Rattle.class_order.specs.Ranks.{HasRanks}
 use Rattle.class_table.specs.Table.{look, bodies, bodies_of, IsLeastDuplicate}
 use Rattle.class_table.specs.Faults.{look_of, MissesFirst, CyclesFirst, IsWrongFirst, IsFaultless}
 use Rattle.class_table.proofs.Meant.{of_bodies, looks_meant}
@@ -34,6 +35,12 @@ returns-in-Ok-clause-program c =
     let p = map (λ i. arc_value i) c.in_ok-infos.infos.items in
     let of : bodies p ≡ bodies_of c.args.classes c.args.library = c.in_ok-infos.ensures.classes.0 ∙ ap (λ xs. bodies_of xs c.into_vec-2.result.items) c.into_vec.ensures ∙ ap (bodies_of c.args.classes) c.into_vec-2.ensures in
     of_bodies p (bodies_of c.args.classes c.args.library) of c.in_ok-infos.ensures.meant IsFaultless c.in-Ok.ensures.faultless
+
+pub returns-in-Ok-clause-ranks : goal.returns-in-Ok-clause-ranks
+returns-in-Ok-clause-ranks c =
+    let p = map (λ i. arc_value i) c.in_ok-infos.infos.items in
+    let of : bodies p ≡ bodies_of c.args.classes c.args.library = c.in_ok-infos.ensures.classes.0 ∙ ap (λ xs. bodies_of xs c.into_vec-2.result.items) c.into_vec.ensures ∙ ap (bodies_of c.args.classes) c.into_vec-2.ensures in
+    of_bodies p (bodies_of c.args.classes c.args.library) of c.in_ok-infos.ensures.meant (λ ns q. HasRanks q) c.in-Ok.ensures.ranks
 
 pub returns-in-Ok-clause-looks : goal.returns-in-Ok-clause-looks
 returns-in-Ok-clause-looks c =
