@@ -10,6 +10,8 @@ mod list_calls;
 #[cfg(test)]
 mod list_tests;
 #[cfg(test)]
+mod small_methods;
+#[cfg(test)]
 mod tests;
 
 pub use calls::apply;
