@@ -1,20 +1,10 @@
 ghost use Rattle.std.specs.Prelude.{◌≡◌, IfOk};
 ghost use Rattle.class_writer.specs.Writing.{HasClassForm};
-ghost use Rattle.mutator_ops.specs.Mutants.{class_mutants};
 ghost use Rattle.mutant_apply.specs.Edited.{applied};
 ghost use Rattle.mutant_apply.specs.Fitting.{Fits};
 
-use class_model::{Bytes, Class, Edit, Memory, Seq};
-use mutator_ops::Mutant;
+use class_model::{Bytes, Class, Edit, Memory};
 use std::alloc::Global;
-
-/// `mutator_ops::class_mutants`.
-pub fn class_mutants(alloc: Global, class: &Class) -> Result<Seq<Mutant>, Memory>
-    ensures { IfOk result (λ mutants. mutants ≡ class_mutants class.now) }
-{
-    let mutants = mutator_ops::class_mutants(alloc, class)?;
-    Ok(mutants)
-}
 
 /// `mutant_apply::apply`.
 pub fn apply(alloc: Global, class: &Class, edit: &Edit) -> Result<Option<(Class, Bytes)>, Memory>

@@ -6,7 +6,13 @@
 #![tactic(auto)]
 
 mod calls;
+mod list_calls;
+#[cfg(test)]
+mod list_tests;
+#[cfg(test)]
+mod small_methods;
 #[cfg(test)]
 mod tests;
 
-pub use calls::{apply, class_mutants};
+pub use calls::apply;
+pub use list_calls::{class_mutants, count_mutants, mutators, row};
