@@ -3,9 +3,6 @@ use Rattle.std.proofs.Common.{◌≡◌, ℕ, zero, suc, ◌+◌, Bool, true, fa
 use Rattle.std.specs.List.{AllByRecursion}
 use Rattle.std.proofs.lemmas.List.Elements.{All-from_recursion}
 use Rattle.class_model.specs.declared.constant.Const.{Const}
-use Rattle.class_model.specs.declared.annotation.Note.{Note}
-use Rattle.class_model.specs.declared.annotation.Elem.{Elem, out-Elem}
-use Rattle.class_model.specs.declared.annotation.Elem.TheOpen.{Elem-F}
 use Rattle.class_model.specs.declared.attribute.Row.{Row}
 use Rattle.class_model.specs.declared.attribute.Attr.{Attr}
 use Rattle.class_model.specs.declared.attribute.Code.{Code, out-Code}
@@ -30,11 +27,10 @@ use Rattle.mt_attrs.specs.Item.{AllBy}
 use Rattle.mt_attrs.specs.Lines.{IsLine}
 use Rattle.mt_attrs.specs.Rows.{IsRow}
 use Rattle.mt_attrs.specs.Frames.{next_behind, IsVItem, IsShape, IsFrame}
-use Rattle.mt_attrs.specs.Notes.{most_turns, IsPair, IsNoteBy, IsElemBy, IsInner, IsElem, IsNote}
 use Rattle.mt_attrs.specs.Kinds.{all_unseen}
 use Rattle.mt_attrs.specs.CodeParts.{body_of, table_after, IsTableBody, IsTable, AreParts}
 use Rattle.mt_attrs.specs.Attributes.{attr_after, IsBody, IsAttr, AreAttrs}
-use Rattle.mt_attrs.specs.Naming.{IsNamedLine, IsNamedRow, IsNamedVItem, IsNamedShape, IsNamedFrame, IsNamedNoteBy, IsNamedElemBy, IsNamedInner, IsNamedElem, IsNamedNote, IsNamedTableBody, IsNamedTable, AreNamedParts, IsNamedBody, IsNamedAttr, AreNamed}
+use Rattle.mt_attrs.specs.Naming.{IsNamedLine, IsNamedRow, IsNamedVItem, IsNamedShape, IsNamedFrame, IsNamedTableBody, IsNamedTable, AreNamedParts, IsNamedBody, IsNamedAttr, AreNamed}
 use Rattle.mt_attrs.specs.declared.owner.Owner.{Owner}
 use Rattle.mt_attrs.specs.declared.owner.Owner.TheVariants.{OfClass, OfField, OfMethod}
 use Rattle.mt_attrs.specs.declared.kinds.Known.{Known}
@@ -119,30 +115,6 @@ shape_named pool starts (shape.Chop count) q = tt
 shape_named pool starts (shape.Append items) q = vitems_named pool starts items q.2
 shape_named pool starts (shape.Full locals stack) q = (vitems_named pool starts locals q.0.1, vitems_named pool starts stack q.1.1)
 
--- ---- annotations
-
-note_named : (pool : List Const) (P N : Elem → Type 0) → ((e : Elem) → P e → N e) → (note : Note) → IsNoteBy pool P note → IsNamedNoteBy pool N note
-note_named pool P N h note q = (q.kind, each_map (IsPair pool P) (IsPair pool N) (λ pair k. (k.0, h pair.1 k.1)) note.pairs q.pairs)
-
-inner_named : (pool : List Const) (P N : ℕ → Elem → Type 0) → ((depth : ℕ) (e : Elem) → P depth e → N depth e) → (depth : ℕ) (note : Note) → IsInner pool P depth note → IsNamedInner pool N depth note
-inner_named pool P N h zero note q = absurd q
-inner_named pool P N h (suc depth) note q = note_named pool (P depth) (N depth) (h depth) note q
-
-parts_named : (pool : List Const) (P N : ℕ → Elem → Type 0) → ((depth : ℕ) (e : Elem) → P depth e → N depth e) → (depth : ℕ) (b : Elem-F Elem Note) → IsElemBy pool (P depth) (IsInner pool P depth) b → IsNamedElemBy pool (N depth) (IsNamedInner pool N depth) b
-parts_named pool P N h depth (Elem-F.Plain tag index) q = q
-parts_named pool P N h depth (Elem-F.Enum kind name) q = q
-parts_named pool P N h depth (Elem-F.Class index) q = q
-parts_named pool P N h depth (Elem-F.Inner note) q = inner_named pool P N h depth note q
-parts_named pool P N h depth (Elem-F.Many elems) q = each_map (P depth) (N depth) (h depth) elems q.1
-
-elem_named : (pool : List Const) (turns depth : ℕ) (e : Elem) → IsElem pool turns depth e → IsNamedElem pool turns depth e
-unfolding IsElem IsNamedElem
-elem_named pool zero depth e q = q
-elem_named pool (suc turns) depth e q = parts_named pool (IsElem pool turns) (IsNamedElem pool turns) (elem_named pool turns) depth (out-Elem e) q
-
-notes_named : (pool : List Const) (notes : List Note) → AllByRecursion (IsNote pool) notes → AllByRecursion (IsNamedNote pool) notes
-notes_named pool notes q = each_map (IsNote pool) (IsNamedNote pool) (note_named pool (IsElem pool most_turns 31) (IsNamedElem pool most_turns 31) (elem_named pool most_turns 31)) notes q
-
 -- ---- the attributes inside Code
 
 table_body_named : (pool : List Const) (starts : List ℕ) (kind : Option Table) (b : Body-F Body Attr Code) → IsTableBody pool starts kind b → IsNamedTableBody pool kind b
@@ -183,8 +155,8 @@ body_named : (pool : List Const) (kind : Option Known) (b : Body-F Body Attr Cod
 body_named pool (Some known.Code) (Body-F.Code c) q = code_named pool (out-Code c) q
 body_named pool (Some known.Source) (Body-F.Source index) q = q
 body_named pool (Some known.Value) (Body-F.Value index) q = q
-body_named pool (Some known.Visible) (Body-F.Notes notes) q = notes_named pool notes q.1
-body_named pool (Some known.Invisible) (Body-F.Notes notes) q = notes_named pool notes q.1
+body_named pool (Some known.Visible) (Body-F.Notes notes) q = q.1
+body_named pool (Some known.Invisible) (Body-F.Notes notes) q = q.1
 body_named pool None (Body-F.Raw bytes) q = tt
 body_named pool (Some known.Code) other q = absurd q
 body_named pool (Some known.Source) other q = absurd q

@@ -35,7 +35,7 @@ use Rattle.class_model.specs.DescriptorReading.{field_kind, method_kinds}
 use Rattle.std.specs.Result.{is_ok}
 use Rattle.std.specs.Prelude.{Result, Ok, Err, sum_by}
 use Rattle.std.proofs.lemmas.Bool.{ltb-true}
-use Rattle.mt_insn.specs.Named.{words as words_of_kind}
+use Rattle.class_model.specs.Judged.{words as words_of_kind}
 use Rattle.asm_words.specs.declared.labels.Labels.{Labels}
 use Rattle.asm_insns.specs.declared.stated.Operand.{Operand}
 use Rattle.asm_insns.specs.declared.stated.Operand.TheVariants as operand

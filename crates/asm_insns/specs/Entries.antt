@@ -4,7 +4,7 @@ use Rattle.class_model.specs.DescriptorReading.{field_kind}
 use Rattle.class_model.specs.declared.kind.Kind.{Kind}
 use Rattle.class_model.specs.declared.kind.MethodType.{MethodType}
 use Rattle.class_model.specs.declared.fault.DescFault.{DescFault}
-use Rattle.mt_insn.specs.Named.{words}
+use Rattle.class_model.specs.Judged.{words}
 use Rattle.std.specs.Result.{is_ok}
 use Rattle.asm_words.specs.Words.{says, last_parted}
 use Rattle.asm_insns.specs.declared.stated.MemberName.{MemberName}

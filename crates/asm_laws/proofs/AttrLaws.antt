@@ -19,18 +19,16 @@ use Rattle.class_model.specs.declared.attribute.Body.TheVariants as body
 use Rattle.class_model.specs.declared.attribute.Body.TheOpen.{Body-F}
 use Rattle.class_model.specs.declared.attribute.Body.TheViews.{the_lemmas as body_lemmas}
 use Rattle.class_model.specs.declared.annotation.Note.{Note}
-use Rattle.class_model.specs.declared.annotation.Elem.{Elem, out-Elem}
-use Rattle.class_model.specs.declared.annotation.Elem.TheVariants as elem
-use Rattle.class_model.specs.declared.annotation.Elem.TheOpen.{Elem-F}
-use Rattle.class_model.specs.declared.annotation.Elem.TheViews.{the_lemmas as elem_lemmas}
+use Rattle.class_model.specs.declared.annotation.Token.{Token}
+use Rattle.class_model.specs.declared.annotation.Token.TheVariants as token
 use Rattle.mt_insn.specs.Named.{names, is_some_and}
 use Rattle.mt_attrs.specs.Item.{AllBy}
 use Rattle.mt_attrs.specs.Named.{is_text, is_described, is_name, names_type, names_result, IsIndex}
-use Rattle.mt_attrs.specs.Notes.{most_turns, IsPair}
+use Rattle.mt_attrs.specs.Notes.{outer_due, AreTokens, IsNote}
 use Rattle.mt_attrs.specs.Kinds.{known_of, is_free, without, all_unseen}
 use Rattle.mt_attrs.specs.CodeParts.{attr_of, name_of, body_of}
 use Rattle.mt_attrs.specs.Attributes.{attr_after}
-use Rattle.mt_attrs.specs.Naming.{IsNamedElem, IsNamedElemBy, IsNamedInner, IsNamedNote, IsNamedBody, IsNamedAttr, AreNamed}
+use Rattle.mt_attrs.specs.Naming.{IsNamedBody, IsNamedAttr, AreNamed}
 use Rattle.mt_attrs.specs.declared.owner.Owner.{Owner}
 use Rattle.mt_attrs.specs.declared.owner.Owner.TheVariants as owner
 use Rattle.mt_attrs.specs.declared.kinds.Known.{Known}
@@ -38,7 +36,7 @@ use Rattle.mt_attrs.specs.declared.kinds.Known.TheVariants as known
 use Rattle.mt_attrs.specs.declared.kinds.Unseen.{Unseen}
 use Rattle.asm_words.specs.Words.{says}
 use Rattle.class_asm.specs.Numbering.{text_index, behind}
-use Rattle.class_asm.specs.File.{pairs_of, note_of, notes_of}
+use Rattle.class_asm.specs.File.{tokens_of, elements_in, note_of, notes_of}
 use Rattle.class_asm.specs.ClassFile.{with_notes}
 use Rattle.asm_insns.specs.declared.stated.StatedNote.{StatedNote}
 use Rattle.asm_laws.specs.Fit.{IsFitResult, IsFitNote}
@@ -56,9 +54,6 @@ out_frames frames = search body_lemmas
 
 out_notes : (notes : List Note) → out-Body (body.Notes notes) ≡ Body-F.Notes notes
 out_notes notes = search body_lemmas
-
-out_class : (index : ℕ) → out-Elem (elem.Class index) ≡ Elem-F.Class index
-out_class index = search elem_lemmas
 
 -- ---- texts that are given
 
@@ -93,39 +88,35 @@ result_named : (pool : List Const) (desc : List ℕ) (index : ℕ) → IsNumberO
 result_named pool desc index n e =
     (n.fits, ap (λ (text : Option (List ℕ)). is_name (codes "V") text || is_described (option_map field_kind text)) (text_at pool desc index n.names) ∙ void_or_described (says desc (codes "V")) (field_kind desc) e)
 
-class_elem : (pool : List Const) (turns depth index : ℕ) → 0 < turns → IsIndex (names_result pool) index → IsNamedElem pool turns depth (elem.Class index)
-unfolding IsNamedElem
-class_elem pool zero depth index lt is = absurd (omega (arith, lt))
-class_elem pool (suc turns) depth index lt is = subst (IsNamedElemBy pool (IsNamedElem pool turns depth) (IsNamedInner pool (IsNamedElem pool turns) depth)) (sym (out_class index)) is
-
-some_turns : 0 < most_turns
-some_turns = lit< tt
-
 module _ (pool : List Const) (few : length pool + 1 < 2 ^ 16) where
-  abbrev AreNamedPairs : List (ℕ × Elem) → Type 0
-  AreNamedPairs pairs = AllByRecursion (IsPair pool (IsNamedElem pool most_turns 31)) pairs
+  abbrev AreNamedTokens : ℕ → List Token → Type 0
+  AreNamedTokens count tokens = AreTokens pool (outer_due count) tokens
 
-  pairs_numbered : (expected : Option (List ℕ)) (list : List Const) → IfSome expected IsFitResult → Numbers pool few AreNamedPairs list (pairs_of expected list)
-  pairs_numbered None list fit = stays (IsIn pool) (IsFormed pool) AreNamedPairs list [] tt
-  pairs_numbered (Some class) list fit =
+  tokens_numbered : (expected : Option (List ℕ)) (list : List Const) → IfSome expected IsFitResult → Numbers pool few (AreNamedTokens (elements_in expected)) list (tokens_of expected list)
+  tokens_numbered None list fit = stays (IsIn pool) (IsFormed pool) (AreNamedTokens 0) list [] tt
+  tokens_numbered (Some class) list fit =
       let name = text_index (codes "expected") list in
       let index = text_index class name.1 in
-      joined (IsIn pool) (IsFormed pool) (IsNumberOf pool (const.Utf8 (codes "expected"))) (IsNumberOf pool (const.Utf8 class)) AreNamedPairs list name index ((name.0, elem.Class index.0) ∷ [])
+      joined (IsIn pool) (IsFormed pool) (IsNumberOf pool (const.Utf8 (codes "expected"))) (IsNumberOf pool (const.Utf8 class)) (AreNamedTokens 1) list name index (token.Name name.0 ∷ token.Class index.0 ∷ [])
       (text_numbered pool few (codes "expected") list (given_units (codes "expected") refl))
       (text_numbered pool few class name.1 fit.0)
-      (λ n c. ((names_is_text pool (codes "expected") name.0 n, class_elem pool most_turns 31 index.0 some_turns (result_named pool class index.0 c fit.1)), tt))
+      (λ n c. ((refl, names_is_text pool (codes "expected") name.0 n), (refl, result_named pool class index.0 c fit.1), tt))
 
-  note_numbered : (note : StatedNote) (list : List Const) → IsFitNote note → Numbers pool few (IsNamedNote pool) list (note_of note list)
+  few_elements : (expected : Option (List ℕ)) → elements_in expected < 2 ^ 16
+  few_elements None = lit< tt
+  few_elements (Some class) = lit< tt
+
+  note_numbered : (note : StatedNote) (list : List Const) → IsFitNote note → Numbers pool few (IsNote pool) list (note_of note list)
   note_numbered note list fit =
       let kind = text_index note.kind list in
-      let pairs = pairs_of note.expected kind.1 in
-      joined (IsIn pool) (IsFormed pool) (IsNumberOf pool (const.Utf8 note.kind)) AreNamedPairs (IsNamedNote pool) list kind pairs (record { kind = kind.0; pairs = pairs.0 })
+      let tokens = tokens_of note.expected kind.1 in
+      joined (IsIn pool) (IsFormed pool) (IsNumberOf pool (const.Utf8 note.kind)) (AreNamedTokens (elements_in note.expected)) (IsNote pool) list kind tokens (record { kind = kind.0; count = elements_in note.expected; tokens = tokens.0 })
       (text_numbered pool few note.kind list fit.units)
-      (pairs_numbered note.expected kind.1 fit.expected)
-      (λ n p. (type_named pool note.kind kind.0 n fit.kind, p))
+      (tokens_numbered note.expected kind.1 fit.expected)
+      (λ n p. record { kind = type_named pool note.kind kind.0 n fit.kind; few = few_elements note.expected; tokens = p })
 
-  notes_numbered : (notes : List StatedNote) (list : List Const) → All IsFitNote notes → Numbers pool few (AllByRecursion (IsNamedNote pool)) list (notes_of notes list)
-  notes_numbered notes list all = each_numbered (IsIn pool) (IsFormed pool) note_of IsFitNote (IsNamedNote pool) note_numbered notes list all
+  notes_numbered : (notes : List StatedNote) (list : List Const) → All IsFitNote notes → Numbers pool few (AllByRecursion (IsNote pool)) list (notes_of notes list)
+  notes_numbered notes list all = each_numbered (IsIn pool) (IsFormed pool) note_of IsFitNote (IsNote pool) note_numbered notes list all
 
 -- ---- one more attribute
 
@@ -172,7 +163,7 @@ module _ (pool : List Const) (few : length pool + 1 < 2 ^ 16) where
       let name = text_index (codes "RuntimeVisibleAnnotations") list in
       let x = notes_of notes name.1 in
       let attr = attr_of name.0 (body.Notes x.0) in
-      joined (IsIn pool) (IsFormed pool) (IsNumberOf pool (const.Utf8 (codes "RuntimeVisibleAnnotations"))) (AllByRecursion (IsNamedNote pool)) (λ later. AreFree pool of attrs → AreNamed pool of later) list name x (attrs ++ attr ∷ [])
+      joined (IsIn pool) (IsFormed pool) (IsNumberOf pool (const.Utf8 (codes "RuntimeVisibleAnnotations"))) (AllByRecursion (IsNote pool)) (λ later. AreFree pool of attrs → AreNamed pool of later) list name x (attrs ++ attr ∷ [])
       (text_numbered pool few (codes "RuntimeVisibleAnnotations") list (given_units (codes "RuntimeVisibleAnnotations") refl))
       (notes_numbered pool few notes name.1 all)
       (λ n p is.

@@ -11,7 +11,8 @@ use Rattle.class_model.specs.declared.constant.Const.{Const}
 use Rattle.class_model.specs.declared.constant.Const.TheVariants as const
 use Rattle.class_model.specs.declared.kind.MethodType.{MethodType}
 use Rattle.class_model.specs.declared.fault.DescFault.{DescFault}
-use Rattle.mt_insn.specs.Named.{names, is_some_and, is_loaded, is_field, is_interface_method, words as words_of_kind, counted, desc_counted, entry_counted, is_counted}
+use Rattle.class_model.specs.Judged.{words as words_of_kind}
+use Rattle.mt_insn.specs.Named.{names, is_some_and, is_loaded, is_field, is_interface_method, counted, desc_counted, entry_counted, is_counted}
 use Rattle.asm_words.specs.Words.{says, last_parted}
 use Rattle.asm_words.specs.Numbers.{between}
 use Rattle.asm_insns.specs.Entries.{is_class_entry, member_name, fits_byte, call_words_of}

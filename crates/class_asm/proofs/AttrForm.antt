@@ -14,10 +14,6 @@ use Rattle.class_model.specs.declared.attribute.Body.TheVariants as body
 use Rattle.class_model.specs.declared.attribute.Body.TheOpen.{Body-F, Code-F}
 use Rattle.class_model.specs.declared.attribute.Body.TheViews.{the_lemmas as body_lemmas, out-roll-Code}
 use Rattle.class_model.specs.declared.annotation.Note.{Note}
-use Rattle.class_model.specs.declared.annotation.Elem.{Elem, out-Elem}
-use Rattle.class_model.specs.declared.annotation.Elem.TheVariants as elem
-use Rattle.class_model.specs.declared.annotation.Elem.TheOpen.{Elem-F}
-use Rattle.class_model.specs.declared.annotation.Elem.TheViews.{the_lemmas as elem_lemmas}
 use Rattle.mt_insn.specs.Code.{places, code, jumps_fit, code_length}
 use Rattle.class_model.specs.declared.fault.LayoutFault.TheVariants as layout_fault
 use Rattle.class_model.specs.declared.fault.Bound.TheVariants as bound
@@ -25,13 +21,12 @@ use Rattle.mt_insn.specs.Order.{Ascends, AreNear}
 use Rattle.mt_insn.proofs.Sizes.{length-places_from, starts_near}
 use Rattle.mt_attrs.specs.Frames.{room_of, next_behind}
 use Rattle.mt_attrs.specs.Item.{AllBy}
-use Rattle.mt_attrs.specs.Notes.{most_turns}
 use Rattle.mt_attrs.specs.CodeParts.{attr_of, body_of}
-use Rattle.mt_attrs.specs.Layout.{HasLineForm, HasRowForm, HasVItemForm, HasShapeForm, HasFrameForm, HasNoteForm, HasElemForm, HasElemFormBy, HasTableForm, HasCodeForm, HasBodyForm, HasAttrForm}
+use Rattle.mt_attrs.specs.Layout.{HasLineForm, HasRowForm, HasVItemForm, HasShapeForm, HasFrameForm, HasTableForm, HasCodeForm, HasBodyForm, HasAttrForm}
 use Rattle.mt_attrs.proofs.Starts.{starts_ascend}
 use Rattle.class_writer.specs.Writing.{HasMemberForm, HasClassForm}
 use Rattle.class_asm.specs.Numbering.{text_index, class_index, behind}
-use Rattle.class_asm.specs.File.{insn_of, insns_of, item_of, items_of, shape_of, frame_of, frames_of, row_of, rows_of, note_of, notes_of, pairs_of, starts_of, places_by, with_pool}
+use Rattle.class_asm.specs.File.{insn_of, insns_of, item_of, items_of, shape_of, frame_of, frames_of, row_of, rows_of, notes_of, starts_of, places_by, with_pool}
 use Rattle.class_asm.specs.ClassFile.{with_lines, with_frames, framed, code_behind, kept, code_attr, with_notes, codes_of, member_of, members_of, interfaces_of, with_source, class_of}
 use Rattle.asm_insns.specs.Stated.{IsStatedItem, IsStatedShape, AreFrames, IsStatedRow, Keeps, IsStatedCode, IsCodeIn, IsStatedMember, IsStatedClass}
 use Rattle.asm_insns.specs.declared.stated.StatedItem.{StatedItem}
@@ -63,9 +58,6 @@ out_lines lines = search body_lemmas
 
 out_frames : (frames : List Frame) → out-Body (body.Frames frames) ≡ Body-F.Frames frames
 out_frames frames = search body_lemmas
-
-out_class : (index : ℕ) → out-Elem (elem.Class index) ≡ Elem-F.Class index
-out_class index = search elem_lemmas
 
 -- ---- verification types
 
@@ -197,33 +189,12 @@ code_attr_form code entries is = code_form code (kept entries (text_index (codes
 
 -- ---- notes
 
-class_elem : (turns index : ℕ) → 0 < turns → HasElemForm turns (elem.Class index)
-unfolding HasElemForm
-class_elem zero index lt = absurd (omega (arith, lt))
-class_elem (suc turns) index lt = subst (HasElemFormBy (HasElemForm turns)) (sym (out_class index)) tt
-
-some_turns : 0 < most_turns
-some_turns = lit< tt
-
-pairs_form : (expected : Option (List ℕ)) (list : List Const) → All (λ pair. HasElemForm most_turns pair.1) (pairs_of expected list).0
-pairs_form None list = no_attrs (λ (pair : ℕ × Elem). HasElemForm most_turns pair.1)
-pairs_form (Some class) list =
-    let name = text_index (codes "expected") list in
-    let index = text_index class name.1 in
-    all_first (λ (pair : ℕ × Elem). HasElemForm most_turns pair.1) (name.0, elem.Class index.0) [] (class_elem most_turns index.0 some_turns) (no_attrs (λ (pair : ℕ × Elem). HasElemForm most_turns pair.1))
-
-note_form : (note : StatedNote) (list : List Const) → HasNoteForm (note_of note list).0
-note_form note list = pairs_form note.expected (text_index note.kind list).1
-
-notes_form : (notes : List StatedNote) (list : List Const) → All (λ (note : StatedNote). Unit {0}) notes → All HasNoteForm (notes_of notes list).0
-notes_form notes list all = each_all note_of (λ (note : StatedNote). Unit {0}) HasNoteForm (λ note list is. note_form note list) notes list all
-
 with_notes_by : (notes : List StatedNote) (attrs : List Attr) (list : List Const) (none : Bool) → All HasAttrForm attrs
     → All HasAttrForm (cond none (attrs, list) (behind (text_index (codes "RuntimeVisibleAnnotations") list) (λ name later. let x = notes_of notes later in (attrs ++ attr_of name (body.Notes x.0) ∷ [], x.1)))).0
 with_notes_by notes attrs list true all = all
 with_notes_by notes attrs list false all =
     let name = text_index (codes "RuntimeVisibleAnnotations") list in
-    All-push HasAttrForm attrs (attr_of name.0 (body.Notes (notes_of notes name.1).0)) all (subst HasBodyForm (sym (out_notes (notes_of notes name.1).0)) (notes_form notes name.1 (λ k d lt. tt)))
+    All-push HasAttrForm attrs (attr_of name.0 (body.Notes (notes_of notes name.1).0)) all (subst HasBodyForm (sym (out_notes (notes_of notes name.1).0)) tt)
 
 with_notes_form : (notes : List StatedNote) (attrs : List Attr) (list : List Const) → All HasAttrForm attrs → All HasAttrForm (with_notes notes attrs list).0
 with_notes_form notes attrs list all = with_notes_by notes attrs list (length notes == 0) all

@@ -11,8 +11,8 @@ use Rattle.class_model.specs.declared.frame.VItem.{VItem}
 use Rattle.class_model.specs.declared.frame.VItem.TheVariants as vitem
 use Rattle.class_model.specs.declared.attribute.Row.{Row}
 use Rattle.class_model.specs.declared.annotation.Note.{Note}
-use Rattle.class_model.specs.declared.annotation.Elem.{Elem}
-use Rattle.class_model.specs.declared.annotation.Elem.TheVariants as elem
+use Rattle.class_model.specs.declared.annotation.Token.{Token}
+use Rattle.class_model.specs.declared.annotation.Token.TheVariants as token
 use Rattle.class_model.specs.declared.fault.LayoutFault.{LayoutFault}
 use Rattle.mt_insn.specs.Code.{layout, places}
 use Rattle.class_asm.specs.Numbering.{Numbered, behind, text_index, class_index, entry_index}
@@ -105,12 +105,16 @@ abbrev pub rows_of : List StatedRow → Numbered (List Row)
 rows_of rows list = each row_of rows list
 
 -- the element `expected` of an annotation
-abbrev pub pairs_of : Option (List ℕ) → Numbered (List (ℕ × Elem))
-pairs_of None list = ([], list)
-pairs_of (Some class) list = behind (text_index (codes "expected") list) (λ name later. behind (text_index class later) (λ index last. ((name, elem.Class index) ∷ [], last)))
+abbrev pub tokens_of : Option (List ℕ) → Numbered (List Token)
+tokens_of None list = ([], list)
+tokens_of (Some class) list = behind (text_index (codes "expected") list) (λ name later. behind (text_index class later) (λ index last. (token.Name name ∷ token.Class index ∷ [], last)))
+
+abbrev pub elements_in : Option (List ℕ) → ℕ
+elements_in None = 0
+elements_in (Some class) = 1
 
 abbrev pub note_of : StatedNote → Numbered Note
-note_of note list = behind (text_index note.kind list) (λ kind later. let x = pairs_of note.expected later in (record { kind = kind; pairs = x.0 }, x.1))
+note_of note list = behind (text_index note.kind list) (λ kind later. let x = tokens_of note.expected later in (record { kind = kind; count = elements_in note.expected; tokens = x.0 }, x.1))
 
 abbrev pub notes_of : List StatedNote → Numbered (List Note)
 notes_of notes list = each note_of notes list

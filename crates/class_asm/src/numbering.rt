@@ -2,12 +2,12 @@
 
 ghost use Rattle.std.specs.Prelude.{◌≡◌, length, slice_index, All, IfOk};
 ghost use Rattle.mt_insn.specs.Code.{HasForm, HasTargets};
-ghost use Rattle.class_asm.specs.File.{near_index, arg_of, insn_of, insns_of, item_of, items_of, shape_of, frames_of, row_of, rows_of, pairs_of, note_of, notes_of, starts_of};
+ghost use Rattle.class_asm.specs.File.{near_index, arg_of, insn_of, insns_of, item_of, items_of, shape_of, frames_of, row_of, rows_of, tokens_of, elements_in, note_of, notes_of, starts_of};
 
 use crate::pool::{Pool, class_index, entry_index, text_index, word_index};
 use asm_insns::{Operand, StatedFrame, StatedInsn, StatedItem, StatedNote, StatedRow, StatedShape};
 use class_model::{
-    Arg, Bytes, Elem, Frame, Insn, LayoutFault, Memory, Name, Note, Row, Seq, Shape, VItem,
+    Arg, Bytes, Frame, Insn, LayoutFault, Memory, Name, Note, Row, Seq, Shape, Token, VItem,
 };
 use mt_insn::{places, write_insns};
 
@@ -168,24 +168,39 @@ pub fn rows_of(pool: &mut Pool, stated: &[StatedRow]) -> Result<Seq<Row>, Memory
 }
 
 /// The element `expected` of an annotation.
-fn pairs_of(pool: &mut Pool, expected: &Option<Name>) -> Result<Seq<(u16, Elem)>, Memory>
-    ensures { IfOk result (λ pairs. pairs_of expected.now pool.old ≡ (pairs, pool.new)) }
+fn tokens_of(pool: &mut Pool, expected: &Option<Name>) -> Result<Seq<Token>, Memory>
+    ensures { IfOk result (λ tokens. tokens_of expected.now pool.old ≡ (tokens, pool.new)) }
 {
-    let mut pairs = Seq::new(pool.allocator());
+    let mut tokens = Seq::new(pool.allocator());
     if let Some(class) = expected {
         let name = word_index(pool, "expected")?;
         let class = text_index(pool, class)?;
-        pairs.push((name, Elem::Class(class)))?;
+        tokens.push(Token::Name(name))?;
+        tokens.push(Token::Class(class))?;
     }
-    Ok(pairs)
+    Ok(tokens)
+}
+
+/// How many elements an annotation has.
+fn elements_in(expected: &Option<Name>) -> u16
+    ensures { result ≡ elements_in expected.now }
+{
+    match expected {
+        Some(_) => 1,
+        None => 0,
+    }
 }
 
 fn note_of(pool: &mut Pool, note: &StatedNote) -> Result<Note, Memory>
     ensures { IfOk result (λ n. note_of note.now pool.old ≡ (n, pool.new)) }
 {
     let kind = text_index(pool, &note.kind)?;
-    let pairs = pairs_of(pool, &note.expected)?;
-    Ok(Note { kind, pairs })
+    let tokens = tokens_of(pool, &note.expected)?;
+    Ok(Note {
+        kind,
+        count: elements_in(&note.expected),
+        tokens,
+    })
 }
 
 pub fn notes_of(pool: &mut Pool, stated: &[StatedNote]) -> Result<Seq<Note>, Memory>

@@ -10,7 +10,7 @@ ghost use Rattle.mt_bytes.specs.Items.{ReadsItem};
 ghost use Rattle.mt_attrs.specs.Attributes.{attrs_at, attrs_bytes, AreAttrs};
 ghost use Rattle.mt_attrs.specs.Layout.{attrs_layout, HasAttrForm};
 
-use class_model::{Attr, Bytes, ClassFault, Const, LayoutFault, Seq};
+use class_model::{Attr, Bytes, ClassFault, Judged, LayoutFault, Seq};
 use mt_attrs::Owner;
 use mt_bytes::Cursor;
 use std::alloc::Global;
@@ -20,7 +20,7 @@ pub fn read_attrs(
     alloc: Global,
     cur: &mut Cursor,
     owner: Owner,
-    pool: &Seq<Const>,
+    pool: &Judged,
 ) -> Result<Seq<Attr>, ClassFault>
     ensures found { IfOk result (λ attrs. AreAttrs pool.now owner attrs × (cur.old.bytes ≡ attrs_bytes attrs ++ cur.new.bytes) × (cur.new.at ≡ cur.old.at + length (attrs_bytes attrs))) }
     ensures only { (attrs : List Attr) (behind : List ℕ) → AreAttrs pool.now owner attrs → cur.old.bytes ≡ attrs_bytes attrs ++ behind → Reads fault.Memory (λ i. Ok (attrs, input_at (cur.old.at + length (attrs_bytes attrs)) behind)) cur.old cur.new result }

@@ -8,7 +8,7 @@ ghost use Rattle.codec_rules.specs.Meets.{Gives};
 ghost use Rattle.mt_insn.specs.Code.{IsCode, HasForm, HasTargets, code, layout};
 ghost use Rattle.mt_insn.specs.Targets.{code_at};
 
-use class_model::{Bytes, ClassFault, Const, Insn, LayoutFault, Seq};
+use class_model::{Bytes, ClassFault, Insn, Judged, LayoutFault, Seq};
 use std::alloc::Global;
 
 /// `read_insns`.
@@ -16,7 +16,7 @@ pub fn read_insns(
     alloc: Global,
     bytes: &[u8],
     base: u64,
-    pool: &Seq<Const>,
+    pool: &Judged,
 ) -> Result<Seq<Insn>, ClassFault>
     requires { base + length bytes.now < 2 ^ 64 }
     ensures found { IfOk result (λ insns. IsCode pool.now insns × (bytes.now ≡ code insns)) }

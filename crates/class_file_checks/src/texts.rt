@@ -1,13 +1,17 @@
 //! Texts, descriptors and copies: calls of `class_model`.
 
-ghost use Rattle.std.specs.Prelude.{◌≡◌, ◌≢◌, List, ℕ, Some, None, Ok, Err, IfOk, MatchResult};
+ghost use Rattle.std.specs.Prelude.{◌≡◌, ◌≢◌, List, ℕ, Some, None, Ok, Err, IfOk, MatchOption, MatchResult};
 ghost use Rattle.class_model.specs.Text.{IsUnits, IsFirstBad, text, units_of};
 ghost use Rattle.class_model.specs.Descriptor.{FieldType, MethodDescriptor, IsFieldDescriptor, IsMethodDescriptor, MeansField, MeansMethod};
 ghost use Rattle.class_model.specs.DescriptorReading.{field_kind, method_kinds};
+ghost use Rattle.class_model.specs.Judged.{verdict_of};
+ghost use Rattle.class_model.specs.Pool.{text_of};
 ghost use Rattle.class_model.specs.declared.fault.TextFault.TheVariants as text_fault;
 ghost use Rattle.class_model.specs.declared.fault.DescFault.TheVariants as desc_fault;
 
-use class_model::{Copied, DescFault, Kind, Memory, MethodType, Name, Seq, TextFault};
+use class_model::{
+    Copied, DescFault, Judged, Kind, Memory, MethodType, Name, Seq, TextFault, Verdict,
+};
 use std::alloc::Global;
 
 /// `read_text`.
@@ -49,4 +53,21 @@ pub fn copy<T: Copied + Drop>(list: &Seq<T>) -> Result<Seq<T>, Memory>
     ensures { IfOk result (λ c. c ≡ list.now) }
 {
     list.copy()
+}
+
+/// `Judged::text`.
+pub fn verdict_on<'a>(pool: &'a Judged, index: u16) -> Option<(&'a Name, Verdict)>
+    ensures { MatchOption result (text_of pool.now index ≡ None) (λ x. (text_of pool.now index ≡ Some x.0.now) × (x.1 ≡ verdict_of x.0.now)) }
+{
+    let (text, verdict) = pool.text(index)?;
+    let field = verdict.field;
+    Some((
+        text,
+        Verdict {
+            field,
+            method: verdict.method,
+            names_field: verdict.names_field,
+            names_method: verdict.names_method,
+        },
+    ))
 }

@@ -7,3 +7,4 @@ pub mod MethodLaws
 pub mod ParameterLaws
 pub mod Verdicts
 pub mod PoolLaws
+pub mod ElementLaws

@@ -8,13 +8,9 @@ ghost use Rattle.codec_rules.specs.Meets.{Gives};
 ghost use Rattle.mt_bytes.specs.Items.{ReadsItem};
 ghost use Rattle.class_reader.specs.Indices.{judged, index_at, names_class as is_class, no_class, names_this as is_this, no_this, names_parent as is_parent, names_name, no_name, names_desc, no_desc};
 
-use class_model::{
-    ClassFault, Const, DescFault, Name, is_class_name, is_field_name, is_method_name, parse_field,
-    parse_method,
-};
+use class_model::{ClassFault, Const, DescFault, Judged, is_class_name};
 use mt_bytes::Cursor;
 use mt_pool::{class_name_of, names_class, text_of};
-use std::alloc::Global;
 
 /// `java/lang/Object`
 const OBJECT: [u16; 16] = [
@@ -99,26 +95,26 @@ fn no_name(pool: &[Const], index: u16, at: u64) -> ClassFault
     }
 }
 
-fn names_field_name(pool: &[Const], index: u16) -> bool
+fn names_field_name(pool: &Judged, index: u16) -> bool
     ensures { result ≡ names_name is_named_as_field pool.now index }
 {
-    match text_of(pool, index) {
-        Some(name) => is_field_name(name.as_slice()),
+    match pool.text(index) {
+        Some((_, verdict)) => verdict.names_field,
         None => false,
     }
 }
 
-fn names_method_name(pool: &[Const], index: u16) -> bool
+fn names_method_name(pool: &Judged, index: u16) -> bool
     ensures { result ≡ names_name is_named_as_method pool.now index }
 {
-    match text_of(pool, index) {
-        Some(name) => is_method_name(name.as_slice()),
+    match pool.text(index) {
+        Some((_, verdict)) => verdict.names_method,
         None => false,
     }
 }
 
 /// The index of the name that a field has.
-pub fn field_name(pool: &[Const], cur: &mut Cursor) -> Result<u16, ClassFault>
+pub fn field_name(pool: &Judged, cur: &mut Cursor) -> Result<u16, ClassFault>
     ensures { ReadsItem (index_at (names_name is_named_as_field pool.now) (no_name pool.now)) cur.old cur.new result }
 {
     let at = cur.at();
@@ -126,12 +122,12 @@ pub fn field_name(pool: &[Const], cur: &mut Cursor) -> Result<u16, ClassFault>
     if names_field_name(pool, index) {
         Ok(index)
     } else {
-        Err(no_name(pool, index, at))
+        Err(no_name(pool.entries(), index, at))
     }
 }
 
 /// The index of the name that a method has.
-pub fn method_name(pool: &[Const], cur: &mut Cursor) -> Result<u16, ClassFault>
+pub fn method_name(pool: &Judged, cur: &mut Cursor) -> Result<u16, ClassFault>
     ensures { ReadsItem (index_at (names_name is_named_as_method pool.now) (no_name pool.now)) cur.old cur.new result }
 {
     let at = cur.at();
@@ -139,31 +135,31 @@ pub fn method_name(pool: &[Const], cur: &mut Cursor) -> Result<u16, ClassFault>
     if names_method_name(pool, index) {
         Ok(index)
     } else {
-        Err(no_name(pool, index, at))
+        Err(no_name(pool.entries(), index, at))
     }
 }
 
-fn judge_field_desc(alloc: Global, pool: &[Const], index: u16, at: u64) -> Result<u16, ClassFault>
+fn judge_field_desc(pool: &Judged, index: u16, at: u64) -> Result<u16, ClassFault>
     ensures { Gives fault.Memory (λ index. index) (judged (names_desc field_kind pool.now) (no_desc field_kind pool.now) at index) result }
 {
-    let Some(desc) = text_of(pool, index) else {
+    let Some((_, verdict)) = pool.text(index) else {
         return Err(ClassFault::BadIndex { at });
     };
-    match parse_field(alloc, desc) {
-        Ok(_) => Ok(index),
+    match verdict.field {
+        Ok(()) => Ok(index),
         Err(DescFault::Bad) => Err(ClassFault::BadText { at }),
         Err(DescFault::Float) => Err(ClassFault::FloatUsed { at }),
         Err(DescFault::Memory) => Err(ClassFault::Memory),
     }
 }
 
-fn judge_method_desc(alloc: Global, pool: &[Const], index: u16, at: u64) -> Result<u16, ClassFault>
+fn judge_method_desc(pool: &Judged, index: u16, at: u64) -> Result<u16, ClassFault>
     ensures { Gives fault.Memory (λ index. index) (judged (names_desc method_kinds pool.now) (no_desc method_kinds pool.now) at index) result }
 {
-    let Some(desc) = text_of(pool, index) else {
+    let Some((_, verdict)) = pool.text(index) else {
         return Err(ClassFault::BadIndex { at });
     };
-    match parse_method(alloc, desc) {
+    match verdict.method {
         Ok(_) => Ok(index),
         Err(DescFault::Bad) => Err(ClassFault::BadText { at }),
         Err(DescFault::Float) => Err(ClassFault::FloatUsed { at }),
@@ -172,21 +168,21 @@ fn judge_method_desc(alloc: Global, pool: &[Const], index: u16, at: u64) -> Resu
 }
 
 /// The index of the descriptor that a field has.
-pub fn field_desc(alloc: Global, pool: &[Const], cur: &mut Cursor) -> Result<u16, ClassFault>
+pub fn field_desc(pool: &Judged, cur: &mut Cursor) -> Result<u16, ClassFault>
     ensures { ReadsItem (index_at (names_desc field_kind pool.now) (no_desc field_kind pool.now)) cur.old cur.new result }
 {
     let at = cur.at();
     let index = cur.u2()?;
-    let judged = judge_field_desc(alloc, pool, index, at)?;
+    let judged = judge_field_desc(pool, index, at)?;
     Ok(judged)
 }
 
 /// The index of the descriptor that a method has.
-pub fn method_desc(alloc: Global, pool: &[Const], cur: &mut Cursor) -> Result<u16, ClassFault>
+pub fn method_desc(pool: &Judged, cur: &mut Cursor) -> Result<u16, ClassFault>
     ensures { ReadsItem (index_at (names_desc method_kinds pool.now) (no_desc method_kinds pool.now)) cur.old cur.new result }
 {
     let at = cur.at();
     let index = cur.u2()?;
-    let judged = judge_method_desc(alloc, pool, index, at)?;
+    let judged = judge_method_desc(pool, index, at)?;
     Ok(judged)
 }

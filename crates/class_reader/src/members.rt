@@ -7,18 +7,18 @@ ghost use Rattle.class_reader.specs.Indices.{index_at, names_class, no_class};
 ghost use Rattle.class_reader.specs.Reading.{field_at, method_at, counted_at};
 
 use crate::indices::{class_index, field_desc, field_name, method_desc, method_name};
-use class_model::{ClassFault, Const, Member, Seq};
+use class_model::{ClassFault, Const, Judged, Member, Seq};
 use mt_attrs::{Owner, read_attrs};
 use mt_bytes::Cursor;
 use std::alloc::Global;
 
 #[tactic(auto, unfolding(crate::specs::Reading::member_at))]
-fn read_field(alloc: Global, pool: &Seq<Const>, cur: &mut Cursor) -> Result<Member, ClassFault>
+fn read_field(alloc: Global, pool: &Judged, cur: &mut Cursor) -> Result<Member, ClassFault>
     ensures { ReadsItem (field_at pool.now) cur.old cur.new result }
 {
     let flags = cur.u2()?;
-    let name = field_name(pool.as_slice(), cur)?;
-    let desc = field_desc(alloc, pool.as_slice(), cur)?;
+    let name = field_name(pool, cur)?;
+    let desc = field_desc(pool, cur)?;
     let attrs = read_attrs(alloc, cur, Owner::OfField, pool)?;
     Ok(Member {
         flags,
@@ -29,12 +29,12 @@ fn read_field(alloc: Global, pool: &Seq<Const>, cur: &mut Cursor) -> Result<Memb
 }
 
 #[tactic(auto, unfolding(crate::specs::Reading::member_at))]
-fn read_method(alloc: Global, pool: &Seq<Const>, cur: &mut Cursor) -> Result<Member, ClassFault>
+fn read_method(alloc: Global, pool: &Judged, cur: &mut Cursor) -> Result<Member, ClassFault>
     ensures { ReadsItem (method_at pool.now) cur.old cur.new result }
 {
     let flags = cur.u2()?;
-    let name = method_name(pool.as_slice(), cur)?;
-    let desc = method_desc(alloc, pool.as_slice(), cur)?;
+    let name = method_name(pool, cur)?;
+    let desc = method_desc(pool, cur)?;
     let attrs = read_attrs(alloc, cur, Owner::OfMethod, pool)?;
     Ok(Member {
         flags,
@@ -62,7 +62,7 @@ fn read_so_many_interfaces(
 
 fn read_so_many_fields(
     alloc: Global,
-    pool: &Seq<Const>,
+    pool: &Judged,
     count: u16,
     cur: &mut Cursor,
 ) -> Result<Seq<Member>, ClassFault>
@@ -78,7 +78,7 @@ fn read_so_many_fields(
 
 fn read_so_many_methods(
     alloc: Global,
-    pool: &Seq<Const>,
+    pool: &Judged,
     count: u16,
     cur: &mut Cursor,
 ) -> Result<Seq<Member>, ClassFault>
@@ -109,7 +109,7 @@ pub fn read_interfaces(
 #[tactic(auto, unfolding(crate::specs::Reading::counted_at))]
 pub fn read_fields(
     alloc: Global,
-    pool: &Seq<Const>,
+    pool: &Judged,
     cur: &mut Cursor,
 ) -> Result<Seq<Member>, ClassFault>
     ensures { ReadsItem (counted_at (field_at pool.now)) cur.old cur.new result }
@@ -122,7 +122,7 @@ pub fn read_fields(
 #[tactic(auto, unfolding(crate::specs::Reading::counted_at))]
 pub fn read_methods(
     alloc: Global,
-    pool: &Seq<Const>,
+    pool: &Judged,
     cur: &mut Cursor,
 ) -> Result<Seq<Member>, ClassFault>
     ensures { ReadsItem (counted_at (method_at pool.now)) cur.old cur.new result }

@@ -9,7 +9,7 @@ ghost use Rattle.class_reader.specs.Spells.{Spells};
 
 use crate::indices::{parent_index, this_index};
 use crate::members::{read_fields, read_interfaces, read_methods};
-use class_model::{Class, ClassFault};
+use class_model::{Class, ClassFault, Judged};
 use mt_attrs::{Owner, read_attrs};
 use mt_bytes::Cursor;
 use mt_pool::read_pool;
@@ -53,9 +53,11 @@ fn read_items(alloc: Global, cur: &mut Cursor) -> Result<Class, ClassFault>
     let this = this_index(pool.as_slice(), cur)?;
     let parent = parent_index(pool.as_slice(), this, cur)?;
     let interfaces = read_interfaces(alloc, pool.as_slice(), cur)?;
-    let fields = read_fields(alloc, &pool, cur)?;
-    let methods = read_methods(alloc, &pool, cur)?;
-    let attrs = read_attrs(alloc, cur, Owner::OfClass, &pool)?;
+    let judged = Judged::new(alloc, pool.as_slice())?;
+    let fields = read_fields(alloc, &judged, cur)?;
+    let methods = read_methods(alloc, &judged, cur)?;
+    let attrs = read_attrs(alloc, cur, Owner::OfClass, &judged)?;
+    drop(judged);
     Ok(Class {
         minor,
         major,

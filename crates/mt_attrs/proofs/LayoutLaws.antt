@@ -5,9 +5,6 @@ use Rattle.std.specs.Option.{option_map}
 use Rattle.std.specs.List.{AllByRecursion}
 use Rattle.std.proofs.lemmas.Bool.{lt-ltb}
 use Rattle.class_model.specs.declared.constant.Const.{Const}
-use Rattle.class_model.specs.declared.annotation.Note.{Note}
-use Rattle.class_model.specs.declared.annotation.Elem.{Elem, out-Elem}
-use Rattle.class_model.specs.declared.annotation.Elem.TheOpen.{Elem-F}
 use Rattle.class_model.specs.declared.attribute.Row.{Row}
 use Rattle.class_model.specs.declared.attribute.Attr.{Attr}
 use Rattle.class_model.specs.declared.attribute.Code.{Code, out-Code}
@@ -26,11 +23,10 @@ use Rattle.mt_attrs.specs.Item.{AllBy}
 use Rattle.mt_attrs.specs.Lines.{IsLine}
 use Rattle.mt_attrs.specs.Rows.{IsRow}
 use Rattle.mt_attrs.specs.Frames.{next_behind, IsVItem, IsShape, IsFrame}
-use Rattle.mt_attrs.specs.Notes.{most_turns, IsPair, IsNoteBy, IsElemBy, IsInner, IsElem, IsNote}
 use Rattle.mt_attrs.specs.Kinds.{all_unseen}
 use Rattle.mt_attrs.specs.CodeParts.{body_of, table_content, table_after, IsTableBody, IsTable, AreParts}
 use Rattle.mt_attrs.specs.Attributes.{attr_after, body_content, attrs_bytes, IsBody, IsAttr, AreAttrs}
-use Rattle.mt_attrs.specs.Layout.{or_bound, count_bound, first_of, list_bound, size_bound, content_bound, shape_bound, frame_bound, pair_bound, note_bound_by, elem_bound_by, elem_bound, note_bound, bound_in, insns_bound, table_bound, inner_bound, parts_bound, body_bound, attr_bound, attrs_bound, HasLineForm, HasRowForm, HasVItemForm, HasShapeForm, HasFrameForm, HasElemFormBy, HasElemForm, HasNoteForm, HasTableForm, HasCodeForm, HasBodyForm, HasAttrForm, SpelledIsWritten}
+use Rattle.mt_attrs.specs.Layout.{or_bound, count_bound, first_of, list_bound, size_bound, content_bound, shape_bound, frame_bound, bound_in, insns_bound, table_bound, inner_bound, parts_bound, body_bound, attr_bound, attrs_bound, HasLineForm, HasRowForm, HasVItemForm, HasShapeForm, HasFrameForm, HasTableForm, HasCodeForm, HasBodyForm, HasAttrForm, SpelledIsWritten}
 use Rattle.mt_attrs.specs.declared.owner.Owner.{Owner}
 use Rattle.mt_attrs.specs.declared.kinds.Known.{Known}
 use Rattle.mt_attrs.specs.declared.kinds.Known.TheVariants as known
@@ -99,33 +95,6 @@ shape_form pool starts (shape.Full locals stack) q = (
   both_free (count_bound (length locals)) (count_bound (length stack)) (count_free _ q.0.0) (count_free _ q.1.0),
 )
 
--- ---- annotations
-
-pair_free : (pool : List Const) (P H : Elem → Type 0) (passed : Elem → Option Bound) → ((e : Elem) → P e → H e × (passed e ≡ None)) → (note : Note) → IsNoteBy pool P note → All (λ pair. H pair.1) note.pairs × (note_bound_by passed note ≡ None)
-pair_free pool P H passed h note q = (
-  all_map (IsPair pool P) (λ pair. H pair.1) (λ pair k. (h pair.1 k.1).0) note.pairs q.pairs,
-  list_free (pair_bound passed) note.pairs q.few (each_map (IsPair pool P) (Free (pair_bound passed)) (λ pair k. (h pair.1 k.1).1) note.pairs q.pairs),
-)
-
-inner_free : (pool : List Const) (P : ℕ → Elem → Type 0) (H : Elem → Type 0) (passed : Elem → Option Bound) → ((depth : ℕ) (e : Elem) → P depth e → H e × (passed e ≡ None)) → (depth : ℕ) (note : Note) → IsInner pool P depth note → All (λ pair. H pair.1) note.pairs × (note_bound_by passed note ≡ None)
-inner_free pool P H passed h zero note q = absurd q
-inner_free pool P H passed h (suc depth) note q = pair_free pool (P depth) H passed (h depth) note q
-
-parts_free : (pool : List Const) (P : ℕ → Elem → Type 0) (H : Elem → Type 0) (passed : Elem → Option Bound) → ((depth : ℕ) (e : Elem) → P depth e → H e × (passed e ≡ None)) → (depth : ℕ) (b : Elem-F Elem Note) → IsElemBy pool (P depth) (IsInner pool P depth) b → HasElemFormBy H b × (elem_bound_by passed b ≡ None)
-parts_free pool P H passed h depth (Elem-F.Plain tag index) q = (tt, refl)
-parts_free pool P H passed h depth (Elem-F.Enum kind name) q = (tt, refl)
-parts_free pool P H passed h depth (Elem-F.Class index) q = (tt, refl)
-parts_free pool P H passed h depth (Elem-F.Inner note) q = inner_free pool P H passed h depth note q
-parts_free pool P H passed h depth (Elem-F.Many elems) q = (all_map (P depth) H (λ e k. (h depth e k).0) elems q.1, list_free passed elems q.0 (each_map (P depth) (Free passed) (λ e k. (h depth e k).1) elems q.1))
-
-elem_free : (pool : List Const) (turns depth : ℕ) (e : Elem) → IsElem pool turns depth e → HasElemForm turns e × (elem_bound turns e ≡ None)
-unfolding IsElem HasElemForm elem_bound
-elem_free pool zero depth e q = absurd q
-elem_free pool (suc turns) depth e q = parts_free pool (IsElem pool turns) (HasElemForm turns) (elem_bound turns) (elem_free pool turns) depth (out-Elem e) q
-
-note_free : (pool : List Const) (note : Note) → IsNote pool note → HasNoteForm note × (note_bound note ≡ None)
-note_free pool note q = pair_free pool (IsElem pool most_turns 31) (HasElemForm most_turns) (elem_bound most_turns) (elem_free pool most_turns 31) note q
-
 -- ---- the attributes inside Code
 
 table_free : (pool : List Const) (starts : List ℕ) (kind : Option Table) (b : Body-F Body Attr Code) → IsTableBody pool starts kind b → HasTableForm starts b × (table_bound b ≡ None)
@@ -168,8 +137,8 @@ body_free : (pool : List Const) (kind : Option Known) (b : Body-F Body Attr Code
 body_free pool (Some known.Code) (Body-F.Code c) q = code_free pool (out-Code c) q
 body_free pool (Some known.Source) (Body-F.Source index) q = (tt, refl)
 body_free pool (Some known.Value) (Body-F.Value index) q = (tt, refl)
-body_free pool (Some known.Visible) (Body-F.Notes notes) q = (all_map (IsNote pool) HasNoteForm (λ note k. (note_free pool note k).0) notes q.1, list_free note_bound notes q.0 (each_map (IsNote pool) (Free note_bound) (λ note k. (note_free pool note k).1) notes q.1))
-body_free pool (Some known.Invisible) (Body-F.Notes notes) q = (all_map (IsNote pool) HasNoteForm (λ note k. (note_free pool note k).0) notes q.1, list_free note_bound notes q.0 (each_map (IsNote pool) (Free note_bound) (λ note k. (note_free pool note k).1) notes q.1))
+body_free pool (Some known.Visible) (Body-F.Notes notes) q = (tt, count_free (length notes) q.0)
+body_free pool (Some known.Invisible) (Body-F.Notes notes) q = (tt, count_free (length notes) q.0)
 body_free pool None (Body-F.Raw bytes) q = (tt, refl)
 body_free pool (Some known.Code) other q = absurd q
 body_free pool (Some known.Source) other q = absurd q

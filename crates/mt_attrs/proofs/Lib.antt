@@ -1,10 +1,11 @@
+pub mod Described
 pub mod Loops
 pub mod Starts
-pub mod Elements
 pub mod Codecs
 pub mod PlaceLaws
 pub mod RowLaws
 pub mod FrameLaws
+pub mod TokenLoop
 pub mod NoteLaws
 pub mod CodeLaws
 pub mod AttrsLaws

@@ -8,15 +8,12 @@ use Rattle.std.proofs.lemmas.List.Concat.{flat_map-cons}
 use Rattle.class_model.specs.declared.fault.Bound.{Bound}
 use Rattle.class_model.specs.declared.fault.LayoutFault.{LayoutFault}
 use Rattle.class_model.specs.declared.fault.LayoutFault.TheVariants as layout_fault
-use Rattle.class_model.specs.declared.annotation.Elem.{Elem, out-Elem}
 use Rattle.class_model.specs.declared.instruction.Insn.{Insn}
 use Rattle.class_model.specs.declared.fault.Bound.TheVariants as bound
 use Rattle.std.proofs.lemmas.Bool.{ltb-true}
 use Rattle.mt_insn.specs.Code.{code, code_length, layout}
 use Rattle.mt_insn.proofs.LayoutLaws.{read_length}
-use Rattle.mt_attrs.specs.Item.{u1}
-use Rattle.mt_attrs.specs.Notes.{elem_tag, element_by, elem_by, elem_bytes}
-use Rattle.mt_attrs.specs.Layout.{or_bound, first_of, Writes, elem_bound, elem_bound_by, HasElemForm, HasElemFormBy}
+use Rattle.mt_attrs.specs.Layout.{or_bound, first_of, Writes}
 
 -- the value at a loop's place, and those behind it
 pub cut_at : {A : Type 0} (xs : List A) (i : ℕ) (x : A) → i < length xs → x ≡ get_or xs i x → drop i xs ≡ x ∷ drop (i + 1) xs
@@ -58,39 +55,6 @@ is_written bytes passed xs i old out le so_far =
 pub Writes-behind : (passed : Option Bound) (front back : List ℕ) (old middle new : List ℕ) (result : Result Unit LayoutFault) → middle ≡ old ++ front → Writes passed back middle new result → Writes passed (front ++ back) old new result
 Writes-behind passed front back old middle new (Ok value) same h = (h.0, h.1 ∙ ap (λ (z : List ℕ). z ++ back) same ∙ append_assoc old front back)
 Writes-behind passed front back old middle new (Err e) same h = h
-
--- ---- an element, by its parts
-
-no_form : (e : Elem) → HasElemForm 0 e → ⊥
-unfolding HasElemForm
-no_form e q = q
-
-form_turn : (n : ℕ) (e : Elem) → HasElemForm (suc n) e → HasElemFormBy (HasElemForm n) (out-Elem e)
-unfolding HasElemForm
-form_turn n e q = q
-
-bound_turn : (n : ℕ) (e : Elem) → elem_bound (suc n) e ≡ elem_bound_by (elem_bound n) (out-Elem e)
-unfolding elem_bound
-bound_turn n e = refl
-
-bytes_turn : (n : ℕ) (e : Elem) → elem_bytes (suc n) e ≡ elem_by (elem_bytes n) (out-Elem e)
-unfolding elem_bytes
-bytes_turn n e = refl
-
-pub no_turns : {X : Type 0} (turns : ℕ) (e : Elem) → turns ≡ 0 → HasElemForm turns e → X
-no_turns turns e none q = absurd (no_form e (subst (λ (n : ℕ). HasElemForm n e) none q))
-
-pub form_parts : (turns : ℕ) (e : Elem) → 0 < turns → HasElemForm turns e → HasElemFormBy (HasElemForm (turns - 1)) (out-Elem e)
-form_parts turns e some q = let k : turns ≡ suc (turns - 1) = omega arith in form_turn (turns - 1) e (subst (λ (n : ℕ). HasElemForm n e) k q)
-
-pub elem_writes : (turns : ℕ) (e : Elem) (tag : ℕ) (old middle new : List ℕ) (result : Result Unit LayoutFault) → 0 < turns → tag ≡ elem_tag (out-Elem e) → middle ≡ old ++ u1 tag
-    → Writes (elem_bound_by (elem_bound (turns - 1)) (out-Elem e)) (element_by (elem_bytes (turns - 1)) (out-Elem e)) middle new result → Writes (elem_bound turns e) (elem_bytes turns e) old new result
-elem_writes turns e tag old middle new result some is same h =
-    let k : turns ≡ suc (turns - 1) = omega arith in
-    let bound : elem_bound turns e ≡ elem_bound_by (elem_bound (turns - 1)) (out-Elem e) = ap (λ (n : ℕ). elem_bound n e) k ∙ bound_turn (turns - 1) e in
-    let bytes : elem_bytes turns e ≡ elem_by (elem_bytes (turns - 1)) (out-Elem e) = ap (λ (n : ℕ). elem_bytes n e) k ∙ bytes_turn (turns - 1) e in
-    let one = Writes-behind (elem_bound_by (elem_bound (turns - 1)) (out-Elem e)) (u1 (elem_tag (out-Elem e))) (element_by (elem_bytes (turns - 1)) (out-Elem e)) old middle new result (same ∙ ap (λ (n : ℕ). old ++ u1 n) is) h in
-    subst (λ (b : List ℕ). Writes (elem_bound turns e) b old new result) (sym bytes) (subst (λ (o : Option Bound). Writes o (elem_by (elem_bytes (turns - 1)) (out-Elem e)) old new result) (sym bound) one)
 
 -- ---- a code that has room
 

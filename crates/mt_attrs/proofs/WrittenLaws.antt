@@ -7,8 +7,6 @@ use Rattle.std.proofs.lemmas.Bool.{ltb-true, cases_lt}
 use Rattle.class_model.specs.declared.constant.Const.{Const}
 use Rattle.class_model.specs.declared.instruction.Insn.{Insn}
 use Rattle.class_model.specs.declared.annotation.Note.{Note}
-use Rattle.class_model.specs.declared.annotation.Elem.{Elem, out-Elem}
-use Rattle.class_model.specs.declared.annotation.Elem.TheOpen.{Elem-F}
 use Rattle.class_model.specs.declared.attribute.Row.{Row}
 use Rattle.class_model.specs.declared.attribute.Attr.{Attr}
 use Rattle.class_model.specs.declared.attribute.Code.{Code, out-Code}
@@ -32,12 +30,12 @@ use Rattle.mt_attrs.specs.Places.{bound_of, IsPlace}
 use Rattle.mt_attrs.specs.Lines.{IsLine}
 use Rattle.mt_attrs.specs.Rows.{IsRow}
 use Rattle.mt_attrs.specs.Frames.{next_behind, IsVItem, IsShape, IsFrame}
-use Rattle.mt_attrs.specs.Notes.{most_turns, IsPair, IsNoteBy, IsElemBy, IsInner, IsElem, IsNote}
+use Rattle.mt_attrs.specs.Notes.{IsNote}
 use Rattle.mt_attrs.specs.Kinds.{all_unseen}
 use Rattle.mt_attrs.specs.CodeParts.{body_of, table_content, table_after, IsTableBody, IsTable, AreParts}
 use Rattle.mt_attrs.specs.Attributes.{attr_after, body_content, attrs_bytes, IsBody, IsAttr}
-use Rattle.mt_attrs.specs.Layout.{or_bound, count_bound, first_of, list_bound, size_bound, shape_bound, frame_bound, pair_bound, note_bound_by, elem_bound_by, elem_bound, note_bound, bound_in, insns_bound, table_bound, inner_bound, parts_bound, body_bound, attr_bound, attrs_bound, HasLineForm, HasRowForm, HasVItemForm, HasShapeForm, HasFrameForm, HasTableForm, HasCodeForm, HasBodyForm, HasAttrForm}
-use Rattle.mt_attrs.specs.Naming.{IsNamedLine, IsNamedRow, IsNamedVItem, IsNamedShape, IsNamedFrame, IsNamedNoteBy, IsNamedElemBy, IsNamedInner, IsNamedElem, IsNamedNote, IsNamedTableBody, IsNamedTable, AreNamedParts, IsNamedBody, IsNamedAttr, WrittenIsSpelled}
+use Rattle.mt_attrs.specs.Layout.{or_bound, count_bound, first_of, list_bound, size_bound, shape_bound, frame_bound, bound_in, insns_bound, table_bound, inner_bound, parts_bound, body_bound, attr_bound, attrs_bound, HasLineForm, HasRowForm, HasVItemForm, HasShapeForm, HasFrameForm, HasTableForm, HasCodeForm, HasBodyForm, HasAttrForm}
+use Rattle.mt_attrs.specs.Naming.{IsNamedLine, IsNamedRow, IsNamedVItem, IsNamedShape, IsNamedFrame, IsNamedTableBody, IsNamedTable, AreNamedParts, IsNamedBody, IsNamedAttr, WrittenIsSpelled}
 use Rattle.mt_attrs.specs.declared.owner.Owner.{Owner}
 use Rattle.mt_attrs.specs.declared.kinds.Known.{Known}
 use Rattle.mt_attrs.specs.declared.kinds.Known.TheVariants as known
@@ -146,32 +144,8 @@ shape_of pool starts end small (shape.Full locals stack) f n e =
 
 -- ---- annotations
 
-note_of : (pool : List Const) (N P : Elem → Type 0) (passed : Elem → Option Bound) → ((e : Elem) → N e → passed e ≡ None → P e) → (note : Note) → IsNamedNoteBy pool N note → note_bound_by passed note ≡ None → IsNoteBy pool P note
-note_of pool N P passed h note n e =
-    let k = list_of (pair_bound passed) note.pairs e in
-    record { kind = n.0; few = k.0; pairs = each_two (IsPair pool N) (Free (pair_bound passed)) (IsPair pool P) (λ pair a b. (a.0, h pair.1 a.1 b)) note.pairs n.1 k.1 }
-
-inner_of : (pool : List Const) (N P : ℕ → Elem → Type 0) (passed : Elem → Option Bound) → ((depth : ℕ) (e : Elem) → N depth e → passed e ≡ None → P depth e) → (depth : ℕ) (note : Note) → IsNamedInner pool N depth note → note_bound_by passed note ≡ None → IsInner pool P depth note
-inner_of pool N P passed h zero note n e = n
-inner_of pool N P passed h (suc depth) note n e = note_of pool (N depth) (P depth) passed (h depth) note n e
-
-parts_of : (pool : List Const) (N P : ℕ → Elem → Type 0) (passed : Elem → Option Bound) → ((depth : ℕ) (e : Elem) → N depth e → passed e ≡ None → P depth e) → (depth : ℕ) (b : Elem-F Elem Note) → IsNamedElemBy pool (N depth) (IsNamedInner pool N depth) b → elem_bound_by passed b ≡ None → IsElemBy pool (P depth) (IsInner pool P depth) b
-parts_of pool N P passed h depth (Elem-F.Plain tag index) n e = n
-parts_of pool N P passed h depth (Elem-F.Enum kind name) n e = n
-parts_of pool N P passed h depth (Elem-F.Class index) n e = n
-parts_of pool N P passed h depth (Elem-F.Inner note) n e = inner_of pool N P passed h depth note n e
-parts_of pool N P passed h depth (Elem-F.Many elems) n e = let k = list_of passed elems e in (k.0, each_two (N depth) (Free passed) (P depth) (h depth) elems n k.1)
-
-elem_of : (pool : List Const) (turns depth : ℕ) (e : Elem) → IsNamedElem pool turns depth e → elem_bound turns e ≡ None → IsElem pool turns depth e
-unfolding IsNamedElem IsElem elem_bound
-elem_of pool zero depth e n f = n
-elem_of pool (suc turns) depth e n f = parts_of pool (IsNamedElem pool turns) (IsElem pool turns) (elem_bound turns) (elem_of pool turns) depth (out-Elem e) n f
-
-outer_of : (pool : List Const) (note : Note) → IsNamedNote pool note → note_bound note ≡ None → IsNote pool note
-outer_of pool note n e = note_of pool (IsNamedElem pool most_turns 31) (IsElem pool most_turns 31) (elem_bound most_turns) (elem_of pool most_turns 31) note n e
-
-notes_of : (pool : List Const) (notes : List Note) → AllByRecursion (IsNamedNote pool) notes → list_bound note_bound notes ≡ None → (length notes < 2 ^ 16) × AllByRecursion (IsNote pool) notes
-notes_of pool notes n e = let k = list_of note_bound notes e in (k.0, each_two (IsNamedNote pool) (Free note_bound) (IsNote pool) (outer_of pool) notes n k.1)
+notes_of : (pool : List Const) (notes : List Note) → AllByRecursion (IsNote pool) notes → count_bound (length notes) ≡ None → (length notes < 2 ^ 16) × AllByRecursion (IsNote pool) notes
+notes_of pool notes n e = (few_of (length notes) e, n)
 
 -- ---- the attributes inside Code
 

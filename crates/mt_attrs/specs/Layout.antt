@@ -1,5 +1,5 @@
 -- Writing attributes: what has no room, and what is written (JVMS 4.7). A list has at most 65,535 items, a code 65,535 bytes, and an attribute's content fewer than 2^32 bytes.
-use Rattle.std.specs.Prelude.{◌≡◌, ◌≢◌, ℕ, zero, suc, ◌≤◌, ◌<◌, ◌^◌, nat_lt, List, [], ◌∷◌, ◌++◌, length, All, Option, Some, None, Result, Ok, Err, if◌then◌else◌}
+use Rattle.std.specs.Prelude.{◌≡◌, ◌≢◌, ℕ, ◌≤◌, ◌<◌, ◌^◌, nat_lt, List, [], ◌∷◌, ◌++◌, length, All, Option, Some, None, Result, Ok, Err, if◌then◌else◌}
 use Rattle.std.specs.Option.{option_map}
 use Rattle.class_model.specs.declared.attribute.Row.{Row}
 use Rattle.class_model.specs.declared.attribute.Attr.{Attr}
@@ -11,9 +11,6 @@ use Rattle.class_model.specs.declared.frame.Shape.{Shape}
 use Rattle.class_model.specs.declared.frame.Shape.TheVariants as shape
 use Rattle.class_model.specs.declared.frame.VItem.{VItem}
 use Rattle.class_model.specs.declared.frame.VItem.TheVariants as vitem
-use Rattle.class_model.specs.declared.annotation.Note.{Note}
-use Rattle.class_model.specs.declared.annotation.Elem.{Elem, out-Elem}
-use Rattle.class_model.specs.declared.annotation.Elem.TheOpen.{Elem-F}
 use Rattle.class_model.specs.declared.instruction.Insn.{Insn}
 use Rattle.class_model.specs.declared.fault.Bound.{Bound}
 use Rattle.class_model.specs.declared.fault.Bound.TheVariants as bound
@@ -24,7 +21,6 @@ use Rattle.mt_insn.specs.Code.{HasForm, HasTargets, places, layout}
 use Rattle.mt_attrs.specs.Item.{AllBy}
 use Rattle.mt_attrs.specs.Places.{IsBehind}
 use Rattle.mt_attrs.specs.Frames.{next_behind, room_of}
-use Rattle.mt_attrs.specs.Notes.{most_turns}
 use Rattle.mt_attrs.specs.CodeParts.{body_of, table_content}
 use Rattle.class_model.specs.declared.constant.Const.{Const}
 use Rattle.mt_attrs.specs.declared.owner.Owner.{Owner}
@@ -61,26 +57,6 @@ shape_bound other = None
 abbrev pub frame_bound : Frame → Option Bound
 frame_bound frame = shape_bound frame.shape
 
-abbrev pub pair_bound : (Elem → Option Bound) → ℕ × Elem → Option Bound
-pair_bound passed pair = passed pair.1
-
-abbrev pub note_bound_by : (Elem → Option Bound) → Note → Option Bound
-note_bound_by passed note = list_bound (pair_bound passed) note.pairs
-
-abbrev pub elem_bound_by : (Elem → Option Bound) → Elem-F Elem Note → Option Bound
-elem_bound_by passed (Elem-F.Inner note) = note_bound_by passed note
-elem_bound_by passed (Elem-F.Many elems) = list_bound passed elems
-elem_bound_by passed (Elem-F.Plain tag index) = None
-elem_bound_by passed (Elem-F.Enum kind name) = None
-elem_bound_by passed (Elem-F.Class index) = None
-
-unfoldable pub elem_bound : ℕ → Elem → Option Bound
-elem_bound zero e = None
-elem_bound (suc turns) e = elem_bound_by (elem_bound turns) (out-Elem e)
-
-abbrev pub note_bound : Note → Option Bound
-note_bound note = note_bound_by (elem_bound most_turns) note
-
 abbrev pub bound_in : Result (List ℕ) LayoutFault → Option Bound
 bound_in (Ok bytes) = None
 bound_in (Err (layout_fault.TooLarge what)) = Some what
@@ -103,7 +79,7 @@ parts_bound c = or_bound (insns_bound c.insns) (or_bound (count_bound (length c.
 
 abbrev pub body_bound : Body-F Body Attr Code → Option Bound
 body_bound (Body-F.Code c) = parts_bound (out-Code c)
-body_bound (Body-F.Notes notes) = list_bound note_bound notes
+body_bound (Body-F.Notes notes) = count_bound (length notes)
 body_bound other = None
 
 abbrev pub attr_bound : Attr → Option Bound
@@ -154,24 +130,6 @@ HasSize other = Unit {0}
 abbrev pub HasFrameForm : List ℕ → ℕ → Frame → Type 0
 HasFrameForm starts next frame = IsBehind starts next (room_of frame.shape) frame.at × HasShapeForm starts frame.shape
 
-abbrev pub HasElemFormBy : (Elem → Type 0) → Elem-F Elem Note → Type 0
-HasElemFormBy P (Elem-F.Inner note) = All (λ pair. P pair.1) note.pairs
-HasElemFormBy P (Elem-F.Many elems) = All P elems
-HasElemFormBy P (Elem-F.Plain tag index) = Unit {0}
-HasElemFormBy P (Elem-F.Enum kind name) = Unit {0}
-HasElemFormBy P (Elem-F.Class index) = Unit {0}
-
--- Elements stand in one another less often than this.
-unfoldable pub HasElemForm : ℕ → Elem → Type 0
-HasElemForm zero e = ⊥
-HasElemForm (suc turns) e = HasElemFormBy (HasElemForm turns) (out-Elem e)
-
-abbrev pub HasNoteFormIn : ℕ → Note → Type 0
-HasNoteFormIn turns note = All (λ pair. HasElemForm turns pair.1) note.pairs
-
-abbrev pub HasNoteForm : Note → Type 0
-HasNoteForm note = HasNoteFormIn most_turns note
-
 abbrev pub HasTableForm : List ℕ → Body-F Body Attr Code → Type 0
 HasTableForm starts (Body-F.Lines lines) = All (HasLineForm starts) lines
 HasTableForm starts (Body-F.Frames frames) = AllBy (HasFrameForm starts) (next_behind starts) 0 frames
@@ -186,7 +144,7 @@ pub record HasCodeForm (c : Code-F Body Attr Code) : Type 0 where
 
 abbrev pub HasBodyForm : Body-F Body Attr Code → Type 0
 HasBodyForm (Body-F.Code c) = HasCodeForm (out-Code c)
-HasBodyForm (Body-F.Notes notes) = All HasNoteForm notes
+HasBodyForm (Body-F.Notes notes) = Unit {0}
 HasBodyForm (Body-F.Source index) = Unit {0}
 HasBodyForm (Body-F.Value index) = Unit {0}
 HasBodyForm (Body-F.Raw bytes) = Unit {0}

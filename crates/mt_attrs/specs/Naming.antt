@@ -1,5 +1,5 @@
 -- What attributes need beside their form and room to have a spelling under a pool: their indices name what they may, their kinds stand in their places and at most once, a row covers an instruction, a code isn't empty, and their numbers are in the ranges of their fields.
-use Rattle.std.specs.Prelude.{◌≡◌, ℕ, zero, suc, ◌<◌, ◌^◌, Bool, true, List, length, All, Option, Some, None, Ok}
+use Rattle.std.specs.Prelude.{◌≡◌, ℕ, ◌<◌, ◌^◌, Bool, true, List, length, All, Option, Some, None, Ok}
 use Rattle.std.specs.List.{AllByRecursion}
 use Rattle.class_model.specs.declared.constant.Const.{Const}
 use Rattle.class_model.specs.declared.attribute.Row.{Row}
@@ -12,14 +12,11 @@ use Rattle.class_model.specs.declared.frame.Shape.{Shape}
 use Rattle.class_model.specs.declared.frame.Shape.TheVariants as shape
 use Rattle.class_model.specs.declared.frame.VItem.{VItem}
 use Rattle.class_model.specs.declared.frame.VItem.TheVariants as vitem
-use Rattle.class_model.specs.declared.annotation.Note.{Note}
-use Rattle.class_model.specs.declared.annotation.Elem.{Elem, out-Elem}
-use Rattle.class_model.specs.declared.annotation.Elem.TheOpen.{Elem-F}
 use Rattle.mt_insn.specs.Code.{NamesRight, code}
 use Rattle.mt_insn.specs.Named.{names, is_class}
 use Rattle.mt_attrs.specs.Item.{AllBy}
-use Rattle.mt_attrs.specs.Named.{is_text, is_value, is_constant, is_caught, names_type, names_result, IsIndex}
-use Rattle.mt_attrs.specs.Notes.{is_constant_tag, most_turns, IsPair}
+use Rattle.mt_attrs.specs.Named.{is_text, is_value, is_caught, IsIndex}
+use Rattle.mt_attrs.specs.Notes.{IsNote}
 use Rattle.mt_attrs.specs.Kinds.{known_of, is_free, all_unseen, table_of, is_table_free}
 use Rattle.mt_attrs.specs.CodeParts.{name_of, body_of, table_after}
 use Rattle.mt_attrs.specs.Attributes.{attr_after, attrs_bytes, AreAttrs}
@@ -52,29 +49,6 @@ IsNamedShape pool (shape.Full locals stack) = AllByRecursion (IsNamedVItem pool)
 abbrev pub IsNamedFrame : List Const → Frame → Type 0
 IsNamedFrame pool frame = IsNamedShape pool frame.shape
 
--- ---- annotations, which stand in one another 32 deep at most
-
-abbrev pub IsNamedNoteBy : List Const → (Elem → Type 0) → Note → Type 0
-IsNamedNoteBy pool P note = IsIndex (names_type pool) note.kind × AllByRecursion (IsPair pool P) note.pairs
-
-abbrev pub IsNamedElemBy : List Const → (Elem → Type 0) → (Note → Type 0) → Elem-F Elem Note → Type 0
-IsNamedElemBy pool P Q (Elem-F.Plain tag index) = (tag < 2 ^ 8) × (is_constant_tag tag ≡ true) × IsIndex (names (is_constant tag) pool) index
-IsNamedElemBy pool P Q (Elem-F.Enum kind name) = IsIndex (names_type pool) kind × IsIndex (names is_text pool) name
-IsNamedElemBy pool P Q (Elem-F.Class index) = IsIndex (names_result pool) index
-IsNamedElemBy pool P Q (Elem-F.Inner note) = Q note
-IsNamedElemBy pool P Q (Elem-F.Many elems) = AllByRecursion P elems
-
-abbrev pub IsNamedInner : List Const → (ℕ → Elem → Type 0) → ℕ → Note → Type 0
-IsNamedInner pool P zero note = ⊥
-IsNamedInner pool P (suc depth) note = IsNamedNoteBy pool (P depth) note
-
-unfoldable pub IsNamedElem : List Const → ℕ → ℕ → Elem → Type 0
-IsNamedElem pool zero depth e = ⊥
-IsNamedElem pool (suc turns) depth e = IsNamedElemBy pool (IsNamedElem pool turns depth) (IsNamedInner pool (IsNamedElem pool turns) depth) (out-Elem e)
-
-abbrev pub IsNamedNote : List Const → Note → Type 0
-IsNamedNote pool note = IsNamedNoteBy pool (IsNamedElem pool most_turns 31) note
-
 -- ---- attributes
 
 abbrev pub IsNamedTableBody : List Const → Option Table → Body-F Body Attr Code → Type 0
@@ -100,8 +74,8 @@ abbrev pub IsNamedBody : List Const → Option Known → Body-F Body Attr Code �
 IsNamedBody pool (Some known.Code) (Body-F.Code c) = AreNamedParts pool (out-Code c)
 IsNamedBody pool (Some known.Source) (Body-F.Source index) = IsIndex (names is_text pool) index
 IsNamedBody pool (Some known.Value) (Body-F.Value index) = IsIndex (names is_value pool) index
-IsNamedBody pool (Some known.Visible) (Body-F.Notes notes) = AllByRecursion (IsNamedNote pool) notes
-IsNamedBody pool (Some known.Invisible) (Body-F.Notes notes) = AllByRecursion (IsNamedNote pool) notes
+IsNamedBody pool (Some known.Visible) (Body-F.Notes notes) = AllByRecursion (IsNote pool) notes
+IsNamedBody pool (Some known.Invisible) (Body-F.Notes notes) = AllByRecursion (IsNote pool) notes
 IsNamedBody pool None (Body-F.Raw bytes) = Unit {0}
 IsNamedBody pool kind other = ⊥
 

@@ -19,12 +19,12 @@ use crate::kinds::{Known, Unseen, all_unseen, is_free, known_of, without};
 use crate::named::{read_text, read_value};
 use crate::notes::read_notes;
 use crate::owner::Owner;
-use class_model::{Attr, Body, ClassFault, Const, Note, Seq};
+use class_model::{Attr, Body, ClassFault, Judged, Note, Seq};
 use mt_bytes::Cursor;
 use std::alloc::Global;
 
 fn read_source(
-    pool: &Seq<Const>,
+    pool: &Judged,
     file_end: u64,
     first: u64,
     cur: &mut Cursor,
@@ -39,7 +39,7 @@ fn read_source(
 }
 
 fn read_constant_value(
-    pool: &Seq<Const>,
+    pool: &Judged,
     file_end: u64,
     first: u64,
     cur: &mut Cursor,
@@ -55,7 +55,7 @@ fn read_constant_value(
 
 fn read_annotations(
     alloc: Global,
-    pool: &Seq<Const>,
+    pool: &Judged,
     file_end: u64,
     first: u64,
     cur: &mut Cursor,
@@ -72,7 +72,7 @@ fn read_annotations(
 /// What stands behind the name of an attribute that begins at `first`.
 fn read_body(
     alloc: Global,
-    pool: &Seq<Const>,
+    pool: &Judged,
     file_end: u64,
     first: u64,
     known: Option<Known>,
@@ -106,7 +106,7 @@ fn read_body(
 
 /// The index of the name of an attribute.
 fn read_name(
-    pool: &Seq<Const>,
+    pool: &Judged,
     owner: Owner,
     unseen: Unseen,
     cur: &mut Cursor,
@@ -124,7 +124,7 @@ fn read_name(
 #[tactic(auto, unfolding(crate::specs::Attributes::attr_at))]
 fn read_attr(
     alloc: Global,
-    pool: &Seq<Const>,
+    pool: &Judged,
     owner: Owner,
     file_end: u64,
     unseen: Unseen,
@@ -145,7 +145,7 @@ fn read_attr(
     Ok(Attr { name, body })
 }
 
-fn attr_after(pool: &Seq<Const>, owner: Owner, unseen: Unseen, attr: &Attr) -> Unseen
+fn attr_after(pool: &Judged, owner: Owner, unseen: Unseen, attr: &Attr) -> Unseen
     ensures { result ≡ attr_after pool.now owner unseen attr.now }
 {
     without(unseen, known_of(pool, owner, attr.name))
@@ -153,7 +153,7 @@ fn attr_after(pool: &Seq<Const>, owner: Owner, unseen: Unseen, attr: &Attr) -> U
 
 fn read_counted_attrs(
     alloc: Global,
-    pool: &Seq<Const>,
+    pool: &Judged,
     owner: Owner,
     file_end: u64,
     count: u16,
@@ -174,7 +174,7 @@ fn read_counted_attrs(
 /// The attributes in a file that ends at `file_end`.
 fn read_all(
     alloc: Global,
-    pool: &Seq<Const>,
+    pool: &Judged,
     owner: Owner,
     file_end: u64,
     cur: &mut Cursor,
@@ -198,7 +198,7 @@ fn fault_of(fault: ItemFault) -> ClassFault
 /// The attributes in a file that ends where the cursor does.
 pub fn read_whole(
     alloc: Global,
-    pool: &Seq<Const>,
+    pool: &Judged,
     owner: Owner,
     cur: &mut Cursor,
 ) -> Result<Seq<Attr>, ClassFault>

@@ -17,7 +17,7 @@ use crate::kinds::{Table, is_table_free, table_of, without_table};
 use crate::lines::read_lines;
 use crate::named::read_text;
 use crate::rows::read_rows;
-use class_model::{Attr, Body, ClassFault, Code, Const, Frame, Insn, Seq};
+use class_model::{Attr, Body, ClassFault, Code, Frame, Insn, Judged, Seq};
 use mt_bytes::Cursor;
 use mt_insn::{places, read_insns};
 use std::alloc::Global;
@@ -43,7 +43,7 @@ fn read_line_table(
 
 fn read_stack_map(
     alloc: Global,
-    pool: &Seq<Const>,
+    pool: &Judged,
     starts: &[u32],
     file_end: u64,
     first: u64,
@@ -63,7 +63,7 @@ fn read_stack_map(
 /// What stands behind the name of an attribute that begins at `first`.
 fn read_table_body(
     alloc: Global,
-    pool: &Seq<Const>,
+    pool: &Judged,
     starts: &[u32],
     file_end: u64,
     first: u64,
@@ -91,7 +91,7 @@ fn read_table_body(
 }
 
 /// The index of the name of an attribute inside Code.
-fn read_table_name(pool: &Seq<Const>, unseen: bool, cur: &mut Cursor) -> Result<u16, ItemFault>
+fn read_table_name(pool: &Judged, unseen: bool, cur: &mut Cursor) -> Result<u16, ItemFault>
     ensures { ReadsPart (name_at pool.now (λ name. is_table_free unseen (table_of pool.now name))) cur.old cur.new result }
 {
     let first = cur.at();
@@ -106,7 +106,7 @@ fn read_table_name(pool: &Seq<Const>, unseen: bool, cur: &mut Cursor) -> Result<
 #[tactic(auto, unfolding(crate::specs::CodeParts::table_at))]
 fn read_table(
     alloc: Global,
-    pool: &Seq<Const>,
+    pool: &Judged,
     starts: &[u32],
     file_end: u64,
     unseen: bool,
@@ -130,7 +130,7 @@ fn read_table(
     Ok(Attr { name, body })
 }
 
-fn table_after(pool: &Seq<Const>, unseen: bool, attr: &Attr) -> bool
+fn table_after(pool: &Judged, unseen: bool, attr: &Attr) -> bool
     ensures { result ≡ table_after pool.now unseen attr.now }
 {
     without_table(unseen, table_of(pool, attr.name))
@@ -138,7 +138,7 @@ fn table_after(pool: &Seq<Const>, unseen: bool, attr: &Attr) -> bool
 
 fn read_counted_tables(
     alloc: Global,
-    pool: &Seq<Const>,
+    pool: &Judged,
     starts: &[u32],
     file_end: u64,
     count: u16,
@@ -160,7 +160,7 @@ fn read_counted_tables(
 
 fn read_tables(
     alloc: Global,
-    pool: &Seq<Const>,
+    pool: &Judged,
     starts: &[u32],
     file_end: u64,
     cur: &mut Cursor,
@@ -196,7 +196,7 @@ fn read_code_length(first: u64, cur: &mut Cursor) -> Result<u32, ItemFault>
 /// The instructions that are so many bytes.
 fn read_code_bytes(
     alloc: Global,
-    pool: &Seq<Const>,
+    pool: &Judged,
     len: u32,
     cur: &mut Cursor,
 ) -> Result<Seq<Insn>, ItemFault>
@@ -211,7 +211,7 @@ fn read_code_bytes(
 #[tactic(auto, unfolding(crate::specs::CodeParts::code_content_at))]
 fn read_code_content(
     alloc: Global,
-    pool: &Seq<Const>,
+    pool: &Judged,
     file_end: u64,
     first: u64,
     cur: &mut Cursor,
@@ -237,7 +237,7 @@ fn read_code_content(
 /// The content of a Code attribute that begins at `first`, behind its length.
 pub fn read_code(
     alloc: Global,
-    pool: &Seq<Const>,
+    pool: &Judged,
     file_end: u64,
     first: u64,
     cur: &mut Cursor,

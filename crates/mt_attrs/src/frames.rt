@@ -10,7 +10,7 @@ use crate::fault::ItemFault;
 use crate::item::{u1, u2};
 use crate::named::read_class;
 use crate::place::{behind_start, number_of, read_delta, read_place};
-use class_model::{ClassFault, Const, Frame, Seq, Shape, VItem};
+use class_model::{ClassFault, Frame, Judged, Seq, Shape, VItem};
 use mt_bytes::Cursor;
 use std::alloc::Global;
 
@@ -18,7 +18,7 @@ use std::alloc::Global;
 
 /// What stands behind a tag at a place, in a frame that begins at `first`.
 fn read_tagged(
-    pool: &Seq<Const>,
+    pool: &Judged,
     starts: &[u32],
     first: u64,
     at: u64,
@@ -49,7 +49,7 @@ fn read_tagged(
 
 #[tactic(auto, unfolding(crate::specs::Frames::vitem_at))]
 fn read_vitem(
-    pool: &Seq<Const>,
+    pool: &Judged,
     starts: &[u32],
     first: u64,
     cur: &mut Cursor,
@@ -64,7 +64,7 @@ fn read_vitem(
 
 fn read_vitems(
     alloc: Global,
-    pool: &Seq<Const>,
+    pool: &Judged,
     starts: &[u32],
     first: u64,
     count: u16,
@@ -83,7 +83,7 @@ fn read_vitems(
 
 fn read_counted_vitems(
     alloc: Global,
-    pool: &Seq<Const>,
+    pool: &Judged,
     starts: &[u32],
     first: u64,
     cur: &mut Cursor,
@@ -100,7 +100,7 @@ fn read_counted_vitems(
 #[tactic(auto, unfolding(crate::specs::Frames::full_at))]
 fn read_full(
     alloc: Global,
-    pool: &Seq<Const>,
+    pool: &Judged,
     starts: &[u32],
     first: u64,
     cur: &mut Cursor,
@@ -116,7 +116,7 @@ fn read_full(
 /// What stands behind the place of a frame of the types 247 to 255.
 fn read_shape(
     alloc: Global,
-    pool: &Seq<Const>,
+    pool: &Judged,
     starts: &[u32],
     first: u64,
     kind: u8,
@@ -144,7 +144,7 @@ fn read_shape(
 #[tactic(auto, unfolding(crate::specs::Frames::far_at))]
 fn read_far(
     alloc: Global,
-    pool: &Seq<Const>,
+    pool: &Judged,
     starts: &[u32],
     next: u32,
     first: u64,
@@ -184,7 +184,7 @@ fn same_frame(
 
 #[tactic(auto, unfolding(crate::specs::Frames::one_at))]
 fn read_one(
-    pool: &Seq<Const>,
+    pool: &Judged,
     starts: &[u32],
     next: u32,
     first: u64,
@@ -208,7 +208,7 @@ fn read_one(
 /// What stands behind the type of a frame that begins at `first`.
 fn read_kind(
     alloc: Global,
-    pool: &Seq<Const>,
+    pool: &Judged,
     starts: &[u32],
     next: u32,
     first: u64,
@@ -237,7 +237,7 @@ fn read_kind(
 #[tactic(auto, unfolding(crate::specs::Frames::frame_at))]
 fn read_frame(
     alloc: Global,
-    pool: &Seq<Const>,
+    pool: &Judged,
     starts: &[u32],
     next: u32,
     cur: &mut Cursor,
@@ -253,7 +253,7 @@ fn read_frame(
 
 fn read_counted_frames(
     alloc: Global,
-    pool: &Seq<Const>,
+    pool: &Judged,
     starts: &[u32],
     count: u16,
     cur: &mut Cursor,
@@ -275,7 +275,7 @@ fn read_counted_frames(
 /// The frames of a code.
 pub fn read_frames(
     alloc: Global,
-    pool: &Seq<Const>,
+    pool: &Judged,
     starts: &[u32],
     cur: &mut Cursor,
 ) -> Result<Seq<Frame>, ItemFault>

@@ -6,7 +6,7 @@ ghost use Rattle.mt_attrs.specs.Kinds.{known_of, is_free, without, all_unseen, t
 
 use crate::named::names_text;
 use crate::owner::Owner;
-use class_model::{Const, Seq};
+use class_model::Judged;
 
 /// A known attribute of a class, a field or a method.
 #[derive(Clone, Copy)]
@@ -73,7 +73,7 @@ fn own_kind(owner: Owner) -> Known
 }
 
 /// The index names the attribute that this owner alone may have.
-fn names_own(pool: &Seq<Const>, owner: Owner, name: u16) -> bool
+fn names_own(pool: &Judged, owner: Owner, name: u16) -> bool
     ensures { result ≡ names_text pool.now name (own_name owner) }
 {
     match owner {
@@ -84,7 +84,7 @@ fn names_own(pool: &Seq<Const>, owner: Owner, name: u16) -> bool
 }
 
 /// The known attribute of the name that an index names.
-pub fn known_of(pool: &Seq<Const>, owner: Owner, name: u16) -> Option<Known>
+pub fn known_of(pool: &Judged, owner: Owner, name: u16) -> Option<Known>
     ensures { result ≡ known_of pool.now owner name }
 {
     if names_own(pool, owner, name) {
@@ -145,7 +145,7 @@ pub fn without(unseen: Unseen, known: Option<Known>) -> Unseen
 }
 
 /// The known attribute of the name that an index names, inside Code.
-pub fn table_of(pool: &Seq<Const>, name: u16) -> Option<Table>
+pub fn table_of(pool: &Judged, name: u16) -> Option<Table>
     ensures { result ≡ table_of pool.now name }
 {
     if names_text(pool, name, &LINE_NUMBER_TABLE) {

@@ -19,13 +19,14 @@ ghost use Rattle.mt_attrs.specs.Attributes.{attrs_at, attrs_bytes, AreAttrs};
 ghost use Rattle.mt_attrs.specs.Naming.{WrittenIsSpelled};
 ghost use Rattle.mt_attrs.specs.Layout.{attrs_layout, HasAttrForm, SpelledIsWritten};
 
-use class_model::{Attr, Bytes, ClassFault, Const, LayoutFault, Seq};
+use class_model::{Attr, Bytes, ClassFault, Judged, LayoutFault, Seq};
 use mt_bytes::Cursor;
 use std::alloc::Global;
 
 mod attributes;
 mod code;
 mod content;
+mod due;
 mod fault;
 mod frames;
 mod item;
@@ -45,13 +46,12 @@ use attributes::read_whole;
 pub use owner::Owner;
 use write::write_all;
 
-/// The attributes of an owner, from their count on. The cursor has all that is left of the file. Memory is wanted too where more than 1,000 elements of annotations stand in one
-/// another, since each takes a part of the stack.
+/// The attributes of an owner, from their count on. The cursor has all that is left of the file.
 pub fn read_attrs(
     alloc: Global,
     cur: &mut Cursor,
     owner: Owner,
-    pool: &Seq<Const>,
+    pool: &Judged,
 ) -> Result<Seq<Attr>, ClassFault>
     // The bytes that were read spell what is answered.
     ensures found { IfOk result (λ attrs. AreAttrs pool.now owner attrs × (cur.old.bytes ≡ attrs_bytes attrs ++ cur.new.bytes) × (cur.new.at ≡ cur.old.at + length (attrs_bytes attrs))) }

@@ -2,10 +2,9 @@
 use Rattle.std.specs.Prelude.{ℕ, ◌+◌, Bool, true, false, ◌||◌, ◌==◌, Option, Some, None, Result, Ok, Err, List, sum_by, if◌then◌else◌}
 use Rattle.class_model.specs.Pool.{entry_of, pair_desc_of}
 use Rattle.class_model.specs.DescriptorReading.{method_kinds}
+use Rattle.class_model.specs.Judged.{words}
 use Rattle.class_model.specs.declared.constant.Const.{Const}
 use Rattle.class_model.specs.declared.constant.Const.TheVariants as const
-use Rattle.class_model.specs.declared.kind.Kind.{Kind}
-use Rattle.class_model.specs.declared.kind.Kind.TheVariants as kind
 use Rattle.class_model.specs.declared.kind.MethodType.{MethodType}
 use Rattle.class_model.specs.declared.fault.ClassFault.{ClassFault}
 use Rattle.class_model.specs.declared.fault.ClassFault.TheVariants as fault
@@ -73,9 +72,9 @@ long_refusal place other = fault.BadIndex place
 
 -- ---- the count of invokeinterface: the words of the arguments and of the receiver
 
-abbrev pub words : Kind → ℕ
-words kind.Long = 2
-words other = 1
+abbrev pub words_counted : ℕ → Result ℕ DescFault → Bool
+words_counted count (Ok words) = count == 1 + words
+words_counted count (Err e) = false
 
 abbrev pub counted : ℕ → Result MethodType DescFault → Bool
 counted count (Ok type) = count == 1 + sum_by words type.args

@@ -18,7 +18,7 @@ ghost use Rattle.class_model.specs.declared.instruction.Insn.{Insn};
 ghost use Rattle.codec_rules.specs.Meets.{Gives};
 ghost use Rattle.mt_insn.specs.Targets.{code_at};
 
-use class_model::{Bytes, ClassFault, Const, Insn, LayoutFault, Memory, Seq};
+use class_model::{Bytes, ClassFault, Insn, Judged, LayoutFault, Memory, Seq};
 use std::alloc::Global;
 
 mod cursor;
@@ -47,7 +47,7 @@ pub fn read_insns(
     alloc: Global,
     bytes: &[u8],
     base: u64,
-    pool: &Seq<Const>,
+    pool: &Judged,
 ) -> Result<Seq<Insn>, ClassFault>
     requires { base + length bytes.now < 2 ^ 64 }
 
@@ -60,7 +60,7 @@ pub fn read_insns(
     // Which fault it is.
     ensures exact { Gives fault.Memory (λ insns. insns) (code_at base pool.now bytes.now) result }
 {
-    read_code(alloc, bytes, base, pool.as_slice())
+    read_code(alloc, bytes, base, pool)
 }
 
 /// The place of each instruction in its code, counted from the code's first byte.

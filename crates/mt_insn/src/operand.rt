@@ -12,7 +12,7 @@ use crate::named::{
 };
 use crate::raw::Operand;
 use crate::words::is_counted;
-use class_model::{Arg, ClassFault, Const};
+use class_model::{Arg, ClassFault, Judged};
 use std::alloc::Global;
 
 #[tactic(auto, unfolding(crate::specs::Operands::small_number_at))]
@@ -33,7 +33,7 @@ pub fn read_number(at: u64, code: &mut CodeCursor) -> Result<Operand, ClassFault
 
 #[tactic(auto, unfolding(crate::specs::Operands::small_constant_at))]
 pub fn read_small_constant(
-    pool: &[Const],
+    pool: &Judged,
     at: u64,
     code: &mut CodeCursor,
 ) -> Result<Operand, ClassFault>
@@ -48,7 +48,7 @@ pub fn read_small_constant(
 }
 
 #[tactic(auto, unfolding(crate::specs::Operands::constant_at))]
-pub fn read_constant(pool: &[Const], at: u64, code: &mut CodeCursor) -> Result<Operand, ClassFault>
+pub fn read_constant(pool: &Judged, at: u64, code: &mut CodeCursor) -> Result<Operand, ClassFault>
     requires { at + 1 < 2 ^ 64 }
     ensures { ReadsCode (constant_at pool.now at) code.old code.new result }
 {
@@ -61,7 +61,7 @@ pub fn read_constant(pool: &[Const], at: u64, code: &mut CodeCursor) -> Result<O
 
 #[tactic(auto, unfolding(crate::specs::Operands::long_constant_at))]
 pub fn read_long_constant(
-    pool: &[Const],
+    pool: &Judged,
     at: u64,
     code: &mut CodeCursor,
 ) -> Result<Operand, ClassFault>
@@ -126,7 +126,7 @@ pub fn read_far_jump(at: u64, code: &mut CodeCursor) -> Result<Operand, ClassFau
 }
 
 #[tactic(auto, unfolding(crate::specs::Operands::named_at))]
-pub fn read_field(pool: &[Const], at: u64, code: &mut CodeCursor) -> Result<Operand, ClassFault>
+pub fn read_field(pool: &Judged, at: u64, code: &mut CodeCursor) -> Result<Operand, ClassFault>
     requires { at + 1 < 2 ^ 64 }
     ensures { ReadsCode (named_at is_field pool.now at) code.old code.new result }
 {
@@ -138,7 +138,7 @@ pub fn read_field(pool: &[Const], at: u64, code: &mut CodeCursor) -> Result<Oper
 }
 
 #[tactic(auto, unfolding(crate::specs::Operands::named_at))]
-pub fn read_method(pool: &[Const], at: u64, code: &mut CodeCursor) -> Result<Operand, ClassFault>
+pub fn read_method(pool: &Judged, at: u64, code: &mut CodeCursor) -> Result<Operand, ClassFault>
     requires { at + 1 < 2 ^ 64 }
     ensures { ReadsCode (named_at is_method pool.now at) code.old code.new result }
 {
@@ -151,7 +151,7 @@ pub fn read_method(pool: &[Const], at: u64, code: &mut CodeCursor) -> Result<Ope
 
 #[tactic(auto, unfolding(crate::specs::Operands::named_at))]
 pub fn read_any_method(
-    pool: &[Const],
+    pool: &Judged,
     at: u64,
     code: &mut CodeCursor,
 ) -> Result<Operand, ClassFault>
@@ -166,7 +166,7 @@ pub fn read_any_method(
 }
 
 #[tactic(auto, unfolding(crate::specs::Operands::named_at))]
-pub fn read_class(pool: &[Const], at: u64, code: &mut CodeCursor) -> Result<Operand, ClassFault>
+pub fn read_class(pool: &Judged, at: u64, code: &mut CodeCursor) -> Result<Operand, ClassFault>
     requires { at + 1 < 2 ^ 64 }
     ensures { ReadsCode (named_at is_class pool.now at) code.old code.new result }
 {
@@ -180,8 +180,7 @@ pub fn read_class(pool: &[Const], at: u64, code: &mut CodeCursor) -> Result<Oper
 /// `invokeinterface`. Its count is kept, since it is that of the method that the index names.
 #[tactic(auto, unfolding(crate::specs::Operands::interface_at))]
 pub fn read_interface(
-    alloc: Global,
-    pool: &[Const],
+    pool: &Judged,
     at: u64,
     code: &mut CodeCursor,
 ) -> Result<Operand, ClassFault>
@@ -194,7 +193,7 @@ pub fn read_interface(
     if !names_interface_method(pool, index) {
         return Err(ClassFault::BadIndex { at: at + 1 });
     }
-    if !is_counted(alloc, pool, index, count)? || last != 0 {
+    if !is_counted(pool, index, count) || last != 0 {
         return Err(ClassFault::BadLength { at });
     }
     Ok(Operand::Done(Arg::Multi(index, count)))
@@ -214,7 +213,7 @@ pub fn read_array(at: u64, code: &mut CodeCursor) -> Result<Operand, ClassFault>
 
 #[tactic(auto, unfolding(crate::specs::Operands::dimensions_at))]
 pub fn read_dimensions(
-    pool: &[Const],
+    pool: &Judged,
     at: u64,
     code: &mut CodeCursor,
 ) -> Result<Operand, ClassFault>

@@ -15,14 +15,14 @@ use crate::operand::{
 };
 use crate::raw::{Operand, RawInsn};
 use crate::switch::{read_lookup, read_table};
-use class_model::{Arg, ClassFault, Const};
+use class_model::{Arg, ClassFault, Judged};
 use std::alloc::Global;
 
 /// What stands behind an opcode of a form. `base` is the place in the file of the code's first byte, `at` that of the instruction's.
 fn read_operand(
     alloc: Global,
     base: u64,
-    pool: &[Const],
+    pool: &Judged,
     at: u64,
     form: Form,
     code: &mut CodeCursor,
@@ -49,7 +49,7 @@ fn read_operand(
         Form::Field => read_field(pool, at, code),
         Form::Method => read_method(pool, at, code),
         Form::AnyMethod => read_any_method(pool, at, code),
-        Form::Interface => read_interface(alloc, pool, at, code),
+        Form::Interface => read_interface(pool, at, code),
         Form::Dynamic => refuse(ClassFault::DynamicUsed { at }, 4, at, code),
         Form::Class => read_class(pool, at, code),
         Form::Array => read_array(at, code),
@@ -89,7 +89,7 @@ fn read_wide(at: u64, code: &mut CodeCursor) -> Result<RawInsn, ClassFault>
 fn read_formed(
     alloc: Global,
     base: u64,
-    pool: &[Const],
+    pool: &Judged,
     at: u64,
     op: u8,
     code: &mut CodeCursor,
@@ -116,7 +116,7 @@ fn read_formed(
 pub fn read_insn(
     alloc: Global,
     base: u64,
-    pool: &[Const],
+    pool: &Judged,
     code: &mut CodeCursor,
 ) -> Result<RawInsn, ClassFault>
     requires some { 0 < length code.old.bytes }

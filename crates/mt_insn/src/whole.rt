@@ -13,7 +13,7 @@ use crate::cursor::CodeCursor;
 use crate::raw::{Placed, RawInsn};
 use crate::read::read_insn;
 use crate::target::arg_of;
-use class_model::{ClassFault, Const, Insn, Memory, Seq};
+use class_model::{ClassFault, Insn, Judged, Memory, Seq};
 use std::alloc::Global;
 
 /// The instructions up to the last byte, with their places. `base` is the place in the file of the first byte.
@@ -21,7 +21,7 @@ fn read_placed(
     alloc: Global,
     bytes: &[u8],
     base: u64,
-    pool: &[Const],
+    pool: &Judged,
 ) -> Result<Seq<Placed>, ClassFault>
     requires { base + length bytes.now < 2 ^ 64 }
     ensures { Gives fault.Memory (λ x. x) (until_end (placed_at base pool.now) (input_at 0 bytes.now)) result }
@@ -74,7 +74,7 @@ pub fn read_code(
     alloc: Global,
     bytes: &[u8],
     base: u64,
-    pool: &[Const],
+    pool: &Judged,
 ) -> Result<Seq<Insn>, ClassFault>
     requires { base + length bytes.now < 2 ^ 64 }
     ensures { Gives fault.Memory (λ x. x) (code_at base pool.now bytes.now) result }

@@ -2,7 +2,7 @@
 
 ghost use Rattle.std.specs.Prelude.{◌<◌};
 
-use class_model::{Bytes, ClassFault, Const, Seq};
+use class_model::{Bytes, ClassFault, Const, Judged, Seq};
 use mt_attrs::{Owner, read_attrs, write_attrs};
 use mt_bytes::{Cursor, put_u4};
 use mt_pool::read_pool;
@@ -20,6 +20,7 @@ fn pool(alloc: Global) -> Result<Seq<Const>, ClassFault> {
 /// Whether an owner's attributes are written as they were read, and are copied.
 fn comes_back(alloc: Global, owner: Owner, bytes: &[u8]) -> Result<bool, Fail> {
     let pool = pool(alloc)?;
+    let pool = Judged::new(alloc, pool.as_slice())?;
     let mut cur = Cursor::new(bytes, 0);
     let attrs = read_attrs(alloc, &mut cur, owner, &pool)?;
     let mut out: Bytes = Seq::new(alloc);
@@ -94,6 +95,7 @@ fn faults_of_lengths_and_names(rt: HostRuntime) -> Result<(), Fail> {
         (&[0, 1, 0, 9, 0, 0, 0, 0], ClassFault::BadIndex { at: 102 }),
     ];
     let pool = pool(rt.alloc())?;
+    let pool = Judged::new(rt.alloc(), pool.as_slice())?;
     for (bytes, fault) in all {
         assert!(rt; bytes.len() < 100, "{bytes:?}");
         let mut cur = Cursor::new(bytes, 100);
@@ -103,9 +105,9 @@ fn faults_of_lengths_and_names(rt: HostRuntime) -> Result<(), Fail> {
     Ok(())
 }
 
-/// What is told of an annotation with so many arrays in each other.
-fn told_of_arrays(alloc: Global, count: u32) -> Result<Option<ClassFault>, Fail>
-    requires { count < 10000 }
+/// The attributes of a class with one annotation, in which so many arrays stand in one another.
+fn with_arrays(alloc: Global, count: u32) -> Result<Bytes, Fail>
+    requires { count < 2000000 }
 {
     let mut bytes: Bytes = Seq::new(alloc);
     // one RuntimeVisibleAnnotations, whose content has 11 bytes beside those of the arrays
@@ -116,15 +118,15 @@ fn told_of_arrays(alloc: Global, count: u32) -> Result<Option<ClassFault>, Fail>
         bytes.extend_from_slice(&[91, 0, 1])?;
     }
     bytes.extend_from_slice(&[115, 0, 7])?;
-    let pool = pool(alloc)?;
-    let mut cur = Cursor::new(bytes.as_slice(), 0);
-    Ok(read_attrs(alloc, &mut cur, Owner::OfClass, &pool).err())
+    Ok(bytes)
 }
 
-// No clause says how deep the stack is.
+// No clause says that it takes no stack.
 #[test]
 fn arrays_in_each_other(rt: HostRuntime) -> Result<(), Fail> {
-    assert!(rt; told_of_arrays(rt.alloc(), 900)?.is_none());
-    assert!(rt; told_of_arrays(rt.alloc(), 2000)? == Some(ClassFault::Memory));
+    for count in [900, 2000, 1000000] {
+        let bytes = with_arrays(rt.alloc(), count)?;
+        assert!(rt; comes_back(rt.alloc(), Owner::OfClass, bytes.as_slice())?, "{count}");
+    }
     Ok(())
 }

@@ -2,7 +2,7 @@
 
 ghost use Rattle.std.specs.Prelude.{◌<◌, ◌^◌, length};
 
-use class_model::{Bytes, ClassFault, Const, Seq};
+use class_model::{Bytes, ClassFault, Const, Judged, Seq};
 use mt_bytes::Cursor;
 use mt_insn::{places, read_insns, write_insns};
 use mt_pool::read_pool;
@@ -24,6 +24,7 @@ fn comes_back(alloc: Global, bytes: &[u8], starts: &[u32]) -> Result<bool, Fail>
     requires { length bytes.now < 2 ^ 16 }
 {
     let pool = pool(alloc)?;
+    let pool = Judged::new(alloc, pool.as_slice())?;
     let insns = read_insns(alloc, bytes, 0, &pool)?;
     let found = places(alloc, &insns)?;
     let mut out: Bytes = Seq::new(alloc);
@@ -143,6 +144,7 @@ fn the_first_fault_is_told(rt: HostRuntime) -> Result<(), Fail> {
         (&[0xb9, 0, 2, 3, 1], Some(ClassFault::BadIndex { at: 1001 })),
     ];
     let pool = pool(rt.alloc())?;
+    let pool = Judged::new(rt.alloc(), pool.as_slice())?;
     for (bytes, fault) in codes {
         assert!(rt; bytes.len() < 100, "{bytes:?}");
         assert!(rt;

@@ -11,7 +11,7 @@ returns-in_err-note c =
     rw (p.1, p.2) (ends want_of_memory c.in_err-note.field-0.0 (note_at c.args.pool.now) c.loop.notes c.args.count c.loop.counter c.loop.cur (many_at (note_at c.args.pool.now) c.args.count c.args.cur.now) c.loop-test.true c.in_err-note.ensures c.loop.invariant)
 
 pub loop-preserved : goal.loop-preserved
-loop-preserved c = rw c.in_ok-push.ensures.ok (goes_on (note_at c.args.pool.now) c.loop.notes c.args.count c.loop.counter c.loop.cur c.in_ok-note.note c.read_outer.new.cur (many_at (note_at c.args.pool.now) c.args.count c.args.cur.now) c.loop-test.true c.in_ok-note.ensures c.loop.invariant)
+loop-preserved c = rw c.in_ok-push.ensures.ok (goes_on (note_at c.args.pool.now) c.loop.notes c.args.count c.loop.counter c.loop.cur c.in_ok-note.note c.read_note.new.cur (many_at (note_at c.args.pool.now) c.args.count c.args.cur.now) c.loop-test.true c.in_ok-note.ensures c.loop.invariant)
 
 pub returns : goal.returns
 returns c = is_done (note_at c.args.pool.now) c.loop.notes c.args.count c.loop.counter c.loop.cur (many_at (note_at c.args.pool.now) c.args.count c.args.cur.now) c.loop-test.false c.loop.invariant

@@ -1,0 +1,84 @@
+#!/usr/bin/env python3
+"""Writes class files of up to 4 MiB that are hostile to a reader, below the folder that is named: one kind each, at the largest size that the format lets stand."""
+import os, struct, sys
+out = sys.argv[1] if len(sys.argv) > 1 else '.'
+u1, u2, u4 = (lambda n: struct.pack('>B', n)), (lambda n: struct.pack('>H', n)), (lambda n: struct.pack('>I', n))
+
+
+class Pool:
+    def __init__(self): self.bytes, self.count, self.known = [], 0, {}
+
+    def add(self, data, key=None):
+        if key in self.known: return self.known[key]
+        self.bytes.append(data); self.count += 1
+        if key is not None: self.known[key] = self.count
+        return self.count
+
+    def text(self, s):
+        s = s.encode() if isinstance(s, str) else s
+        return self.add(u1(1) + u2(len(s)) + s, ('text', s))
+
+    def name(self, s): return self.add(u1(7) + u2(self.text(s)), ('class', s))
+
+    def pair(self, n, d): return self.add(u1(12) + u2(self.text(n)) + u2(self.text(d)), ('pair', n, d))
+
+
+def attr(p, name, content): return u2(p.text(name)) + u4(len(content)) + content
+
+
+def member(p, name, desc, flags, attrs=()): return u2(flags) + u2(p.text(name)) + u2(p.text(desc)) + u2(len(attrs)) + b''.join(attrs)
+
+
+def code(p, ops, stack=2, attrs=()): return attr(p, 'Code', u2(stack) + u2(2) + u4(len(ops)) + ops + u2(0) + u2(len(attrs)) + b''.join(attrs))
+
+
+def klass(p, name='A', flags=0x421, interfaces=(), fields=(), methods=(), attrs=()):
+    body = u2(flags) + u2(p.name(name)) + u2(p.name('java/lang/Object')) + u2(len(interfaces)) + b''.join(map(u2, interfaces))
+    for items in (fields, methods, attrs): body += u2(len(items)) + b''.join(items)
+    return b'\xca\xfe\xba\xbe' + u2(0) + u2(52) + u2(p.count + 1) + b''.join(p.bytes) + body
+
+
+def put(name, data):
+    os.makedirs(os.path.join(out, name), exist_ok=True)
+    open(os.path.join(out, name, 'A.class'), 'wb').write(data)
+
+
+def noted(p, notes): return attr(p, 'RuntimeVisibleAnnotations', notes)
+
+
+LONG = 'L' + 'x' * 65533 + ';'
+
+# 1,300,000 arrays of an annotation in one another
+p = Pool(); front = u2(1) + u2(p.text('LA;')) + u2(1) + u2(p.text('v'))
+put('arrays', klass(p, attrs=[noted(p, front + b'[\x00\x01' * 1300000 + b'[\x00\x00')]))
+
+# 65,535 arrays beside one another at each of 20 levels of annotations
+p = Pool(); kind, v = p.text('LA;'), p.text('v'); note = u2(kind) + u2(1) + u2(v) + b'[' + u2(65535) + b'[\x00\x00' * 65534
+put('wide-arrays', klass(p, attrs=[noted(p, u2(1) + note + (b'@' + note) * 19 + b'[\x00\x00')]))
+
+# 1,000,000 annotations of one long type
+p = Pool(); kind = p.text(LONG)
+put('types', klass(p, methods=[member(p, f'm{i}', '()V', 0x401, [noted(p, u2(64000) + (u2(kind) + u2(0)) * 64000)]) for i in range(16)]))
+
+# 65,000 pairs of one long descriptor, and as many method entries of one of them
+p = Pool(); n, d, c = p.text('f'), p.text('(' + LONG[:65500] + ';)V'), p.name('A')
+for _ in range(32000): pair = p.add(u1(12) + u2(n) + u2(d))
+for _ in range(32000): p.add(u1(10) + u2(c) + u2(pair))
+put('pairs', klass(p))
+
+# 65,535 fields and as many methods of one long name and one long descriptor
+p = Pool(); long_name, desc = 'n' * 65535, LONG
+fields = [member(p, long_name, desc, 9)] * 65535
+p.text('(' + 'I' * 65530 + ')V'); methods = [member(p, long_name, '(' + 'I' * 65530 + ')V', 0x401)] * 65535
+put('members', klass(p, fields=fields, methods=methods))
+
+# 800,000 interface calls of one long descriptor, whose count is wrong in the last
+p = Pool(); c = p.name('A'); pair = p.pair('m', '(' + LONG[:65000] + ';)V'); call = p.add(u1(11) + u2(c) + u2(pair))
+ops = (b'\xb9' + u2(call) + b'\x02\x00') * 13000 + b'\xb1'
+body = code(p, ops)
+put('calls', klass(p, methods=[member(p, f'm{i}', '()V', 9, [body]) for i in range(60)]))
+
+# 65,000 class entries of one text
+p = Pool(); big = p.text('[' * 60000 + 'I')
+for _ in range(65000): p.add(u1(7) + u2(big))
+put('entries', klass(p))

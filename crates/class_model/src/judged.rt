@@ -1,0 +1,153 @@
+//! A constant pool whose texts are judged once each, however many indices use them.
+
+ghost use Rattle.std.specs.Prelude.{◌≡◌, ◌+◌, ◌*◌, ◌≤◌, [], length, sum_by, IfOk, MatchOption, None, Some};
+ghost use Rattle.class_model.specs.DescriptorReading.{field_kind, method_kinds};
+ghost use Rattle.class_model.specs.Judged.{outcome, words, arg_words, verdict_of, units_in, verdicts_of};
+ghost use Rattle.class_model.specs.Pool.{text_of};
+
+use crate::constant::Const;
+use crate::declared_name::{is_field_name, is_method_name};
+use crate::descriptor::{parse_field, parse_method};
+use crate::fault::DescFault;
+use crate::kind::Kind;
+use crate::list::{Name, Seq};
+use crate::memory::Memory;
+use std::alloc::Global;
+use std::marker::Model;
+
+/// What a text is, as a descriptor and as a declared name.
+#[derive(Clone, Copy)]
+pub struct Verdict {
+    /// Whether it is a field's descriptor, or why not.
+    pub field: Result<(), DescFault>,
+    /// The words of the arguments, if it is a method's descriptor, or why it isn't.
+    pub method: Result<u128, DescFault>,
+    /// It may be the name of a field.
+    pub names_field: bool,
+    /// It may be the name of a method.
+    pub names_method: bool,
+}
+
+/// A constant pool with a verdict on each of its texts. Contracts see the entries.
+#[derive(Drop)]
+pub struct Judged<'a> {
+    pool: &'a [Const],
+    verdicts: Vec<Verdict>,
+}
+
+impl<'a> Model for Judged<'a> {
+    ghost use Rattle.std.specs.Prelude.{List, ◌≡◌};
+    ghost use Rattle.class_model.specs.declared.constant.Const.{Const};
+    ghost use Rattle.class_model.specs.Judged.{verdicts_of};
+
+    ghost Value = { List Const };
+
+    ghost view = { λ j. j.pool.now };
+
+    ghost invariant = { λ j. j.verdicts.items ≡ verdicts_of j.pool.now };
+}
+
+// A long takes two words.
+fn words(kind: &Kind) -> u128
+    ensures value { result ≡ words kind.now }
+    ensures few { result ≤ 2 }
+{
+    match kind {
+        Kind::Long => 2,
+        _ => 1,
+    }
+}
+
+fn words_of(args: &[Kind]) -> u128
+    ensures { result ≡ sum_by words args.now }
+{
+    let mut sum: u128 = 0;
+    for kind in args {
+        sum += words(kind);
+    }
+    sum
+}
+
+fn judge_field(alloc: Global, text: &Name) -> Result<Result<(), DescFault>, Memory>
+    ensures { IfOk result (λ v. v ≡ outcome (field_kind text.now)) }
+{
+    match parse_field(alloc, text) {
+        Ok(_) => Ok(Ok(())),
+        Err(DescFault::Memory) => Err(Memory),
+        Err(fault) => Ok(Err(fault)),
+    }
+}
+
+fn judge_method(alloc: Global, text: &Name) -> Result<Result<u128, DescFault>, Memory>
+    ensures { IfOk result (λ v. v ≡ arg_words (method_kinds text.now)) }
+{
+    match parse_method(alloc, text) {
+        Ok(types) => Ok(Ok(words_of(types.args.as_slice()))),
+        Err(DescFault::Memory) => Err(Memory),
+        Err(fault) => Ok(Err(fault)),
+    }
+}
+
+fn judge(alloc: Global, text: &Name) -> Result<Verdict, Memory>
+    ensures { IfOk result (λ v. v ≡ verdict_of text.now) }
+{
+    Ok(Verdict {
+        field: judge_field(alloc, text)?,
+        method: judge_method(alloc, text)?,
+        names_field: is_field_name(text.as_slice()),
+        names_method: is_method_name(text.as_slice()),
+    })
+}
+
+// An entry that is no text has the verdict on the empty text, which nothing asks for.
+fn judge_entry(alloc: Global, none: &Name, entry: &Const) -> Result<Verdict, Memory>
+    requires { none.now ≡ [] }
+    ensures { IfOk result (λ v. v ≡ verdict_of (units_in entry.now)) }
+{
+    match entry {
+        Const::Utf8(text) => judge(alloc, text),
+        _ => judge(alloc, none),
+    }
+}
+
+fn judge_all(alloc: Global, pool: &[Const]) -> Result<Vec<Verdict>, Memory>
+    ensures { IfOk result (λ vs. vs.items ≡ verdicts_of pool.now) }
+{
+    let none = Seq::new(alloc);
+    let mut verdicts = Vec::with_capacity(alloc, pool.len())?;
+    for entry in pool {
+        verdicts.push(judge_entry(alloc, &none, entry)?)?;
+    }
+    Ok(verdicts)
+}
+
+impl<'a> Judged<'a> {
+    /// Judges each text of a pool, which takes about as much work as the texts are long.
+    pub fn new(alloc: Global, pool: &'a [Const]) -> Result<Judged<'a>, Memory>
+        ensures { IfOk result (λ j. j ≡ pool.entry.now) }
+    {
+        let verdicts = judge_all(alloc, pool)?;
+        Ok(Judged { pool, verdicts })
+    }
+
+    /// The entries of the pool.
+    pub fn entries(&self) -> &[Const]
+        ensures { result.now ≡ self.now }
+    {
+        self.pool
+    }
+
+    /// The text that an index names, and the verdict on it.
+    pub fn text(&self, index: u16) -> Option<(&Name, Verdict)>
+        ensures { MatchOption result (text_of self.now index ≡ None) (λ x. (text_of self.now index ≡ Some x.0.now) × (x.1 ≡ verdict_of x.0.now)) }
+    {
+        if index == 0 {
+            return None;
+        }
+        let place = usize::from(index) - 1;
+        match self.pool.get(place) {
+            Some(Const::Utf8(text)) => Some((text, self.verdicts[place])),
+            _ => None,
+        }
+    }
+}
