@@ -3,7 +3,7 @@
 -- which is visible when the program runs and the other one (JVMS 4.7.16, 4.7.17).
 use Rattle.std.specs.Prelude.{Bool, not, ◌&&◌, ◌||◌, List, [], ◌∷◌, codes}
 use Rattle.std.specs.List.{list_any}
-use Rattle.class_model.specs.declared.annotation.Note.{Note, out-Note}
+use Rattle.class_model.specs.declared.annotation.Note.{Note}
 use Rattle.class_model.specs.declared.attribute.Attr.{Attr}
 use Rattle.class_model.specs.declared.constant.Const.{Const}
 use Rattle.program_rules.specs.Names.{Name}
@@ -58,7 +58,7 @@ runner_types =
 
 -- An annotation is of one of these types.
 abbrev pub is_one_of : List Const → List Name → Note → Bool
-is_one_of pool types note = list_any (names_text pool (out-Note note).kind) types
+is_one_of pool types note = list_any (names_text pool note.kind) types
 
 -- An attribute has an annotation of one of these types.
 abbrev pub has_one_of : List Const → List Name → Attr → Bool

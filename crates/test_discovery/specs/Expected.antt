@@ -3,9 +3,10 @@
 use Rattle.std.specs.Prelude.{ℕ, nat_eq, List, [], ◌∷◌, codes, Option, Some, None, if◌then◌else◌}
 use Rattle.std.specs.List.{flat_map}
 use Rattle.class_model.specs.Pool.{text_of}
-use Rattle.class_model.specs.declared.annotation.Note.{Note, out-Note}
-use Rattle.class_model.specs.declared.annotation.Elem.{Elem, out-Elem}
-use Rattle.class_model.specs.declared.annotation.Elem.TheOpen.{Elem-F}
+use Rattle.class_model.specs.OwnElements.{own_elements}
+use Rattle.class_model.specs.declared.annotation.Note.{Note}
+use Rattle.class_model.specs.declared.annotation.Token.{Token}
+use Rattle.class_model.specs.declared.annotation.Token.TheVariants as token
 use Rattle.class_model.specs.declared.attribute.Attr.{Attr}
 use Rattle.class_model.specs.declared.constant.Const.{Const}
 use Rattle.program_rules.specs.Names.{Name, without_last}
@@ -23,27 +24,25 @@ abbrev pub class_in : Option Name → Expected
 class_in None = NoClass
 class_in (Some desc) = class_named_in desc
 
-abbrev pub said_by_form : List Const → Elem-F Elem Note → Expected
-said_by_form pool (Elem-F.Class desc) = class_in (text_of pool desc)
-said_by_form pool other = NoClass
-
--- What an element's value says as a class.
-abbrev pub said_by : List Const → Elem → Expected
-said_by pool value = said_by_form pool (out-Elem value)
+-- What the front of an element's value says as a class.
+abbrev pub said_by : List Const → Token → Expected
+said_by pool (token.Class desc) = class_in (text_of pool desc)
+said_by pool other = NoClass
 
 -- What an element says of `expected`, by its name and its value.
-abbrev pub said_by_pair : List Const → ℕ × Elem → List Expected
+abbrev pub said_by_pair : List Const → ℕ × Token → List Expected
 said_by_pair pool pair =
     if names_text pool pair.0 (codes "expected") then said_by pool pair.1 ∷ [] else []
 
 -- What the own elements of an annotation say of `expected`, in file order.
 abbrev pub said_in : List Const → Note → List Expected
-said_in pool note = flat_map (said_by_pair pool) (out-Note note).pairs
+said_in pool note =
+    flat_map (said_by_pair pool) (own_elements None 0 note.tokens)
 
 -- What an annotation says of `expected`, where it is of this type.
 abbrev pub said_of : List Const → Name → Note → List Expected
 said_of pool type note =
-    if names_text pool (out-Note note).kind type then said_in pool note else []
+    if names_text pool note.kind type then said_in pool note else []
 
 abbrev pub said_among : List Const → Name → List Note → List Expected
 said_among pool type notes = flat_map (said_of pool type) notes

@@ -10,7 +10,7 @@ ghost use Rattle.test_discovery.specs.Expected.{said_of, said_among, said_at, fi
 ghost use Rattle.test_discovery.specs.Expected.{first_expected, expected_class};
 
 use crate::annotations::names_text;
-use class_model::{Attr, Body, Const, Elem, Memory, Name, Note, Seq};
+use class_model::{Attr, Body, Const, Memory, Name, Note, Seq, Token};
 use mt_pool::text_of;
 use std::alloc::Global;
 
@@ -53,11 +53,11 @@ fn class_in(alloc: Global, pool: &[Const], index: u16) -> Result<Expected, Memor
     }
 }
 
-fn said_by(alloc: Global, pool: &[Const], value: &Elem) -> Result<Expected, Memory>
-    ensures { IfOk result (λ said. said ≡ said_by pool.now value.now) }
+fn said_by(alloc: Global, pool: &[Const], value: Token) -> Result<Expected, Memory>
+    ensures { IfOk result (λ said. said ≡ said_by pool.now value) }
 {
     match value {
-        Elem::Class(desc) => class_in(alloc, pool, *desc),
+        Token::Class(desc) => class_in(alloc, pool, desc),
         _ => Ok(Expected::NoClass),
     }
 }
@@ -66,12 +66,12 @@ fn push_said_by_pair(
     alloc: Global,
     said: &mut Seq<Expected>,
     pool: &[Const],
-    pair: &(u16, Elem),
+    pair: (u16, Token),
 ) -> Result<(), Memory>
-    ensures { OnOk result (said.new ≡ said.old ++ said_by_pair pool.now pair.now) }
+    ensures { OnOk result (said.new ≡ said.old ++ said_by_pair pool.now pair) }
 {
     if names_text(pool, pair.0, "expected") {
-        said.push(said_by(alloc, pool, &pair.1)?)?;
+        said.push(said_by(alloc, pool, pair.1)?)?;
     }
     Ok(())
 }
@@ -81,12 +81,12 @@ fn push_said_in(
     alloc: Global,
     said: &mut Seq<Expected>,
     pool: &[Const],
-    pairs: &[(u16, Elem)],
+    pairs: &[(u16, Token)],
 ) -> Result<(), Memory>
     ensures { OnOk result (said.new ≡ said.old ++ flat_map (said_by_pair pool.now) pairs.now) }
 {
     for pair in pairs {
-        push_said_by_pair(alloc, said, pool, pair)?;
+        push_said_by_pair(alloc, said, pool, *pair)?;
     }
     Ok(())
 }
@@ -100,7 +100,7 @@ fn push_said_of(
     ensures { OnOk result (said.new ≡ said.old ++ said_of pool.now test_type note.now) }
 {
     if names_text(pool, note.kind, "Lorg/junit/Test;") {
-        push_said_in(alloc, said, pool, note.pairs.as_slice())?;
+        push_said_in(alloc, said, pool, note.own_elements()?.as_slice())?;
     }
     Ok(())
 }
