@@ -4,7 +4,7 @@ use Rattle.std.specs.Prelude.{if◌then◌else◌}
 use Rattle.std.specs.List.{flat_map}
 use Rattle.class_model.specs.declared.class.Class.{Class}
 use Rattle.class_table.specs.declared.scripted.Test.{Test}
-use Rattle.class_table.specs.Info.{own_name}
+use Rattle.class_link.specs.Info.{own_name}
 use Rattle.test_discovery.specs.declared.fault.TestFault.{TestFault}
 use Rattle.test_discovery.specs.declared.listed.Listed.{Listed}
 use Rattle.test_discovery.specs.declared.marks.Part.TheVariants.{After, AfterAll}

@@ -9,7 +9,7 @@ use Rattle.class_model.specs.declared.class.Class.{Class}
 use Rattle.class_model.specs.declared.class.ClassId.{ClassId}
 use Rattle.program_rules.specs.Names.{Name}
 use Rattle.class_table.specs.declared.scripted.Test.{Test}
-use Rattle.class_table.specs.Info.{Info}
+use Rattle.class_link.specs.Info.{Info}
 use Rattle.test_discovery.specs.declared.fault.TestFault.{TestFault}
 use Rattle.test_discovery.specs.declared.fault.TestFault.TheVariants.{Memory}
 use Rattle.test_discovery.specs.Listed.{Files, files_of, rising}

@@ -7,8 +7,8 @@ use Rattle.class_model.specs.declared.class.Class.{Class}
 use Rattle.class_model.specs.declared.class.Member.{Member}
 use Rattle.class_model.specs.declared.constant.Const.{Const}
 use Rattle.program_rules.specs.Names.{Name, same}
-use Rattle.class_table.specs.Symbols.{name_or_empty}
-use Rattle.class_table.specs.Info.{Info, own_name, file_in}
+use Rattle.class_link.specs.Symbols.{name_or_empty}
+use Rattle.class_link.specs.Info.{Info, own_name, file_in}
 use Rattle.class_table.specs.Table.{number_of}
 use Rattle.test_discovery.specs.declared.listed.Listed.{Listed}
 use Rattle.test_discovery.specs.declared.marks.Marks.{Marks}

@@ -6,7 +6,7 @@ use Rattle.class_model.specs.declared.class.Member.{Member}
 use Rattle.class_model.specs.declared.constant.Const.{Const}
 use Rattle.program_rules.specs.Names.{Name, same, plain_descriptor}
 use Rattle.program_rules.specs.Linked.{is_static, is_private, is_abstract, is_interface}
-use Rattle.class_table.specs.Info.{own_name}
+use Rattle.class_link.specs.Info.{own_name}
 use Rattle.test_discovery.specs.Tests.{is_plain_constructor}
 use Rattle.test_discovery.specs.declared.expected.Expected.{Expected}
 use Rattle.test_discovery.specs.declared.expected.Expected.TheVariants.{NoClass, Named}

@@ -7,7 +7,7 @@ use Rattle.program_rules.specs.declared.call_kind.CallKind.TheVariants.{ClassWid
 use Rattle.program_rules.specs.Names.{Name, same, instance_initializer}
 use Rattle.class_table.specs.declared.scripted.Call.{Call}
 use Rattle.class_table.specs.declared.scripted.Test.{Test}
-use Rattle.class_table.specs.Info.{own_name}
+use Rattle.class_link.specs.Info.{own_name}
 use Rattle.test_discovery.specs.declared.listed.Listed.{Listed}
 use Rattle.test_discovery.specs.declared.marks.Marks.{Marks}
 use Rattle.test_discovery.specs.declared.marks.Part.{Part}

@@ -6,7 +6,7 @@ use Rattle.class_model.specs.declared.class.Class.{Class}
 use Rattle.class_model.specs.declared.constant.Const.{Const}
 use Rattle.program_rules.specs.Names.{Name}
 use Rattle.class_table.specs.declared.scripted.Test.{Test}
-use Rattle.class_table.specs.Info.{Info, own_name}
+use Rattle.class_link.specs.Info.{Info, own_name}
 use Rattle.test_discovery.specs.declared.fault.TestFault.{TestFault}
 use Rattle.test_discovery.specs.declared.listed.Listed.{Listed}
 use Rattle.test_discovery.specs.declared.script.Fixture.{Fixture}

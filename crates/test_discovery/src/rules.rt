@@ -2,7 +2,7 @@
 
 ghost use Rattle.std.specs.Prelude.{◌≡◌, IfOk};
 ghost use Rattle.std.specs.List.{list_any};
-ghost use Rattle.class_table.specs.Info.{own_name};
+ghost use Rattle.class_link.specs.Info.{own_name};
 ghost use Rattle.test_discovery.specs.Rules.{is_special, is_no_class, makes_instance};
 ghost use Rattle.test_discovery.specs.Rules.{makes_instances, is_wrongly_static, breaks, rules};
 ghost use Rattle.test_discovery.specs.Rules.{first_broken, has_runner, uses_runner, may_test};
