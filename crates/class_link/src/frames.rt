@@ -123,11 +123,7 @@ fn add_frames(
 }
 
 /// The frames that a code's attributes state.
-pub fn link_frames(
-    alloc: Global,
-    texts: &Texts,
-    attrs: &[Attr],
-) -> Result<Seq<StatedFrame>, Memory>
+pub fn link_frames(alloc: Global, texts: &Texts, attrs: &[Attr]) -> Result<Seq<StatedFrame>, Memory>
     ensures { IfOk result (λ fs. map frame_of fs ≡ frames_in texts.now attrs.now) }
 {
     let mut out = Vec::new(alloc);

@@ -26,5 +26,5 @@ pub use linked::{
     LinkedMethod, LinkedRow, MethodRef, Native, Switch,
 };
 pub use loaded::{ClassBody, LibBody, LibClass, LibField, LibMethod, Loaded};
-pub use shared::Shared;
 pub use program_rules::{CallKind, Comparison, Conversion, Element, Operation, ShiftKind};
+pub use shared::Shared;

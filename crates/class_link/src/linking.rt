@@ -170,11 +170,7 @@ fn link_methods(
     Ok(Seq::from_vec(linked))
 }
 
-fn class_names(
-    alloc: Global,
-    texts: &Texts,
-    indices: &[u16],
-) -> Result<Seq<Shared<Name>>, Memory>
+fn class_names(alloc: Global, texts: &Texts, indices: &[u16]) -> Result<Seq<Shared<Name>>, Memory>
     ensures { IfOk result (λ ns. ns ≡ map (class_named texts.now) indices.now) }
 {
     let mut names = Vec::with_capacity(alloc, indices.len())?;
@@ -192,12 +188,7 @@ pub fn link(alloc: Global, class: &Class) -> Result<LinkedClass, Memory>
     let pool = class.pool.as_slice();
     let texts = Texts::new(alloc, pool)?;
     let entries = entries(alloc, &texts, pool)?;
-    let methods = link_methods(
-        alloc,
-        entries.as_slice(),
-        &texts,
-        class.methods.as_slice(),
-    )?;
+    let methods = link_methods(alloc, entries.as_slice(), &texts, class.methods.as_slice())?;
     Ok(LinkedClass {
         library: false,
         flags: class.flags,
@@ -280,10 +271,7 @@ fn library_fields(alloc: Global, fields: &[LibField]) -> Result<Seq<LinkedField>
     Ok(Seq::from_vec(linked))
 }
 
-fn share_parent(
-    alloc: Global,
-    parent: &Option<Name>,
-) -> Result<Option<Shared<Name>>, Memory>
+fn share_parent(alloc: Global, parent: &Option<Name>) -> Result<Option<Shared<Name>>, Memory>
     ensures { IfOk result (λ p. p ≡ parent.now) }
 {
     match parent {

@@ -36,13 +36,13 @@ module _ {S : Type 0} (old new : HashMap Name ℕ S) (text : Name) (are : AreWor
   one_added n k w en ek =
       elim (old_or_new n w en) [
         | inl h ↦ elim (old_or_new k w ek) [
-            | inl g ↦ sym h.0 ∙ g.0
-            | inr g ↦ (let lt = are.below k w g in absurd (omega (arith, lt, h.1)))
-          ]
+          | inl g ↦ sym h.0 ∙ g.0
+          | inr g ↦ (let lt = are.below k w g in absurd (omega (arith, lt, h.1)))
+        ]
         | inr h ↦ elim (old_or_new k w ek) [
-            | inl g ↦ (let lt = are.below n w h in absurd (omega (arith, lt, g.1)))
-            | inr g ↦ are.one n k w h g
-          ]
+          | inl g ↦ (let lt = are.below n w h in absurd (omega (arith, lt, g.1)))
+          | inr g ↦ are.one n k w h g
+        ]
       ]
 
   below_added : (n : Name) (w : ℕ) → get same new n ≡ Some w → w < hash_map_len new
@@ -76,7 +76,7 @@ module _ {S : Type 0} (words : HashMap Name ℕ S) (are : AreWords words) where
   word_same k n a b ka nb =
       elim (eqb_tells a b) [
         | inl h ↦ h.0 ∙ sym ((bytes_decides k n).1 (are.one k n a ka (nb ∙ ap Some (sym h.1))))
-        | inr h ↦ h.0 ∙ differ k n a b (same k n) refl ka nb h.1 
+        | inr h ↦ h.0 ∙ differ k n a b (same k n) refl ka nb h.1
       ]
 
   unnumbered : (k n : Name) (b : ℕ) (t : Bool) → t ≡ same k n → get same words k ≡ None → get same words n ≡ Some b → t ≡ false
@@ -162,7 +162,6 @@ past : (p : List Info) (n : Name) (class : ℕ) → number_of p n ≡ Some class
 past p n class number none = none_past p class none (number_within p n class number)
 
 module _ {N S Z : Type 0} (numbers : HashMap Name ℕ N) (words : HashMap Name ℕ S) (all : List (HashMap (ℕ × ℕ) ℕ Z)) (p : List Info) (numbering : IsNumbering numbers p) (told : AreWords words) (are : ArePlacesOf words all p) where
-
   place_case : (r : MethodRef) (class place : ℕ) (h : ℕ × ℕ) (ps : Option (HashMap (ℕ × ℕ) ℕ Z)) (i : Option Info) → slice_get all class ≡ ps → slice_get p class ≡ i → number_of p r.class ≡ Some class → get same words r.name ≡ Some h.0 → get same words r.desc ≡ Some h.1 → option_and_then (λ places. get same_head places h) ps ≡ Some place → place_at p r class ≡ Some place
   unfolding linked_of
   place_case r class place h None i eps ei number name desc e = absurd cc

@@ -127,13 +127,7 @@ pub fn targets(
 {
     let words = words(alloc, infos)?;
     let places = places(alloc, &words, infos)?;
-    Ok(all_targets(
-        alloc,
-        numbers,
-        &words,
-        places.as_slice(),
-        infos,
-    )?)
+    Ok(all_targets(alloc, numbers, &words, places.as_slice(), infos)?)
 }
 
 /// The same targets, shared.

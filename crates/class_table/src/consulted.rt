@@ -164,7 +164,12 @@ impl Program {
     }
 
     #[cycle(walk)]
-    fn walk_all(&self, seen: &mut Consulted, names: &[Shared<Name>], levels: u32) -> Result<(), Memory>
+    fn walk_all(
+        &self,
+        seen: &mut Consulted,
+        names: &[Shared<Name>],
+        levels: u32,
+    ) -> Result<(), Memory>
         requires { IsConsultedOf self.now seen.old }
         ensures names { OnOk result (ConsultsAll self.now levels names.now seen.old seen.new) }
         ensures kept { OnOk result (IsConsultedOf self.now seen.new) }
@@ -237,7 +242,12 @@ impl Program {
     }
 
     #[cycle(collect)]
-    fn collect_all(&self, out: &mut Vec<Name>, names: &[Shared<Name>], levels: u32) -> Result<(), Memory>
+    fn collect_all(
+        &self,
+        out: &mut Vec<Name>,
+        names: &[Shared<Name>],
+        levels: u32,
+    ) -> Result<(), Memory>
         ensures { OnOk result (CollectsAll self.now levels names.now out.old.items out.new.items) }
     {
         for name in names {

@@ -14,7 +14,8 @@ mod supers;
 pub use class_link::{
     ClassBody, ClassInfo, Entry, FieldConstant, FieldRef, FrameShape, Instruction, LibBody,
     LibClass, LibField, LibMethod, LineTable, LinkedBody, LinkedClass, LinkedCode, LinkedField,
-    LinkedLine, LinkedMethod, LinkedRow, Loaded, MethodRef, Native, Shared, StatedFrame, Switch, VType,
+    LinkedLine, LinkedMethod, LinkedRow, Loaded, MethodRef, Native, Shared, StatedFrame, Switch,
+    VType,
 };
 pub use consulted::Consulted;
 pub use fault::TableFault;

@@ -51,10 +51,7 @@ fn add_heads(words: &mut HashMap<Name, u32>, methods: &[LinkedMethod]) -> Result
 }
 
 /// Numbers for the names and descriptors of the methods of these classes.
-pub fn words(
-    alloc: Global,
-    infos: &[Arc<ClassInfo, Global>],
-) -> Result<HashMap<Name, u32>, Memory>
+pub fn words(alloc: Global, infos: &[Arc<ClassInfo, Global>]) -> Result<HashMap<Name, u32>, Memory>
     ensures { IfOk result (λ words. AreWords words) }
 {
     let mut words = HashMap::new(alloc);
