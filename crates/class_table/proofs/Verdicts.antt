@@ -40,9 +40,9 @@ linked_next p count g i l there linked before = record {
   fit = λ a j k h e. elim (last_case g l a k e) [
     | inl old ↦ before.fit a j k h old
     | inr new ↦
-    let at : a ≡ count = new.0 ∙ before.each in
-    let one : i ≡ j = one_item (slice_get p count) i j there (subst (λ n. slice_get p n ≡ Some j) at h) in
-    subst (λ x. IsLinked p j x) (sym new.1) (subst (λ x. IsLinked p x l) one linked)
+        let at : a ≡ count = new.0 ∙ before.each in
+        let one : i ≡ j = one_item (slice_get p count) i j there (subst (λ n. slice_get p n ≡ Some j) at h) in
+        subst (λ x. IsLinked p j x) (sym new.1) (subst (λ x. IsLinked p x l) one linked)
   ];
 }
 

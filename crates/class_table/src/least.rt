@@ -18,12 +18,7 @@ pub struct Least {
 }
 
 // The lesser of a class and this one.
-fn lesser_at(
-    alloc: Global,
-    least: Option<Least>,
-    at: usize,
-    name: &Name,
-) -> Result<Least, Memory>
+fn lesser_at(alloc: Global, least: Option<Least>, at: usize, name: &Name) -> Result<Least, Memory>
     ensures { IfOk result (λ l. l ≡ lesser_at least at name.now) }
 {
     let bytes = write_text(alloc, name)?;

@@ -67,11 +67,7 @@ fn flags_of(
 
 // ---- a super that is missing
 
-fn is_absent(
-    infos: &[Arc<ClassInfo, Global>],
-    numbers: &HashMap<Name, u32>,
-    name: &Name,
-) -> bool
+fn is_absent(infos: &[Arc<ClassInfo, Global>], numbers: &HashMap<Name, u32>, name: &Name) -> bool
     requires { IsNumbering numbers.now (shared infos.now) }
     ensures { result ≡ is_none (look (shared infos.now) name.now) }
 {
@@ -95,11 +91,7 @@ fn is_any_absent(
 }
 
 // Whether a class misses its superclass or an interface.
-fn misses(
-    infos: &[Arc<ClassInfo, Global>],
-    numbers: &HashMap<Name, u32>,
-    info: &ClassInfo,
-) -> bool
+fn misses(infos: &[Arc<ClassInfo, Global>], numbers: &HashMap<Name, u32>, info: &ClassInfo) -> bool
     requires { IsNumbering numbers.now (shared infos.now) }
     ensures { result ≡ misses (shared infos.now) info.now }
 {

@@ -102,8 +102,14 @@ fn wrong_supers_are_refused(rt: HostRuntime) -> Result<(), Fail> {
         ("14 K", [plain, interface, ("K", "Gone", 33, "")]),
         ("14 K", [plain, interface, ("K", "S", 33, "Gone")]),
         ("15 T", [plain, interface, ("T", "T", 33, "")]),
-        ("15 A", [("C", "B", 33, ""), ("B", "A", 33, ""), ("A", "B", 33, "")]),
-        ("15 I", [plain, ("I", object, 1537, "J"), ("J", object, 1537, "I")]),
+        (
+            "15 A",
+            [("C", "B", 33, ""), ("B", "A", 33, ""), ("A", "B", 33, "")],
+        ),
+        (
+            "15 I",
+            [plain, ("I", object, 1537, "J"), ("J", object, 1537, "I")],
+        ),
         ("14 Z", [plain, ("A", "A", 33, ""), ("Z", "Gone", 33, "")]),
         ("16 K", [plain, ("F", object, 49, ""), ("K", "F", 33, "")]),
         ("16 K", [plain, interface, ("K", "I", 33, "")]),
