@@ -3,7 +3,7 @@
 use Rattle.std.specs.Prelude.{ℕ, Bool, false, not, ◌&&◌, List, [], ◌∷◌, Option, Some, None, codes, if◌then◌else◌}
 use Rattle.std.specs.List.{list_any, flat_map}
 use Rattle.class_model.specs.Pool.{text_of}
-use Rattle.class_model.specs.declared.annotation.Note.{Note, out-Note}
+use Rattle.class_model.specs.declared.annotation.Note.{Note}
 use Rattle.class_model.specs.declared.constant.Const.{Const}
 use Rattle.class_model.specs.declared.attribute.Attr.{Attr, out-Attr}
 use Rattle.class_model.specs.declared.attribute.Code.{Code}
@@ -34,7 +34,7 @@ notes_in other = []
 
 -- An annotation is of this type.
 abbrev pub names_kind : List Const → Name → Note → Bool
-names_kind pool kind note = names_text pool (out-Note note).kind kind
+names_kind pool kind note = names_text pool note.kind kind
 
 -- An attribute has an annotation of this type (JVMS 4.7.16, 4.7.17); both kinds of list count
 -- alike.
