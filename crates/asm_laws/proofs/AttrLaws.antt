@@ -100,7 +100,7 @@ module _ (pool : List Const) (few : length pool + 1 < 2 ^ 16) where
       joined (IsIn pool) (IsFormed pool) (IsNumberOf pool (const.Utf8 (codes "expected"))) (IsNumberOf pool (const.Utf8 class)) (AreNamedTokens 1) list name index (token.Name name.0 ∷ token.Class index.0 ∷ [])
       (text_numbered pool few (codes "expected") list (given_units (codes "expected") refl))
       (text_numbered pool few class name.1 fit.0)
-      (λ n c. ((refl, names_is_text pool (codes "expected") name.0 n), (refl, result_named pool class index.0 c fit.1), tt))
+      (λ n c. ((refl, names_is_text pool (codes "expected") name.0 n), ((refl, result_named pool class index.0 c fit.1), tt)))
 
   few_elements : (expected : Option (List ℕ)) → elements_in expected < 2 ^ 16
   few_elements None = lit< tt
