@@ -46,8 +46,7 @@ use attributes::read_whole;
 pub use owner::Owner;
 use write::write_all;
 
-/// The attributes of an owner, from their count on. The cursor has all that is left of the file. Memory is wanted too where more than 1,000 elements of annotations stand in one
-/// another, since each takes a part of the stack.
+/// The attributes of an owner, from their count on. The cursor has all that is left of the file.
 pub fn read_attrs(
     alloc: Global,
     cur: &mut Cursor,
