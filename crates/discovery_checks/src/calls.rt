@@ -3,10 +3,10 @@
 
 ghost use Rattle.test_discovery.specs.Discovery.{program_tests, Finds};
 
-use class_model::{ClassId, Name, Seq};
+use class_model::{ClassId, Seq};
 use class_table::{Program, Test};
 use std::alloc::Global;
-use test_discovery::{Rule, TestFault};
+use test_discovery::TestFault;
 
 /// `test_discovery::tests`
 pub fn tests(alloc: Global, program: &Program, from: &Seq<ClassId>) -> Result<Seq<Test>, TestFault>
