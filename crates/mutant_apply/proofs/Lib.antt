@@ -1,5 +1,2 @@
-pub mod Lists
-mod Keeping
-mod Opcodes
-mod Fitting
-mod Made
+pub mod EntryLaws
+pub mod InsnLaws

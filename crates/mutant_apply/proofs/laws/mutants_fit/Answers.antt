@@ -1,5 +1,0 @@
-use Rattle.mutant_apply.proofs.Fitting.{mutants_fit_all}
-use Rattle.mutant_apply.proofs.laws.mutants_fit.Goals as goal
-
-pub returns : goal.returns
-returns c = mutants_fit_all
