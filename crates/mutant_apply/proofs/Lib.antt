@@ -1,2 +1,9 @@
+pub mod Lists
 pub mod EntryLaws
 pub mod InsnLaws
+pub mod MovedInsns
+pub mod NearLaws
+pub mod CodeForms
+pub mod MovedTables
+pub mod Keeping
+pub mod Made

@@ -1,0 +1,13 @@
+//! Laws on the definitions.
+
+ghost use Rattle.mutant_apply.specs.Laws.{AppliedIsMade, EditKeepsForm};
+
+/// A class that can be written can be written when it is edited.
+pub fn edit_keeps_form()
+    ensures { EditKeepsForm }
+{}
+
+/// What `apply` gives is the class with its edited parts and its layout, under the names of the one that is edited.
+pub fn applied_is_made()
+    ensures { AppliedIsMade }
+{}
