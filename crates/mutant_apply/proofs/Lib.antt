@@ -7,3 +7,6 @@ pub mod CodeForms
 pub mod MovedTables
 pub mod Keeping
 pub mod Made
+pub mod ChangeLaws
+pub mod FitLaws
+pub mod PoolLaws

@@ -13,6 +13,6 @@ mod refusal;
 mod tables;
 mod whole;
 
-pub use laws::{applied_is_made, edit_keeps_form};
+pub use laws::{applied_is_made, edit_keeps_form, mutants_fit};
 pub use parts::Parts;
 pub use whole::{apply, class_with, edited_parts};
