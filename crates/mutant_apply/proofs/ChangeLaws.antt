@@ -2,6 +2,7 @@
 use Rattle.std.proofs.Common.{◌≡◌, ℕ, zero, suc, ◌+◌, ◌^◌, ◌<◌, Bool, true, false, List, [], ◌∷◌, ◌++◌, map, Option, Some, None, refl, sym, ap, subst, ◌∙◌, inl, inr, arith}
 use Rattle.std.specs.Prelude.{ℤ, ◌≢◌, ◌&&◌, ◌||◌, ◌==◌, not, nat_lt, nat_eq, codes, is_none, neg_ℤ, reverse, option_and_then, if◌then◌else◌}
 use Rattle.std.specs.List.{AllByRecursion, list_all}
+use Rattle.std.specs.Char.Utf16.{utf16_chars}
 use Rattle.std.specs.Option.{option_map}
 use Rattle.std.proofs.lemmas.Bool.{ltb-true, eqb-true, and_parts}
 use Rattle.class_model.specs.Descriptor.{base, object, boolean, char, int, long, short}
@@ -85,7 +86,7 @@ right_value value.EmptyText = true
 right_value (value.Empty callee) = true
 right_value (value.Boxed op callee) = is_bare op
 
-IsRight : Insn → Change → Type 0
+pub IsRight : Insn → Change → Type 0
 IsRight insn (change.Opcode op) = is_exchange op insn.op ≡ true
 IsRight insn (change.Increment local by) = local < 2 ^ 16
 IsRight insn change.Nothing = Unit {0}
@@ -241,14 +242,15 @@ units_by [] e = tt
 units_by (u ∷ units) e = let k = and_parts (nat_lt u (2 ^ 16)) (list_all (λ u. nat_lt u (2 ^ 16)) units) e in (ltb-true u (2 ^ 16) k.0, units_by units k.1)
 
 call_right : (called : Callee) → IsCall (callee_class called) (callee_name called) (callee_desc called)
-call_right callee.NoOptional = record { class_units = units_by _ refl; class_name = λ h. absurd h; name_units = units_by _ refl; desc_units = units_by _ refl; desc_type = record { tree = record { parameters = []; returned = Some (object (codes "java/util/Optional")) }; spelled = record { parameters = tt; returned = tt; text = refl }; floatless = tt } }
-call_right callee.NoList = record { class_units = units_by _ refl; class_name = λ h. absurd h; name_units = units_by _ refl; desc_units = units_by _ refl; desc_type = record { tree = record { parameters = []; returned = Some (object (codes "java/util/List")) }; spelled = record { parameters = tt; returned = tt; text = refl }; floatless = tt } }
-call_right callee.NoSet = record { class_units = units_by _ refl; class_name = λ h. absurd h; name_units = units_by _ refl; desc_units = units_by _ refl; desc_type = record { tree = record { parameters = []; returned = Some (object (codes "java/util/Set")) }; spelled = record { parameters = tt; returned = tt; text = refl }; floatless = tt } }
-call_right callee.BoxedInteger = record { class_units = units_by _ refl; class_name = λ h. absurd h; name_units = units_by _ refl; desc_units = units_by _ refl; desc_type = record { tree = record { parameters = base int ∷ []; returned = Some (object (codes "java/lang/Integer")) }; spelled = record { parameters = (tt, tt); returned = tt; text = refl }; floatless = tt } }
-call_right callee.BoxedShort = record { class_units = units_by _ refl; class_name = λ h. absurd h; name_units = units_by _ refl; desc_units = units_by _ refl; desc_type = record { tree = record { parameters = base short ∷ []; returned = Some (object (codes "java/lang/Short")) }; spelled = record { parameters = (tt, tt); returned = tt; text = refl }; floatless = tt } }
-call_right callee.BoxedCharacter = record { class_units = units_by _ refl; class_name = λ h. absurd h; name_units = units_by _ refl; desc_units = units_by _ refl; desc_type = record { tree = record { parameters = base char ∷ []; returned = Some (object (codes "java/lang/Character")) }; spelled = record { parameters = (tt, tt); returned = tt; text = refl }; floatless = tt } }
-call_right callee.BoxedLong = record { class_units = units_by _ refl; class_name = λ h. absurd h; name_units = units_by _ refl; desc_units = units_by _ refl; desc_type = record { tree = record { parameters = base long ∷ []; returned = Some (object (codes "java/lang/Long")) }; spelled = record { parameters = (tt, tt); returned = tt; text = refl }; floatless = tt } }
-call_right callee.BoxedBoolean = record { class_units = units_by _ refl; class_name = λ h. absurd h; name_units = units_by _ refl; desc_units = units_by _ refl; desc_type = record { tree = record { parameters = base boolean ∷ []; returned = Some (object (codes "java/lang/Boolean")) }; spelled = record { parameters = (tt, tt); returned = tt; text = refl }; floatless = tt } }
+unfolding utf16_chars
+call_right callee.NoOptional = record { class_units = units_by (callee_class callee.NoOptional) refl; class_name = λ h. absurd cc; name_units = units_by (callee_name callee.NoOptional) refl; desc_units = units_by (callee_desc callee.NoOptional) refl; desc_type = record { tree = record { parameters = []; returned = Some (object (codes "java/util/Optional")) }; spelled = record { parameters = tt; returned = refl; text = refl }; floatless = refl } }
+call_right callee.NoList = record { class_units = units_by (callee_class callee.NoList) refl; class_name = λ h. absurd cc; name_units = units_by (callee_name callee.NoList) refl; desc_units = units_by (callee_desc callee.NoList) refl; desc_type = record { tree = record { parameters = []; returned = Some (object (codes "java/util/List")) }; spelled = record { parameters = tt; returned = refl; text = refl }; floatless = refl } }
+call_right callee.NoSet = record { class_units = units_by (callee_class callee.NoSet) refl; class_name = λ h. absurd cc; name_units = units_by (callee_name callee.NoSet) refl; desc_units = units_by (callee_desc callee.NoSet) refl; desc_type = record { tree = record { parameters = []; returned = Some (object (codes "java/util/Set")) }; spelled = record { parameters = tt; returned = refl; text = refl }; floatless = refl } }
+call_right callee.BoxedInteger = record { class_units = units_by (callee_class callee.BoxedInteger) refl; class_name = λ h. absurd cc; name_units = units_by (callee_name callee.BoxedInteger) refl; desc_units = units_by (callee_desc callee.BoxedInteger) refl; desc_type = record { tree = record { parameters = base int ∷ []; returned = Some (object (codes "java/lang/Integer")) }; spelled = record { parameters = (tt, tt); returned = refl; text = refl }; floatless = refl } }
+call_right callee.BoxedShort = record { class_units = units_by (callee_class callee.BoxedShort) refl; class_name = λ h. absurd cc; name_units = units_by (callee_name callee.BoxedShort) refl; desc_units = units_by (callee_desc callee.BoxedShort) refl; desc_type = record { tree = record { parameters = base short ∷ []; returned = Some (object (codes "java/lang/Short")) }; spelled = record { parameters = (tt, tt); returned = refl; text = refl }; floatless = refl } }
+call_right callee.BoxedCharacter = record { class_units = units_by (callee_class callee.BoxedCharacter) refl; class_name = λ h. absurd cc; name_units = units_by (callee_name callee.BoxedCharacter) refl; desc_units = units_by (callee_desc callee.BoxedCharacter) refl; desc_type = record { tree = record { parameters = base char ∷ []; returned = Some (object (codes "java/lang/Character")) }; spelled = record { parameters = (tt, tt); returned = refl; text = refl }; floatless = refl } }
+call_right callee.BoxedLong = record { class_units = units_by (callee_class callee.BoxedLong) refl; class_name = λ h. absurd cc; name_units = units_by (callee_name callee.BoxedLong) refl; desc_units = units_by (callee_desc callee.BoxedLong) refl; desc_type = record { tree = record { parameters = base long ∷ []; returned = Some (object (codes "java/lang/Long")) }; spelled = record { parameters = (tt, tt); returned = refl; text = refl }; floatless = refl } }
+call_right callee.BoxedBoolean = record { class_units = units_by (callee_class callee.BoxedBoolean) refl; class_name = λ h. absurd cc; name_units = units_by (callee_name callee.BoxedBoolean) refl; desc_units = units_by (callee_desc callee.BoxedBoolean) refl; desc_type = record { tree = record { parameters = base boolean ∷ []; returned = Some (object (codes "java/lang/Boolean")) }; spelled = record { parameters = (tt, tt); returned = refl; text = refl }; floatless = refl } }
 
 module _ (pool : List Const) (insn : Insn) where
   alike_stands : (op : ℕ) → HasForm insn → is_exchange op insn.op ≡ true → StandsFor pool insn (record { op = op; wide = insn.wide; arg = insn.arg })
