@@ -10,3 +10,4 @@ pub mod Made
 pub mod ChangeLaws
 pub mod FitLaws
 pub mod PoolLaws
+pub mod NamesKept
