@@ -1,9 +1,9 @@
 -- The entries that an edit adds are ones of the pool with them.
 use Rattle.std.proofs.Common.{◌≡◌, ◌∙◌, sym, refl, ap, subst, ℕ, zero, suc, ◌+◌, ◌-◌, ◌^◌, ◌<◌, ◌≤◌, Bool, true, false, cond, List, [], ◌∷◌, ◌++◌, length, Option, None, Some, inl, inr, arith, append_assoc, append-nil}
-use Rattle.std.specs.Prelude.{◌≢◌, ◌⊎◌, ◌==◌, ◌&&◌, not, nat_lt, nat_eq, slice_get, IsSome, IsSomeAnd, if◌then◌else◌, option_and_then}
+use Rattle.std.specs.Prelude.{◌≢◌, ◌⊎◌, ◌==◌, ◌&&◌, not, nat_lt, nat_eq, slice_get, IsSome, IsSomeAnd, ◌↔◌, if◌then◌else◌, option_and_then}
 use Rattle.std.specs.Cmp.Lexicographic.{pointwise, same_text}
 use Rattle.std.specs.List.{AllByRecursion, position_from}
-use Rattle.std.proofs.lemmas.Bool.{eqb-true, and_parts}
+use Rattle.std.proofs.lemmas.Bool.{cases_lt, ne_eqb, eqb-true, and_parts}
 use Rattle.std.proofs.lemmas.List.{length-append}
 use Rattle.class_model.specs.Pool.{entry_of, text_in, class_in, pair_in, text_of, class_name_of, pair_name_of, pair_desc_of, HasKind, HasMethodType, IsClassEntryName, is_wide, IsEntry, IsPoolForm}
 use Rattle.class_model.specs.declared.constant.Const.{Const}
@@ -53,7 +53,7 @@ module _ (pool more : List Const) where
 -- ---- one more entry
 
 -- the kinds of entries that edits add: none takes two places
-is_added_kind : Const → Bool
+abbrev pub is_added_kind : Const → Bool
 is_added_kind (const.Utf8 units) = true
 is_added_kind (const.Class name) = true
 is_added_kind (const.Text units) = true
@@ -88,7 +88,10 @@ hit t k i [] e = absurd cc
 hit t k i (x ∷ xs) e = hit_case t k i x xs (t x) refl (hit t (k + 1) i xs) e
 
 entry_at : (pool : List Const) (n : ℕ) → entry_of pool (1 + n) ≡ slice_get pool n
-entry_at pool n = let there : 1 + n - 1 ≡ n = omega arith in ap (slice_get pool) there
+entry_at pool n =
+    let test : (1 + n == 0) ≡ false = ne_eqb (1 + n) 0 (λ e. absurd (omega (arith, e))) in
+    let there : 1 + n - 1 ≡ n = omega arith in
+    rw test (ap (slice_get pool) there)
 
 last_at : (xs : List Const) (x : Const) → slice_get (xs ++ x ∷ []) (length xs) ≡ Some x
 last_at [] x = refl
@@ -163,7 +166,7 @@ module _ (pool : List Const) where
     pub stands : entry_of (pool ++ x.1) x.0 ≡ Some entry
     pub right : P entry
 
-  grown_on : (added a b : List Const) (m n : List Const) → a ≡ added ++ m → b ≡ a ++ n → b ≡ added ++ (m ++ n)
+  pub grown_on : (added a b : List Const) (m n : List Const) → a ≡ added ++ m → b ≡ a ++ n → b ≡ added ++ (m ++ n)
   grown_on added a b m n p q = q ∙ ap (λ (x : List Const). x ++ n) p ∙ append_assoc added m n
 
   pub got_string : (added : List Const) (x : ℕ × List Const) → AreAdded pool added → empty_string pool added ≡ Some x → Got (λ c. (i : ℕ) × (c ≡ const.Text i)) added x
@@ -207,5 +210,100 @@ module _ (pool : List Const) where
 
   -- ---- the pool with them
 
-  none_added : AreAdded pool []
+  pub none_added : AreAdded pool []
   none_added = record { entries = tt; kinds = tt }
+
+  -- ---- `Second` stands behind the same entries as before
+
+  slice_front : (xs ys : List Const) (k : ℕ) → k < length xs → slice_get (xs ++ ys) k ≡ slice_get xs k
+  slice_front [] ys k lt = absurd (omega (arith, lt))
+  slice_front (y ∷ xs) ys zero lt = refl
+  slice_front (y ∷ xs) ys (suc k) lt = slice_front xs ys k (omega (arith, lt))
+
+  slice_back : (xs ys : List Const) (k : ℕ) → length xs ≤ k → slice_get (xs ++ ys) k ≡ slice_get ys (k - length xs)
+  slice_back [] ys k le = let same : k ≡ k - 0 = omega arith in ap (slice_get ys) same
+  slice_back (y ∷ xs) ys zero le = absurd (omega (arith, le))
+  slice_back (y ∷ xs) ys (suc k) le = let same : k - length xs ≡ suc k - suc (length xs) = omega arith in slice_back xs ys k (omega (arith, le)) ∙ ap (slice_get ys) same
+
+  none_past : (xs : List Const) (k : ℕ) → length xs ≤ k → slice_get xs k ≡ None
+  none_past [] k le = refl
+  none_past (y ∷ xs) zero le = absurd (omega (arith, le))
+  none_past (y ∷ xs) (suc k) le = none_past xs k (omega (arith, le))
+
+  kind_not_second : (c : Const) → is_added_kind c ≡ true → c ≡ const.Second → ⊥
+  kind_not_second c k e = absurd (let bad : is_added_kind const.Second ≡ true = subst (λ (c : Const). is_added_kind c ≡ true) e k in let worse : false ≡ true = bad in cc)
+
+  not_second : (added : List Const) (k : ℕ) → AllByRecursion (λ c. is_added_kind c ≡ true) added → slice_get added k ≡ Some const.Second → ⊥
+  not_second [] k q e = absurd cc
+  not_second (c ∷ added) zero q e = kind_not_second c q.0 (let same : c ≡ const.Second = cc in same)
+  not_second (c ∷ added) (suc k) q e = not_second added k q.1 e
+
+  kind_not_wide : (c : Const) → is_added_kind c ≡ true → is_wide c ≡ true → ⊥
+  kind_not_wide (const.Long n) k w = absurd cc
+  kind_not_wide (const.Double bits) k w = absurd cc
+  kind_not_wide other k w = absurd cc
+
+  not_wide : (added : List Const) (k : ℕ) → AllByRecursion (λ c. is_added_kind c ≡ true) added → IsSomeAnd (slice_get added k) (λ c. is_wide c ≡ true) → ⊥
+  not_wide [] k q h = absurd h
+  not_wide (c ∷ added) zero q h = kind_not_wide c q.0 h
+  not_wide (c ∷ added) (suc k) q h = not_wide added k q.1 h
+
+  entry_next : (p : List Const) (i : ℕ) → entry_of p (i + 1) ≡ slice_get p i
+  entry_next p i = let there : i + 1 ≡ 1 + i = omega arith in ap (entry_of p) there ∙ entry_at p i
+
+  abbrev IsWideAt : List Const → ℕ → Type 0
+  IsWideAt p i = IsSomeAnd (entry_of p i) (λ c. is_wide c ≡ true)
+
+  abbrev Matches : List Const → ℕ → Type 0
+  Matches p i = (entry_of p (i + 1) ≡ Some const.Second) ↔ IsWideAt p i
+
+  -- an index of the pool, the last one, and one behind it
+  inside : (added : List Const) (i : ℕ) → IsPoolForm pool → i < length pool → Matches (pool ++ added) i
+  inside added zero form lt =
+      let next : entry_of (pool ++ added) (0 + 1) ≡ entry_of pool (0 + 1) = entry_next (pool ++ added) 0 ∙ slice_front pool added 0 lt ∙ sym (entry_next pool 0) in
+      (λ e. (form.seconds 0).0 (sym next ∙ e), λ h. absurd h)
+  inside added (suc n) form lt =
+      let next : entry_of (pool ++ added) (suc n + 1) ≡ entry_of pool (suc n + 1) = entry_next (pool ++ added) (suc n) ∙ slice_front pool added (suc n) lt ∙ sym (entry_next pool (suc n)) in
+      let one : suc n ≡ n + 1 = omega arith in
+      let here : entry_of (pool ++ added) (suc n) ≡ entry_of pool (suc n) = ap (entry_of (pool ++ added)) one ∙ entry_next (pool ++ added) n ∙ slice_front pool added n (omega (arith, lt)) ∙ sym (ap (entry_of pool) one ∙ entry_next pool n) in
+      let form_here = form.seconds (suc n) in
+      let W : Option Const → Type 0 = λ o. IsSomeAnd o (λ c. is_wide c ≡ true) in
+      (λ e. subst W (sym here) (form_here.0 (sym next ∙ e)), λ h. next ∙ form_here.1 (subst W here h))
+
+  no_second_behind : (added : List Const) (i : ℕ) → AllByRecursion (λ c. is_added_kind c ≡ true) added → length pool ≤ i → entry_of (pool ++ added) (i + 1) ≡ Some const.Second → ⊥
+  no_second_behind added i kinds le e = not_second added (i - length pool) kinds (sym (entry_next (pool ++ added) i ∙ slice_back pool added i le) ∙ e)
+
+  last_one : (added : List Const) (i : ℕ) → IsPoolForm pool → AllByRecursion (λ c. is_added_kind c ≡ true) added → i ≡ length pool → IsWideAt (pool ++ added) i → ⊥
+  last_one added zero form kinds at h = h
+  last_one added (suc n) form kinds at h =
+      let one : suc n ≡ n + 1 = omega arith in
+      let here : entry_of (pool ++ added) (suc n) ≡ entry_of pool (suc n) = ap (entry_of (pool ++ added)) one ∙ entry_next (pool ++ added) n ∙ slice_front pool added n (omega (arith, at)) ∙ sym (ap (entry_of pool) one ∙ entry_next pool n) in
+      let W : Option Const → Type 0 = λ o. IsSomeAnd o (λ c. is_wide c ≡ true) in
+      let second = (form.seconds (suc n)).1 (subst W here h) in
+      let none : entry_of pool (suc n + 1) ≡ None = entry_next pool (suc n) ∙ none_past pool (suc n) (omega (arith, at)) in
+      let bad : None ≡ Some const.Second = sym none ∙ second in absurd cc
+
+  no_wide_behind : (added : List Const) (i : ℕ) → AllByRecursion (λ c. is_added_kind c ≡ true) added → length pool < i → IsWideAt (pool ++ added) i → ⊥
+  no_wide_behind added zero kinds lt h = h
+  no_wide_behind added (suc n) kinds lt h =
+      let one : suc n ≡ n + 1 = omega arith in
+      let here : entry_of (pool ++ added) (suc n) ≡ slice_get added (n - length pool) = ap (entry_of (pool ++ added)) one ∙ entry_next (pool ++ added) n ∙ slice_back pool added n (omega (arith, lt)) in
+      let W : Option Const → Type 0 = λ o. IsSomeAnd o (λ c. is_wide c ≡ true) in
+      not_wide added (n - length pool) kinds (subst W here h)
+
+  seconds_kept : (added : List Const) → IsPoolForm pool → AllByRecursion (λ c. is_added_kind c ≡ true) added → (i : ℕ) → Matches (pool ++ added) i
+  seconds_kept added form kinds i = elim (cases_lt i (length pool)) [
+    | inl less ↦ inside added i form less
+    | inr above ↦ (λ e. absurd (no_second_behind added i kinds above e), λ h. absurd (elim (cases_lt (length pool) i) [ inl past ↦ no_wide_behind added i kinds past h | inr same ↦ last_one added i form kinds (omega arith) h ]))
+  ]
+
+  old_entries : (added xs : List Const) → AllByRecursion (IsEntry pool) xs → AllByRecursion (IsEntry (pool ++ added)) xs
+  old_entries added [] q = tt
+  old_entries added (x ∷ xs) q = (entry_grows pool added x q.0, old_entries added xs q.1)
+
+  -- The pool with the entries that an edit adds is in its form.
+  pub pool_kept : (added : List Const) → IsPoolForm pool → AreAdded pool added → IsPoolForm (pool ++ added)
+  pool_kept added form are = record {
+    entries = all_append (IsEntry (pool ++ added)) pool added (old_entries added pool form.entries) are.entries;
+    seconds = seconds_kept added form are.kinds;
+  }

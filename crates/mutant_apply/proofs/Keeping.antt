@@ -78,7 +78,7 @@ edited_is pool edit code parts e =
       added = ap (λ (p : Parts). p.added) (sym b.1);
     }
 
-abbrev parts_with : Edit → Code-F Body Attr Code → List Insn → Code-F Body Attr Code
+abbrev pub parts_with : Edit → Code-F Body Attr Code → List Insn → Code-F Body Attr Code
 parts_with edit c insns = record c { max_stack = c.max_stack + edit.more_stack; insns = insns; rows = map (moved_row (mover edit)) c.rows; attrs = moved_tables (mover edit) (places insns) c.attrs }
 
 module _ (pool : List Const) (edit : Edit) (c : Code-F Body Attr Code) (form : HasCodeForm c) (insn : Insn) (is : slice_get c.insns edit.at ≡ Some insn) (fits : FitsInsn pool edit.with (Some insn)) (new : List Insn × List Const) (made : new_insns pool (mover edit) edit.with [] ≡ Some new) where
