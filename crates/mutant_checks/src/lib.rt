@@ -7,6 +7,8 @@
 
 mod calls;
 #[cfg(test)]
+mod samples;
+#[cfg(test)]
 mod tests;
 
-pub use calls::{apply, class_mutants};
+pub use calls::{apply, class_mutants, edited_parts};

@@ -1,6 +1,10 @@
-use class_model::Class;
 use class_reader::read_class;
 use class_writer::what_is_spelled_is_written;
+use crate::samples::{
+    AT_BOUND_HEAD, AT_BOUND_NOPS, AT_BOUND_TAIL, CALL, CALL_POPPED, LEAST_BYTE, LEAST_BYTE_NEGATED,
+    LEAST_SHORT, LONG_BOX, LONG_BOX_EMPTY, LONG_FRAME, NEW, NEW_MOVED, SHORT_FRAME, TEXT, TEXT_EMPTY,
+};
+use class_model::{Bytes, Class};
 use mutant_apply::{apply, mutants_fit};
 use mutator_ops::{class_mutants, id_lines};
 use std::alloc::Global;
@@ -28,15 +32,19 @@ const METHOD_FLAGS: usize = 103;
 
 const JUMP: usize = 126;
 
-const BOTH: &str = "A.f(I)Z@1:CONDITIONALS_BOUNDARY\nA.f(I)Z@1:NEGATE_CONDITIONALS\n";
+const ALL: &str = "A.f(I)Z@1:CONDITIONALS_BOUNDARY\nA.f(I)Z@1:NEGATE_CONDITIONALS\nA.f(I)Z@3:FALSE_RETURNS\nA.f(I)Z@3:TRUE_RETURNS\nA.f(I)Z@5:FALSE_RETURNS\nA.f(I)Z@5:TRUE_RETURNS\n";
+
+const NEGATED: &str = "A.f(I)Z@1:NEGATE_CONDITIONALS\nA.f(I)Z@3:FALSE_RETURNS\nA.f(I)Z@3:TRUE_RETURNS\nA.f(I)Z@5:FALSE_RETURNS\nA.f(I)Z@5:TRUE_RETURNS\n";
+
+const RETURNS: &str = "A.f(I)Z@3:FALSE_RETURNS\nA.f(I)Z@3:TRUE_RETURNS\nA.f(I)Z@5:FALSE_RETURNS\nA.f(I)Z@5:TRUE_RETURNS\n";
 
 // A byte of the class that is changed, what stands there then, and the mutants that the class has. Opcodes and flags are
 // those of JVMS 4.1, 4.6 and 6.5.
 const LISTS: [(usize, u8, &str); 7] = [
-    (JUMP, 0x9c, BOTH),
-    (JUMP, 0xa4, BOTH),
-    (JUMP, 0x99, "A.f(I)Z@1:NEGATE_CONDITIONALS\n"),
-    (JUMP, 0xa7, ""),
+    (JUMP, 0x9c, ALL),
+    (JUMP, 0xa4, ALL),
+    (JUMP, 0x99, NEGATED),
+    (JUMP, 0xa7, RETURNS),
     (METHOD_FLAGS, 0x10, ""),
     (METHOD_FLAGS + 1, 0x49, ""),
     (CLASS_FLAGS, 0x10, ""),
@@ -79,5 +87,62 @@ fn the_opposite_jump_stands_in_its_place(rt: HostRuntime) -> Result<(), Fail> {
     let mut wanted = A;
     wanted[JUMP] = IFLT;
     assert!(rt; matches!(&made, Some((_, bytes)) if bytes.as_slice() == wanted.as_slice()));
+    Ok(())
+}
+
+// ---- what the first mutant of a class file is
+
+// The bytes that its edit makes, if the edit has a layout.
+fn first_mutant(alloc: Global, file: &[u8]) -> Result<Option<Bytes>, Fail> {
+    what_is_spelled_is_written();
+    mutants_fit();
+    let class = read_class(alloc, file)?;
+    let mutants = class_mutants(alloc, &class)?;
+    let Some(mutant) = mutants.get(0) else {
+        return Err("the class has a mutant".into());
+    };
+    match apply(alloc, &class, &mutant.edit)? {
+        Some((_, bytes)) => Ok(Some(bytes)),
+        None => Ok(None),
+    }
+}
+
+fn makes(alloc: Global, file: &[u8], wanted: &[u8]) -> Result<bool, Fail> {
+    match first_mutant(alloc, file)? {
+        Some(bytes) => Ok(*bytes.as_slice() == *wanted),
+        None => Ok(false),
+    }
+}
+
+#[test]
+fn what_lies_behind_an_edit_moves(rt: HostRuntime) -> Result<(), Fail> {
+    assert!(rt; makes(rt.alloc(), &CALL, &CALL_POPPED)?, "a call before a switch");
+    assert!(rt; makes(rt.alloc(), &NEW, &NEW_MOVED)?, "a row's end, and the place of a new");
+    assert!(rt; makes(rt.alloc(), &SHORT_FRAME, &LONG_FRAME)?, "a frame past 63");
+    Ok(())
+}
+
+#[test]
+fn entries_are_found_or_added(rt: HostRuntime) -> Result<(), Fail> {
+    assert!(rt; makes(rt.alloc(), &LONG_BOX, &LONG_BOX_EMPTY)?, "a method");
+    assert!(rt; makes(rt.alloc(), &TEXT, &TEXT_EMPTY)?, "the empty string");
+    Ok(())
+}
+
+#[test]
+fn an_increment_may_have_no_negation(rt: HostRuntime) -> Result<(), Fail> {
+    assert!(rt; makes(rt.alloc(), &LEAST_BYTE, &LEAST_BYTE_NEGATED)?);
+    assert!(rt; first_mutant(rt.alloc(), &LEAST_SHORT)?.is_none());
+    Ok(())
+}
+
+#[test]
+fn a_code_at_its_bound_does_not_grow(rt: HostRuntime) -> Result<(), Fail> {
+    let mut file = Bytes::from_slice(rt.alloc(), &AT_BOUND_HEAD)?;
+    for _ in 0..AT_BOUND_NOPS {
+        file.push(0)?;
+    }
+    file.extend_from_slice(&AT_BOUND_TAIL)?;
+    assert!(rt; first_mutant(rt.alloc(), file.as_slice())?.is_none());
     Ok(())
 }
