@@ -212,12 +212,14 @@ module _ (pool : List Const) (mv : ℕ → ℕ) (starts : List ℕ) where
   -- a table that stays, under its name
   stays : (unseen : Bool) (attr : Attr) (b : Body) (rest : List Attr) → IsNamedTable pool unseen attr → IsNamedTableBody pool (table_of pool (name_of attr)) (body_of (attr_of (name_of attr) b)) → AreTables (table_after pool unseen attr) rest → AreTables unseen (attr_of (name_of attr) b ∷ rest)
   stays unseen attr b rest q content later =
-      let name = lines_name (name_of attr) b in
-      (record {
-        name = subst (IsIndex (names is_text pool)) (sym name) q.name;
-        free = subst (λ (n : ℕ). is_table_free unseen (table_of pool n) ≡ true) (sym name) q.free;
-        content = subst (λ (n : ℕ). IsNamedTableBody pool (table_of pool n) (body_of (attr_of (name_of attr) b))) (sym name) content;
-      }, subst (λ (n : ℕ). AreTables (without_table unseen (table_of pool n)) rest) (sym name) later)
+      let name = lines_name (name_of attr) b in (
+        record {
+          name = subst (IsIndex (names is_text pool)) (sym name) q.name;
+          free = subst (λ (n : ℕ). is_table_free unseen (table_of pool n) ≡ true) (sym name) q.free;
+          content = subst (λ (n : ℕ). IsNamedTableBody pool (table_of pool n) (body_of (attr_of (name_of attr) b))) (sym name) content;
+        },
+        subst (λ (n : ℕ). AreTables (without_table unseen (table_of pool n)) rest) (sym name) later,
+      )
 
   lines_kind : (kind : Option Table) (lines : List (ℕ × ℕ)) → IsNamedTableBody pool kind (Body-F.Lines lines) → IsNamedTableBody pool kind (Body-F.Lines (map (moved_line mv) lines))
   lines_kind (Some table.Lines) lines q = all_map IsNamedLine IsNamedLine (moved_line mv) (λ line k. k) lines q

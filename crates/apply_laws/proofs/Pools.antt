@@ -190,7 +190,7 @@ module _ (pool : List Const) where
       let n_d = still c.0.1 d.0.1 sd.more sd.grown c.0.0 (const.Utf8 name) sc.stands in
       let pd = pool ++ d.0.1 in
       let sp = step (const.Pair c.0.0 d.0.0) d.0.1 p.0 sd.are
-          (some_is (text_of pd c.0.0) name (text_by pd c.0.0 name n_d), some_and (λ units. HasKind units ⊎ HasMethodType units) (text_of pd d.0.0) desc (text_by pd d.0.0 desc sd.stands) (inr call.desc_type)) refl p.1 in
+      (some_is (text_of pd c.0.0) name (text_by pd c.0.0 name n_d), some_and (λ units. HasKind units ⊎ HasMethodType units) (text_of pd d.0.0) desc (text_by pd d.0.0 desc sd.stands) (inr call.desc_type)) refl p.1 in
       let pp = pool ++ p.0.1 in
       let t_b = still a.0.1 b.0.1 sb.more sb.grown a.0.0 (const.Utf8 class) sa.stands in
       let t_c = still b.0.1 c.0.1 sc.more sc.grown a.0.0 (const.Utf8 class) t_b in
@@ -201,7 +201,7 @@ module _ (pool : List Const) where
       let o_p = still d.0.1 p.0.1 sp.more sp.grown b.0.0 (const.Class a.0.0) o_d in
       let d_p = still d.0.1 p.0.1 sp.more sp.grown d.0.0 (const.Utf8 desc) sd.stands in
       let sm = step (const.Method b.0.0 p.0.0) p.0.1 x sp.are
-          (some_is (class_name_of pp b.0.0) class (class_by pp b.0.0 a.0.0 class o_p t_p), some_and HasMethodType (pair_desc_of pp p.0.0) desc (desc_by pp p.0.0 c.0.0 d.0.0 desc sp.stands d_p) call.desc_type) refl p.2 in
+      (some_is (class_name_of pp b.0.0) class (class_by pp b.0.0 a.0.0 class o_p t_p), some_and HasMethodType (pair_desc_of pp p.0.0) desc (desc_by pp p.0.0 c.0.0 d.0.0 desc sp.stands d_p) call.desc_type) refl p.2 in
       let g1 = grown_on added a.0.1 b.0.1 sa.more sb.more sa.grown sb.grown in
       let g2 = grown_on added b.0.1 c.0.1 _ sc.more g1 sc.grown in
       let g3 = grown_on added c.0.1 d.0.1 _ sd.more g2 sd.grown in

@@ -198,9 +198,7 @@ pub const AT_BOUND_HEAD: [u8; 90] = [
 ];
 
 /// What stands behind them: `iconst_0; ireturn`.
-pub const AT_BOUND_TAIL: [u8; 8] = [
-    0x03, 0xac, 0x00, 0x00, 0x00, 0x00, 0x00, 0x00,
-];
+pub const AT_BOUND_TAIL: [u8; 8] = [0x03, 0xac, 0x00, 0x00, 0x00, 0x00, 0x00, 0x00];
 
 /// How many `nop`s stand between them.
 pub const AT_BOUND_NOPS: usize = 65533;

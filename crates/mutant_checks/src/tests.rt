@@ -1,10 +1,11 @@
-use class_reader::read_class;
-use class_writer::what_is_spelled_is_written;
 use crate::samples::{
     AT_BOUND_HEAD, AT_BOUND_NOPS, AT_BOUND_TAIL, CALL, CALL_POPPED, LEAST_BYTE, LEAST_BYTE_NEGATED,
-    LEAST_SHORT, LONG_BOX, LONG_BOX_EMPTY, LONG_FRAME, NEW, NEW_MOVED, SHORT_FRAME, TEXT, TEXT_EMPTY,
+    LEAST_SHORT, LONG_BOX, LONG_BOX_EMPTY, LONG_FRAME, NEW, NEW_MOVED, SHORT_FRAME, TEXT,
+    TEXT_EMPTY,
 };
 use class_model::{Bytes, Class};
+use class_reader::read_class;
+use class_writer::what_is_spelled_is_written;
 use mutant_apply::{apply, mutants_fit};
 use mutator_ops::{class_mutants, id_lines};
 use std::alloc::Global;
@@ -32,11 +33,14 @@ const METHOD_FLAGS: usize = 103;
 
 const JUMP: usize = 126;
 
-const ALL: &str = "A.f(I)Z@1:CONDITIONALS_BOUNDARY\nA.f(I)Z@1:NEGATE_CONDITIONALS\nA.f(I)Z@3:FALSE_RETURNS\nA.f(I)Z@3:TRUE_RETURNS\nA.f(I)Z@5:FALSE_RETURNS\nA.f(I)Z@5:TRUE_RETURNS\n";
+const ALL: &str =
+    "A.f(I)Z@1:CONDITIONALS_BOUNDARY\nA.f(I)Z@1:NEGATE_CONDITIONALS\nA.f(I)Z@3:FALSE_RETURNS\nA.f(I)Z@3:TRUE_RETURNS\nA.f(I)Z@5:FALSE_RETURNS\nA.f(I)Z@5:TRUE_RETURNS\n";
 
-const NEGATED: &str = "A.f(I)Z@1:NEGATE_CONDITIONALS\nA.f(I)Z@3:FALSE_RETURNS\nA.f(I)Z@3:TRUE_RETURNS\nA.f(I)Z@5:FALSE_RETURNS\nA.f(I)Z@5:TRUE_RETURNS\n";
+const NEGATED: &str =
+    "A.f(I)Z@1:NEGATE_CONDITIONALS\nA.f(I)Z@3:FALSE_RETURNS\nA.f(I)Z@3:TRUE_RETURNS\nA.f(I)Z@5:FALSE_RETURNS\nA.f(I)Z@5:TRUE_RETURNS\n";
 
-const RETURNS: &str = "A.f(I)Z@3:FALSE_RETURNS\nA.f(I)Z@3:TRUE_RETURNS\nA.f(I)Z@5:FALSE_RETURNS\nA.f(I)Z@5:TRUE_RETURNS\n";
+const RETURNS: &str =
+    "A.f(I)Z@3:FALSE_RETURNS\nA.f(I)Z@3:TRUE_RETURNS\nA.f(I)Z@5:FALSE_RETURNS\nA.f(I)Z@5:TRUE_RETURNS\n";
 
 // A byte of the class that is changed, what stands there then, and the mutants that the class has. Opcodes and flags are
 // those of JVMS 4.1, 4.6 and 6.5.
@@ -116,9 +120,18 @@ fn makes(alloc: Global, file: &[u8], wanted: &[u8]) -> Result<bool, Fail> {
 
 #[test]
 fn what_lies_behind_an_edit_moves(rt: HostRuntime) -> Result<(), Fail> {
-    assert!(rt; makes(rt.alloc(), &CALL, &CALL_POPPED)?, "a call before a switch");
-    assert!(rt; makes(rt.alloc(), &NEW, &NEW_MOVED)?, "a row's end, and the place of a new");
-    assert!(rt; makes(rt.alloc(), &SHORT_FRAME, &LONG_FRAME)?, "a frame past 63");
+    assert!(rt;
+        makes(rt.alloc(), &CALL, &CALL_POPPED)?,
+        "a call before a switch"
+    );
+    assert!(rt;
+        makes(rt.alloc(), &NEW, &NEW_MOVED)?,
+        "a row's end, and the place of a new"
+    );
+    assert!(rt;
+        makes(rt.alloc(), &SHORT_FRAME, &LONG_FRAME)?,
+        "a frame past 63"
+    );
     Ok(())
 }
 
