@@ -1,3 +1,4 @@
 mod Naming
+mod Grown
+mod Pools
 mod Keeping
-mod Jumps

@@ -1,11 +1,7 @@
 -- What an edit makes of a class file is a class file again (this project's own).
-use Rattle.std.specs.Prelude.{◌≡◌, ℕ, List, [], ◌∷◌, All, Some}
-use Rattle.class_model.specs.declared.constant.Const.{Const}
+use Rattle.std.specs.Prelude.{◌≡◌, ℕ, List, All, Some}
 use Rattle.class_model.specs.declared.class.Class.{Class}
 use Rattle.class_model.specs.declared.edit.Edit.{Edit}
-use Rattle.class_model.specs.declared.edit.NewInsn.{NewInsn}
-use Rattle.class_model.specs.declared.edit.NewInsn.TheVariants.{Plain}
-use Rattle.mt_insn.specs.Code.{NamesRight}
 use Rattle.class_reader.specs.Spells.{IsClass, Spells}
 use Rattle.class_writer.specs.Writing.{IsNamedClass}
 use Rattle.mutator_ops.specs.Mutants.{class_mutants}
@@ -16,14 +12,9 @@ use Rattle.mutant_apply.specs.Fitting.{Fits}
 abbrev pub SpelledIsNamed : Type 0
 SpelledIsNamed = (class : Class) → IsClass class → IsNamedClass class
 
--- What stands in the place of an instruction names in the pool what its opcode may name.
-abbrev pub NewNamesRight : List Const → List NewInsn → Type 0
-NewNamesRight pool (Plain insn ∷ []) = NamesRight pool insn
-NewNamesRight pool with = Unit {0}
-
--- The bytes that an edit gives are the class file of the edited class, where a class file is edited and the new instruction fits and names what it may.
+-- The bytes that an edit gives are the class file of the edited class, where a class file is edited and the edit fits.
 abbrev pub EditsAreSpelled : Type 0
-EditsAreSpelled = (bytes : List ℕ) (class : Class) (edit : Edit) (made : Class × List ℕ) → Spells bytes class → Fits class edit → NewNamesRight class.pool edit.with → applied class edit ≡ Some made → Spells made.1 made.0
+EditsAreSpelled = (bytes : List ℕ) (class : Class) (edit : Edit) (made : Class × List ℕ) → Spells bytes class → Fits class edit → applied class edit ≡ Some made → Spells made.1 made.0
 
 -- The bytes of each mutant of a class file are the class file of the class that the mutant's edit makes.
 abbrev pub MutantsAreSpelled : Type 0

@@ -11,7 +11,7 @@ pub fn what_is_spelled_is_named()
     ensures { SpelledIsNamed }
 {}
 
-/// The bytes of an edited class file are a class file again: they spell the class that the edit makes, where the new instruction fits and names in the pool what its opcode may name.
+/// The bytes of an edited class file are a class file again: they spell the class that the edit makes, where the edit fits the class.
 pub fn edits_are_spelled()
     ensures { EditsAreSpelled }
 {

@@ -5,7 +5,7 @@ use Rattle.std.proofs.lemmas.List.{length-drop}
 use Rattle.std.proofs.Math.ListN.{drop_of_length-le}
 use Rattle.class_model.specs.declared.kind.Kind.{Kind}
 use Rattle.program_rules.specs.declared.value.Value.{Value}
-use Rattle.class_table.specs.Symbols.{kind_of}
+use Rattle.class_link.specs.Symbols.{kind_of}
 use Rattle.jvm_step.specs.Arguments.{are_of_kinds}
 
 abbrev Are : List Kind → List Value → Bool

@@ -1,5 +1,13 @@
 pub mod Lists
-mod Keeping
-mod Opcodes
-mod Fitting
-mod Made
+pub mod EntryLaws
+pub mod InsnLaws
+pub mod MovedInsns
+pub mod NearLaws
+pub mod CodeForms
+pub mod MovedTables
+pub mod Keeping
+pub mod Made
+pub mod ChangeLaws
+pub mod FitLaws
+pub mod PoolLaws
+pub mod NamesKept

@@ -2,6 +2,8 @@
 
 ghost use Rattle.mutant_apply.specs.Laws.{AppliedIsMade, EditKeepsForm, MutantsFit};
 
+use mutator_ops::listed_exactly;
+
 /// A class that can be written can be written when it is edited.
 pub fn edit_keeps_form()
     ensures { EditKeepsForm }
@@ -10,9 +12,11 @@ pub fn edit_keeps_form()
 /// The edit of each mutant of a class is one that `apply` takes.
 pub fn mutants_fit()
     ensures { MutantsFit }
-{}
+{
+    listed_exactly();
+}
 
-/// What `apply` gives is the edited class with its layout, under the names of the one that is edited.
+/// What `apply` gives is the class with its edited parts and its layout, under the names of the one that is edited.
 pub fn applied_is_made()
     ensures { AppliedIsMade }
 {}

@@ -1,10 +1,9 @@
 //! The method that an edit names.
 
-ghost use Rattle.std.specs.Prelude.{◌≡◌, IfOk, IsTrue, option_copied};
+ghost use Rattle.std.specs.Prelude.{◌≡◌, IfOk, option_copied};
 ghost use Rattle.mutator_ops.specs.Mutants.{code_of};
-ghost use Rattle.mutant_apply.specs.Edited.{changed_at, edited_attrs, edited_member, has_stack_room_in, has_stack_room, named_code};
+ghost use Rattle.mutant_apply.specs.Edited.{changed_at, with_code, member_with, named_code};
 
-use crate::code::edited_code;
 use crate::items::with_item;
 use class_model::{Attr, Body, Class, Code, Edit, Member, Memory, Seq};
 
@@ -20,36 +19,26 @@ fn code_of(attrs: &[Attr]) -> Option<&Code>
     None
 }
 
-fn named_code<'a>(edit: &Edit, class: &'a Class) -> Option<&'a Code>
+/// The code that an edit names.
+pub fn named_code<'a>(edit: &Edit, class: &'a Class) -> Option<&'a Code>
     ensures { option_copied result ≡ named_code edit.now class.now }
 {
     let member = class.methods.get(edit.method as usize)?;
     code_of(member.attrs.as_slice())
 }
 
-/// The stack's height has room for what the edit adds.
-pub fn has_stack_room(edit: &Edit, class: &Class) -> bool
-    ensures { result ≡ has_stack_room edit.now class.now }
-{
-    match named_code(edit, class) {
-        Some(code) => code.max_stack.checked_add(edit.more_stack).is_some(),
-        None => true,
-    }
-}
-
-// The attributes of a method, the first of which that is Code is edited.
-fn edited_attrs(edit: &Edit, attrs: &Seq<Attr>) -> Result<Seq<Attr>, Memory>
-    requires { IsTrue (has_stack_room_in edit.now (code_of attrs.now)) }
-    ensures { IfOk result (λ edited. edited ≡ edited_attrs edit.now attrs.now) }
+// The attributes of a method with another code in the place of the first one.
+fn with_code(new: &Code, attrs: &Seq<Attr>) -> Result<Seq<Attr>, Memory>
+    ensures { IfOk result (λ edited. edited ≡ with_code new.now attrs.now) }
 {
     let mut edited = attrs.empty();
     let mut is_edited = false;
     for attr in attrs.as_slice() {
         match &attr.body {
-            Body::Code(code) if !is_edited => {
+            Body::Code(_) if !is_edited => {
                 edited.push(Attr {
                     name: attr.name,
-                    body: Body::Code(edited_code(edit, code)?),
+                    body: Body::Code(new.copy()?),
                 })?;
                 is_edited = true;
             }
@@ -59,27 +48,25 @@ fn edited_attrs(edit: &Edit, attrs: &Seq<Attr>) -> Result<Seq<Attr>, Memory>
     Ok(edited)
 }
 
-fn edited_member(edit: &Edit, member: &Member) -> Result<Member, Memory>
-    requires { IsTrue (has_stack_room_in edit.now (code_of member.now.attrs)) }
-    ensures { IfOk result (λ edited. edited ≡ edited_member edit.now member.now) }
+fn member_with(new: &Code, member: &Member) -> Result<Member, Memory>
+    ensures { IfOk result (λ edited. edited ≡ member_with new.now member.now) }
 {
     Ok(Member {
         flags: member.flags,
         name: member.name,
         desc: member.desc,
-        attrs: edited_attrs(edit, &member.attrs)?,
+        attrs: with_code(new, &member.attrs)?,
     })
 }
 
-/// The methods of a class with the one edited that the edit names.
+/// The methods of a class with another code in the one that an edit names.
 #[tactic(auto, using(crate::proofs::Lists::changed_set, crate::proofs::Lists::changed_none))]
-pub fn edited_methods(edit: &Edit, class: &Class) -> Result<Seq<Member>, Memory>
-    requires { IsTrue (has_stack_room edit.now class.now) }
-    ensures { IfOk result (λ edited. edited ≡ changed_at edit.now.method (edited_member edit.now) class.now.methods) }
+pub fn methods_with(edit: &Edit, new: &Code, class: &Class) -> Result<Seq<Member>, Memory>
+    ensures { IfOk result (λ edited. edited ≡ changed_at edit.now.method (member_with new.now) class.now.methods) }
 {
     let at = edit.method as usize;
     match class.methods.get(at) {
-        Some(member) => with_item(&class.methods, at, edited_member(edit, member)?),
+        Some(member) => with_item(&class.methods, at, member_with(new, member)?),
         None => class.methods.copy(),
     }
 }

@@ -1,29 +1,68 @@
 //! An edit of a class.
 
-ghost use Rattle.std.specs.Prelude.{◌≡◌, IfOk, IsTrue};
+ghost use Rattle.std.specs.Prelude.{◌≡◌, ◌++◌, IfOk, OnOk};
 ghost use Rattle.class_writer.specs.Writing.{HasClassForm};
-ghost use Rattle.mutant_apply.specs.Edited.{has_stack_room, edited_class, applied};
+ghost use Rattle.mutant_apply.specs.Edited.{edited_parts, class_with, applied};
 ghost use Rattle.mutant_apply.specs.Fitting.{Fits};
+ghost use Rattle.mutant_apply.specs.Room.{Makes};
 
-use crate::members::{edited_methods, has_stack_room};
-use class_model::{Bytes, Class, Edit, LayoutFault, Memory};
+use crate::code::edited_code;
+use crate::members::{methods_with, named_code};
+use crate::parts::Parts;
+use crate::refusal::Refusal;
+use class_model::{Bytes, Class, Const, Edit, LayoutFault, Memory, Seq};
 use class_writer::write_class;
 use std::alloc::Global;
 
-fn edited_class(edit: &Edit, class: &Class) -> Result<Class, Memory>
-    requires { IsTrue (has_stack_room edit.now class.now) }
-    ensures { IfOk result (λ edited. edited ≡ edited_class edit.now class.now) }
+fn parts_or_refusal(class: &Class, edit: &Edit) -> Result<Parts, Refusal>
+    requires form { HasClassForm class.now }
+    requires fits { Fits class.now edit.now }
+    ensures { Makes (edited_parts edit.now class.now) result }
 {
+    let Some(code) = named_code(edit, class) else {
+        return Err(Refusal::NoLayout);
+    };
+    edited_code(&class.pool, edit, code)
+}
+
+/// The parts of a class that an edit makes anew; none exactly where a bound of the format is passed by them. What the edit leaves isn't copied.
+pub fn edited_parts(class: &Class, edit: &Edit) -> Result<Option<Parts>, Memory>
+    requires form { HasClassForm class.now }
+    requires fits { Fits class.now edit.now }
+    ensures { IfOk result (λ parts. parts ≡ edited_parts edit.now class.now) }
+{
+    match parts_or_refusal(class, edit) {
+        Ok(parts) => Ok(Some(parts)),
+        Err(Refusal::NoLayout) => Ok(None),
+        Err(Refusal::Memory) => Err(Memory),
+    }
+}
+
+fn push_entries(pool: &mut Seq<Const>, added: &[Const]) -> Result<(), Memory>
+    ensures { OnOk result (pool.new ≡ pool.old ++ added.now) }
+{
+    for entry in added {
+        pool.push(entry.copy()?)?;
+    }
+    Ok(())
+}
+
+/// The class with parts that an edit makes anew.
+pub fn class_with(class: &Class, edit: &Edit, parts: &Parts) -> Result<Class, Memory>
+    ensures { IfOk result (λ edited. edited ≡ class_with edit.now class.now parts.now) }
+{
+    let mut pool = class.pool.copy()?;
+    push_entries(&mut pool, parts.added.as_slice())?;
     Ok(Class {
         minor: class.minor,
         major: class.major,
-        pool: class.pool.copy()?,
+        pool,
         flags: class.flags,
         this: class.this,
         parent: class.parent,
         interfaces: class.interfaces.copy()?,
         fields: class.fields.copy()?,
-        methods: edited_methods(edit, class)?,
+        methods: methods_with(edit, &parts.code, class)?,
         attrs: class.attrs.copy()?,
     })
 }
@@ -34,10 +73,10 @@ pub fn apply(alloc: Global, class: &Class, edit: &Edit) -> Result<Option<(Class,
     requires fits { Fits class.now edit.now }
     ensures { IfOk result (λ made. made ≡ applied class.now edit.now) }
 {
-    if !has_stack_room(edit, class) {
+    let Some(parts) = edited_parts(class, edit)? else {
         return Ok(None);
-    }
-    let edited = edited_class(edit, class)?;
+    };
+    let edited = class_with(class, edit, &parts)?;
     match write_class(alloc, &edited) {
         Ok(bytes) => Ok(Some((edited, bytes))),
         Err(LayoutFault::TooLarge { .. }) => Ok(None),

@@ -12,7 +12,9 @@ mod list_tests;
 #[cfg(test)]
 mod small_methods;
 #[cfg(test)]
+mod samples;
+#[cfg(test)]
 mod tests;
 
-pub use calls::apply;
+pub use calls::{apply, edited_parts};
 pub use list_calls::{class_mutants, count_mutants, mutators, row};

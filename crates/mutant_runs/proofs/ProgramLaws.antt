@@ -1,23 +1,30 @@
 -- A program with an edited class in the place of the one that it was made of, and the way back.
-use Rattle.std.proofs.Common.{◌≡◌, ◌≢◌, ◌∙◌, sym, refl, ap, subst, ℕ, zero, suc, Bool, true, false, List, [], ◌∷◌, Option, None, Some, slice_get, slice_set, IsSomeAnd, arith}
-use Rattle.std.specs.Prelude.{if◌then◌else◌, option_and_then, Result, Ok, Err, IfSome}
+use Rattle.std.proofs.Common.{◌≡◌, ◌≢◌, ◌∙◌, sym, refl, ap, subst, ℕ, zero, suc, Bool, true, false, List, [], ◌∷◌, Option, None, Some, slice_get, slice_set, IsSomeAnd, map, ◌++◌, arith}
+use Rattle.std.specs.Prelude.{◌==◌, if◌then◌else◌, option_and_then, IfSome}
+use Rattle.std.specs.List.{AllByRecursion}
 use Rattle.std.specs.Option.{option_map}
 use Rattle.std.specs.Cmp.Lexicographic.{same_text, other_text}
 use Rattle.std.proofs.lemmas.List.{length-map}
 use Rattle.std.proofs.lemmas.Option.{slice_get_within}
 use Rattle.class_model.specs.declared.class.Class.{Class}
 use Rattle.class_model.specs.declared.edit.Edit.{Edit}
-use Rattle.class_model.specs.declared.fault.LayoutFault.{LayoutFault}
-use Rattle.class_writer.specs.Writing.{layout, HasClassForm}
+use Rattle.class_model.specs.Pool.{class_name_of}
+use Rattle.class_model.specs.declared.constant.Const.{Const}
+use Rattle.class_writer.specs.Writing.{HasClassForm}
 use Rattle.program_rules.specs.Names.{Name, same}
 use Rattle.program_rules.specs.Linked.{Linked}
 use Rattle.class_link.specs.declared.loaded.Loaded.{Loaded}
 use Rattle.class_link.specs.declared.loaded.ClassBody.TheVariants as body
 use Rattle.class_link.specs.Info.{Info, own_name, body_name, link_body, class_of, file_in}
-use Rattle.class_link.specs.Linking.{link}
+use Rattle.class_link.specs.Linking.{class_or_none, link}
+use Rattle.class_link.specs.Symbols.{name_or_empty, class_named}
 use Rattle.class_table.specs.Table.{place_in, names, number_of, name_at, class_at, look, AreDistinct, IsFile, IsAlike, CanSwap}
 use Rattle.class_table.proofs.Places.{name_at_place, names_kept}
-use Rattle.mutant_apply.specs.Edited.{edited_class, with_layout, has_stack_room, applied}
+use Rattle.class_reader.specs.Spells.{IsClass}
+use Rattle.mutant_apply.specs.Edited.{class_with, applied}
+use Rattle.mutant_apply.specs.declared.parts.Parts.{Parts}
+use Rattle.mutant_apply.proofs.Made.{applied_made}
+use Rattle.mutant_apply.proofs.NamesKept.{SameNames, same_names}
 use Rattle.mutant_apply.specs.Fitting.{Fits}
 use Rattle.mutator_ops.specs.declared.mutant.Mutant.{Mutant}
 use Rattle.mutant_runs.specs.Programs.{files_of, with_class, edited, IsMutantOf, Makes}
@@ -71,27 +78,42 @@ look_with p id old new c h number name class = λ i n. look_named p id old new c
 
 -- ---- the class that an edit makes
 
-layout_case : (c : Class) (r : Result (List ℕ) LayoutFault) (made : Class × List ℕ) → with_layout c r ≡ Some made → made.0 ≡ c
-layout_case c (Ok bytes) made h = let e : made ≡ (c, bytes) = cc in ap (λ m. m.0) e
-layout_case c (Err fault) made h = absurd cc
+each_same : (f : ℕ → Name) (g : ℕ → Name) (is : List ℕ) → AllByRecursion (λ i. f i ≡ g i) is → map f is ≡ map g is
+each_same f g [] q = refl
+each_same f g (i ∷ is) q = ap (λ (n : Name). n ∷ map f is) q.0 ∙ ap (λ (ns : List Name). g i ∷ ns) (each_same f g is q.1)
 
-room_case : (c : Class) (r : Result (List ℕ) LayoutFault) (room : Bool) (made : Class × List ℕ) → (if room then with_layout c r else None) ≡ Some made → made.0 ≡ c
-room_case c r true made h = layout_case c r made h
-room_case c r false made h = absurd cc
+each_named : (pool more : List Const) (is : List ℕ) → AllByRecursion (λ i. class_name_of (pool ++ more) i ≡ class_name_of pool i) is → AllByRecursion (λ i. class_named (pool ++ more) i ≡ class_named pool i) is
+each_named pool more [] q = tt
+each_named pool more (i ∷ is) q = (ap name_or_empty q.0, each_named pool more is q.1)
 
-made_class : (c : Class) (e : Edit) (made : Class × List ℕ) → applied c e ≡ Some made → made.0 ≡ edited_class e c
-made_class c e made h = room_case (edited_class e c) (layout (edited_class e c)) (has_stack_room e c) made h
+parent_case : (pool more : List Const) (i : ℕ) (b : Bool) → (b ≡ false → class_name_of (pool ++ more) i ≡ class_name_of pool i) → (if b then None else Some (class_named (pool ++ more) i)) ≡ (if b then None else Some (class_named pool i))
+parent_case pool more i true same = refl
+parent_case pool more i false same = ap (λ (o : Option Name). Some (name_or_empty o)) (same refl)
+
+-- the superclass and the interfaces of a class with entries behind its pool
+same_parent : (c : Class) (more : List Const) → SameNames c more → class_or_none (c.pool ++ more) c.parent ≡ class_or_none c.pool c.parent
+same_parent c more q = parent_case c.pool more c.parent (c.parent == 0) q.parent
+
+same_interfaces : (c : Class) (more : List Const) → SameNames c more → map (class_named (c.pool ++ more)) c.interfaces ≡ map (class_named c.pool) c.interfaces
+same_interfaces c more q = each_same (class_named (c.pool ++ more)) (class_named c.pool) c.interfaces (each_named c.pool more c.interfaces q.interfaces)
+
+linked_parent : (edit : Edit) (c : Class) (parts : Parts) → SameNames c parts.added → (link (class_with edit c parts)).parent ≡ (link c).parent
+unfolding link
+linked_parent edit c parts q = same_parent c parts.added q
+
+linked_interfaces : (edit : Edit) (c : Class) (parts : Parts) → SameNames c parts.added → (link (class_with edit c parts)).interfaces ≡ (link c).interfaces
+unfolding link
+linked_interfaces edit c parts q = same_interfaces c parts.added q
 
 -- An edit leaves the name, the superclass and the interfaces.
-alike : (old new : Info) (l : Loaded) (edit : Edit) (made : Class) (bytes : List ℕ) → made ≡ edited_class edit l.class → old.name ≡ body_name old.body → class_of old ≡ link_body old.body → old.body ≡ body.File l
+alike : (old new : Info) (l : Loaded) (edit : Edit) (parts : Parts) (made : Class) (bytes : List ℕ) → made ≡ class_with edit l.class parts → SameNames l.class parts.added → old.name ≡ body_name old.body → class_of old ≡ link_body old.body → old.body ≡ body.File l
     → new.name ≡ body_name new.body → class_of new ≡ link_body new.body → new.body ≡ body.File (record { bytes = bytes; class = made }) → IsAlike old new
-unfolding link
-alike old new l edit made bytes is old-name old-class old-body new-name new-class new-body = record {
+alike old new l edit parts made bytes is same old-name old-class old-body new-name new-class new-body = record {
   old_file = subst IsFile (sym old-body) tt;
   new_file = subst IsFile (sym new-body) tt;
-  name = new-name ∙ ap body_name new-body ∙ ap own_name is ∙ sym (old-name ∙ ap body_name old-body);
-  parent = ap (λ (k : Linked). k.parent) (new-class ∙ ap link_body new-body ∙ ap link is) ∙ sym (ap (λ (k : Linked). k.parent) (old-class ∙ ap link_body old-body));
-  interfaces = ap (λ (k : Linked). k.interfaces) (new-class ∙ ap link_body new-body ∙ ap link is) ∙ sym (ap (λ (k : Linked). k.interfaces) (old-class ∙ ap link_body old-body));
+  name = new-name ∙ ap body_name new-body ∙ ap own_name is ∙ ap name_or_empty same.this ∙ sym (old-name ∙ ap body_name old-body);
+  parent = ap (λ (k : Linked). k.parent) (new-class ∙ ap link_body new-body ∙ ap link is) ∙ linked_parent edit l.class parts same ∙ sym (ap (λ (k : Linked). k.parent) (old-class ∙ ap link_body old-body));
+  interfaces = ap (λ (k : Linked). k.interfaces) (new-class ∙ ap link_body new-body ∙ ap link is) ∙ linked_interfaces edit l.class parts same ∙ sym (ap (λ (k : Linked). k.interfaces) (old-class ∙ ap link_body old-body));
 }
 
 -- ---- which class file a mutant's class has
@@ -119,14 +141,16 @@ no_file p m h = ap (λ o. option_map (λ made. with_class made.0 (look p)) (opti
 pub edited_by : (p : List Info) (m : Mutant) (c : Class) (o : Option (Class × List ℕ)) → files_of p m.class ≡ Some c → applied c m.edit ≡ o → edited (files_of p) (look p) m ≡ option_map (λ made. with_class made.0 (look p)) o
 edited_by p m c o file is = ap (λ f. option_map (λ made. with_class made.0 (look p)) (option_and_then (λ c. applied c m.edit) f)) file ∙ ap (option_map (λ made. with_class made.0 (look p))) is
 
-pub of_file : (p : List Info) (m : Mutant) (c : Class) → files_of p m.class ≡ Some c → IsMutantOf (files_of p) m → HasClassForm c × Fits c m.edit
-of_file p m c file h = let P : Option Class → Type 0 = λ o. IfSome o (λ c. HasClassForm c × Fits c m.edit) in subst P file h
+pub of_file : (p : List Info) (m : Mutant) (c : Class) → files_of p m.class ≡ Some c → IsMutantOf (files_of p) m → HasClassForm c × Fits c m.edit × IsClass c
+of_file p m c file h = let P : Option Class → Type 0 = λ o. IfSome o (λ c. HasClassForm c × Fits c m.edit × IsClass c) in subst P file h
 
 -- The class that is made takes the other's place.
-pub makes : (p : List Info) (m : Mutant) (id : ℕ) (old new : Info) (l : Loaded) (made : Class × List ℕ) (bytes : List ℕ) → IsAt p m.class id old → old.body ≡ body.File l → applied l.class m.edit ≡ Some made
+pub makes : (p : List Info) (m : Mutant) (id : ℕ) (old new : Info) (l : Loaded) (made : Class × List ℕ) (bytes : List ℕ) → IsAt p m.class id old → old.body ≡ body.File l → IsClass l.class → applied l.class m.edit ≡ Some made
     → new.name ≡ body_name new.body → class_of new ≡ link_body new.body → new.body ≡ body.File (record { bytes = bytes; class = made.0 }) → Makes p m id new
-makes p m id old new l made bytes at file is new-name new-class new-body =
-    let like : IsAlike old new = alike old new l m.edit made.0 bytes (made_class l.class m.edit made is) at.name at.class file new-name new-class new-body in
+makes p m id old new l made bytes at file spelled is new-name new-class new-body =
+    let made_by = applied_made l.class m.edit made is in
+    let same = same_names l.class made_by.parts.added spelled in
+    let like : IsAlike old new = alike old new l m.edit made_by.parts made.0 bytes made_by.is same at.name at.class file new-name new-class new-body in
     let own : own_name made.0 ≡ m.class = sym (new-name ∙ ap body_name new-body) ∙ like.name ∙ at.named in
     let number : number_of p (own_name made.0) ≡ Some id = ap (number_of p) own ∙ at.number in
     let P : Option Info → Type 0 = λ o. IsSomeAnd o (λ x. IsAlike x new) in

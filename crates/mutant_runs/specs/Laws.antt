@@ -1,6 +1,7 @@
 -- When `verdicts` may be called: the mutants of the class files of a program are of the program.
 use Rattle.std.specs.Prelude.{◌≡◌, ℕ, List, All, Some, slice_get}
 use Rattle.class_model.specs.declared.class.Class.{Class}
+use Rattle.class_reader.specs.Spells.{IsClass}
 use Rattle.class_writer.specs.Writing.{HasClassForm}
 use Rattle.class_link.specs.Info.{Info, own_name, body_name, file_in}
 use Rattle.class_table.specs.Table.{IsProgram}
@@ -13,4 +14,4 @@ FilesAreFound = (p : List Info) (id : ℕ) (i : Info) (c : Class) → IsProgram 
 
 -- The mutants of a class file that is found by its name are of the program.
 abbrev pub MutantsAreOf : Type 0
-MutantsAreOf = (p : List Info) (c : Class) → HasClassForm c → files_of p (own_name c) ≡ Some c → All (IsMutantOf (files_of p)) (class_mutants c)
+MutantsAreOf = (p : List Info) (c : Class) → HasClassForm c → IsClass c → files_of p (own_name c) ≡ Some c → All (IsMutantOf (files_of p)) (class_mutants c)

@@ -2,6 +2,7 @@
 use Rattle.std.specs.Prelude.{◌≡◌, ℕ, if◌then◌else◌, List, Option, Some, IfSome, slice_get, slice_set, option_and_then}
 use Rattle.std.specs.Option.{option_map}
 use Rattle.class_model.specs.declared.class.Class.{Class}
+use Rattle.class_reader.specs.Spells.{IsClass}
 use Rattle.class_writer.specs.Writing.{HasClassForm}
 use Rattle.program_rules.specs.Names.{Name, same}
 use Rattle.program_rules.specs.Programs.{Look}
@@ -28,9 +29,9 @@ with_class c p n = if same n (own_name c) then Some (link c) else p n
 abbrev pub edited : ClassFiles → Look → Mutant → Option Look
 edited files p m = option_map (λ made. with_class made.0 p) (option_and_then (λ c. applied c m.edit) (files m.class))
 
--- The edit of a mutant is one that its class takes.
+-- The edit of a mutant is one that its class takes, and the class has a spelling.
 abbrev pub IsMutantOf : ClassFiles → Mutant → Type 0
-IsMutantOf files m = IfSome (files m.class) (λ c. HasClassForm c × Fits c m.edit)
+IsMutantOf files m = IfSome (files m.class) (λ c. HasClassForm c × Fits c m.edit × IsClass c)
 
 -- The class that a mutant's edit makes may stand in the place of the one of this number, and the program then is the one that the edit makes.
 pub record Makes (p : List Info) (m : Mutant) (id : ℕ) (class : Info) : Type 0 where

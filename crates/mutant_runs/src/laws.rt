@@ -3,6 +3,7 @@
 ghost use Rattle.mutant_runs.specs.Laws.{FilesAreFound, MutantsAreOf};
 
 use mutant_apply::mutants_fit;
+use mutator_ops::listed_exactly;
 
 /// A class file of a program is found by its name.
 pub fn files_are_found()
@@ -13,5 +14,6 @@ pub fn files_are_found()
 pub fn mutants_are_of()
     ensures { MutantsAreOf }
 {
+    listed_exactly();
     mutants_fit();
 }

@@ -1,4 +1,5 @@
 ghost use Rattle.std.specs.Prelude.{All, IfOk};
+ghost use Rattle.class_reader.specs.Spells.{IsClass};
 ghost use Rattle.class_writer.specs.Writing.{HasClassForm};
 ghost use Rattle.mutant_runs.specs.Programs.{files_of, IsMutantOf};
 
@@ -53,7 +54,8 @@ const T: [u8; 301] = [
 ];
 
 fn loaded(alloc: Global, bytes: &[u8]) -> Result<Loaded, Fail>
-    ensures { IfOk result (λ l. HasClassForm l.class) }
+    ensures form { IfOk result (λ l. HasClassForm l.class) }
+    ensures spelled { IfOk result (λ l. IsClass l.class) }
 {
     what_is_spelled_is_written();
     let class = read_class(alloc, bytes)?;

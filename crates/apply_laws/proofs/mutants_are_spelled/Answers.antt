@@ -1,4 +1,4 @@
-use Rattle.apply_laws.proofs.Jumps.{mutants_spelled}
+use Rattle.apply_laws.proofs.Keeping.{mutants_spelled}
 use Rattle.apply_laws.proofs.mutants_are_spelled.Goals as goal
 
 pub returns : goal.returns

@@ -1,5 +1,5 @@
 use Rattle.std.proofs.Common.{map}
-use Rattle.class_table.specs.Symbols.{kind_of}
+use Rattle.class_link.specs.Symbols.{kind_of}
 use Rattle.jvm_step.specs.Arguments.{are_of_kinds}
 use Rattle.jvm_step.proofs.KindLoop.{no_value, all_seen}
 use Rattle.jvm_step.proofs.kinds.are_of_kinds.Goals as goal

@@ -1,5 +1,5 @@
 use Rattle.std.proofs.Common.{◌≡◌, ◌-◌, ◌≤◌, length, map, drop}
-use Rattle.class_table.specs.Symbols.{kind_of}
+use Rattle.class_link.specs.Symbols.{kind_of}
 use Rattle.jvm_step.specs.Arguments.{are_of_kinds}
 use Rattle.jvm_step.proofs.kinds.are_of_kinds.Given as goal
 

@@ -1,8 +1,8 @@
 use Rattle.std.proofs.Common.{◌≡◌, ◌∙◌, sym, ap, subst, Some}
-use Rattle.class_link.specs.Info.{Info, body_name, link_body}
+use Rattle.class_link.specs.Info.{Info, body_name, link_body, file_in}
 use Rattle.mutant_apply.specs.Edited.{applied}
-use Rattle.mutant_runs.specs.Programs.{Makes}
-use Rattle.mutant_runs.proofs.ProgramLaws.{IsAt, makes}
+use Rattle.mutant_runs.specs.Programs.{files_of, Makes}
+use Rattle.mutant_runs.proofs.ProgramLaws.{IsAt, file_at, of_file, makes}
 use Rattle.mutant_runs.proofs.on_mutant.edited_class.Goals as goal
 
 pub returns : goal.returns
@@ -18,7 +18,10 @@ returns c =
       class = c.info-original.ensures.of_body;
     } in
     let file = sym c.body.ensures ∙ c.in-File.is in
+    let found : files_of p m.class ≡ Some c.in-File.loaded.class = file_at p m.class c.in-Some.id.0 old at.number at.place ∙ ap (λ b. file_in (record old { body = b })) file in
+    let known = of_file p m c.in-File.loaded.class found c.requires in
+    let spelled = known.2 in
     let made : applied c.in-File.loaded.class m.edit ≡ Some (c.in-Some-2.class, c.in-Some-2.bytes) = sym c.in_ok-class.ensures ∙ c.in-Some-2.is in
     let P : Info → Type 0 = λ i. Makes p m c.in-Some.id.0 i in
     let info = c.in_ok-edited.edited in
-    subst P (sym c.in_ok-new.ensures.ok) (makes p m c.in-Some.id.0 old info c.in-File.loaded (c.in-Some-2.class, c.in-Some-2.bytes) c.in_ok-bytes.bytes at file made (c.in_ok-edited.ensures.name ∙ ap body_name (sym c.in_ok-edited.ensures.body)) (c.in_ok-edited.ensures.class ∙ ap link_body (sym c.in_ok-edited.ensures.body)) c.in_ok-edited.ensures.body)
+    subst P (sym c.in_ok-new.ensures.ok) (makes p m c.in-Some.id.0 old info c.in-File.loaded (c.in-Some-2.class, c.in-Some-2.bytes) c.in_ok-bytes.bytes at file spelled made (c.in_ok-edited.ensures.name ∙ ap body_name (sym c.in_ok-edited.ensures.body)) (c.in_ok-edited.ensures.class ∙ ap link_body (sym c.in_ok-edited.ensures.body)) c.in_ok-edited.ensures.body)

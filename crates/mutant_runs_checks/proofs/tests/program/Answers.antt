@@ -27,4 +27,4 @@ returns c =
     let place : slice_get p 0 ≡ Some i = sym c.in-Some.ensures.place in
     let found : files_of p (own_name a.class) ≡ Some a.class = c.files_are_found.ensures p 0 i a.class c.in-Some.ensures.form place (sym c.name-name.ensures.value ∙ c.name-name.ensures.of_body) (first_file p i a _ bodies place) in
     let P : List Mutant → Type 0 = λ mutants. All (IsMutantOf (files_of p)) mutants in
-    subst P (sym c.in_ok-mutants.ensures) (c.mutants_are_of.ensures p a.class c.in_ok-a.ensures found)
+    subst P (sym c.in_ok-mutants.ensures) (c.mutants_are_of.ensures p a.class c.in_ok-a.ensures.form c.in_ok-a.ensures.spelled found)
