@@ -1,7 +1,7 @@
 ghost use Rattle.std.specs.Prelude.{◌≡◌, ◌≢◌, ◌⊎◌, ◌↔◌, ◌++◌, ◌∷◌, [], Some, IfOk, IfSome, OnOk, OnErr, IsErrOf, IsTrue, None, map, filter, string_bytes, MatchOption};
 ghost use Rattle.std.specs.FinMap.{get, insert, keys};
 ghost use Rattle.mt_edge.specs.Causes.{HasCause};
-ghost use Rattle.mt_edge.specs.Files.{begins_with, listed, slash};
+ghost use Rattle.mt_edge.specs.Files.{begins_with, listed, length_at, slash};
 ghost use Rattle.mt_edge.specs.Held.{files_of, files_in, fails, after_call};
 ghost use Rattle.mt_edge.specs.declared.outside.EdgeFault.TheVariants.{Failed};
 
@@ -45,6 +45,15 @@ fn opened(alloc: Global, folder: &str) -> Result<String, Memory>
     let mut prefix = String::from_str(alloc, folder)?;
     prefix.push('/')?;
     Ok(prefix)
+}
+
+fn length_at(files: &BTreeMap<String, Bytes>, path: &str) -> Option<u64>
+    ensures { result ≡ length_at path.now (files_of files.now) }
+{
+    match files.get(path) {
+        Some(bytes) => Some(bytes.len() as u64),
+        None => None,
+    }
 }
 
 fn found(files: &BTreeMap<String, Bytes>, path: &str) -> Result<Option<Bytes>, Memory>
@@ -125,6 +134,21 @@ impl Tree for MemTree {
         }
         let prefix = opened(self.alloc, folder)?;
         Ok(names(self.alloc, &self.files, prefix.as_bytes())?)
+    }
+
+    fn length(&mut self, path: &str) -> Result<Option<u64>, EdgeFault>
+        ensures length { IfOk result (λ found. found ≡ length_at path.now (tree_files self.old)) }
+        ensures same { Some (tree_files self.new) ≡ Some (tree_files self.old) }
+        ensures cause { HasCause (tree_reading self.old) (tree_reading self.new) result }
+        ensures other { tree_writing self.new ≡ tree_writing self.old }
+        ensures told { IsErrOf result Failed ↔ IsTrue (fails (tree_script self.old)) }
+        ensures counted { tree_script self.new ≡ after_call (tree_script self.old) }
+    {
+        if self.script.next_fails() {
+            self.reading = self.reading.saturating_add(1);
+            return Err(EdgeFault::Failed);
+        }
+        Ok(length_at(&self.files, path))
     }
 
     fn read(&mut self, path: &str) -> Result<Option<Bytes>, EdgeFault>

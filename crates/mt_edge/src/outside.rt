@@ -3,7 +3,7 @@
 ghost use Rattle.std.specs.Prelude.{◌≡◌, ◌⊎◌, List, ℕ, map, option_map, IfOk, OnOk, OnErr, IfSome, string_bytes, Option};
 ghost use Rattle.std.specs.FinMap.{get, insert};
 ghost use Rattle.mt_edge.specs.Causes.{HasCause};
-ghost use Rattle.mt_edge.specs.Files.{Files, listed};
+ghost use Rattle.mt_edge.specs.Files.{Files, listed, length_at};
 ghost use Rattle.mt_edge.specs.Pieces.{Grows, GrowsBy};
 ghost use Rattle.mt_edge.specs.declared.outside.EdgeFault.TheVariants.{Memory as NoMemory};
 
@@ -46,12 +46,12 @@ impl<T: Drop> From<AllocFailed<T>> for EdgeFault {
     }
 }
 
-/// A tree of files. `list` and `read` change nothing that it holds.
+/// A tree of files. Only `replace` changes what it holds.
 pub trait Tree {
     /// The files by path, where the tree tells them.
     ghost holds: { Self → Option Files };
 
-    /// How many calls of `list` and `read` have failed; it stays at 2^64 - 1.
+    /// How many calls of `list`, `length` and `read` have failed; it stays at 2^64 - 1.
     ghost reading: { Self → ℕ };
 
     /// How many calls of `replace` have failed; it stays at 2^64 - 1.
@@ -60,6 +60,13 @@ pub trait Tree {
     /// The paths of all files below the folder, in byte order, each beginning with the folder and `/`.
     fn list(&mut self, folder: &str) -> Result<Vec<String>, EdgeFault>
         ensures names { IfOk result (λ paths. IfSome (holds self.old) (λ files. map string_bytes paths.items ≡ listed folder.now files)) }
+        ensures same { holds self.new ≡ holds self.old }
+        ensures cause { HasCause (reading self.old) (reading self.new) result }
+        ensures other { writing self.new ≡ writing self.old };
+
+    /// How many bytes the path holds, or None where nothing is held there.
+    fn length(&mut self, path: &str) -> Result<Option<u64>, EdgeFault>
+        ensures length { IfOk result (λ found. IfSome (holds self.old) (λ files. found ≡ length_at path.now files)) }
         ensures same { holds self.new ≡ holds self.old }
         ensures cause { HasCause (reading self.old) (reading self.new) result }
         ensures other { writing self.new ≡ writing self.old };

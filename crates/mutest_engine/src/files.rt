@@ -2,10 +2,10 @@
 
 ghost use Rattle.std.specs.Prelude.{◌≡◌, ◌≤◌, ℕ, List, IfOk, IfErr};
 ghost use Rattle.class_writer.specs.Writing.{HasClassForm};
-ghost use Rattle.mutest_engine.specs.Answers.{within_limit as within, file_of, spelled_class, IsClassFault, IsOfFile, IsOfSuite, IsUnheld};
+ghost use Rattle.mutest_engine.specs.Answers.{few_bytes, within_limit as within, file_of, spelled_class, IsClassFault, IsOfFile, IsOfSuite, IsUnheld};
 ghost use Rattle.mutest_engine.specs.declared.refusal.Refusal.TheVariants.{NotFound, BadClass};
 ghost use Rattle.mutest_engine.specs.declared.stop.Halt.TheVariants.{ReadFault};
-ghost use Rattle.mutest_engine.specs.Steps.{Gives, ReadsHeld, Refuses, RefusesReading, FailsReading};
+ghost use Rattle.mutest_engine.specs.Steps.{Gives, ReadsHeld, HaltsHeld, Refuses, RefusesReading, FailsReading};
 
 use crate::refusal::{Limit, Refusal};
 use crate::stop::{Halt, Stop};
@@ -32,6 +32,15 @@ fn within_limit(bytes: Bytes) -> Result<Bytes, Refusal>
     Ok(bytes)
 }
 
+// A file within the limit.
+fn within_limit(bytes: Bytes) -> Result<Bytes, Refusal>
+    ensures value { result ≡ within bytes }
+    ensures refusal { IfErr result (λ r. (path : List ℕ) → IsUnheld path r) }
+{
+    few_bytes(bytes.len() as u64)?;
+    Ok(bytes)
+}
+
 // Nothing is held at a path.
 fn not_found(alloc: Global, path: &str) -> Halt
     ensures refusal { RefusesReading (λ r. r ≡ NotFound path.now) result }
@@ -43,7 +52,25 @@ fn not_found(alloc: Global, path: &str) -> Halt
     }
 }
 
-/// The bytes of a file.
+// A file that isn't held or is past the limit is refused by its length, and not read.
+fn check_length<T: Tree>(alloc: Global, tree: &mut T, path: &str) -> Result<(), Halt>
+    ensures refused { IfErr result (HaltsHeld (T.holds tree.old) (file_of path.now)) }
+    ensures refusal { IfErr result (RefusesReading (IsUnheld path.now)) }
+    ensures faults { IfErr result (FailsReading (T.reading tree.old) (T.reading tree.new)) }
+    ensures later { T.reading tree.old ≤ T.reading tree.new }
+    ensures held { T.holds tree.new ≡ T.holds tree.old }
+    ensures unwritten { T.writing tree.new ≡ T.writing tree.old }
+{
+    match tree.length(path) {
+        Ok(Some(length)) => Ok(few_bytes(length)?),
+        Ok(None) => Err(not_found(alloc, path)),
+        Err(EdgeFault::Failed) => Err(Halt::ReadFault { faults: 1 }),
+        Err(EdgeFault::Memory) => Err(Halt::WantOfMemory),
+    }
+}
+
+/// The bytes of a file. Its length is asked first, so that none is read whole that is past the limit.
+#[tactic(auto, using(crate::proofs::FaultLaws::fails_since))]
 pub fn read_file<T: Tree>(alloc: Global, tree: &mut T, path: &str) -> Result<Bytes, Halt>
     ensures value { ReadsHeld (T.holds tree.old) (file_of path.now) result }
     ensures refusal { IfErr result (RefusesReading (IsUnheld path.now)) }
@@ -52,6 +79,7 @@ pub fn read_file<T: Tree>(alloc: Global, tree: &mut T, path: &str) -> Result<Byt
     ensures held { T.holds tree.new ≡ T.holds tree.old }
     ensures unwritten { T.writing tree.new ≡ T.writing tree.old }
 {
+    check_length(alloc, tree, path)?;
     match tree.read(path) {
         Ok(Some(bytes)) => Ok(within_limit(bytes)?),
         Ok(None) => Err(not_found(alloc, path)),
