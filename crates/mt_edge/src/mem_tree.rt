@@ -1,8 +1,9 @@
-ghost use Rattle.std.specs.Prelude.{◌≡◌, ◌≢◌, ◌⊎◌, ◌↔◌, ◌++◌, ◌∷◌, [], Some, IfOk, IfSome, OnOk, OnErr, IsErrOf, IsTrue, None, map, filter, string_bytes, MatchOption};
-ghost use Rattle.std.specs.FinMap.{get, insert, keys};
+ghost use Rattle.std.specs.Prelude.{◌≡◌, ◌↔◌, ◌++◌, ◌∷◌, [], IfOk, OnOk, OnErr, IsErrOf, IsTrue, string_bytes};
+ghost use Rattle.std.specs.FinMap.{get};
+ghost use Rattle.mt_edge.specs.Answered.{ListsBelow, TellsLength, ReadsAt, IsReplaced, OldOrReplaced, NamesWith, LendsAt};
 ghost use Rattle.mt_edge.specs.Causes.{HasCause};
-ghost use Rattle.mt_edge.specs.Files.{begins_with, listed, length_at, slash};
-ghost use Rattle.mt_edge.specs.Held.{files_of, files_in, fails, after_call};
+ghost use Rattle.mt_edge.specs.Files.{length_at, slash};
+ghost use Rattle.mt_edge.specs.Held.{files_of, files_in, fails, first_call, after_call};
 ghost use Rattle.mt_edge.specs.declared.outside.EdgeFault.TheVariants.{Failed};
 
 use crate::outside::{EdgeFault, Tree};
@@ -27,7 +28,7 @@ fn names(
     files: &BTreeMap<String, Bytes>,
     prefix: &[u8],
 ) -> Result<Vec<String>, Memory>
-    ensures { IfOk result (λ v. map string_bytes v.items ≡ filter (begins_with prefix.now) (keys (files_of files.now))) }
+    ensures { IfOk result (NamesWith prefix.now (files_of files.now)) }
 {
     let mut found = Vec::new(alloc);
     for key in files.keys() {
@@ -84,7 +85,7 @@ impl MemTree {
         failing: Vec<u64>,
     ) -> Result<MemTree, EdgeFault>
         ensures holds { IfOk result (λ t. tree_files t ≡ files_in files.items) }
-        ensures script { IfOk result (λ t. tree_script t ≡ record { call = 0; failing = failing.items }) }
+        ensures script { IfOk result (λ t. tree_script t ≡ first_call failing.items) }
         ensures memory { ¬ IsErrOf result Failed }
     {
         let mut held = BTreeMap::new(alloc);
@@ -102,7 +103,7 @@ impl MemTree {
 
     /// The bytes that the path holds.
     pub fn held(&self, path: &str) -> Option<&[u8]>
-        ensures { MatchOption result (get (tree_files self.now) path.now ≡ None) (λ bytes. get (tree_files self.now) path.now ≡ Some bytes.now) }
+        ensures { LendsAt path.now (tree_files self.now) result }
     {
         match self.files.get(path) {
             Some(bytes) => Some(bytes.as_slice()),
@@ -112,17 +113,17 @@ impl MemTree {
 }
 
 impl Tree for MemTree {
-    ghost use Rattle.mt_edge.specs.Shown.{tree_files, tree_script, tree_reading, tree_writing};
+    ghost use Rattle.mt_edge.specs.Shown.{told, tree_script, tree_reading, tree_writing};
 
-    ghost holds = { λ t. Some (tree_files t) };
+    ghost holds = { λ t. told t };
 
     ghost reading = { λ t. tree_reading t };
 
     ghost writing = { λ t. tree_writing t };
 
     fn list(&mut self, folder: &str) -> Result<Vec<String>, EdgeFault>
-        ensures names { IfOk result (λ paths. map string_bytes paths.items ≡ listed folder.now (tree_files self.old)) }
-        ensures same { Some (tree_files self.new) ≡ Some (tree_files self.old) }
+        ensures names { ListsBelow folder.now (told self.old) result }
+        ensures same { told self.new ≡ told self.old }
         ensures cause { HasCause (tree_reading self.old) (tree_reading self.new) result }
         ensures other { tree_writing self.new ≡ tree_writing self.old }
         ensures told { IsErrOf result Failed ↔ IsTrue (fails (tree_script self.old)) }
@@ -137,8 +138,8 @@ impl Tree for MemTree {
     }
 
     fn length(&mut self, path: &str) -> Result<Option<u64>, EdgeFault>
-        ensures length { IfOk result (λ found. found ≡ length_at path.now (tree_files self.old)) }
-        ensures same { Some (tree_files self.new) ≡ Some (tree_files self.old) }
+        ensures length { TellsLength path.now (told self.old) result }
+        ensures same { told self.new ≡ told self.old }
         ensures cause { HasCause (tree_reading self.old) (tree_reading self.new) result }
         ensures other { tree_writing self.new ≡ tree_writing self.old }
         ensures told { IsErrOf result Failed ↔ IsTrue (fails (tree_script self.old)) }
@@ -152,8 +153,8 @@ impl Tree for MemTree {
     }
 
     fn read(&mut self, path: &str) -> Result<Option<Bytes>, EdgeFault>
-        ensures bytes { IfOk result (λ found. found ≡ get (tree_files self.old) path.now) }
-        ensures same { Some (tree_files self.new) ≡ Some (tree_files self.old) }
+        ensures bytes { ReadsAt path.now (told self.old) result }
+        ensures same { told self.new ≡ told self.old }
         ensures cause { HasCause (tree_reading self.old) (tree_reading self.new) result }
         ensures other { tree_writing self.new ≡ tree_writing self.old }
         ensures told { IsErrOf result Failed ↔ IsTrue (fails (tree_script self.old)) }
@@ -167,8 +168,8 @@ impl Tree for MemTree {
     }
 
     fn replace(&mut self, path: &str, bytes: &[u8]) -> Result<(), EdgeFault>
-        ensures ok { OnOk result (Some (tree_files self.new) ≡ Some (insert (tree_files self.old) path.now bytes.now)) }
-        ensures err { OnErr result ((Some (tree_files self.new) ≡ Some (tree_files self.old)) ⊎ (Some (tree_files self.new) ≡ Some (insert (tree_files self.old) path.now bytes.now))) }
+        ensures ok { OnOk result (IsReplaced path.now bytes.now (told self.old) (told self.new)) }
+        ensures err { OnErr result (OldOrReplaced path.now bytes.now (told self.old) (told self.new)) }
         ensures cause { HasCause (tree_writing self.old) (tree_writing self.new) result }
         ensures other { tree_reading self.new ≡ tree_reading self.old }
         ensures told { IsErrOf result Failed ↔ IsTrue (fails (tree_script self.old)) }

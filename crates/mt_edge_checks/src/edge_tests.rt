@@ -3,7 +3,6 @@ use mt_edge::{EdgeFault, HostSink, HostTree, MemSink, MemTree, Meter, Sink, Tree
 use std::alloc::Global;
 use std::fs::Permissions;
 use std::os::unix::fs::{MetadataExt, PermissionsExt, symlink};
-use std::rt::Files;
 use std::test::Fail;
 use std::thread::Threads;
 use std::{env, fs, process, thread};
@@ -216,8 +215,11 @@ fn what_may_not_be_entered_is_a_fault(rt: HostRuntime) -> Result<(), Fail> {
     for (call, name, bytes, wanted, for_root) in CLOSED_CALLS {
         let path = format!(in rt.alloc(); "{folder}{name}")?;
         let said = answer(rt.alloc(), &mut tree, call, path.as_str(), bytes)?;
-        let wanted = if is_root { for_root } else { wanted };
-        assert_eq!(rt; said.as_str(), wanted, "at {name}");
+        if is_root {
+            assert_eq!(rt; said.as_str(), for_root, "at {name}");
+        } else {
+            assert_eq!(rt; said.as_str(), wanted, "at {name}");
+        }
     }
     fs::set_permissions(&rt, closed.as_str(), Permissions::from_mode(0o700))?;
     fs::remove_dir_all(&rt, folder.as_str())?;
@@ -232,13 +234,14 @@ struct Writer {
 }
 
 // Each replaces the file twenty times, both at once.
-fn replace_at_once<R: Threads + Files + AllocGlobal + Sync>(
+fn replace_at_once<R: Threads + Sync>(
     rt: &R,
+    files: &HostRuntime,
     path: &str,
     writers: &mut [Writer],
 ) {
     thread::for_each_mut(rt, writers, 2, &|_, writer: &mut Writer| {
-        let mut tree = HostTree::new(rt);
+        let mut tree = HostTree::new(files);
         for _ in 0..20 {
             if tree.replace(path, writer.text.as_bytes()).is_ok() {
                 writer.done = writer.done.saturating_add(1);
@@ -262,7 +265,7 @@ fn two_runs_at_once_leave_one_whole_file(rt: HostRuntime) -> Result<(), Fail> {
             done: 0,
         },
     ];
-    replace_at_once(&rt, path.as_str(), &mut writers);
+    replace_at_once(&rt, &rt, path.as_str(), &mut writers);
     for writer in &writers {
         assert_eq!(rt; writer.done, 20);
     }

@@ -151,3 +151,8 @@ Stays before after refusal = (before ≤ after) × (IsBeforeRuns refusal → aft
 abbrev pub Meters : {X : Type 0} → ℕ → ℕ → ℕ → Result X Stop → Type 0
 Meters before after steps result =
     (before ≤ after) × (after ≤ before + steps) × Counts after (before + steps) result
+
+-- The same of the runs of these tests on a program and on these mutants of it.
+abbrev pub MetersRuns :
+    {X : Type 0} → ℕ → ℕ → List Info → List Test → List Mutant → Result X Stop → Type 0
+MetersRuns before after p ts ms result = Meters before after (steps_on_all p ts ms) result

@@ -15,21 +15,20 @@ use class_writer::what_is_spelled_is_written;
 use mt_edge::{EdgeFault, Tree};
 use std::alloc::Global;
 
-const CLASS_LIMIT: usize = 4_194_304;
+const CLASS_LIMIT: u64 = 4_194_304;
 
-// A file within the limit.
-fn within_limit(bytes: Bytes) -> Result<Bytes, Refusal>
-    ensures value { result ≡ within bytes }
+// A file of so many bytes is within the limit.
+fn few_bytes(length: u64) -> Result<(), Refusal>
+    ensures value { result ≡ few_bytes length }
     ensures refusal { IfErr result (λ r. (path : List ℕ) → IsUnheld path r) }
 {
-    let length = bytes.len();
     if length > CLASS_LIMIT {
         return Err(Refusal::TooMany {
             limit: Limit::Class,
-            number: length as u64,
+            number: length,
         });
     }
-    Ok(bytes)
+    Ok(())
 }
 
 // A file within the limit.
