@@ -7,11 +7,11 @@ use Rattle.std.proofs.lemmas.Bool.Decides.{leb_tells}
 use Rattle.program_rules.specs.Names.{Name, same}
 use Rattle.program_rules.specs.Linked.{method_from, method_place}
 use Rattle.class_table.specs.declared.calls.Target.{Target}
-use Rattle.class_table.specs.declared.linked.Entry.{Entry}
-use Rattle.class_table.specs.declared.linked.MethodRef.{MethodRef}
-use Rattle.class_table.specs.declared.linked.LinkedMethod.{LinkedMethod}
-use Rattle.class_table.specs.Info.{Info, class_of}
-use Rattle.class_table.specs.View.{method_entry, method_ref_at, method_of, linked_of}
+use Rattle.class_link.specs.declared.linked.Entry.{Entry}
+use Rattle.class_link.specs.declared.linked.MethodRef.{MethodRef}
+use Rattle.class_link.specs.declared.linked.LinkedMethod.{LinkedMethod}
+use Rattle.class_link.specs.Info.{Info, class_of}
+use Rattle.class_link.specs.View.{method_entry, method_ref_at, method_of, linked_of}
 use Rattle.class_table.specs.Table.{names, number_of, place_in, place_at, reference_at, named_number, named_place, name_at, look, class_at}
 use Rattle.class_table.specs.Calls.{IsTargetOf, target_at, AreTargets, target_in, target_of, entry_target, class_targets, head_of, IsSameNamed, AreSameNamed}
 use Rattle.class_table.proofs.Places.{names_kept, number_within, number_named}

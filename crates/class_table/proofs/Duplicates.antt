@@ -9,7 +9,7 @@ use Rattle.std.proofs.lemmas.List.{length-map}
 use Rattle.std.proofs.lemmas.Option.{slice_get_within}
 use Rattle.class_model.specs.Text.{text}
 use Rattle.program_rules.specs.Names.{Name, same}
-use Rattle.class_table.specs.Info.{Info}
+use Rattle.class_link.specs.Info.{Info}
 use Rattle.class_table.specs.Table.{names, number_of, place_from, place_in, name_or_none, IsDuplicate, IsLeastDuplicate}
 use Rattle.class_table.specs.Numbers.{with_number, is_before, lesser, is_place, judged, name_of, IsFirst, IsTold, IsVerdict}
 use Rattle.class_table.proofs.Places.{name_at_place}
@@ -55,7 +55,7 @@ early q i (suc f) (x ∷ ms) h = early_case (same x q) q i f ms (early q (suc i)
 abbrev cmp : Name → Name → Ordering
 cmp n m = slice_cmp nat_cmp (text n) (text m)
 
-le_self : (xs : List ℕ) → IsTrue (is_le (slice_cmp nat_cmp xs xs))
+pub le_self : (xs : List ℕ) → IsTrue (is_le (slice_cmp nat_cmp xs xs))
 le_self xs = self_case (slice_cmp nat_cmp xs xs) (nat_list_cmp_total.antisymm xs xs)
   where
     self_case : (o : Ordering) → o ≡ ordering_reverse o → IsTrue (is_le o)
@@ -63,7 +63,7 @@ le_self xs = self_case (slice_cmp nat_cmp xs xs) (nat_list_cmp_total.antisymm xs
     self_case Equal e = refl
     self_case Greater e = absurd cc
 
-not_before : (xs ys : List ℕ) → is_lt (slice_cmp nat_cmp ys xs) ≡ false → IsTrue (is_le (slice_cmp nat_cmp xs ys))
+pub not_before : (xs ys : List ℕ) → is_lt (slice_cmp nat_cmp ys xs) ≡ false → IsTrue (is_le (slice_cmp nat_cmp xs ys))
 not_before xs ys h = rw (nat_list_cmp_total.antisymm xs ys) (other_case (slice_cmp nat_cmp ys xs) h)
   where
     other_case : (o : Ordering) → is_lt o ≡ false → IsTrue (is_le (ordering_reverse o))
@@ -79,7 +79,7 @@ is_less Greater e = absurd cc
 less_is_le : (o : Ordering) → o ≡ Less → IsTrue (is_le o)
 less_is_le o e = rw e refl
 
-before_all : (xs ys zs : List ℕ) → is_lt (slice_cmp nat_cmp xs ys) ≡ true → IsTrue (is_le (slice_cmp nat_cmp ys zs)) → IsTrue (is_le (slice_cmp nat_cmp xs zs))
+pub before_all : (xs ys zs : List ℕ) → is_lt (slice_cmp nat_cmp xs ys) ≡ true → IsTrue (is_le (slice_cmp nat_cmp ys zs)) → IsTrue (is_le (slice_cmp nat_cmp xs zs))
 before_all xs ys zs lt le = third (slice_cmp nat_cmp ys zs) refl le
   where
     first : slice_cmp nat_cmp xs ys ≡ Less

@@ -7,9 +7,9 @@ use Rattle.std.proofs.lemmas.List.{length-map}
 use Rattle.std.proofs.lemmas.Option.{slice_get-map, slice_get_within}
 use Rattle.program_rules.specs.Names.{Name, same}
 use Rattle.program_rules.specs.Linked.{method_in}
-use Rattle.class_table.specs.declared.linked.LinkedMethod.{LinkedMethod}
-use Rattle.class_table.specs.Info.{Info, class_of}
-use Rattle.class_table.specs.View.{method_of, linked_of}
+use Rattle.class_link.specs.declared.linked.LinkedMethod.{LinkedMethod}
+use Rattle.class_link.specs.Info.{Info, class_of}
+use Rattle.class_link.specs.View.{method_of, linked_of}
 use Rattle.std.specs.HashMap.{HashMap}
 use Rattle.class_table.specs.Numbers.{IsNumbering}
 use Rattle.class_table.specs.Table.{place_from, place_in, name_or_none, names, number_of, class_at, name_at, look, entries_in, entries_at, methods_in, methods_at, AreDistinct, IsProgram, IsAlike, CanSwap}

@@ -8,7 +8,7 @@ use Rattle.std.proofs.lemmas.Cmp.{nat_list_eq_equiv}
 use Rattle.program_rules.specs.Names.{Name, same}
 use Rattle.program_rules.specs.Linked.{Linked, parents_with, parents_of, is_library}
 use Rattle.program_rules.specs.Programs.{Look, concat_over, supers_within, supers, is_known, consult_one, consult_in, consulted_with}
-use Rattle.class_table.specs.Info.{Info}
+use Rattle.class_link.specs.Info.{Info}
 use Rattle.class_table.specs.Table.{look, name_at}
 use Rattle.class_table.specs.Seen.{Seen, AreKnown, IsConsultedOf}
 

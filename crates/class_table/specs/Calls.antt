@@ -3,12 +3,12 @@ use Rattle.std.specs.Prelude.{◌≡◌, ℕ, List, map, Option, Some, None, sli
 use Rattle.std.specs.Option.{option_map}
 use Rattle.program_rules.specs.Names.{Name}
 use Rattle.class_table.specs.declared.calls.Target.{Target}
-use Rattle.class_table.specs.declared.linked.Entry.{Entry}
-use Rattle.class_table.specs.declared.linked.MethodRef.{MethodRef}
-use Rattle.class_table.specs.declared.linked.LinkedMethod.{LinkedMethod}
-use Rattle.class_table.specs.Info.{Info}
+use Rattle.class_link.specs.declared.linked.Entry.{Entry}
+use Rattle.class_link.specs.declared.linked.MethodRef.{MethodRef}
+use Rattle.class_link.specs.declared.linked.LinkedMethod.{LinkedMethod}
+use Rattle.class_link.specs.Info.{Info}
 use Rattle.class_table.specs.Table.{number_of, place_at, reference_at}
-use Rattle.class_table.specs.View.{method_entry}
+use Rattle.class_link.specs.View.{method_entry}
 
 -- The class and the place are those of the method that is named.
 pub record IsTargetOf (p : List Info) (r : MethodRef) (t : Target) : Type 0 where

@@ -2,7 +2,7 @@
 use Rattle.std.specs.Prelude.{◌≡◌, ℕ, Bool, true, ⊤, List, [], ◌∷◌, length, slice_get, Some}
 use Rattle.program_rules.specs.Names.{Name}
 use Rattle.program_rules.specs.Programs.{Look, supers_within, is_known}
-use Rattle.class_table.specs.Info.{Info}
+use Rattle.class_link.specs.Info.{Info}
 use Rattle.class_table.specs.Table.{look, name_at}
 
 -- The names in order of first use, and for each class of the program whether it was consulted with

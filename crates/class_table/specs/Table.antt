@@ -7,15 +7,15 @@ use Rattle.class_model.specs.Text.{text}
 use Rattle.program_rules.specs.Names.{Name, same}
 use Rattle.program_rules.specs.Linked.{Linked, method_place}
 use Rattle.program_rules.specs.Programs.{Look}
-use Rattle.class_table.specs.declared.loaded.Loaded.{Loaded}
-use Rattle.class_table.specs.declared.loaded.LibClass.{LibClass}
-use Rattle.class_table.specs.declared.loaded.ClassBody.{ClassBody}
-use Rattle.class_table.specs.declared.loaded.ClassBody.TheVariants as body
-use Rattle.class_table.specs.declared.linked.Entry.{Entry}
-use Rattle.class_table.specs.declared.linked.MethodRef.{MethodRef}
-use Rattle.class_table.specs.declared.linked.LinkedMethod.{LinkedMethod}
-use Rattle.class_table.specs.Info.{Info, body_name, class_of}
-use Rattle.class_table.specs.View.{method_ref_at}
+use Rattle.class_link.specs.declared.loaded.Loaded.{Loaded}
+use Rattle.class_link.specs.declared.loaded.LibClass.{LibClass}
+use Rattle.class_link.specs.declared.loaded.ClassBody.{ClassBody}
+use Rattle.class_link.specs.declared.loaded.ClassBody.TheVariants as body
+use Rattle.class_link.specs.declared.linked.Entry.{Entry}
+use Rattle.class_link.specs.declared.linked.MethodRef.{MethodRef}
+use Rattle.class_link.specs.declared.linked.LinkedMethod.{LinkedMethod}
+use Rattle.class_link.specs.Info.{Info, body_name, class_of}
+use Rattle.class_link.specs.View.{method_ref_at}
 
 -- ---- names
 

@@ -4,7 +4,7 @@ use Rattle.std.specs.Prelude.{◌≡◌, ◌≤◌, ℕ, List, [], ◌++◌, Opt
 use Rattle.program_rules.specs.Names.{Name}
 use Rattle.program_rules.specs.Linked.{parents_with}
 use Rattle.program_rules.specs.Programs.{concat_over, supers_within, consult_in}
-use Rattle.class_table.specs.Info.{Info}
+use Rattle.class_link.specs.Info.{Info}
 use Rattle.class_table.specs.Seen.{Seen}
 use Rattle.class_table.specs.Table.{look}
 

@@ -3,15 +3,14 @@
 ghost use Rattle.std.specs.Prelude.{◌≡◌, ℕ, true, List, map, Some, IfOk, slice_get, slice_set};
 ghost use Rattle.std.specs.Option.{option_copied, option_map};
 ghost use Rattle.std.specs.Arc.{arc_value};
-ghost use Rattle.class_table.specs.Info.{Info};
+ghost use Rattle.class_link.specs.Info.{Info};
 ghost use Rattle.class_table.specs.Numbers.{IsNumbering};
 ghost use Rattle.class_table.specs.Adding.{shared};
-ghost use Rattle.class_table.specs.View.{method_entry, method_ref_at};
+ghost use Rattle.class_link.specs.View.{method_entry, method_ref_at};
 ghost use Rattle.class_table.specs.declared.calls.Target.{Target};
 ghost use Rattle.class_table.specs.Calls.{target_at, AreTargets, AreTargetsOrNone, entry_target, class_targets, head_of, AreSameNamed, AreNamedAlike};
 
-use crate::info::ClassInfo;
-use crate::linked::{Entry, LinkedClass, LinkedMethod};
+use class_link::{ClassInfo, Entry, LinkedClass, LinkedMethod};
 use class_model::{ClassId, Memory, Name, Seq};
 use std::alloc::Global;
 use std::collections::HashMap;

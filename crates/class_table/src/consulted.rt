@@ -109,7 +109,7 @@ fn is_among(names: &[Name], name: &Name) -> bool
 
 impl Program {
     // Whether a name is that of a class of the library.
-    #[tactic(auto, unfolding(crate::specs::View::linked_of))]
+    #[tactic(auto, unfolding(class_link::specs::View::linked_of))]
     fn is_library(&self, name: &Name) -> bool
         ensures { result ≡ is_library (look self.now name.now) }
     {

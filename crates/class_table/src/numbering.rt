@@ -2,16 +2,15 @@
 
 ghost use Rattle.std.specs.Prelude.{◌≡◌, ◌<◌, ◌^◌, ℕ, List, map, length, IfOk, OnOk};
 ghost use Rattle.std.specs.Arc.{arc_value};
-ghost use Rattle.class_table.specs.Info.{body_name};
+ghost use Rattle.class_link.specs.Info.{body_name};
 ghost use Rattle.class_table.specs.Table.{bodies_of, names};
 ghost use Rattle.std.specs.HashMap.{get};
 ghost use Rattle.program_rules.specs.Names.{same};
-ghost use Rattle.class_table.specs.declared.loaded.ClassBody.TheVariants.{File, Library};
+ghost use Rattle.class_link.specs.declared.loaded.ClassBody.TheVariants.{File, Library};
 ghost use Rattle.class_table.specs.Adding.{shared, AreClassesOf, AddsClasses};
 ghost use Rattle.class_table.specs.Numbers.{IsNumbering, with_number, is_before, lesser, is_place, judged, IsTold, IsVerdict};
 
-use crate::info::ClassInfo;
-use crate::loaded::{ClassBody, LibClass, Loaded};
+use class_link::{ClassBody, ClassInfo, LibClass, Loaded};
 use class_model::{Memory, Name, write_text};
 use std::alloc::Global;
 use std::collections::HashMap;

@@ -4,8 +4,8 @@ ghost use Rattle.std.specs.Prelude.{◌≡◌, ◌<◌, ◌^◌, ℕ, List, map,
 ghost use Rattle.std.specs.Option.{option_map, option_copied};
 ghost use Rattle.std.specs.Arc.{arc_value};
 ghost use Rattle.program_rules.specs.Linked.{method_in};
-ghost use Rattle.class_table.specs.View.{method_of};
-ghost use Rattle.class_table.specs.Info.{class_of, link_body, file_in};
+ghost use Rattle.class_link.specs.View.{method_of};
+ghost use Rattle.class_link.specs.Info.{class_of, link_body, file_in};
 ghost use Rattle.class_table.specs.Table.{AreDistinct, IsLeastDuplicate, bodies_of, names_of, names, number_of, CanSwap, class_at, name_at, look, entries_at, methods_at, reference_at, named_number, named_place, IsProgram};
 ghost use Rattle.class_table.specs.Calls.{IsTargetOf, AreTargets};
 ghost use Rattle.class_table.specs.Numbers.{IsNumbering};
@@ -14,10 +14,8 @@ ghost use Rattle.class_table.specs.declared.fault.TableFault.TheVariants.{Duplic
 
 use crate::calls::{Target, Targets, copy_targets, forget_unless_right, target_at, targets};
 use crate::fault::TableFault;
-use crate::info::ClassInfo;
-use crate::linked::LinkedMethod;
-use crate::loaded::{ClassBody, LibClass, Loaded};
 use crate::numbering::{infos, least_duplicate, numbers};
+use class_link::{ClassBody, ClassInfo, LibClass, LinkedMethod, Loaded};
 use class_model::{Class, ClassId, Memory, Name, Seq};
 use std::alloc::Global;
 use std::collections::HashMap;
@@ -42,7 +40,7 @@ impl Model for Program {
     ghost use Rattle.std.specs.Arc.{arc_value};
     ghost use Rattle.class_model.specs.contracts.attribute.Body as content;
     ghost use Rattle.class_model.specs.contracts.attribute.Code as written;
-    ghost use Rattle.class_table.specs.Info.{Info};
+    ghost use Rattle.class_link.specs.Info.{Info};
     ghost use Rattle.class_table.specs.Table.{IsProgram};
     ghost use Rattle.class_table.specs.Numbers.{IsNumbering};
     ghost use Rattle.class_table.specs.Adding.{shared};

@@ -4,7 +4,7 @@ use Rattle.std.proofs.Common.{get_or}
 use Rattle.program_rules.specs.Names.{Name}
 use Rattle.machine_rules.specs.State.{MachineState}
 use Rattle.machine_rules.specs.Runs.{Ran}
-use Rattle.class_table.specs.Info.{Info}
+use Rattle.class_link.specs.Info.{Info}
 use Rattle.class_table.specs.Table.{name_at, name_or_none}
 use Rattle.jvm_step.specs.declared.outcome.Outcome.{Outcome}
 use Rattle.jvm_step.specs.Ending.{ending_of}

@@ -8,7 +8,7 @@ use Rattle.program_rules.specs.Kinds.{Kind, is_of_kind}
 use Rattle.machine_rules.specs.Effects.{Effect, NoRow, on_args, on_reversed}
 use Rattle.program_rules.specs.Kinds.{reversed_onto}
 use Rattle.class_model.specs.declared.kind.Kind as plain
-use Rattle.class_table.specs.Symbols.{kind_of}
+use Rattle.class_link.specs.Symbols.{kind_of}
 use Rattle.jvm_step.specs.Arguments.{are_of_kinds}
 
 -- ---- values of as many kinds

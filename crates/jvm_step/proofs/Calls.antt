@@ -10,12 +10,12 @@ use Rattle.program_rules.specs.Names.{Name, plain_descriptor}
 use Rattle.machine_rules.specs.Steps.{Stuck, next_or, place_with, place_of, outcome_of}
 use Rattle.machine_so_far.specs.Steps.{act, step_so_far}
 use Rattle.machine_so_far.specs.Script.{calls_next}
-use Rattle.class_table.specs.Info.{Info}
+use Rattle.class_link.specs.Info.{Info}
 use Rattle.program_rules.specs.Tests.{Call}
 use Rattle.machine_rules.specs.State.{Frame, World, MachineState}
 use Rattle.machine_rules.specs.Effects as rule
 use Rattle.machine_rules.specs.Effects.{Effect, NoRow, Current, on_int, on_args}
-use Rattle.class_table.specs.Symbols.{kind_of}
+use Rattle.class_link.specs.Symbols.{kind_of}
 use Rattle.program_rules.specs.Instructions.{MethodRef, Instruction, InvokeStatic}
 use Rattle.program_rules.specs.Linked.{LinkedMethod}
 use Rattle.program_rules.specs.Programs.{Look}

@@ -4,11 +4,11 @@ use Rattle.std.specs.Prelude.{slice_get}
 use Rattle.std.specs.Option.{option_map}
 use Rattle.std.proofs.lemmas.Option.{slice_get-map}
 use Rattle.program_rules.specs.Instructions as def
-use Rattle.class_table.specs.declared.linked.MethodRef.{MethodRef}
-use Rattle.class_table.specs.declared.linked.Entry.{Entry}
-use Rattle.class_table.specs.declared.linked.Entry.TheVariants as entry
-use Rattle.class_table.specs.Opcodes.{on_method}
-use Rattle.class_table.specs.View.{method_entry, entry_symbol, method_ref_of}
+use Rattle.class_link.specs.declared.linked.MethodRef.{MethodRef}
+use Rattle.class_link.specs.declared.linked.Entry.{Entry}
+use Rattle.class_link.specs.declared.linked.Entry.TheVariants as entry
+use Rattle.class_link.specs.Opcodes.{on_method}
+use Rattle.class_link.specs.View.{method_entry, entry_symbol, method_ref_of}
 
 pub map_at_some : {A B : Type 0} (f : A → B) (xs : List A) (at : ℕ) (x : A) → slice_get xs at ≡ Some x → slice_get (map f xs) at ≡ Some (f x)
 map_at_some f xs at x e = slice_get-map f xs at ∙ ap (option_map f) e

@@ -6,7 +6,7 @@ use Rattle.class_model.specs.declared.kind.Kind.TheVariants as kind
 use Rattle.program_rules.specs.declared.value.Value.{Value}
 use Rattle.program_rules.specs.Kinds as def
 use Rattle.jvm_values.specs.Words.{default_of}
-use Rattle.class_table.specs.Symbols.{kind_of}
+use Rattle.class_link.specs.Symbols.{kind_of}
 
 pub default_kind : (k : Kind) → default_of k ≡ def.default_of (kind_of k)
 default_kind kind.Boolean = refl

@@ -9,7 +9,7 @@ use Rattle.machine_rules.specs.declared.machine.InitState.{InitState}
 use Rattle.program_rules.specs.Names.{Name, same}
 use Rattle.machine_rules.specs.Initialisation.{init_in}
 use Rattle.machine_rules.specs.Steps.{is_reached, reach}
-use Rattle.class_table.specs.Info.{Info}
+use Rattle.class_link.specs.Info.{Info}
 use Rattle.class_table.specs.Table.{names, name_at, place_in, IsProgram}
 use Rattle.jvm_step.specs.Marks.{is_listed, with_pair, state_among}
 use Rattle.jvm_step.specs.View.{named, AreClasses}

@@ -3,7 +3,7 @@ use Rattle.std.specs.Prelude.{[], ◌∷◌, map, Option, Some, None}
 use Rattle.program_rules.specs.Names.{Name}
 use Rattle.program_rules.specs.Linked.{Linked, LinkedField, LinkedMethod}
 use Rattle.program_rules.specs.Library.{library_class}
-use Rattle.class_table.specs.Linking.{field_with, method_with, native_body}
+use Rattle.class_link.specs.Linking.{field_with, method_with, native_body}
 use Rattle.jvm_step.specs.declared.classes.FieldRow.{FieldRow}
 use Rattle.jvm_step.specs.declared.classes.MethodRow.{MethodRow}
 use Rattle.jvm_step.specs.declared.classes.ClassRow.{ClassRow}

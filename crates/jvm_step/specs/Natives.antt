@@ -12,8 +12,8 @@ use Rattle.machine_rules.specs.Effects.{Effect, on_args}
 use Rattle.machine_rules.specs.Lookups.{consult}
 use Rattle.machine_rules.specs.Performing.{performs}
 use Rattle.machine_rules.specs.Calls.{ends_native}
-use Rattle.class_table.specs.Info.{Info}
-use Rattle.class_table.specs.Symbols.{kind_of}
+use Rattle.class_link.specs.Info.{Info}
+use Rattle.class_link.specs.Symbols.{kind_of}
 use Rattle.class_table.specs.Table.{look}
 use Rattle.jvm_step.specs.declared.machine.Given.{Given}
 use Rattle.jvm_step.specs.declared.machine.Given.TheVariants as given

@@ -23,14 +23,14 @@ use Rattle.jvm_values.specs.declared.object.ObjKind.TheVariants as kind
 use Rattle.jvm_values.specs.declared.object.Object.{Object}
 use Rattle.class_table.specs.declared.scripted.Call.{Call}
 use Rattle.class_table.specs.declared.scripted.Test.{Test}
-use Rattle.class_table.specs.declared.instruction.Instruction.{Instruction}
-use Rattle.class_table.specs.declared.linked.LinkedCode.{LinkedCode}
-use Rattle.class_table.specs.declared.linked.LinkedMethod.{LinkedMethod}
-use Rattle.class_table.specs.declared.linked.Entry.{Entry}
-use Rattle.class_table.specs.Info.{Info}
-use Rattle.class_table.specs.Symbols.{kind_of}
+use Rattle.class_link.specs.declared.instruction.Instruction.{Instruction}
+use Rattle.class_link.specs.declared.linked.LinkedCode.{LinkedCode}
+use Rattle.class_link.specs.declared.linked.LinkedMethod.{LinkedMethod}
+use Rattle.class_link.specs.declared.linked.Entry.{Entry}
+use Rattle.class_link.specs.Info.{Info}
+use Rattle.class_link.specs.Symbols.{kind_of}
 use Rattle.class_table.specs.Table.{look, name_at, entries_at}
-use Rattle.class_table.specs.View.{method_of, instruction_of}
+use Rattle.class_link.specs.View.{method_of, instruction_of}
 use Rattle.class_table.specs.Seen.{IsConsultedOf}
 use Rattle.jvm_step.specs.declared.frame.Frame.{Frame}
 use Rattle.jvm_step.specs.declared.machine.Exception.{Exception}

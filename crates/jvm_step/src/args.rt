@@ -3,7 +3,7 @@
 ghost use Rattle.std.specs.Prelude.{◌≡◌, ◌++◌, true, false, nat_le, List, length, map, Option, IfOk, OnOk, IfSome, IfNone};
 ghost use Rattle.program_rules.specs.declared.value.Value.{Value};
 ghost use Rattle.machine_rules.specs.Effects.{Effect, NoRow, local_of, locals_of};
-ghost use Rattle.class_table.specs.Symbols.{kind_of};
+ghost use Rattle.class_link.specs.Symbols.{kind_of};
 ghost use Rattle.jvm_step.specs.Arguments.{on_locals};
 ghost use Rattle.jvm_step.specs.View.{filled};
 

@@ -6,10 +6,10 @@ ghost use Rattle.machine_rules.specs.Effects.{on_args, enters};
 ghost use Rattle.machine_rules.specs.Effects as rule;
 ghost use Rattle.machine_rules.specs.Lookups.{consult};
 ghost use Rattle.machine_so_far.specs.Calls.{runs, invokes_static, invokes_special, is_object_initializer};
-ghost use Rattle.class_table.specs.Info.{Info};
-ghost use Rattle.class_table.specs.View.{method_ref_of, method_of, body_of, native_meaning, meaning_at};
-ghost use Rattle.class_table.specs.Opcodes.{on_method};
-ghost use Rattle.class_table.specs.Symbols.{kind_of};
+ghost use Rattle.class_link.specs.Info.{Info};
+ghost use Rattle.class_link.specs.View.{method_ref_of, method_of, body_of, native_meaning, meaning_at};
+ghost use Rattle.class_link.specs.Opcodes.{on_method};
+ghost use Rattle.class_link.specs.Symbols.{kind_of};
 ghost use Rattle.program_rules.specs.Instructions.{MethodRef as DefReference, Instruction, Unlinked};
 ghost use Rattle.class_table.specs.Table.{look, name_at, entries_at, reference_at};
 ghost use Rattle.jvm_step.specs.Finding.{FindsStatic, FindsNoStatic};
@@ -209,7 +209,7 @@ pub fn called(p: &Program, class: ClassId, reference: u32) -> Option<&MethodRef>
 }
 
 // The static method that a call names, searched in the class that it names.
-#[tactic(auto, unfolding(class_table::specs::View::linked_of))]
+#[tactic(auto, unfolding(class_link::specs::View::linked_of))]
 fn find_static<'a>(
     p: &'a Program,
     class: ClassId,

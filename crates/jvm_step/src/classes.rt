@@ -1,9 +1,9 @@
 // The classes that come with the machine, as far as its rows need them (this project's own).
-#![tactic(auto, unfolding(class_table::specs::Linking::link_library))]
+#![tactic(auto, unfolding(class_link::specs::Linking::link_library))]
 
 ghost use Rattle.std.specs.Prelude.{◌≡◌, map, IfOk};
 ghost use Rattle.machine_so_far.specs.Library.{library_so_far};
-ghost use Rattle.class_table.specs.Linking.{link_library, library_field, library_method};
+ghost use Rattle.class_link.specs.Linking.{link_library, library_field, library_method};
 ghost use Rattle.jvm_step.specs.Library.{parent_of, field_in, method_in, class_in};
 
 use crate::text::name;

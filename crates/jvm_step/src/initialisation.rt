@@ -10,9 +10,9 @@ ghost use Rattle.program_rules.specs.Programs.{supers};
 ghost use Rattle.machine_rules.specs.Lookups.{consult};
 ghost use Rattle.machine_so_far.specs.Initialisation.{init_of, need_of, are_library, are_interfaces, is_alone, behind_first, begins};
 ghost use Rattle.program_rules.specs.Outlines.{outline_of, head_of, is_coded, is_interface_class, is_class_initializer, has_class_initializer};
-ghost use Rattle.class_table.specs.declared.linked.Entry.{Entry};
-ghost use Rattle.class_table.specs.View.{method_of, field_of, constant_of, linked_of};
-ghost use Rattle.class_table.specs.Symbols.{kind_of};
+ghost use Rattle.class_link.specs.declared.linked.Entry.{Entry};
+ghost use Rattle.class_link.specs.View.{method_of, field_of, constant_of, linked_of};
+ghost use Rattle.class_link.specs.Symbols.{kind_of};
 ghost use Rattle.class_table.specs.Table.{look, name_at};
 ghost use Rattle.jvm_step.specs.View.{world_of, frames_of, state_of, named, need_with, AreClasses, IsMachineOf, IsKept, Comes};
 
@@ -25,7 +25,7 @@ use machine_rules::InitState;
 use std::alloc::Global;
 
 // Whether a name is that of a class of the library.
-#[tactic(auto, unfolding(class_table::specs::View::linked_of))]
+#[tactic(auto, unfolding(class_link::specs::View::linked_of))]
 fn is_library(p: &Program, name: &Name) -> bool
     ensures { result ≡ is_library (look p.now name.now) }
 {
@@ -60,7 +60,7 @@ fn supers_are_library(alloc: Global, p: &Program, class: ClassId) -> Result<bool
 }
 
 // Whether a name is that of an interface.
-#[tactic(auto, unfolding(class_table::specs::View::linked_of))]
+#[tactic(auto, unfolding(class_link::specs::View::linked_of))]
 fn names_interface(p: &Program, name: &Name) -> bool
     ensures { result ≡ is_interface_class (outline_of (look p.now name.now)) }
 {
@@ -83,7 +83,7 @@ fn are_interfaces(p: &Program, names: &[Name]) -> bool
 }
 
 // Whether all above a class is of the library, and what it names as its interfaces are interfaces.
-#[tactic(auto, unfolding(class_table::specs::View::linked_of))]
+#[tactic(auto, unfolding(class_link::specs::View::linked_of))]
 fn is_alone(alloc: Global, p: &Program, class: ClassId) -> Result<bool, Memory>
     requires { class.0 < length p.now }
     ensures { IfOk result (λ b. b ≡ is_alone (look p.now) (name_at p.now class.0)) }
@@ -95,7 +95,7 @@ fn is_alone(alloc: Global, p: &Program, class: ClassId) -> Result<bool, Memory>
 }
 
 // How far a class has come. Classes of the library are done from the start.
-#[tactic(auto, using(crate::proofs::Named::init_named), unfolding(class_table::specs::View::linked_of))]
+#[tactic(auto, using(crate::proofs::Named::init_named), unfolding(class_link::specs::View::linked_of))]
 fn state_of_class(p: &Program, begun: &Begun, class: ClassId) -> InitState
     requires class { class.0 < length p.now }
     requires begun { AreClasses p.now begun.now }
@@ -226,7 +226,7 @@ fn has_constant_among(fields: &[LinkedField], all_static: bool) -> bool
 }
 
 // Whether the begin of a class has more to do than mark it.
-#[tactic(auto, unfolding(class_table::specs::View::linked_of))]
+#[tactic(auto, unfolding(class_link::specs::View::linked_of))]
 fn needs_code(class: &LinkedClass) -> bool
     ensures { result ≡ (has_class_initializer (Some (linked_of class.now)) || has_static_constant (Some (linked_of class.now))) }
 {

@@ -2,7 +2,7 @@ ghost use Rattle.std.specs.Prelude.{◌≡◌, List, length, map, drop, reverse,
 ghost use Rattle.program_rules.specs.declared.value.Value.{Value};
 ghost use Rattle.program_rules.specs.Kinds.{is_of_kind};
 ghost use Rattle.machine_rules.specs.Effects.{Effect, NoRow, on_args};
-ghost use Rattle.class_table.specs.Symbols.{kind_of};
+ghost use Rattle.class_link.specs.Symbols.{kind_of};
 ghost use Rattle.jvm_step.specs.Arguments.{are_of_kinds};
 
 use class_model::Kind;

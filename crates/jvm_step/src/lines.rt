@@ -9,7 +9,7 @@ use class_model::{ClassId, Memory};
 use class_table::Program;
 
 /// A line of a class is reached, where the class comes from a class file. It is true where the line was new.
-#[tactic(auto, using(crate::proofs::Named::reach_named, crate::proofs::Named::classes_listed), unfolding(class_table::specs::View::linked_of))]
+#[tactic(auto, using(crate::proofs::Named::reach_named, crate::proofs::Named::classes_listed), unfolding(class_link::specs::View::linked_of))]
 pub fn reach(p: &Program, reached: &mut Reached, class: ClassId, line: u16) -> Result<bool, Memory>
     requires class { class.0 < length p.now }
     requires reached { AreClasses p.now reached.old }

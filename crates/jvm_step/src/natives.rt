@@ -6,8 +6,8 @@ ghost use Rattle.program_rules.specs.Objects.{Object};
 ghost use Rattle.program_rules.specs.declared.value.Value.{Value};
 ghost use Rattle.machine_rules.specs.Effects.{Effect, NoRow, on_args};
 ghost use Rattle.program_rules.specs.Natives.{on_boolean, assert_true, assert_false};
-ghost use Rattle.class_table.specs.Symbols.{kind_of};
-ghost use Rattle.class_table.specs.View.{native_meaning};
+ghost use Rattle.class_link.specs.Symbols.{kind_of};
+ghost use Rattle.class_link.specs.View.{native_meaning};
 ghost use Rattle.jvm_step.specs.Natives.{deed_of, TakesGiven};
 
 use crate::frame::Frame;

@@ -3,7 +3,7 @@ ghost use Rattle.program_rules.specs.Kinds.{height_of, width_of};
 ghost use Rattle.program_rules.specs.declared.value.Value.{Value};
 ghost use Rattle.machine_rules.specs.Effects.{Effect, NoRow, on_top, on_int, on_ints, on_args};
 ghost use Rattle.machine_so_far.specs.Calls.{on_object};
-ghost use Rattle.class_table.specs.Symbols.{kind_of};
+ghost use Rattle.class_link.specs.Symbols.{kind_of};
 
 use crate::kinds::last_of_kinds;
 use class_model::{Kind, Memory};

@@ -12,8 +12,8 @@ ghost use Rattle.machine_rules.specs.Calls.{goes_on, room_of, is_test_call};
 ghost use Rattle.machine_so_far.specs.Calls.{returns, returns_int, returns_plain};
 ghost use Rattle.machine_rules.specs.Throwing.{rows_of};
 ghost use Rattle.machine_so_far.specs.Throwing.{unwinds};
-ghost use Rattle.class_table.specs.View.{row_of};
-ghost use Rattle.class_table.specs.Symbols.{kind_of};
+ghost use Rattle.class_link.specs.View.{row_of};
+ghost use Rattle.class_link.specs.Symbols.{kind_of};
 ghost use Rattle.class_table.specs.Table.{look};
 ghost use Rattle.jvm_step.specs.View.{frame_of, callers_of, world_of, state_of, call_of, Goes, Comes, IsMachineOf, IsKept};
 

@@ -10,7 +10,7 @@ ghost use Rattle.machine_so_far.specs.Script.{instance_values, own_values, value
 ghost use Rattle.machine_rules.specs.Script.{needs_static};
 ghost use Rattle.machine_rules.specs.Steps.{next_or, place_of};
 ghost use Rattle.jvm_values.specs.Words.{default_of};
-ghost use Rattle.class_table.specs.View.{field_of, method_of, body_of};
+ghost use Rattle.class_link.specs.View.{field_of, method_of, body_of};
 ghost use Rattle.class_table.specs.Table.{look, name_at, entries_at};
 ghost use Rattle.jvm_step.specs.Finding.{FindsCall, FindsNoCall, calls_by_kind};
 ghost use Rattle.jvm_step.specs.View.{world_of, state_of, call_of, Comes, Answers, IsMachineOf, IsKept};
@@ -43,7 +43,7 @@ fn push_instance_fields(fields: &[LinkedField], kinds: &mut Seq<Kind>) -> Result
 }
 
 // The kinds of the fields that a class declares for its instances.
-#[tactic(auto, unfolding(class_table::specs::View::linked_of))]
+#[tactic(auto, unfolding(class_link::specs::View::linked_of))]
 fn push_own_fields(p: &Program, name: &Name, kinds: &mut Seq<Kind>) -> Result<(), Memory>
     ensures { OnOk result (map default_of kinds.new ≡ map default_of kinds.old ++ own_values (look p.now name.now)) }
 {
@@ -96,7 +96,7 @@ fn needs_static(kind: CallKind) -> bool
 }
 
 // The method of a call, searched in the class that the call names.
-#[tactic(auto, unfolding(class_table::specs::View::linked_of))]
+#[tactic(auto, unfolding(class_link::specs::View::linked_of))]
 fn find_call<'a>(
     alloc: Global,
     p: &'a Program,

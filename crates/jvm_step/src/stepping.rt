@@ -27,7 +27,7 @@ use program_rules::Value;
 use std::alloc::Global;
 
 /// What the instruction of the running frame does, by one row for each kind. The kinds that have no row yet are the last ones.
-#[tactic(auto, unfolding(machine_so_far::specs::Steps::act, class_table::specs::View::instruction_of))]
+#[tactic(auto, unfolding(machine_so_far::specs::Steps::act, class_link::specs::View::instruction_of))]
 fn act(alloc: Global, p: &Program, m: &mut Machine, here: Fetched<'_>) -> Result<bool, Memory>
     requires machine { IsMachineOf p.now m.old }
     requires quiet { m.old.thrown ≡ None }

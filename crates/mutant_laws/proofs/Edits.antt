@@ -16,13 +16,13 @@ use Rattle.program_rules.specs.Linked.{Linked, code_in, code_of, method_in}
 use Rattle.program_rules.specs.Programs.{Look}
 use Rattle.machine_rules.specs.Steps.{Place, line_in, method_text}
 use Rattle.edit_laws.specs.Edit as edit
-use Rattle.class_table.specs.declared.loaded.ClassBody.{ClassBody}
-use Rattle.class_table.specs.declared.loaded.ClassBody.TheVariants as body
-use Rattle.class_table.specs.Info.{Info, IsInfo, own_name, link_body, class_of, file_in}
-use Rattle.class_table.specs.Linking as linking
-use Rattle.class_table.specs.Linking.{link}
-use Rattle.class_table.specs.Opcodes.{instruction_by, instruction_in}
-use Rattle.class_table.specs.Symbols.{Symbol, symbol_at, name_or_empty, text_named}
+use Rattle.class_link.specs.declared.loaded.ClassBody.{ClassBody}
+use Rattle.class_link.specs.declared.loaded.ClassBody.TheVariants as body
+use Rattle.class_link.specs.Info.{Info, IsInfo, own_name, link_body, class_of, file_in}
+use Rattle.class_link.specs.Linking as linking
+use Rattle.class_link.specs.Linking.{link}
+use Rattle.class_link.specs.Opcodes.{instruction_by, instruction_in}
+use Rattle.class_link.specs.Symbols.{Symbol, symbol_at, name_or_empty, text_named}
 use Rattle.class_table.specs.Table.{class_at, number_of, look}
 use Rattle.mutator_ops.specs.Edits.{op_by}
 use Rattle.mutator_ops.specs.Mutants.{line_rows, mutant_at, class_mutants}

@@ -8,7 +8,7 @@ use Rattle.class_model.specs.declared.attribute.Body.TheOpen.{Body-F}
 use Rattle.class_model.specs.declared.attribute.Code.{Code}
 use Rattle.class_model.specs.declared.constant.Const.{Const}
 use Rattle.program_rules.specs.Types.{StatedFrame}
-use Rattle.class_table.specs.Linking.{content_of, frames_of}
+use Rattle.class_link.specs.Linking.{content_of, frames_of}
 use Rattle.mutant_apply.specs.Edited.{is_table_body, is_table}
 
 abbrev pub linked_frames : List Const → List Attr → List StatedFrame

@@ -23,8 +23,8 @@ use Rattle.edit_laws.specs.EditLaws.{GoesOnAlike, moved_frame}
 use Rattle.edits_so_far.specs.EditLaws as so_far
 use Rattle.machine_so_far.specs.Steps.{act}
 use Rattle.edit_laws.proofs.Places.{edit_by, get_first, get_map, set_same}
-use Rattle.class_table.specs.Symbols.{Symbol}
-use Rattle.class_table.specs.Opcodes.{with_operand, instruction_by}
+use Rattle.class_link.specs.Symbols.{Symbol}
+use Rattle.class_link.specs.Opcodes.{with_operand, instruction_by}
 use Rattle.mutator_ops.specs.Edits.{is_int_jump, is_ordered_jump, negated, moved_bound}
 
 -- ---- instructions

@@ -9,7 +9,7 @@ use Rattle.class_model.specs.declared.attribute.Body.{Body}
 use Rattle.class_model.specs.declared.attribute.Body.TheOpen.{Body-F}
 use Rattle.class_model.specs.declared.attribute.Code.{Code}
 use Rattle.program_rules.specs.Linked.{LinkedLine, is_later, line_row, line_number, line_at}
-use Rattle.class_table.specs.Linking.{content_of, line_in, lines_of}
+use Rattle.class_link.specs.Linking.{content_of, line_in, lines_of}
 use Rattle.mutator_ops.specs.Lines as mutants
 use Rattle.mutator_ops.specs.Mutants.{lines_in, line_rows}
 use Rattle.mutant_apply.specs.Edited.{is_table_body, is_table}

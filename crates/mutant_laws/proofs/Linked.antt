@@ -20,10 +20,10 @@ use Rattle.program_rules.specs.Linked.{LinkedCode, LinkedRow, LinkedLine, HasCod
 use Rattle.program_rules.specs.Types.{VType, Top, IntType, LongType, NullType, UninitThis, Uninit, Obj, FrameShape, SameLocals, OneItem, Chopped, Appended, Whole, StatedFrame}
 use Rattle.edit_laws.specs.Edit as edit
 use Rattle.edit_laws.proofs.Places.{map_id, relocated_id}
-use Rattle.class_table.specs.Info.{own_name}
-use Rattle.class_table.specs.Linking as linking
-use Rattle.class_table.specs.Linking.{content_of, code_within, first_of, link}
-use Rattle.class_table.specs.Opcodes.{instruction_in}
+use Rattle.class_link.specs.Info.{own_name}
+use Rattle.class_link.specs.Linking as linking
+use Rattle.class_link.specs.Linking.{content_of, code_within, first_of, link}
+use Rattle.class_link.specs.Opcodes.{instruction_in}
 use Rattle.mt_attrs.specs.CodeParts.{attr_of, name_of, body_of}
 use Rattle.mutator_ops.specs.Mutants.{code_in, code_of}
 use Rattle.mutant_apply.specs.Edited.{changed_at, is_table, edited_code, edited_attrs, edited_member, edited_class}

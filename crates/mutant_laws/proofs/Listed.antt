@@ -10,8 +10,8 @@ use Rattle.class_model.specs.declared.class.Member.{Member}
 use Rattle.class_model.specs.declared.instruction.Insn.{Insn}
 use Rattle.class_model.specs.declared.mutator.Mutator.{Mutator}
 use Rattle.class_model.specs.declared.mutator.Mutator.TheVariants as mutator
-use Rattle.class_table.specs.Symbols.{Symbol}
-use Rattle.class_table.specs.Opcodes.{instruction_by}
+use Rattle.class_link.specs.Symbols.{Symbol}
+use Rattle.class_link.specs.Opcodes.{instruction_by}
 use Rattle.mutator_ops.specs.Edits.{is_int_jump, is_ordered_jump, if_so, mutators_of, op_by}
 use Rattle.mutator_ops.specs.Mutants.{code_of, line_rows, mutant_at, mutants_from, code_mutants, is_synthetic, is_left_out, method_mutants, methods_mutants, class_mutants}
 use Rattle.mutator_ops.specs.declared.mutant.Mutant.{Mutant}

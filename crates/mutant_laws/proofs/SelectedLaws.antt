@@ -10,7 +10,7 @@ use Rattle.program_rules.specs.Programs.{Look}
 use Rattle.machine_rules.specs.Runs.{With, Ran}
 use Rattle.machine_laws.specs.FrameLaw.{HasEnded}
 use Rattle.class_table.specs.declared.scripted.Test.{Test}
-use Rattle.class_table.specs.Info.{Info}
+use Rattle.class_link.specs.Info.{Info}
 use Rattle.mutator_ops.specs.declared.mutant.Mutant.{Mutant}
 use Rattle.mutator_ops.specs.declared.mutant.State.{State}
 use Rattle.mutant_runs.specs.Runs.{timed, mutant_run, runs_on, reaches, detected}

@@ -8,7 +8,7 @@ use Rattle.machine_rules.specs.Runs.{With, Ran}
 use Rattle.machine_laws.specs.FrameLaw.{HasEnded}
 use Rattle.machine_so_far.specs.Runs.{run_so_far}
 use Rattle.class_table.specs.declared.scripted.Test.{Test}
-use Rattle.class_table.specs.Info.{Info}
+use Rattle.class_link.specs.Info.{Info}
 use Rattle.class_table.specs.Table.{look}
 use Rattle.jvm_step.specs.View.{test_of}
 use Rattle.mutator_ops.specs.declared.mutant.Mutant.{Mutant}

@@ -7,7 +7,7 @@ use Rattle.machine_rules.specs.Steps.{Place}
 use Rattle.edit_laws.specs.Edit.{Edit, IsEdited, edited_line}
 use Rattle.edit_laws.specs.EditLaws.{edited_place, GoesOnAlike}
 use Rattle.edits_so_far.specs.EditLaws as so_far
-use Rattle.class_table.specs.Info.{Info, IsInfo}
+use Rattle.class_link.specs.Info.{Info, IsInfo}
 use Rattle.class_table.specs.Table.{look}
 use Rattle.mutator_ops.specs.Mutants.{class_mutants}
 use Rattle.mutator_ops.specs.declared.mutant.Mutant.{Mutant}

@@ -8,10 +8,10 @@ use Rattle.class_model.specs.declared.class.Member.{Member}
 use Rattle.class_model.specs.declared.attribute.Code.{Code, out-Code}
 use Rattle.class_model.specs.declared.instruction.Insn.{Insn}
 use Rattle.class_writer.specs.Writing.{HasClassForm}
-use Rattle.class_table.specs.declared.loaded.ClassBody.{ClassBody}
-use Rattle.class_table.specs.declared.loaded.ClassBody.TheVariants as body
-use Rattle.class_table.specs.Symbols.{name_or_empty}
-use Rattle.class_table.specs.Info.{Info, own_name, body_name, file_in}
+use Rattle.class_link.specs.declared.loaded.ClassBody.{ClassBody}
+use Rattle.class_link.specs.declared.loaded.ClassBody.TheVariants as body
+use Rattle.class_link.specs.Symbols.{name_or_empty}
+use Rattle.class_link.specs.Info.{Info, own_name, body_name, file_in}
 use Rattle.class_table.specs.Table.{number_of, name_at}
 use Rattle.class_table.proofs.Places.{name_of_class}
 use Rattle.program_rules.specs.Names.{Name}

@@ -5,7 +5,7 @@ use Rattle.std.proofs.lemmas.List.Sums.{sum_by-le, sum_by-take-le, sum_by_more_l
 use Rattle.machine_rules.specs.declared.machine.Limits.{Limits}
 use Rattle.program_rules.specs.Programs.{Look}
 use Rattle.class_table.specs.declared.scripted.Test.{Test}
-use Rattle.class_table.specs.Info.{Info}
+use Rattle.class_link.specs.Info.{Info}
 use Rattle.class_table.specs.Table.{look}
 use Rattle.class_model.specs.declared.memory.Memory.{Memory}
 use Rattle.mutator_ops.specs.declared.mutant.Mutant.{Mutant}

@@ -11,10 +11,10 @@ use Rattle.class_model.specs.declared.fault.LayoutFault.{LayoutFault}
 use Rattle.class_writer.specs.Writing.{layout, HasClassForm}
 use Rattle.program_rules.specs.Names.{Name, same}
 use Rattle.program_rules.specs.Linked.{Linked}
-use Rattle.class_table.specs.declared.loaded.Loaded.{Loaded}
-use Rattle.class_table.specs.declared.loaded.ClassBody.TheVariants as body
-use Rattle.class_table.specs.Info.{Info, own_name, body_name, link_body, class_of, file_in}
-use Rattle.class_table.specs.Linking.{link}
+use Rattle.class_link.specs.declared.loaded.Loaded.{Loaded}
+use Rattle.class_link.specs.declared.loaded.ClassBody.TheVariants as body
+use Rattle.class_link.specs.Info.{Info, own_name, body_name, link_body, class_of, file_in}
+use Rattle.class_link.specs.Linking.{link}
 use Rattle.class_table.specs.Table.{place_in, names, number_of, name_at, class_at, look, AreDistinct, IsFile, IsAlike, CanSwap}
 use Rattle.class_table.proofs.Places.{name_at_place, names_kept}
 use Rattle.mutant_apply.specs.Edited.{edited_class, with_layout, has_stack_room, applied}

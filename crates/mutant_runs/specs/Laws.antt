@@ -2,7 +2,7 @@
 use Rattle.std.specs.Prelude.{◌≡◌, ℕ, List, All, Some, slice_get}
 use Rattle.class_model.specs.declared.class.Class.{Class}
 use Rattle.class_writer.specs.Writing.{HasClassForm}
-use Rattle.class_table.specs.Info.{Info, own_name, body_name, file_in}
+use Rattle.class_link.specs.Info.{Info, own_name, body_name, file_in}
 use Rattle.class_table.specs.Table.{IsProgram}
 use Rattle.mutator_ops.specs.Mutants.{class_mutants}
 use Rattle.mutant_runs.specs.Programs.{files_of, IsMutantOf}

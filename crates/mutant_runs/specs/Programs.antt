@@ -5,8 +5,8 @@ use Rattle.class_model.specs.declared.class.Class.{Class}
 use Rattle.class_writer.specs.Writing.{HasClassForm}
 use Rattle.program_rules.specs.Names.{Name, same}
 use Rattle.program_rules.specs.Programs.{Look}
-use Rattle.class_table.specs.Info.{Info, own_name, file_in}
-use Rattle.class_table.specs.Linking.{link}
+use Rattle.class_link.specs.Info.{Info, own_name, file_in}
+use Rattle.class_link.specs.Linking.{link}
 use Rattle.class_table.specs.Table.{number_of, look, CanSwap}
 use Rattle.mutant_apply.specs.Edited.{applied}
 use Rattle.mutant_apply.specs.Fitting.{Fits}

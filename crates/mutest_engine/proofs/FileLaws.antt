@@ -3,11 +3,11 @@ use Rattle.std.proofs.Common.{◌≡◌, ◌∙◌, refl, ap, ℕ, suc, ◌+◌,
 use Rattle.std.specs.Prelude.{if◌then◌else◌, option_and_then}
 use Rattle.class_model.specs.declared.class.Class.{Class}
 use Rattle.program_rules.specs.Names.{Name, same}
-use Rattle.class_table.specs.declared.loaded.Loaded.{Loaded}
-use Rattle.class_table.specs.declared.loaded.LibClass.{LibClass}
-use Rattle.class_table.specs.declared.loaded.ClassBody.{ClassBody}
-use Rattle.class_table.specs.declared.loaded.ClassBody.TheVariants as body
-use Rattle.class_table.specs.Info.{Info, body_name, own_name, file_in}
+use Rattle.class_link.specs.declared.loaded.Loaded.{Loaded}
+use Rattle.class_link.specs.declared.loaded.LibClass.{LibClass}
+use Rattle.class_link.specs.declared.loaded.ClassBody.{ClassBody}
+use Rattle.class_link.specs.declared.loaded.ClassBody.TheVariants as body
+use Rattle.class_link.specs.Info.{Info, body_name, own_name, file_in}
 use Rattle.class_table.specs.Table.{place_from, names, bodies_of}
 use Rattle.mutant_runs.specs.Programs.{files_of}
 use Rattle.mutest_engine.specs.Originals.{classes_in, IsOfBody, AreOfBodies}

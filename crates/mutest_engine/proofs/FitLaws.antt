@@ -16,9 +16,9 @@ use Rattle.class_model.specs.declared.instruction.Insn.{Insn}
 use Rattle.class_model.specs.declared.mutator.Mutator.{Mutator}
 use Rattle.class_writer.specs.Writing.{HasClassForm}
 use Rattle.program_rules.specs.Names.{Name, same}
-use Rattle.class_table.specs.declared.loaded.Loaded.{Loaded}
-use Rattle.class_table.specs.Info.{own_name}
-use Rattle.class_table.specs.Symbols.{name_or_empty}
+use Rattle.class_link.specs.declared.loaded.Loaded.{Loaded}
+use Rattle.class_link.specs.Info.{own_name}
+use Rattle.class_link.specs.Symbols.{name_or_empty}
 use Rattle.class_model.specs.Pool.{text_of, class_name_of}
 use Rattle.mutator_ops.specs.Edits.{mutators_of}
 use Rattle.mutator_ops.specs.Mutants.{line_rows, mutant_at, mutants_from, code_mutants, code_of, is_synthetic, is_left_out, method_mutants, methods_mutants, class_mutants}

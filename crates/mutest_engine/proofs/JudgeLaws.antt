@@ -5,7 +5,7 @@ use Rattle.program_rules.specs.Programs.{Look}
 use Rattle.class_table.specs.declared.scripted.Test.{Test}
 use Rattle.mutator_ops.specs.declared.mutant.Mutant.{Mutant}
 use Rattle.mutator_ops.specs.declared.mutant.Verdict.{Verdict}
-use Rattle.class_table.specs.declared.loaded.Loaded.{Loaded}
+use Rattle.class_link.specs.declared.loaded.Loaded.{Loaded}
 use Rattle.mutant_apply.specs.Laws.{MutantsFit}
 use Rattle.mutant_runs.specs.Programs.{ClassFiles, IsMutantOf}
 use Rattle.report_schema.specs.declared.input.ReportInput.{ReportInput}

@@ -6,12 +6,12 @@ use Rattle.program_rules.specs.Names.{Name, same}
 use Rattle.program_rules.specs.Linked.{Linked}
 use Rattle.program_rules.specs.Library.{class_among, first_of}
 use Rattle.machine_so_far.specs.Library.{library_so_far}
-use Rattle.class_table.specs.declared.loaded.Loaded.{Loaded}
-use Rattle.class_table.specs.declared.loaded.LibClass.{LibClass}
-use Rattle.class_table.specs.declared.loaded.ClassBody.{ClassBody}
-use Rattle.class_table.specs.declared.loaded.ClassBody.TheVariants as body
-use Rattle.class_table.specs.Info.{Info, body_name, link_body, class_of, own_name}
-use Rattle.class_table.specs.Linking.{link_library}
+use Rattle.class_link.specs.declared.loaded.Loaded.{Loaded}
+use Rattle.class_link.specs.declared.loaded.LibClass.{LibClass}
+use Rattle.class_link.specs.declared.loaded.ClassBody.{ClassBody}
+use Rattle.class_link.specs.declared.loaded.ClassBody.TheVariants as body
+use Rattle.class_link.specs.Info.{Info, body_name, link_body, class_of, own_name}
+use Rattle.class_link.specs.Linking.{link_library}
 use Rattle.class_table.specs.Table.{place_from, names, class_at, look, bodies_of, names_of}
 use Rattle.mutest_engine.specs.Originals.{classes_in, IsOfBody, AreOfBodies, named, program_of, names_in}
 

@@ -2,7 +2,7 @@
 use Rattle.std.proofs.Common.{◌≡◌, ◌∙◌, ℕ, ◌+◌, subst, arith, Bool, true, false, cond, map, List, [], ◌∷◌, ◌++◌, Result, Ok, Err, refl, sym, ap, append_assoc}
 use Rattle.std.specs.Prelude.{filter, IfSome, Option, None, Some}
 use Rattle.codec_rules.specs.Reading.{with_values}
-use Rattle.class_table.specs.declared.loaded.Loaded.{Loaded}
+use Rattle.class_link.specs.declared.loaded.Loaded.{Loaded}
 use Rattle.mt_edge.specs.Files.{Files}
 use Rattle.mutest_engine.specs.Steps.{and_then, RefusesReading}
 use Rattle.mutest_engine.specs.SuiteFiles.{both_listed, read_from, bytes_in, loaded, all_loaded, both_loaded, both_read, suite_of}

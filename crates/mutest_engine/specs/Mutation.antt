@@ -5,7 +5,7 @@ use Rattle.class_model.specs.Text.{text}
 use Rattle.class_model.specs.declared.class.Class.{Class}
 use Rattle.program_rules.specs.Names.{same}
 use Rattle.program_rules.specs.Programs.{Look}
-use Rattle.class_table.specs.Info.{Info, own_name}
+use Rattle.class_link.specs.Info.{Info, own_name}
 use Rattle.class_table.specs.Table.{look}
 use Rattle.class_table.specs.declared.scripted.Test.{Test}
 use Rattle.mutator_ops.specs.Mutants.{class_mutants}

@@ -16,10 +16,10 @@ use Rattle.program_rules.specs.Library.{class_among, first_of}
 use Rattle.machine_so_far.specs.Library.{library_so_far}
 use Rattle.machine_rules.specs.Runs.{Ending, With, StuckAt, Ran}
 use Rattle.machine_so_far.specs.Runs.{run_so_far}
-use Rattle.class_table.specs.declared.loaded.Loaded.{Loaded}
+use Rattle.class_link.specs.declared.loaded.Loaded.{Loaded}
 use Rattle.class_table.specs.declared.scripted.Test.{Test}
-use Rattle.class_table.specs.Info.{Info, own_name, body_name, link_body, class_of}
-use Rattle.class_table.specs.Linking.{link}
+use Rattle.class_link.specs.Info.{Info, own_name, body_name, link_body, class_of}
+use Rattle.class_link.specs.Linking.{link}
 use Rattle.jvm_step.specs.View.{test_of}
 use Rattle.test_discovery.specs.Tests.{class_tests}
 use Rattle.mutator_ops.specs.Printing.{printed}

@@ -3,7 +3,7 @@ use Rattle.std.specs.Prelude.{ℕ, ◌+◌, List, [], ◌∷◌, Bool, nat_lt, �
 use Rattle.std.specs.Global.{Vec, Global}
 use Rattle.std.specs.declared.string.String.{String}
 use Rattle.class_writer.specs.Writing.{HasClassForm}
-use Rattle.class_table.specs.declared.loaded.Loaded.{Loaded}
+use Rattle.class_link.specs.declared.loaded.Loaded.{Loaded}
 use Rattle.mt_edge.specs.Files.{Files, listed}
 use Rattle.mutest_engine.specs.Words.{ends_in}
 use Rattle.mutest_engine.specs.Answers.{file_of, spelled_class}

@@ -3,7 +3,7 @@
 ghost use Rattle.std.specs.Prelude.{◌≡◌, map, IfOk};
 ghost use Rattle.std.specs.List.{flat_map};
 ghost use Rattle.class_model.specs.Text.{text};
-ghost use Rattle.class_table.specs.Info.{own_name};
+ghost use Rattle.class_link.specs.Info.{own_name};
 ghost use Rattle.mutest_engine.specs.Originals.{tests_by_name, classes_in, kept_tests, tests_among, few_tests};
 
 use crate::refusal::{Limit, Refusal};

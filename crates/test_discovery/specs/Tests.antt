@@ -14,8 +14,8 @@ use Rattle.class_model.specs.declared.class.Member.{Member}
 use Rattle.program_rules.specs.declared.call_kind.CallKind.TheVariants.{Make, TestMethod}
 use Rattle.program_rules.specs.Names.{Name, same, instance_initializer, plain_descriptor}
 use Rattle.program_rules.specs.Linked.{is_static}
-use Rattle.class_table.specs.Symbols.{name_or_empty}
-use Rattle.class_table.specs.Info.{own_name}
+use Rattle.class_link.specs.Symbols.{name_or_empty}
+use Rattle.class_link.specs.Info.{own_name}
 use Rattle.class_table.specs.declared.scripted.Test.{Test}
 
 -- ---- what stands at a method

@@ -3,8 +3,8 @@
 ghost use Rattle.std.specs.Prelude.{◌≡◌, IfOk};
 ghost use Rattle.program_rules.specs.Names.{instance_initializer as initializer, plain_descriptor};
 ghost use Rattle.class_model.specs.Pool.{text_of};
-ghost use Rattle.class_table.specs.Symbols.{name_or_empty};
-ghost use Rattle.class_table.specs.Info.{own_name as name_of};
+ghost use Rattle.class_link.specs.Symbols.{name_or_empty};
+ghost use Rattle.class_link.specs.Info.{own_name as name_of};
 ghost use Rattle.test_discovery.specs.Tests.{names_text, test_annotation};
 
 use class_model::{Class, Const, Memory, Name};

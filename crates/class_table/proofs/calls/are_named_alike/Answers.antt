@@ -1,8 +1,8 @@
 use Rattle.std.proofs.Common.{Option, None, Some, slice_get, subst, arith}
 use Rattle.std.specs.Option.{option_copied}
 use Rattle.std.proofs.lemmas.Option.{slice_get_within, get_or_from_slice_get}
-use Rattle.class_table.specs.declared.linked.Entry.{Entry}
-use Rattle.class_table.specs.View.{method_entry}
+use Rattle.class_link.specs.declared.linked.Entry.{Entry}
+use Rattle.class_link.specs.View.{method_entry}
 use Rattle.class_table.specs.Calls.{AreSameNamed}
 use Rattle.class_table.proofs.CallLaws.{alike_more}
 use Rattle.class_table.proofs.calls.are_named_alike.Goals as goal

@@ -1,6 +1,6 @@
 use Rattle.std.proofs.Common.{◌≡◌, ℕ, ◌<◌, Some, slice_get}
 use Rattle.class_table.specs.declared.calls.Target.{Target}
-use Rattle.class_table.specs.View.{method_entry}
+use Rattle.class_link.specs.View.{method_entry}
 use Rattle.class_table.specs.Calls.{AreSameNamed}
 use Rattle.class_table.proofs.calls.are_named_alike.Given as goal
 

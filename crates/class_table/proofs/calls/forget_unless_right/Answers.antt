@@ -2,8 +2,8 @@ use Rattle.std.proofs.Common.{◌≡◌, ℕ, List, Option, Some, slice_set, map
 use Rattle.std.specs.Option.{option_map}
 use Rattle.std.specs.Arc.{arc_value}
 use Rattle.class_table.specs.declared.calls.Target.{Target}
-use Rattle.class_table.specs.declared.linked.LinkedClass.{LinkedClass}
-use Rattle.class_table.specs.View.{method_ref_at}
+use Rattle.class_link.specs.declared.linked.LinkedClass.{LinkedClass}
+use Rattle.class_link.specs.View.{method_ref_at}
 use Rattle.class_table.specs.Calls.{target_at, AreTargets, AreTargetsOrNone, head_of, AreSameNamed}
 use Rattle.class_table.proofs.CallLaws.{targets_kept}
 use Rattle.class_table.proofs.calls.forget_unless_right.Goals as goal

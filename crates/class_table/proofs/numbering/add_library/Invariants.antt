@@ -1,8 +1,8 @@
 use Rattle.std.proofs.Common.{◌≡◌, ◌++◌, map}
 use Rattle.std.specs.Arc.{arc_value}
 use Rattle.std.specs.Vec.Iter.{into_iter_items}
-use Rattle.class_table.specs.declared.loaded.ClassBody.TheVariants.{Library}
-use Rattle.class_table.specs.Info.{body_name}
+use Rattle.class_link.specs.declared.loaded.ClassBody.TheVariants.{Library}
+use Rattle.class_link.specs.Info.{body_name}
 use Rattle.class_table.specs.Table.{bodies, names}
 use Rattle.class_table.proofs.numbering.add_library.Given as goal
 

@@ -2,7 +2,7 @@ use Rattle.std.proofs.Common.{List, refl, subst}
 use Rattle.program_rules.specs.declared.value.Value.{Value}
 use Rattle.program_rules.specs.Deeds.{Deed}
 use Rattle.class_table.specs.Table.{name_at}
-use Rattle.class_table.specs.View.{native_meaning}
+use Rattle.class_link.specs.View.{native_meaning}
 use Rattle.jvm_step.specs.Natives.{deed_of, ends_with, consulted_in}
 use Rattle.jvm_step.specs.View.{frame_of, callers_of, world_of, state_of, Comes}
 use Rattle.jvm_step.proofs.Calls.{if_some_at, some_of, none_of, comes_as}

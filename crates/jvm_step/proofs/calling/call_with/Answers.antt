@@ -1,5 +1,5 @@
 use Rattle.std.proofs.Common.{map, refl}
-use Rattle.class_table.specs.Symbols.{kind_of}
+use Rattle.class_link.specs.Symbols.{kind_of}
 use Rattle.jvm_step.proofs.Arguments.{rowless}
 use Rattle.jvm_step.proofs.Calls.{if_some, if_some_all}
 use Rattle.jvm_step.proofs.calling.call_with.Goals as goal

@@ -1,7 +1,7 @@
 use Rattle.std.proofs.Common.{◌≡◌}
 use Rattle.machine_so_far.specs.Initialisation.{Ready, need_of}
 use Rattle.class_table.specs.Table.{look, name_at, entries_at}
-use Rattle.class_table.specs.View.{method_of, method_ref_of}
+use Rattle.class_link.specs.View.{method_of, method_ref_of}
 use Rattle.jvm_step.specs.View.{frame_of, world_of, callers_of}
 use Rattle.jvm_step.proofs.Calls.{if_some, comes_as, static_ready}
 use Rattle.jvm_step.proofs.calling.invoke_static.Goals as goal

@@ -1,5 +1,5 @@
 use Rattle.std.proofs.Common.{◌≡◌, map, take}
-use Rattle.class_table.specs.Linking.{link_library}
+use Rattle.class_link.specs.Linking.{link_library}
 use Rattle.jvm_step.specs.Library.{class_in}
 use Rattle.jvm_step.proofs.classes.classes_of.Given as goal
 

@@ -1,5 +1,5 @@
 use Rattle.std.proofs.Common.{◌≡◌, map, take}
-use Rattle.class_table.specs.Linking.{library_field}
+use Rattle.class_link.specs.Linking.{library_field}
 use Rattle.jvm_step.specs.Library.{field_in}
 use Rattle.jvm_step.proofs.classes.fields.Given as goal
 

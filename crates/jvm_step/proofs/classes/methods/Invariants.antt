@@ -1,5 +1,5 @@
 use Rattle.std.proofs.Common.{◌≡◌, map, take}
-use Rattle.class_table.specs.Linking.{library_method}
+use Rattle.class_link.specs.Linking.{library_method}
 use Rattle.jvm_step.specs.Library.{method_in}
 use Rattle.jvm_step.proofs.classes.methods.Given as goal
 

@@ -2,7 +2,7 @@ use Rattle.std.proofs.Common.{◌≡◌, map, drop}
 use Rattle.std.specs.Prelude.{◌&&◌, ◌||◌}
 use Rattle.std.specs.List.{list_any}
 use Rattle.program_rules.specs.Linked.{fits_kind, is_static}
-use Rattle.class_table.specs.View.{field_of}
+use Rattle.class_link.specs.View.{field_of}
 use Rattle.jvm_step.proofs.initialisation.has_constant_among.Given as goal
 
 abbrev pub invariant-loop-field : goal.invariant-loop-field

@@ -1,8 +1,8 @@
 use Rattle.std.proofs.Common.{◌≡◌, List, map, drop}
 use Rattle.std.specs.List.{list_any}
 use Rattle.program_rules.specs.Outlines.{is_class_initializer}
-use Rattle.class_table.specs.declared.linked.Entry.{Entry}
-use Rattle.class_table.specs.View.{method_of}
+use Rattle.class_link.specs.declared.linked.Entry.{Entry}
+use Rattle.class_link.specs.View.{method_of}
 use Rattle.jvm_step.proofs.initialisation.has_initializer_among.Given as goal
 
 abbrev pub invariant-loop-method : goal.invariant-loop-method

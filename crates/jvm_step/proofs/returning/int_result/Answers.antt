@@ -2,7 +2,7 @@ use Rattle.std.proofs.Common.{◌≡◌, rules, sym, ap, ◌∙◌, w32, FitsSig
 use Rattle.std.proofs.lemmas.Int.{to_z-of_z}
 use Rattle.program_rules.specs.declared.value.Value.TheVariants.{Int}
 use Rattle.program_rules.specs.Kinds.{narrow}
-use Rattle.class_table.specs.Symbols.{kind_of}
+use Rattle.class_link.specs.Symbols.{kind_of}
 use Rattle.jvm_step.proofs.returning.int_result.Goals as goal
 
 pub returns-clause-some : goal.returns-clause-some

@@ -1,6 +1,6 @@
 use Rattle.std.proofs.Common.{◌≡◌, map, drop}
 use Rattle.program_rules.specs.Linked.{is_covered}
-use Rattle.class_table.specs.View.{row_of}
+use Rattle.class_link.specs.View.{row_of}
 use Rattle.jvm_step.proofs.returning.is_covered.Given as goal
 
 abbrev pub invariant-loop-row : goal.invariant-loop-row

@@ -1,6 +1,6 @@
 use Rattle.std.proofs.Common.{◌≡◌, true, arith}
 use Rattle.program_rules.specs.Kinds.{is_int_kind}
-use Rattle.class_table.specs.Symbols.{kind_of}
+use Rattle.class_link.specs.Symbols.{kind_of}
 use Rattle.class_table.specs.Table.{look}
 use Rattle.jvm_step.specs.View.{frame_of, world_of, callers_of}
 use Rattle.jvm_step.proofs.Calls.{if_some_at, comes_as, returns_int_goes}

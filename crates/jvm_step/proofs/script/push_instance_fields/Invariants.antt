@@ -1,7 +1,7 @@
 use Rattle.std.proofs.Common.{◌≡◌, ◌++◌, map, drop}
 use Rattle.machine_so_far.specs.Script.{instance_values}
 use Rattle.jvm_values.specs.Words.{default_of}
-use Rattle.class_table.specs.View.{field_of}
+use Rattle.class_link.specs.View.{field_of}
 use Rattle.jvm_step.proofs.script.push_instance_fields.Given as goal
 
 abbrev pub invariant-loop-field : goal.invariant-loop-field

@@ -2,7 +2,7 @@ use Rattle.std.proofs.Common.{rules}
 use Rattle.program_rules.specs.Instructions.{InvokeStatic}
 use Rattle.machine_so_far.specs.Steps.{act}
 use Rattle.machine_rules.specs.Steps.{pops_word}
-use Rattle.class_table.specs.View.{instruction_of, method_ref_of}
+use Rattle.class_link.specs.View.{instruction_of, method_ref_of}
 use Rattle.class_table.specs.Table.{look, entries_at}
 use Rattle.jvm_step.specs.View.{frame_of, world_of, callers_of, current_of}
 use Rattle.jvm_step.specs.Arithmetic.{operates_by_result}

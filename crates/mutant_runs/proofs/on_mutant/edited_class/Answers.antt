@@ -1,5 +1,5 @@
 use Rattle.std.proofs.Common.{◌≡◌, ◌∙◌, sym, ap, subst, Some}
-use Rattle.class_table.specs.Info.{Info, body_name, link_body}
+use Rattle.class_link.specs.Info.{Info, body_name, link_body}
 use Rattle.mutant_apply.specs.Edited.{applied}
 use Rattle.mutant_runs.specs.Programs.{Makes}
 use Rattle.mutant_runs.proofs.ProgramLaws.{IsAt, makes}

@@ -1,8 +1,8 @@
 use Rattle.std.proofs.Common.{◌≡◌, ◌∙◌, sym, ap, subst, List, [], ◌∷◌, ◌++◌, map, All, Some, slice_get}
-use Rattle.class_table.specs.declared.loaded.ClassBody.{ClassBody}
-use Rattle.class_table.specs.declared.loaded.ClassBody.TheVariants as body
-use Rattle.class_table.specs.declared.loaded.Loaded.{Loaded}
-use Rattle.class_table.specs.Info.{Info, own_name, file_in}
+use Rattle.class_link.specs.declared.loaded.ClassBody.{ClassBody}
+use Rattle.class_link.specs.declared.loaded.ClassBody.TheVariants as body
+use Rattle.class_link.specs.declared.loaded.Loaded.{Loaded}
+use Rattle.class_link.specs.Info.{Info, own_name, file_in}
 use Rattle.class_table.specs.Table.{bodies_of}
 use Rattle.mutator_ops.specs.declared.mutant.Mutant.{Mutant}
 use Rattle.mutant_runs.specs.Programs.{files_of, IsMutantOf}

@@ -2,7 +2,7 @@ use Rattle.std.proofs.Common.{◌≡◌, ◌∙◌, ◌∷◌, ◌++◌, ◌+◌
 use Rattle.std.proofs.lemmas.Grind.{common_steps}
 use Rattle.program_rules.specs.Programs.{concat_over, supers_within}
 use Rattle.class_table.specs.Table.{look}
-use Rattle.class_table.specs.View.{linked_of}
+use Rattle.class_link.specs.View.{linked_of}
 use Rattle.class_table.proofs.Collecting.{collect_class, collect_next}
 use Rattle.class_table.proofs.program.Program.+collect.Goals as goal
 

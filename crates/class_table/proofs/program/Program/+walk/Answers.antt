@@ -2,7 +2,7 @@ use Rattle.std.proofs.Common.{◌≡◌, ℕ, ◌∙◌, ◌∷◌, ◌+◌, ◌
 use Rattle.std.proofs.lemmas.Grind.{common_steps}
 use Rattle.program_rules.specs.Programs.{concat_over, supers_within, consult_in}
 use Rattle.class_table.specs.Table.{look}
-use Rattle.class_table.specs.View.{linked_of}
+use Rattle.class_link.specs.View.{linked_of}
 use Rattle.class_table.specs.Seen.{AreKnown}
 use Rattle.class_table.proofs.Walk.{known_already, walk_class, walked_known, consult_both}
 use Rattle.class_table.proofs.program.Program.+walk.Goals as goal

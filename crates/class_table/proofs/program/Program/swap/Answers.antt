@@ -2,7 +2,7 @@ use Rattle.std.proofs.Common.{◌≡◌, ◌∙◌, sym, ap, List, map, length, 
 use Rattle.std.specs.Arc.{arc_value}
 use Rattle.std.specs.Option.{option_map}
 use Rattle.std.proofs.lemmas.List.{with_items_is}
-use Rattle.class_table.specs.Info.{Info}
+use Rattle.class_link.specs.Info.{Info}
 use Rattle.class_table.specs.Table.{IsProgram}
 use Rattle.class_table.specs.Numbers.{IsNumbering}
 use Rattle.class_table.specs.Calls.{AreTargetsOrNone}

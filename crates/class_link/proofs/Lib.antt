@@ -1,0 +1,4 @@
+pub mod AppendedLaws
+pub mod FormLaws
+pub mod Resolved
+pub mod LineLaws

@@ -1,0 +1,11 @@
+pub mod Symbols
+pub mod Opcodes
+pub mod Linking
+pub mod View
+pub mod Switches
+pub mod Appended
+pub mod Forms
+pub mod Info
+pub mod Framed
+pub mod Spelled
+pub mod Lines

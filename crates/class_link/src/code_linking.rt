@@ -1,0 +1,186 @@
+//! What the code of a method means once indices of its constant pool are resolved to names (JVMS
+//! 4.7.3, 4.7.12).
+
+ghost use Rattle.std.specs.Prelude.{◌≡◌, ◌+◌, List, ◌++◌, map, length, drop, IfOk, OnOk, if◌then◌else◌};
+ghost use Rattle.std.specs.List.{flat_map};
+ghost use Rattle.class_link.specs.Linking as linking;
+ghost use Rattle.class_link.specs.Opcodes.{instruction_by};
+ghost use Rattle.class_link.specs.Switches.{switch_in, switches_in, AreEntries};
+ghost use Rattle.class_link.specs.declared.linked.Switch as switch;
+ghost use Rattle.class_link.specs.View.{meaning_at, instruction_of, row_of, line_of, code_of};
+
+use crate::entries::class_or_none;
+use crate::frames::link_frames;
+use crate::instruction::Instruction;
+use crate::line_table::LineTable;
+use crate::linked::{Entry, LinkedCode, LinkedLine, LinkedRow, Switch};
+use crate::opcodes;
+use class_model::{Arg, Attr, Body, Code, Const, Insn, Memory, Row, Seq};
+use std::alloc::Global;
+
+// Adds the switch that an instruction is, if it is one.
+fn add_switch(switches: &mut Vec<Switch>, insn: &Insn) -> Result<(), Memory>
+    ensures { OnOk result (switches.new.items ≡ switches.old.items ++ switch_in insn.now) }
+{
+    match &insn.arg {
+        Arg::Table(default, low, targets) if insn.op == 0xaa => {
+            let targets = targets.copy()?;
+            switches.push(Switch::Table(*default, *low, targets))?;
+        }
+        Arg::Lookup(default, keys) if insn.op == 0xab => {
+            let keys = keys.copy()?;
+            switches.push(Switch::Lookup(*default, keys))?;
+        }
+        _ => {}
+    }
+    Ok(())
+}
+
+fn switches_in(alloc: Global, insns: &[Insn]) -> Result<Seq<Switch>, Memory>
+    ensures { IfOk result (λ ss. ss ≡ switches_in insns.now) }
+{
+    let mut switches = Vec::new(alloc);
+    for insn in insns {
+        add_switch(&mut switches, insn)?;
+    }
+    Ok(Seq::from_vec(switches))
+}
+
+// What an instruction means, where the next switch has this number.
+#[tactic(auto, unfolding(crate::specs::Opcodes::instruction_by))]
+fn link_insn(entries: &[Entry], next: u32, insn: &Insn) -> Instruction
+    ensures { (ss more : List switch.Switch) → drop next ss ≡ switch_in insn.now ++ more → instruction_of entries.now ss result ≡ instruction_by (meaning_at entries.now) insn.now }
+{
+    match &insn.arg {
+        Arg::None => opcodes::plain(insn.op),
+        Arg::Number(number) => opcodes::with_number(insn.op, *number),
+        Arg::Pool(index) => opcodes::with_index(entries, insn.op, *index),
+        Arg::Local(local) => opcodes::with_local(insn.op, *local),
+        Arg::Inc(local, by) => opcodes::with_increment(insn.op, *local, *by),
+        Arg::To(to) => opcodes::with_target(insn.op, *to),
+        Arg::Table(_, _, _) => opcodes::table_switch(insn.op, next),
+        Arg::Lookup(_, _) => opcodes::lookup_switch(insn.op, next),
+        Arg::Kind(elements) => opcodes::with_elements(insn.op, *elements),
+        Arg::Multi(index, count) => opcodes::with_count(insn.op, *index, *count),
+    }
+}
+
+fn is_switch(insn: &Insn) -> bool
+    ensures { (if result then 1 else 0) ≡ length (switch_in insn.now) }
+{
+    match &insn.arg {
+        Arg::Table(_, _, _) => insn.op == 0xaa,
+        Arg::Lookup(_, _) => insn.op == 0xab,
+        _ => false,
+    }
+}
+
+// The number of the next switch behind an instruction.
+fn number_behind(next: u32, insn: &Insn) -> Result<u32, Memory>
+    ensures { IfOk result (λ n. n ≡ next + length (switch_in insn.now)) }
+{
+    if is_switch(insn) {
+        return Ok(next.checked_add(1).ok_or(Memory)?);
+    }
+    Ok(next)
+}
+
+fn link_insns(
+    alloc: Global,
+    entries: &[Entry],
+    switches: &[Switch],
+    insns: &[Insn],
+) -> Result<Seq<Instruction>, Memory>
+    requires { switches.now ≡ switches_in insns.now }
+    ensures { IfOk result (λ is. map (instruction_of entries.now switches.now) is ≡ map (instruction_by (meaning_at entries.now)) insns.now) }
+{
+    let mut instructions = Vec::with_capacity(alloc, insns.len())?;
+    let mut next: u32 = 0;
+    for insn in insns {
+        instructions.push(link_insn(entries, next, insn))?;
+        next = number_behind(next, insn)?;
+    }
+    Ok(Seq::from_vec(instructions))
+}
+
+fn link_row(alloc: Global, pool: &[Const], row: &Row) -> Result<LinkedRow, Memory>
+    ensures { IfOk result (λ r. row_of r ≡ linking.row_in pool.now row.now) }
+{
+    Ok(LinkedRow {
+        start: row.start,
+        end: row.end,
+        handler: row.handler,
+        catch: class_or_none(alloc, pool, row.catch)?,
+    })
+}
+
+fn link_rows(alloc: Global, pool: &[Const], rows: &[Row]) -> Result<Seq<LinkedRow>, Memory>
+    ensures { IfOk result (λ rs. map row_of rs ≡ map (linking.row_in pool.now) rows.now) }
+{
+    let mut linked = Vec::with_capacity(alloc, rows.len())?;
+    for row in rows {
+        linked.push(link_row(alloc, pool, row)?)?;
+    }
+    Ok(Seq::from_vec(linked))
+}
+
+fn add_rows(lines: &mut Vec<LinkedLine>, rows: &[(u32, u16)]) -> Result<(), Memory>
+    ensures { OnOk result (map line_of lines.new.items ≡ map line_of lines.old.items ++ map linking.line_in rows.now) }
+{
+    for (start, line) in rows {
+        lines.push(LinkedLine {
+            start: *start,
+            line: *line,
+        })?;
+    }
+    Ok(())
+}
+
+// Adds the rows of an attribute that is a LineNumberTable.
+fn add_lines(lines: &mut Vec<LinkedLine>, attr: &Attr) -> Result<(), Memory>
+    ensures { OnOk result (map line_of lines.new.items ≡ map line_of lines.old.items ++ linking.lines_of (linking.content_of attr.now)) }
+{
+    match &attr.body {
+        Body::Lines(rows) => {
+            add_rows(lines, rows.as_slice())?;
+            Ok(())
+        }
+        _ => Ok(()),
+    }
+}
+
+fn link_lines(alloc: Global, attrs: &[Attr]) -> Result<Seq<LinkedLine>, Memory>
+    ensures { IfOk result (λ ls. map line_of ls ≡ flat_map (λ a. linking.lines_of (linking.content_of a)) attrs.now) }
+{
+    let mut lines = Vec::new(alloc);
+    for attr in attrs {
+        add_lines(&mut lines, attr)?;
+    }
+    Ok(Seq::from_vec(lines))
+}
+
+/// What a Code attribute means.
+#[tactic(auto, using(crate::proofs::Resolved::insns_resolved))]
+pub fn link_code(
+    alloc: Global,
+    entries: &[Entry],
+    pool: &[Const],
+    code: &Code,
+) -> Result<LinkedCode, Memory>
+    requires { AreEntries entries.now pool.now }
+    ensures { IfOk result (λ c. code_of entries.now c ≡ linking.code_in pool.now code.now) }
+{
+    let switches = switches_in(alloc, code.insns.as_slice())?;
+    let instructions = link_insns(alloc, entries, switches.as_slice(), code.insns.as_slice())?;
+    let line_rows = link_lines(alloc, code.attrs.as_slice())?;
+    let lines = LineTable::new(alloc, line_rows, instructions.len())?;
+    Ok(LinkedCode {
+        max_stack: code.max_stack,
+        max_locals: code.max_locals,
+        instructions,
+        switches,
+        rows: link_rows(alloc, pool, code.rows.as_slice())?,
+        lines,
+        frames: link_frames(alloc, pool, code.attrs.as_slice())?,
+    })
+}

@@ -1,0 +1,27 @@
+//! From a class file, or a class of the library, to what the machine runs: names and descriptors in
+//! place of indices of the constant pool.
+#![tactic(auto)]
+
+mod code_linking;
+mod entries;
+mod frames;
+mod info;
+mod instruction;
+mod laws;
+mod line_table;
+mod linked;
+mod linking;
+mod loaded;
+mod opcodes;
+
+pub use frames::{FrameShape, StatedFrame, VType};
+pub use info::ClassInfo;
+pub use instruction::Instruction;
+pub use laws::{appended_mean_the_same, forms_mean_the_same};
+pub use line_table::LineTable;
+pub use linked::{
+    Entry, FieldConstant, FieldRef, LinkedBody, LinkedClass, LinkedCode, LinkedField, LinkedLine,
+    LinkedMethod, LinkedRow, MethodRef, Native, Switch,
+};
+pub use loaded::{ClassBody, LibBody, LibClass, LibField, LibMethod, Loaded};
+pub use program_rules::{CallKind, Comparison, Conversion, Element, Operation, ShiftKind};

@@ -1,0 +1,181 @@
+//! A class with names in place of indices of its constant pool (JVMS 4.1, 4.5 to 4.7).
+
+ghost use Rattle.std.specs.Prelude.{◌≡◌, ◌<◌, List, map, length, Some, None, IfSome, IfNone};
+ghost use Rattle.std.specs.Option.{option_copied};
+ghost use Rattle.program_rules.specs.Linked.{method_place};
+ghost use Rattle.class_link.specs.View.{method_ref_at, method_of, linked_of};
+ghost use Rattle.class_link.specs.declared.linked.Entry as entry;
+
+use crate::frames::StatedFrame;
+use crate::instruction::Instruction;
+use crate::line_table::LineTable;
+use class_model::{Kind, Name, Seq};
+
+/// A method that is named, with what its descriptor states (JVMS 4.3.3, 4.4.2). A result of `None`
+/// is void. `interface` is set where the entry names a method of an interface.
+#[derive(Drop)]
+pub struct MethodRef {
+    pub class: Name,
+    pub name: Name,
+    pub desc: Name,
+    pub args: Seq<Kind>,
+    pub result: Option<Kind>,
+    pub interface: bool,
+}
+
+/// A field that is named, with the kind that its descriptor states (JVMS 4.3.2, 4.4.2).
+#[derive(Drop)]
+pub struct FieldRef {
+    pub class: Name,
+    pub name: Name,
+    pub desc: Name,
+    pub kind: Kind,
+}
+
+/// An entry of the run-time constant pool (JVMS 5.1): what an index means to an instruction.
+#[derive(Drop)]
+pub enum Entry {
+    /// Nothing that an instruction of the profile may name.
+    Other,
+    Integer(i32),
+    Long(i64),
+    Text(Name),
+    Class(Name),
+    Field(FieldRef),
+    Method(MethodRef),
+}
+
+/// A `tableswitch` or a `lookupswitch` (JVMS 6.5).
+#[derive(Drop)]
+pub enum Switch {
+    /// Where the default goes, the lowest key, and where each key from there on goes.
+    Table(u32, i32, Seq<u32>),
+    /// Where the default goes, and each key with where it goes.
+    Lookup(u32, Seq<(i32, u32)>),
+}
+
+/// A row of the exception table (JVMS 4.7.3): it covers the instructions from `start` up to but not
+/// `end`. No class name catches everything.
+#[derive(Drop)]
+pub struct LinkedRow {
+    pub start: u32,
+    pub end: u32,
+    pub handler: u32,
+    pub catch: Option<Name>,
+}
+
+/// A row of a LineNumberTable (JVMS 4.7.12).
+#[derive(Clone, Copy)]
+pub struct LinkedLine {
+    pub start: u32,
+    pub line: u16,
+}
+
+/// A Code attribute (JVMS 4.7.3). Lines stand in file order, those of several tables one behind the
+/// other, and so do frames. No step reads the frames.
+#[derive(Drop)]
+pub struct LinkedCode {
+    pub max_stack: u16,
+    pub max_locals: u16,
+    pub instructions: Seq<Instruction>,
+    pub switches: Seq<Switch>,
+    pub rows: Seq<LinkedRow>,
+    pub lines: LineTable,
+    pub frames: Seq<StatedFrame>,
+}
+
+/// The native methods of the library that have a row (this project's own).
+#[derive(Clone, Copy)]
+pub enum Native {
+    /// The `<init>` of `java/lang/Object`, which does nothing.
+    InitObject,
+    AssertTrue,
+    AssertFalse,
+}
+
+/// What stands behind a method's head. An abstract method has no body, nor has a native one without
+/// a row.
+#[derive(Drop)]
+pub enum LinkedBody {
+    Code(LinkedCode),
+    Native(Native),
+    Absent,
+}
+
+/// A method. A result of `None` is void.
+#[derive(Drop)]
+pub struct LinkedMethod {
+    pub flags: u16,
+    pub name: Name,
+    pub desc: Name,
+    pub args: Seq<Kind>,
+    pub result: Option<Kind>,
+    pub body: LinkedBody,
+}
+
+/// What a ConstantValue attribute names (JVMS 4.7.2).
+#[derive(Drop)]
+pub enum FieldConstant {
+    Int(i32),
+    Long(i64),
+    Text(Name),
+}
+
+#[derive(Drop)]
+pub struct LinkedField {
+    pub flags: u16,
+    pub name: Name,
+    pub desc: Name,
+    pub kind: Kind,
+    pub constant: Option<FieldConstant>,
+}
+
+/// A class with names in place of pool indices. `library` is set for the classes that come with the
+/// machine and not from a class file.
+#[derive(Drop)]
+pub struct LinkedClass {
+    pub library: bool,
+    pub flags: u16,
+    pub parent: Option<Name>,
+    pub interfaces: Seq<Name>,
+    pub fields: Seq<LinkedField>,
+    pub methods: Seq<LinkedMethod>,
+    /// The run-time constant pool by the indices of the class file. At place 0, which is no index,
+    /// stands `Other`.
+    pub entries: Seq<Entry>,
+}
+
+impl LinkedClass {
+    /// The method that an index of the constant pool names, if it names one.
+    pub fn method_ref(&self, reference: u32) -> Option<&MethodRef>
+        ensures { option_copied result ≡ method_ref_at self.now reference }
+    {
+        match self.entries.get(reference as usize)? {
+            Entry::Method(method) => Some(method),
+            _ => None,
+        }
+    }
+
+    /// The place of the method of this name and descriptor, of two the first.
+    #[tactic(auto, unfolding(crate::specs::View::linked_of))]
+    pub fn method_place(&self, name: &Name, desc: &Name) -> Option<usize>
+        ensures found { IfSome result (λ place. method_place name.now desc.now (linked_of self.now).methods ≡ Some place) }
+        ensures within { IfSome result (λ place. place < length self.now.methods) }
+        ensures absent { IfNone result (method_place name.now desc.now (linked_of self.now).methods ≡ None) }
+    {
+        place_of(self.methods.as_slice(), name, desc)
+    }
+}
+
+fn place_of(methods: &[LinkedMethod], name: &Name, desc: &Name) -> Option<usize>
+    ensures within { IfSome result (λ place. place < length methods.now) }
+    ensures found { IfSome result (λ place. (es : List entry.Entry) → method_place name.now desc.now (map (method_of es) methods.now) ≡ Some place) }
+    ensures absent { IfNone result ((es : List entry.Entry) → method_place name.now desc.now (map (method_of es) methods.now) ≡ None) }
+{
+    for (place, method) in methods.iter().enumerate() {
+        if method.name == *name && method.desc == *desc {
+            return Some(place);
+        }
+    }
+    None
+}

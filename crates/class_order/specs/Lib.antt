@@ -1,0 +1,4 @@
+pub mod Supers
+pub mod Graph
+pub mod Standings
+pub mod Walks

@@ -1,8 +1,0 @@
-use Rattle.std.proofs.Common.{◌≡◌, ◌++◌, map, take}
-use Rattle.class_table.specs.Linking as linking
-use Rattle.class_table.specs.View.{frame_of}
-use Rattle.class_table.proofs.frames.add_all.Given as goal
-
-abbrev pub invariant-loop-frame : goal.invariant-loop-frame
-invariant-loop-frame l =
-    map frame_of l.out.items ≡ map frame_of l.initial.out.items ++ map (linking.frame_in l.pool) (take l.frame-index l.frames)

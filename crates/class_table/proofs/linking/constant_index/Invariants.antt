@@ -1,6 +1,0 @@
-use Rattle.std.proofs.Common.{◌≡◌, drop}
-use Rattle.class_table.specs.Linking.{first_of, value_of}
-use Rattle.class_table.proofs.linking.constant_index.Given as goal
-
-abbrev pub invariant-loop-attr : goal.invariant-loop-attr
-invariant-loop-attr l = first_of value_of l.attrs ≡ first_of value_of (drop l.attr-index l.attrs)

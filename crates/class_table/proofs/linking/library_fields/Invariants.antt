@@ -1,7 +1,0 @@
-use Rattle.std.proofs.Common.{◌≡◌, map, take}
-use Rattle.class_table.specs.View.{field_of}
-use Rattle.class_table.specs.Linking.{library_field}
-use Rattle.class_table.proofs.linking.library_fields.Given as goal
-
-abbrev pub invariant-loop-field : goal.invariant-loop-field
-invariant-loop-field l = map field_of l.linked.items ≡ map library_field (take l.field-index l.fields)

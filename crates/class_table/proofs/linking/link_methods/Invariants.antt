@@ -1,7 +1,0 @@
-use Rattle.std.proofs.Common.{◌≡◌, map, take}
-use Rattle.class_table.specs.View.{method_of}
-use Rattle.class_table.specs.Linking.{method_in}
-use Rattle.class_table.proofs.linking.link_methods.Given as goal
-
-abbrev pub invariant-loop-method : goal.invariant-loop-method
-invariant-loop-method l = map (method_of l.entries) l.linked.items ≡ map (method_in l.pool) (take l.method-index l.methods)
