@@ -1,6 +1,6 @@
 -- Each mutant of a suite's classes has an edit that its class takes.
 use Rattle.std.proofs.Common.{◌≡◌, ◌∙◌, ℕ, ◌+◌, Bool, true, false, List, [], ◌∷◌, ◌++◌, map, Option, Some, None, Ok, refl, sym, ap, subst}
-use Rattle.std.specs.Prelude.{All, IfSome, if◌then◌else◌, ◌||◌, unwrap_or}
+use Rattle.std.specs.Prelude.{All, IfSome, if◌then◌else◌, ◌||◌, unwrap_or, Result, Err}
 use Rattle.std.specs.List.{AllByRecursion, list_any, flat_map, fold}
 use Rattle.std.specs.declared.cmp.Ordering.{Ordering}
 use Rattle.std.specs.declared.cmp.Ordering.TheVariants.{Less, Equal, Greater}
@@ -27,10 +27,14 @@ use Rattle.mutator_ops.specs.declared.place.Place.{Place}
 use Rattle.mutant_apply.specs.Fitting.{Fits}
 use Rattle.mutant_apply.specs.Laws.{MutantsFit}
 use Rattle.mutant_runs.specs.Programs.{ClassFiles, IsMutantOf}
+use Rattle.mutest_engine.specs.Steps.{and_then}
+use Rattle.mutest_engine.specs.Supers.{unless_found, right_supers}
+use Rattle.mutest_engine.specs.declared.refusal.ProgramFault.TheVariants.{Duplicate}
+use Rattle.mutest_engine.specs.declared.refusal.Refusal.{Refusal}
 use Rattle.mutest_engine.specs.Duplicates.{again, least, duplicate_in}
 use Rattle.mutest_engine.specs.SuiteFiles.{IsFormed}
 use Rattle.mutest_engine.specs.declared.suite.LoadedSuite.{LoadedSuite}
-use Rattle.mutest_engine.specs.Originals.{all_classes, classes_in, names_in, unless_twice, accepted, ordered}
+use Rattle.mutest_engine.specs.Originals.{all_classes, classes_in, names_in, program_of, accepted, ordered}
 use Rattle.mutest_engine.specs.Mutation.{mutants_by_name, mutants_among, mutants_of, class_file, suite_files, linked}
 
 -- ---- lists
@@ -126,12 +130,12 @@ nothing_twice : (ns : List Name) → least ns ≡ None → ns ≡ []
 nothing_twice [] h = refl
 nothing_twice (n ∷ ns) h = absurd cc
 
-accepted_case : (o : Option Name) → unless_twice o ≡ Ok tt → o ≡ None
-accepted_case None h = refl
-accepted_case (Some n) h = absurd cc
+accepted_case : (o : Option Name) (next : Unit {0} → Result (Unit {0}) Refusal) → and_then (unless_found Duplicate o) next ≡ Ok tt → o ≡ None
+accepted_case None next h = refl
+accepted_case (Some n) next h = absurd cc
 
 none_again : (classes : List Class) → accepted classes ≡ Ok tt → again (names_in classes) ≡ []
-none_again classes h = nothing_twice (again (names_in classes)) (accepted_case (duplicate_in (names_in classes)) h)
+none_again classes h = nothing_twice (again (names_in classes)) (accepted_case (duplicate_in (names_in classes)) (λ ok. right_supers (program_of classes) (names_in classes)) h)
 
 abbrev IsFound : List Class → Class → Type 0
 IsFound cs c = class_file cs (own_name c) ≡ Some c

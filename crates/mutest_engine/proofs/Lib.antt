@@ -1,3 +1,4 @@
+mod AcceptedLaws
 mod AsmLaws
 mod DuplicateLaws
 mod Ends
@@ -10,4 +11,5 @@ mod ProgramLaws
 mod RefusalLaws
 mod StepLaws
 mod SuiteLaws
+mod SuperLaws
 mod WordLaws

@@ -5,7 +5,7 @@ ghost use Rattle.class_table.specs.Table.{look};
 ghost use Rattle.mutest_engine.specs.Steps.{Refuses};
 ghost use Rattle.mutant_runs.specs.Programs.{files_of};
 ghost use Rattle.mutest_engine.specs.Mutation.{class_file};
-ghost use Rattle.mutest_engine.specs.Originals.{classes_in, AreOfBodies, program_of, accepted};
+ghost use Rattle.mutest_engine.specs.Originals.{classes_in, AreOfBodies, program_of, accepted, IsStopOf};
 
 use crate::refusal::{ProgramFault, Refusal};
 use crate::stop::Stop;
@@ -24,6 +24,20 @@ fn classes_of(program: &Program)
     }
 }
 
+// Why there is no program, by the table's fault.
+fn fault_stop(fault: TableFault) -> Stop
+    ensures { IsStopOf fault result }
+{
+    let fault = match fault {
+        TableFault::Duplicate { name } => ProgramFault::Duplicate { name },
+        TableFault::SuperMissing { name } => ProgramFault::SuperMissing { name },
+        TableFault::SuperCycle { name } => ProgramFault::SuperCycle { name },
+        TableFault::SuperKind { name } => ProgramFault::SuperKind { name },
+        TableFault::Memory => return Stop::WantOfMemory,
+    };
+    Stop::Refused(Refusal::BadProgram { fault })
+}
+
 /// The program of these classes.
 pub fn program_of(alloc: Global, classes: Seq<Loaded>) -> Result<Program, Stop>
     ensures accepted { OnOk result (accepted (classes_in classes) ≡ Ok tt) }
@@ -37,9 +51,6 @@ pub fn program_of(alloc: Global, classes: Seq<Loaded>) -> Result<Program, Stop>
             classes_of(&program);
             Ok(program)
         }
-        Err(TableFault::Memory) => Err(Stop::WantOfMemory),
-        Err(TableFault::Duplicate { name }) => Err(Stop::Refused(Refusal::BadProgram {
-            fault: ProgramFault::Duplicate { name },
-        })),
+        Err(fault) => Err(fault_stop(fault)),
     }
 }
