@@ -1,1 +1,4 @@
-mod LineLaws
+mod CountLaws
+mod ProgramLaws
+mod Lists
+pub mod Listed

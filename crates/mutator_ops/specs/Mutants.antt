@@ -1,56 +1,121 @@
--- The mutants of a class (this project's own table, in the manner of PIT): methods in file order, instructions by number, mutators in the order of the table.
-use Rattle.std.specs.Prelude.{ℕ, ◌+◌, Bool, not, ◌||◌, ◌==◌, bit_and, if◌then◌else◌, List, [], ◌∷◌, ◌++◌, map, Option, None, Some, unwrap_or}
-use Rattle.std.specs.List.{flat_map}
-use Rattle.class_model.specs.Pool.{text_of, class_name_of}
-use Rattle.class_model.specs.declared.constant.Const.{Const}
+-- The mutants of a class (this project's own): methods in file order, instructions by number, mutators in the order of the table.
+use Rattle.std.specs.Prelude.{ℕ, ◌+◌, Bool, not, ◌&&◌, ◌||◌, ◌==◌, false, nat_eq, bit_and, if◌then◌else◌, codes, List, [], ◌∷◌, ◌++◌, Option, None, Some, option_and_then, unwrap_or}
+use Rattle.std.specs.List.{flat_map, list_any, starts_with, ends_with}
+use Rattle.std.specs.Option.{option_map}
+use Rattle.class_model.specs.Pool.{text_of}
+use Rattle.class_model.specs.declared.annotation.Note.{Note, out-Note}
+use Rattle.class_model.specs.declared.attribute.Attr.{Attr}
+use Rattle.class_model.specs.declared.attribute.Body.{Body}
+use Rattle.class_model.specs.declared.attribute.Body.TheOpen.{Body-F}
+use Rattle.class_model.specs.declared.attribute.Code.{Code, out-Code}
 use Rattle.class_model.specs.declared.class.Class.{Class}
 use Rattle.class_model.specs.declared.class.Member.{Member}
-use Rattle.class_model.specs.declared.attribute.Attr.{Attr, out-Attr}
-use Rattle.class_model.specs.declared.attribute.Code.{Code, out-Code}
-use Rattle.class_model.specs.declared.attribute.Body.{Body, out-Body}
-use Rattle.class_model.specs.declared.attribute.Body.TheOpen.{Body-F}
+use Rattle.class_model.specs.declared.constant.Const.{Const}
+use Rattle.class_model.specs.declared.edit.Edit.{Edit}
 use Rattle.class_model.specs.declared.instruction.Insn.{Insn}
 use Rattle.class_model.specs.declared.mutator.Mutator.{Mutator}
-use Rattle.mutator_ops.specs.Lines.{line_at}
-use Rattle.mutator_ops.specs.Edits.{mutators_of, edit_by}
+use Rattle.program_rules.specs.Linked.{LinkedLine, line_at}
+use Rattle.program_rules.specs.Names.{same}
+use Rattle.class_link.specs.Info.{own_name}
+use Rattle.class_link.specs.Linking.{content_of, lines_of}
+use Rattle.class_link.specs.Symbols.{text_named}
+use Rattle.mutator_ops.specs.Calls.{type_of}
+use Rattle.mutator_ops.specs.Changes.{new_insns, more_words}
+use Rattle.mutator_ops.specs.Table.{Asked, mutators, row}
+use Rattle.mutator_ops.specs.declared.change.Change.{Change}
 use Rattle.mutator_ops.specs.declared.mutant.Mutant.{Mutant}
-use Rattle.mutator_ops.specs.declared.place.Place.{Place}
 
--- ---- parts of a class
+-- ---- parts of a method
 
 -- the code of an attribute that is Code
 abbrev pub code_in : Body-F Body Attr Code → Option Code
 code_in (Body-F.Code code) = Some code
 code_in other = None
 
-abbrev pub lines_in : Body-F Body Attr Code → List (ℕ × ℕ)
-lines_in (Body-F.Lines rows) = rows
-lines_in other = []
-
 -- the code of a method: its first attribute that is Code
 abbrev pub code_of : List Attr → Option Code
 code_of [] = None
-code_of (attr ∷ attrs) = elim (code_in (out-Body (out-Attr attr).body)) [ Some code ↦ Some code | None ↦ code_of attrs ]
+code_of (attr ∷ attrs) = elim (code_in (content_of attr)) [ Some code ↦ Some code | None ↦ code_of attrs ]
 
 -- the line rows of a code, in file order
-abbrev pub line_rows : List Attr → List (ℕ × ℕ)
-line_rows attrs = flat_map (λ attr. lines_in (out-Body (out-Attr attr).body)) attrs
+abbrev pub line_rows : List Attr → List LinkedLine
+line_rows attrs = flat_map (λ attr. lines_of (content_of attr)) attrs
+
+-- an annotation's descriptor whose simple name, what stands behind its last `/`, is NotNull
+abbrev pub is_not_null_text : List ℕ → Bool
+is_not_null_text desc = same desc (codes "LNotNull;")
+    || starts_with nat_eq desc (codes "L") && ends_with nat_eq desc (codes "/NotNull;")
+
+abbrev pub is_not_null : List Const → Note → Bool
+is_not_null pool note = unwrap_or (option_map is_not_null_text (text_of pool (out-Note note).kind)) false
+
+-- an attribute of annotations, be they visible at run time or not, with such a one
+abbrev pub has_not_null_in : List Const → Body-F Body Attr Code → Bool
+has_not_null_in pool (Body-F.Notes notes) = list_any (is_not_null pool) notes
+has_not_null_in pool other = false
+
+abbrev pub has_not_null : List Const → List Attr → Bool
+has_not_null pool attrs = list_any (λ attr. has_not_null_in pool (content_of attr)) attrs
+
+-- What the table asks of a method.
+abbrev pub asked_of : List Const → Member → Asked
+asked_of pool member = record { pool = pool; gives = option_and_then (λ t. t.ret) (type_of pool member.desc); is_not_null = has_not_null pool member.attrs }
 
 -- ---- mutants
 
-abbrev pub mutant_at : Place → ℕ → Insn → Mutator → Mutant
-mutant_at place at insn mutator =
-    record { class = place.class; method = place.method; desc = place.desc; at = at; mutator = mutator; line = line_at place.rows at; edit = edit_by place.number at insn mutator }
+-- Where the mutants of a method stand.
+pub record Place : Type 0 where
+  pub class : List ℕ
+  pub method : List ℕ
+  pub desc : List ℕ
+  -- the method's number in its class, from 0
+  pub number : ℕ
+  pub lines : List LinkedLine
+  pub asked : Asked
 
--- the mutants of instructions, the first of which has a number
+-- The place of a method of a class of this name and constant pool.
+abbrev pub place_in : List ℕ → List Const → ℕ → Member → Code → Place
+place_in class pool number member code = record {
+  class = class;
+  method = text_named pool member.name;
+  desc = text_named pool member.desc;
+  number = number;
+  lines = line_rows (out-Code code).attrs;
+  asked = asked_of pool member;
+}
+
+-- The edit that makes a change of an instruction.
+abbrev pub edit_of : Place → ℕ → Insn → Change → Edit
+edit_of place at insn change = record { method = place.number; at = at; with = new_insns place.asked.pool change insn; more_stack = more_words change }
+
+abbrev pub mutant_of : Place → ℕ → Insn → Mutator → Change → Mutant
+mutant_of place at insn mutator change = record {
+  class = place.class;
+  method = place.method;
+  desc = place.desc;
+  at = at;
+  mutator = mutator;
+  line = line_at at place.lines;
+  edit = edit_of place at insn change;
+}
+
+-- The mutant of one mutator at an instruction, where its row applies.
+abbrev pub mutant_by : Place → ℕ → Insn → Mutator → Option Change → List Mutant
+mutant_by place at insn mutator None = []
+mutant_by place at insn mutator (Some change) = mutant_of place at insn mutator change ∷ []
+
+-- The mutants of an instruction, by these mutators in order.
+abbrev pub mutants_by : List Mutator → Place → ℕ → Insn → List Mutant
+mutants_by ms place at insn = flat_map (λ mutator. mutant_by place at insn mutator (row mutator place.asked insn)) ms
+
+-- The mutants of instructions, the first of which has a number.
 abbrev pub mutants_from : Place → ℕ → List Insn → List Mutant
 mutants_from place at [] = []
-mutants_from place at (insn ∷ insns) = map (mutant_at place at insn) (mutators_of insn) ++ mutants_from place (at + 1) insns
+mutants_from place at (insn ∷ insns) = mutants_by mutators place at insn ++ mutants_from place (at + 1) insns
 
-abbrev pub code_mutants : List Const → List ℕ → ℕ → Member → Option Code → List Mutant
-code_mutants pool class number member None = []
-code_mutants pool class number member (Some code) =
-    mutants_from (record { class = class; method = unwrap_or (text_of pool member.name) []; desc = unwrap_or (text_of pool member.desc) []; number = number; rows = line_rows (out-Code code).attrs }) 0 (out-Code code).insns
+abbrev pub code_mutants : List ℕ → List Const → ℕ → Member → Option Code → List Mutant
+code_mutants class pool number member None = []
+code_mutants class pool number member (Some code) = mutants_from (place_in class pool number member code) 0 (out-Code code).insns
 
 -- the flags of JVMS 4.1 and 4.6 whose methods aren't mutated: synthetic, and bridge on methods
 abbrev pub is_synthetic : ℕ → Bool
@@ -59,14 +124,14 @@ is_synthetic flags = not (bit_and flags 0x1000 == 0)
 abbrev pub is_left_out : ℕ → Bool
 is_left_out flags = is_synthetic flags || not (bit_and flags 0x0040 == 0)
 
-abbrev pub method_mutants : List Const → List ℕ → ℕ → Member → List Mutant
-method_mutants pool class number member = if is_left_out member.flags then [] else code_mutants pool class number member (code_of member.attrs)
+-- The mutants of a method of a class of this name and constant pool.
+abbrev pub method_mutants : List ℕ → List Const → ℕ → Member → List Mutant
+method_mutants class pool number member = if is_left_out member.flags then [] else code_mutants class pool number member (code_of member.attrs)
 
--- the mutants of methods, the first of which has a number
-abbrev pub methods_mutants : List Const → List ℕ → ℕ → List Member → List Mutant
-methods_mutants pool class number [] = []
-methods_mutants pool class number (member ∷ members) = method_mutants pool class number member ++ methods_mutants pool class (number + 1) members
+-- The mutants of methods, the first of which has a number.
+abbrev pub methods_mutants : List ℕ → List Const → ℕ → List Member → List Mutant
+methods_mutants class pool number [] = []
+methods_mutants class pool number (member ∷ members) = method_mutants class pool number member ++ methods_mutants class pool (number + 1) members
 
--- A class without a name, which no file gives, has none.
 abbrev pub class_mutants : Class → List Mutant
-class_mutants class = if is_synthetic class.flags then [] else methods_mutants class.pool (unwrap_or (class_name_of class.pool class.this) []) 0 class.methods
+class_mutants class = if is_synthetic class.flags then [] else methods_mutants (own_name class) class.pool 0 class.methods

@@ -1,16 +1,27 @@
-//! The mutants of a class: which instructions the mutators change, and what they put in their place.
-//!
-//! A further mutator is a case of `mutators_of` and `op_by` in `specs/Edits.antt` and an arm in `src/edits.rt`.
+//! The mutants of a class.
 #![tactic(auto)]
 
-mod edits;
-mod lines;
+mod asked;
+mod change;
+mod counting;
+mod laws;
+mod listing;
 mod mutant;
-mod mutants;
 mod parts;
 mod place;
+mod pool;
 mod printing;
+mod program;
+mod table;
+mod text;
 
+pub use asked::Asked;
+pub use change::{Callee, Change, Value};
+pub use counting::count_mutants;
+pub use laws::{listed_exactly, listed_in_order, listed_once};
+pub use listing::class_mutants;
 pub use mutant::{CellTable, Mutant, State, Verdict};
-pub use mutants::class_mutants;
+pub use pool::Pool;
 pub use printing::{id_lines, id_text};
+pub use program::mutants;
+pub use table::{mutators, row};

@@ -1,9 +1,12 @@
-//! Parts of a class that mutants are made of.
+//! Parts of a method that its mutants are made of.
 
-ghost use Rattle.std.specs.Prelude.{◌≡◌, IfOk, [], option_copied, unwrap_or};
+ghost use Rattle.std.specs.Prelude.{◌≡◌, ◌++◌, IfOk, OnOk, map, option_copied};
+ghost use Rattle.class_link.specs.Linking.{content_of, lines_of, line_in};
+ghost use Rattle.class_link.specs.View.{line_of};
 ghost use Rattle.mutator_ops.specs.Mutants.{code_of, line_rows};
 
-use class_model::{Attr, Body, Code, Memory, Name, Seq};
+use class_model::{Attr, Body, Code, Memory, Seq};
+use class_table::LinkedLine;
 use std::alloc::Global;
 
 /// The code of a method: its first attribute that is Code.
@@ -18,25 +21,34 @@ pub fn code_of(attrs: &[Attr]) -> Option<&Code>
     None
 }
 
-/// The line rows of a code, in file order.
-pub fn line_rows(alloc: Global, attrs: &[Attr]) -> Result<Seq<(u32, u16)>, Memory>
-    ensures { IfOk result (λ rows. rows ≡ line_rows attrs.now) }
+fn push_rows(lines: &mut Seq<LinkedLine>, rows: &[(u32, u16)]) -> Result<(), Memory>
+    ensures { OnOk result (map line_of lines.new ≡ map line_of lines.old ++ map line_in rows.now) }
 {
-    let mut rows = Seq::new(alloc);
-    for attr in attrs {
-        if let Body::Lines(more) = &attr.body {
-            rows.extend_from_slice(more.as_slice())?;
-        }
+    for (start, line) in rows {
+        lines.push(LinkedLine {
+            start: *start,
+            line: *line,
+        })?;
     }
-    Ok(rows)
+    Ok(())
 }
 
-/// A copy of the text that an index names, empty where it names none.
-pub fn text_or_empty(alloc: Global, text: Option<&Name>) -> Result<Name, Memory>
-    ensures { IfOk result (λ name. name ≡ unwrap_or (option_copied text.entry) []) }
+fn push_lines(lines: &mut Seq<LinkedLine>, attr: &Attr) -> Result<(), Memory>
+    ensures { OnOk result (map line_of lines.new ≡ map line_of lines.old ++ lines_of (content_of attr.now)) }
 {
-    match text {
-        Some(text) => text.copy(),
-        None => Ok(Name::new(alloc)),
+    match &attr.body {
+        Body::Lines(rows) => push_rows(lines, rows.as_slice()),
+        _ => Ok(()),
     }
+}
+
+/// The line rows of a code, in file order.
+pub fn line_rows(alloc: Global, attrs: &[Attr]) -> Result<Seq<LinkedLine>, Memory>
+    ensures { IfOk result (λ rows. map line_of rows ≡ line_rows attrs.now) }
+{
+    let mut lines = Seq::new(alloc);
+    for attr in attrs {
+        push_lines(&mut lines, attr)?;
+    }
+    Ok(lines)
 }

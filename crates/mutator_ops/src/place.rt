@@ -1,12 +1,101 @@
-use class_model::{Name, Seq};
+//! Where the mutants of a method stand.
 
-/// What the mutants of one method share.
+ghost use Rattle.std.specs.Prelude.{◌≡◌, IfOk};
+ghost use Rattle.mutator_ops.specs.Mutants.{place_in, edit_of, mutant_of};
+
+use crate::asked::Asked;
+use crate::change::{Change, more_words, new_insns};
+use crate::mutant::Mutant;
+use crate::parts::line_rows;
+use crate::pool::Pool;
+use crate::text::text_named;
+use class_model::{Code, Edit, Insn, Member, Memory, Mutator, Name};
+use class_table::LineTable;
+use std::alloc::Global;
+use std::marker::Model;
+
+/// A method with code.
 #[derive(Drop)]
-pub struct Place {
-    pub class: Name,
-    pub method: Name,
-    pub desc: Name,
-    /// The method's number in its class, from 0.
-    pub number: u32,
-    pub rows: Seq<(u32, u16)>,
+pub struct Place<'a> {
+    class: &'a Name,
+    member: &'a Member,
+    number: u32,
+    lines: LineTable,
+    asked: Asked<'a>,
+}
+
+impl<'a> Model for Place<'a> {
+    ghost use Rattle.std.specs.Prelude.{map};
+    ghost use Rattle.class_link.specs.Symbols.{text_named};
+    ghost use Rattle.class_link.specs.View.{line_of};
+    ghost use Rattle.mutator_ops.specs.Mutants.{Place};
+
+    ghost Value = { Place };
+
+    ghost view = { λ p. record { class = p.class.now; method = text_named p.asked.pool p.member.now.name; desc = text_named p.asked.pool p.member.now.desc; number = p.number; lines = map line_of p.lines; asked = p.asked } };
+}
+
+impl<'a> Place<'a> {
+    /// The method of this number in a class of this name.
+    pub fn new(
+        alloc: Global,
+        class: &'a Name,
+        pool: &'a Pool<'a>,
+        number: u32,
+        member: &'a Member,
+        code: &Code,
+    ) -> Result<Place<'a>, Memory>
+        ensures { IfOk result (λ p. p ≡ place_in class.entry.now pool.entry.now number member.entry.now code.now) }
+    {
+        let rows = line_rows(alloc, code.attrs.as_slice())?;
+        Ok(Place {
+            class,
+            member,
+            number,
+            lines: LineTable::new(alloc, rows, code.insns.len())?,
+            asked: Asked::new(pool, member),
+        })
+    }
+
+    /// What the table asks of the method.
+    pub fn asked(&self) -> &Asked<'a>
+        ensures { result.now ≡ self.now.asked }
+    {
+        &self.asked
+    }
+
+    // The edit that makes a change of an instruction.
+    fn edit_of(&self, alloc: Global, at: u32, insn: &Insn, change: Change) -> Result<Edit, Memory>
+        ensures { IfOk result (λ edit. edit ≡ edit_of self.now at insn.now change) }
+    {
+        Ok(Edit {
+            method: self.number,
+            at,
+            with: new_insns(alloc, self.asked.pool(), change, insn)?,
+            more_stack: more_words(change),
+        })
+    }
+
+    /// The mutant that makes a change of an instruction.
+    pub fn mutant_of(
+        &self,
+        alloc: Global,
+        at: u32,
+        insn: &Insn,
+        mutator: Mutator,
+        change: Change,
+    ) -> Result<Mutant, Memory>
+        ensures { IfOk result (λ m. m ≡ mutant_of self.now at insn.now mutator change) }
+    {
+        let pool = self.asked.pool().entries();
+        Ok(Mutant {
+            class: self.class.copy()?,
+            method: text_named(alloc, pool, self.member.name)?,
+            desc: text_named(alloc, pool, self.member.desc)?,
+            at,
+            mutator,
+            line: self.lines.line(at as usize),
+            edit: self.edit_of(alloc, at, insn, change)?,
+        })
+    }
 }

@@ -1,0 +1,5 @@
+use Rattle.mutator_ops.proofs.Listed as law
+use Rattle.mutator_ops.proofs.laws.listed_once.Goals as goal
+
+pub returns : goal.returns
+returns c = law.listed_once

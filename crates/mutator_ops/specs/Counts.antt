@@ -1,0 +1,27 @@
+-- How many mutants a class has, without making them (this project's own). No public clause cites these.
+use Rattle.std.specs.Prelude.{ℕ, is_some, if◌then◌else◌, List, Option, None, Some, sum_by, count_by}
+use Rattle.class_model.specs.declared.attribute.Code.{Code, out-Code}
+use Rattle.class_model.specs.declared.class.Class.{Class}
+use Rattle.class_model.specs.declared.class.Member.{Member}
+use Rattle.class_model.specs.declared.constant.Const.{Const}
+use Rattle.class_model.specs.declared.instruction.Insn.{Insn}
+use Rattle.class_model.specs.declared.mutator.Mutator.{Mutator}
+use Rattle.mutator_ops.specs.Mutants.{asked_of, code_of, is_synthetic, is_left_out}
+use Rattle.mutator_ops.specs.Table.{Asked, mutators, row}
+
+-- how many rows of a table apply to an instruction
+abbrev pub rows_at : List Mutator → Asked → Insn → ℕ
+rows_at table asked insn = count_by (λ mutator. is_some (row mutator asked insn)) table
+
+abbrev pub rows_in : Asked → List Insn → ℕ
+rows_in asked insns = sum_by (rows_at mutators asked) insns
+
+abbrev pub code_count : List Const → Member → Option Code → ℕ
+code_count pool member None = 0
+code_count pool member (Some code) = rows_in (asked_of pool member) (out-Code code).insns
+
+abbrev pub method_count : List Const → Member → ℕ
+method_count pool member = if is_left_out member.flags then 0 else code_count pool member (code_of member.attrs)
+
+abbrev pub class_count : Class → ℕ
+class_count class = if is_synthetic class.flags then 0 else sum_by (method_count class.pool) class.methods

@@ -1,0 +1,55 @@
+-- What the list of a class's mutants is, said of its members (this project's own).
+use Rattle.std.specs.Prelude.{◌≡◌, ℕ, ◌<◌, ◌⊎◌, ◌↔◌, false, Some, slice_get, position, unwrap_or, Contains, AllPairs}
+use Rattle.class_model.specs.MutatorName.{mutator_name}
+use Rattle.class_model.specs.declared.attribute.Code.{Code, out-Code}
+use Rattle.class_model.specs.declared.class.Class.{Class}
+use Rattle.class_model.specs.declared.class.Member.{Member}
+use Rattle.class_model.specs.declared.instruction.Insn.{Insn}
+use Rattle.class_model.specs.declared.mutator.Mutator.{Mutator}
+use Rattle.class_link.specs.Info.{own_name}
+use Rattle.program_rules.specs.Names.{same}
+use Rattle.mutator_ops.specs.Mutants.{asked_of, place_in, mutant_of, code_of, is_synthetic, is_left_out, class_mutants}
+use Rattle.mutator_ops.specs.Table.{mutators, row}
+use Rattle.mutator_ops.specs.declared.change.Change.{Change}
+use Rattle.mutator_ops.specs.declared.mutant.Mutant.{Mutant}
+
+-- The mutant stands at an instruction of a method that isn't left out, of a class that isn't synthetic, and the row of its mutator applies there.
+pub record IsMutant (class : Class) (m : Mutant) : Type 0 where
+  pub real : is_synthetic class.flags ≡ false
+  pub member : Member
+  pub declared : slice_get class.methods m.edit.method ≡ Some member
+  pub kept : is_left_out member.flags ≡ false
+  pub code : Code
+  pub coded : code_of member.attrs ≡ Some code
+  pub insn : Insn
+  pub stands : slice_get (out-Code code).insns m.at ≡ Some insn
+  pub listed : Contains mutators m.mutator
+  pub change : Change
+  pub applies : row m.mutator (asked_of class.pool member) insn ≡ Some change
+  pub is : m ≡ mutant_of (place_in (own_name class) class.pool m.edit.method member code) m.at insn m.mutator change
+
+-- A mutant is in the list exactly where the row of its mutator applies.
+abbrev pub ListedExactly : Type 0
+ListedExactly = (class : Class) (m : Mutant) → Contains (class_mutants class) m ↔ IsMutant class m
+
+-- The place of a mutator in the table, by its name.
+abbrev pub table_place : Mutator → ℕ
+table_place mutator = unwrap_or (position (λ other. same (mutator_name other) (mutator_name mutator)) mutators) 0
+
+-- An earlier method, or in the same one an earlier instruction, or at the same one an earlier mutator.
+abbrev pub ComesBefore : Mutant → Mutant → Type 0
+ComesBefore a b =
+    (a.edit.method < b.edit.method)
+    ⊎ ((a.edit.method ≡ b.edit.method) × ((a.at < b.at) ⊎ ((a.at ≡ b.at) × (table_place a.mutator < table_place b.mutator))))
+
+-- Methods stand in file order, instructions by number, mutators in the order of the table.
+abbrev pub ListedInOrder : Type 0
+ListedInOrder = (class : Class) → AllPairs ComesBefore (class_mutants class)
+
+-- one instruction of one method, and one mutator
+abbrev pub HaveOnePlace : Mutant → Mutant → Type 0
+HaveOnePlace a b = (a.edit.method ≡ b.edit.method) × (a.at ≡ b.at) × (a.mutator ≡ b.mutator)
+
+-- No two entries have one place and mutator.
+abbrev pub ListedOnce : Type 0
+ListedOnce = (class : Class) → AllPairs (λ a b. HaveOnePlace a b → ⊥) (class_mutants class)

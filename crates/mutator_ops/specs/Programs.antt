@@ -1,0 +1,41 @@
+-- The mutants of classes of a program (this project's own): classes in the order of their names' bytes in modified UTF-8.
+use Rattle.std.specs.Prelude.{ℕ, List, [], fold, map, flat_map, filter_map, slice_get, Option, None, Some, option_and_then}
+use Rattle.std.specs.BTreeMap.{insert_entry}
+use Rattle.std.specs.Ordering.{nat_cmp}
+use Rattle.std.specs.Cmp.Lexicographic.{slice_cmp}
+use Rattle.class_model.specs.Text.{text}
+use Rattle.class_model.specs.declared.class.Class.{Class}
+use Rattle.class_model.specs.declared.class.ClassId.{ClassId}
+use Rattle.class_link.specs.Info.{Info, file_in, own_name}
+use Rattle.mutator_ops.specs.Mutants.{class_mutants}
+use Rattle.mutator_ops.specs.declared.mutant.Mutant.{Mutant}
+
+-- The class file of a number, where it is that of one.
+abbrev pub file_at : List Info → ClassId → Option Class
+file_at p id = option_and_then file_in (slice_get p id.0)
+
+abbrev pub files_among : List Info → List ClassId → List Class
+files_among p ids = filter_map (file_at p) ids
+
+-- What has names, in the order of the names; of two things of one name the later one.
+abbrev pub in_order : {X : Type 0} → List (List ℕ × X) → List (List ℕ × X)
+in_order es = fold (λ kept e. insert_entry (slice_cmp nat_cmp) kept e.0 e.1) [] es
+
+-- The mutants of a class, by its name in modified UTF-8.
+abbrev pub mutants_by_name : Class → List ℕ × List Mutant
+mutants_by_name class = (text (own_name class), class_mutants class)
+
+-- The mutants of these classes.
+abbrev pub mutants_among : List Class → List Mutant
+mutants_among classes = flat_map (λ e. e.1) (in_order (map mutants_by_name classes))
+
+-- The mutants of the class files of these numbers.
+abbrev pub mutants : List Info → List ClassId → List Mutant
+mutants p ids = mutants_among (files_among p ids)
+
+-- ---- how they are gathered. No public clause cites this.
+
+-- the mutants of one more class, if it is one
+abbrev pub with_class : List (List ℕ × List Mutant) → Option Class → List (List ℕ × List Mutant)
+with_class kept None = kept
+with_class kept (Some class) = insert_entry (slice_cmp nat_cmp) kept (text (own_name class)) (class_mutants class)
