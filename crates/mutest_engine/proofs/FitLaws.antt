@@ -1,6 +1,6 @@
 -- Each mutant of a suite's classes has an edit that its class takes.
 use Rattle.std.proofs.Common.{◌≡◌, ◌∙◌, ℕ, ◌+◌, Bool, true, false, List, [], ◌∷◌, ◌++◌, map, Option, Some, None, Ok, refl, sym, ap, subst}
-use Rattle.std.specs.Prelude.{All, IfSome, if◌then◌else◌, ◌||◌, unwrap_or, Result, Err}
+use Rattle.std.specs.Prelude.{All, IfSome, if◌then◌else◌, ◌||◌, Result, Err}
 use Rattle.std.specs.List.{AllByRecursion, list_any, flat_map, fold}
 use Rattle.std.specs.declared.cmp.Ordering.{Ordering}
 use Rattle.std.specs.declared.cmp.Ordering.TheVariants.{Less, Equal, Greater}
@@ -9,7 +9,6 @@ use Rattle.std.specs.Cmp.Lexicographic.{slice_cmp, bytes_decides}
 use Rattle.std.specs.BTreeMap.{insert_entry}
 use Rattle.std.proofs.lemmas.List.Elements.{All-from_recursion, recursion_from_All}
 use Rattle.class_model.specs.declared.class.Class.{Class}
-use Rattle.class_model.specs.declared.constant.Const.{Const}
 use Rattle.class_model.specs.declared.class.Member.{Member}
 use Rattle.class_model.specs.declared.attribute.Code.{Code, out-Code}
 use Rattle.class_model.specs.declared.instruction.Insn.{Insn}
@@ -18,12 +17,10 @@ use Rattle.class_writer.specs.Writing.{HasClassForm}
 use Rattle.program_rules.specs.Names.{Name, same}
 use Rattle.class_link.specs.declared.loaded.Loaded.{Loaded}
 use Rattle.class_link.specs.Info.{own_name}
-use Rattle.class_link.specs.Symbols.{name_or_empty}
-use Rattle.class_model.specs.Pool.{text_of, class_name_of}
-use Rattle.mutator_ops.specs.Edits.{mutators_of}
-use Rattle.mutator_ops.specs.Mutants.{line_rows, mutant_at, mutants_from, code_mutants, code_of, is_synthetic, is_left_out, method_mutants, methods_mutants, class_mutants}
+use Rattle.mutator_ops.specs.Mutants.{Place, place_of, mutant_by, mutants_by, mutants_from, code_mutants, code_of, is_synthetic, is_left_out, method_mutants, methods_mutants, class_mutants}
+use Rattle.mutator_ops.specs.Table.{mutators, row}
+use Rattle.mutator_ops.specs.declared.change.Change.{Change}
 use Rattle.mutator_ops.specs.declared.mutant.Mutant.{Mutant}
-use Rattle.mutator_ops.specs.declared.place.Place.{Place}
 use Rattle.mutant_apply.specs.Fitting.{Fits}
 use Rattle.mutant_apply.specs.Laws.{MutantsFit}
 use Rattle.mutant_runs.specs.Programs.{ClassFiles, IsMutantOf}
@@ -91,38 +88,37 @@ joined P (e ∷ es) q = appended P e.1 (flat_map (λ x. x.1) es) q.0 (joined P e
 abbrev Names : Name → Mutant → Type 0
 Names n m = m.class ≡ n
 
+by_row : (place : Place) (at : ℕ) (insn : Insn) (mutator : Mutator) (o : Option Change) → AllByRecursion (Names place.class) (mutant_by place at insn mutator o)
+by_row place at insn mutator None = tt
+by_row place at insn mutator (Some change) = (refl, tt)
+
+by_rows : (ms : List Mutator) (place : Place) (at : ℕ) (insn : Insn) → AllByRecursion (Names place.class) (mutants_by ms place at insn)
+by_rows [] place at insn = tt
+by_rows (m ∷ ms) place at insn =
+    appended (Names place.class) (mutant_by place at insn m (row m place.asked insn)) (mutants_by ms place at insn) (by_row place at insn m (row m place.asked insn)) (by_rows ms place at insn)
+
 mutants_name : (place : Place) (at : ℕ) (insns : List Insn) → AllByRecursion (Names place.class) (mutants_from place at insns)
 mutants_name place at [] = tt
 mutants_name place at (insn ∷ insns) =
-    appended (Names place.class) (map (mutant_at place at insn) (mutators_of insn)) (mutants_from place (at + 1) insns)
-    (mapped (Names place.class) (mutant_at place at insn) (mutators_of insn) (every (λ (m : Mutator). Names place.class (mutant_at place at insn m)) (mutators_of insn) (λ m. refl)))
-    (mutants_name place (at + 1) insns)
+    appended (Names place.class) (mutants_by mutators place at insn) (mutants_from place (at + 1) insns) (by_rows mutators place at insn) (mutants_name place (at + 1) insns)
 
-code_name : (pool : List Const) (class : Name) (number : ℕ) (member : Member) (code : Option Code) → AllByRecursion (Names class) (code_mutants pool class number member code)
-code_name pool class number member None = tt
-code_name pool class number member (Some code) =
-    mutants_name (record { class = class; method = unwrap_or (text_of pool member.name) []; desc = unwrap_or (text_of pool member.desc) []; number = number; rows = line_rows (out-Code code).attrs }) 0 (out-Code code).insns
+code_name : (class : Class) (number : ℕ) (member : Member) (code : Option Code) → AllByRecursion (Names (own_name class)) (code_mutants class number member code)
+code_name class number member None = tt
+code_name class number member (Some code) = mutants_name (place_of class number member code) 0 (out-Code code).insns
 
 unless_left_out : (b : Bool) (n : Name) (ms : List Mutant) → AllByRecursion (Names n) ms → AllByRecursion (Names n) (if b then [] else ms)
 unless_left_out true n ms p = tt
 unless_left_out false n ms p = p
 
-methods_name : (pool : List Const) (class : Name) (number : ℕ) (members : List Member) → AllByRecursion (Names class) (methods_mutants pool class number members)
-methods_name pool class number [] = tt
-methods_name pool class number (member ∷ members) =
-    appended (Names class) (method_mutants pool class number member) (methods_mutants pool class (number + 1) members)
-    (unless_left_out (is_left_out member.flags) class (code_mutants pool class number member (code_of member.attrs)) (code_name pool class number member (code_of member.attrs)))
-    (methods_name pool class (number + 1) members)
-
-same_name : (o : Option Name) → unwrap_or o [] ≡ name_or_empty o
-same_name None = refl
-same_name (Some n) = refl
+methods_name : (class : Class) (number : ℕ) (members : List Member) → AllByRecursion (Names (own_name class)) (methods_mutants class number members)
+methods_name class number [] = tt
+methods_name class number (member ∷ members) =
+    appended (Names (own_name class)) (method_mutants class number member) (methods_mutants class (number + 1) members)
+    (unless_left_out (is_left_out member.flags) (own_name class) (code_mutants class number member (code_of member.attrs)) (code_name class number member (code_of member.attrs)))
+    (methods_name class (number + 1) members)
 
 own_mutants : (c : Class) → AllByRecursion (Names (own_name c)) (class_mutants c)
-own_mutants c =
-    let name = unwrap_or (class_name_of c.pool c.this) [] in
-    subst (λ (n : Name). AllByRecursion (Names n) (class_mutants c)) (same_name (class_name_of c.pool c.this))
-    (unless_left_out (is_synthetic c.flags) name (methods_mutants c.pool name 0 c.methods) (methods_name c.pool name 0 c.methods))
+own_mutants c = unless_left_out (is_synthetic c.flags) (own_name c) (methods_mutants c 0 c.methods) (methods_name c 0 c.methods)
 
 -- ---- the class of a name
 
