@@ -46,7 +46,7 @@ abbrev file_of : ClassBody → Option Class
 file_of (body.File loaded) = Some loaded.class
 file_of (body.Library c) = None
 
-file_by : (i : Info) (b : ClassBody) → i.body ≡ b → file_in i ≡ file_of b
+pub file_by : (i : Info) (b : ClassBody) → i.body ≡ b → file_in i ≡ file_of b
 file_by i (body.File loaded) e = rw e refl
 file_by i (body.Library c) e = rw e refl
 

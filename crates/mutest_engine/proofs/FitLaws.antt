@@ -18,6 +18,7 @@ use Rattle.program_rules.specs.Names.{Name, same}
 use Rattle.class_link.specs.declared.loaded.Loaded.{Loaded}
 use Rattle.class_link.specs.Info.{own_name}
 use Rattle.mutator_ops.specs.Mutants.{Place, place_of, mutant_by, mutants_by, mutants_from, code_mutants, code_of, is_synthetic, is_left_out, method_mutants, methods_mutants, class_mutants}
+use Rattle.mutator_ops.specs.Programs.{in_order, mutants_by_name, mutants_among}
 use Rattle.mutator_ops.specs.Table.{mutators, row}
 use Rattle.mutator_ops.specs.declared.change.Change.{Change}
 use Rattle.mutator_ops.specs.declared.mutant.Mutant.{Mutant}
@@ -31,8 +32,8 @@ use Rattle.mutest_engine.specs.declared.refusal.Refusal.{Refusal}
 use Rattle.mutest_engine.specs.Duplicates.{again, least, duplicate_in}
 use Rattle.mutest_engine.specs.SuiteFiles.{IsFormed}
 use Rattle.mutest_engine.specs.declared.suite.LoadedSuite.{LoadedSuite}
-use Rattle.mutest_engine.specs.Originals.{all_classes, classes_in, names_in, program_of, accepted, ordered}
-use Rattle.mutest_engine.specs.Mutation.{mutants_by_name, mutants_among, mutants_of, class_file, suite_files, linked}
+use Rattle.mutest_engine.specs.Originals.{all_classes, classes_in, names_in, program_of, accepted}
+use Rattle.mutest_engine.specs.Mutation.{mutants_of, class_file, suite_files, linked}
 
 -- ---- lists
 
@@ -56,7 +57,7 @@ front : {X : Type 0} (P : X → Type 0) (xs ys : List X) → AllByRecursion P (x
 front P [] ys p = tt
 front P (x ∷ xs) ys p = (p.0, front P xs ys p.1)
 
-classes_both : (xs ys : List Loaded) → classes_in (xs ++ ys) ≡ classes_in xs ++ classes_in ys
+pub classes_both : (xs ys : List Loaded) → classes_in (xs ++ ys) ≡ classes_in xs ++ classes_in ys
 classes_both [] ys = refl
 classes_both (x ∷ xs) ys = ap (λ cs. x.class ∷ cs) (classes_both xs ys)
 
@@ -177,7 +178,7 @@ formed (x ∷ xs) p = (p.0, formed xs p.1)
 
 among_fit : MutantsFit → (files : ClassFiles) (cs : List Class) → AllByRecursion (λ (c : Class). HasClassForm c × (files (own_name c) ≡ Some c)) cs → AllByRecursion (IsMutantOf files) (mutants_among cs)
 among_fit fit files cs p =
-    joined (IsMutantOf files) (ordered (map mutants_by_name cs))
+    joined (IsMutantOf files) (in_order (map mutants_by_name cs))
     (folded (AllByRecursion (IsMutantOf files)) [] (map mutants_by_name cs) tt
     (mapped (λ (e : List ℕ × List Mutant). AllByRecursion (IsMutantOf files) e.1) mutants_by_name cs
     (both (λ (c : Class). HasClassForm c × (files (own_name c) ≡ Some c)) (λ (c : Class). Unit {0}) (λ (c : Class). AllByRecursion (IsMutantOf files) (class_mutants c)) cs (λ c q u. class_fits fit files c q.0 q.1) p (every (λ (c : Class). Unit {0}) cs (λ c. tt)))))

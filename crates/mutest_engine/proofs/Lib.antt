@@ -6,6 +6,7 @@ mod FaultLaws
 mod FileLaws
 mod FitLaws
 mod JudgeLaws
+mod NumberLaws
 mod OriginalLaws
 mod ProgramLaws
 mod RefusalLaws

@@ -45,7 +45,7 @@ fn all_by_name(alloc: Global, classes: &[Loaded]) -> Result<BTreeMap<Bytes, Seq<
 }
 
 /// All lists one behind the other, in the order of the keys.
-pub fn joined<X: Drop>(
+fn joined<X: Drop>(
     alloc: Global,
     mut by_name: BTreeMap<Bytes, Seq<X>>,
 ) -> Result<Seq<X>, Memory>

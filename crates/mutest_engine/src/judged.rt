@@ -8,7 +8,7 @@ ghost use Rattle.mutest_engine.specs.SuiteFiles.{IsFormed};
 ghost use Rattle.mutest_engine.specs.Mutation.{verdicts_in, steps_on_all, input_of, tested_in, tested_steps_in, judged, suite_steps, Stays, Meters, MetersRuns};
 
 use crate::discovered::{few_tests, tests_of};
-use crate::mutants::{few_mutants, mutants_of};
+use crate::mutants::{few_mutants, first_mutants};
 use crate::originals::{USUAL, green};
 use crate::program::program_of;
 use crate::stop::Stop;
@@ -146,9 +146,10 @@ pub fn judge(alloc: Global, suite: LoadedSuite, meter: &mut Meter) -> Result<Rep
     ensures stays { IfErr result (Refuses (Stays meter.old meter.new)) }
 {
     let tests = tests_of(alloc, suite.tests.as_slice())?;
-    let mutants = mutants_of(alloc, suite.classes.as_slice())?;
+    let own = suite.classes.len();
     let classes = all_classes(suite.classes, suite.tests)?;
     let mut program = program_of(alloc, classes)?;
+    let mutants = first_mutants(alloc, &program, own)?;
     mutants_fit();
     test_mutants(alloc, &mut program, tests, mutants, meter)
 }

@@ -1,6 +1,7 @@
 use Rattle.std.proofs.Common.{◌∙◌, Err, ap}
 use Rattle.mutest_engine.proofs.ProgramLaws.{is_program}
 use Rattle.mutest_engine.proofs.FileLaws.{are_files}
+use Rattle.mutest_engine.proofs.NumberLaws.{numbered, as_many}
 use Rattle.mutest_engine.proofs.AcceptedLaws.{accepted_by, refused_as}
 use Rattle.mutest_engine.proofs.program.program_of.Goals as goal
 
@@ -18,3 +19,9 @@ returns-in-Ok-clause-program c =
 
 pub returns-in-Ok-clause-files : goal.returns-in-Ok-clause-files
 returns-in-Ok-clause-files c = are_files c.in-Ok.program c.args.classes c.in_ok-library.library c.classes_of.ensures c.in-Ok.ensures.classes
+
+pub returns-in-Ok-clause-numbered : goal.returns-in-Ok-clause-numbered
+returns-in-Ok-clause-numbered c = numbered c.in-Ok.program c.args.classes c.in_ok-library.library c.in-Ok.ensures.classes
+
+pub returns-in-Ok-clause-many : goal.returns-in-Ok-clause-many
+returns-in-Ok-clause-many c = as_many c.in-Ok.program c.args.classes c.in_ok-library.library c.in-Ok.ensures.classes
