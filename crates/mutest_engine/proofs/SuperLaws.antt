@@ -195,13 +195,13 @@ least_found f Has ns n test shown is =
 
 -- ---- the classes of a program
 
+placed_case : (n m : Name) (i j : ℕ) (ms : List Name) (b : Bool) → same m n ≡ b → (place_from n (suc i) ms ≡ Some j → In n ms) → cond b (Some i) (place_from n (suc i) ms) ≡ Some j → In n (m ∷ ms)
+placed_case n m i j ms true h rest e = inl (same_text m n (sym h))
+placed_case n m i j ms false h rest e = inr (rest e)
+
 placed : (n : Name) (i j : ℕ) (ns : List Name) → place_from n i ns ≡ Some j → In n ns
 placed n i j [] e = absurd cc
-placed n i j (m ∷ ms) e = by_test (same m n) refl e
-  where
-    by_test : (b : Bool) → same m n ≡ b → cond b (Some i) (place_from n (suc i) ms) ≡ Some j → In n (m ∷ ms)
-    by_test true h f = inl (same_text m n (sym h))
-    by_test false h f = inr (placed n (suc i) j ms f)
+placed n i j (m ∷ ms) e = placed_case n m i j ms (same m n) refl (placed n (suc i) j ms) e
 
 covers : (bs : List ClassBody) → Covers (look_of bs) (map body_name bs)
 covers bs n k h = by_place (place_in (map body_name bs) n) refl h

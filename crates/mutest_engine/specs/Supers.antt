@@ -1,5 +1,5 @@
 -- Which classes have supers that aren't as they have to be, as names among all names (JVMS 4.1, 5.3.5), and the least of these (this project's own).
-use Rattle.std.specs.Prelude.{ℕ, suc, Bool, false, ◌||◌, List, filter, length, Option, Some, None, Result, Ok, Err}
+use Rattle.std.specs.Prelude.{ℕ, zero, suc, Bool, false, ◌||◌, List, filter, length, Option, Some, None, Result, Ok, Err}
 use Rattle.std.specs.List.{list_any}
 use Rattle.program_rules.specs.Names.{Name, same}
 use Rattle.program_rules.specs.Linked.{parents_of}
@@ -15,7 +15,7 @@ use Rattle.mutest_engine.specs.declared.refusal.Refusal.TheVariants.{BadProgram}
 -- Whether a class stands above another within so many levels: it is that one's superclass or one of
 -- its interfaces, or stands above one of these.
 unfoldable pub is_above : Look → ℕ → Name → Name → Bool
-is_above p 0 m n = false
+is_above p zero m n = false
 is_above p (suc levels) m n =
     list_any (λ k. same k m || is_above p levels m k) (parents_of (p n))
 
