@@ -1,5 +1,5 @@
 -- The mutants of a suite, every test on every mutant, and what is written of them (this project's own).
-use Rattle.std.specs.Prelude.{◌≡◌, ℕ, suc, ◌+◌, ◌<◌, ◌≤◌, nat_lt, slice_get, option_and_then, List, [], ◌∷◌, map, length, Some, None, Result, Ok, Err, if◌then◌else◌}
+use Rattle.std.specs.Prelude.{◌≡◌, ℕ, zero, suc, ◌+◌, ◌<◌, ◌≤◌, nat_lt, slice_get, option_and_then, List, [], ◌∷◌, map, length, Some, None, Result, Ok, Err, if◌then◌else◌}
 use Rattle.class_model.specs.declared.class.Class.{Class}
 use Rattle.class_model.specs.declared.class.ClassId.{ClassId}
 use Rattle.program_rules.specs.Names.{same}
@@ -27,7 +27,7 @@ use Rattle.mutest_engine.specs.declared.refusal.Limit.TheVariants as limit
 
 -- The numbers of so many classes, from this one on.
 abbrev pub numbers_from : ℕ → ℕ → List ℕ
-numbers_from k 0 = []
+numbers_from k zero = []
 numbers_from k (suc n) = k ∷ numbers_from (suc k) n
 
 abbrev pub numbers_of : List ClassId → List ℕ
