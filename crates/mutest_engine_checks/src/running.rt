@@ -107,8 +107,8 @@ fn each_test_runs_on_each_mutant(rt: HostRuntime) -> Result<(), Fail> {
 
 #[test]
 fn a_report_that_cannot_be_replaced_is_told(rt: HostRuntime) -> Result<(), Fail> {
-    // Two folders are listed and two files are read before.
-    let told = run_of(rt.alloc(), &A, &T, &[4])?;
+    // Two folders are listed before, and of two files the length is asked and then the bytes.
+    let told = run_of(rt.alloc(), &A, &T, &[6])?;
     assert_eq!(rt; told.0, 11);
     assert_eq!(rt;
         told.1.as_slice(),
