@@ -1,5 +1,5 @@
 -- The last part is closed: all above its classes is closed, or stands in it.
-use Rattle.std.proofs.Common.{◌≡◌, ◌⊎◌, inl, inr, ◌∙◌, sym, refl, ap, subst, ℕ, ◌+◌, ◌-◌, ◌<◌, ◌≤◌, true, List, length, length-set, length-take, take, Option, None, Some, slice_get, slice_set, arith}
+use Rattle.std.proofs.Common.{◌≡◌, ◌⊎◌, inl, inr, ◌∙◌, sym, refl, ap, subst, ℕ, ◌+◌, ◌^◌, ◌-◌, ◌<◌, ◌≤◌, true, List, length, length-set, length-take, take, Option, None, Some, slice_get, slice_set, arith}
 use Rattle.std.proofs.lemmas.Option.{slice_get_within, slice_get-get_or}
 use Rattle.class_order.specs.declared.links.Links.{Links}
 use Rattle.class_order.specs.declared.standing.Standing.{Standing}
@@ -51,7 +51,7 @@ module _ (g : List Links) (found : List Standing) (looked stack bounds path : Li
   size_part : length (take b stack) ≡ b
   size_part = let w = ok.bounds_in (length bounds - 1) b last in length-take b stack ∙ omega (arith, w)
 
-  module _ (found' : List Standing) (next' : ℕ) (each' : length found' ≡ length found) (shut : (x p : ℕ) → slice_get found x ≡ Some (Open p) → b ≤ p → is_closed (slice_get found' x) ≡ true) (others : (x : ℕ) → ((p : ℕ) → slice_get found x ≡ Some (Open p) → p < b) → slice_get found' x ≡ slice_get found x) where
+  module _ (found' : List Standing) (next' : ℕ) (fits' : next' < 2 ^ 32) (each' : length found' ≡ length found) (shut : (x p : ℕ) → slice_get found x ≡ Some (Open p) → b ≤ p → is_closed (slice_get found' x) ≡ true) (others : (x : ℕ) → ((p : ℕ) → slice_get found x ≡ Some (Open p) → p < b) → slice_get found' x ≡ slice_get found x) where
     -- a class is of the part, or it is what it was
     part_or_not : (x : ℕ) → ((p : ℕ) × (slice_get found x ≡ Some (Open p)) × (b ≤ p)) ⊎ (slice_get found' x ≡ slice_get found x)
     part_or_not x = by_case (slice_get found x) refl
@@ -150,6 +150,7 @@ module _ (g : List Links) (found : List Standing) (looked stack bounds path : Li
       apart = apart;
       lower = lower;
       ranks = ranks;
+      fits = fits';
     }
 
     -- what is closed keeps being lower
@@ -164,7 +165,7 @@ module _ (g : List Links) (found : List Standing) (looked stack bounds path : Li
 
   -- ---- the part is one class, which doesn't name itself
 
-  module _ (a : ℕ) (alone : length stack ≡ b + 1) (there : slice_get stack b ≡ Some a) (unnamed : (j : ℕ) → slice_get (supers_at g a) j ≡ Some a → ⊥) where
+  module _ (a : ℕ) (alone : length stack ≡ b + 1) (there : slice_get stack b ≡ Some a) (unnamed : (j : ℕ) → slice_get (supers_at g a) j ≡ Some a → ⊥) (fits' : next + 1 < 2 ^ 32) where
     abbrev one' : List Standing
     one' = slice_set found a (Ranked next)
 
@@ -213,15 +214,15 @@ module _ (g : List Links) (found : List Standing) (looked stack bounds path : Li
 
     pub closed_one : IsWalk g one' looked (take b stack) (without_end bounds) path (next + 1)
     closed_one =
-        closes one' (next + 1) (length-set found a (Ranked next)) one_shut one_others
+        closes one' (next + 1) fits' (length-set found a (Ranked next)) one_shut one_others
         (λ x h. elim (set_case found a (Ranked next) x Cyclic h) [ inl e ↦ absurd (let q = e.1 in cc) | inr e ↦ ok.cyclic x e.1 ])
         (λ x r h. elim (set_case found a (Ranked next) x (Ranked r) h) [ inl e ↦ (λ q. not_above (subst (IsAboveItself g) e.0 q)) | inr e ↦ ok.apart x r e.1 ])
         (λ x r k c h sup. elim (set_case found a (Ranked next) x (Ranked r) h) [
           | inl e ↦
           let q : Ranked r ≡ Ranked next = e.1 in
           let n : r ≡ next = cc in
-          subst (IsLower (slice_get one' c)) (sym n) (lower_same one' (next + 1) (length-set found a (Ranked next)) one_shut one_others c next (super_lower k c (subst (λ y. slice_get (supers_at g y) k ≡ Some c) e.0 sup)))
-          | inr e ↦ lower_same one' (next + 1) (length-set found a (Ranked next)) one_shut one_others c r (ok.lower x r k c e.1 sup)
+          subst (IsLower (slice_get one' c)) (sym n) (lower_same one' (next + 1) fits' (length-set found a (Ranked next)) one_shut one_others c next (super_lower k c (subst (λ y. slice_get (supers_at g y) k ≡ Some c) e.0 sup)))
+          | inr e ↦ lower_same one' (next + 1) fits' (length-set found a (Ranked next)) one_shut one_others c r (ok.lower x r k c e.1 sup)
         ])
         (λ x r h. elim (set_case found a (Ranked next) x (Ranked r) h) [
           | inl e ↦ (let q : Ranked r ≡ Ranked next = e.1 in let n : r ≡ next = cc in omega (arith, n))

@@ -128,4 +128,5 @@ module _ (g : List Links) (found : List Standing) (looked stack bounds path : Li
     apart = λ x r h. elim (set_case found a (Open size) x (Ranked r) h) [ inl e ↦ absurd (let q = e.1 in cc) | inr e ↦ ok.apart x r e.1 ];
     lower = λ x r k c h sup. elim (set_case found a (Open size) x (Ranked r) h) [ inl e ↦ absurd (let q = e.1 in cc) | inr e ↦ lower_kept c r (ok.lower x r k c e.1 sup) ];
     ranks = λ x r h. elim (set_case found a (Open size) x (Ranked r) h) [ inl e ↦ absurd (let q = e.1 in cc) | inr e ↦ ok.ranks x r e.1 ];
+    fits = ok.fits;
   }

@@ -170,6 +170,7 @@ module _ (g : List Links) (found : List Standing) (looked stack bounds path : Li
       apart = ok.apart;
       lower = ok.lower;
       ranks = ok.ranks;
+      fits = ok.fits;
     }
 
     -- what was looked at stands in the part of `a` or behind it

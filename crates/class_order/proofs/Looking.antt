@@ -71,6 +71,7 @@ module _ (g : List Links) (found : List Standing) (looked stack bounds path : Li
       apart = ok.apart;
       lower = ok.lower;
       ranks = ok.ranks;
+      fits = ok.fits;
     }
 
   -- the last class of the path has no super more
@@ -107,4 +108,5 @@ module _ (g : List Links) (found : List Standing) (looked stack bounds path : Li
       apart = ok.apart;
       lower = ok.lower;
       ranks = ok.ranks;
+      fits = ok.fits;
     }

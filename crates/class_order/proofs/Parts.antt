@@ -115,8 +115,8 @@ module _ (g : List Links) (found : List Standing) (looked stack bounds path : Li
 
   pub closed_part : IsWalk g part' looked (take b stack) (without_end bounds) path next
   closed_part =
-      closes g found looked stack bounds path next ok b last below part' next part_length part_shut part_others
+      closes g found looked stack bounds path next ok b last below part' next ok.fits part_length part_shut part_others
       (λ x h. elim (was x Cyclic h) [ inl e ↦ of_part e.0 x e.2 (ok.opened x e.0 e.1) | inr e ↦ ok.cyclic x e ])
       (λ x r h. elim (was x (Ranked r) h) [ inl e ↦ absurd (let q = e.3 in cc) | inr e ↦ ok.apart x r e ])
-      (λ x r k c h sup. elim (was x (Ranked r) h) [ inl e ↦ absurd (let q = e.3 in cc) | inr e ↦ lower_same g found looked stack bounds path next ok b last below part' next part_length part_shut part_others c r (ok.lower x r k c e sup) ])
+      (λ x r k c h sup. elim (was x (Ranked r) h) [ inl e ↦ absurd (let q = e.3 in cc) | inr e ↦ lower_same g found looked stack bounds path next ok b last below part' next ok.fits part_length part_shut part_others c r (ok.lower x r k c e sup) ])
       (λ x r h. elim (was x (Ranked r) h) [ inl e ↦ absurd (let q = e.3 in cc) | inr e ↦ ok.ranks x r e ])

@@ -136,7 +136,7 @@ module _ (g : List Links) (old : Walk) (ok : IsWalkOf g old) where
     pub close_one_kept : length old.stack.items ≡ b + 1 → list_any (nat_eq a) (supers_at g a) ≡ false → ClosesOne a old new → IsWalkOf g new
     close_one_kept alone none e =
         walk_as g (slice_set old.found.items a (Ranked old.next)) new.found.items old.looked.items new.looked.items (take b old.stack.items) new.stack.items (without_end old.bounds.items) new.bounds.items old.path.items new.path.items (old.next + 1) new.next
-        (closed_one g old.found.items old.looked.items old.stack.items old.bounds.items old.path.items old.next ok b last below a alone there (unnamed a (supers_at g a) none))
+        (closed_one g old.found.items old.looked.items old.stack.items old.bounds.items old.path.items old.next ok b last below a alone there (unnamed a (supers_at g a) none) e.fits)
         e.found e.looked (e.stack ∙ shorter alone) e.bounds e.path e.next
 
     pub close_one_met : ClosesOne a old new → KeepsMet old new
@@ -182,6 +182,7 @@ pub end_found : (g : List Links) (w : Walk) → IsEnd g w → AreStandings g w.f
 end_found g w end = record {
   each = end.walk.each;
   fit = by_kind;
+  few = λ a r h. let q = end.walk.ranks a r h in let f = end.walk.fits in omega (arith, q, f);
 }
   where
     by_kind : (a : ℕ) (s : Standing) → slice_get w.found.items a ≡ Some s → IsStanding g w.found.items a s

@@ -1,5 +1,5 @@
 -- What is found of each class: that it stands above itself, or a rank (this project's own).
-use Rattle.std.specs.Prelude.{◌≡◌, ◌<◌, ℕ, List, Option, Some, slice_get, length}
+use Rattle.std.specs.Prelude.{◌≡◌, ◌<◌, ◌^◌, ℕ, List, Option, Some, slice_get, length}
 use Rattle.class_order.specs.declared.links.Links.{Links}
 use Rattle.class_order.specs.declared.standing.Standing.{Standing}
 use Rattle.class_order.specs.declared.standing.Standing.TheVariants.{New, Open, Ranked, Cyclic}
@@ -24,3 +24,4 @@ IsStanding g found a (Open place) = ⊥
 pub record AreStandings (g : List Links) (found : List Standing) : Type 0 where
   pub each : length found ≡ length g
   pub fit : (a : ℕ) (s : Standing) → slice_get found a ≡ Some s → IsStanding g found a s
+  pub few : (a rank : ℕ) → slice_get found a ≡ Some (Ranked rank) → rank < 2 ^ 32

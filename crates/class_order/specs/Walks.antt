@@ -1,6 +1,6 @@
 -- The state of the walk over all classes that finds those above themselves (this project's own). No
 -- public clause cites these.
-use Rattle.std.specs.Prelude.{◌≡◌, ◌+◌, ◌<◌, ◌≤◌, ◌-◌, ℕ, Bool, true, false, List, [], ◌∷◌, ◌++◌, Option, Some, None, slice_get, slice_set, length, take, drop, replicate}
+use Rattle.std.specs.Prelude.{◌≡◌, ◌+◌, ◌<◌, ◌≤◌, ◌-◌, ◌^◌, ℕ, Bool, true, false, List, [], ◌∷◌, ◌++◌, Option, Some, None, slice_get, slice_set, length, take, drop, replicate}
 use Rattle.class_order.specs.declared.links.Links.{Links}
 use Rattle.class_order.specs.declared.standing.Standing.{Standing}
 use Rattle.class_order.specs.declared.standing.Standing.TheVariants.{New, Open, Ranked, Cyclic}
@@ -74,6 +74,7 @@ pub record IsWalk (g : List Links) (found : List Standing) (looked stack bounds 
       IsLower (slice_get found c) r
   -- ranks so far are below the next one
   pub ranks : (a r : ℕ) → slice_get found a ≡ Some (Ranked r) → r < next
+  pub fits : next < 2 ^ 32
 
 -- The same of the code's lists.
 abbrev pub IsWalkOf : List Links → Walk → Type 0
@@ -147,6 +148,7 @@ pub record ClosesOne (a : ℕ) (old new : Walk) : Type 0 where
   pub bounds : new.bounds.items ≡ without_end old.bounds.items
   pub path : new.path.items ≡ old.path.items
   pub next : new.next ≡ old.next + 1
+  pub fits : old.next + 1 < 2 ^ 32
 
 -- The last part begins here, and its classes stand above themselves.
 pub record ClosesPart (bound : ℕ) (old new : Walk) : Type 0 where

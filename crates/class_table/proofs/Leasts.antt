@@ -1,7 +1,7 @@
 -- The least name of the classes that are marked.
-use Rattle.std.proofs.Common.{◌≡◌, ◌⊎◌, inl, inr, ◌∙◌, sym, refl, ap, subst, ℕ, zero, suc, ◌+◌, ◌<◌, ◌≤◌, Bool, true, false, List, length, map, Option, None, Some, slice_get, arith}
-use Rattle.std.specs.Prelude.{nat_lt, if◌then◌else◌, IsTrue}
-use Rattle.std.specs.Ordering.{nat_cmp, is_lt, is_le}
+use Rattle.std.proofs.Common.{◌≡◌, ◌⊎◌, inl, inr, ◌∙◌, sym, refl, ap, subst, ℕ, ◌+◌, ◌<◌, Bool, true, false, List, length, map, Option, None, Some, slice_get, arith}
+use Rattle.std.specs.Prelude.{nat_lt, if◌then◌else◌}
+use Rattle.std.specs.Ordering.{nat_cmp, is_lt}
 use Rattle.std.specs.Cmp.Lexicographic.{slice_cmp}
 use Rattle.std.proofs.lemmas.Option.{slice_get-map, slice_get_within}
 use Rattle.std.proofs.lemmas.List.{length-map}
@@ -12,7 +12,7 @@ use Rattle.class_link.specs.Info.{Info}
 use Rattle.class_table.specs.declared.least.Least.{Least}
 use Rattle.class_table.specs.Table.{names, name_or_none}
 use Rattle.class_table.specs.Numbers.{name_of}
-use Rattle.class_table.specs.Least.{IsMarked, IsBelow, IsLeastOf, IsLeastSoFar, lesser_at, considered, IsLeastName, IsLeastMarked}
+use Rattle.class_table.specs.Least.{IsMarked, IsBelow, IsLeastOf, IsLeastSoFar, lesser_at, considered, IsLeastMarked}
 use Rattle.class_table.proofs.Duplicates.{le_self, not_before, before_all}
 
 last_or_before : (k i : ℕ) → k < i + 1 → (k < i) ⊎ (k ≡ i)

@@ -42,7 +42,7 @@ number_named p n i h = ap name_or_none (name_at_place n i (names p) h)
 pub name_of_class : (p : List Info) (i : ℕ) (x : Info) → slice_get p i ≡ Some x → name_at p i ≡ x.name
 name_of_class p i x h = ap name_or_none (slice_get-map (λ x. x.name) p i ∙ ap (option_map (λ x. x.name)) h)
 
-number_at : (p : List Info) (i : ℕ) (x : Info) → AreDistinct (names p) → slice_get p i ≡ Some x → number_of p (name_at p i) ≡ Some i
+pub number_at : (p : List Info) (i : ℕ) (x : Info) → AreDistinct (names p) → slice_get p i ≡ Some x → number_of p (name_at p i) ≡ Some i
 number_at p i x distinct h = let lt = slice_get_within p i x h in distinct i (omega (arith, lt, length-map p (λ x. x.name)))
 
 pub look_at : (p : List Info) (i : ℕ) (x : Info) → AreDistinct (names p) → slice_get p i ≡ Some x → look p (name_at p i) ≡ Some (class_of x)
@@ -50,7 +50,7 @@ look_at p i x distinct h = ap (option_and_then (class_at p)) (number_at p i x di
 
 -- ---- methods
 
-none_past : {A : Type 0} (xs : List A) (i : ℕ) → slice_get xs i ≡ None → i < length xs → ⊥
+pub none_past : {A : Type 0} (xs : List A) (i : ℕ) → slice_get xs i ≡ None → i < length xs → ⊥
 none_past [] i e lt = omega (arith, lt)
 none_past (x ∷ xs) zero e lt = absurd cc
 none_past (x ∷ xs) (suc i) e lt = none_past xs i e (omega (arith, lt))

@@ -18,43 +18,57 @@ body_named bs n = option_and_then (slice_get bs) (place_in (map body_name bs) n)
 abbrev pub look_of : List ClassBody → Look
 look_of bs n = option_map link_body (body_named bs n)
 
--- No two have one name.
-abbrev pub AreNamedApart : List ClassBody → Type 0
-AreNamedApart bs = AreDistinct (map body_name bs)
-
 -- No super is missing.
-abbrev pub HaveSupers : List ClassBody → Type 0
-HaveSupers bs = (n : Name) → is_super_missing (look_of bs) n ≡ false
+abbrev pub HaveSupers : Look → Type 0
+HaveSupers p = (n : Name) → is_super_missing p n ≡ false
 
 -- No class stands above itself.
-abbrev pub AreAcyclic : List ClassBody → Type 0
-AreAcyclic bs = (n : Name) → IsOwnSuper (look_of bs) n → ⊥
+abbrev pub IsAcyclic : Look → Type 0
+IsAcyclic p = (n : Name) → IsOwnSuper p n → ⊥
 
 -- No super is of a wrong kind.
-abbrev pub HaveRightKinds : List ClassBody → Type 0
-HaveRightKinds bs = (n : Name) → is_super_of_wrong_kind (look_of bs) n ≡ false
+abbrev pub HasRightKinds : Look → Type 0
+HasRightKinds p = (n : Name) → is_super_of_wrong_kind p n ≡ false
 
--- The classes are a program: they have none of these faults.
-pub record AreProgram (bs : List ClassBody) : Type 0 where
-  pub apart : AreNamedApart bs
-  pub present : HaveSupers bs
-  pub acyclic : AreAcyclic bs
-  pub kinds : HaveRightKinds bs
+-- Classes of these names, and what they say, have none of these faults.
+pub record IsFaultless (ns : List Name) (p : Look) : Type 0 where
+  pub apart : AreDistinct ns
+  pub present : HaveSupers p
+  pub acyclic : IsAcyclic p
+  pub kinds : HasRightKinds p
 
--- The first fault is a super that is missing, and this is the least class with it.
-pub record IsFirstMissing (bs : List ClassBody) (n : Name) : Type 0 where
-  pub apart : AreNamedApart bs
-  pub least : IsLeastWith (map body_name bs) (λ m. IsTrue (is_super_missing (look_of bs) m)) n
+-- Their first fault is a super that is missing, and this is the least class with it.
+pub record MissesFirst (ns : List Name) (p : Look) (n : Name) : Type 0 where
+  pub apart : AreDistinct ns
+  pub least : IsLeastWith ns (λ m. IsTrue (is_super_missing p m)) n
 
--- The first fault is a class above itself, and this is the least one.
-pub record IsFirstCycle (bs : List ClassBody) (n : Name) : Type 0 where
-  pub apart : AreNamedApart bs
-  pub present : HaveSupers bs
-  pub least : IsLeastWith (map body_name bs) (IsOwnSuper (look_of bs)) n
+-- Their first fault is a class above itself, and this is the least one.
+pub record CyclesFirst (ns : List Name) (p : Look) (n : Name) : Type 0 where
+  pub apart : AreDistinct ns
+  pub present : HaveSupers p
+  pub least : IsLeastWith ns (IsOwnSuper p) n
 
--- The first fault is a super of a wrong kind, and this is the least class with it.
-pub record IsFirstWrongKind (bs : List ClassBody) (n : Name) : Type 0 where
-  pub apart : AreNamedApart bs
-  pub present : HaveSupers bs
-  pub acyclic : AreAcyclic bs
-  pub least : IsLeastWith (map body_name bs) (λ m. IsTrue (is_super_of_wrong_kind (look_of bs) m)) n
+-- Their first fault is a super of a wrong kind, and this is the least class with it.
+pub record IsWrongFirst (ns : List Name) (p : Look) (n : Name) : Type 0 where
+  pub apart : AreDistinct ns
+  pub present : HaveSupers p
+  pub acyclic : IsAcyclic p
+  pub least : IsLeastWith ns (λ m. IsTrue (is_super_of_wrong_kind p m)) n
+
+-- ---- the same of given classes
+
+-- The classes are a program.
+abbrev pub AreProgram : List ClassBody → Type 0
+AreProgram bs = IsFaultless (map body_name bs) (look_of bs)
+
+-- A super is missing first, and this is the least class with that fault.
+abbrev pub IsFirstMissing : List ClassBody → Name → Type 0
+IsFirstMissing bs n = MissesFirst (map body_name bs) (look_of bs) n
+
+-- A class stands above itself first, and this is the least one.
+abbrev pub IsFirstCycle : List ClassBody → Name → Type 0
+IsFirstCycle bs n = CyclesFirst (map body_name bs) (look_of bs) n
+
+-- A super is of a wrong kind first, and this is the least class with that fault.
+abbrev pub IsFirstWrongKind : List ClassBody → Name → Type 0
+IsFirstWrongKind bs n = IsWrongFirst (map body_name bs) (look_of bs) n

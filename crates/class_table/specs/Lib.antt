@@ -5,4 +5,5 @@ pub mod Calls
 pub mod Seen
 pub mod Walked
 pub mod Least
+pub mod Supers
 pub mod Faults

@@ -13,6 +13,16 @@ pub enum TableFault {
     /// Two classes have this name.
     #[error("two classes have one name")]
     Duplicate { name: Name },
+    /// The superclass of this class or one of its interfaces is no class of the program.
+    #[error("a superclass or an interface is missing")]
+    SuperMissing { name: Name },
+    /// This class stands above itself.
+    #[error("a class stands above itself")]
+    SuperCycle { name: Name },
+    /// The superclass of this class is final or an interface, or an interface has another
+    /// superclass than Object, or one of its interfaces is none.
+    #[error("a superclass or an interface is of a wrong kind")]
+    SuperKind { name: Name },
     /// Memory has run out.
     #[error("out of memory")]
     Memory,

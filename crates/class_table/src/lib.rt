@@ -8,6 +8,7 @@ mod least;
 mod numbering;
 mod program;
 mod scripted;
+mod supers;
 
 pub use class_link::{
     ClassBody, ClassInfo, Entry, FieldConstant, FieldRef, FrameShape, Instruction, LibBody,

@@ -1,13 +1,13 @@
 //! The numbers of a program's classes by their names.
 
-ghost use Rattle.std.specs.Prelude.{◌≡◌, ◌<◌, ◌^◌, ℕ, List, map, length, IfOk, OnOk};
+ghost use Rattle.std.specs.Prelude.{◌≡◌, ◌<◌, ◌^◌, ℕ, List, All, map, length, IfOk, OnOk};
 ghost use Rattle.std.specs.Arc.{arc_value};
-ghost use Rattle.class_link.specs.Info.{body_name};
+ghost use Rattle.class_link.specs.Info.{IsInfo, body_name};
 ghost use Rattle.class_table.specs.Table.{bodies_of, names};
 ghost use Rattle.std.specs.HashMap.{get};
 ghost use Rattle.program_rules.specs.Names.{same};
 ghost use Rattle.class_link.specs.declared.loaded.ClassBody.TheVariants.{File, Library};
-ghost use Rattle.class_table.specs.Adding.{shared, AreClassesOf, AddsClasses};
+ghost use Rattle.class_table.specs.Adding.{shared, AreClassesOf, AddsClasses, KeepsMeant};
 ghost use Rattle.class_table.specs.Numbers.{IsNumbering, with_number, is_before, lesser, is_place, judged, IsTold, IsVerdict};
 
 use class_link::{ClassBody, ClassInfo, LibClass, Loaded};
@@ -20,16 +20,21 @@ use std::sync::Arc;
 fn info(alloc: Global, body: ClassBody) -> Result<Arc<ClassInfo, Global>, Memory>
     ensures body { IfOk result (λ i. (arc_value i).body ≡ body) }
     ensures name { IfOk result (λ i. (arc_value i).name ≡ body_name body) }
+    ensures info { IfOk result (λ i. IsInfo (arc_value i)) }
 {
-    Ok(Arc::new(alloc, ClassInfo::new(alloc, body)?)?)
+    let info = ClassInfo::new(alloc, body)?;
+    let _linked = info.linked();
+    Ok(Arc::new(alloc, info)?)
 }
 
+#[tactic(auto, using(crate::proofs::Meant::meant_more))]
 fn add_files(
     alloc: Global,
     infos: &mut Vec<Arc<ClassInfo, Global>>,
     classes: Vec<Loaded>,
 ) -> Result<(), Memory>
-    ensures { OnOk result (AddsClasses infos.old.items (map File classes.items) infos.new.items) }
+    ensures meant { OnOk result (KeepsMeant infos.old.items infos.new.items) }
+    ensures classes { OnOk result (AddsClasses infos.old.items (map File classes.items) infos.new.items) }
 {
     for loaded in classes {
         infos.push(info(alloc, ClassBody::File(loaded))?)?;
@@ -37,12 +42,14 @@ fn add_files(
     Ok(())
 }
 
+#[tactic(auto, using(crate::proofs::Meant::meant_more))]
 fn add_library(
     alloc: Global,
     infos: &mut Vec<Arc<ClassInfo, Global>>,
     library: Vec<LibClass>,
 ) -> Result<(), Memory>
-    ensures { OnOk result (AddsClasses infos.old.items (map Library library.items) infos.new.items) }
+    ensures meant { OnOk result (KeepsMeant infos.old.items infos.new.items) }
+    ensures classes { OnOk result (AddsClasses infos.old.items (map Library library.items) infos.new.items) }
 {
     for class in library {
         infos.push(info(alloc, ClassBody::Library(class))?)?;
@@ -56,7 +63,8 @@ pub fn infos(
     classes: Vec<Loaded>,
     library: Vec<LibClass>,
 ) -> Result<Vec<Arc<ClassInfo, Global>>, Memory>
-    ensures { IfOk result (λ is. AreClassesOf is.items (bodies_of classes.items library.items)) }
+    ensures classes { IfOk result (λ is. AreClassesOf is.items (bodies_of classes.items library.items)) }
+    ensures meant { IfOk result (λ is. All IsInfo (shared is.items)) }
 {
     let mut infos = Vec::new(alloc);
     add_files(alloc, &mut infos, classes)?;

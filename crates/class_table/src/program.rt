@@ -1,21 +1,25 @@
 //! The classes of a program by number and by name.
 
-ghost use Rattle.std.specs.Prelude.{◌≡◌, ◌<◌, ◌^◌, ℕ, List, map, length, slice_get, slice_set, Some, None, Err, IfOk, OnOk, IfSome, IfNone, IsSomeAnd, option_and_then};
+ghost use Rattle.std.specs.Prelude.{◌≡◌, ◌<◌, ◌^◌, ℕ, List, All, map, length, slice_get, slice_set, Some, None, Err, IfOk, OnOk, IfSome, IfNone, IsSomeAnd, option_and_then};
 ghost use Rattle.std.specs.Option.{option_map, option_copied};
 ghost use Rattle.std.specs.Arc.{arc_value};
 ghost use Rattle.program_rules.specs.Linked.{method_in};
 ghost use Rattle.class_link.specs.View.{method_of};
-ghost use Rattle.class_link.specs.Info.{class_of, link_body, file_in};
+ghost use Rattle.class_link.specs.Info.{IsInfo, class_of, link_body, file_in};
 ghost use Rattle.class_table.specs.Table.{AreDistinct, IsLeastDuplicate, bodies_of, names_of, names, number_of, CanSwap, class_at, name_at, look, entries_at, methods_at, reference_at, named_number, named_place, IsProgram};
 ghost use Rattle.class_table.specs.Calls.{IsTargetOf, AreTargets};
+ghost use Rattle.class_table.specs.Faults.{look_of, IsFaultless, MissesFirst, CyclesFirst, IsWrongFirst, AreProgram, IsFirstMissing, IsFirstCycle, IsFirstWrongKind};
+ghost use Rattle.class_table.specs.Supers.{AreOrdered};
 ghost use Rattle.class_table.specs.Numbers.{IsNumbering};
 ghost use Rattle.class_table.specs.Adding.{shared};
-ghost use Rattle.class_table.specs.declared.fault.TableFault.TheVariants.{Duplicate};
+ghost use Rattle.class_table.specs.declared.fault.TableFault.TheVariants.{Duplicate, SuperMissing, SuperCycle, SuperKind};
 
 use crate::calls::{Target, Targets, copy_targets, forget_unless_right, target_at, targets};
 use crate::fault::TableFault;
 use crate::numbering::{infos, least_duplicate, numbers};
+use crate::supers::{all_links, least_cyclic, least_missing, least_wrong};
 use class_link::{ClassBody, ClassInfo, LibClass, LinkedMethod, Loaded};
+use class_order::{Links, standings};
 use class_model::{Class, ClassId, Memory, Name, Seq};
 use std::alloc::Global;
 use std::collections::HashMap;
@@ -56,15 +60,24 @@ impl Model for Program {
 }
 
 impl Program {
-    /// The program of these classes. Where there are 2^32 classes or more, memory runs out.
+    /// The program of these classes: exactly where no two have one name, each names supers that are
+    /// there and of the right kind, and none stands above itself. Else the first of these faults is
+    /// told, with the least class that has it. Where there are 2^32 classes or more, memory runs
+    /// out. Faults are found in time by the number of classes, of names and of supers.
     pub fn build(
         alloc: Global,
         classes: Seq<Loaded>,
         library: Seq<LibClass>,
     ) -> Result<Program, TableFault>
         ensures classes { IfOk result (λ p. map (λ i. i.body) p ≡ bodies_of classes library) }
+        ensures program { OnOk result (AreProgram (bodies_of classes library)) }
         ensures distinct { OnOk result (AreDistinct (names_of classes library)) }
+        ensures meant { IfOk result (λ p. All IsInfo p) }
+        ensures looks { IfOk result (λ p. look p ≡ look_of (bodies_of classes library)) }
         ensures duplicate { (name : List ℕ) → result ≡ Err (Duplicate name) → IsLeastDuplicate (names_of classes library) name }
+        ensures missing { (name : List ℕ) → result ≡ Err (SuperMissing name) → IsFirstMissing (bodies_of classes library) name }
+        ensures cycle { (name : List ℕ) → result ≡ Err (SuperCycle name) → IsFirstCycle (bodies_of classes library) name }
+        ensures kind { (name : List ℕ) → result ≡ Err (SuperKind name) → IsFirstWrongKind (bodies_of classes library) name }
     {
         let infos = infos(alloc, classes.into_vec(), library.into_vec())?;
         match program_of(alloc, infos) {
@@ -258,21 +271,37 @@ fn put(
     mem::replace(&mut classes[at], with)
 }
 
-// Tells the least name that two of the classes have, if there is one.
-fn refuse_duplicates(
+// Tells the first fault that these classes have as a program, if there is one, and else what each
+// names as its supers, by number.
+fn links_of(
     alloc: Global,
     infos: &[Arc<ClassInfo, Global>],
     numbers: &HashMap<Name, u32>,
-) -> Result<(), TableFault>
+) -> Result<Vec<Links, Global>, TableFault>
     requires few { length infos.now < 2 ^ 32 }
     requires numbers { IsNumbering numbers.now (shared infos.now) }
-    ensures distinct { OnOk result (AreDistinct (names (shared infos.now))) }
+    ensures faultless { OnOk result (IsFaultless (names (shared infos.now)) (look (shared infos.now))) }
+    ensures links { IfOk result (λ g. AreOrdered (shared infos.now) g.items) }
     ensures duplicate { (name : List ℕ) → result ≡ Err (Duplicate name) → IsLeastDuplicate (names (shared infos.now)) name }
+    ensures missing { (name : List ℕ) → result ≡ Err (SuperMissing name) → MissesFirst (names (shared infos.now)) (look (shared infos.now)) name }
+    ensures cycle { (name : List ℕ) → result ≡ Err (SuperCycle name) → CyclesFirst (names (shared infos.now)) (look (shared infos.now)) name }
+    ensures kind { (name : List ℕ) → result ≡ Err (SuperKind name) → IsWrongFirst (names (shared infos.now)) (look (shared infos.now)) name }
 {
-    match least_duplicate(alloc, infos, numbers)? {
-        Some(name) => Err(TableFault::Duplicate { name }),
-        None => Ok(()),
+    if let Some(name) = least_duplicate(alloc, infos, numbers)? {
+        return Err(TableFault::Duplicate { name });
     }
+    if let Some(name) = least_missing(alloc, infos, numbers)? {
+        return Err(TableFault::SuperMissing { name });
+    }
+    let links = all_links(alloc, infos, numbers)?;
+    let found = standings(alloc, links.as_slice())?;
+    if let Some(name) = least_cyclic(alloc, infos, found.as_slice())? {
+        return Err(TableFault::SuperCycle { name });
+    }
+    if let Some(name) = least_wrong(alloc, infos, numbers)? {
+        return Err(TableFault::SuperKind { name });
+    }
+    Ok(links)
 }
 
 // The numbers of these classes, and what they name by number, shared.
@@ -291,15 +320,18 @@ fn number_all(
 
 fn program_of(alloc: Global, infos: Vec<Arc<ClassInfo, Global>>) -> Result<Program, TableFault>
     ensures classes { IfOk result (λ p. p ≡ shared infos.items) }
-    ensures distinct { OnOk result (AreDistinct (names (shared infos.items))) }
+    ensures faultless { OnOk result (IsFaultless (names (shared infos.items)) (look (shared infos.items))) }
     ensures duplicate { (name : List ℕ) → result ≡ Err (Duplicate name) → IsLeastDuplicate (names (shared infos.items)) name }
+    ensures missing { (name : List ℕ) → result ≡ Err (SuperMissing name) → MissesFirst (names (shared infos.items)) (look (shared infos.items)) name }
+    ensures cycle { (name : List ℕ) → result ≡ Err (SuperCycle name) → CyclesFirst (names (shared infos.items)) (look (shared infos.items)) name }
+    ensures kind { (name : List ℕ) → result ≡ Err (SuperKind name) → IsWrongFirst (names (shared infos.items)) (look (shared infos.items)) name }
 {
     if infos.len() > u32::MAX as usize {
         return Err(TableFault::Memory);
     }
     let (numbers, targets) = number_all(alloc, infos.as_slice())?;
-    match refuse_duplicates(alloc, infos.as_slice(), &numbers) {
-        Ok(()) => Ok(Program {
+    match links_of(alloc, infos.as_slice(), &numbers) {
+        Ok(_links) => Ok(Program {
             classes: infos,
             numbers,
             targets: Some(targets),

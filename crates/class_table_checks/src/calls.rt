@@ -1,15 +1,20 @@
 //! Calls of `class_table` and `test_discovery`, each with the contract of the function that it
 //! calls. A body that such a contract refuses here, it refuses there too.
 
-ghost use Rattle.std.specs.Prelude.{◌≡◌, ◌<◌, ℕ, List, map, length, slice_get, slice_set, Some, None, Err, IfOk, OnOk, IfSome, IfNone};
+ghost use Rattle.std.specs.Prelude.{◌≡◌, ◌<◌, ◌^◌, ℕ, List, All, map, length, slice_get, slice_set, Some, None, Err, IfOk, OnOk, IfSome, IfNone};
 ghost use Rattle.std.specs.Arc.{arc_value};
 ghost use Rattle.program_rules.specs.Programs.{consulted_with};
 ghost use Rattle.class_table.specs.Table.{AreDistinct, IsLeastDuplicate, bodies_of, names_of, number_of, CanSwap, class_at, name_at, look, named_place};
+ghost use Rattle.class_link.specs.Info.{IsInfo};
+ghost use Rattle.class_order.specs.Graph.{AreWithin};
+ghost use Rattle.class_order.specs.Standings.{AreStandings};
+ghost use Rattle.class_table.specs.Faults.{look_of, AreProgram, IsFirstMissing, IsFirstCycle, IsFirstWrongKind};
 ghost use Rattle.class_table.specs.Seen.{IsConsultedOf};
-ghost use Rattle.class_table.specs.declared.fault.TableFault.TheVariants.{Duplicate};
+ghost use Rattle.class_table.specs.declared.fault.TableFault.TheVariants.{Duplicate, SuperMissing, SuperCycle, SuperKind};
 ghost use Rattle.test_discovery.specs.Tests.{class_tests as tests_of};
 
 use class_model::{Class, ClassId, Memory, Name, Seq};
+use class_order::{Links, Standing};
 use class_table::{ClassInfo, Consulted, LibClass, Loaded, Program, TableFault, Test};
 use std::alloc::Global;
 use std::sync::Arc;
@@ -21,10 +26,26 @@ pub fn build(
     library: Seq<LibClass>,
 ) -> Result<Program, TableFault>
     ensures classes { IfOk result (λ p. map (λ i. i.body) p ≡ bodies_of classes library) }
+    ensures program { OnOk result (AreProgram (bodies_of classes library)) }
     ensures distinct { OnOk result (AreDistinct (names_of classes library)) }
+    ensures meant { IfOk result (λ p. All IsInfo p) }
+    ensures looks { IfOk result (λ p. look p ≡ look_of (bodies_of classes library)) }
     ensures duplicate { (name : List ℕ) → result ≡ Err (Duplicate name) → IsLeastDuplicate (names_of classes library) name }
+    ensures missing { (name : List ℕ) → result ≡ Err (SuperMissing name) → IsFirstMissing (bodies_of classes library) name }
+    ensures cycle { (name : List ℕ) → result ≡ Err (SuperCycle name) → IsFirstCycle (bodies_of classes library) name }
+    ensures kind { (name : List ℕ) → result ≡ Err (SuperKind name) → IsFirstWrongKind (bodies_of classes library) name }
 {
     Program::build(alloc, classes, library)
+}
+
+/// `class_order::standings`
+pub fn standings(alloc: Global, links: &[Links]) -> Result<Vec<Standing, Global>, Memory>
+    requires within { AreWithin links.now (length links.now) }
+    requires few { length links.now < 2 ^ 32 }
+    ensures { IfOk result (λ found. AreStandings links.now found.items) }
+{
+    let found = class_order::standings(alloc, links)?;
+    Ok(found)
 }
 
 /// `Program::find`

@@ -240,14 +240,19 @@ fn replace_at_once<R: Threads + Sync>(
     path: &str,
     writers: &mut [Writer],
 ) {
-    thread::for_each_mut(rt, writers, 2, &|_, writer: &mut Writer| {
-        let mut tree = HostTree::new(files);
-        for _ in 0..20 {
-            if tree.replace(path, writer.text.as_bytes()).is_ok() {
-                writer.done = writer.done.saturating_add(1);
+    thread::for_each_mut(
+        rt,
+        writers,
+        2,
+        &|_, writer: &mut Writer| {
+            let mut tree = HostTree::new(files);
+            for _ in 0..20 {
+                if tree.replace(path, writer.text.as_bytes()).is_ok() {
+                    writer.done = writer.done.saturating_add(1);
+                }
             }
-        }
-    });
+        },
+    );
 }
 
 #[test]

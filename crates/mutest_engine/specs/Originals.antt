@@ -1,5 +1,5 @@
 -- The program of a suite, its tests, and their runs on the program as it is (this project's own).
-use Rattle.std.specs.Prelude.{◌≡◌, ℕ, ◌+◌, ◌<◌, nat_lt, slice_get, IsSomeAnd, MatchOption, List, [], ◌∷◌, ◌++◌, codes, map, fold, length, Option, Some, None, Result, Ok, Err, if◌then◌else◌}
+use Rattle.std.specs.Prelude.{◌≡◌, ℕ, ◌+◌, nat_lt, MatchOption, List, [], ◌∷◌, ◌++◌, codes, map, fold, length, Option, Some, None, Result, Ok, Err, if◌then◌else◌}
 use Rattle.std.specs.List.{flat_map}
 use Rattle.std.specs.BTreeMap.{insert_entry}
 use Rattle.std.specs.Ordering.{nat_cmp}
@@ -18,7 +18,7 @@ use Rattle.machine_rules.specs.Runs.{Ending, With, StuckAt, Ran}
 use Rattle.machine_so_far.specs.Runs.{run_so_far}
 use Rattle.class_link.specs.declared.loaded.Loaded.{Loaded}
 use Rattle.class_table.specs.declared.scripted.Test.{Test}
-use Rattle.class_link.specs.Info.{Info, own_name, body_name, link_body, class_of}
+use Rattle.class_link.specs.Info.{own_name}
 use Rattle.class_link.specs.Linking.{link}
 use Rattle.jvm_step.specs.View.{test_of}
 use Rattle.test_discovery.specs.Tests.{class_tests}
@@ -53,13 +53,6 @@ named c = (own_name c, link c)
 unfoldable pub program_of : List Class → Look
 program_of classes n =
     first_of (class_among (map named classes) n) (class_among library_so_far n)
-
--- A class of a program has the name and the meaning of what it was made of.
-abbrev pub IsOfBody : Info → Type 0
-IsOfBody i = (i.name ≡ body_name i.body) × (class_of i ≡ link_body i.body)
-
-abbrev pub AreOfBodies : List Info → Type 0
-AreOfBodies p = (id : ℕ) → id < length p → IsSomeAnd (slice_get p id) IsOfBody
 
 -- The names of the classes and of the library's.
 abbrev pub names_in : List Class → List Name

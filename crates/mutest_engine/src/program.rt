@@ -5,24 +5,14 @@ ghost use Rattle.class_table.specs.Table.{look};
 ghost use Rattle.mutest_engine.specs.Steps.{Refuses};
 ghost use Rattle.mutant_runs.specs.Programs.{files_of};
 ghost use Rattle.mutest_engine.specs.Mutation.{class_file, AreNumbered};
-ghost use Rattle.mutest_engine.specs.Originals.{classes_in, AreOfBodies, program_of, accepted, IsStopOf};
+ghost use Rattle.mutest_engine.specs.Originals.{classes_in, program_of, accepted, IsStopOf};
 
 use crate::refusal::{ProgramFault, Refusal};
 use crate::stop::Stop;
-use class_model::{ClassId, Seq};
+use class_model::Seq;
 use class_table::{Loaded, Program, TableFault};
 use jvm_step::library;
 use std::alloc::Global;
-
-// Each class has the name and the meaning of what it was made of.
-fn classes_of(program: &Program)
-    ensures { AreOfBodies program.now }
-{
-    for id in 0..program.len() as u32 {
-        let info = program.info(ClassId(id));
-        let _name = info.name();
-    }
-}
 
 // Why there is no program, by the table's fault.
 fn fault_stop(fault: TableFault) -> Stop
@@ -49,10 +39,7 @@ pub fn program_of(alloc: Global, classes: Seq<Loaded>) -> Result<Program, Stop>
 {
     let library = library(alloc)?;
     match Program::build(alloc, classes, library) {
-        Ok(program) => {
-            classes_of(&program);
-            Ok(program)
-        }
+        Ok(program) => Ok(program),
         Err(fault) => Err(fault_stop(fault)),
     }
 }

@@ -148,7 +148,13 @@ fn damaged_files_are_refused_at_their_place(rt: HostRuntime) -> Result<(), Fail>
 fn a_file_past_the_limit_is_refused_unread(rt: HostRuntime) -> Result<(), Fail> {
     // Reading it would fail.
     let bytes = vec![in rt.alloc(); 0u8; 4_194_305]?;
-    let told = called(rt.alloc(), &["list", "A.class"], bytes.as_slice(), &[1], &[])?;
+    let told = called(
+        rt.alloc(),
+        &["list", "A.class"],
+        bytes.as_slice(),
+        &[1],
+        &[],
+    )?;
     assert_eq!(rt; told.0, 12);
     assert_eq!(rt;
         told.1.as_slice(),

@@ -1,4 +1,4 @@
-use Rattle.std.proofs.Common.{◌≡◌, ◌∙◌, sym, ap, refl, length, Some}
+use Rattle.std.proofs.Common.{◌∙◌, sym, ap, refl, length, Some}
 use Rattle.std.specs.Arc.{arc_value}
 use Rattle.std.proofs.lemmas.Option.{slice_get_read}
 use Rattle.class_table.proofs.Leasts.{name_here}

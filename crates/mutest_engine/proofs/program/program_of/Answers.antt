@@ -6,7 +6,7 @@ use Rattle.mutest_engine.proofs.AcceptedLaws.{accepted_by, refused_as}
 use Rattle.mutest_engine.proofs.program.program_of.Goals as goal
 
 pub returns-in-Ok-clause-accepted : goal.returns-in-Ok-clause-accepted
-returns-in-Ok-clause-accepted c = accepted_by c.args.classes c.in_ok-library.library c.in_ok-library.ensures c.in-Ok.ensures.right
+returns-in-Ok-clause-accepted c = accepted_by c.args.classes c.in_ok-library.library c.in_ok-library.ensures c.in-Ok.ensures.program
 
 pub returns-in-Err-clause-refused : goal.returns-in-Err-clause-refused
 returns-in-Err-clause-refused c =
@@ -15,10 +15,10 @@ returns-in-Err-clause-refused c =
 
 pub returns-in-Ok-clause-program : goal.returns-in-Ok-clause-program
 returns-in-Ok-clause-program c =
-    is_program c.in-Ok.program c.args.classes c.in_ok-library.library c.classes_of.ensures c.in-Ok.ensures.classes c.in_ok-library.ensures
+    is_program c.in-Ok.program c.args.classes c.in_ok-library.library c.in-Ok.ensures.looks c.in_ok-library.ensures
 
 pub returns-in-Ok-clause-files : goal.returns-in-Ok-clause-files
-returns-in-Ok-clause-files c = are_files c.in-Ok.program c.args.classes c.in_ok-library.library c.classes_of.ensures c.in-Ok.ensures.classes
+returns-in-Ok-clause-files c = are_files c.in-Ok.program c.args.classes c.in_ok-library.library c.in-Ok.ensures.meant c.in-Ok.ensures.classes
 
 pub returns-in-Ok-clause-numbered : goal.returns-in-Ok-clause-numbered
 returns-in-Ok-clause-numbered c = numbered c.in-Ok.program c.args.classes c.in_ok-library.library c.in-Ok.ensures.classes

@@ -1,10 +1,42 @@
-use Rattle.std.proofs.Common.{◌≡◌, ◌∙◌, map, arith, subst}
-use Rattle.std.proofs.lemmas.Grind.{common_steps}
+use Rattle.std.proofs.Common.{◌≡◌, ◌∙◌, ap, map}
 use Rattle.std.specs.Arc.{arc_value}
-use Rattle.class_table.specs.Table.{names, names_of, IsLeastDuplicate}
+use Rattle.class_table.specs.Table.{look, bodies, bodies_of, IsLeastDuplicate}
+use Rattle.class_table.specs.Faults.{look_of, MissesFirst, CyclesFirst, IsWrongFirst, IsFaultless}
+use Rattle.class_table.proofs.Meant.{of_bodies, looks_meant}
 use Rattle.class_table.proofs.program.Program.build.Goals as goal
 
 pub returns-in-Err-clause-duplicate : goal.returns-in-Err-clause-duplicate
 returns-in-Err-clause-duplicate c = λ name e.
-    let same : names (map (λ i. arc_value i) c.in_ok-infos.infos.items) ≡ names_of c.args.classes c.args.library = grind (arith, common_steps) in
-    subst (λ ns. IsLeastDuplicate ns name) same (c.program_of.ensures.duplicate name (c.in-Err.is ∙ e))
+    let p = map (λ i. arc_value i) c.in_ok-infos.infos.items in
+    let of : bodies p ≡ bodies_of c.args.classes c.args.library = c.in_ok-infos.ensures.classes.0 ∙ ap (λ xs. bodies_of xs c.into_vec-2.result.items) c.into_vec.ensures ∙ ap (bodies_of c.args.classes) c.into_vec-2.ensures in
+    of_bodies p (bodies_of c.args.classes c.args.library) of c.in_ok-infos.ensures.meant (λ ns q. IsLeastDuplicate ns name) (c.program_of.ensures.duplicate name (c.in-Err.is ∙ e))
+
+pub returns-in-Err-clause-missing : goal.returns-in-Err-clause-missing
+returns-in-Err-clause-missing c = λ name e.
+    let p = map (λ i. arc_value i) c.in_ok-infos.infos.items in
+    let of : bodies p ≡ bodies_of c.args.classes c.args.library = c.in_ok-infos.ensures.classes.0 ∙ ap (λ xs. bodies_of xs c.into_vec-2.result.items) c.into_vec.ensures ∙ ap (bodies_of c.args.classes) c.into_vec-2.ensures in
+    of_bodies p (bodies_of c.args.classes c.args.library) of c.in_ok-infos.ensures.meant (λ ns q. MissesFirst ns q name) (c.program_of.ensures.missing name (c.in-Err.is ∙ e))
+
+pub returns-in-Err-clause-cycle : goal.returns-in-Err-clause-cycle
+returns-in-Err-clause-cycle c = λ name e.
+    let p = map (λ i. arc_value i) c.in_ok-infos.infos.items in
+    let of : bodies p ≡ bodies_of c.args.classes c.args.library = c.in_ok-infos.ensures.classes.0 ∙ ap (λ xs. bodies_of xs c.into_vec-2.result.items) c.into_vec.ensures ∙ ap (bodies_of c.args.classes) c.into_vec-2.ensures in
+    of_bodies p (bodies_of c.args.classes c.args.library) of c.in_ok-infos.ensures.meant (λ ns q. CyclesFirst ns q name) (c.program_of.ensures.cycle name (c.in-Err.is ∙ e))
+
+pub returns-in-Err-clause-kind : goal.returns-in-Err-clause-kind
+returns-in-Err-clause-kind c = λ name e.
+    let p = map (λ i. arc_value i) c.in_ok-infos.infos.items in
+    let of : bodies p ≡ bodies_of c.args.classes c.args.library = c.in_ok-infos.ensures.classes.0 ∙ ap (λ xs. bodies_of xs c.into_vec-2.result.items) c.into_vec.ensures ∙ ap (bodies_of c.args.classes) c.into_vec-2.ensures in
+    of_bodies p (bodies_of c.args.classes c.args.library) of c.in_ok-infos.ensures.meant (λ ns q. IsWrongFirst ns q name) (c.program_of.ensures.kind name (c.in-Err.is ∙ e))
+
+pub returns-in-Ok-clause-program : goal.returns-in-Ok-clause-program
+returns-in-Ok-clause-program c =
+    let p = map (λ i. arc_value i) c.in_ok-infos.infos.items in
+    let of : bodies p ≡ bodies_of c.args.classes c.args.library = c.in_ok-infos.ensures.classes.0 ∙ ap (λ xs. bodies_of xs c.into_vec-2.result.items) c.into_vec.ensures ∙ ap (bodies_of c.args.classes) c.into_vec-2.ensures in
+    of_bodies p (bodies_of c.args.classes c.args.library) of c.in_ok-infos.ensures.meant IsFaultless c.in-Ok.ensures.faultless
+
+pub returns-in-Ok-clause-looks : goal.returns-in-Ok-clause-looks
+returns-in-Ok-clause-looks c =
+    let p = map (λ i. arc_value i) c.in_ok-infos.infos.items in
+    let of : bodies p ≡ bodies_of c.args.classes c.args.library = c.in_ok-infos.ensures.classes.0 ∙ ap (λ xs. bodies_of xs c.into_vec-2.result.items) c.into_vec.ensures ∙ ap (bodies_of c.args.classes) c.into_vec-2.ensures in
+    ap look c.in-Ok.ensures.classes ∙ looks_meant p c.in_ok-infos.ensures.meant ∙ ap look_of of

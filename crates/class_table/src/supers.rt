@@ -1,0 +1,374 @@
+//! Whether the supers that a program's classes name are as they have to be, and their numbers.
+#![tactic(auto, unfolding(class_link::specs::View::linked_of))]
+
+ghost use Rattle.std.specs.Prelude.{◌≡◌, ◌<◌, ◌^◌, ◌++◌, length, map, is_none, not, ◌&&◌, IfOk, OnOk};
+ghost use Rattle.std.specs.List.{list_any};
+ghost use Rattle.std.specs.Option.{option_map, option_copied, option_to_list};
+ghost use Rattle.program_rules.specs.Names.{same, object_name};
+ghost use Rattle.program_rules.specs.Linked.{is_interface};
+ghost use Rattle.class_link.specs.Info.{class_of};
+ghost use Rattle.class_order.specs.Supers.{is_final, is_no_superclass, is_no_interface, is_wrong_superclass};
+ghost use Rattle.class_table.specs.Adding.{shared};
+ghost use Rattle.class_table.specs.Least.{IsLeastMarked};
+ghost use Rattle.class_table.specs.Numbers.{IsNumbering};
+ghost use Rattle.class_table.specs.Supers.{misses, names_wrong, numbers_known, IsLinked, AreLinks, is_cyclic};
+ghost use Rattle.class_table.specs.Table.{names, number_of, look};
+
+use crate::least::least_marked;
+use class_link::ClassInfo;
+use class_model::{Memory, Name};
+use class_order::{Links, Standing};
+use std::alloc::Global;
+use std::collections::HashMap;
+use std::sync::Arc;
+
+// Whether a name is a text of ASCII characters.
+fn is_text(name: &[u16], text: &[u8]) -> bool
+    ensures { result ≡ same name.now text.now }
+{
+    match (name, text) {
+        ([], []) => true,
+        ([unit, units @ ..], [byte, bytes @ ..]) => *unit == *byte as u16 && is_text(units, bytes),
+        ([], [_, ..]) => false,
+        ([_, ..], []) => false,
+    }
+}
+
+fn is_object(name: &Name) -> bool
+    ensures { result ≡ same name.now object_name }
+{
+    is_text(name.as_slice(), b"java/lang/Object")
+}
+
+// The class of a name, if there is one.
+fn class_named<'a>(
+    infos: &'a [Arc<ClassInfo, Global>],
+    numbers: &HashMap<Name, u32>,
+    name: &Name,
+) -> Option<&'a ClassInfo>
+    requires { IsNumbering numbers.now (shared infos.now) }
+    ensures { option_map class_of (option_copied result) ≡ look (shared infos.now) name.now }
+{
+    let number = *numbers.get(name)?;
+    Some(infos.get(number as usize)?)
+}
+
+// The access flags of the class of a name, if there is one.
+fn flags_of(
+    infos: &[Arc<ClassInfo, Global>],
+    numbers: &HashMap<Name, u32>,
+    name: &Name,
+) -> Option<u16>
+    requires { IsNumbering numbers.now (shared infos.now) }
+    ensures { result ≡ option_map (λ c. c.flags) (look (shared infos.now) name.now) }
+{
+    Some(class_named(infos, numbers, name)?.linked().flags)
+}
+
+// ---- a super that is missing
+
+fn is_absent(
+    infos: &[Arc<ClassInfo, Global>],
+    numbers: &HashMap<Name, u32>,
+    name: &Name,
+) -> bool
+    requires { IsNumbering numbers.now (shared infos.now) }
+    ensures { result ≡ is_none (look (shared infos.now) name.now) }
+{
+    flags_of(infos, numbers, name).is_none()
+}
+
+fn is_any_absent(
+    infos: &[Arc<ClassInfo, Global>],
+    numbers: &HashMap<Name, u32>,
+    names: &[Name],
+) -> bool
+    requires { IsNumbering numbers.now (shared infos.now) }
+    ensures { result ≡ list_any (λ m. is_none (look (shared infos.now) m)) names.now }
+{
+    for name in names {
+        if is_absent(infos, numbers, name) {
+            return true;
+        }
+    }
+    false
+}
+
+// Whether a class misses its superclass or an interface.
+fn misses(
+    infos: &[Arc<ClassInfo, Global>],
+    numbers: &HashMap<Name, u32>,
+    info: &ClassInfo,
+) -> bool
+    requires { IsNumbering numbers.now (shared infos.now) }
+    ensures { result ≡ misses (shared infos.now) info.now }
+{
+    let linked = info.linked();
+    match &linked.parent {
+        Some(parent) => {
+            is_absent(infos, numbers, parent)
+                || is_any_absent(infos, numbers, linked.interfaces.as_slice())
+        }
+        None => {
+            !is_object(info.name()) || is_any_absent(infos, numbers, linked.interfaces.as_slice())
+        }
+    }
+}
+
+/// The least name of a class that misses a super.
+pub fn least_missing(
+    alloc: Global,
+    infos: &[Arc<ClassInfo, Global>],
+    numbers: &HashMap<Name, u32>,
+) -> Result<Option<Name>, Memory>
+    requires { IsNumbering numbers.now (shared infos.now) }
+    ensures { IfOk result (λ n. IsLeastMarked (names (shared infos.now)) (map (misses (shared infos.now)) (shared infos.now)) n) }
+{
+    let marks = missing_marks(alloc, infos, numbers)?;
+    Ok(least_marked(alloc, infos, marks.as_slice())?)
+}
+
+fn missing_marks(
+    alloc: Global,
+    infos: &[Arc<ClassInfo, Global>],
+    numbers: &HashMap<Name, u32>,
+) -> Result<Vec<bool, Global>, Memory>
+    requires { IsNumbering numbers.now (shared infos.now) }
+    ensures { IfOk result (λ marks. marks.items ≡ map (misses (shared infos.now)) (shared infos.now)) }
+{
+    let mut marks = Vec::with_capacity(alloc, infos.len())?;
+    for info in infos {
+        marks.push(misses(infos, numbers, info))?;
+    }
+    Ok(marks)
+}
+
+// ---- supers by number
+
+fn push_known(known: &mut Vec<u32, Global>, number: Option<u32>) -> Result<(), Memory>
+    ensures { OnOk result (known.new.items ≡ known.old.items ++ option_to_list number) }
+{
+    if let Some(number) = number {
+        known.push(number)?;
+    }
+    Ok(())
+}
+
+fn number_of(
+    infos: &[Arc<ClassInfo, Global>],
+    numbers: &HashMap<Name, u32>,
+    name: &Name,
+) -> Option<u32>
+    requires { IsNumbering numbers.now (shared infos.now) }
+    ensures { result ≡ number_of (shared infos.now) name.now }
+{
+    numbers.get(name).copied()
+}
+
+fn numbers_known(
+    alloc: Global,
+    infos: &[Arc<ClassInfo, Global>],
+    numbers: &HashMap<Name, u32>,
+    names: &[Name],
+) -> Result<Vec<u32, Global>, Memory>
+    requires { IsNumbering numbers.now (shared infos.now) }
+    ensures { IfOk result (λ known. known.items ≡ numbers_known (shared infos.now) names.now) }
+{
+    let mut known = Vec::with_capacity(alloc, names.len())?;
+    for name in names {
+        push_known(&mut known, number_of(infos, numbers, name))?;
+    }
+    Ok(known)
+}
+
+// What a class names as its supers, by number.
+fn links_of(
+    alloc: Global,
+    infos: &[Arc<ClassInfo, Global>],
+    numbers: &HashMap<Name, u32>,
+    info: &ClassInfo,
+) -> Result<Links, Memory>
+    requires { IsNumbering numbers.now (shared infos.now) }
+    ensures { IfOk result (IsLinked (shared infos.now) info.now) }
+{
+    let linked = info.linked();
+    let parent = match &linked.parent {
+        Some(parent) => number_of(infos, numbers, parent),
+        None => None,
+    };
+    let interfaces = numbers_known(alloc, infos, numbers, linked.interfaces.as_slice())?;
+    Ok(Links { parent, interfaces })
+}
+
+/// What each class names as its supers, by number.
+pub fn all_links(
+    alloc: Global,
+    infos: &[Arc<ClassInfo, Global>],
+    numbers: &HashMap<Name, u32>,
+) -> Result<Vec<Links, Global>, Memory>
+    requires { IsNumbering numbers.now (shared infos.now) }
+    ensures { IfOk result (λ g. AreLinks (shared infos.now) g.items) }
+{
+    let mut all = Vec::with_capacity(alloc, infos.len())?;
+    for info in infos {
+        all.push(links_of(alloc, infos, numbers, info)?)?;
+    }
+    Ok(all)
+}
+
+// ---- a class above itself
+
+fn is_cyclic(standing: &Standing) -> bool
+    ensures { result ≡ is_cyclic standing.now }
+{
+    match standing {
+        Standing::Cyclic => true,
+        _ => false,
+    }
+}
+
+fn cyclic_marks(alloc: Global, found: &[Standing]) -> Result<Vec<bool, Global>, Memory>
+    ensures { IfOk result (λ marks. marks.items ≡ map is_cyclic found.now) }
+{
+    let mut marks = Vec::with_capacity(alloc, found.len())?;
+    for standing in found {
+        marks.push(is_cyclic(standing))?;
+    }
+    Ok(marks)
+}
+
+/// The least name of a class above itself.
+pub fn least_cyclic(
+    alloc: Global,
+    infos: &[Arc<ClassInfo, Global>],
+    found: &[Standing],
+) -> Result<Option<Name>, Memory>
+    ensures { IfOk result (λ n. IsLeastMarked (names (shared infos.now)) (map is_cyclic found.now) n) }
+{
+    let marks = cyclic_marks(alloc, found)?;
+    Ok(least_marked(alloc, infos, marks.as_slice())?)
+}
+
+// ---- a super of a wrong kind
+
+// Bit 4 is ACC_FINAL (JVMS 4.1).
+fn is_final(flags: u16) -> bool
+    ensures { result ≡ is_final flags }
+{
+    flags / 16 % 2 == 1
+}
+
+// Bit 9 is ACC_INTERFACE (JVMS 4.1).
+fn is_interface(flags: u16) -> bool
+    ensures { result ≡ is_interface flags }
+{
+    flags / 512 % 2 == 1
+}
+
+fn is_no_superclass(
+    infos: &[Arc<ClassInfo, Global>],
+    numbers: &HashMap<Name, u32>,
+    name: &Name,
+) -> bool
+    requires { IsNumbering numbers.now (shared infos.now) }
+    ensures { result ≡ is_no_superclass (look (shared infos.now) name.now) }
+{
+    match class_named(infos, numbers, name) {
+        Some(info) => {
+            let flags = info.linked().flags;
+            is_final(flags) || is_interface(flags)
+        }
+        None => false,
+    }
+}
+
+fn is_no_interface(
+    infos: &[Arc<ClassInfo, Global>],
+    numbers: &HashMap<Name, u32>,
+    name: &Name,
+) -> bool
+    requires { IsNumbering numbers.now (shared infos.now) }
+    ensures { result ≡ is_no_interface (look (shared infos.now) name.now) }
+{
+    match class_named(infos, numbers, name) {
+        Some(info) => !is_interface(info.linked().flags),
+        None => false,
+    }
+}
+
+fn is_any_no_interface(
+    infos: &[Arc<ClassInfo, Global>],
+    numbers: &HashMap<Name, u32>,
+    names: &[Name],
+) -> bool
+    requires { IsNumbering numbers.now (shared infos.now) }
+    ensures { result ≡ list_any (λ m. is_no_interface (look (shared infos.now) m)) names.now }
+{
+    for name in names {
+        if is_no_interface(infos, numbers, name) {
+            return true;
+        }
+    }
+    false
+}
+
+// Whether a class can't have this superclass.
+fn is_wrong_superclass(
+    infos: &[Arc<ClassInfo, Global>],
+    numbers: &HashMap<Name, u32>,
+    info: &ClassInfo,
+    name: &Name,
+) -> bool
+    requires { IsNumbering numbers.now (shared infos.now) }
+    ensures { result ≡ is_wrong_superclass (look (shared infos.now)) (class_of info.now) name.now }
+{
+    is_no_superclass(infos, numbers, name)
+        || (is_interface(info.linked().flags) && !is_object(name))
+}
+
+// Whether a class names a super of a wrong kind.
+fn names_wrong(
+    infos: &[Arc<ClassInfo, Global>],
+    numbers: &HashMap<Name, u32>,
+    info: &ClassInfo,
+) -> bool
+    requires { IsNumbering numbers.now (shared infos.now) }
+    ensures { result ≡ names_wrong (shared infos.now) info.now }
+{
+    let linked = info.linked();
+    match &linked.parent {
+        Some(parent) => {
+            is_wrong_superclass(infos, numbers, info, parent)
+                || is_any_no_interface(infos, numbers, linked.interfaces.as_slice())
+        }
+        None => is_any_no_interface(infos, numbers, linked.interfaces.as_slice()),
+    }
+}
+
+fn wrong_marks(
+    alloc: Global,
+    infos: &[Arc<ClassInfo, Global>],
+    numbers: &HashMap<Name, u32>,
+) -> Result<Vec<bool, Global>, Memory>
+    requires { IsNumbering numbers.now (shared infos.now) }
+    ensures { IfOk result (λ marks. marks.items ≡ map (names_wrong (shared infos.now)) (shared infos.now)) }
+{
+    let mut marks = Vec::with_capacity(alloc, infos.len())?;
+    for info in infos {
+        marks.push(names_wrong(infos, numbers, info))?;
+    }
+    Ok(marks)
+}
+
+/// The least name of a class that names a super of a wrong kind.
+pub fn least_wrong(
+    alloc: Global,
+    infos: &[Arc<ClassInfo, Global>],
+    numbers: &HashMap<Name, u32>,
+) -> Result<Option<Name>, Memory>
+    requires { IsNumbering numbers.now (shared infos.now) }
+    ensures { IfOk result (λ n. IsLeastMarked (names (shared infos.now)) (map (names_wrong (shared infos.now)) (shared infos.now)) n) }
+{
+    let marks = wrong_marks(alloc, infos, numbers)?;
+    Ok(least_marked(alloc, infos, marks.as_slice())?)
+}
