@@ -1,19 +1,14 @@
 -- Whether the classes of a suite are a program, by the fault that the table of classes finds.
-use Rattle.std.proofs.Common.{◌≡◌, ◌∙◌, List, length, map, Result, Ok, Err, refl, sym, ap, subst}
-use Rattle.class_model.specs.declared.class.Class.{Class}
+use Rattle.std.proofs.Common.{◌≡◌, ◌∙◌, List, map, Result, Ok, Err, refl, sym, ap, subst}
 use Rattle.program_rules.specs.Names.{Name}
-use Rattle.program_rules.specs.Linked.{Linked}
-use Rattle.program_rules.specs.Programs.{Look}
 use Rattle.machine_so_far.specs.Library.{library_so_far}
 use Rattle.class_link.specs.declared.loaded.Loaded.{Loaded}
 use Rattle.class_link.specs.declared.loaded.LibClass.{LibClass}
-use Rattle.class_link.specs.Info.{body_name}
 use Rattle.class_link.specs.Linking.{link_library}
 use Rattle.class_table.specs.Faults.{look_of, AreProgram, IsFirstMissing, IsFirstCycle, IsFirstWrongKind}
 use Rattle.class_table.specs.Table.{AreDistinct, IsLeastDuplicate, bodies_of, names_of}
 use Rattle.class_table.specs.declared.fault.TableFault.{TableFault}
 use Rattle.class_table.specs.declared.fault.TableFault.TheVariants as fault
-use Rattle.mutest_engine.specs.Duplicates.{duplicate_in}
 use Rattle.mutest_engine.specs.Originals.{classes_in, names_in, program_of, accepted, IsStopOf}
 use Rattle.mutest_engine.specs.Steps.{and_then, Refuses}
 use Rattle.mutest_engine.specs.Supers.{unless_found, right_supers}

@@ -1,11 +1,11 @@
 -- Which classes stand above themselves, found within as many levels as there are classes, and the least name with a fault.
 use Rattle.std.proofs.Common.{◌≡◌, ◌⊎◌, ◌∙◌, ℕ, zero, suc, ◌+◌, ◌-◌, ◌≤◌, Bool, true, false, cond, List, [], ◌∷◌, length, map, Option, Some, None, slice_get, refl, sym, ap, subst, arith, inl, inr, ⊎_elim}
-use Rattle.std.specs.Prelude.{IsTrue, ◌||◌, filter, option_and_then, Result, Ok, Err}
+use Rattle.std.specs.Prelude.{IsTrue, ◌||◌, filter, option_and_then, Ok, Err}
 use Rattle.std.specs.Option.{option_map}
 use Rattle.std.specs.List.{list_any}
 use Rattle.std.specs.Cmp.Lexicographic.{same_text, bytes_decides}
 use Rattle.program_rules.specs.Names.{Name, same, is_listed}
-use Rattle.program_rules.specs.Linked.{Linked, parents_of}
+use Rattle.program_rules.specs.Linked.{parents_of}
 use Rattle.program_rules.specs.Programs.{Look}
 use Rattle.class_order.specs.Supers.{is_super_missing, is_super_of_wrong_kind, IsBelow, next, further, IsOwnSuper, IsLeastWith}
 use Rattle.class_link.specs.declared.loaded.ClassBody.{ClassBody}
@@ -17,9 +17,8 @@ use Rattle.mutest_engine.specs.Supers.{is_above, is_own_super, least_with, unles
 use Rattle.mutest_engine.specs.Steps.{and_then}
 use Rattle.mutest_engine.specs.declared.refusal.ProgramFault.{ProgramFault}
 use Rattle.mutest_engine.specs.declared.refusal.ProgramFault.TheVariants.{SuperMissing, SuperCycle, SuperKind}
-use Rattle.mutest_engine.specs.declared.refusal.Refusal.{Refusal}
 use Rattle.mutest_engine.specs.declared.refusal.Refusal.TheVariants.{BadProgram}
-use Rattle.mutest_engine.proofs.DuplicateLaws.{In, or_case, or_left, or_right, any_in, in_any, nothing_in, Le, least_is}
+use Rattle.mutest_engine.proofs.DuplicateLaws.{In, or_case, or_left, or_right, any_in, in_any, least_is}
 
 -- ---- names among names
 

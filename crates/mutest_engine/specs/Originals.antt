@@ -1,5 +1,5 @@
 -- The program of a suite, its tests, and their runs on the program as it is (this project's own).
-use Rattle.std.specs.Prelude.{◌≡◌, ℕ, ◌+◌, nat_lt, MatchOption, List, [], ◌∷◌, ◌++◌, codes, map, fold, length, Option, Some, None, Result, Ok, Err, if◌then◌else◌}
+use Rattle.std.specs.Prelude.{◌≡◌, ℕ, ◌+◌, nat_lt, MatchOption, List, [], ◌∷◌, ◌++◌, codes, map, fold, Option, Some, None, Result, Ok, Err, if◌then◌else◌}
 use Rattle.std.specs.List.{flat_map}
 use Rattle.std.specs.BTreeMap.{insert_entry}
 use Rattle.std.specs.Ordering.{nat_cmp}
