@@ -1,10 +1,6 @@
 -- Each mutant of a suite's classes has an edit that its class takes.
 use Rattle.std.proofs.Common.{◌≡◌, ◌∙◌, ℕ, ◌+◌, Bool, true, false, List, [], ◌∷◌, ◌++◌, map, Option, Some, None, Ok, refl, sym, ap, subst}
-<<<<<<< HEAD
-use Rattle.std.specs.Prelude.{All, IfSome, if◌then◌else◌, ◌||◌, Result, Err}
-=======
-use Rattle.std.specs.Prelude.{All, IfSome, if◌then◌else◌, ◌||◌, unwrap_or, Result}
->>>>>>> ENG-e
+use Rattle.std.specs.Prelude.{All, IfSome, if◌then◌else◌, ◌||◌, Result}
 use Rattle.std.specs.List.{AllByRecursion, list_any, flat_map, fold}
 use Rattle.std.specs.declared.cmp.Ordering.{Ordering}
 use Rattle.std.specs.declared.cmp.Ordering.TheVariants.{Less, Equal, Greater}

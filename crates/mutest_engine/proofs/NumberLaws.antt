@@ -1,17 +1,15 @@
 -- The class files of a program by their numbers: those of a suite's classes folder are the first.
-use Rattle.std.proofs.Common.{◌≡◌, ◌∙◌, ℕ, zero, suc, ◌+◌, ◌<◌, ◌≤◌, List, [], ◌∷◌, ◌++◌, length, map, drop, Option, None, Some, slice_get, refl, sym, ap, subst, arith}
+use Rattle.std.proofs.Common.{◌≡◌, ◌∙◌, ℕ, zero, suc, ◌+◌, ◌<◌, ◌≤◌, List, [], ◌∷◌, ◌++◌, length, map, drop, Option, Some, slice_get, refl, ap, arith}
 use Rattle.std.specs.Prelude.{option_and_then, filter_map}
 use Rattle.std.specs.List.{cons_option}
 use Rattle.class_model.specs.declared.class.Class.{Class}
 use Rattle.class_model.specs.declared.class.ClassId.{ClassId}
 use Rattle.class_link.specs.declared.loaded.Loaded.{Loaded}
 use Rattle.class_link.specs.declared.loaded.LibClass.{LibClass}
-use Rattle.class_link.specs.declared.loaded.ClassBody.{ClassBody}
 use Rattle.class_link.specs.declared.loaded.ClassBody.TheVariants as body
 use Rattle.class_link.specs.Info.{Info, file_in}
 use Rattle.class_table.specs.Table.{bodies_of}
 use Rattle.mutator_ops.specs.Programs.{file_at, files_among, mutants_among, mutants}
-use Rattle.mutator_ops.specs.declared.mutant.Mutant.{Mutant}
 use Rattle.mutest_engine.specs.Originals.{classes_in}
 use Rattle.mutest_engine.specs.Mutation.{numbers_from, numbers_of, AreNumbered}
 use Rattle.mutest_engine.proofs.FileLaws.{file_by}
