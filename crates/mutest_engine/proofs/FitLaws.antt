@@ -9,6 +9,7 @@ use Rattle.std.specs.Cmp.Lexicographic.{slice_cmp, bytes_decides}
 use Rattle.std.specs.BTreeMap.{insert_entry}
 use Rattle.std.proofs.lemmas.List.Elements.{All-from_recursion, recursion_from_All}
 use Rattle.class_model.specs.declared.class.Class.{Class}
+use Rattle.class_model.specs.declared.constant.Const.{Const}
 use Rattle.class_model.specs.declared.class.Member.{Member}
 use Rattle.class_model.specs.declared.attribute.Code.{Code, out-Code}
 use Rattle.class_model.specs.declared.instruction.Insn.{Insn}
@@ -17,7 +18,7 @@ use Rattle.class_writer.specs.Writing.{HasClassForm}
 use Rattle.program_rules.specs.Names.{Name, same}
 use Rattle.class_link.specs.declared.loaded.Loaded.{Loaded}
 use Rattle.class_link.specs.Info.{own_name}
-use Rattle.mutator_ops.specs.Mutants.{Place, place_of, mutant_by, mutants_by, mutants_from, code_mutants, code_of, is_synthetic, is_left_out, method_mutants, methods_mutants, class_mutants}
+use Rattle.mutator_ops.specs.Mutants.{Place, place_in, mutant_by, mutants_by, mutants_from, code_mutants, code_of, is_synthetic, is_left_out, method_mutants, methods_mutants, class_mutants}
 use Rattle.mutator_ops.specs.Programs.{in_order, mutants_by_name, mutants_among}
 use Rattle.mutator_ops.specs.Table.{mutators, row}
 use Rattle.mutator_ops.specs.declared.change.Change.{Change}
@@ -103,23 +104,23 @@ mutants_name place at [] = tt
 mutants_name place at (insn ∷ insns) =
     appended (Names place.class) (mutants_by mutators place at insn) (mutants_from place (at + 1) insns) (by_rows mutators place at insn) (mutants_name place (at + 1) insns)
 
-code_name : (class : Class) (number : ℕ) (member : Member) (code : Option Code) → AllByRecursion (Names (own_name class)) (code_mutants class number member code)
-code_name class number member None = tt
-code_name class number member (Some code) = mutants_name (place_of class number member code) 0 (out-Code code).insns
+code_name : (pool : List Const) (class : Name) (number : ℕ) (member : Member) (code : Option Code) → AllByRecursion (Names class) (code_mutants class pool number member code)
+code_name pool class number member None = tt
+code_name pool class number member (Some code) = mutants_name (place_in class pool number member code) 0 (out-Code code).insns
 
 unless_left_out : (b : Bool) (n : Name) (ms : List Mutant) → AllByRecursion (Names n) ms → AllByRecursion (Names n) (if b then [] else ms)
 unless_left_out true n ms p = tt
 unless_left_out false n ms p = p
 
-methods_name : (class : Class) (number : ℕ) (members : List Member) → AllByRecursion (Names (own_name class)) (methods_mutants class number members)
-methods_name class number [] = tt
-methods_name class number (member ∷ members) =
-    appended (Names (own_name class)) (method_mutants class number member) (methods_mutants class (number + 1) members)
-    (unless_left_out (is_left_out member.flags) (own_name class) (code_mutants class number member (code_of member.attrs)) (code_name class number member (code_of member.attrs)))
-    (methods_name class (number + 1) members)
+methods_name : (pool : List Const) (class : Name) (number : ℕ) (members : List Member) → AllByRecursion (Names class) (methods_mutants class pool number members)
+methods_name pool class number [] = tt
+methods_name pool class number (member ∷ members) =
+    appended (Names class) (method_mutants class pool number member) (methods_mutants class pool (number + 1) members)
+    (unless_left_out (is_left_out member.flags) class (code_mutants class pool number member (code_of member.attrs)) (code_name pool class number member (code_of member.attrs)))
+    (methods_name pool class (number + 1) members)
 
 own_mutants : (c : Class) → AllByRecursion (Names (own_name c)) (class_mutants c)
-own_mutants c = unless_left_out (is_synthetic c.flags) (own_name c) (methods_mutants c 0 c.methods) (methods_name c 0 c.methods)
+own_mutants c = unless_left_out (is_synthetic c.flags) (own_name c) (methods_mutants (own_name c) c.pool 0 c.methods) (methods_name c.pool (own_name c) 0 c.methods)
 
 -- ---- the class of a name
 

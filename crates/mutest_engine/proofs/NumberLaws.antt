@@ -1,5 +1,5 @@
 -- The class files of a program by their numbers: those of a suite's classes folder are the first.
-use Rattle.std.proofs.Common.{◌≡◌, ◌∙◌, ℕ, zero, suc, ◌+◌, ◌<◌, ◌≤◌, List, [], ◌∷◌, ◌++◌, length, map, drop, Option, Some, slice_get, refl, ap, arith}
+use Rattle.std.proofs.Common.{◌≡◌, ◌∙◌, ℕ, zero, suc, ◌+◌, ◌<◌, ◌≤◌, List, [], ◌∷◌, ◌++◌, length, map, drop, Option, Some, slice_get, refl, sym, ap, arith}
 use Rattle.std.specs.Prelude.{option_and_then, filter_map}
 use Rattle.std.specs.List.{cons_option}
 use Rattle.class_model.specs.declared.class.Class.{Class}
@@ -19,6 +19,17 @@ use Rattle.mutest_engine.proofs.FileLaws.{file_by}
 pub one_more : (k n : ℕ) → numbers_from k (suc n) ≡ numbers_from k n ++ (k + n) ∷ []
 one_more k zero = let e : k ≡ k + 0 = omega arith in ap (λ j. j ∷ []) e
 one_more k (suc n) = let e : suc k + n ≡ k + suc n = omega arith in ap (λ l. k ∷ l) (one_more (suc k) n ∙ ap (λ j. numbers_from (suc k) n ++ j ∷ []) e)
+
+one_behind : (ids : List ClassId) (id : ClassId) → numbers_of (ids ++ id ∷ []) ≡ numbers_of ids ++ id.0 ∷ []
+one_behind [] id = refl
+one_behind (x ∷ xs) id = ap (λ l. x.0 ∷ l) (one_behind xs id)
+
+-- one more number was put
+pub pushed : (old new : List ClassId) (id : ClassId) (n : ℕ) → new ≡ old ++ id ∷ [] → id.0 ≡ n → numbers_of old ≡ numbers_from 0 n → numbers_of new ≡ numbers_from 0 (n + 1)
+pushed old new id n e at h =
+    let up : n + 1 ≡ suc n = omega arith in
+    let here : 0 + n ≡ n = omega arith in
+    ap numbers_of e ∙ one_behind old id ∙ ap (λ l. l ++ id.0 ∷ []) h ∙ ap (λ j. numbers_from 0 n ++ j ∷ []) (at ∙ sym here) ∙ sym (one_more 0 n) ∙ sym (ap (numbers_from 0) up)
 
 -- ---- a program's class files
 
