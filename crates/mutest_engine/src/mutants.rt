@@ -23,11 +23,7 @@ fn first_numbers(alloc: Global, count: u32) -> Result<Seq<ClassId>, Memory>
 }
 
 /// The mutants of so many class files of a program, from the first on.
-pub fn first_mutants(
-    alloc: Global,
-    program: &Program,
-    count: usize,
-) -> Result<Seq<Mutant>, Memory>
+pub fn first_mutants(alloc: Global, program: &Program, count: usize) -> Result<Seq<Mutant>, Memory>
     requires { count ≤ length program.now }
     ensures { IfOk result (AreFirstMutants program.now count) }
 {
