@@ -1,10 +1,10 @@
 -- A tree of files: a map from paths to contents, both lists of bytes, with the paths in byte order. This project's own.
-use Rattle.std.specs.Prelude.{ℕ, List, [], ◌∷◌, ◌++◌, Bool, filter}
+use Rattle.std.specs.Prelude.{ℕ, List, [], ◌∷◌, ◌++◌, Bool, filter, length, Option, option_map}
 use Rattle.std.specs.Bool.{nat_eq}
 use Rattle.std.specs.Ordering.{nat_cmp}
 use Rattle.std.specs.Cmp.Lexicographic.{slice_cmp}
 use Rattle.std.specs.List.{starts_with}
-use Rattle.std.specs.FinMap.{FinMap, keys}
+use Rattle.std.specs.FinMap.{FinMap, keys, get}
 
 abbrev pub Files : Type 0
 Files = FinMap (slice_cmp nat_cmp) (List ℕ)
@@ -19,3 +19,7 @@ slash = 47
 -- the paths below a folder, in byte order
 abbrev pub listed : List ℕ → Files → List (List ℕ)
 listed folder files = filter (begins_with (folder ++ slash ∷ [])) (keys files)
+
+-- how many bytes a path holds, if it is held
+abbrev pub length_at : List ℕ → Files → Option ℕ
+length_at path files = option_map length (get files path)

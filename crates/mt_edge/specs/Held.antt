@@ -24,6 +24,10 @@ pub record Script : Type 0 where
   pub call : ℕ
   pub failing : List ℕ
 
+-- no call was made yet
+abbrev pub first_call : List ℕ → Script
+first_call failing = record { call = 0; failing = failing }
+
 -- the next call is to fail
 abbrev pub fails : Script → Bool
 fails s = list_any (λ n. n == s.call) s.failing

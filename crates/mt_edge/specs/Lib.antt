@@ -1,3 +1,4 @@
+pub mod Answered
 pub mod Causes
 pub mod Files
 pub mod Held

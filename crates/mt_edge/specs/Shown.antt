@@ -1,5 +1,5 @@
 -- What a contract sees of the sink and the tree in memory.
-use Rattle.std.specs.Prelude.{ℕ, List}
+use Rattle.std.specs.Prelude.{ℕ, List, Option, Some}
 use Rattle.mt_edge.specs.Files.{Files}
 use Rattle.mt_edge.specs.Held.{Script, files_of}
 use Rattle.mt_edge.specs.declared.mem_sink.MemSink.{MemSink}
@@ -18,6 +18,13 @@ sink_faults s = s.faults
 -- the files that are held
 abbrev pub tree_files : MemTree → Files
 tree_files t = files_of t.files
+
+-- A tree and a sink in memory tell what they hold.
+abbrev pub told : MemTree → Option Files
+told t = Some (tree_files t)
+
+abbrev pub told_bytes : MemSink → Option (List ℕ)
+told_bytes s = Some (sink_bytes s)
 
 abbrev pub tree_script : MemTree → Script
 tree_script t = t.script

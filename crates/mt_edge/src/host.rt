@@ -47,6 +47,16 @@ fn counted<T: Drop>(count: &mut u64, outcome: io::Result<T>) -> Result<T, EdgeFa
     }
 }
 
+// What is no regular file, as a pipe, tells no length: it is read as it comes.
+fn length_if_there<R: Files + AllocGlobal>(rt: &R, path: &str) -> io::Result<Option<u64>> {
+    match fs::metadata(rt, path) {
+        Ok(about) if about.is_file() => Ok(Some(about.len())),
+        Ok(_) => Ok(Some(0)),
+        Err(error) if is_absent(&error) => Ok(None),
+        Err(error) => Err(error),
+    }
+}
+
 fn read_if_there<R: Files + AllocGlobal>(rt: &R, path: &str) -> io::Result<Option<Bytes>> {
     match fs::read(rt, path) {
         Ok(items) => Ok(Some(Bytes::from_vec(items))),
@@ -65,6 +75,11 @@ impl<'a, R: Files + AllocGlobal> Tree for HostTree<'a, R> {
     fn list(&mut self, folder: &str) -> Result<Vec<String>, EdgeFault> {
         let listed = files_below(self.rt, folder);
         counted(&mut self.reading, listed)
+    }
+
+    fn length(&mut self, path: &str) -> Result<Option<u64>, EdgeFault> {
+        let length = length_if_there(self.rt, path);
+        counted(&mut self.reading, length)
     }
 
     fn read(&mut self, path: &str) -> Result<Option<Bytes>, EdgeFault> {

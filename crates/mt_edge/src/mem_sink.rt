@@ -1,6 +1,6 @@
-ghost use Rattle.std.specs.Prelude.{◌≡◌, ◌+◌, ◌-◌, ◌^◌, ◌++◌, ◌↔◌, Some, [], min, IsErrOf, IsTrue, OnOk, OnErr, IfOk};
+ghost use Rattle.std.specs.Prelude.{◌≡◌, ◌↔◌, [], IsErrOf, IsTrue, OnOk, OnErr};
 ghost use Rattle.mt_edge.specs.Causes.{HasCause};
-ghost use Rattle.mt_edge.specs.Held.{fails, after_call};
+ghost use Rattle.mt_edge.specs.Held.{fails, first_call, after_call};
 ghost use Rattle.mt_edge.specs.Pieces.{Grows, GrowsBy};
 ghost use Rattle.mt_edge.specs.declared.outside.EdgeFault.TheVariants.{Failed};
 
@@ -23,7 +23,7 @@ impl MemSink {
     /// An empty sink. `failing` has the numbers of the calls, counted from 0, that are to fail.
     pub fn new(alloc: Global, failing: Vec<u64>) -> MemSink
         ensures empty { sink_bytes result ≡ [] }
-        ensures script { sink_script result ≡ record { call = 0; failing = failing.items } }
+        ensures script { sink_script result ≡ first_call failing.items }
     {
         MemSink {
             bytes: Bytes::new(alloc),
@@ -41,15 +41,15 @@ impl MemSink {
 }
 
 impl Sink for MemSink {
-    ghost use Rattle.mt_edge.specs.Shown.{sink_bytes, sink_script, sink_faults};
+    ghost use Rattle.mt_edge.specs.Shown.{told_bytes, sink_script, sink_faults};
 
-    ghost written = { λ s. Some (sink_bytes s) };
+    ghost written = { λ s. told_bytes s };
 
     ghost faults = { λ s. sink_faults s };
 
     fn put(&mut self, bytes: &[u8]) -> Result<(), EdgeFault>
-        ensures ok { OnOk result (Grows (Some (sink_bytes self.old)) (Some (sink_bytes self.new)) bytes.now) }
-        ensures err { OnErr result (GrowsBy (Some (sink_bytes self.old)) (Some (sink_bytes self.new)) bytes.now) }
+        ensures ok { OnOk result (Grows (told_bytes self.old) (told_bytes self.new) bytes.now) }
+        ensures err { OnErr result (GrowsBy (told_bytes self.old) (told_bytes self.new) bytes.now) }
         ensures cause { HasCause (sink_faults self.old) (sink_faults self.new) result }
         ensures told { IsErrOf result Failed ↔ IsTrue (fails (sink_script self.old)) }
         ensures counted { sink_script self.new ≡ after_call (sink_script self.old) }

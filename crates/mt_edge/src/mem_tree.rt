@@ -1,8 +1,9 @@
-ghost use Rattle.std.specs.Prelude.{◌≡◌, ◌≢◌, ◌⊎◌, ◌↔◌, ◌++◌, ◌∷◌, [], Some, IfOk, IfSome, OnOk, OnErr, IsErrOf, IsTrue, None, map, filter, string_bytes, MatchOption};
-ghost use Rattle.std.specs.FinMap.{get, insert, keys};
+ghost use Rattle.std.specs.Prelude.{◌≡◌, ◌↔◌, ◌++◌, ◌∷◌, [], IfOk, OnOk, OnErr, IsErrOf, IsTrue, string_bytes};
+ghost use Rattle.std.specs.FinMap.{get};
+ghost use Rattle.mt_edge.specs.Answered.{ListsBelow, TellsLength, ReadsAt, IsReplaced, OldOrReplaced, NamesWith, LendsAt};
 ghost use Rattle.mt_edge.specs.Causes.{HasCause};
-ghost use Rattle.mt_edge.specs.Files.{begins_with, listed, slash};
-ghost use Rattle.mt_edge.specs.Held.{files_of, files_in, fails, after_call};
+ghost use Rattle.mt_edge.specs.Files.{length_at, slash};
+ghost use Rattle.mt_edge.specs.Held.{files_of, files_in, fails, first_call, after_call};
 ghost use Rattle.mt_edge.specs.declared.outside.EdgeFault.TheVariants.{Failed};
 
 use crate::outside::{EdgeFault, Tree};
@@ -27,7 +28,7 @@ fn names(
     files: &BTreeMap<String, Bytes>,
     prefix: &[u8],
 ) -> Result<Vec<String>, Memory>
-    ensures { IfOk result (λ v. map string_bytes v.items ≡ filter (begins_with prefix.now) (keys (files_of files.now))) }
+    ensures { IfOk result (NamesWith prefix.now (files_of files.now)) }
 {
     let mut found = Vec::new(alloc);
     for key in files.keys() {
@@ -45,6 +46,15 @@ fn opened(alloc: Global, folder: &str) -> Result<String, Memory>
     let mut prefix = String::from_str(alloc, folder)?;
     prefix.push('/')?;
     Ok(prefix)
+}
+
+fn length_at(files: &BTreeMap<String, Bytes>, path: &str) -> Option<u64>
+    ensures { result ≡ length_at path.now (files_of files.now) }
+{
+    match files.get(path) {
+        Some(bytes) => Some(bytes.len() as u64),
+        None => None,
+    }
 }
 
 fn found(files: &BTreeMap<String, Bytes>, path: &str) -> Result<Option<Bytes>, Memory>
@@ -75,7 +85,7 @@ impl MemTree {
         failing: Vec<u64>,
     ) -> Result<MemTree, EdgeFault>
         ensures holds { IfOk result (λ t. tree_files t ≡ files_in files.items) }
-        ensures script { IfOk result (λ t. tree_script t ≡ record { call = 0; failing = failing.items }) }
+        ensures script { IfOk result (λ t. tree_script t ≡ first_call failing.items) }
         ensures memory { ¬ IsErrOf result Failed }
     {
         let mut held = BTreeMap::new(alloc);
@@ -93,7 +103,7 @@ impl MemTree {
 
     /// The bytes that the path holds.
     pub fn held(&self, path: &str) -> Option<&[u8]>
-        ensures { MatchOption result (get (tree_files self.now) path.now ≡ None) (λ bytes. get (tree_files self.now) path.now ≡ Some bytes.now) }
+        ensures { LendsAt path.now (tree_files self.now) result }
     {
         match self.files.get(path) {
             Some(bytes) => Some(bytes.as_slice()),
@@ -103,17 +113,17 @@ impl MemTree {
 }
 
 impl Tree for MemTree {
-    ghost use Rattle.mt_edge.specs.Shown.{tree_files, tree_script, tree_reading, tree_writing};
+    ghost use Rattle.mt_edge.specs.Shown.{told, tree_script, tree_reading, tree_writing};
 
-    ghost holds = { λ t. Some (tree_files t) };
+    ghost holds = { λ t. told t };
 
     ghost reading = { λ t. tree_reading t };
 
     ghost writing = { λ t. tree_writing t };
 
     fn list(&mut self, folder: &str) -> Result<Vec<String>, EdgeFault>
-        ensures names { IfOk result (λ paths. map string_bytes paths.items ≡ listed folder.now (tree_files self.old)) }
-        ensures same { Some (tree_files self.new) ≡ Some (tree_files self.old) }
+        ensures names { ListsBelow folder.now (told self.old) result }
+        ensures same { told self.new ≡ told self.old }
         ensures cause { HasCause (tree_reading self.old) (tree_reading self.new) result }
         ensures other { tree_writing self.new ≡ tree_writing self.old }
         ensures told { IsErrOf result Failed ↔ IsTrue (fails (tree_script self.old)) }
@@ -127,9 +137,24 @@ impl Tree for MemTree {
         Ok(names(self.alloc, &self.files, prefix.as_bytes())?)
     }
 
+    fn length(&mut self, path: &str) -> Result<Option<u64>, EdgeFault>
+        ensures length { TellsLength path.now (told self.old) result }
+        ensures same { told self.new ≡ told self.old }
+        ensures cause { HasCause (tree_reading self.old) (tree_reading self.new) result }
+        ensures other { tree_writing self.new ≡ tree_writing self.old }
+        ensures told { IsErrOf result Failed ↔ IsTrue (fails (tree_script self.old)) }
+        ensures counted { tree_script self.new ≡ after_call (tree_script self.old) }
+    {
+        if self.script.next_fails() {
+            self.reading = self.reading.saturating_add(1);
+            return Err(EdgeFault::Failed);
+        }
+        Ok(length_at(&self.files, path))
+    }
+
     fn read(&mut self, path: &str) -> Result<Option<Bytes>, EdgeFault>
-        ensures bytes { IfOk result (λ found. found ≡ get (tree_files self.old) path.now) }
-        ensures same { Some (tree_files self.new) ≡ Some (tree_files self.old) }
+        ensures bytes { ReadsAt path.now (told self.old) result }
+        ensures same { told self.new ≡ told self.old }
         ensures cause { HasCause (tree_reading self.old) (tree_reading self.new) result }
         ensures other { tree_writing self.new ≡ tree_writing self.old }
         ensures told { IsErrOf result Failed ↔ IsTrue (fails (tree_script self.old)) }
@@ -143,8 +168,8 @@ impl Tree for MemTree {
     }
 
     fn replace(&mut self, path: &str, bytes: &[u8]) -> Result<(), EdgeFault>
-        ensures ok { OnOk result (Some (tree_files self.new) ≡ Some (insert (tree_files self.old) path.now bytes.now)) }
-        ensures err { OnErr result ((Some (tree_files self.new) ≡ Some (tree_files self.old)) ⊎ (Some (tree_files self.new) ≡ Some (insert (tree_files self.old) path.now bytes.now))) }
+        ensures ok { OnOk result (IsReplaced path.now bytes.now (told self.old) (told self.new)) }
+        ensures err { OnErr result (OldOrReplaced path.now bytes.now (told self.old) (told self.new)) }
         ensures cause { HasCause (tree_writing self.old) (tree_writing self.new) result }
         ensures other { tree_reading self.new ≡ tree_reading self.old }
         ensures told { IsErrOf result Failed ↔ IsTrue (fails (tree_script self.old)) }

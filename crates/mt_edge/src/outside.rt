@@ -1,9 +1,9 @@
 //! The traits of the outside. A call that fails says so only where a count of faults rose, so that a caller can tell a real fault
 //! from an answer that was made up.
-ghost use Rattle.std.specs.Prelude.{◌≡◌, ◌⊎◌, List, ℕ, map, option_map, IfOk, OnOk, OnErr, IfSome, string_bytes, Option};
-ghost use Rattle.std.specs.FinMap.{get, insert};
+ghost use Rattle.std.specs.Prelude.{◌≡◌, List, ℕ, OnOk, OnErr, Option};
+ghost use Rattle.mt_edge.specs.Answered.{ListsBelow, TellsLength, ReadsAt, IsReplaced, OldOrReplaced};
 ghost use Rattle.mt_edge.specs.Causes.{HasCause};
-ghost use Rattle.mt_edge.specs.Files.{Files, listed};
+ghost use Rattle.mt_edge.specs.Files.{Files};
 ghost use Rattle.mt_edge.specs.Pieces.{Grows, GrowsBy};
 ghost use Rattle.mt_edge.specs.declared.outside.EdgeFault.TheVariants.{Memory as NoMemory};
 
@@ -46,12 +46,12 @@ impl<T: Drop> From<AllocFailed<T>> for EdgeFault {
     }
 }
 
-/// A tree of files. `list` and `read` change nothing that it holds.
+/// A tree of files. Only `replace` changes what it holds.
 pub trait Tree {
     /// The files by path, where the tree tells them.
     ghost holds: { Self → Option Files };
 
-    /// How many calls of `list` and `read` have failed; it stays at 2^64 - 1.
+    /// How many calls of `list`, `length` and `read` have failed; it stays at 2^64 - 1.
     ghost reading: { Self → ℕ };
 
     /// How many calls of `replace` have failed; it stays at 2^64 - 1.
@@ -59,22 +59,29 @@ pub trait Tree {
 
     /// The paths of all files below the folder, in byte order, each beginning with the folder and `/`.
     fn list(&mut self, folder: &str) -> Result<Vec<String>, EdgeFault>
-        ensures names { IfOk result (λ paths. IfSome (holds self.old) (λ files. map string_bytes paths.items ≡ listed folder.now files)) }
+        ensures names { ListsBelow folder.now (holds self.old) result }
+        ensures same { holds self.new ≡ holds self.old }
+        ensures cause { HasCause (reading self.old) (reading self.new) result }
+        ensures other { writing self.new ≡ writing self.old };
+
+    /// How many bytes the path holds, or None where nothing is held there.
+    fn length(&mut self, path: &str) -> Result<Option<u64>, EdgeFault>
+        ensures length { TellsLength path.now (holds self.old) result }
         ensures same { holds self.new ≡ holds self.old }
         ensures cause { HasCause (reading self.old) (reading self.new) result }
         ensures other { writing self.new ≡ writing self.old };
 
     /// The bytes at the path, or None where nothing is held there.
     fn read(&mut self, path: &str) -> Result<Option<Bytes>, EdgeFault>
-        ensures bytes { IfOk result (λ found. IfSome (holds self.old) (λ files. found ≡ get files path.now)) }
+        ensures bytes { ReadsAt path.now (holds self.old) result }
         ensures same { holds self.new ≡ holds self.old }
         ensures cause { HasCause (reading self.old) (reading self.new) result }
         ensures other { writing self.new ≡ writing self.old };
 
     /// Puts the bytes in the place of what the path held; after an error the path holds the old or the new bytes.
     fn replace(&mut self, path: &str, bytes: &[u8]) -> Result<(), EdgeFault>
-        ensures ok { OnOk result (holds self.new ≡ option_map (λ files. insert files path.now bytes.now) (holds self.old)) }
-        ensures err { OnErr result ((holds self.new ≡ holds self.old) ⊎ (holds self.new ≡ option_map (λ files. insert files path.now bytes.now) (holds self.old))) }
+        ensures ok { OnOk result (IsReplaced path.now bytes.now (holds self.old) (holds self.new)) }
+        ensures err { OnErr result (OldOrReplaced path.now bytes.now (holds self.old) (holds self.new)) }
         ensures cause { HasCause (writing self.old) (writing self.new) result }
         ensures other { reading self.new ≡ reading self.old };
 }

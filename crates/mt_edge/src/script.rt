@@ -1,5 +1,5 @@
 ghost use Rattle.std.specs.Prelude.{◌≡◌, List, ℕ};
-ghost use Rattle.mt_edge.specs.Held.{fails, after_call};
+ghost use Rattle.mt_edge.specs.Held.{fails, first_call, after_call};
 
 use std::marker::Model;
 
@@ -21,7 +21,7 @@ impl Model for CallScript {
 impl CallScript {
     /// The calls with these numbers, counted from 0, are to fail.
     pub fn new(failing: Vec<u64>) -> CallScript
-        ensures { result ≡ record { call = 0; failing = failing.items } }
+        ensures { result ≡ first_call failing.items }
     {
         CallScript { call: 0, failing }
     }

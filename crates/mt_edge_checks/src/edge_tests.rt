@@ -2,21 +2,24 @@ use class_model::Bytes;
 use mt_edge::{EdgeFault, HostSink, HostTree, MemSink, MemTree, Meter, Sink, Tree};
 use std::alloc::Global;
 use std::fs::Permissions;
-use std::os::unix::fs::{PermissionsExt, symlink};
+use std::os::unix::fs::{MetadataExt, PermissionsExt, symlink};
 use std::test::Fail;
-use std::{env, fs, process};
+use std::thread::Threads;
+use std::{env, fs, process, thread};
 
 #[derive(Clone, Copy)]
 enum Call {
     List,
+    Length,
     Read,
     Replace,
 }
 
 // Calls of a tree that holds nothing, the bytes that a file gets, and what each call answers: the paths below the folder,
-// the bytes that are read, or what became of it.
-const CALLS: [(Call, &str, &str, &str); 11] = [
+// the file's length, the bytes that are read, or what became of it.
+const CALLS: [(Call, &str, &str, &str); 14] = [
     (Call::List, "", "", ""),
+    (Call::Length, "/below/A.class", "", "nothing"),
     (Call::Read, "/below/A.class", "", "nothing"),
     (Call::Replace, "/below/A.class", "old", "done"),
     (Call::Replace, "/below/A.class", "new", "done"),
@@ -26,7 +29,9 @@ const CALLS: [(Call, &str, &str, &str); 11] = [
     (Call::List, "/below", "", "/A.class /B.class "),
     (Call::List, "/bel", "", ""),
     (Call::Read, "/below/A.class", "", "new"),
+    (Call::Length, "/below/B.class", "", "6"),
     (Call::Read, "/z.txt", "", ""),
+    (Call::Length, "/z.txt", "", "0"),
 ];
 
 fn joined(alloc: Global, folder: &str, paths: &[String]) -> Result<String, Fail> {
@@ -56,6 +61,11 @@ fn answer<T: Tree>(
     match call {
         Call::List => match tree.list(path) {
             Ok(paths) => joined(alloc, path, paths.as_slice()),
+            Err(_) => Ok(String::from_str(alloc, "failed")?),
+        },
+        Call::Length => match tree.length(path) {
+            Ok(Some(length)) => Ok(format!(in alloc; "{length}")?),
+            Ok(None) => Ok(String::from_str(alloc, "nothing")?),
             Err(_) => Ok(String::from_str(alloc, "failed")?),
         },
         Call::Read => {
@@ -107,10 +117,15 @@ const LINKS: [(&str, &str); 6] = [
 ];
 
 // Calls of the real tree, as above: with these links, the folder `kept` and a file of somebody else in it.
-const CAREFUL_CALLS: [(Call, &str, &str, &str); 16] = [
-    (Call::Replace, "/kept/A.class", "old", "done"),
+const CAREFUL_CALLS: [(Call, &str, &str, &str); 21] = [
+    (Call::Replace, "/kept/A.class", "first", "done"),
     (Call::Replace, "/link.class", "new", "done"),
     (Call::Read, "/kept/A.class", "", "new"),
+    (Call::Length, "/link.class", "", "3"),
+    (Call::Length, "/null", "", "0"),
+    (Call::Length, "/nowhere", "", "nothing"),
+    (Call::Length, "/itself", "", "nothing"),
+    (Call::Length, "/kept/A.class/below", "", "nothing"),
     (Call::Read, "/kept/A.class.mutest-0", "", "theirs"),
     // Each real folder once, and neither the device nor what leads nowhere.
     (
@@ -172,6 +187,98 @@ fn the_real_tree_takes_care(rt: HostRuntime) -> Result<(), Fail> {
     let kept = format!(in rt.alloc(); "{folder}/kept/A.class")?;
     let mode = fs::metadata(&rt, kept.as_str())?.permissions().mode();
     assert_eq!(rt; mode & 0o777, 0o600);
+    fs::remove_dir_all(&rt, folder.as_str())?;
+    Ok(())
+}
+
+// Calls with a folder that nobody may enter, and what each answers; for root, who may enter all, the other.
+const CLOSED_CALLS: [(Call, &str, &str, &str, &str); 4] = [
+    (Call::List, "", "", "failed", "/closed/A.class "),
+    (Call::Length, "/closed/A.class", "", "failed", "5"),
+    (Call::Read, "/closed/A.class", "", "failed", "bytes"),
+    (Call::Replace, "/closed/B.class", "more", "failed", "done"),
+];
+
+#[test]
+fn what_may_not_be_entered_is_a_fault(rt: HostRuntime) -> Result<(), Fail> {
+    let folder = own_folder(&rt, "closed")?;
+    let closed = format!(in rt.alloc(); "{folder}/closed")?;
+    fs::create_dir_all(&rt, closed.as_str())?;
+    fs::write(
+        &rt,
+        format!(in rt.alloc(); "{folder}/closed/A.class")?,
+        "bytes",
+    )?;
+    fs::set_permissions(&rt, closed.as_str(), Permissions::from_mode(0o000))?;
+    let is_root = fs::metadata(&rt, closed.as_str())?.uid() == 0;
+    let mut tree = HostTree::new(&rt);
+    for (call, name, bytes, wanted, for_root) in CLOSED_CALLS {
+        let path = format!(in rt.alloc(); "{folder}{name}")?;
+        let said = answer(rt.alloc(), &mut tree, call, path.as_str(), bytes)?;
+        if is_root {
+            assert_eq!(rt; said.as_str(), for_root, "at {name}");
+        } else {
+            assert_eq!(rt; said.as_str(), wanted, "at {name}");
+        }
+    }
+    fs::set_permissions(&rt, closed.as_str(), Permissions::from_mode(0o700))?;
+    fs::remove_dir_all(&rt, folder.as_str())?;
+    Ok(())
+}
+
+// What one of two runs writes, and how often it did.
+#[derive(Drop)]
+struct Writer {
+    text: &'static str,
+    done: u32,
+}
+
+// Each replaces the file twenty times, both at once.
+fn replace_at_once<R: Threads + Sync>(
+    rt: &R,
+    files: &HostRuntime,
+    path: &str,
+    writers: &mut [Writer],
+) {
+    thread::for_each_mut(
+        rt,
+        writers,
+        2,
+        &|_, writer: &mut Writer| {
+            let mut tree = HostTree::new(files);
+            for _ in 0..20 {
+                if tree.replace(path, writer.text.as_bytes()).is_ok() {
+                    writer.done = writer.done.saturating_add(1);
+                }
+            }
+        },
+    );
+}
+
+#[test]
+fn two_runs_at_once_leave_one_whole_file(rt: HostRuntime) -> Result<(), Fail> {
+    let folder = own_folder(&rt, "twice")?;
+    let path = format!(in rt.alloc(); "{folder}/report")?;
+    fs::create_dir_all(&rt, folder.as_str())?;
+    let mut writers = [
+        Writer {
+            text: "one",
+            done: 0,
+        },
+        Writer {
+            text: "another",
+            done: 0,
+        },
+    ];
+    replace_at_once(&rt, &rt, path.as_str(), &mut writers);
+    for writer in &writers {
+        assert_eq!(rt; writer.done, 20);
+    }
+    let mut tree = HostTree::new(&rt);
+    let listed = answer(rt.alloc(), &mut tree, Call::List, folder.as_str(), "")?;
+    assert_eq!(rt; listed.as_str(), "/report ");
+    let read = answer(rt.alloc(), &mut tree, Call::Read, path.as_str(), "")?;
+    assert!(rt; read.as_str() == "one" || read.as_str() == "another");
     fs::remove_dir_all(&rt, folder.as_str())?;
     Ok(())
 }

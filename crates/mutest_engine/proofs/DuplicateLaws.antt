@@ -16,7 +16,7 @@ use Rattle.mutest_engine.specs.Duplicates.{again, least, duplicate_in}
 
 -- ---- names among names
 
-abbrev In : Name → List Name → Type 0
+abbrev pub In : Name → List Name → Type 0
 In n [] = ⊥
 In n (x ∷ xs) = (x ≡ n) ⊎ In n xs
 
@@ -32,23 +32,23 @@ at_in : (n : Name) (xs : List Name) → In n xs → Stands n xs
 at_in n [] q = absurd q
 at_in n (x ∷ xs) q = ⊎_elim (λ (e : x ≡ n). (zero, ap Some e)) (λ (r : In n xs). let s = at_in n xs r in (suc s.0, s.1)) q
 
-or_case : (a b : Bool) → (a || b) ≡ true → (a ≡ true) ⊎ (b ≡ true)
+pub or_case : (a b : Bool) → (a || b) ≡ true → (a ≡ true) ⊎ (b ≡ true)
 or_case true b e = inl refl
 or_case false b e = inr e
 
-or_left : (a b : Bool) → a ≡ true → (a || b) ≡ true
+pub or_left : (a b : Bool) → a ≡ true → (a || b) ≡ true
 or_left true b e = refl
 or_left false b e = absurd cc
 
-or_right : (a b : Bool) → b ≡ true → (a || b) ≡ true
+pub or_right : (a b : Bool) → b ≡ true → (a || b) ≡ true
 or_right true b e = refl
 or_right false b e = e
 
-any_in : (n : Name) (xs : List Name) → list_any (same n) xs ≡ true → In n xs
+pub any_in : (n : Name) (xs : List Name) → list_any (same n) xs ≡ true → In n xs
 any_in n [] e = absurd cc
 any_in n (x ∷ xs) e = ⊎_elim (λ (h : same n x ≡ true). inl (sym (same_text n x (sym h)))) (λ (h : list_any (same n) xs ≡ true). inr (any_in n xs h)) (or_case (same n x) (list_any (same n) xs) e)
 
-in_any : (n : Name) (xs : List Name) → In n xs → list_any (same n) xs ≡ true
+pub in_any : (n : Name) (xs : List Name) → In n xs → list_any (same n) xs ≡ true
 in_any n [] q = absurd q
 in_any n (x ∷ xs) q = ⊎_elim (λ (e : x ≡ n). or_left (same n x) (list_any (same n) xs) ((bytes_decides n x).1 (sym e))) (λ (r : In n xs). or_right (same n x) (list_any (same n) xs) (in_any n xs r)) q
 
@@ -93,7 +93,7 @@ distinct_once n xs distinct d =
     let e : d.first ≡ d.second = cc in
     omega (arith, lt, e)
 
-nothing_in : (xs : List Name) → ((n : Name) → In n xs → ⊥) → xs ≡ []
+pub nothing_in : (xs : List Name) → ((n : Name) → In n xs → ⊥) → xs ≡ []
 nothing_in [] h = refl
 nothing_in (x ∷ xs) h = absurd (h x (inl refl))
 
@@ -163,7 +163,7 @@ same_names (u ∷ us) (v ∷ vs) e =
 abbrev cmp : Name → Name → Ordering
 cmp n m = slice_cmp nat_cmp (text n) (text m)
 
-abbrev Le : Name → Name → Type 0
+abbrev pub Le : Name → Name → Type 0
 Le n m = IsTrue (is_le (cmp n m))
 
 must_equal : (o : Ordering) → IsTrue (is_le o) → is_lt o ≡ false → o ≡ Equal
@@ -206,7 +206,7 @@ rest_least : (n x : Name) (b : Bool) → is_before x n ≡ b → Le n x → Some
 rest_least n x true e le = absurd (no_lesser n x le e)
 rest_least n x false e le = refl
 
-least_is : (n : Name) (xs : List Name) → In n xs → ((m : Name) → In m xs → Le n m) → least xs ≡ Some n
+pub least_is : (n : Name) (xs : List Name) → In n xs → ((m : Name) → In m xs → Le n m) → least xs ≡ Some n
 least_is n [] q all = absurd q
 least_is n (x ∷ xs) q all =
     ⊎_elim

@@ -99,18 +99,26 @@ by_status s end P same one lost = ⊎_elim (λ (is : end ≡ s). subst P (sym is
 
 -- ---- a call that halts before anything is written
 
+read_prints : (put0 put1 : ℕ) (before after : Option (List ℕ)) (stated : Result Answered Refusal) (faults : ℕ) → Got put0 put1 before after (line_of (ReadFault faults)) → Prints put0 put1 before after stated (ReadFault faults)
+read_prints put0 put1 before after (Ok a) faults got = got
+read_prints put0 put1 before after (Err r) faults got = got
+
+lost_prints : (put0 put1 : ℕ) (before after : Option (List ℕ)) (stated : Result Answered Refusal) → Interrupted stated before after → Prints put0 put1 before after stated WantOfMemory
+lost_prints put0 put1 before after (Ok a) some = some
+lost_prints put0 put1 before after (Err r) some = some
+
 pub halt_prints : (put0 put1 : ℕ) (before after : Option (List ℕ)) (h : Halt) (end : Status) → IsToldAs h end → Told put0 put1 before after (line_of (status_of h)) end → (stated : Result Answered Refusal) → Allows h stated
     → Prints put0 put1 before after stated end
 halt_prints put0 put1 before after (halt.Refused r) end same told stated allowed =
     by_told put0 put1 before after (refusal_line r) (Refused r) end (λ (e : Status). Prints put0 put1 before after stated e) same told
-    (λ got. got)
-    (λ some. subst (λ (x : Result Answered Refusal). Interrupted x before after) (sym (allowed r refl)) (inl some))
+    (λ got. subst (λ (x : Result Answered Refusal). Prints put0 put1 before after x (Refused r)) (sym (allowed r refl)) (refl, got))
+    (λ some. subst (λ (x : Result Answered Refusal). Prints put0 put1 before after x WantOfMemory) (sym (allowed r refl)) (inl some))
 halt_prints put0 put1 before after (halt.ReadFault faults) end same told stated allowed =
     by_told put0 put1 before after (line_of (ReadFault faults)) (ReadFault faults) end (λ (e : Status). Prints put0 put1 before after stated e) same told
-    (λ got. got) (λ some. cut_read before after stated some)
+    (λ got. read_prints put0 put1 before after stated faults got) (λ some. lost_prints put0 put1 before after stated (cut_read before after stated some))
 halt_prints put0 put1 before after halt.WantOfMemory end same told stated allowed =
     by_told put0 put1 before after [] WantOfMemory end (λ (e : Status). Prints put0 put1 before after stated e) same told
-    (λ got. cut_nothing before after stated (got_by put0 put1 before after [] got)) (λ some. cut_nothing before after stated some)
+    (λ got. lost_prints put0 put1 before after stated (cut_nothing before after stated (got_by put0 put1 before after [] got))) (λ some. lost_prints put0 put1 before after stated (cut_nothing before after stated some))
 
 -- ---- a file that wasn't replaced
 

@@ -1,16 +1,18 @@
 -- The class files of a program that was built are those of its classes by name.
 use Rattle.std.proofs.Common.{◌≡◌, ◌∙◌, refl, ap, ℕ, suc, ◌+◌, Bool, true, false, List, [], ◌∷◌, map, Option, None, Some, slice_get, arith}
-use Rattle.std.specs.Prelude.{if◌then◌else◌, option_and_then}
+use Rattle.std.specs.Prelude.{All, if◌then◌else◌, option_and_then}
+use Rattle.std.specs.List.{AllByRecursion}
+use Rattle.std.proofs.lemmas.List.Elements.{recursion_from_All}
 use Rattle.class_model.specs.declared.class.Class.{Class}
 use Rattle.program_rules.specs.Names.{Name, same}
 use Rattle.class_link.specs.declared.loaded.Loaded.{Loaded}
 use Rattle.class_link.specs.declared.loaded.LibClass.{LibClass}
 use Rattle.class_link.specs.declared.loaded.ClassBody.{ClassBody}
 use Rattle.class_link.specs.declared.loaded.ClassBody.TheVariants as body
-use Rattle.class_link.specs.Info.{Info, body_name, own_name, file_in}
+use Rattle.class_link.specs.Info.{Info, IsInfo, body_name, own_name, file_in}
 use Rattle.class_table.specs.Table.{place_from, names, bodies_of}
 use Rattle.mutant_runs.specs.Programs.{files_of}
-use Rattle.mutest_engine.specs.Originals.{classes_in, IsOfBody, AreOfBodies}
+use Rattle.mutest_engine.specs.Originals.{classes_in}
 use Rattle.mutest_engine.specs.Mutation.{class_file}
 
 abbrev Named : Type 0
@@ -46,20 +48,20 @@ abbrev file_of : ClassBody → Option Class
 file_of (body.File loaded) = Some loaded.class
 file_of (body.Library c) = None
 
-file_by : (i : Info) (b : ClassBody) → i.body ≡ b → file_in i ≡ file_of b
+pub file_by : (i : Info) (b : ClassBody) → i.body ≡ b → file_in i ≡ file_of b
 file_by i (body.File loaded) e = rw e refl
 file_by i (body.Library c) e = rw e refl
 
 abbrev of_body : ClassBody → Named
 of_body b = (body_name b, file_of b)
 
-all_of_bodies : (p : List Info) → AreOfBodies p → map by_name p ≡ map of_body (map (λ i. i.body) p)
+all_of_bodies : (p : List Info) → AllByRecursion IsInfo p → map by_name p ≡ map of_body (map (λ i. i.body) p)
 all_of_bodies [] h = refl
 all_of_bodies (x ∷ p) h =
-    let first : IsOfBody x = h 0 (omega arith) in
+    let first = h.0.name in
     let file : file_in x ≡ file_of x.body = file_by x x.body refl in
-    let rest = all_of_bodies p (λ id lt. h (suc id) (omega (arith, lt))) in
-    (λ i. (first.0 i, file i) ∷ rest i)
+    let rest = all_of_bodies p h.1 in
+    (λ i. (first i, file i) ∷ rest i)
 
 no_file : (b : Bool) (o : Option Class) → o ≡ None → (if b then None else o) ≡ None
 no_file true o h = refl
@@ -73,5 +75,5 @@ in_bodies : (classes : List Loaded) (library : List LibClass) (n : Name) → fil
 in_bodies [] library n = in_library library n
 in_bodies (c ∷ classes) library n = ap (λ o. if same (own_name c.class) n then Some c.class else o) (in_bodies classes library n)
 
-pub are_files : (p : List Info) (classes : List Loaded) (library : List LibClass) → AreOfBodies p → map (λ i. i.body) p ≡ bodies_of classes library → files_of p ≡ class_file (classes_in classes)
-are_files p classes library ok made = λ i n. (files_among p n ∙ ap (λ z. file_among z n) (all_of_bodies p ok ∙ ap (map of_body) made) ∙ in_bodies classes library n) i
+pub are_files : (p : List Info) (classes : List Loaded) (library : List LibClass) → All IsInfo p → map (λ i. i.body) p ≡ bodies_of classes library → files_of p ≡ class_file (classes_in classes)
+are_files p classes library ok made = λ i n. (files_among p n ∙ ap (λ z. file_among z n) (all_of_bodies p (recursion_from_All IsInfo p ok) ∙ ap (map of_body) made) ∙ in_bodies classes library n) i

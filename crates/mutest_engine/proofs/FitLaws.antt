@@ -1,6 +1,6 @@
 -- Each mutant of a suite's classes has an edit that its class takes.
 use Rattle.std.proofs.Common.{◌≡◌, ◌∙◌, ℕ, ◌+◌, Bool, true, false, List, [], ◌∷◌, ◌++◌, map, Option, Some, None, Ok, refl, sym, ap, subst}
-use Rattle.std.specs.Prelude.{All, IfSome, if◌then◌else◌, ◌||◌, unwrap_or}
+use Rattle.std.specs.Prelude.{All, IfSome, if◌then◌else◌, ◌||◌, Result}
 use Rattle.std.specs.List.{AllByRecursion, list_any, flat_map, fold}
 use Rattle.std.specs.declared.cmp.Ordering.{Ordering}
 use Rattle.std.specs.declared.cmp.Ordering.TheVariants.{Less, Equal, Greater}
@@ -18,20 +18,23 @@ use Rattle.class_writer.specs.Writing.{HasClassForm}
 use Rattle.program_rules.specs.Names.{Name, same}
 use Rattle.class_link.specs.declared.loaded.Loaded.{Loaded}
 use Rattle.class_link.specs.Info.{own_name}
-use Rattle.class_link.specs.Symbols.{name_or_empty}
-use Rattle.class_model.specs.Pool.{text_of, class_name_of}
-use Rattle.mutator_ops.specs.Edits.{mutators_of}
-use Rattle.mutator_ops.specs.Mutants.{line_rows, mutant_at, mutants_from, code_mutants, code_of, is_synthetic, is_left_out, method_mutants, methods_mutants, class_mutants}
+use Rattle.mutator_ops.specs.Mutants.{Place, place_in, mutant_by, mutants_by, mutants_from, code_mutants, code_of, is_synthetic, is_left_out, method_mutants, methods_mutants, class_mutants}
+use Rattle.mutator_ops.specs.Programs.{in_order, mutants_by_name, mutants_among}
+use Rattle.mutator_ops.specs.Table.{mutators, row}
+use Rattle.mutator_ops.specs.declared.change.Change.{Change}
 use Rattle.mutator_ops.specs.declared.mutant.Mutant.{Mutant}
-use Rattle.mutator_ops.specs.declared.place.Place.{Place}
 use Rattle.mutant_apply.specs.Fitting.{Fits}
 use Rattle.mutant_apply.specs.Laws.{MutantsFit}
 use Rattle.mutant_runs.specs.Programs.{ClassFiles, IsMutantOf}
+use Rattle.mutest_engine.specs.Steps.{and_then}
+use Rattle.mutest_engine.specs.Supers.{unless_found, right_supers}
+use Rattle.mutest_engine.specs.declared.refusal.ProgramFault.TheVariants.{Duplicate}
+use Rattle.mutest_engine.specs.declared.refusal.Refusal.{Refusal}
 use Rattle.mutest_engine.specs.Duplicates.{again, least, duplicate_in}
 use Rattle.mutest_engine.specs.SuiteFiles.{IsFormed}
 use Rattle.mutest_engine.specs.declared.suite.LoadedSuite.{LoadedSuite}
-use Rattle.mutest_engine.specs.Originals.{all_classes, classes_in, names_in, unless_twice, accepted, ordered}
-use Rattle.mutest_engine.specs.Mutation.{mutants_by_name, mutants_among, mutants_of, class_file, suite_files, linked}
+use Rattle.mutest_engine.specs.Originals.{all_classes, classes_in, names_in, program_of, accepted}
+use Rattle.mutest_engine.specs.Mutation.{mutants_of, class_file, suite_files, linked}
 
 -- ---- lists
 
@@ -55,7 +58,7 @@ front : {X : Type 0} (P : X → Type 0) (xs ys : List X) → AllByRecursion P (x
 front P [] ys p = tt
 front P (x ∷ xs) ys p = (p.0, front P xs ys p.1)
 
-classes_both : (xs ys : List Loaded) → classes_in (xs ++ ys) ≡ classes_in xs ++ classes_in ys
+pub classes_both : (xs ys : List Loaded) → classes_in (xs ++ ys) ≡ classes_in xs ++ classes_in ys
 classes_both [] ys = refl
 classes_both (x ∷ xs) ys = ap (λ cs. x.class ∷ cs) (classes_both xs ys)
 
@@ -87,38 +90,37 @@ joined P (e ∷ es) q = appended P e.1 (flat_map (λ x. x.1) es) q.0 (joined P e
 abbrev Names : Name → Mutant → Type 0
 Names n m = m.class ≡ n
 
+by_row : (place : Place) (at : ℕ) (insn : Insn) (mutator : Mutator) (o : Option Change) → AllByRecursion (Names place.class) (mutant_by place at insn mutator o)
+by_row place at insn mutator None = tt
+by_row place at insn mutator (Some change) = (refl, tt)
+
+by_rows : (ms : List Mutator) (place : Place) (at : ℕ) (insn : Insn) → AllByRecursion (Names place.class) (mutants_by ms place at insn)
+by_rows [] place at insn = tt
+by_rows (m ∷ ms) place at insn =
+    appended (Names place.class) (mutant_by place at insn m (row m place.asked insn)) (mutants_by ms place at insn) (by_row place at insn m (row m place.asked insn)) (by_rows ms place at insn)
+
 mutants_name : (place : Place) (at : ℕ) (insns : List Insn) → AllByRecursion (Names place.class) (mutants_from place at insns)
 mutants_name place at [] = tt
 mutants_name place at (insn ∷ insns) =
-    appended (Names place.class) (map (mutant_at place at insn) (mutators_of insn)) (mutants_from place (at + 1) insns)
-    (mapped (Names place.class) (mutant_at place at insn) (mutators_of insn) (every (λ (m : Mutator). Names place.class (mutant_at place at insn m)) (mutators_of insn) (λ m. refl)))
-    (mutants_name place (at + 1) insns)
+    appended (Names place.class) (mutants_by mutators place at insn) (mutants_from place (at + 1) insns) (by_rows mutators place at insn) (mutants_name place (at + 1) insns)
 
-code_name : (pool : List Const) (class : Name) (number : ℕ) (member : Member) (code : Option Code) → AllByRecursion (Names class) (code_mutants pool class number member code)
+code_name : (pool : List Const) (class : Name) (number : ℕ) (member : Member) (code : Option Code) → AllByRecursion (Names class) (code_mutants class pool number member code)
 code_name pool class number member None = tt
-code_name pool class number member (Some code) =
-    mutants_name (record { class = class; method = unwrap_or (text_of pool member.name) []; desc = unwrap_or (text_of pool member.desc) []; number = number; rows = line_rows (out-Code code).attrs }) 0 (out-Code code).insns
+code_name pool class number member (Some code) = mutants_name (place_in class pool number member code) 0 (out-Code code).insns
 
 unless_left_out : (b : Bool) (n : Name) (ms : List Mutant) → AllByRecursion (Names n) ms → AllByRecursion (Names n) (if b then [] else ms)
 unless_left_out true n ms p = tt
 unless_left_out false n ms p = p
 
-methods_name : (pool : List Const) (class : Name) (number : ℕ) (members : List Member) → AllByRecursion (Names class) (methods_mutants pool class number members)
+methods_name : (pool : List Const) (class : Name) (number : ℕ) (members : List Member) → AllByRecursion (Names class) (methods_mutants class pool number members)
 methods_name pool class number [] = tt
 methods_name pool class number (member ∷ members) =
-    appended (Names class) (method_mutants pool class number member) (methods_mutants pool class (number + 1) members)
-    (unless_left_out (is_left_out member.flags) class (code_mutants pool class number member (code_of member.attrs)) (code_name pool class number member (code_of member.attrs)))
+    appended (Names class) (method_mutants class pool number member) (methods_mutants class pool (number + 1) members)
+    (unless_left_out (is_left_out member.flags) class (code_mutants class pool number member (code_of member.attrs)) (code_name pool class number member (code_of member.attrs)))
     (methods_name pool class (number + 1) members)
 
-same_name : (o : Option Name) → unwrap_or o [] ≡ name_or_empty o
-same_name None = refl
-same_name (Some n) = refl
-
 own_mutants : (c : Class) → AllByRecursion (Names (own_name c)) (class_mutants c)
-own_mutants c =
-    let name = unwrap_or (class_name_of c.pool c.this) [] in
-    subst (λ (n : Name). AllByRecursion (Names n) (class_mutants c)) (same_name (class_name_of c.pool c.this))
-    (unless_left_out (is_synthetic c.flags) name (methods_mutants c.pool name 0 c.methods) (methods_name c.pool name 0 c.methods))
+own_mutants c = unless_left_out (is_synthetic c.flags) (own_name c) (methods_mutants (own_name c) c.pool 0 c.methods) (methods_name c.pool (own_name c) 0 c.methods)
 
 -- ---- the class of a name
 
@@ -126,12 +128,12 @@ nothing_twice : (ns : List Name) → least ns ≡ None → ns ≡ []
 nothing_twice [] h = refl
 nothing_twice (n ∷ ns) h = absurd cc
 
-accepted_case : (o : Option Name) → unless_twice o ≡ Ok tt → o ≡ None
-accepted_case None h = refl
-accepted_case (Some n) h = absurd cc
+accepted_case : (o : Option Name) (next : Unit {0} → Result (Unit {0}) Refusal) → and_then (unless_found Duplicate o) next ≡ Ok tt → o ≡ None
+accepted_case None next h = refl
+accepted_case (Some n) next h = absurd cc
 
 none_again : (classes : List Class) → accepted classes ≡ Ok tt → again (names_in classes) ≡ []
-none_again classes h = nothing_twice (again (names_in classes)) (accepted_case (duplicate_in (names_in classes)) h)
+none_again classes h = nothing_twice (again (names_in classes)) (accepted_case (duplicate_in (names_in classes)) (λ ok. right_supers (program_of classes) (names_in classes)) h)
 
 abbrev IsFound : List Class → Class → Type 0
 IsFound cs c = class_file cs (own_name c) ≡ Some c
@@ -177,7 +179,7 @@ formed (x ∷ xs) p = (p.0, formed xs p.1)
 
 among_fit : MutantsFit → (files : ClassFiles) (cs : List Class) → AllByRecursion (λ (c : Class). HasClassForm c × (files (own_name c) ≡ Some c)) cs → AllByRecursion (IsMutantOf files) (mutants_among cs)
 among_fit fit files cs p =
-    joined (IsMutantOf files) (ordered (map mutants_by_name cs))
+    joined (IsMutantOf files) (in_order (map mutants_by_name cs))
     (folded (AllByRecursion (IsMutantOf files)) [] (map mutants_by_name cs) tt
     (mapped (λ (e : List ℕ × List Mutant). AllByRecursion (IsMutantOf files) e.1) mutants_by_name cs
     (both (λ (c : Class). HasClassForm c × (files (own_name c) ≡ Some c)) (λ (c : Class). Unit {0}) (λ (c : Class). AllByRecursion (IsMutantOf files) (class_mutants c)) cs (λ c q u. class_fits fit files c q.0 q.1) p (every (λ (c : Class). Unit {0}) cs (λ c. tt)))))

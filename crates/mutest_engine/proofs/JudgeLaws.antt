@@ -1,5 +1,7 @@
 -- What the runs on the program of a suite say of the suite.
-use Rattle.std.proofs.Common.{◌≡◌, ◌∙◌, ℕ, ◌≤◌, List, length, Result, Ok, Err, sym, ap, subst}
+use Rattle.std.proofs.Common.{◌≡◌, ◌∙◌, ℕ, suc, ◌+◌, ◌≤◌, List, [], ◌∷◌, ◌++◌, length, Result, Ok, Err, refl, sym, ap, subst, arith}
+use Rattle.std.proofs.lemmas.List.{length-append}
+use Rattle.class_link.specs.Info.{Info}
 use Rattle.std.specs.Prelude.{All}
 use Rattle.program_rules.specs.Programs.{Look}
 use Rattle.class_table.specs.declared.scripted.Test.{Test}
@@ -13,9 +15,10 @@ use Rattle.mutest_engine.specs.SuiteFiles.{IsFormed}
 use Rattle.mutest_engine.specs.declared.suite.LoadedSuite.{LoadedSuite}
 use Rattle.mutest_engine.specs.Steps.{and_then}
 use Rattle.mutest_engine.specs.Originals.{all_classes, classes_in, program_of, accepted, tests_of, tests_among, few_tests, green}
-use Rattle.mutest_engine.specs.Mutation.{class_file, suite_files, program, mutants_of, mutants_among, linked, judged, suite_steps, few_mutants, few, verdicts_by, green_verdicts, input_of, if_so, all_steps, tested, tested_steps, Stays}
+use Rattle.mutest_engine.specs.Mutation.{class_file, suite_files, program, mutants_of, numbers_from, AreNumbered, AreFirstMutants, linked, judged, suite_steps, few_mutants, few, verdicts_by, green_verdicts, input_of, if_so, all_steps, tested, tested_steps, Stays}
 use Rattle.mutest_engine.specs.declared.refusal.Refusal.{Refusal}
-use Rattle.mutest_engine.proofs.FitLaws.{all_fit}
+use Rattle.mutest_engine.proofs.FitLaws.{all_fit, classes_both}
+use Rattle.mutest_engine.proofs.NumberLaws.{first_mutants}
 use Rattle.mutest_engine.proofs.RefusalLaws.{of_green}
 
 -- The tests and the mutants are few enough, by what the code found of their counts.
@@ -73,15 +76,33 @@ pub record IsLinked (s : LoadedSuite) (files : ClassFiles) (p : Look) (ts : List
   pub of_tests : ts ≡ tests_of s
   pub of_mutants : ms ≡ mutants_of s
 
+-- The mutants that the code asks of the program are those of the suite.
+pub mutants_are : (s : LoadedSuite) (p : List Info) (all : List Loaded) (count : ℕ) (ms : List Mutant) → AreNumbered p (classes_in all) → all ≡ all_classes s → count ≡ length s.classes → AreFirstMutants p count ms → ms ≡ mutants_of s
+mutants_are s p all count ms are is len found =
+    let both : classes_in all ≡ classes_in s.classes ++ classes_in s.tests = ap (λ l. classes_in l) is ∙ classes_both s.classes s.tests in
+    let as_long : count ≡ length (classes_in s.classes) = len ∙ same_length s.classes in
+    found.2 ∙ first_mutants p found.0 (classes_in s.classes) (classes_in s.tests) (subst (AreNumbered p) both are) (found.1 ∙ ap (numbers_from 0) as_long)
+  where
+    same_length : (ls : List Loaded) → length ls ≡ length (classes_in ls)
+    same_length [] = refl
+    same_length (l ∷ ls) = ap suc (same_length ls)
+
+-- They are no more than the classes of the program.
+pub enough : (s : LoadedSuite) (p : List Info) (all : List Loaded) (count : ℕ) → all ≡ all_classes s → count ≡ length s.classes → length all ≤ length p → count ≤ length p
+enough s p all count is len many =
+    let more : length all ≡ length (s.classes ++ s.tests) = ap length is in
+    let sum : length (s.classes ++ s.tests) ≡ length s.classes + length s.tests = length-append s.classes s.tests in
+    omega (arith, more, sum, len, many)
+
 -- What the code found, piece by piece.
-pub is_linked : (s : LoadedSuite) (files : ClassFiles) (p : Look) (all classes tests : List Loaded) (ts : List Test) (ms : List Mutant) → accepted (classes_in all) ≡ Ok tt → files ≡ class_file (classes_in all)
-    → p ≡ program_of (classes_in all) → all ≡ all_classes s → tests ≡ s.tests → classes ≡ s.classes → ts ≡ tests_among (classes_in tests) → ms ≡ mutants_among (classes_in classes) → IsLinked s files p ts ms
-is_linked s files p all classes tests ts ms acc fs look is is_tests is_classes t m = record {
+pub is_linked : (s : LoadedSuite) (files : ClassFiles) (p : Look) (all tests : List Loaded) (ts : List Test) (ms : List Mutant) → accepted (classes_in all) ≡ Ok tt → files ≡ class_file (classes_in all)
+    → p ≡ program_of (classes_in all) → all ≡ all_classes s → tests ≡ s.tests → ts ≡ tests_among (classes_in tests) → ms ≡ mutants_of s → IsLinked s files p ts ms
+is_linked s files p all tests ts ms acc fs look is is_tests t m = record {
   asked = ap (λ l. accepted (classes_in l)) (sym is) ∙ acc;
   by_file = fs ∙ ap (λ l. class_file (classes_in l)) is;
   by_name = look ∙ ap (λ l. program_of (classes_in l)) is;
   of_tests = t ∙ ap (λ l. tests_among (classes_in l)) is_tests;
-  of_mutants = m ∙ ap (λ l. mutants_among (classes_in l)) is_classes;
+  of_mutants = m;
 }
 
 pub fit_of : MutantsFit → (s : LoadedSuite) (files : ClassFiles) (p : Look) (ts : List Test) (ms : List Mutant) → IsFormed s → IsLinked s files p ts ms → All (IsMutantOf files) ms

@@ -1,3 +1,4 @@
+mod AcceptedLaws
 mod AsmLaws
 mod DuplicateLaws
 mod Ends
@@ -5,9 +6,11 @@ mod FaultLaws
 mod FileLaws
 mod FitLaws
 mod JudgeLaws
+mod NumberLaws
 mod OriginalLaws
 mod ProgramLaws
 mod RefusalLaws
 mod StepLaws
 mod SuiteLaws
+mod SuperLaws
 mod WordLaws

@@ -1,5 +1,5 @@
 -- A program that was built is the program of its classes by name.
-use Rattle.std.proofs.Common.{◌≡◌, ◌∙◌, refl, ap, ℕ, suc, ◌+◌, Bool, true, false, List, [], ◌∷◌, ◌++◌, map, Option, Some, slice_get, arith}
+use Rattle.std.proofs.Common.{◌≡◌, ◌∙◌, refl, ap, ℕ, suc, ◌+◌, Bool, true, false, List, [], ◌∷◌, ◌++◌, map, Option, Some, None, slice_get, arith}
 use Rattle.std.specs.Prelude.{if◌then◌else◌, option_and_then}
 use Rattle.std.specs.Option.{option_map}
 use Rattle.program_rules.specs.Names.{Name, same}
@@ -10,29 +10,13 @@ use Rattle.class_link.specs.declared.loaded.Loaded.{Loaded}
 use Rattle.class_link.specs.declared.loaded.LibClass.{LibClass}
 use Rattle.class_link.specs.declared.loaded.ClassBody.{ClassBody}
 use Rattle.class_link.specs.declared.loaded.ClassBody.TheVariants as body
-use Rattle.class_link.specs.Info.{Info, body_name, link_body, class_of, own_name}
+use Rattle.class_link.specs.Info.{Info, body_name, link_body, own_name}
 use Rattle.class_link.specs.Linking.{link_library}
-use Rattle.class_table.specs.Table.{place_from, names, class_at, look, bodies_of, names_of}
-use Rattle.mutest_engine.specs.Originals.{classes_in, IsOfBody, AreOfBodies, named, program_of, names_in}
+use Rattle.class_table.specs.Faults.{look_of}
+use Rattle.class_table.specs.Table.{place_from, place_in, look, bodies_of, names_of}
+use Rattle.mutest_engine.specs.Originals.{classes_in, named, program_of, names_in}
 
--- ---- by number and by name
-
-abbrev by_name : Info → Name × Linked
-by_name i = (i.name, class_of i)
-
-found_case : (f : ℕ → Option Linked) (k : ℕ) (n : Name) (x : Info) (xs : List Info) (b : Bool) → f k ≡ Some (class_of x) → option_and_then f (place_from n (suc k) (names xs)) ≡ class_among (map by_name xs) n
-    → option_and_then f (if b then Some k else place_from n (suc k) (names xs)) ≡ (if b then Some (class_of x) else class_among (map by_name xs) n)
-found_case f k n x xs true here rest = here
-found_case f k n x xs false here rest = rest
-
-found_from : (f : ℕ → Option Linked) (k : ℕ) (n : Name) (xs : List Info) → ((j : ℕ) → f (k + j) ≡ option_map class_of (slice_get xs j)) → option_and_then f (place_from n k (names xs)) ≡ class_among (map by_name xs) n
-found_from f k n [] h = refl
-found_from f k n (x ∷ xs) h =
-    found_case f k n x xs (same x.name n) (ap f (let e : k ≡ k + 0 = omega arith in e) ∙ h 0)
-    (found_from f (suc k) n xs (λ j. ap f (let e : suc k + j ≡ k + suc j = omega arith in e) ∙ h (suc j)))
-
-look_among : (p : List Info) (n : Name) → look p n ≡ class_among (map by_name p) n
-look_among p n = found_from (class_at p) 0 n p (λ j. ap (class_at p) (let e : 0 + j ≡ j = omega arith in e))
+-- ---- by name
 
 among_both : (xs ys : List (Name × Linked)) (n : Name) → class_among (xs ++ ys) n ≡ first_of (class_among xs n) (class_among ys n)
 among_both [] ys n = refl
@@ -47,13 +31,6 @@ among_both (x ∷ xs) ys n = both_case (same x.0 n) (among_both xs ys n)
 abbrev of_body : ClassBody → Name × Linked
 of_body b = (body_name b, link_body b)
 
-all_of_bodies : (p : List Info) → AreOfBodies p → map by_name p ≡ map of_body (map (λ i. i.body) p)
-all_of_bodies [] h = refl
-all_of_bodies (x ∷ p) h =
-    let first : IsOfBody x = h 0 (omega arith) in
-    let rest = all_of_bodies p (λ id lt. h (suc id) (omega (arith, lt))) in
-    (λ i. (first.0 i, first.1 i) ∷ rest i)
-
 of_library : (library : List LibClass) → map of_body (map body.Library library) ≡ map (λ c. (c.name, link_library c)) library
 of_library [] = refl
 of_library (c ∷ library) = ap (λ z. (c.name, link_library c) ∷ z) (of_library library)
@@ -62,13 +39,39 @@ of_bodies : (classes : List Loaded) (library : List LibClass) → map of_body (b
 of_bodies [] library = of_library library
 of_bodies (c ∷ classes) library = ap (λ z. named c.class ∷ z) (of_bodies classes library)
 
-pub is_program : (p : List Info) (classes : List Loaded) (library : List LibClass) → AreOfBodies p → map (λ i. i.body) p ≡ bodies_of classes library → map (λ c. (c.name, link_library c)) library ≡ library_so_far
-    → look p ≡ program_of (classes_in classes)
+-- ---- by number
+
+found_body : (f : ℕ → Option Linked) (k : ℕ) (n : Name) (x : ClassBody) (xs : List ClassBody) (b : Bool) → f k ≡ Some (link_body x) → option_and_then f (place_from n (suc k) (map body_name xs)) ≡ class_among (map of_body xs) n
+    → option_and_then f (if b then Some k else place_from n (suc k) (map body_name xs)) ≡ (if b then Some (link_body x) else class_among (map of_body xs) n)
+found_body f k n x xs true here rest = here
+found_body f k n x xs false here rest = rest
+
+bodies_from : (f : ℕ → Option Linked) (k : ℕ) (n : Name) (xs : List ClassBody) → ((j : ℕ) → f (k + j) ≡ option_map link_body (slice_get xs j)) → option_and_then f (place_from n k (map body_name xs)) ≡ class_among (map of_body xs) n
+bodies_from f k n [] h = refl
+bodies_from f k n (x ∷ xs) h =
+    found_body f k n x xs (same (body_name x) n) (ap f (let e : k ≡ k + 0 = omega arith in e) ∙ h 0)
+    (bodies_from f (suc k) n xs (λ j. ap f (let e : suc k + j ≡ k + suc j = omega arith in e) ∙ h (suc j)))
+
+linked_at : List ClassBody → ℕ → Option Linked
+linked_at bs j = option_map link_body (slice_get bs j)
+
+mapped_after : (bs : List ClassBody) (o : Option ℕ) → option_map link_body (option_and_then (slice_get bs) o) ≡ option_and_then (linked_at bs) o
+unfolding linked_at
+mapped_after bs None = refl
+mapped_after bs (Some j) = refl
+
+bodies_among : (bs : List ClassBody) (n : Name) → look_of bs n ≡ class_among (map of_body bs) n
+unfolding linked_at
+bodies_among bs n = mapped_after bs (place_in (map body_name bs) n) ∙ bodies_from (linked_at bs) 0 n bs (λ j. ap (linked_at bs) (let e : 0 + j ≡ j = omega arith in e))
+
+pub look_is : (classes : List Loaded) (library : List LibClass) → map (λ c. (c.name, link_library c)) library ≡ library_so_far → look_of (bodies_of classes library) ≡ program_of (classes_in classes)
 unfolding program_of
-is_program p classes library ok made lib =
-    let pairs : map by_name p ≡ map named (classes_in classes) ++ library_so_far =
-    all_of_bodies p ok ∙ ap (map of_body) made ∙ of_bodies classes library ∙ ap (λ z. map named (classes_in classes) ++ z) lib in
-    λ i n. (look_among p n ∙ ap (λ z. class_among z n) pairs ∙ among_both (map named (classes_in classes)) library_so_far n) i
+look_is classes library lib =
+    let pairs : map of_body (bodies_of classes library) ≡ map named (classes_in classes) ++ library_so_far = of_bodies classes library ∙ ap (λ z. map named (classes_in classes) ++ z) lib in
+    λ i n. (bodies_among (bodies_of classes library) n ∙ ap (λ z. class_among z n) pairs ∙ among_both (map named (classes_in classes)) library_so_far n) i
+
+pub is_program : (p : List Info) (classes : List Loaded) (library : List LibClass) → look p ≡ look_of (bodies_of classes library) → map (λ c. (c.name, link_library c)) library ≡ library_so_far → look p ≡ program_of (classes_in classes)
+is_program p classes library looks lib = looks ∙ look_is classes library lib
 
 -- ---- names
 

@@ -11,12 +11,16 @@ use Rattle.mutator_ops.specs.declared.mutant.Mutant.{Mutant}
 use Rattle.mutant_runs.specs.Programs.{ClassFiles}
 use Rattle.mutest_engine.specs.Answers.{IsOfSuite}
 use Rattle.mutest_engine.specs.Steps.{and_then}
+use Rattle.class_model.specs.declared.class.Class.{Class}
+use Rattle.class_order.specs.Supers.{is_super_missing, is_super_of_wrong_kind}
 use Rattle.mutest_engine.specs.Duplicates.{duplicate_in}
-use Rattle.mutest_engine.specs.Originals.{test_text, all_classes, classes_in, names_in, unless_twice, tests_of, few_tests, settled, run_ending, run_settled, all_settled, all_passed, green}
+use Rattle.mutest_engine.specs.Supers.{is_own_super, least_with, unless_found}
+use Rattle.mutest_engine.specs.declared.refusal.ProgramFault.{ProgramFault}
+use Rattle.mutest_engine.specs.Originals.{test_text, all_classes, classes_in, names_in, program_of, accepted, tests_of, few_tests, settled, run_ending, run_settled, all_settled, all_passed, green}
 use Rattle.mutest_engine.specs.Mutation.{few_mutants, few, tested, judged, linked, suite_files, program, mutants_of, IsBeforeRuns}
 use Rattle.mutest_engine.specs.declared.refusal.Limit.{Limit}
 use Rattle.mutest_engine.specs.declared.refusal.Limit.TheVariants as limit
-use Rattle.mutest_engine.specs.declared.refusal.ProgramFault.TheVariants.{Duplicate}
+use Rattle.mutest_engine.specs.declared.refusal.ProgramFault.TheVariants.{Duplicate, SuperMissing, SuperCycle, SuperKind}
 use Rattle.mutest_engine.specs.declared.refusal.Refusal.{Refusal}
 use Rattle.mutest_engine.specs.declared.refusal.Refusal.TheVariants.{BadProgram, NotGreen, TooMany, MachineCheck}
 use Rattle.mutest_engine.specs.declared.suite.LoadedSuite.{LoadedSuite}
@@ -72,11 +76,20 @@ of_tested files p ts ms r h =
     and_err (few ts ms) _ r IsOfSuite (of_few ts ms r)
     (λ ok rest. and_err (green p ts) _ r IsOfSuite (λ is. (of_green p ts r is).0) (λ ok none. no_ok _ r (IsOfSuite r) none) rest) h
 
-of_linked : (o : Option Name) (r : Refusal) → unless_twice o ≡ Err r → IsOfSuite r
-of_linked None r h = absurd cc
-of_linked (Some name) r h = let e : BadProgram (Duplicate name) ≡ r = cc in subst IsOfSuite e tt
+of_found : (fault : Name → ProgramFault) (o : Option Name) (r : Refusal) → unless_found fault o ≡ Err r → IsOfSuite r
+of_found fault None r h = absurd cc
+of_found fault (Some name) r h = let e : BadProgram (fault name) ≡ r = cc in subst IsOfSuite e tt
+
+of_accepted : (classes : List Class) (r : Refusal) → accepted classes ≡ Err r → IsOfSuite r
+of_accepted classes r h =
+    let p = program_of classes in
+    let ns = names_in classes in
+    and_err (unless_found Duplicate (duplicate_in ns)) _ r IsOfSuite (of_found Duplicate (duplicate_in ns) r)
+    (λ ok rest. and_err (unless_found SuperMissing (least_with (is_super_missing p) ns)) _ r IsOfSuite (of_found SuperMissing (least_with (is_super_missing p) ns) r)
+    (λ ok more. and_err (unless_found SuperCycle (least_with (is_own_super p ns) ns)) _ r IsOfSuite (of_found SuperCycle (least_with (is_own_super p ns) ns) r)
+    (λ ok. of_found SuperKind (least_with (is_super_of_wrong_kind p) ns) r) more) rest) h
 
 pub of_judged : (s : LoadedSuite) (r : Refusal) → judged s ≡ Err r → IsOfSuite r
 of_judged s r h =
-    and_err (linked s) _ r IsOfSuite (of_linked (duplicate_in (names_in (classes_in (all_classes s)))) r)
+    and_err (linked s) _ r IsOfSuite (of_accepted (classes_in (all_classes s)) r)
     (λ ok. of_tested (suite_files s) (program s) (tests_of s) (mutants_of s) r) h

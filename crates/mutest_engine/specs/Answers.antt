@@ -8,6 +8,7 @@ use Rattle.class_reader.specs.Reading.{class_of_file}
 use Rattle.class_asm.specs.Assembled.{AssembledClass}
 use Rattle.asm_text.specs.declared.fault.AsmFault.TheVariants as asm_fault
 use Rattle.mt_edge.specs.Files.{Files}
+use Rattle.mutest_engine.specs.Steps.{and_then}
 use Rattle.mutest_engine.specs.Words.{Command, list_class, run_suite, assemble_class}
 use Rattle.mutest_engine.specs.declared.answer.Answer.{Answer}
 use Rattle.mutest_engine.specs.declared.answer.Product.{Product}
@@ -52,9 +53,11 @@ made a = (answered a).writes
 -- ---- files
 
 -- a file has at most 4,194,304 bytes
+abbrev pub few_bytes : ℕ → Result (Unit {0}) Refusal
+few_bytes count = if nat_lt 4194304 count then Err (TooMany limit.Class count) else Ok tt
+
 abbrev pub within_limit : List ℕ → Result (List ℕ) Refusal
-within_limit bytes =
-    if nat_lt 4194304 (length bytes) then Err (TooMany limit.Class (length bytes)) else Ok bytes
+within_limit bytes = and_then (few_bytes (length bytes)) (λ few. Ok bytes)
 
 abbrev pub held_at : List ℕ → Option (List ℕ) → Result (List ℕ) Refusal
 held_at path None = Err (NotFound path)

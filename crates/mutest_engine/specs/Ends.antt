@@ -2,11 +2,12 @@
 use Rattle.std.specs.Prelude.{◌≡◌, ◌⊎◌, ℕ, ◌+◌, ◌≤◌, List, [], ◌∷◌, Option, IfSome, Result, Ok, Err, MatchResult}
 use Rattle.mutest_engine.specs.Words.{Command, list_class, run_suite, assemble_class}
 use Rattle.mutest_engine.specs.Answers.{Answered, Write, answered, MayRefuse}
-use Rattle.mutest_engine.specs.Decided.{CanAnswer}
+use Rattle.mutest_engine.specs.Decided.{CanAnswer, steps_asked, steps_of}
 use Rattle.mutest_engine.specs.Mutation.{Stays}
 use Rattle.mt_edge.specs.Files.{Files}
 use Rattle.mutest_engine.specs.Steps.{Failed, ReadsBy, RefusesReading}
 use Rattle.mutest_engine.specs.declared.answer.Answer.{Answer}
+use Rattle.mutest_engine.specs.declared.command.RunOptions.{RunOptions as FoundRun}
 use Rattle.mutest_engine.specs.declared.answer.Product.{Product}
 use Rattle.mutest_engine.specs.declared.answer.Product.TheVariants.{Report, Assembled}
 use Rattle.mutest_engine.specs.declared.refusal.Refusal.{Refusal}
@@ -161,6 +162,13 @@ AnswerMeters before after steps result =
 abbrev pub MetersHeld : Option Files → ℕ → ℕ → (Files → ℕ) → Result Answer Halt → Type 0
 MetersHeld held before after steps result =
     IfSome held (λ files. AnswerMeters before after (steps files) result)
+
+-- the same of a suite, and of what the words ask for
+abbrev pub MetersRun : Option Files → ℕ → ℕ → FoundRun → Result Answer Halt → Type 0
+MetersRun held before after options result = MetersHeld held before after (steps_asked options) result
+
+abbrev pub MetersWords : Option Files → ℕ → ℕ → List (List ℕ) → Result Answer Halt → Type 0
+MetersWords held before after words result = MetersHeld held before after (steps_of words) result
 
 -- ---- a call, by its answer
 

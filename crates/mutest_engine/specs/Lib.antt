@@ -2,6 +2,7 @@ pub mod Words
 pub mod Steps
 pub mod Answers
 pub mod SuiteFiles
+pub mod Supers
 pub mod Duplicates
 pub mod Originals
 pub mod Mutation

@@ -1,14 +1,13 @@
 -- The mutants of a suite, every test on every mutant, and what is written of them (this project's own).
-use Rattle.std.specs.Prelude.{◌≡◌, ℕ, ◌+◌, ◌≤◌, nat_lt, List, [], ◌∷◌, map, length, Some, None, Result, Ok, Err, if◌then◌else◌}
-use Rattle.std.specs.List.{flat_map}
-use Rattle.class_model.specs.Text.{text}
+use Rattle.std.specs.Prelude.{◌≡◌, ℕ, zero, suc, ◌+◌, ◌<◌, ◌≤◌, nat_lt, slice_get, option_and_then, List, [], ◌∷◌, map, length, Some, None, Result, Ok, Err, if◌then◌else◌}
 use Rattle.class_model.specs.declared.class.Class.{Class}
+use Rattle.class_model.specs.declared.class.ClassId.{ClassId}
 use Rattle.program_rules.specs.Names.{same}
 use Rattle.program_rules.specs.Programs.{Look}
-use Rattle.class_link.specs.Info.{Info, own_name}
+use Rattle.class_link.specs.Info.{Info, own_name, file_in}
 use Rattle.class_table.specs.Table.{look}
 use Rattle.class_table.specs.declared.scripted.Test.{Test}
-use Rattle.mutator_ops.specs.Mutants.{class_mutants}
+use Rattle.mutator_ops.specs.Programs.{mutants_among, mutants}
 use Rattle.mutator_ops.specs.declared.mutant.Mutant.{Mutant}
 use Rattle.mutator_ops.specs.declared.mutant.Verdict.{Verdict}
 use Rattle.mutant_runs.specs.Programs.{ClassFiles, files_of}
@@ -17,7 +16,7 @@ use Rattle.mutant_runs.specs.Verdicts.{verdict_of, steps_of_all}
 use Rattle.report_schema.specs.FileKey.{file_key}
 use Rattle.report_schema.specs.declared.input.ReportInput.{ReportInput}
 use Rattle.mutest_engine.specs.Steps.{and_then, Counts}
-use Rattle.mutest_engine.specs.Originals.{all_classes, classes_in, program_of, accepted, ordered, tests_of, few_tests, usual, green, original_steps, steps_made}
+use Rattle.mutest_engine.specs.Originals.{all_classes, classes_in, program_of, accepted, tests_of, few_tests, usual, green, original_steps, steps_made}
 use Rattle.mutest_engine.specs.declared.suite.LoadedSuite.{LoadedSuite}
 use Rattle.mutest_engine.specs.declared.refusal.Refusal.{Refusal}
 use Rattle.mutest_engine.specs.declared.stop.Stop.{Stop}
@@ -26,18 +25,25 @@ use Rattle.mutest_engine.specs.declared.refusal.Limit.TheVariants as limit
 
 -- ---- the mutants
 
--- The mutants of a class, by its name in modified UTF-8.
-abbrev pub mutants_by_name : Class → List ℕ × List Mutant
-mutants_by_name c = (text (own_name c), class_mutants c)
+-- The numbers of so many classes, from this one on.
+abbrev pub numbers_from : ℕ → ℕ → List ℕ
+numbers_from k zero = []
+numbers_from k (suc n) = k ∷ numbers_from (suc k) n
 
--- The mutants of these classes, in the order of the classes' names.
-abbrev pub kept_mutants : List Class → List (List ℕ × List Mutant)
-kept_mutants classes = ordered (map mutants_by_name classes)
+abbrev pub numbers_of : List ClassId → List ℕ
+numbers_of ids = map (λ id. id.0) ids
 
-abbrev pub mutants_among : List Class → List Mutant
-mutants_among classes = flat_map (λ e. e.1) (kept_mutants classes)
+-- The class files of a program have the first numbers, in order.
+abbrev pub AreNumbered : List Info → List Class → Type 0
+AreNumbered p classes =
+    (k : ℕ) → k < length classes → option_and_then file_in (slice_get p k) ≡ slice_get classes k
 
--- The mutants of a suite are those of its classes folder.
+-- The mutants of so many class files of a program, from the first on.
+abbrev pub AreFirstMutants : List Info → ℕ → List Mutant → Type 0
+AreFirstMutants p count ms =
+    (ids : List ClassId) × (numbers_of ids ≡ numbers_from 0 count) × (ms ≡ mutants p ids)
+
+-- The mutants of a suite are those of its classes folder, in the order of the classes' names.
 abbrev pub mutants_of : LoadedSuite → List Mutant
 mutants_of s = mutants_among (classes_in s.classes)
 
@@ -151,3 +157,8 @@ Stays before after refusal = (before ≤ after) × (IsBeforeRuns refusal → aft
 abbrev pub Meters : {X : Type 0} → ℕ → ℕ → ℕ → Result X Stop → Type 0
 Meters before after steps result =
     (before ≤ after) × (after ≤ before + steps) × Counts after (before + steps) result
+
+-- The same of the runs of these tests on a program and on these mutants of it.
+abbrev pub MetersRuns :
+    {X : Type 0} → ℕ → ℕ → List Info → List Test → List Mutant → Result X Stop → Type 0
+MetersRuns before after p ts ms result = Meters before after (steps_on_all p ts ms) result

@@ -1,5 +1,5 @@
 -- The program of a suite, its tests, and their runs on the program as it is (this project's own).
-use Rattle.std.specs.Prelude.{◌≡◌, ℕ, ◌+◌, ◌<◌, nat_lt, slice_get, IsSomeAnd, List, [], ◌∷◌, ◌++◌, codes, map, fold, length, Option, Some, None, Result, Ok, Err, if◌then◌else◌}
+use Rattle.std.specs.Prelude.{◌≡◌, ℕ, ◌+◌, nat_lt, MatchOption, List, [], ◌∷◌, ◌++◌, codes, map, fold, Option, Some, None, Result, Ok, Err, if◌then◌else◌}
 use Rattle.std.specs.List.{flat_map}
 use Rattle.std.specs.BTreeMap.{insert_entry}
 use Rattle.std.specs.Ordering.{nat_cmp}
@@ -18,15 +18,21 @@ use Rattle.machine_rules.specs.Runs.{Ending, With, StuckAt, Ran}
 use Rattle.machine_so_far.specs.Runs.{run_so_far}
 use Rattle.class_link.specs.declared.loaded.Loaded.{Loaded}
 use Rattle.class_table.specs.declared.scripted.Test.{Test}
-use Rattle.class_link.specs.Info.{Info, own_name, body_name, link_body, class_of}
+use Rattle.class_link.specs.Info.{own_name}
 use Rattle.class_link.specs.Linking.{link}
 use Rattle.jvm_step.specs.View.{test_of}
 use Rattle.test_discovery.specs.Tests.{class_tests}
 use Rattle.mutator_ops.specs.Printing.{printed}
 use Rattle.mutest_engine.specs.Steps.{and_then}
 use Rattle.mutest_engine.specs.Duplicates.{duplicate_in}
+use Rattle.mutest_engine.specs.Supers.{unless_found, right_supers}
 use Rattle.mutest_engine.specs.declared.suite.LoadedSuite.{LoadedSuite}
-use Rattle.mutest_engine.specs.declared.refusal.ProgramFault.TheVariants.{Duplicate}
+use Rattle.class_table.specs.declared.fault.TableFault.{TableFault}
+use Rattle.class_table.specs.declared.fault.TableFault.TheVariants as fault
+use Rattle.mutest_engine.specs.declared.refusal.ProgramFault.{ProgramFault}
+use Rattle.mutest_engine.specs.declared.refusal.ProgramFault.TheVariants.{Duplicate, SuperMissing, SuperCycle, SuperKind}
+use Rattle.mutest_engine.specs.declared.stop.Stop.{Stop}
+use Rattle.mutest_engine.specs.declared.stop.Stop.TheVariants as stop
 use Rattle.mutest_engine.specs.declared.refusal.Refusal.{Refusal}
 use Rattle.mutest_engine.specs.declared.refusal.Refusal.TheVariants.{BadProgram, NotGreen, TooMany, MachineCheck}
 use Rattle.mutest_engine.specs.declared.refusal.Limit.TheVariants as limit
@@ -48,24 +54,27 @@ unfoldable pub program_of : List Class → Look
 program_of classes n =
     first_of (class_among (map named classes) n) (class_among library_so_far n)
 
--- A class of a program has the name and the meaning of what it was made of.
-abbrev pub IsOfBody : Info → Type 0
-IsOfBody i = (i.name ≡ body_name i.body) × (class_of i ≡ link_body i.body)
-
-abbrev pub AreOfBodies : List Info → Type 0
-AreOfBodies p = (id : ℕ) → id < length p → IsSomeAnd (slice_get p id) IsOfBody
-
 -- The names of the classes and of the library's.
 abbrev pub names_in : List Class → List Name
 names_in classes = map own_name classes ++ map (λ c. c.0) library_so_far
 
-abbrev pub unless_twice : Option Name → Result (Unit {0}) Refusal
-unless_twice None = Ok tt
-unless_twice (Some name) = Err (BadProgram (Duplicate name))
-
--- No two classes have one name.
+-- The classes are a program: no two have one name, and their supers are as they have to be.
 abbrev pub accepted : List Class → Result (Unit {0}) Refusal
-accepted classes = unless_twice (duplicate_in (names_in classes))
+accepted classes =
+    and_then (unless_found Duplicate (duplicate_in (names_in classes))) (λ apart.
+    right_supers (program_of classes) (names_in classes))
+
+-- The same by the fault that the code finds; want of memory is none.
+abbrev pub fault_of : TableFault → Option ProgramFault
+fault_of (fault.Duplicate name) = Some (Duplicate name)
+fault_of (fault.SuperMissing name) = Some (SuperMissing name)
+fault_of (fault.SuperCycle name) = Some (SuperCycle name)
+fault_of (fault.SuperKind name) = Some (SuperKind name)
+fault_of fault.Memory = None
+
+abbrev pub IsStopOf : TableFault → Stop → Type 0
+IsStopOf table s =
+    MatchOption (fault_of table) (s ≡ stop.WantOfMemory) (λ f. s ≡ stop.Refused (BadProgram f))
 
 -- ---- the tests
 

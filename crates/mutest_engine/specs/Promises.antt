@@ -1,17 +1,24 @@
 -- What is promised of a tree and of a sink, by what is told of them before and after (this project's own).
 use Rattle.std.specs.Prelude.{◌≡◌, ◌⊎◌, ℕ, ◌+◌, List, Option, Some, IfSome, Result, Ok, MatchResult}
+use Rattle.std.specs.Global.{Vec, Global}
+use Rattle.std.specs.declared.string.String.{String}
 use Rattle.mt_edge.specs.Files.{Files}
 use Rattle.mt_edge.specs.Pieces.{GrowsBy}
 use Rattle.mutest_engine.specs.Answers.{Answered, answered}
 use Rattle.mutest_engine.specs.Decided.{CanState, answer_of, steps_of}
 use Rattle.mutest_engine.specs.Ends.{Agrees, MeterRose}
 use Rattle.mutest_engine.specs.Said.{Got, Prints, Allows, FilesAfter, writes_in}
+use Rattle.mutest_engine.specs.SuiteFiles.{texts}
 use Rattle.mutest_engine.specs.Words.{words_of}
 use Rattle.mutest_engine.specs.declared.answer.Answer.{Answer}
 use Rattle.mutest_engine.specs.declared.refusal.Refusal.{Refusal}
 use Rattle.mutest_engine.specs.declared.status.Status.{Status}
 use Rattle.mutest_engine.specs.declared.status.Status.TheVariants.{WantOfMemory}
 use Rattle.mutest_engine.specs.declared.stop.Halt.{Halt}
+
+-- the words behind the program's name
+abbrev pub WordList : Type 0
+WordList = Vec (String Global)
 
 -- ---- a sink, with its count of faults and its bytes
 
@@ -27,28 +34,32 @@ module _ {O : Type 0} (faults : O → ℕ) (written : O → Option (List ℕ)) w
   PrintsIn old new stated end =
       Prints (faults old) (faults new) (written old) (written new) stated end
 
-  -- The same, by what the code has.
+  -- The same, by what the code has: an answer,
+  abbrev pub PrintsMade : O → O → Answer → Status → Type 0
+  PrintsMade old new a end = PrintsIn old new (Ok (answered a)) end
+
+  -- or why there is none.
   abbrev pub PrintsOf : O → O → Result Answer Halt → Status → Type 0
   PrintsOf old new answer end =
       MatchResult answer (λ a. PrintsIn old new (Ok (answered a)) end)
       (λ h. (stated : Result Answered Refusal) → Allows h stated → PrintsIn old new stated end)
 
-  -- The same, where these are the files that the tree tells,
-  abbrev pub PrintsHeld : O → O → Option Files → List (List ℕ) → Status → Type 0
-  PrintsHeld old new held words end =
-      IfSome held (λ files. PrintsIn old new (answer_of words files) end)
+  -- The same of these words, where these are the files that the tree tells,
+  abbrev pub Puts : O → O → Option Files → WordList → Status → Type 0
+  Puts old new held words end =
+      IfSome held (λ files. PrintsIn old new (answer_of (texts words) files) end)
 
   -- and whatever it tells.
-  abbrev pub PrintsUntold : O → O → List (List ℕ) → Status → Type 0
-  PrintsUntold old new words end =
-      (stated : Result Answered Refusal) × CanState (words_of words) stated
+  abbrev pub PutsUntold : O → O → WordList → Status → Type 0
+  PutsUntold old new words end =
+      (stated : Result Answered Refusal) × CanState (words_of (texts words)) stated
       × PrintsIn old new stated end
 
 -- ---- a tree, by the files that it tells
 
 -- Each status comes exactly where words and files say so, but for faults and want of memory.
-abbrev pub AgreesHeld : Option Files → List (List ℕ) → Status → Type 0
-AgreesHeld held words end = IfSome held (λ files. Agrees (answer_of words files) end)
+abbrev pub AgreesHeld : Option Files → WordList → Status → Type 0
+AgreesHeld held words end = IfSome held (λ files. Agrees (answer_of (texts words) files) end)
 
 -- The tree holds what this status leaves there, by what the code has,
 abbrev pub LeavesOf : Option Files → Option Files → Result Answer Halt → Status → Type 0
@@ -56,16 +67,16 @@ LeavesOf old new answer end =
     MatchResult answer (λ a. FilesAfter (answered a).writes old new end) (λ h. new ≡ old)
 
 -- and by what words and files decide.
-abbrev pub LeavesHeld : Option Files → Option Files → List (List ℕ) → Status → Type 0
+abbrev pub LeavesHeld : Option Files → Option Files → WordList → Status → Type 0
 LeavesHeld old new words end =
-    IfSome old (λ files. FilesAfter (writes_in (answer_of words files)) (Some files) new end)
+    IfSome old (λ files. FilesAfter (writes_in (answer_of (texts words) files)) (Some files) new end)
 
 -- Nothing is written before the last run.
-abbrev pub WritesLast : Option Files → Option Files → List (List ℕ) → ℕ → ℕ → Type 0
+abbrev pub WritesLast : Option Files → Option Files → WordList → ℕ → ℕ → Type 0
 WritesLast old new words before after =
-    IfSome old (λ files. (new ≡ Some files) ⊎ (after ≡ before + steps_of words files))
+    IfSome old (λ files. (new ≡ Some files) ⊎ (after ≡ before + steps_of (texts words) files))
 
 -- The steps of the runs that were made.
-abbrev pub MeterHeld : Option Files → List (List ℕ) → ℕ → ℕ → Status → Type 0
+abbrev pub MeterHeld : Option Files → WordList → ℕ → ℕ → Status → Type 0
 MeterHeld held words before after end =
-    IfSome held (λ files. MeterRose before after (steps_of words files) end)
+    IfSome held (λ files. MeterRose before after (steps_of (texts words) files) end)

@@ -55,21 +55,33 @@ Interrupted (Ok a) before after =
 Interrupted (Err r) before after =
     GrowsBy before after (refusal_line r) ⊎ GrowsBy before after (line_of (ReadFault 1))
 
-abbrev pub text_of : Result Answered Refusal → List ℕ
-text_of (Ok a) = a.text
-text_of (Err r) = []
-
--- What a status leaves in the sink, where this answer or this refusal is stated. A failed output leaves a beginning of the text before its line; a file that couldn't be replaced leaves its line alone.
-abbrev pub Prints : ℕ → ℕ → Option (List ℕ) → Option (List ℕ) → Result Answered Refusal → Status → Type 0
-Prints put0 put1 before after stated Done = Grows before after (text_of stated)
-Prints put0 put1 before after stated (Refused r) = Got put0 put1 before after (refusal_line r)
-Prints put0 put1 before after stated (ReadFault faults) =
+-- What a status leaves in the sink where this answer is stated. A failed output leaves a beginning of
+-- the text before its line; a file that couldn't be replaced leaves its line alone.
+abbrev pub PrintsAnswer : ℕ → ℕ → Option (List ℕ) → Option (List ℕ) → Answered → Status → Type 0
+PrintsAnswer put0 put1 before after a Done = Grows before after a.text
+PrintsAnswer put0 put1 before after a (Refused r) = ⊥
+PrintsAnswer put0 put1 before after a (ReadFault faults) =
     Got put0 put1 before after (line_of (ReadFault faults))
-Prints put0 put1 before after stated (WriteFault (File product) faults) =
+PrintsAnswer put0 put1 before after a (WriteFault (File product) faults) =
     Got put0 put1 before after (line_of (WriteFault (File product) faults))
-Prints put0 put1 before after stated (WriteFault Text faults) =
-    Broken before after (text_of stated) (line_of (WriteFault Text faults))
-Prints put0 put1 before after stated WantOfMemory = Interrupted stated before after
+PrintsAnswer put0 put1 before after a (WriteFault Text faults) =
+    Broken before after a.text (line_of (WriteFault Text faults))
+PrintsAnswer put0 put1 before after a WantOfMemory = Interrupted (Ok a) before after
+
+-- The same where this refusal is stated: nothing is done then.
+abbrev pub PrintsRefusal : ℕ → ℕ → Option (List ℕ) → Option (List ℕ) → Refusal → Status → Type 0
+PrintsRefusal put0 put1 before after r Done = ⊥
+PrintsRefusal put0 put1 before after r (Refused told) =
+    (told ≡ r) × Got put0 put1 before after (refusal_line told)
+PrintsRefusal put0 put1 before after r (ReadFault faults) =
+    Got put0 put1 before after (line_of (ReadFault faults))
+PrintsRefusal put0 put1 before after r (WriteFault which faults) = ⊥
+PrintsRefusal put0 put1 before after r WantOfMemory = Interrupted (Err r) before after
+
+abbrev pub Prints :
+    ℕ → ℕ → Option (List ℕ) → Option (List ℕ) → Result Answered Refusal → Status → Type 0
+Prints put0 put1 before after (Ok a) end = PrintsAnswer put0 put1 before after a end
+Prints put0 put1 before after (Err r) end = PrintsRefusal put0 put1 before after r end
 
 -- A call that halts so may have this stated.
 abbrev pub Allows : Halt → Result Answered Refusal → Type 0
@@ -104,8 +116,14 @@ LeavesWrites ws old new unwritten.Memory = Partly ws old new
 abbrev pub LeavesAll : List Written → Option Files → Option Files → Unwritten → Type 0
 LeavesAll writes old new u = LeavesWrites (map write_of writes) old new u
 
+abbrev pub LeavesOne : Written → Option Files → Option Files → Unwritten → Type 0
+LeavesOne write old new u = LeavesWrites (write_of write ∷ []) old new u
+
 abbrev pub Wrote : List Write → Option Files → Option Files → Type 0
 Wrote ws old new = new ≡ all_written ws old
+
+abbrev pub WroteAll : List Written → Option Files → Option Files → Type 0
+WroteAll writes old new = Wrote (map write_of writes) old new
 
 -- Where replacing is told to have failed, it did, by the count of faults before and after.
 abbrev pub FailsWriting : ℕ → ℕ → Unwritten → Type 0

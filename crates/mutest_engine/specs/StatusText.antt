@@ -12,7 +12,7 @@ use Rattle.mutest_engine.specs.declared.answer.Product.TheVariants as product
 use Rattle.mutest_engine.specs.declared.refusal.Limit.{Limit}
 use Rattle.mutest_engine.specs.declared.refusal.Limit.TheVariants as limit
 use Rattle.mutest_engine.specs.declared.refusal.ProgramFault.{ProgramFault}
-use Rattle.mutest_engine.specs.declared.refusal.ProgramFault.TheVariants.{Duplicate}
+use Rattle.mutest_engine.specs.declared.refusal.ProgramFault.TheVariants.{Duplicate, SuperMissing, SuperCycle, SuperKind}
 use Rattle.mutest_engine.specs.declared.refusal.Refusal.{Refusal}
 use Rattle.mutest_engine.specs.declared.refusal.Refusal.TheVariants.{Usage, NotFound, Archive, BadClass, BadProgram, NotGreen, TooMany, MachineCheck, AsmRefused}
 use Rattle.mutest_engine.specs.declared.status.Output.{Output}
@@ -78,9 +78,12 @@ abbrev pub fault_text : ClassFault → Option ℕ → List ℕ
 fault_text fault None = []
 fault_text fault (Some number) = codes " " ++ decimal number ++ codes " " ++ decimal (value_of fault)
 
--- a fault of the program: its number, and the name that two classes have
+-- a fault of the program: its number, and the name of the class that has it
 abbrev pub program_text : ProgramFault → List ℕ
 program_text (Duplicate name) = codes " 13 " ++ printed name
+program_text (SuperMissing name) = codes " 14 " ++ printed name
+program_text (SuperCycle name) = codes " 15 " ++ printed name
+program_text (SuperKind name) = codes " 16 " ++ printed name
 
 -- a test, and the class, the method and the instruction at which its run is stuck
 abbrev pub place_text : List ℕ → Name → Name → ℕ → List ℕ

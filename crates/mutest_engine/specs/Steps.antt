@@ -53,6 +53,10 @@ Reads stated result = MatchResult result (λ x. stated ≡ Ok x) (RefusesReading
 abbrev pub ReadsHeld : {X : Type 0} → Option Files → (Files → Result X Refusal) → Result X Halt → Type 0
 ReadsHeld held stated result = IfSome held (λ files. Reads (stated files) result)
 
+-- A step halts with no other refusal than the stated one.
+abbrev pub HaltsHeld : {X : Type 0} → Option Files → (Files → Result X Refusal) → Halt → Type 0
+HaltsHeld held stated h = IfSome held (λ files. RefusesReading (λ r. stated files ≡ Err r) h)
+
 -- So many calls failed, for a count that stays at its end.
 abbrev pub Failed : ℕ → ℕ → ℕ → Type 0
 Failed before now faults = (0 < faults) × (min (before + faults) (2 ^ 64 - 1) ≤ now)

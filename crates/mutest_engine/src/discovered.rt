@@ -45,10 +45,7 @@ fn all_by_name(alloc: Global, classes: &[Loaded]) -> Result<BTreeMap<Bytes, Seq<
 }
 
 /// All lists one behind the other, in the order of the keys.
-pub fn joined<X: Drop>(
-    alloc: Global,
-    mut by_name: BTreeMap<Bytes, Seq<X>>,
-) -> Result<Seq<X>, Memory>
+fn joined<X: Drop>(alloc: Global, mut by_name: BTreeMap<Bytes, Seq<X>>) -> Result<Seq<X>, Memory>
     ensures { IfOk result (λ all. all ≡ flat_map (λ e. e.1) by_name.entries) }
 {
     let mut all = Vec::new(alloc);

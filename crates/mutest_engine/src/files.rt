@@ -2,10 +2,10 @@
 
 ghost use Rattle.std.specs.Prelude.{◌≡◌, ◌≤◌, ℕ, List, IfOk, IfErr};
 ghost use Rattle.class_writer.specs.Writing.{HasClassForm};
-ghost use Rattle.mutest_engine.specs.Answers.{within_limit as within, file_of, spelled_class, IsClassFault, IsOfFile, IsOfSuite, IsUnheld};
+ghost use Rattle.mutest_engine.specs.Answers.{few_bytes, within_limit as within, file_of, spelled_class, IsClassFault, IsOfFile, IsOfSuite, IsUnheld};
 ghost use Rattle.mutest_engine.specs.declared.refusal.Refusal.TheVariants.{NotFound, BadClass};
 ghost use Rattle.mutest_engine.specs.declared.stop.Halt.TheVariants.{ReadFault};
-ghost use Rattle.mutest_engine.specs.Steps.{Gives, ReadsHeld, Refuses, RefusesReading, FailsReading};
+ghost use Rattle.mutest_engine.specs.Steps.{Gives, ReadsHeld, HaltsHeld, Refuses, RefusesReading, FailsReading};
 
 use crate::refusal::{Limit, Refusal};
 use crate::stop::{Halt, Stop};
@@ -15,20 +15,28 @@ use class_writer::what_is_spelled_is_written;
 use mt_edge::{EdgeFault, Tree};
 use std::alloc::Global;
 
-const CLASS_LIMIT: usize = 4_194_304;
+const CLASS_LIMIT: u64 = 4_194_304;
+
+// A file of so many bytes is within the limit.
+fn few_bytes(length: u64) -> Result<(), Refusal>
+    ensures value { result ≡ few_bytes length }
+    ensures refusal { IfErr result (λ r. (path : List ℕ) → IsUnheld path r) }
+{
+    if length > CLASS_LIMIT {
+        return Err(Refusal::TooMany {
+            limit: Limit::Class,
+            number: length,
+        });
+    }
+    Ok(())
+}
 
 // A file within the limit.
 fn within_limit(bytes: Bytes) -> Result<Bytes, Refusal>
     ensures value { result ≡ within bytes }
     ensures refusal { IfErr result (λ r. (path : List ℕ) → IsUnheld path r) }
 {
-    let length = bytes.len();
-    if length > CLASS_LIMIT {
-        return Err(Refusal::TooMany {
-            limit: Limit::Class,
-            number: length as u64,
-        });
-    }
+    few_bytes(bytes.len() as u64)?;
     Ok(bytes)
 }
 
@@ -43,7 +51,25 @@ fn not_found(alloc: Global, path: &str) -> Halt
     }
 }
 
-/// The bytes of a file.
+// A file that isn't held or is past the limit is refused by its length, and not read.
+fn check_length<T: Tree>(alloc: Global, tree: &mut T, path: &str) -> Result<(), Halt>
+    ensures refused { IfErr result (HaltsHeld (T.holds tree.old) (file_of path.now)) }
+    ensures refusal { IfErr result (RefusesReading (IsUnheld path.now)) }
+    ensures faults { IfErr result (FailsReading (T.reading tree.old) (T.reading tree.new)) }
+    ensures later { T.reading tree.old ≤ T.reading tree.new }
+    ensures held { T.holds tree.new ≡ T.holds tree.old }
+    ensures unwritten { T.writing tree.new ≡ T.writing tree.old }
+{
+    match tree.length(path) {
+        Ok(Some(length)) => Ok(few_bytes(length)?),
+        Ok(None) => Err(not_found(alloc, path)),
+        Err(EdgeFault::Failed) => Err(Halt::ReadFault { faults: 1 }),
+        Err(EdgeFault::Memory) => Err(Halt::WantOfMemory),
+    }
+}
+
+/// The bytes of a file. Its length is asked first, so that none is read whole that is past the limit.
+#[tactic(auto, using(crate::proofs::FaultLaws::fails_since))]
 pub fn read_file<T: Tree>(alloc: Global, tree: &mut T, path: &str) -> Result<Bytes, Halt>
     ensures value { ReadsHeld (T.holds tree.old) (file_of path.now) result }
     ensures refusal { IfErr result (RefusesReading (IsUnheld path.now)) }
@@ -52,6 +78,7 @@ pub fn read_file<T: Tree>(alloc: Global, tree: &mut T, path: &str) -> Result<Byt
     ensures held { T.holds tree.new ≡ T.holds tree.old }
     ensures unwritten { T.writing tree.new ≡ T.writing tree.old }
 {
+    check_length(alloc, tree, path)?;
     match tree.read(path) {
         Ok(Some(bytes)) => Ok(within_limit(bytes)?),
         Ok(None) => Err(not_found(alloc, path)),

@@ -5,10 +5,10 @@ ghost use Rattle.mutant_runs.specs.Programs.{files_of, IsMutantOf};
 ghost use Rattle.report_schema.specs.FileKey.{file_key};
 ghost use Rattle.mutest_engine.specs.Steps.{Gives, Refuses, Counts};
 ghost use Rattle.mutest_engine.specs.SuiteFiles.{IsFormed};
-ghost use Rattle.mutest_engine.specs.Mutation.{verdicts_in, steps_on_all, input_of, tested_in, tested_steps_in, judged, suite_steps, Stays, Meters};
+ghost use Rattle.mutest_engine.specs.Mutation.{verdicts_in, steps_on_all, input_of, tested_in, tested_steps_in, judged, suite_steps, Stays, Meters, MetersRuns};
 
 use crate::discovered::{few_tests, tests_of};
-use crate::mutants::{few_mutants, mutants_of};
+use crate::mutants::{few_mutants, first_mutants};
 use crate::originals::{USUAL, green};
 use crate::program::program_of;
 use crate::stop::Stop;
@@ -65,7 +65,7 @@ fn metered_runs(
     requires fit { All (IsMutantOf (files_of program.old)) mutants.now }
     requires room { meter.old < 2 ^ 63 }
     ensures value { Gives (verdicts_in program.old tests.now mutants.now) result }
-    ensures meter { Meters meter.old meter.new (steps_on_all program.old tests.now mutants.now) result }
+    ensures meter { MetersRuns meter.old meter.new program.old tests.now mutants.now result }
 {
     let mut part = meter.split();
     let verdicts = all_runs(alloc, program, tests, mutants, &mut part);
@@ -146,9 +146,10 @@ pub fn judge(alloc: Global, suite: LoadedSuite, meter: &mut Meter) -> Result<Rep
     ensures stays { IfErr result (Refuses (Stays meter.old meter.new)) }
 {
     let tests = tests_of(alloc, suite.tests.as_slice())?;
-    let mutants = mutants_of(alloc, suite.classes.as_slice())?;
+    let own = suite.classes.len();
     let classes = all_classes(suite.classes, suite.tests)?;
     let mut program = program_of(alloc, classes)?;
+    let mutants = first_mutants(alloc, &program, own)?;
     mutants_fit();
     test_mutants(alloc, &mut program, tests, mutants, meter)
 }

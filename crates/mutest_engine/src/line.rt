@@ -110,12 +110,14 @@ fn fault_text(alloc: Global, fault: ClassFault) -> Result<Bytes, Memory>
 fn put_program(alloc: Global, text: &mut Bytes, fault: &ProgramFault) -> Result<(), Memory>
     ensures { OnOk result (text.new ≡ text.old ++ program_text fault.now) }
 {
-    match fault {
-        ProgramFault::Duplicate { name } => {
-            put_str(text, " 13 ")?;
-            put_name(alloc, text, name)
-        }
-    }
+    let (number, name) = match fault {
+        ProgramFault::Duplicate { name } => (" 13 ", name),
+        ProgramFault::SuperMissing { name } => (" 14 ", name),
+        ProgramFault::SuperCycle { name } => (" 15 ", name),
+        ProgramFault::SuperKind { name } => (" 16 ", name),
+    };
+    put_str(text, number)?;
+    put_name(alloc, text, name)
 }
 
 // A path and the fault of the class file there.

@@ -1,43 +1,35 @@
-//! The mutants of a suite, in the order of their classes' names.
+//! The mutants of a suite: those of the class files that have the first numbers of its program.
 
-ghost use Rattle.std.specs.Prelude.{◌≡◌, map, IfOk};
-ghost use Rattle.mutest_engine.specs.Originals.{classes_in};
-ghost use Rattle.mutest_engine.specs.Mutation.{mutants_by_name, kept_mutants, mutants_among, few_mutants};
+ghost use Rattle.std.specs.Prelude.{◌≡◌, ◌≤◌, length, IfOk};
+ghost use Rattle.mutest_engine.specs.Mutation.{numbers_from, numbers_of, AreFirstMutants, few_mutants};
 
-use crate::discovered::{class_name, joined};
 use crate::refusal::{Limit, Refusal};
-use class_model::{Bytes, Class, Memory, Seq};
-use class_table::Loaded;
-use mutator_ops::{Mutant, class_mutants};
+use class_model::{ClassId, Memory, Seq};
+use class_table::Program;
+use mutator_ops::{Mutant, mutants};
 use std::alloc::Global;
-use std::collections::BTreeMap;
 
 const MUTANTS_LIMIT: usize = 262_144;
 
-// The mutants of a class, and its name in modified UTF-8.
-fn mutants_by_name(alloc: Global, class: &Class) -> Result<(Bytes, Seq<Mutant>), Memory>
-    ensures { IfOk result (λ found. found ≡ mutants_by_name class.now) }
+// So many numbers of classes, from the first on.
+fn first_numbers(alloc: Global, count: u32) -> Result<Seq<ClassId>, Memory>
+    ensures { IfOk result (λ ids. numbers_of ids ≡ numbers_from 0 count) }
 {
-    Ok((class_name(alloc, class)?, class_mutants(alloc, class)?))
-}
-
-fn all_by_name(alloc: Global, classes: &[Loaded]) -> Result<BTreeMap<Bytes, Seq<Mutant>>, Memory>
-    ensures { IfOk result (λ found. found.entries ≡ kept_mutants (classes_in classes.now)) }
-{
-    let mut found = BTreeMap::new(alloc);
-    for loaded in classes {
-        let (name, mutants) = mutants_by_name(alloc, &loaded.class)?;
-        found.insert(name, mutants)?;
+    let mut ids = Seq::new(alloc);
+    for number in 0..count {
+        ids.push(ClassId(number))?;
     }
-    Ok(found)
+    Ok(ids)
 }
 
-/// The mutants of these classes.
-pub fn mutants_of(alloc: Global, classes: &[Loaded]) -> Result<Seq<Mutant>, Memory>
-    ensures { IfOk result (λ mutants. mutants ≡ mutants_among (classes_in classes.now)) }
+/// The mutants of so many class files of a program, from the first on.
+pub fn first_mutants(alloc: Global, program: &Program, count: usize) -> Result<Seq<Mutant>, Memory>
+    requires { count ≤ length program.now }
+    ensures { IfOk result (AreFirstMutants program.now count) }
 {
-    let by_name = all_by_name(alloc, classes)?;
-    joined(alloc, by_name)
+    let _all = program.len();
+    let ids = first_numbers(alloc, count as u32)?;
+    mutants(alloc, program, &ids)
 }
 
 /// So many mutants are few enough.

@@ -1,27 +1,31 @@
 //! The program of a suite.
 
-ghost use Rattle.std.specs.Prelude.{◌≡◌, Ok, Err, IfOk, IfErr, OnOk};
+ghost use Rattle.std.specs.Prelude.{◌≡◌, ◌≤◌, length, Ok, Err, IfOk, IfErr, OnOk};
 ghost use Rattle.class_table.specs.Table.{look};
 ghost use Rattle.mutest_engine.specs.Steps.{Refuses};
 ghost use Rattle.mutant_runs.specs.Programs.{files_of};
-ghost use Rattle.mutest_engine.specs.Mutation.{class_file};
-ghost use Rattle.mutest_engine.specs.Originals.{classes_in, AreOfBodies, program_of, accepted};
+ghost use Rattle.mutest_engine.specs.Mutation.{class_file, AreNumbered};
+ghost use Rattle.mutest_engine.specs.Originals.{classes_in, program_of, accepted, IsStopOf};
 
 use crate::refusal::{ProgramFault, Refusal};
 use crate::stop::Stop;
-use class_model::{ClassId, Seq};
+use class_model::Seq;
 use class_table::{Loaded, Program, TableFault};
 use jvm_step::library;
 use std::alloc::Global;
 
-// Each class has the name and the meaning of what it was made of.
-fn classes_of(program: &Program)
-    ensures { AreOfBodies program.now }
+// Why there is no program, by the table's fault.
+fn fault_stop(fault: TableFault) -> Stop
+    ensures { IsStopOf fault result }
 {
-    for id in 0..program.len() as u32 {
-        let info = program.info(ClassId(id));
-        let _name = info.name();
-    }
+    let fault = match fault {
+        TableFault::Duplicate { name } => ProgramFault::Duplicate { name },
+        TableFault::SuperMissing { name } => ProgramFault::SuperMissing { name },
+        TableFault::SuperCycle { name } => ProgramFault::SuperCycle { name },
+        TableFault::SuperKind { name } => ProgramFault::SuperKind { name },
+        TableFault::Memory => return Stop::WantOfMemory,
+    };
+    Stop::Refused(Refusal::BadProgram { fault })
 }
 
 /// The program of these classes.
@@ -30,16 +34,12 @@ pub fn program_of(alloc: Global, classes: Seq<Loaded>) -> Result<Program, Stop>
     ensures refused { IfErr result (Refuses (λ r. accepted (classes_in classes) ≡ Err r)) }
     ensures program { IfOk result (λ p. look p ≡ program_of (classes_in classes)) }
     ensures files { IfOk result (λ p. files_of p ≡ class_file (classes_in classes)) }
+    ensures numbered { IfOk result (λ p. AreNumbered p (classes_in classes)) }
+    ensures many { IfOk result (λ p. length classes ≤ length p) }
 {
     let library = library(alloc)?;
     match Program::build(alloc, classes, library) {
-        Ok(program) => {
-            classes_of(&program);
-            Ok(program)
-        }
-        Err(TableFault::Memory) => Err(Stop::WantOfMemory),
-        Err(TableFault::Duplicate { name }) => Err(Stop::Refused(Refusal::BadProgram {
-            fault: ProgramFault::Duplicate { name },
-        })),
+        Ok(program) => Ok(program),
+        Err(fault) => Err(fault_stop(fault)),
     }
 }

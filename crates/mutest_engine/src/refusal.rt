@@ -21,6 +21,12 @@ pub enum Limit {
 pub enum ProgramFault {
     /// Two classes have this name.
     Duplicate { name: Name },
+    /// The superclass of this class, or one of its interfaces, is missing.
+    SuperMissing { name: Name },
+    /// This class stands above itself.
+    SuperCycle { name: Name },
+    /// The superclass of this class, or one of its interfaces, is of a wrong kind.
+    SuperKind { name: Name },
 }
 
 /// Why a call is refused. A path and a test are their printed UTF-8.

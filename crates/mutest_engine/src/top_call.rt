@@ -4,13 +4,13 @@ ghost use Rattle.std.specs.Prelude.{◌≡◌, ◌⊎◌, ◌<◌, ◌≤◌, �
 ghost use Rattle.mutest_engine.specs.declared.status.Status.TheVariants.{WantOfMemory};
 ghost use Rattle.mutest_engine.specs.StatusText.{line_of};
 ghost use Rattle.mutest_engine.specs.Words.{list_class, words_of, run_asked, asm_asked, asked_run, asked_asm};
-ghost use Rattle.mutest_engine.specs.Decided.{CanAnswer, list_answer, report_answer, run_answer, asm_answer, answer_of, steps_asked, steps_of};
+ghost use Rattle.mutest_engine.specs.Decided.{CanAnswer, list_answer, report_answer, run_answer, asm_answer, answer_of};
 ghost use Rattle.mutest_engine.specs.Answers.{answered, one_write, writes_of, made, one, MayRefuse};
 ghost use Rattle.mutest_engine.specs.SuiteFiles.{texts};
 ghost use Rattle.mutest_engine.specs.Steps.{RefusesReading, FailsReading};
-ghost use Rattle.mutest_engine.specs.Ends.{status_of, unwritten_status, CarriedOut, TextEnds, AgreesUntold, AnswersUntold, AnswersHeld, MetersHeld, Finished, ReadsFailed, WritesFailed, PutsFailed, MeterStays, HaltStays};
-ghost use Rattle.mutest_engine.specs.Said.{Wrote, LeavesWrites, LeavesAll, FailsWriting, FilesAfter};
-ghost use Rattle.mutest_engine.specs.Promises.{Tells, PrintsIn, PrintsOf, PrintsHeld, PrintsUntold, AgreesHeld, LeavesOf, LeavesHeld, WritesLast, MeterHeld};
+ghost use Rattle.mutest_engine.specs.Ends.{status_of, unwritten_status, CarriedOut, TextEnds, AgreesUntold, AnswersUntold, AnswersHeld, MetersRun, MetersWords, Finished, ReadsFailed, WritesFailed, PutsFailed, MeterStays, HaltStays};
+ghost use Rattle.mutest_engine.specs.Said.{Wrote, WroteAll, LeavesOne, LeavesAll, FailsWriting, FilesAfter};
+ghost use Rattle.mutest_engine.specs.Promises.{Tells, PrintsMade, PrintsOf, Puts, PutsUntold, AgreesHeld, LeavesOf, LeavesHeld, WritesLast, MeterHeld};
 
 use crate::answer::{Answer, Product, Write};
 use crate::assembling::class_file_of;
@@ -93,7 +93,7 @@ fn run_answer<'a, T: Tree>(
     ensures answer { IfOk result (λ a. CanAnswer (asked_run options.entry) (answered a)) }
     ensures refusal { IfErr result (RefusesReading (MayRefuse (asked_run options.entry))) }
     ensures faults { IfErr result (FailsReading (T.reading tree.old) (T.reading tree.new)) }
-    ensures meter { MetersHeld (T.holds tree.old) meter.old meter.new (steps_asked options.entry) result }
+    ensures meter { MetersRun (T.holds tree.old) meter.old meter.new options.entry result }
     ensures stays { IfErr result (HaltStays meter.old meter.new) }
     ensures later { meter.old ≤ meter.new }
     ensures held { T.holds tree.new ≡ T.holds tree.old }
@@ -137,7 +137,7 @@ fn answer_to<'a, T: Tree>(
     ensures value { AnswersHeld (T.holds tree.old) (answer_of (texts words.now)) result }
     ensures untold { AnswersUntold (words_of (texts words.now)) result }
     ensures faults { IfErr result (FailsReading (T.reading tree.old) (T.reading tree.new)) }
-    ensures meter { MetersHeld (T.holds tree.old) meter.old meter.new (steps_of (texts words.now)) result }
+    ensures meter { MetersWords (T.holds tree.old) meter.old meter.new (texts words.now) result }
     ensures stays { IfErr result (HaltStays meter.old meter.new) }
     ensures later { meter.old ≤ meter.new }
     ensures held { T.holds tree.new ≡ T.holds tree.old }
@@ -172,7 +172,7 @@ fn tell<S: Sink>(alloc: Global, out: &mut S, status: Status) -> Status
 fn put_text<S: Sink>(alloc: Global, out: &mut S, answer: &Answer<'_>) -> Status
     ensures status { TextEnds answer.now.text result }
     ensures faults { PutsFailed (S.faults out.old) (S.faults out.new) result }
-    ensures printed { PrintsIn S.faults S.written out.old out.new (Ok (answered answer.now)) result }
+    ensures printed { PrintsMade S.faults S.written out.old out.new answer.now result }
 {
     if answer.text.is_empty() {
         return Status::Done;
@@ -201,7 +201,7 @@ pub enum Unwritten {
 // Replaces a file.
 fn replace<T: Tree>(tree: &mut T, write: &Write<'_>) -> Result<(), Unwritten>
     ensures done { OnOk result (Wrote (one write.now) (T.holds tree.old) (T.holds tree.new)) }
-    ensures left { IfErr result (LeavesWrites (one write.now) (T.holds tree.old) (T.holds tree.new)) }
+    ensures left { IfErr result (LeavesOne write.now (T.holds tree.old) (T.holds tree.new)) }
     ensures faults { IfErr result (FailsWriting (T.writing tree.old) (T.writing tree.new)) }
     ensures later { T.writing tree.old ≤ T.writing tree.new }
     ensures unread { T.reading tree.new ≡ T.reading tree.old }
@@ -215,7 +215,7 @@ fn replace<T: Tree>(tree: &mut T, write: &Write<'_>) -> Result<(), Unwritten>
 
 // Replaces files, one after the other.
 fn replace_all<T: Tree>(tree: &mut T, writes: &[Write<'_>]) -> Result<(), Unwritten>
-    ensures done { OnOk result (Wrote (writes_of writes.now) (T.holds tree.old) (T.holds tree.new)) }
+    ensures done { OnOk result (WroteAll writes.now (T.holds tree.old) (T.holds tree.new)) }
     ensures left { IfErr result (LeavesAll writes.now (T.holds tree.old) (T.holds tree.new)) }
     ensures faults { IfErr result (FailsWriting (T.writing tree.old) (T.writing tree.new)) }
     ensures later { T.writing tree.old ≤ T.writing tree.new }
@@ -250,7 +250,7 @@ fn carry_out<T: Tree, S: Sink>(
     ensures status { CarriedOut (answered answer.now) result }
     ensures write_faults { WritesFailed (T.writing tree.old) (T.writing tree.new) result }
     ensures put_faults { PutsFailed (S.faults out.old) (S.faults out.new) result }
-    ensures printed { PrintsIn S.faults S.written out.old out.new (Ok (answered answer.now)) result }
+    ensures printed { PrintsMade S.faults S.written out.old out.new answer.now result }
     ensures files { FilesAfter (made answer.now) (T.holds tree.old) (T.holds tree.new) result }
     ensures unread { T.reading tree.new ≡ T.reading tree.old }
 {
@@ -305,7 +305,7 @@ pub fn run<T: Tree, S: Sink>(
     requires { meter.old < 2 ^ 63 }
     // Where the tree tells its files, each status comes exactly where words and files say so, but for
     // faults and want of memory.
-    ensures status { AgreesHeld (T.holds tree.old) (texts words.now) result }
+    ensures status { AgreesHeld (T.holds tree.old) words.now result }
     // Whatever the tree tells: what the words alone decide.
     ensures status_untold { AgreesUntold (words_of (texts words.now)) result }
     // A fault comes only where the object's faults rose.
@@ -313,14 +313,14 @@ pub fn run<T: Tree, S: Sink>(
     ensures write_faults { WritesFailed (T.writing tree.old) (T.writing tree.new) result }
     ensures put_faults { PutsFailed (S.faults out.old) (S.faults out.new) result }
     // What the sink got.
-    ensures printed { PrintsHeld S.faults S.written out.old out.new (T.holds tree.old) (texts words.now) result }
-    ensures printed_untold { PrintsUntold S.faults S.written out.old out.new (texts words.now) result }
+    ensures printed { Puts S.faults S.written out.old out.new (T.holds tree.old) words.now result }
+    ensures printed_untold { PutsUntold S.faults S.written out.old out.new words.now result }
     // What the tree holds then.
-    ensures files { LeavesHeld (T.holds tree.old) (T.holds tree.new) (texts words.now) result }
+    ensures files { LeavesHeld (T.holds tree.old) (T.holds tree.new) words.now result }
     // Nothing is written before the last run.
-    ensures last { WritesLast (T.holds tree.old) (T.holds tree.new) (texts words.now) meter.old meter.new }
+    ensures last { WritesLast (T.holds tree.old) (T.holds tree.new) words.now meter.old meter.new }
     // The steps of the runs that were made.
-    ensures meter { MeterHeld (T.holds tree.old) (texts words.now) meter.old meter.new result }
+    ensures meter { MeterHeld (T.holds tree.old) words.now meter.old meter.new result }
     // Whatever the tree tells: none before the first run.
     ensures meter_untold { MeterStays meter.old meter.new result }
 {

@@ -107,8 +107,8 @@ fn each_test_runs_on_each_mutant(rt: HostRuntime) -> Result<(), Fail> {
 
 #[test]
 fn a_report_that_cannot_be_replaced_is_told(rt: HostRuntime) -> Result<(), Fail> {
-    // Two folders are listed and two files are read before.
-    let told = run_of(rt.alloc(), &A, &T, &[4])?;
+    // Two folders are listed before, and of two files the length is asked and then the bytes.
+    let told = run_of(rt.alloc(), &A, &T, &[6])?;
     assert_eq!(rt; told.0, 11);
     assert_eq!(rt;
         told.1.as_slice(),
@@ -170,6 +170,32 @@ fn two_classes_of_one_name_are_no_program(rt: HostRuntime) -> Result<(), Fail> {
     assert_eq!(rt; told.0, 6);
     assert_eq!(rt; told.1.as_slice(), b"mutest: BadProgram 13 T\n".as_slice());
     assert_eq!(rt; told.2, 0);
+    Ok(())
+}
+
+// A byte of A and one of T that are put there, and what is told of their supers.
+const SUPERS: [(usize, u8, usize, u8, &str); 3] = [
+    // The superclass of A is java/lang/Objecs.
+    (35, b's', 240, 4, "mutest: BadProgram 14 A\n"),
+    // The superclass of T is T.
+    (35, b't', 240, 2, "mutest: BadProgram 15 T\n"),
+    // The superclass of T is A, which is final.
+    (92, 0x31, 240, 10, "mutest: BadProgram 16 T\n"),
+];
+
+#[test]
+fn wrong_supers_are_no_program(rt: HostRuntime) -> Result<(), Fail> {
+    for (in_class, class_byte, in_test, test_byte, text) in SUPERS {
+        let class = damaged(rt.alloc(), in_class, class_byte)?;
+        let mut test = T.to_vec(rt.alloc())?;
+        if test.len() > in_test {
+            test[in_test] = test_byte;
+        }
+        let told = run_of(rt.alloc(), class.as_slice(), test.as_slice(), &[])?;
+        assert_eq!(rt; told.0, 6);
+        assert_eq!(rt; told.1.as_slice(), text.as_bytes());
+        assert_eq!(rt; told.2, 0);
+    }
     Ok(())
 }
 

@@ -1,0 +1,63 @@
+-- The class files of a program by their numbers: those of a suite's classes folder are the first.
+use Rattle.std.proofs.Common.{◌≡◌, ◌∙◌, ℕ, zero, suc, ◌+◌, ◌<◌, ◌≤◌, List, [], ◌∷◌, ◌++◌, length, map, drop, Option, Some, slice_get, refl, sym, ap, arith}
+use Rattle.std.specs.Prelude.{option_and_then, filter_map}
+use Rattle.std.specs.List.{cons_option}
+use Rattle.class_model.specs.declared.class.Class.{Class}
+use Rattle.class_model.specs.declared.class.ClassId.{ClassId}
+use Rattle.class_link.specs.declared.loaded.Loaded.{Loaded}
+use Rattle.class_link.specs.declared.loaded.LibClass.{LibClass}
+use Rattle.class_link.specs.declared.loaded.ClassBody.TheVariants as body
+use Rattle.class_link.specs.Info.{Info, file_in}
+use Rattle.class_table.specs.Table.{bodies_of}
+use Rattle.mutator_ops.specs.Programs.{file_at, files_among, mutants_among, mutants}
+use Rattle.mutest_engine.specs.Originals.{classes_in}
+use Rattle.mutest_engine.specs.Mutation.{numbers_from, numbers_of, AreNumbered}
+use Rattle.mutest_engine.proofs.FileLaws.{file_by}
+
+-- ---- numbers
+
+pub one_more : (k n : ℕ) → numbers_from k (suc n) ≡ numbers_from k n ++ (k + n) ∷ []
+one_more k zero = let e : k ≡ k + 0 = omega arith in ap (λ j. j ∷ []) e
+one_more k (suc n) = let e : suc k + n ≡ k + suc n = omega arith in ap (λ l. k ∷ l) (one_more (suc k) n ∙ ap (λ j. numbers_from (suc k) n ++ j ∷ []) e)
+
+one_behind : (ids : List ClassId) (id : ClassId) → numbers_of (ids ++ id ∷ []) ≡ numbers_of ids ++ id.0 ∷ []
+one_behind [] id = refl
+one_behind (x ∷ xs) id = ap (λ l. x.0 ∷ l) (one_behind xs id)
+
+-- one more number was put
+pub pushed : (old new : List ClassId) (id : ClassId) (n : ℕ) → new ≡ old ++ id ∷ [] → id.0 ≡ n → numbers_of old ≡ numbers_from 0 n → numbers_of new ≡ numbers_from 0 (n + 1)
+pushed old new id n e at h =
+    let up : n + 1 ≡ suc n = omega arith in
+    let here : 0 + n ≡ n = omega arith in
+    ap numbers_of e ∙ one_behind old id ∙ ap (λ l. l ++ id.0 ∷ []) h ∙ ap (λ j. numbers_from 0 n ++ j ∷ []) (at ∙ sym here) ∙ sym (one_more 0 n) ∙ sym (ap (numbers_from 0) up)
+
+-- ---- a program's class files
+
+pub numbered : (p : List Info) (classes : List Loaded) (library : List LibClass) → map (λ i. i.body) p ≡ bodies_of classes library → AreNumbered p (classes_in classes)
+numbered p [] library e k lt = absurd (omega (arith, lt))
+numbered [] (c ∷ cs) library e k lt = absurd cc
+numbered (x ∷ p) (c ∷ cs) library e zero lt = file_by x (body.File c) (let f : x.body ≡ body.File c = cc in f)
+numbered (x ∷ p) (c ∷ cs) library e (suc k) lt = numbered p cs library (ap (drop 1) e) k (omega (arith, lt))
+
+pub as_many : (p : List Info) (classes : List Loaded) (library : List LibClass) → map (λ i. i.body) p ≡ bodies_of classes library → length classes ≤ length p
+as_many p [] library e = omega arith
+as_many [] (c ∷ cs) library e = absurd cc
+as_many (x ∷ p) (c ∷ cs) library e = let rest = as_many p cs library (ap (drop 1) e) in omega (arith, rest)
+
+gathered : (g : ℕ → Option Class) (k : ℕ) (cs others : List Class) → ((j : ℕ) → j < length (cs ++ others) → g (k + j) ≡ slice_get (cs ++ others) j) → filter_map g (numbers_from k (length cs)) ≡ cs
+gathered g k [] others h = refl
+gathered g k (c ∷ cs) others h =
+    let here : g k ≡ Some c = ap g (let e : k ≡ k + 0 = omega arith in e) ∙ h 0 (omega arith) in
+    ap (λ o. cons_option o (filter_map g (numbers_from (suc k) (length cs)))) here
+    ∙ ap (λ l. c ∷ l) (gathered g (suc k) cs others (λ j lt. ap g (let e : suc k + j ≡ k + suc j = omega arith in e) ∙ h (suc j) (omega (arith, lt))))
+
+by_number : (p : List Info) (ids : List ClassId) → files_among p ids ≡ filter_map (λ k. option_and_then file_in (slice_get p k)) (numbers_of ids)
+by_number p [] = refl
+by_number p (id ∷ ids) = ap (cons_option (file_at p id)) (by_number p ids)
+
+-- The mutants of the first classes of a program.
+pub first_mutants : (p : List Info) (ids : List ClassId) (cs others : List Class) → AreNumbered p (cs ++ others) → numbers_of ids ≡ numbers_from 0 (length cs) → mutants p ids ≡ mutants_among cs
+first_mutants p ids cs others are first =
+    ap mutants_among
+    (by_number p ids ∙ ap (filter_map (λ k. option_and_then file_in (slice_get p k))) first
+    ∙ gathered (λ k. option_and_then file_in (slice_get p k)) 0 cs others (λ j lt. ap (λ k. option_and_then file_in (slice_get p k)) (let e : 0 + j ≡ j = omega arith in e) ∙ are j lt))
