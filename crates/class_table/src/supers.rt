@@ -16,6 +16,7 @@ ghost use Rattle.class_table.specs.Table.{names, number_of, look};
 
 use crate::least::least_marked;
 use class_link::ClassInfo;
+use class_link::Shared;
 use class_model::{Memory, Name};
 use class_order::{Links, Standing};
 use std::alloc::Global;
@@ -77,7 +78,7 @@ fn is_absent(infos: &[Arc<ClassInfo, Global>], numbers: &HashMap<Name, u32>, nam
 fn is_any_absent(
     infos: &[Arc<ClassInfo, Global>],
     numbers: &HashMap<Name, u32>,
-    names: &[Name],
+    names: &[Shared<Name>],
 ) -> bool
     requires { IsNumbering numbers.now (shared infos.now) }
     ensures { result ≡ list_any (λ m. is_none (look (shared infos.now) m)) names.now }
@@ -161,7 +162,7 @@ fn numbers_known(
     alloc: Global,
     infos: &[Arc<ClassInfo, Global>],
     numbers: &HashMap<Name, u32>,
-    names: &[Name],
+    names: &[Shared<Name>],
 ) -> Result<Vec<u32, Global>, Memory>
     requires { IsNumbering numbers.now (shared infos.now) }
     ensures { IfOk result (λ known. known.items ≡ numbers_known (shared infos.now) names.now) }
@@ -291,7 +292,7 @@ fn is_no_interface(
 fn is_any_no_interface(
     infos: &[Arc<ClassInfo, Global>],
     numbers: &HashMap<Name, u32>,
-    names: &[Name],
+    names: &[Shared<Name>],
 ) -> bool
     requires { IsNumbering numbers.now (shared infos.now) }
     ensures { result ≡ list_any (λ m. is_no_interface (look (shared infos.now) m)) names.now }
