@@ -6,3 +6,4 @@ pub mod Fetched
 pub mod Calls
 pub mod Instances
 pub mod Steps
+pub mod KindLoop

@@ -25,13 +25,17 @@ fn is_of_kind(kind: &Kind, v: Value) -> bool
 fn are_of_kinds(kinds: &[Kind], values: &[Value]) -> bool
     ensures { result ≡ are_of_kinds (map kind_of kinds.now) values.now }
 {
-    let [kind, kinds @ ..] = kinds else {
-        return values.is_empty();
-    };
-    let [v, values @ ..] = values else {
-        return false;
-    };
-    is_of_kind(kind, *v) && are_of_kinds(kinds, values)
+    let mut at = 0;
+    while at < kinds.len() {
+        if at == values.len() {
+            return false;
+        }
+        if !is_of_kind(&kinds[at], values[at]) {
+            return false;
+        }
+        at += 1;
+    }
+    at == values.len()
 }
 
 /// The last of these values, where they are of these kinds, one for each. They are the top of a stack that ends with the last value.

@@ -62,11 +62,11 @@ fn push_own_fields(p: &Program, name: &Name, kinds: &mut Seq<Kind>) -> Result<()
 fn push_fields(p: &Program, names: &[Name], kinds: &mut Seq<Kind>) -> Result<(), Memory>
     ensures { OnOk result (map default_of kinds.new ≡ map default_of kinds.old ++ values_of (look p.now) names.now) }
 {
-    let [name, names @ ..] = names else {
-        return Ok(());
-    };
-    push_fields(p, names, kinds)?;
-    push_own_fields(p, name, kinds)?;
+    let mut left = names.len();
+    while left > 0 {
+        left -= 1;
+        push_own_fields(p, &names[left], kinds)?;
+    }
     Ok(())
 }
 
