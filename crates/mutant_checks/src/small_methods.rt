@@ -71,7 +71,8 @@ pub fn only<T: Drop>(alloc: Global, item: T) -> Result<Seq<T>, Memory> {
 fn note_attr(alloc: Global, kind: u16) -> Result<Attr, Memory> {
     let note = Note {
         kind,
-        pairs: Seq::new(alloc),
+        count: 0,
+        tokens: Seq::new(alloc),
     };
     Ok(Attr {
         name: 1,

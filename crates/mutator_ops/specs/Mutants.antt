@@ -3,7 +3,7 @@ use Rattle.std.specs.Prelude.{ℕ, ◌+◌, Bool, not, ◌&&◌, ◌||◌, ◌==
 use Rattle.std.specs.List.{flat_map, list_any, starts_with, ends_with}
 use Rattle.std.specs.Option.{option_map}
 use Rattle.class_model.specs.Pool.{text_of}
-use Rattle.class_model.specs.declared.annotation.Note.{Note, out-Note}
+use Rattle.class_model.specs.declared.annotation.Note.{Note}
 use Rattle.class_model.specs.declared.attribute.Attr.{Attr}
 use Rattle.class_model.specs.declared.attribute.Body.{Body}
 use Rattle.class_model.specs.declared.attribute.Body.TheOpen.{Body-F}
@@ -47,7 +47,7 @@ is_not_null_text desc = same desc (codes "LNotNull;")
     || starts_with nat_eq desc (codes "L") && ends_with nat_eq desc (codes "/NotNull;")
 
 abbrev pub is_not_null : List Const → Note → Bool
-is_not_null pool note = unwrap_or (option_map is_not_null_text (text_of pool (out-Note note).kind)) false
+is_not_null pool note = unwrap_or (option_map is_not_null_text (text_of pool note.kind)) false
 
 -- an attribute of annotations, be they visible at run time or not, with such a one
 abbrev pub has_not_null_in : List Const → Body-F Body Attr Code → Bool
