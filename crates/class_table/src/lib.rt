@@ -8,8 +8,8 @@ mod least;
 mod numbering;
 mod program;
 mod scripted;
-mod words;
 mod supers;
+mod words;
 
 pub use class_link::{
     ClassBody, ClassInfo, Entry, FieldConstant, FieldRef, FrameShape, Instruction, LibBody,

@@ -15,8 +15,7 @@ ghost use Rattle.class_table.specs.Supers.{misses, names_wrong, numbers_known, I
 ghost use Rattle.class_table.specs.Table.{names, number_of, look};
 
 use crate::least::least_marked;
-use class_link::ClassInfo;
-use class_link::Shared;
+use class_link::{ClassInfo, Shared};
 use class_model::{Memory, Name};
 use class_order::{Links, Standing};
 use std::alloc::Global;

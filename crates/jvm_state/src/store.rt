@@ -81,9 +81,7 @@ fn make_slots(slots: &mut Vec<Slot>, from: usize, end: usize) -> Result<(), Memo
 fn unset(slots: &mut Vec<Slot>, from: usize, to: usize)
     requires order { from ≤ to }
     requires within { to ≤ length slots.old.items }
-    ensures unset {
-        take to slots.new.items ≡ take from slots.old.items ++ replicate (to - from) Unset
-    }
+    ensures unset { take to slots.new.items ≡ take from slots.old.items ++ replicate (to - from) Unset }
     ensures len { length slots.new.items ≡ length slots.old.items }
 {
     for place in from..to {

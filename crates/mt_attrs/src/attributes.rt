@@ -23,12 +23,7 @@ use class_model::{Attr, Body, ClassFault, Judged, Note, Seq};
 use mt_bytes::Cursor;
 use std::alloc::Global;
 
-fn read_source(
-    pool: &Judged,
-    file_end: u64,
-    first: u64,
-    cur: &mut Cursor,
-) -> Result<u16, ItemFault>
+fn read_source(pool: &Judged, file_end: u64, first: u64, cur: &mut Cursor) -> Result<u16, ItemFault>
     ensures { ReadsPart (content file_end first (index_at is_text pool.now)) cur.old cur.new result }
 {
     let len = u4(cur)?;

@@ -30,11 +30,7 @@ fn read_enum(pool: &Judged, cur: &mut Cursor) -> Result<Token, ItemFault>
 }
 
 /// An annotation where so many more may be opened.
-fn read_inner(
-    pool: &Judged,
-    depth: u8,
-    cur: &mut Cursor,
-) -> Result<Token, ItemFault>
+fn read_inner(pool: &Judged, depth: u8, cur: &mut Cursor) -> Result<Token, ItemFault>
     ensures { ReadsPart (inner_at pool.now depth) cur.old cur.new result }
 {
     if depth == 0 {
@@ -77,11 +73,7 @@ fn read_value(
 
 /// The front of a value.
 #[tactic(auto, unfolding(crate::specs::Notes::front_at))]
-fn read_front(
-    pool: &Judged,
-    depth: u8,
-    cur: &mut Cursor,
-) -> Result<Token, ItemFault>
+fn read_front(pool: &Judged, depth: u8, cur: &mut Cursor) -> Result<Token, ItemFault>
     ensures { ReadsPart (front_at pool.now depth) cur.old cur.new result }
 {
     let at = cur.at();
@@ -91,11 +83,7 @@ fn read_front(
 
 /// The next token of what is due.
 #[tactic(auto, unfolding(crate::specs::Notes::token_at))]
-fn read_token(
-    pool: &Judged,
-    due: Due,
-    cur: &mut Cursor,
-) -> Result<Token, ItemFault>
+fn read_token(pool: &Judged, due: Due, cur: &mut Cursor) -> Result<Token, ItemFault>
     ensures { ReadsPart (token_at pool.now due) cur.old cur.new result }
 {
     if due.named {
@@ -177,11 +165,7 @@ fn read_counted_notes(
 }
 
 /// The annotations of an attribute.
-pub fn read_notes(
-    alloc: Global,
-    pool: &Judged,
-    cur: &mut Cursor,
-) -> Result<Seq<Note>, ItemFault>
+pub fn read_notes(alloc: Global, pool: &Judged, cur: &mut Cursor) -> Result<Seq<Note>, ItemFault>
     ensures { ReadsPart (notes_at pool.now) cur.old cur.new result }
 {
     let count = u2(cur)?;

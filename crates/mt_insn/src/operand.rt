@@ -150,11 +150,7 @@ pub fn read_method(pool: &Judged, at: u64, code: &mut CodeCursor) -> Result<Oper
 }
 
 #[tactic(auto, unfolding(crate::specs::Operands::named_at))]
-pub fn read_any_method(
-    pool: &Judged,
-    at: u64,
-    code: &mut CodeCursor,
-) -> Result<Operand, ClassFault>
+pub fn read_any_method(pool: &Judged, at: u64, code: &mut CodeCursor) -> Result<Operand, ClassFault>
     requires { at + 1 < 2 ^ 64 }
     ensures { ReadsCode (named_at is_any_method pool.now at) code.old code.new result }
 {
@@ -179,11 +175,7 @@ pub fn read_class(pool: &Judged, at: u64, code: &mut CodeCursor) -> Result<Opera
 
 /// `invokeinterface`. Its count is kept, since it is that of the method that the index names.
 #[tactic(auto, unfolding(crate::specs::Operands::interface_at))]
-pub fn read_interface(
-    pool: &Judged,
-    at: u64,
-    code: &mut CodeCursor,
-) -> Result<Operand, ClassFault>
+pub fn read_interface(pool: &Judged, at: u64, code: &mut CodeCursor) -> Result<Operand, ClassFault>
     requires { at + 1 < 2 ^ 64 }
     ensures { ReadsCode (interface_at pool.now at) code.old code.new result }
 {
@@ -212,11 +204,7 @@ pub fn read_array(at: u64, code: &mut CodeCursor) -> Result<Operand, ClassFault>
 }
 
 #[tactic(auto, unfolding(crate::specs::Operands::dimensions_at))]
-pub fn read_dimensions(
-    pool: &Judged,
-    at: u64,
-    code: &mut CodeCursor,
-) -> Result<Operand, ClassFault>
+pub fn read_dimensions(pool: &Judged, at: u64, code: &mut CodeCursor) -> Result<Operand, ClassFault>
     requires { at + 1 < 2 ^ 64 }
     ensures { ReadsCode (dimensions_at pool.now at) code.old code.new result }
 {

@@ -40,7 +40,11 @@ fn check_field_text(at: u64, desc: &Name, field: Result<(), DescFault>) -> Resul
 }
 
 // What is asked of a method's descriptor.
-fn check_method_text(at: u64, desc: &Name, method: Result<u128, DescFault>) -> Result<(), ClassFault>
+fn check_method_text(
+    at: u64,
+    desc: &Name,
+    method: Result<u128, DescFault>,
+) -> Result<(), ClassFault>
     requires { method ≡ arg_words (method_kinds desc.now) }
     ensures { Gives fault.Memory (λ u. u) (method_text_fault at desc.now) result }
 {

@@ -10,9 +10,9 @@ mod list_calls;
 #[cfg(test)]
 mod list_tests;
 #[cfg(test)]
-mod small_methods;
-#[cfg(test)]
 mod samples;
+#[cfg(test)]
+mod small_methods;
 #[cfg(test)]
 mod tests;
 

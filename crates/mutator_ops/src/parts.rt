@@ -5,8 +5,8 @@ ghost use Rattle.class_link.specs.Linking.{content_of, lines_of, line_in};
 ghost use Rattle.class_link.specs.View.{line_of};
 ghost use Rattle.mutator_ops.specs.Mutants.{code_of, line_rows};
 
-use class_model::{Attr, Body, Code, Memory, Seq};
 use class_link::LinkedLine;
+use class_model::{Attr, Body, Code, Memory, Seq};
 use std::alloc::Global;
 
 /// The code of a method: its first attribute that is Code.

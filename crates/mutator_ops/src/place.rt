@@ -9,8 +9,8 @@ use crate::mutant::Mutant;
 use crate::parts::line_rows;
 use crate::pool::Pool;
 use crate::text::text_named;
-use class_model::{Code, Edit, Insn, Member, Memory, Mutator, Name};
 use class_link::LineTable;
+use class_model::{Code, Edit, Insn, Member, Memory, Mutator, Name};
 use std::alloc::Global;
 use std::marker::Model;
 

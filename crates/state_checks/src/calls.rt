@@ -25,10 +25,8 @@ pub fn push_int(
     requires stack { IsStack operands.old sp }
     requires within { sp ≤ top }
     requires room { top ≤ length operands.old }
-    ensures {
-        Lays (λ w f fs. pushes w f fs top (Value.Int z) f.stack) top at sp
-        operands.old operands.new result
-    }
+    ensures { Lays (λ w f fs. pushes w f fs top (Value.Int z) f.stack) top at sp
+        operands.old operands.new result }
 {
     jvm_state::push_int(z, operands, at, sp, top)
 }
@@ -46,10 +44,8 @@ pub fn store_int(
     requires stack { IsStack operands.now sp }
     requires within { sp ≤ top }
     requires room { top ≤ length operands.now }
-    ensures {
-        Acts (λ w f fs. stores_int w f fs n) top at sp
-        locals.old operands.now locals.new operands.now result
-    }
+    ensures { Acts (λ w f fs. stores_int w f fs n) top at sp
+        locals.old operands.now locals.new operands.now result }
 {
     jvm_state::store_int(n, locals, operands, at, sp, top)
 }
@@ -60,10 +56,8 @@ pub fn dup(operands: &mut [Slot], at: usize, sp: usize, top: usize) -> Option<(u
     requires stack { IsStack operands.old sp }
     requires within { sp ≤ top }
     requires room { top ≤ length operands.old }
-    ensures {
-        Lays (λ w f fs. doubles w f fs top) top at sp
-        operands.old operands.new result
-    }
+    ensures { Lays (λ w f fs. doubles w f fs top) top at sp
+        operands.old operands.new result }
 {
     jvm_state::dup(operands, at, sp, top)
 }
@@ -82,9 +76,7 @@ pub fn enter(
     requires fit { args ≤ max_locals }
     requires there { from ≤ length slots.old.items }
     requires room { from + 131072 < 2 ^ 64 }
-    ensures entered {
-        IfOk result (λ f. IsEntered from args class.0 method max_locals max_stack slots.old.items slots.new.items f)
-    }
+    ensures entered { IfOk result (λ f. IsEntered from args class.0 method max_locals max_stack slots.old.items slots.new.items f) }
     ensures below { take from slots.new.items ≡ take from slots.old.items }
 {
     let f = jvm_state::enter(slots, from, args, class, method, max_locals, max_stack)?;

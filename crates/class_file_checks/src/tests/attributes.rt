@@ -126,7 +126,10 @@ fn with_arrays(alloc: Global, count: u32) -> Result<Bytes, Fail>
 fn arrays_in_each_other(rt: HostRuntime) -> Result<(), Fail> {
     for count in [900, 2000, 1000000] {
         let bytes = with_arrays(rt.alloc(), count)?;
-        assert!(rt; comes_back(rt.alloc(), Owner::OfClass, bytes.as_slice())?, "{count}");
+        assert!(rt;
+            comes_back(rt.alloc(), Owner::OfClass, bytes.as_slice())?,
+            "{count}"
+        );
     }
     Ok(())
 }
