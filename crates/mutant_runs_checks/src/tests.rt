@@ -117,8 +117,8 @@ fn test(alloc: Global, method: &str) -> Result<Test, Fail> {
 // all runs.
 fn verdicts_on_a(alloc: Global) -> Result<(Seq<Verdict>, u64), Fail> {
     let (mut program, mutants) = program(alloc)?;
-    if mutants.len() != 2 {
-        return Err("A has two mutants".into());
+    if mutants.len() != WANTED.len() {
+        return Err("A has six mutants".into());
     }
     let tests = [test(alloc, "neg")?, test(alloc, "zero")?];
     let limits = Limits {
@@ -141,18 +141,28 @@ fn verdicts_on_a(alloc: Global) -> Result<(Seq<Verdict>, u64), Fail> {
     Ok((verdicts?, counted))
 }
 
+// The state of each mutant of A, and the first test that detects it: the moved bound of `ifge`, its opposite, and false and
+// true in place of each of the two results.
+const WANTED: [(usize, State, Option<u32>); 6] = [
+    (0, State::Killed, Some(1)),
+    (1, State::Killed, Some(0)),
+    (2, State::Killed, Some(0)),
+    (3, State::Survived, None),
+    (4, State::Survived, None),
+    (5, State::Killed, Some(1)),
+];
+
 #[test]
-fn both_mutants_are_killed(rt: HostRuntime) -> Result<(), Fail> {
+fn each_mutant_has_its_verdict(rt: HostRuntime) -> Result<(), Fail> {
     let (verdicts, steps) = verdicts_on_a(rt.alloc())?;
-    let [boundary, negated] = verdicts.as_slice() else {
-        return Err("there is a verdict on each mutant".into());
-    };
-    assert_eq!(rt; boundary.state, State::Killed);
-    assert_eq!(rt; boundary.killer, Some(1));
-    assert_eq!(rt; boundary.covering.as_slice(), [0, 1].as_slice());
-    assert_eq!(rt; negated.state, State::Killed);
-    assert_eq!(rt; negated.killer, Some(0));
-    assert_eq!(rt; negated.covering.as_slice(), [0, 1].as_slice());
-    assert_eq!(rt; steps, 60);
+    for (at, state, killer) in WANTED {
+        let Some(verdict) = verdicts.get(at) else {
+            return Err("there is a verdict on each mutant".into());
+        };
+        assert_eq!(rt; verdict.state, state);
+        assert_eq!(rt; verdict.killer, killer);
+        assert_eq!(rt; verdict.covering.as_slice(), [0, 1].as_slice());
+    }
+    assert_eq!(rt; steps, 188);
     Ok(())
 }

@@ -14,6 +14,7 @@ use Rattle.class_model.specs.declared.class.Member.{Member}
 use Rattle.class_model.specs.declared.attribute.Code.{Code, out-Code}
 use Rattle.class_model.specs.declared.instruction.Insn.{Insn}
 use Rattle.class_model.specs.declared.mutator.Mutator.{Mutator}
+use Rattle.class_reader.specs.Spells.{IsClass}
 use Rattle.class_writer.specs.Writing.{HasClassForm}
 use Rattle.program_rules.specs.Names.{Name, same}
 use Rattle.class_link.specs.declared.loaded.Loaded.{Loaded}
@@ -31,7 +32,7 @@ use Rattle.mutest_engine.specs.Supers.{unless_found, right_supers}
 use Rattle.mutest_engine.specs.declared.refusal.ProgramFault.TheVariants.{Duplicate}
 use Rattle.mutest_engine.specs.declared.refusal.Refusal.{Refusal}
 use Rattle.mutest_engine.specs.Duplicates.{again, least, duplicate_in}
-use Rattle.mutest_engine.specs.SuiteFiles.{IsFormed}
+use Rattle.mutest_engine.specs.SuiteFiles.{IsSpelled, IsFormed}
 use Rattle.mutest_engine.specs.declared.suite.LoadedSuite.{LoadedSuite}
 use Rattle.mutest_engine.specs.Originals.{all_classes, classes_in, names_in, program_of, accepted}
 use Rattle.mutest_engine.specs.Mutation.{mutants_of, class_file, suite_files, linked}
@@ -163,37 +164,37 @@ found (x ∷ xs) ls h = found_case x xs ls (list_any (same (own_name x)) (map ow
 
 -- ---- the mutants of a suite
 
-one_fits : (files : ClassFiles) (c : Class) (m : Mutant) → HasClassForm c → files (own_name c) ≡ Some c → Names (own_name c) m → Fits c m.edit → IsMutantOf files m
+one_fits : (files : ClassFiles) (c : Class) (m : Mutant) → IsSpelled c → files (own_name c) ≡ Some c → Names (own_name c) m → Fits c m.edit → IsMutantOf files m
 one_fits files c m form is named fits =
     let here : files m.class ≡ Some c = ap files named ∙ is in
-    subst (λ (o : Option Class). IfSome o (λ d. HasClassForm d × Fits d m.edit)) (sym here) (form, fits)
+    subst (λ (o : Option Class). IfSome o (λ d. HasClassForm d × Fits d m.edit × IsClass d)) (sym here) (form.form, fits, form.spelled)
 
-class_fits : MutantsFit → (files : ClassFiles) (c : Class) → HasClassForm c → files (own_name c) ≡ Some c → AllByRecursion (IsMutantOf files) (class_mutants c)
+class_fits : MutantsFit → (files : ClassFiles) (c : Class) → IsSpelled c → files (own_name c) ≡ Some c → AllByRecursion (IsMutantOf files) (class_mutants c)
 class_fits fit files c form is =
     both (Names (own_name c)) (λ (m : Mutant). Fits c m.edit) (IsMutantOf files) (class_mutants c) (λ m named fits. one_fits files c m form is named fits)
-    (own_mutants c) (recursion_from_All (λ (m : Mutant). Fits c m.edit) (class_mutants c) (fit c form))
+    (own_mutants c) (recursion_from_All (λ (m : Mutant). Fits c m.edit) (class_mutants c) (fit c form.form))
 
-formed : (xs : List Loaded) → AllByRecursion (λ (l : Loaded). HasClassForm l.class) xs → AllByRecursion HasClassForm (classes_in xs)
+formed : (xs : List Loaded) → AllByRecursion (λ (l : Loaded). IsSpelled l.class) xs → AllByRecursion IsSpelled (classes_in xs)
 formed [] p = tt
 formed (x ∷ xs) p = (p.0, formed xs p.1)
 
-among_fit : MutantsFit → (files : ClassFiles) (cs : List Class) → AllByRecursion (λ (c : Class). HasClassForm c × (files (own_name c) ≡ Some c)) cs → AllByRecursion (IsMutantOf files) (mutants_among cs)
+among_fit : MutantsFit → (files : ClassFiles) (cs : List Class) → AllByRecursion (λ (c : Class). IsSpelled c × (files (own_name c) ≡ Some c)) cs → AllByRecursion (IsMutantOf files) (mutants_among cs)
 among_fit fit files cs p =
     joined (IsMutantOf files) (in_order (map mutants_by_name cs))
     (folded (AllByRecursion (IsMutantOf files)) [] (map mutants_by_name cs) tt
     (mapped (λ (e : List ℕ × List Mutant). AllByRecursion (IsMutantOf files) e.1) mutants_by_name cs
-    (both (λ (c : Class). HasClassForm c × (files (own_name c) ≡ Some c)) (λ (c : Class). Unit {0}) (λ (c : Class). AllByRecursion (IsMutantOf files) (class_mutants c)) cs (λ c q u. class_fits fit files c q.0 q.1) p (every (λ (c : Class). Unit {0}) cs (λ c. tt)))))
+    (both (λ (c : Class). IsSpelled c × (files (own_name c) ≡ Some c)) (λ (c : Class). Unit {0}) (λ (c : Class). AllByRecursion (IsMutantOf files) (class_mutants c)) cs (λ c q u. class_fits fit files c q.0 q.1) p (every (λ (c : Class). Unit {0}) cs (λ c. tt)))))
 
 pub all_fit : MutantsFit → (s : LoadedSuite) → IsFormed s → linked s ≡ Ok tt → All (IsMutantOf (suite_files s)) (mutants_of s)
 all_fit fit s forms ok =
     let all = all_classes s in
     let cs = classes_in all in
     let files = class_file cs in
-    let formed_all = appended (λ (l : Loaded). HasClassForm l.class) s.classes s.tests (recursion_from_All (λ (l : Loaded). HasClassForm l.class) s.classes forms.0) (recursion_from_All (λ (l : Loaded). HasClassForm l.class) s.tests forms.1) in
-    let each : AllByRecursion (λ (c : Class). HasClassForm c × (files (own_name c) ≡ Some c)) cs =
-    both HasClassForm (IsFound cs) (λ (c : Class). HasClassForm c × (files (own_name c) ≡ Some c)) cs (λ c form is. (form, is))
+    let formed_all = appended (λ (l : Loaded). IsSpelled l.class) s.classes s.tests (recursion_from_All (λ (l : Loaded). IsSpelled l.class) s.classes forms.0) (recursion_from_All (λ (l : Loaded). IsSpelled l.class) s.tests forms.1) in
+    let each : AllByRecursion (λ (c : Class). IsSpelled c × (files (own_name c) ≡ Some c)) cs =
+    both IsSpelled (IsFound cs) (λ (c : Class). IsSpelled c × (files (own_name c) ≡ Some c)) cs (λ c form is. (form, is))
     (formed all formed_all) (found cs _ (none_again cs ok)) in
-    let some : AllByRecursion (λ (c : Class). HasClassForm c × (files (own_name c) ≡ Some c)) (classes_in s.classes) =
-    front (λ (c : Class). HasClassForm c × (files (own_name c) ≡ Some c)) (classes_in s.classes) (classes_in s.tests)
-    (subst (λ (ds : List Class). AllByRecursion (λ (c : Class). HasClassForm c × (files (own_name c) ≡ Some c)) ds) (classes_both s.classes s.tests) each) in
+    let some : AllByRecursion (λ (c : Class). IsSpelled c × (files (own_name c) ≡ Some c)) (classes_in s.classes) =
+    front (λ (c : Class). IsSpelled c × (files (own_name c) ≡ Some c)) (classes_in s.classes) (classes_in s.tests)
+    (subst (λ (ds : List Class). AllByRecursion (λ (c : Class). IsSpelled c × (files (own_name c) ≡ Some c)) ds) (classes_both s.classes s.tests) each) in
     All-from_recursion (IsMutantOf files) (mutants_of s) (among_fit fit files (classes_in s.classes) some)

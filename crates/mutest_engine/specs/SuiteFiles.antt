@@ -2,6 +2,8 @@
 use Rattle.std.specs.Prelude.{ℕ, ◌+◌, List, [], ◌∷◌, Bool, nat_lt, ◌==◌, if◌then◌else◌, length, filter, sum_by, codes, map, string_bytes, All, Option, IfSome, Result, Ok, Err}
 use Rattle.std.specs.Global.{Vec, Global}
 use Rattle.std.specs.declared.string.String.{String}
+use Rattle.class_model.specs.declared.class.Class.{Class}
+use Rattle.class_reader.specs.Spells.{IsClass}
 use Rattle.class_writer.specs.Writing.{HasClassForm}
 use Rattle.class_link.specs.declared.loaded.Loaded.{Loaded}
 use Rattle.mt_edge.specs.Files.{Files, listed}
@@ -117,9 +119,13 @@ abbrev pub LoadsHeld : Option Files → List ℕ → List ℕ → Result LoadedS
 LoadsHeld held classes tests result =
     IfSome held (λ files. Reads (suite_of classes tests files) result)
 
--- Each class has the form of what is read.
+-- What every class that is read is: one that has a spelling, and the form of what is written.
+pub record IsSpelled (class : Class) : Type 0 where
+  pub spelled : IsClass class
+  pub form : HasClassForm class
+
 abbrev pub AreFormed : List Loaded → Type 0
-AreFormed classes = All (λ l. HasClassForm l.class) classes
+AreFormed classes = All (λ l. IsSpelled l.class) classes
 
 abbrev pub IsFormed : LoadedSuite → Type 0
 IsFormed s = AreFormed s.classes × AreFormed s.tests

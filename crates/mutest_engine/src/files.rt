@@ -1,8 +1,8 @@
 //! A class file that is held: its bytes within the limit, and the class that they spell.
 
 ghost use Rattle.std.specs.Prelude.{◌≡◌, ◌≤◌, ℕ, List, IfOk, IfErr};
-ghost use Rattle.class_writer.specs.Writing.{HasClassForm};
 ghost use Rattle.mutest_engine.specs.Answers.{few_bytes, within_limit as within, file_of, spelled_class, IsClassFault, IsOfFile, IsOfSuite, IsUnheld};
+ghost use Rattle.mutest_engine.specs.SuiteFiles.{IsSpelled};
 ghost use Rattle.mutest_engine.specs.declared.refusal.Refusal.TheVariants.{NotFound, BadClass};
 ghost use Rattle.mutest_engine.specs.declared.stop.Halt.TheVariants.{ReadFault};
 ghost use Rattle.mutest_engine.specs.Steps.{Gives, ReadsHeld, HaltsHeld, Refuses, RefusesReading, FailsReading};
@@ -103,7 +103,7 @@ fn bad_class(alloc: Global, path: &[u8], fault: ClassFault) -> Stop
 /// The class of a file.
 pub fn spelled_class(alloc: Global, path: &[u8], bytes: &[u8]) -> Result<Class, Stop>
     ensures value { Gives (spelled_class path.now bytes.now) result }
-    ensures form { IfOk result HasClassForm }
+    ensures form { IfOk result IsSpelled }
     ensures refusal { IfErr result (Refuses (λ r. IsOfFile path.now r × IsOfSuite r)) }
 {
     what_is_spelled_is_written();

@@ -1,10 +1,9 @@
 //! The classes of a suite: two folders are listed, their files are read, and then each is spelled.
 
 ghost use Rattle.std.specs.Prelude.{◌≡◌, ◌+◌, ◌≤◌, length, map, string_bytes, All, IfSome, IfOk, IfErr};
-ghost use Rattle.class_writer.specs.Writing.{HasClassForm};
 ghost use Rattle.mutest_engine.specs.Answers.{IsOfSuite};
 ghost use Rattle.mutest_engine.specs.Steps.{Gives, ReadsHeld, Refuses, RefusesReading, FailsReading};
-ghost use Rattle.mutest_engine.specs.SuiteFiles.{Lists, ListsBoth, is_class_path, class_paths, few_classes, within_sum, read_one, FilesHeld, bytes_in, loaded, all_loaded, both_loaded, LoadsHeld, IsFormed};
+ghost use Rattle.mutest_engine.specs.SuiteFiles.{Lists, ListsBoth, is_class_path, class_paths, few_classes, within_sum, read_one, FilesHeld, bytes_in, loaded, all_loaded, both_loaded, LoadsHeld, IsSpelled, IsFormed};
 
 use crate::files::{read_file, spelled_class};
 use crate::refusal::{Limit, Refusal};
@@ -176,7 +175,7 @@ fn read_files<T: Tree>(
 
 fn load(alloc: Global, file: ClassFile) -> Result<Loaded, Stop>
     ensures value { Gives (loaded file) result }
-    ensures form { IfOk result (λ l. HasClassForm l.class) }
+    ensures form { IfOk result (λ l. IsSpelled l.class) }
     ensures refusal { IfErr result (Refuses IsOfSuite) }
 {
     let class = spelled_class(alloc, file.path.as_slice(), file.bytes.as_slice())?;
@@ -186,7 +185,7 @@ fn load(alloc: Global, file: ClassFile) -> Result<Loaded, Stop>
 
 fn load_all(alloc: Global, files: Seq<ClassFile>) -> Result<Seq<Loaded>, Stop>
     ensures value { Gives (all_loaded files) result }
-    ensures form { IfOk result (All (λ l. HasClassForm l.class)) }
+    ensures form { IfOk result (All (λ l. IsSpelled l.class)) }
     ensures refusal { IfErr result (Refuses IsOfSuite) }
 {
     let mut all = Seq::new(alloc);
