@@ -1,10 +1,6 @@
 -- A jump that a mutator puts in the place of another goes on wherever that did.
-use Rattle.std.proofs.Common.{◌≡◌, ◌∙◌, refl, sym, ap, subst, ℕ, zero, suc, ◌+◌, ◌<◌, ◌≤◌, ltb, Bool, true, false, List, [], ◌∷◌, map, Some, arith}
-use Rattle.std.specs.Prelude.{◌≢◌, ◌&&◌, ◌||◌, not, ℤ, pos, slice_get, if◌then◌else◌}
-use Rattle.std.proofs.lemmas.Bool.{ltb-true, ltb-false, and_parts}
-use Rattle.std.proofs.lemmas.Bool.Decides.{nat_tests}
-use Rattle.class_model.specs.declared.instruction.Arg.{Arg}
-use Rattle.class_model.specs.declared.instruction.Arg.TheVariants as arg
+use Rattle.std.proofs.Common.{◌≡◌, ◌∙◌, refl, sym, ap, ℕ, ◌+◌, Bool, true, false, List, [], ◌∷◌, map, Some}
+use Rattle.std.specs.Prelude.{◌≢◌, ℤ, pos, slice_get, if◌then◌else◌}
 use Rattle.class_model.specs.declared.instruction.Insn.{Insn}
 use Rattle.program_rules.specs.declared.value.Value.{Value}
 use Rattle.program_rules.specs.declared.value.Value.TheVariants.{Int, Long, Ref, Null}
@@ -23,22 +19,19 @@ use Rattle.edit_laws.specs.EditLaws.{GoesOnAlike, moved_frame}
 use Rattle.edits_so_far.specs.EditLaws as so_far
 use Rattle.machine_so_far.specs.Steps.{act}
 use Rattle.edit_laws.proofs.Places.{edit_by, get_first, get_map, set_same}
-use Rattle.class_link.specs.Symbols.{Symbol}
-use Rattle.class_link.specs.Opcodes.{with_operand, instruction_by}
-use Rattle.mutator_ops.specs.Edits.{is_int_jump, is_ordered_jump, negated, moved_bound}
 
 -- ---- instructions
 
-is_on_int : Instruction → Bool
+unfoldable pub is_on_int : Instruction → Bool
 is_on_int (IfInt c to) = true
 is_on_int other = false
 
-is_on_ints : Instruction → Bool
+unfoldable pub is_on_ints : Instruction → Bool
 is_on_ints (IfInts c to) = true
 is_on_ints other = false
 
 -- The second instruction asks no more of the stack than the first. One that no row applies to asks for what never is.
-pub is_alike : Instruction → Instruction → Bool
+unfoldable pub is_alike : Instruction → Instruction → Bool
 is_alike (IfInt c to) j = is_on_int j
 is_alike (IfInts c to) j = is_on_ints j
 is_alike Unlinked j = true
@@ -94,67 +87,9 @@ module _ (p p' : Look) (q : Limits) (here here' : Current) (w w' : World) (f : F
   acts_alike_by_rules Unlinked j like applied = absurd (applied refl)
   acts_alike_by_rules other j like applied = absurd cc
 
--- ---- opcodes
-
-each : (ℕ → Bool) → ℕ → ℕ → Bool
-each test zero op = true
-each test (suc count) op = test op && each test count (suc op)
-
-each_by : (test : ℕ → Bool) (count start op : ℕ) (above : Bool) → ltb start op ≡ above → each test (suc count) start ≡ true → start ≤ op → op < start + suc count
-    → (each test count (suc start) ≡ true → suc start ≤ op → op < suc start + count → test op ≡ true) → test op ≡ true
-unfolding each
-each_by test count start op true above e le lt later = later (and_parts (test start) (each test count (suc start)) e).1 (omega (arith, ltb-true start op above)) (omega (arith, lt))
-each_by test count start op false above e le lt later = let same : start ≡ op = omega (arith, le, ltb-false start op above) in subst (λ n. test n ≡ true) same (and_parts (test start) (each test count (suc start)) e).0
-
-each_in : (test : ℕ → Bool) (count start op : ℕ) → each test count start ≡ true → start ≤ op → op < start + count → test op ≡ true
-each_in test zero start op e le lt = absurd (omega (arith, le, lt))
-each_in test (suc count) start op e le lt = each_by test count start op (ltb start op) refl e le lt (each_in test count (suc start) op)
-
-so : (a b : Bool) → not a || b ≡ true → a ≡ true → b ≡ true
-so true b e is = e
-so false b e is = absurd cc
-
-module _ (means : ℕ → Symbol) where
-  is_negated : Arg → ℕ → Bool
-  is_negated a op = is_alike (with_operand means op a) (with_operand means (negated op) a)
-
-  is_moved : Arg → ℕ → Bool
-  is_moved a op = not (is_ordered_jump op) || is_alike (with_operand means op a) (with_operand means (moved_bound op) a)
-
-  all_negated : (a : Arg) → each (is_negated a) 12 0x99 ≡ true
-  unfolding each is_negated is_alike is_on_int is_on_ints
-  all_negated (arg.To to) = refl
-  all_negated other = refl
-
-  all_moved : (a : Arg) → each (is_moved a) 12 0x99 ≡ true
-  unfolding each is_moved is_alike is_on_int is_on_ints
-  all_moved (arg.To to) = refl
-  all_moved other = refl
-
-int_low : (op : ℕ) → is_int_jump op ≡ true → 0x99 ≤ op
-int_low op is = grind (arith, nat_tests)
-
-int_high : (op : ℕ) → is_int_jump op ≡ true → op < 0x99 + 12
-int_high op is = grind (arith, nat_tests)
-
-ordered_low : (op : ℕ) → is_ordered_jump op ≡ true → 0x99 ≤ op
-ordered_low op is = grind (arith, nat_tests)
-
-ordered_high : (op : ℕ) → is_ordered_jump op ≡ true → op < 0x99 + 12
-ordered_high op is = grind (arith, nat_tests)
-
+-- the instruction with another opcode
 abbrev pub with_op : Insn → ℕ → Insn
 with_op insn op = record { op = op; wide = insn.wide; arg = insn.arg }
-
-pub negated_alike : (means : ℕ → Symbol) (insn : Insn) → is_int_jump insn.op ≡ true → is_alike (instruction_by means insn) (instruction_by means (with_op insn (negated insn.op))) ≡ true
-unfolding instruction_by is_negated
-negated_alike means insn is = each_in (is_negated means insn.arg) 12 0x99 insn.op (all_negated means insn.arg) (int_low insn.op is) (int_high insn.op is)
-
-pub moved_alike : (means : ℕ → Symbol) (insn : Insn) → is_ordered_jump insn.op ≡ true → is_alike (instruction_by means insn) (instruction_by means (with_op insn (moved_bound insn.op))) ≡ true
-unfolding instruction_by is_moved
-moved_alike means insn is =
-    so (is_ordered_jump insn.op) (is_alike (with_operand means insn.op insn.arg) (with_operand means (moved_bound insn.op) insn.arg))
-    (each_in (is_moved means insn.arg) 12 0x99 insn.op (all_moved means insn.arg) (ordered_low insn.op is) (ordered_high insn.op is)) is
 
 -- ---- programs
 

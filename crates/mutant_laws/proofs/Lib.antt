@@ -1,6 +1,7 @@
 mod Lists
 mod Jumps
 mod Listed
+mod IntJumps
 mod Frames
 mod Lines
 mod Linked

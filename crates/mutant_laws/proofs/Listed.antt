@@ -1,93 +1,189 @@
--- What is known of each mutant of a class.
-use Rattle.std.proofs.Common.{◌≡◌, refl, ℕ, ◌+◌, Bool, true, false, List, [], ◌∷◌, ◌++◌, map, drop, All, Option, None, Some, unwrap_or, if◌then◌else◌}
-use Rattle.std.specs.Prelude.{slice_get}
-use Rattle.std.specs.List.{AllByRecursion}
-use Rattle.std.proofs.lemmas.List.Elements.{All-append, All-nil, All-from_recursion}
-use Rattle.class_model.specs.Pool.{text_of, class_name_of}
-use Rattle.class_model.specs.declared.attribute.Code.{Code, out-Code}
-use Rattle.class_model.specs.declared.class.Class.{Class}
-use Rattle.class_model.specs.declared.class.Member.{Member}
+-- What is known of a mutant whose edit puts a jump on ints in the place of an instruction.
+use Rattle.std.proofs.Common.{◌≡◌, ◌∙◌, refl, sym, ap, ℕ, Bool, true, false, List, [], ◌∷◌, ◌++◌, map, Option, None, Some, if◌then◌else◌}
+use Rattle.std.specs.Prelude.{◌==◌, ◌&&◌, ◌||◌, not, is_none, reverse, option_and_then}
+use Rattle.std.specs.Option.{option_map}
+use Rattle.std.proofs.lemmas.Bool.{eqb-true, and_parts}
+use Rattle.class_model.specs.declared.instruction.Arg.{Arg}
+use Rattle.class_model.specs.declared.instruction.Arg.TheVariants as arg
 use Rattle.class_model.specs.declared.instruction.Insn.{Insn}
+use Rattle.class_model.specs.declared.kind.Kind.{Kind}
+use Rattle.class_model.specs.declared.kind.Kind.TheVariants as kind
 use Rattle.class_model.specs.declared.mutator.Mutator.{Mutator}
 use Rattle.class_model.specs.declared.mutator.Mutator.TheVariants as mutator
 use Rattle.class_link.specs.Symbols.{Symbol}
-use Rattle.class_link.specs.Opcodes.{instruction_by}
-use Rattle.mutator_ops.specs.Edits.{is_int_jump, is_ordered_jump, if_so, mutators_of, op_by}
-use Rattle.mutator_ops.specs.Mutants.{code_of, line_rows, mutant_at, mutants_from, code_mutants, is_synthetic, is_left_out, method_mutants, methods_mutants, class_mutants}
-use Rattle.mutator_ops.specs.declared.mutant.Mutant.{Mutant}
-use Rattle.mutator_ops.specs.declared.place.Place.{Place}
-use Rattle.mutant_laws.proofs.Lists.{first_from, rest_from}
-use Rattle.mutant_laws.proofs.Jumps.{is_alike, with_op, negated_alike, moved_alike}
+use Rattle.class_link.specs.Opcodes.{with_operand, instruction_by}
+use Rattle.mutator_ops.specs.Calls.{called_args, is_void_call}
+use Rattle.mutator_ops.specs.Changes.{bare, pop_of, or_nop, new_insns}
+use Rattle.mutator_ops.specs.Table.{Asked, when, opcode_for, bounds, opposites, operations, negated, gives_boolean, gives_number, gives_long, empty_value, is_boolean_class, returned_class, empty_return, boxed_truth, truth, null_return, row}
+use Rattle.mutator_ops.specs.declared.change.Change.{Change}
+use Rattle.mutator_ops.specs.declared.change.Change.TheVariants as change
+use Rattle.mutator_ops.specs.declared.change.Value.{Value}
+use Rattle.mutator_ops.specs.declared.change.Value.TheVariants as value
+use Rattle.mutator_ops.specs.declared.change.Callee.TheVariants as callee
+use Rattle.mutant_laws.specs.Edited.{is_int_jump, puts_int_jump}
+use Rattle.mutant_laws.proofs.Jumps.{is_alike, is_on_int, is_on_ints, with_op}
 
-abbrev pub name_of : Class → List ℕ
-name_of c = unwrap_or (class_name_of c.pool c.this) []
+-- ---- rows that exchange opcodes
 
-abbrev pub place_of : Class → Member → Code → ℕ → Place
-place_of c member code number = record {
-  class = name_of c;
-  method = unwrap_or (text_of c.pool member.name) [];
-  desc = unwrap_or (text_of c.pool member.desc) [];
-  number = number;
-  rows = line_rows (out-Code code).attrs;
-}
+all_pairs : (ℕ × ℕ → Bool) → List (ℕ × ℕ) → Bool
+all_pairs test [] = true
+all_pairs test (x ∷ xs) = test x && all_pairs test xs
 
--- The mutant is what a mutator makes of an instruction of the class.
-pub record IsListed (c : Class) (m : Mutant) : Type 0 where
-  pub member : Member
-  pub code : Code
-  pub insn : Insn
-  pub number : ℕ
-  pub place : ℕ
-  pub mutator : Mutator
-  pub is : m ≡ mutant_at (place_of c member code number) place insn mutator
-  pub declares : slice_get c.methods number ≡ Some member
-  pub coded : code_of member.attrs ≡ Some code
-  pub had : slice_get (out-Code code).insns place ≡ Some insn
-  pub like : (means : ℕ → Symbol) → is_alike (instruction_by means insn) (instruction_by means (with_op insn (op_by mutator insn.op))) ≡ true
+found_case : (test : ℕ × ℕ → Bool) (x : ℕ × ℕ) (xs : List (ℕ × ℕ)) (op new : ℕ) (b : Bool) → (op == x.0) ≡ b → test x ≡ true → (opcode_for xs op ≡ Some new → test (op, new) ≡ true) → (if b then Some x.1 else opcode_for xs op) ≡ Some new → test (op, new) ≡ true
+found_case test x xs op new true e here later h =
+    let same : x.1 ≡ new = cc in ap (λ n. test (n, new)) (eqb-true op x.0 e) ∙ ap (λ n. test (x.0, n)) (sym same) ∙ here
+found_case test x xs op new false e here later h = later h
 
-heads : {X : Type 0} (P : X → Type 0) (f : Mutator → X) (a b : Bool) (m n : Mutator) → (a ≡ true → P (f m)) → (b ≡ true → P (f n)) → AllByRecursion P (map f (if_so a m ++ if_so b n))
-heads P f true true m n p q = (p refl, (q refl, tt))
-heads P f true false m n p q = (p refl, tt)
-heads P f false true m n p q = (q refl, tt)
-heads P f false false m n p q = tt
+found : (test : ℕ × ℕ → Bool) (pairs : List (ℕ × ℕ)) (op new : ℕ) → all_pairs test pairs ≡ true → opcode_for pairs op ≡ Some new → test (op, new) ≡ true
+unfolding all_pairs
+found test [] op new all h = absurd cc
+found test (x ∷ xs) op new all h =
+    let k = and_parts (test x) (all_pairs test xs) all in found_case test x xs op new (op == x.0) refl k.0 (found test xs op new k.1) h
 
-module _ (c : Class) where
-  insns_listed : (member : Member) (code : Code) (number : ℕ) → slice_get c.methods number ≡ Some member → code_of member.attrs ≡ Some code → (at : ℕ) (rest : List Insn) → drop at (out-Code code).insns ≡ rest → All (IsListed c) (mutants_from (place_of c member code number) at rest)
-  insns_listed member code number declares coded at [] from = All-nil _
-  insns_listed member code number declares coded at (insn ∷ rest) from =
-      let place = place_of c member code number in
-      let one : (by : Mutator) → ((means : ℕ → Symbol) → is_alike (instruction_by means insn) (instruction_by means (with_op insn (op_by by insn.op))) ≡ true) → IsListed c (mutant_at place at insn by) = λ by like. record {
-        member = member;
-        code = code;
-        insn = insn;
-        number = number;
-        place = at;
-        mutator = by;
-        is = refl;
-        declares = declares;
-        coded = coded;
-        had = first_from (out-Code code).insns at insn rest from;
-        like = like;
-      } in
-      All-append (IsListed c) (map (mutant_at place at insn) (mutators_of insn)) (mutants_from place (at + 1) rest)
-      (All-from_recursion (IsListed c) _ (heads (IsListed c) (mutant_at place at insn) (is_ordered_jump insn.op) (is_int_jump insn.op) mutator.ConditionalsBoundary mutator.NegateConditionals
-      (λ is. one mutator.ConditionalsBoundary (λ means. moved_alike means insn is)) (λ is. one mutator.NegateConditionals (λ means. negated_alike means insn is))))
-      (insns_listed member code number declares coded (at + 1) rest (rest_from (out-Code code).insns at insn rest from))
+so : (a b : Bool) → not a || b ≡ true → a ≡ true → b ≡ true
+so true b e is = e
+so false b e is = absurd cc
 
-  method_listed : (member : Member) (number : ℕ) → slice_get c.methods number ≡ Some member → (o : Option Code) → code_of member.attrs ≡ o → All (IsListed c) (code_mutants c.pool (name_of c) number member o)
-  method_listed member number declares None coded = All-nil _
-  method_listed member number declares (Some code) coded = insns_listed member code number declares coded 0 (out-Code code).insns refl
+opcode_was : (o : Option ℕ) (op : ℕ) → option_map change.Opcode o ≡ Some (change.Opcode op) → o ≡ Some op
+opcode_was None op h = absurd cc
+opcode_was (Some n) op h = cc
 
-  unless : (b : Bool) (mutants : List Mutant) → All (IsListed c) mutants → All (IsListed c) (if b then [] else mutants)
-  unless true mutants h = All-nil _
-  unless false mutants h = h
+module _ (means : ℕ → Symbol) where
+  -- a jump on ints stands for an instruction that asks as much of the stack
+  is_kept : Arg → ℕ × ℕ → Bool
+  is_kept a x = not (is_int_jump x.1) || is_alike (with_operand means x.0 a) (with_operand means x.1 a)
 
-  methods_listed : (number : ℕ) (rest : List Member) → drop number c.methods ≡ rest → All (IsListed c) (methods_mutants c.pool (name_of c) number rest)
-  methods_listed number [] from = All-nil _
-  methods_listed number (member ∷ rest) from =
-      All-append (IsListed c) (method_mutants c.pool (name_of c) number member) (methods_mutants c.pool (name_of c) (number + 1) rest)
-      (unless (is_left_out member.flags) (code_mutants c.pool (name_of c) number member (code_of member.attrs)) (method_listed member number (first_from c.methods number member rest from) (code_of member.attrs) refl))
-      (methods_listed (number + 1) rest (rest_from c.methods number member rest from))
+  bounds_kept : (a : Arg) → all_pairs (is_kept a) bounds ≡ true
+  unfolding all_pairs is_kept is_alike is_on_int is_on_ints
+  bounds_kept (arg.To to) = refl
+  bounds_kept other = refl
 
-pub all_listed : (c : Class) → All (IsListed c) (class_mutants c)
-all_listed c = unless c (is_synthetic c.flags) (methods_mutants c.pool (name_of c) 0 c.methods) (methods_listed c 0 c.methods refl)
+  opposites_kept : (a : Arg) → all_pairs (is_kept a) opposites ≡ true
+  unfolding all_pairs is_kept is_alike is_on_int is_on_ints
+  opposites_kept (arg.To to) = refl
+  opposites_kept other = refl
+
+  operations_kept : (a : Arg) → all_pairs (is_kept a) operations ≡ true
+  unfolding all_pairs is_kept
+  operations_kept a = refl
+
+  by_table : (insn : Insn) (op : ℕ) (pairs : List (ℕ × ℕ)) → all_pairs (is_kept insn.arg) pairs ≡ true → option_map change.Opcode (opcode_for pairs insn.op) ≡ Some (change.Opcode op) → is_int_jump op ≡ true
+      → is_alike (instruction_by means insn) (instruction_by means (with_op insn op)) ≡ true
+  unfolding instruction_by is_kept
+  by_table insn op pairs kept h jumps =
+      so (is_int_jump op) (is_alike (with_operand means insn.op insn.arg) (with_operand means op insn.arg))
+      (found (is_kept insn.arg) pairs insn.op op kept (opcode_was (opcode_for pairs insn.op) op h)) jumps
+
+-- ---- rows that don't
+
+is_exchange : Option Change → Bool
+is_exchange (Some (change.Opcode op)) = true
+is_exchange other = false
+
+not_when : (b : Bool) (x : Change) → is_exchange (Some x) ≡ false → is_exchange (when b x) ≡ false
+unfolding is_exchange
+not_when true x h = h
+not_when false x h = refl
+
+not_either : (b : Bool) (x y : Option Change) → is_exchange x ≡ false → is_exchange y ≡ false → is_exchange (if b then x else y) ≡ false
+not_either true x y h k = h
+not_either false x y h k = k
+
+not_given : (f : List ℕ → Option Change) (o : Option (List ℕ)) → ((class : List ℕ) → is_exchange (f class) ≡ false) → is_exchange (option_and_then f o) ≡ false
+unfolding is_exchange
+not_given f None h = refl
+not_given f (Some class) h = h class
+
+not_returned : (o : Option Value) → is_exchange (option_map change.Returns o) ≡ false
+unfolding is_exchange
+not_returned None = refl
+not_returned (Some v) = refl
+
+not_negated : (a : Arg) → is_exchange (negated a) ≡ false
+unfolding is_exchange
+not_negated (arg.Inc local by) = refl
+not_negated other = refl
+
+none : is_exchange None ≡ false
+unfolding is_exchange
+none = refl
+
+returns : (v : Value) → is_exchange (Some (change.Returns v)) ≡ false
+unfolding is_exchange
+returns v = refl
+
+plain : (is_exchange (Some change.Nothing) ≡ false) × (is_exchange (Some change.Pops) ≡ false)
+unfolding is_exchange
+plain = (refl, refl)
+
+not_truth : (constant : ℕ) (asked : Asked) (insn : Insn) → is_exchange (truth constant asked insn) ≡ false
+not_truth constant asked insn =
+    not_either (insn.op == 0xac) (when (gives_boolean asked.gives) (change.Returns (value.Constant constant))) (option_and_then (boxed_truth constant) (returned_class asked insn))
+    (not_when (gives_boolean asked.gives) (change.Returns (value.Constant constant)) (returns (value.Constant constant)))
+    (not_given (boxed_truth constant) (returned_class asked insn) (λ class. not_when (is_boolean_class class) (change.Returns (value.Boxed constant callee.BoxedBoolean)) (returns (value.Boxed constant callee.BoxedBoolean))))
+
+no_exchange : (o : Option Change) (op : ℕ) → is_exchange o ≡ false → o ≡ Some (change.Opcode op) → ⊥
+unfolding is_exchange
+no_exchange o op never h = let clash : false ≡ true = sym never ∙ ap is_exchange h in absurd cc
+
+-- ---- the rows
+
+row_alike : (means : ℕ → Symbol) (by : Mutator) (asked : Asked) (insn : Insn) (op : ℕ) → row by asked insn ≡ Some (change.Opcode op) → is_int_jump op ≡ true
+    → is_alike (instruction_by means insn) (instruction_by means (with_op insn op)) ≡ true
+row_alike means mutator.ConditionalsBoundary asked insn op h jumps = by_table means insn op bounds (bounds_kept means insn.arg) h jumps
+row_alike means mutator.Increments asked insn op h jumps =
+    absurd (no_exchange (row mutator.Increments asked insn) op (not_either (insn.op == 0x84) (negated insn.arg) None (not_negated insn.arg) none) h)
+row_alike means mutator.InvertNegs asked insn op h jumps =
+    absurd (no_exchange (row mutator.InvertNegs asked insn) op (not_when (insn.op == 0x74 || insn.op == 0x75) change.Nothing plain.0) h)
+row_alike means mutator.Math asked insn op h jumps = by_table means insn op operations (operations_kept means insn.arg) h jumps
+row_alike means mutator.NegateConditionals asked insn op h jumps = by_table means insn op opposites (opposites_kept means insn.arg) h jumps
+row_alike means mutator.VoidMethodCalls asked insn op h jumps =
+    absurd (no_exchange (row mutator.VoidMethodCalls asked insn) op (not_when (is_void_call asked.pool insn) change.Pops plain.1) h)
+row_alike means mutator.EmptyReturns asked insn op h jumps =
+    absurd (no_exchange (row mutator.EmptyReturns asked insn) op (not_given empty_return (returned_class asked insn) (λ class. not_returned (empty_value class))) h)
+row_alike means mutator.FalseReturns asked insn op h jumps = absurd (no_exchange (row mutator.FalseReturns asked insn) op (not_truth 0x03 asked insn) h)
+row_alike means mutator.TrueReturns asked insn op h jumps = absurd (no_exchange (row mutator.TrueReturns asked insn) op (not_truth 0x04 asked insn) h)
+row_alike means mutator.NullReturns asked insn op h jumps =
+    absurd (no_exchange (row mutator.NullReturns asked insn) op
+    (not_given (null_return asked) (returned_class asked insn) (λ class. not_when (not asked.is_not_null && is_none (empty_value class) && not (is_boolean_class class)) (change.Returns (value.Constant 0x01)) (returns (value.Constant 0x01)))) h)
+row_alike means mutator.PrimitiveReturns asked insn op h jumps =
+    absurd (no_exchange (row mutator.PrimitiveReturns asked insn) op
+    (not_either (insn.op == 0xac) (when (gives_number asked.gives) (change.Returns (value.Constant 0x03))) (when (insn.op == 0xad && gives_long asked.gives) (change.Returns (value.Constant 0x09)))
+    (not_when (gives_number asked.gives) (change.Returns (value.Constant 0x03)) (returns (value.Constant 0x03)))
+    (not_when (insn.op == 0xad && gives_long asked.gives) (change.Returns (value.Constant 0x09)) (returns (value.Constant 0x09)))) h)
+
+-- ---- changes
+
+pop_only : (k : Kind) → puts_int_jump (bare (pop_of k) ∷ []) ≡ false
+pop_only kind.Long = refl
+pop_only other = refl
+
+pops_only : (ks : List Kind) (b : Bool) → puts_int_jump (map bare (or_nop (map pop_of ks ++ (if b then [] else 0x57 ∷ [])))) ≡ false
+pops_only [] true = refl
+pops_only [] false = refl
+pops_only (k ∷ []) true = pop_only k
+pops_only (k ∷ []) false = refl
+pops_only (k ∷ l ∷ ks) b = refl
+
+value_only : (v : Value) (insn : Insn) → puts_int_jump (new_insns [] (change.Returns v) insn) ≡ false
+value_only (value.Constant op) insn = refl
+value_only value.EmptyText insn = refl
+value_only (value.Empty callee) insn = refl
+value_only (value.Boxed op callee) insn = refl
+
+-- A change that puts a jump on ints there exchanges the opcode.
+pub record IsExchange (insn : Insn) (made : Change) : Type 0 where
+  pub op : ℕ
+  pub is : made ≡ change.Opcode op
+  -- the new instruction asks no more of the stack
+  pub like : (means : ℕ → Symbol) → is_alike (instruction_by means insn) (instruction_by means (with_op insn op)) ≡ true
+
+jump_or_not : {A : Type 0} (b : Bool) → b ≡ false → b ≡ true → A
+jump_or_not b never h = let clash : false ≡ true = sym never ∙ h in absurd cc
+
+pub exchanges : (by : Mutator) (asked : Asked) (insn : Insn) (made : Change) → row by asked insn ≡ Some made → puts_int_jump (new_insns asked.pool made insn) ≡ true → IsExchange insn made
+exchanges by asked insn (change.Opcode op) h jumps = record { op = op; is = refl; like = λ means. row_alike means by asked insn op h jumps }
+exchanges by asked insn (change.Increment local n) h jumps = absurd cc
+exchanges by asked insn change.Nothing h jumps = absurd cc
+exchanges by asked insn change.Pops h jumps = jump_or_not (puts_int_jump (new_insns asked.pool change.Pops insn)) (pops_only (reverse (called_args asked.pool insn)) (insn.op == 0xb8)) jumps
+exchanges by asked insn (change.Returns v) h jumps = jump_or_not (puts_int_jump (new_insns [] (change.Returns v) insn)) (value_only v insn) jumps

@@ -1,7 +1,9 @@
 -- The program that a mutant's edit makes is the program with one instruction edited (this project's own).
-use Rattle.std.specs.Prelude.{◌≡◌, ◌++◌, List, All, Some}
+use Rattle.std.specs.Prelude.{◌≡◌, ◌++◌, ℕ, nat_le, ◌&&◌, Bool, true, false, List, [], ◌∷◌, All, Some}
 use Rattle.std.specs.List.{Contains}
 use Rattle.class_model.specs.declared.class.Class.{Class}
+use Rattle.class_model.specs.declared.edit.NewInsn.{NewInsn}
+use Rattle.class_model.specs.declared.edit.NewInsn.TheVariants.{Plain}
 use Rattle.program_rules.specs.Programs.{Look}
 use Rattle.machine_rules.specs.Steps.{Place}
 use Rattle.edit_laws.specs.Edit.{Edit, IsEdited, edited_line}
@@ -9,6 +11,7 @@ use Rattle.edit_laws.specs.EditLaws.{edited_place, GoesOnAlike}
 use Rattle.edits_so_far.specs.EditLaws as so_far
 use Rattle.class_link.specs.Info.{Info, IsInfo}
 use Rattle.class_table.specs.Table.{look}
+use Rattle.mutator_ops.specs.Laws.{IsMutant}
 use Rattle.mutator_ops.specs.Mutants.{class_mutants}
 use Rattle.mutator_ops.specs.declared.mutant.Mutant.{Mutant}
 use Rattle.mutant_runs.specs.Programs.{files_of, edited}
@@ -30,14 +33,29 @@ pub record IsEditOf (m : Mutant) (p p' : Look) : Type 0 where
   pub goes_on : GoesOnAlike edit p p'
   pub goes_on_so_far : so_far.GoesOnAlike edit p p'
 
--- The mutant is one of a class file of the program, and its edit makes the second program.
+-- A conditional jump that compares ints (JVMS 6.5): ifeq to ifle (99 to 9e) with 0, if_icmpeq to if_icmple (9f to a4) with each other.
+abbrev pub is_int_jump : ℕ → Bool
+is_int_jump op = nat_le 0x99 op && nat_le op 0xa4
+
+-- An edit puts one such jump in the place of the old instruction: that of each mutant by ConditionalsBoundary, and of each by NegateConditionals at an instruction that is such a jump
+-- too. No other mutator's edit does.
+abbrev pub puts_int_jump : List NewInsn → Bool
+puts_int_jump (Plain new ∷ []) = is_int_jump new.op
+puts_int_jump other = false
+
+-- The mutant is one of a class file of the program, it exchanges jumps on ints, and its edit makes the second program. The laws of the other mutants are still to come.
 pub record IsMutated (p : List Info) (m : Mutant) (p' : Look) : Type 0 where
   pub infos : All IsInfo p
   pub file : Class
   pub found : files_of p m.class ≡ Some file
   pub listed : Contains (class_mutants file) m
+  pub jumps : puts_int_jump m.edit.with ≡ true
   pub made : edited (files_of p) (look p) m ≡ Some p'
 
 -- The program that a mutant's edit makes is the program with one instruction edited.
 abbrev pub MutantsAreEdits : Type 0
 MutantsAreEdits = (p : List Info) (m : Mutant) (p' : Look) → IsMutated p m p' → IsEditOf m (look p) p'
+
+-- Each mutant of an instruction that is a conditional jump on ints puts such a jump there, so these laws are of it.
+abbrev pub IntJumpsAreExchanged : Type 0
+IntJumpsAreExchanged = (class : Class) (m : Mutant) (x : IsMutant class m) → is_int_jump x.insn.op ≡ true → puts_int_jump m.edit.with ≡ true
