@@ -26,7 +26,8 @@ fn called(
 
 #[test]
 fn the_mutants_of_a_class_are_listed(rt: HostRuntime) -> Result<(), Fail> {
-    let lines = b"A.f(I)Z@1:CONDITIONALS_BOUNDARY\nA.f(I)Z@1:NEGATE_CONDITIONALS\nA.f(I)Z@3:FALSE_RETURNS\nA.f(I)Z@3:TRUE_RETURNS\nA.f(I)Z@5:FALSE_RETURNS\nA.f(I)Z@5:TRUE_RETURNS\n".as_slice();
+    let lines =
+        b"A.f(I)Z@1:CONDITIONALS_BOUNDARY\nA.f(I)Z@1:NEGATE_CONDITIONALS\nA.f(I)Z@3:FALSE_RETURNS\nA.f(I)Z@3:TRUE_RETURNS\nA.f(I)Z@5:FALSE_RETURNS\nA.f(I)Z@5:TRUE_RETURNS\n".as_slice();
     let bare = called(rt.alloc(), &["list", "A.class"], &A_BARE, &[], &[])?;
     assert_eq!(rt; bare.0, 0);
     assert_eq!(rt; bare.1.as_slice(), lines);

@@ -1,4 +1,4 @@
-use Rattle.std.proofs.Common.{◌∙◌, Err, ap}
+use Rattle.std.proofs.Common.{Err, ap}
 use Rattle.mutest_engine.proofs.ProgramLaws.{is_program}
 use Rattle.mutest_engine.proofs.FileLaws.{are_files}
 use Rattle.mutest_engine.proofs.NumberLaws.{numbered, as_many}
