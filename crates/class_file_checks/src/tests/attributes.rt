@@ -19,8 +19,8 @@ fn pool(alloc: Global) -> Result<Seq<Const>, ClassFault> {
 
 /// Whether an owner's attributes are written as they were read, and are copied.
 fn comes_back(alloc: Global, owner: Owner, bytes: &[u8]) -> Result<bool, Fail> {
-    let pool = pool(alloc)?;
-    let pool = Judged::new(alloc, pool.as_slice())?;
+    let entries = pool(alloc)?;
+    let pool = Judged::new(alloc, entries.as_slice())?;
     let mut cur = Cursor::new(bytes, 0);
     let attrs = read_attrs(alloc, &mut cur, owner, &pool)?;
     let mut out: Bytes = Seq::new(alloc);

@@ -23,8 +23,8 @@ fn pool(alloc: Global) -> Result<Seq<Const>, ClassFault> {
 fn comes_back(alloc: Global, bytes: &[u8], starts: &[u32]) -> Result<bool, Fail>
     requires { length bytes.now < 2 ^ 16 }
 {
-    let pool = pool(alloc)?;
-    let pool = Judged::new(alloc, pool.as_slice())?;
+    let entries = pool(alloc)?;
+    let pool = Judged::new(alloc, entries.as_slice())?;
     let insns = read_insns(alloc, bytes, 0, &pool)?;
     let found = places(alloc, &insns)?;
     let mut out: Bytes = Seq::new(alloc);
