@@ -86,7 +86,10 @@ fn fault_of(alloc: Global, rows: &[Row<'_>]) -> Result<String, Fail> {
     if let Some((number, name)) = told(Program::build(alloc, Seq::new(alloc), classes)) {
         write!(text, "{number} ")?;
         for unit in name.as_slice() {
-            text.push(*unit as u8 as char)?;
+            match u8::try_from(*unit) {
+                Ok(byte) => text.push(byte as char)?,
+                Err(_) => text.push('?')?,
+            }
         }
     }
     Ok(text)
