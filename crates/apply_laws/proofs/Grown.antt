@@ -14,8 +14,8 @@ use Rattle.class_model.specs.declared.attribute.Code.{Code, out-Code}
 use Rattle.class_model.specs.declared.attribute.Body.{Body}
 use Rattle.class_model.specs.declared.attribute.Body.TheOpen.{Body-F, Code-F}
 use Rattle.class_model.specs.declared.annotation.Note.{Note}
-use Rattle.class_model.specs.declared.annotation.Elem.{Elem, out-Elem}
-use Rattle.class_model.specs.declared.annotation.Elem.TheOpen.{Elem-F}
+use Rattle.class_model.specs.declared.annotation.Token.{Token}
+use Rattle.class_model.specs.declared.annotation.Token.TheVariants as token
 use Rattle.class_model.specs.declared.class.Member.{Member}
 use Rattle.class_model.specs.declared.constant.Const.{Const}
 use Rattle.class_model.specs.declared.constant.Const.TheVariants as const
@@ -37,11 +37,12 @@ use Rattle.mt_insn.specs.declared.opcode.Form.TheVariants as form
 use Rattle.mt_insn.specs.declared.raw.Operand.TheVariants as operand
 use Rattle.mt_attrs.specs.Item.{AllBy}
 use Rattle.mt_attrs.specs.Named.{is_text, is_value, is_constant, is_caught, is_name, is_described, names_text, names_type, names_result, IsIndex}
-use Rattle.mt_attrs.specs.Notes.{most_turns, IsPair}
+use Rattle.mt_attrs.specs.Notes.{next_due, outer_due, IsToken, AreTokens, IsNote}
+use Rattle.mt_attrs.specs.declared.due.Due.{Due}
 use Rattle.mt_attrs.specs.Kinds.{own_name, own_kind, known_of, is_free, without, all_unseen, table_of, is_table_free, without_table}
 use Rattle.mt_attrs.specs.CodeParts.{name_of, body_of, table_after}
 use Rattle.mt_attrs.specs.Attributes.{attr_after}
-use Rattle.mt_attrs.specs.Naming.{IsNamedLine, IsNamedRow, IsNamedVItem, IsNamedShape, IsNamedFrame, IsNamedNoteBy, IsNamedElemBy, IsNamedInner, IsNamedElem, IsNamedNote, IsNamedTableBody, IsNamedTable, AreNamedParts, IsNamedBody, IsNamedAttr, AreNamed}
+use Rattle.mt_attrs.specs.Naming.{IsNamedLine, IsNamedRow, IsNamedVItem, IsNamedShape, IsNamedFrame, IsNamedTableBody, IsNamedTable, AreNamedParts, IsNamedBody, IsNamedAttr, AreNamed}
 use Rattle.mt_attrs.specs.declared.owner.Owner.{Owner}
 use Rattle.mt_attrs.specs.declared.kinds.Known.{Known}
 use Rattle.mt_attrs.specs.declared.kinds.Known.TheVariants as known
@@ -201,27 +202,25 @@ module _ (pool more : List Const) where
 
   -- ---- annotations
 
-  note_grows : (P N : Elem → Type 0) → ((e : Elem) → P e → N e) → (note : Note) → IsNamedNoteBy pool P note → IsNamedNoteBy longer N note
-  note_grows P N h note q = (type_grows _ q.0, each_map (IsPair pool P) (IsPair longer N) (λ pair k. (index_grows is_text pair.0 k.0, h pair.1 k.1)) _ q.1)
+  token_grows : (due : Due) (t : Token) → IsToken pool due t → IsToken longer due t
+  token_grows due (token.Name name) q = (q.0, index_grows is_text name q.1)
+  token_grows due (token.Plain tag index) q = (q.0, (q.1.0, q.1.1, index_grows (is_constant tag) index q.1.2))
+  token_grows due (token.Enum kind name) q = (q.0, (type_grows kind q.1.0, index_grows is_text name q.1.1))
+  token_grows due (token.Class index) q = (q.0, result_grows index q.1)
+  token_grows due (token.Inner kind count) q = (q.0, (q.1.0, type_grows kind q.1.1, q.1.2))
+  token_grows due (token.Many count) q = q
 
-  inner_grows : (P N : ℕ → Elem → Type 0) → ((depth : ℕ) (e : Elem) → P depth e → N depth e) → (depth : ℕ) (note : Note) → IsNamedInner pool P depth note → IsNamedInner longer N depth note
-  inner_grows P N h zero note q = absurd q
-  inner_grows P N h (suc depth) note q = note_grows (P depth) (N depth) (h depth) note q
+  tokens_grow : (dues : List Due) (ts : List Token) → AreTokens pool dues ts → AreTokens longer dues ts
+  tokens_grow [] [] q = q
+  tokens_grow (due ∷ others) [] q = absurd q
+  tokens_grow [] (t ∷ ts) q = absurd q
+  tokens_grow (due ∷ others) (t ∷ ts) q = (token_grows due t q.0, tokens_grow (next_due due others t) ts q.1)
 
-  parts_of_elem : (P N : ℕ → Elem → Type 0) → ((depth : ℕ) (e : Elem) → P depth e → N depth e) → (depth : ℕ) (b : Elem-F Elem Note) → IsNamedElemBy pool (P depth) (IsNamedInner pool P depth) b → IsNamedElemBy longer (N depth) (IsNamedInner longer N depth) b
-  parts_of_elem P N h depth (Elem-F.Plain tag index) q = (q.0, q.1, index_grows (is_constant tag) index q.2)
-  parts_of_elem P N h depth (Elem-F.Enum kind name) q = (type_grows kind q.0, index_grows is_text name q.1)
-  parts_of_elem P N h depth (Elem-F.Class index) q = result_grows index q
-  parts_of_elem P N h depth (Elem-F.Inner note) q = inner_grows P N h depth note q
-  parts_of_elem P N h depth (Elem-F.Many elems) q = each_map (P depth) (N depth) (h depth) elems q
+  note_grows : (note : Note) → IsNote pool note → IsNote longer note
+  note_grows note q = record { kind = type_grows note.kind q.kind; few = q.few; tokens = tokens_grow (outer_due note.count) note.tokens q.tokens }
 
-  elem_grows : (turns depth : ℕ) (e : Elem) → IsNamedElem pool turns depth e → IsNamedElem longer turns depth e
-  unfolding IsNamedElem
-  elem_grows zero depth e q = q
-  elem_grows (suc turns) depth e q = parts_of_elem (IsNamedElem pool turns) (IsNamedElem longer turns) (elem_grows turns) depth (out-Elem e) q
-
-  notes_grow : (notes : List Note) → AllByRecursion (IsNamedNote pool) notes → AllByRecursion (IsNamedNote longer) notes
-  notes_grow notes q = each_map (IsNamedNote pool) (IsNamedNote longer) (note_grows (IsNamedElem pool most_turns 31) (IsNamedElem longer most_turns 31) (elem_grows most_turns 31)) notes q
+  notes_grow : (notes : List Note) → AllByRecursion (IsNote pool) notes → AllByRecursion (IsNote longer) notes
+  notes_grow notes q = each_map (IsNote pool) (IsNote longer) note_grows notes q
 
   -- ---- attributes
 
