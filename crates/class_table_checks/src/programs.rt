@@ -1,8 +1,8 @@
 use crate::classes::{A, object_alone, program, read_all};
-use class_model::{ClassId, Name, Seq, read_text, write_text};
+use class_model::{ClassId, Name, read_text, write_text};
 use class_table::{
-    Comparison, Consulted, FrameShape, Instruction, LibClass, LinkedBody, LinkedCode, Program,
-    TableFault, VType,
+    Comparison, Consulted, FrameShape, Instruction, LinkedBody, LinkedCode, Program, TableFault,
+    VType,
 };
 use std::alloc::Global;
 use std::test::Fail;
@@ -54,76 +54,6 @@ fn two_classes_of_one_name_are_refused(rt: HostRuntime) -> Result<(), Fail> {
     let (number, name) = told(built).ok_or("a fault")?;
     assert_eq!(rt; number, 13);
     assert!(rt; is_text(rt.alloc(), &name, "A")?);
-    Ok(())
-}
-
-// A class by its name, its superclass, its access flags and its interface; an empty name is none.
-type Row<'a> = (&'a str, &'a str, u16, &'a str);
-
-fn add_row(alloc: Global, classes: &mut Seq<LibClass>, row: &Row<'_>) -> Result<(), Fail> {
-    let mut interfaces = Seq::new(alloc);
-    if !row.3.is_empty() {
-        interfaces.push(read_text(alloc, row.3.as_bytes())?)?;
-    }
-    classes.push(LibClass {
-        name: read_text(alloc, row.0.as_bytes())?,
-        parent: Some(read_text(alloc, row.1.as_bytes())?),
-        interfaces,
-        flags: row.2,
-        fields: Seq::new(alloc),
-        methods: Seq::new(alloc),
-    })?;
-    Ok(())
-}
-
-// The fault of Object and the classes of these rows, as its number and its name, or an empty text.
-fn fault_of(alloc: Global, rows: &[Row<'_>]) -> Result<String, Fail> {
-    let mut classes = object_alone(alloc)?;
-    for row in rows {
-        add_row(alloc, &mut classes, row)?;
-    }
-    let mut text = String::new(alloc);
-    if let Some((number, name)) = told(Program::build(alloc, Seq::new(alloc), classes)) {
-        write!(text, "{number} ")?;
-        for unit in name.as_slice() {
-            match u8::try_from(*unit) {
-                Ok(byte) => text.push(byte as char)?,
-                Err(_) => text.push('?')?,
-            }
-        }
-    }
-    Ok(text)
-}
-
-#[test]
-fn wrong_supers_are_refused(rt: HostRuntime) -> Result<(), Fail> {
-    let object = "java/lang/Object";
-    let plain = ("S", object, 33, "");
-    let interface = ("I", object, 1537, "");
-    let cases = [
-        ("", [plain, interface, ("K", "S", 33, "I")]),
-        ("14 K", [plain, interface, ("K", "Gone", 33, "")]),
-        ("14 K", [plain, interface, ("K", "S", 33, "Gone")]),
-        ("15 T", [plain, interface, ("T", "T", 33, "")]),
-        (
-            "15 A",
-            [("C", "B", 33, ""), ("B", "A", 33, ""), ("A", "B", 33, "")],
-        ),
-        (
-            "15 I",
-            [plain, ("I", object, 1537, "J"), ("J", object, 1537, "I")],
-        ),
-        ("14 Z", [plain, ("A", "A", 33, ""), ("Z", "Gone", 33, "")]),
-        ("16 K", [plain, ("F", object, 49, ""), ("K", "F", 33, "")]),
-        ("16 K", [plain, interface, ("K", "I", 33, "")]),
-        ("16 K", [plain, interface, ("K", "S", 33, "S")]),
-        ("16 J", [plain, interface, ("J", "S", 1537, "")]),
-        ("13 S", [plain, plain, ("K", "Gone", 33, "")]),
-    ];
-    for (fault, rows) in cases {
-        let told = fault_of(rt.alloc(), &rows)?;
-        assert!(rt; told.as_str() == fault, "{fault}");
-    }
     Ok(())
 }
 
