@@ -1,0 +1,62 @@
+package states;
+
+import java.io.IOException;
+import java.nio.file.Files;
+import java.nio.file.Path;
+import java.nio.file.Paths;
+import java.util.ArrayList;
+import java.util.List;
+import java.util.Map;
+import java.util.TreeMap;
+import java.util.stream.Collectors;
+import java.util.stream.Stream;
+import org.objectweb.asm.ClassReader;
+
+/** The class files of the two folders, by name in order. */
+final class Program {
+    final Map<String, byte[]> classes;
+    final Map<String, byte[]> tests;
+
+    Program(String classes, String tests) throws IOException {
+        this.classes = files(classes);
+        this.tests = files(tests);
+    }
+
+    private static Map<String, byte[]> files(String folder) throws IOException {
+        Map<String, byte[]> found = new TreeMap<>();
+        List<Path> paths;
+        try (Stream<Path> all = Files.walk(Paths.get(folder))) {
+            paths = all.filter(path -> path.toString().endsWith(".class")).collect(Collectors.toList());
+        }
+        for (Path path : paths) {
+            byte[] file = Files.readAllBytes(path);
+            found.put(new ClassReader(file).getClassName(), file);
+        }
+        return found;
+    }
+
+    byte[] file(String name) {
+        byte[] file = classes.get(name);
+        return file == null ? tests.get(name) : file;
+    }
+
+    List<String> names() {
+        List<String> names = new ArrayList<>(classes.keySet());
+        names.addAll(tests.keySet());
+        return names;
+    }
+
+    /** The superclass of a class of the program or of Java; for an interface that of Object alone. */
+    String superOf(String name) {
+        byte[] file = file(name);
+        if (file != null) {
+            return new ClassReader(file).getSuperName();
+        }
+        try {
+            Class<?> above = Class.forName(name.replace('/', '.'), false, Program.class.getClassLoader()).getSuperclass();
+            return above == null ? null : above.getName().replace('.', '/');
+        } catch (ClassNotFoundException none) {
+            return null;
+        }
+    }
+}
