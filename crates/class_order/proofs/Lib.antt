@@ -5,3 +5,6 @@ mod Joining
 mod Closing
 mod Parts
 mod Steps
+mod Searching
+pub mod Rows
+pub mod Within

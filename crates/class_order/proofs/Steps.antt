@@ -34,7 +34,7 @@ equal_itself : (a : ℕ) → nat_eq a a ≡ true
 equal_itself a = grind (arith, nat_tests)
 
 -- a class that isn't named, by the test
-unnamed : (a : ℕ) (ns : List ℕ) → list_any (nat_eq a) ns ≡ false → (j : ℕ) → slice_get ns j ≡ Some a → ⊥
+pub unnamed : (a : ℕ) (ns : List ℕ) → list_any (nat_eq a) ns ≡ false → (j : ℕ) → slice_get ns j ≡ Some a → ⊥
 unnamed a [] e j h = absurd cc
 unnamed a (n ∷ ns) e zero h =
     let q : n ≡ a = cc in
@@ -42,7 +42,7 @@ unnamed a (n ∷ ns) e zero h =
     absurd cc
 unnamed a (n ∷ ns) e (suc j) h = unnamed a ns (or_right (nat_eq a n) (list_any (nat_eq a) ns) e) j h
 
-named_at : (a : ℕ) (ns : List ℕ) → list_any (nat_eq a) ns ≡ true → (j : ℕ) × (slice_get ns j ≡ Some a)
+pub named_at : (a : ℕ) (ns : List ℕ) → list_any (nat_eq a) ns ≡ true → (j : ℕ) × (slice_get ns j ≡ Some a)
 named_at a [] e = absurd cc
 named_at a (n ∷ ns) e = by_test (nat_eq a n) refl (named_at a ns)
   where

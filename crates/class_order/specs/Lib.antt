@@ -3,3 +3,5 @@ pub mod Ranks
 pub mod Graph
 pub mod Standings
 pub mod Walks
+pub mod Above
+pub mod Searches

@@ -85,8 +85,8 @@ fn finish(walk: &mut Walk)
     walk.path.pop();
 }
 
-// Whether a class is among these.
-fn is_among(classes: &[u32], class: u32) -> bool
+/// Whether a class is among these.
+pub fn is_among(classes: &[u32], class: u32) -> bool
     ensures { result ≡ list_any (nat_eq class) classes.now }
 {
     classes.iter().any(|other| class == *other)
@@ -116,8 +116,8 @@ fn standing(walk: &Walk, class: u32) -> Standing
     walk.found[class as usize]
 }
 
-// The super at a place of what a class names.
-fn next_super(links: &[Links], class: u32, place: usize) -> Option<u32>
+/// The super at a place of what a class names.
+pub fn next_super(links: &[Links], class: u32, place: usize) -> Option<u32>
     requires { class < length links.now }
     ensures { result ≡ slice_get (supers_at links.now class) place }
 {
