@@ -5,6 +5,6 @@ set -e
 cd "$(dirname "$0")"
 JUNIT4=${JUNIT4:-/usr/share/java/junit4.jar}
 rm -rf classes tests
-javac --release 8 -Xlint:-options -g:lines -d classes src/out/*.java
-javac --release 11 -g:lines -d classes modern/out/*.java
-javac --release 8 -Xlint:-options -g:lines -cp "classes:$JUNIT4" -d tests test/out/*.java
+javac --release 8 -Xlint:-options -g:lines -d classes src/outside/*.java
+javac --release 11 -g:lines -d classes modern/outside/*.java
+javac --release 8 -Xlint:-options -g:lines -cp "classes:$JUNIT4" -d tests test/outside/*.java
