@@ -1,5 +1,5 @@
 -- What the instructions in eight bytes mean.
-use Rattle.std.specs.Prelude.{ℕ, ℤ, Bool, List, Option, Some, None, slice_get}
+use Rattle.std.specs.Prelude.{ℕ, ℤ, Bool, true, false, List, Option, Some, None, slice_get}
 use Rattle.program_rules.specs.declared.operation.Operation.TheVariants as operation
 use Rattle.program_rules.specs.declared.operation.ShiftKind.TheVariants as shift
 use Rattle.program_rules.specs.declared.operation.Comparison.TheVariants as comparison
@@ -152,6 +152,49 @@ instruction_of longs named (op.InstanceOf n) = named InstanceOf n
 instruction_of longs named op.MonitorEnter = def.MonitorEnter
 instruction_of longs named op.MonitorExit = def.MonitorExit
 instruction_of longs named op.Unlinked = def.Unlinked
+
+-- Whether an instruction touches the top frame alone.
+abbrev pub is_alone : Op → Bool
+is_alone (op.TextConstant n) = false
+is_alone (op.ClassConstant n) = false
+is_alone op.IntArrayLoad = false
+is_alone op.LongArrayLoad = false
+is_alone op.ReferenceArrayLoad = false
+is_alone op.ByteArrayLoad = false
+is_alone op.CharArrayLoad = false
+is_alone op.ShortArrayLoad = false
+is_alone op.IntArrayStore = false
+is_alone op.LongArrayStore = false
+is_alone op.ReferenceArrayStore = false
+is_alone op.ByteArrayStore = false
+is_alone op.CharArrayStore = false
+is_alone op.ShortArrayStore = false
+is_alone (op.TableSwitch n) = false
+is_alone (op.LookupSwitch n) = false
+is_alone op.IntReturn = false
+is_alone op.LongReturn = false
+is_alone op.ReferenceReturn = false
+is_alone op.PlainReturn = false
+is_alone (op.GetStatic n) = false
+is_alone (op.PutStatic n) = false
+is_alone (op.GetField n) = false
+is_alone (op.PutField n) = false
+is_alone (op.InvokeVirtual n) = false
+is_alone (op.InvokeInterface n) = false
+is_alone (op.InvokeSpecial n) = false
+is_alone (op.InvokeStatic n) = false
+is_alone (op.New n) = false
+is_alone (op.NewArray n) = false
+is_alone (op.NewReferenceArray n) = false
+is_alone (op.NewMultiArray k n) = false
+is_alone op.ArrayLength = false
+is_alone op.Throw = false
+is_alone (op.CheckCast n) = false
+is_alone (op.InstanceOf n) = false
+is_alone op.MonitorEnter = false
+is_alone op.MonitorExit = false
+is_alone op.Unlinked = false
+is_alone other = true
 
 -- What is left of an instruction where its function gives nothing: no row; of an operation the row
 -- that throws, which is none but for a division by 0; and of the instructions that don't touch the

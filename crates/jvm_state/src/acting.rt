@@ -1,12 +1,12 @@
 //! One instruction of the top frame.
 
-ghost use Rattle.std.specs.Prelude.{◌≡◌, ◌+◌, ◌<◌, ◌≤◌, ◌^◌, Bool, Option, length, slice_get};
+ghost use Rattle.std.specs.Prelude.{◌≡◌, ◌+◌, ◌<◌, ◌≤◌, ◌^◌, Bool, true, Option, IfSome, length, slice_get};
 ghost use Rattle.program_rules.specs.Kinds.{Kind};
 ghost use Rattle.program_rules.specs.Programs.{Look};
 ghost use Rattle.machine_rules.specs.declared.machine.Limits.{Limits};
 ghost use Rattle.jvm_state.specs.Slots.{IsStack};
 ghost use Rattle.jvm_state.specs.Rows.{Lays};
-ghost use Rattle.jvm_state.specs.Ops.{Runs, row_of, long_constant};
+ghost use Rattle.jvm_state.specs.Ops.{Runs, row_of, long_constant, is_alone};
 
 use crate::jumping::{
     branch_on_int, branch_on_ints, branch_on_null, branch_on_object, branch_on_other,
@@ -85,7 +85,8 @@ pub fn act(
     requires stack { IsStack operands.old sp }
     requires within { sp ≤ top }
     requires room { top ≤ length operands.old }
-    ensures { Runs longs.now op top at sp locals.old operands.old locals.new operands.new result }
+    ensures runs { Runs longs.now op top at sp locals.old operands.old locals.new operands.new result }
+    ensures alone { IfSome result (λ r. is_alone op ≡ true) }
 {
     match op {
         Op::Nop => go_on(operands, at, sp, top),

@@ -34,3 +34,4 @@ pub use stacking::{
     swap,
 };
 pub use store::{act_in, enter};
+pub use words::word;

@@ -1,7 +1,8 @@
 //! One store of slots for the locals and operands of all frames.
 
-ghost use Rattle.std.specs.Prelude.{◌≡◌, ◌+◌, ◌-◌, ◌<◌, ◌≤◌, ◌^◌, [], ◌++◌, take, length, replicate, OnOk, IfOk};
+ghost use Rattle.std.specs.Prelude.{◌≡◌, ◌+◌, ◌-◌, ◌<◌, ◌≤◌, ◌^◌, true, [], ◌++◌, take, length, replicate, OnOk, IfOk};
 ghost use Rattle.jvm_state.specs.declared.slot.Slot.TheVariants.{Unset};
+ghost use Rattle.jvm_state.specs.Ops.{is_alone};
 ghost use Rattle.jvm_state.specs.Stores.{IsFrame, RunsIn, IsEntered};
 
 use crate::acting::act;
@@ -15,7 +16,9 @@ use class_model::{ClassId, Memory};
 pub fn act_in(op: Op, longs: &[i64], slots: &mut [Slot], f: &mut Frame) -> bool
     requires next { f.old.at + 1 < 2 ^ 64 }
     requires frame { IsFrame slots.old f.old }
-    ensures { RunsIn longs.now op result slots.old slots.new f.old f.new }
+    ensures runs { RunsIn longs.now op result slots.old slots.new f.old f.new }
+    ensures alone { result ≡ true → is_alone op ≡ true }
+    ensures len { length slots.new ≡ length slots.old }
 {
     let (low, high) = slots.split_at_mut(f.floor);
     let (_, locals) = low.split_at_mut(f.base);
@@ -47,6 +50,7 @@ pub fn enter(
     requires room { from + 131072 < 2 ^ 64 }
     ensures entered { IfOk result (λ f. IsEntered from args class.0 method max_locals max_stack slots.old.items slots.new.items f) }
     ensures below { take from slots.new.items ≡ take from slots.old.items }
+    ensures more { length slots.old.items ≤ length slots.new.items }
 {
     let base = from - args as usize;
     let floor = base + max_locals as usize;
@@ -68,7 +72,7 @@ pub fn enter(
 fn make_slots(slots: &mut Vec<Slot>, from: usize, end: usize) -> Result<(), Memory>
     requires { from ≤ length slots.old.items }
     ensures below { take from slots.new.items ≡ take from slots.old.items }
-    ensures there { from ≤ length slots.new.items }
+    ensures more { length slots.old.items ≤ length slots.new.items }
     ensures room { OnOk result (end ≤ length slots.new.items) }
 {
     while slots.len() < end {

@@ -13,7 +13,7 @@ use crate::slot::Slot;
 /// The word on the top.
 #[inline(always)]
 #[tactic(auto, using(crate::proofs::Stacks::top_word))]
-fn word(operands: &[Slot], sp: usize) -> Option<Slot>
+pub fn word(operands: &[Slot], sp: usize) -> Option<Slot>
     requires { sp ≤ length operands.now }
     ensures some { IfSome result (λ s. words_in operands.now sp ≡ s ∷ words_in operands.now (sp - 1)) }
     ensures within { IfSome result (λ s. 0 < sp) }
