@@ -1,0 +1,6 @@
+//! A method's code as the machine runs it: instructions in eight bytes, and the tables that they name by number.
+#![tactic(auto)]
+
+mod decoding;
+
+pub use decoding::{Code, decode, decode_one, long_of};
