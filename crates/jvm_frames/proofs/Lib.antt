@@ -1,0 +1,4 @@
+pub mod Taking
+pub mod Keeping
+pub mod StaySteps
+pub mod RunSteps

@@ -1,0 +1,3 @@
+pub mod Frames
+pub mod Running
+pub mod Staying

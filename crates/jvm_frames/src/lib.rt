@@ -1,0 +1,10 @@
+//! The frames of a machine in one store of slots: what is called, what returns, and what one instruction does to the frame that runs.
+#![tactic(auto)]
+
+mod frames;
+mod laws;
+mod staying;
+mod values;
+
+pub use frames::{Args, Frames, Place};
+pub use laws::stays_are_steps;

@@ -1,0 +1,98 @@
+// The values on the top of a stack.
+
+ghost use Rattle.std.specs.Prelude.{◌≡◌, ◌+◌, ◌≤◌, [], ◌∷◌, length, map, IfSome, IfNone, IfOk};
+ghost use Rattle.program_rules.specs.Kinds.{is_of_kind, width_of};
+ghost use Rattle.class_link.specs.Symbols.{kind_of};
+ghost use Rattle.jvm_state.specs.Slots.{stack_in, IsStack};
+ghost use Rattle.jvm_frames.specs.Frames.{args_on, TakesArgs, NoArgs, AreWordsAbove};
+
+use class_model::{Kind, Memory};
+use jvm_state::{Slot, word};
+use program_rules::Value;
+use std::alloc::Global;
+
+/// The value on the top, and the words that are left below it.
+#[tactic(auto, using(jvm_state::proofs::Stacks::below_int, jvm_state::proofs::Stacks::below_reference, jvm_state::proofs::Stacks::below_null, jvm_state::proofs::Stacks::below_long, jvm_state::proofs::Stacks::long_words))]
+pub fn top_value(operands: &[Slot], sp: usize) -> Option<(Value, usize)>
+    requires { IsStack operands.now sp }
+    ensures some { IfSome result (λ r. stack_in operands.now sp ≡ r.0 ∷ stack_in operands.now r.1) }
+    ensures below { IfSome result (λ r. IsStack operands.now r.1) }
+    ensures words { IfSome result (λ r. r.1 + width_of r.0 ≡ sp) }
+    ensures none { IfNone result (stack_in operands.now sp ≡ []) }
+{
+    match word(operands, sp) {
+        Some(Slot::Int(z)) => Some((Value::Int(z), sp - 1)),
+        Some(Slot::Ref(x)) => Some((Value::Ref(x), sp - 1)),
+        Some(Slot::Null) => Some((Value::Null, sp - 1)),
+        Some(Slot::Unset) => match word(operands, sp - 1) {
+            Some(Slot::Long(z)) => Some((Value::Long(z), sp - 2)),
+            Some(Slot::Int(_)) => None,
+            Some(Slot::Ref(_)) => None,
+            Some(Slot::Null) => None,
+            Some(Slot::Unset) => None,
+            None => None,
+        },
+        Some(Slot::Long(_)) => None,
+        None => None,
+    }
+}
+
+// Whether a value is of a kind. Of references this asks no class.
+fn is_of_kind(kind: &Kind, v: Value) -> bool
+    ensures { result ≡ is_of_kind (kind_of kind.now) v }
+{
+    match kind {
+        Kind::Long => matches!(v, Value::Long(_)),
+        Kind::Ref(_) => matches!(v, Value::Ref(_) | Value::Null),
+        Kind::Boolean | Kind::Byte | Kind::Char | Kind::Short | Kind::Int => {
+            matches!(v, Value::Int(_))
+        }
+    }
+}
+
+/// The words that are left below arguments of these kinds, the last one's on the top; none where
+/// the values there are not of these kinds.
+pub fn below_args(kinds: &[Kind], operands: &[Slot], sp: usize) -> Option<usize>
+    requires { IsStack operands.now sp }
+    ensures some { IfSome result (λ below. TakesArgs (map kind_of kinds.now) (stack_in operands.now sp)) }
+    ensures words { IfSome result (λ below. AreWordsAbove (length kinds.now) below operands.now sp) }
+    ensures none { IfNone result (NoArgs (map kind_of kinds.now) (stack_in operands.now sp)) }
+{
+    let mut rest = sp;
+    let mut left = kinds.len();
+    while left > 0 {
+        let Some((v, below)) = top_value(operands, rest) else {
+            return None;
+        };
+        if !is_of_kind(&kinds[left - 1], v) {
+            return None;
+        }
+        rest = below;
+        left -= 1;
+    }
+    Some(rest)
+}
+
+/// The uppermost values of a stack, so many, the top last.
+pub fn top_values(
+    alloc: Global,
+    operands: &[Slot],
+    sp: usize,
+    count: usize,
+) -> Result<Vec<Value>, Memory>
+    requires stack { IsStack operands.now sp }
+    requires count { count ≤ length (stack_in operands.now sp) }
+    ensures { IfOk result (λ values. values.items ≡ args_on count (stack_in operands.now sp)) }
+{
+    let mut values = Vec::with_capacity(alloc, count)?;
+    let mut rest = sp;
+    while values.len() < count {
+        let Some((v, below)) = top_value(operands, rest) else {
+            return Err(Memory);
+        };
+        values.push(v)?;
+        rest = below;
+    }
+    values.reverse();
+    Ok(values)
+}
