@@ -14,3 +14,4 @@ mod FittingMembers
 mod Fitting
 mod SpelledLaws
 mod AnsweredLaws
+mod FaultLaws

@@ -2,6 +2,7 @@
 #![tactic(auto)]
 
 ghost use Rattle.asm_laws.specs.Answered.{TextsHaveOneAnswer};
+ghost use Rattle.asm_laws.specs.Faults.{FaultsAreLines};
 ghost use Rattle.asm_laws.specs.Spelled.{AssembledIsSpelled};
 
 use class_writer::what_is_written_is_spelled;
@@ -16,4 +17,9 @@ pub fn what_is_assembled_is_spelled()
 /// What `class_asm::assemble` says of its result leaves one result for each text, unless memory runs out.
 pub fn texts_have_one_answer()
     ensures { TextsHaveOneAnswer }
+{}
+
+/// What a text states is a class or a first wrong line, and never want of memory.
+pub fn faults_are_lines()
+    ensures { FaultsAreLines }
 {}

@@ -1,3 +1,4 @@
 mod MemberLaws
 mod ClassLaws
 mod FileLaws
+mod VerdictLaws

@@ -139,6 +139,7 @@ pub fn method_name(pool: &Judged, cur: &mut Cursor) -> Result<u16, ClassFault>
     }
 }
 
+#[tactic(auto, using(crate::proofs::VerdictLaws::no_field_memory))]
 fn judge_field_desc(pool: &Judged, index: u16, at: u64) -> Result<u16, ClassFault>
     ensures { Gives fault.Memory (λ index. index) (judged (names_desc field_kind pool.now) (no_desc field_kind pool.now) at index) result }
 {
@@ -149,10 +150,11 @@ fn judge_field_desc(pool: &Judged, index: u16, at: u64) -> Result<u16, ClassFaul
         Ok(()) => Ok(index),
         Err(DescFault::Bad) => Err(ClassFault::BadText { at }),
         Err(DescFault::Float) => Err(ClassFault::FloatUsed { at }),
-        Err(DescFault::Memory) => Err(ClassFault::Memory),
+        Err(DescFault::Memory) => unreachable!(),
     }
 }
 
+#[tactic(auto, using(crate::proofs::VerdictLaws::no_method_memory))]
 fn judge_method_desc(pool: &Judged, index: u16, at: u64) -> Result<u16, ClassFault>
     ensures { Gives fault.Memory (λ index. index) (judged (names_desc method_kinds pool.now) (no_desc method_kinds pool.now) at index) result }
 {
@@ -163,7 +165,7 @@ fn judge_method_desc(pool: &Judged, index: u16, at: u64) -> Result<u16, ClassFau
         Ok(_) => Ok(index),
         Err(DescFault::Bad) => Err(ClassFault::BadText { at }),
         Err(DescFault::Float) => Err(ClassFault::FloatUsed { at }),
-        Err(DescFault::Memory) => Err(ClassFault::Memory),
+        Err(DescFault::Memory) => unreachable!(),
     }
 }
 
