@@ -1,5 +1,5 @@
 -- What decoded instructions mean in a class and a code.
-use Rattle.std.specs.Prelude.{◌≡◌, ℕ, ℤ, ⊤, List, ◌++◌, map, Option, Some, slice_get}
+use Rattle.std.specs.Prelude.{◌≡◌, ℕ, ℤ, ⊤, List, ◌++◌, map, Some, slice_get}
 use Rattle.program_rules.specs.Instructions as def
 use Rattle.class_link.specs.declared.instruction.Instruction.{Instruction}
 use Rattle.class_link.specs.declared.instruction.Instruction.TheVariants.{LongConstant}

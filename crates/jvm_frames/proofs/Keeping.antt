@@ -1,12 +1,10 @@
 -- Frames where slots above them change, and what calls and returns make of them.
-use Rattle.std.proofs.Common.{◌≡◌, ℤ, ℕ, zero, suc, ◌+◌, ◌-◌, ◌<◌, ◌≤◌, List, [], ◌∷◌, ◌++◌, map, reverse, length, take, drop, replicate, Option, Some, None, refl, sym, ap, subst, ◌∙◌, arith, true, false, Bool, IfSome, IsSomeAnd}
+use Rattle.std.proofs.Common.{◌≡◌, ℤ, ℕ, ◌+◌, ◌-◌, ◌≤◌, List, [], ◌∷◌, ◌++◌, map, reverse, length, take, drop, replicate, Option, Some, None, refl, sym, ap, subst, ◌∙◌, arith, true, false, Bool, IfSome, IsSomeAnd}
 use Rattle.jvm_frames.specs.Staying.{Stays, StayOn}
 use Rattle.std.specs.Option.{option_map}
 use Rattle.std.proofs.lemmas.List.{drop-take, drop-drop, take-take, length-take-le, length-drop, reverse-append}
-use Rattle.program_rules.specs.Names.{Name}
 use Rattle.program_rules.specs.Kinds.{height_of}
 use Rattle.program_rules.specs.declared.value.Value.{Value}
-use Rattle.machine_rules.specs.State as rules
 use Rattle.machine_rules.specs.Effects.{locals_of}
 use Rattle.jvm_state.specs.declared.slot.Slot.{Slot}
 use Rattle.jvm_state.specs.declared.frame.Frame.{Frame}
@@ -18,7 +16,7 @@ use Rattle.jvm_state.specs.Ops.{instruction_of, row_of}
 use Rattle.program_rules.specs.Instructions.{Unlinked}
 use Rattle.jvm_state.proofs.StoreLaws.{lower_below}
 use Rattle.jvm_frames.specs.Frames.{NumberedFrame, NumberedFrames, numbered, frames_in, AreFrames, args_on, AreArgs, begun, cut, called, filled, Does, ActsOn}
-use Rattle.jvm_frames.proofs.Taking.{height_parts, words_of_args, height_within, cut_words, cut_stack, cut_locals}
+use Rattle.jvm_frames.proofs.Taking.{words_of_args, height_within, cut_words, cut_stack, cut_locals}
 
 -- ---- slots below a place
 

@@ -1,19 +1,18 @@
 -- Steps of one frame alone are steps of a run.
-use Rattle.std.proofs.Common.{◌≡◌, ℕ, zero, suc, ◌+◌, ℤ, Bool, true, List, ◌∷◌, Option, Some, None, refl, sym, ap, subst, ◌∙◌, arith}
-use Rattle.std.specs.Prelude.{slice_get}
+use Rattle.std.proofs.Common.{◌≡◌, ℕ, zero, suc, ◌+◌, ℤ, Bool, List, ◌∷◌, None, refl, sym, ap, subst, ◌∙◌, arith}
 use Rattle.program_rules.specs.Names.{Name}
 use Rattle.program_rules.specs.Programs.{Look}
 use Rattle.program_rules.specs.Instructions as def
 use Rattle.machine_rules.specs.declared.machine.Limits.{Limits}
 use Rattle.machine_rules.specs.State as rules
 use Rattle.machine_rules.specs.Effects.{Current, on_some, goes_with}
-use Rattle.machine_rules.specs.Steps.{Fetched, Next, act, fetch, reaches, over_or, unless_ended, next_or, place_of, step_of}
+use Rattle.machine_rules.specs.Steps.{Next, act, fetch, reaches, over_or, unless_ended, next_or, place_of, step_of}
 use Rattle.machine_rules.specs.Runs.{run_from, then_run}
 use Rattle.jvm_state.specs.declared.op.Op.{Op}
 use Rattle.jvm_state.specs.Ops.{Naming, instruction_of}
 use Rattle.jvm_frames.specs.Frames.{NumberedFrame, framed}
 use Rattle.jvm_frames.specs.Staying.{StepsAlone, Stays}
-use Rattle.jvm_frames.specs.Running.{StandsIn, IsHome, state_with, StepsOfRuns}
+use Rattle.jvm_frames.specs.Running.{IsHome, state_with, StepsOfRuns}
 
 module _ (p : Look) (q : Limits) (class : Name) (method : ℕ) (here : Current) (named : Naming → ℕ → def.Instruction) (ops : List Op) (longs : List ℤ) (marks : List Bool) (w : rules.World) (fs : List rules.Frame) (home : IsHome p class method here named ops longs marks w) where
   row_goes : (f g : NumberedFrame) (room : ℕ) → f.room ≡ room → (s : StepsAlone ops longs marks f g) → act p q (record { result = here.result; max_stack = room; initializes = here.initializes }) (instruction_of longs named s.op) w (framed class f) fs ≡ goes_with w (framed class g ∷ fs)

@@ -1,9 +1,7 @@
 -- One step more of a frame alone, and steps in the store.
-use Rattle.std.proofs.Common.{◌≡◌, ℕ, zero, suc, ◌+◌, ◌≤◌, ℤ, Bool, true, false, List, [], ◌∷◌, ◌++◌, take, drop, length, Option, Some, None, refl, sym, ap, subst, ◌∙◌, arith}
+use Rattle.std.proofs.Common.{◌≡◌, ℕ, zero, suc, ◌+◌, ◌≤◌, ℤ, Bool, true, false, List, [], ◌∷◌, ◌++◌, take, drop, length, Option, Some, None, refl, ap, subst, arith}
 use Rattle.std.specs.Prelude.{slice_get}
 use Rattle.program_rules.specs.declared.value.Value.{Value}
-use Rattle.program_rules.specs.Kinds.{Kind}
-use Rattle.program_rules.specs.Names.{Name}
 use Rattle.program_rules.specs.Instructions.{Unlinked}
 use Rattle.machine_rules.specs.State as rules
 use Rattle.machine_rules.specs.Effects.{Effect, Goes, NoRow, goes_with}
@@ -11,11 +9,11 @@ use Rattle.jvm_state.specs.declared.op.Op.{Op}
 use Rattle.jvm_state.specs.declared.slot.Slot.{Slot}
 use Rattle.jvm_state.specs.declared.frame.Frame.{Frame}
 use Rattle.jvm_state.specs.Slots.{locals_in, stack_in, IsStack}
-use Rattle.jvm_state.specs.Rows.{Row, frame_in, GoesOn}
+use Rattle.jvm_state.specs.Rows.{Row, frame_in}
 use Rattle.jvm_state.specs.Ops.{is_alone, Runs}
 use Rattle.jvm_state.specs.Stores.{locals_at, operands_at, IsFrame, StepsTo}
 use Rattle.jvm_state.proofs.StoreLaws.{steps_parts}
-use Rattle.jvm_frames.specs.Frames.{NumberedFrame, numbered, Does}
+use Rattle.jvm_frames.specs.Frames.{NumberedFrame, numbered}
 use Rattle.jvm_frames.specs.Staying.{in_slots, StepsAlone, Stays}
 
 stays_next : (ops : List Op) (longs : List ℤ) (marks : List Bool) (n : ℕ) (f g h : NumberedFrame) → Stays ops longs marks n f g → StepsAlone ops longs marks g h → Stays ops longs marks (suc n) f h

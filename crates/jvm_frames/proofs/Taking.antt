@@ -1,5 +1,5 @@
 -- Values on the top of a stack, as words and as arguments.
-use Rattle.std.proofs.Common.{◌≡◌, ℕ, zero, suc, ◌+◌, ◌-◌, ◌<◌, ◌≤◌, true, false, List, [], ◌∷◌, ◌++◌, map, reverse, length, take, drop, cond, Option, Some, None, refl, sym, ap, subst, ◌∙◌, arith, append_assoc, take-append-drop, take-add, Bool, get_or}
+use Rattle.std.proofs.Common.{◌≡◌, ℕ, zero, suc, ◌+◌, ◌-◌, ◌<◌, ◌≤◌, true, false, List, [], ◌∷◌, ◌++◌, map, reverse, length, take, drop, Some, refl, sym, ap, ◌∙◌, arith, append_assoc, take-append-drop, take-add, Bool, get_or}
 use Rattle.std.proofs.lemmas.List.{reverse-append, map-append, length-append, length-reverse, length-take-le, length-drop, take_at, drop_at, drop-drop, take-take, take_all, take_more, reverse-reverse, length-map}
 use Rattle.std.proofs.lemmas.Option.{slice_get_within, get_or_from_slice_get, slice_get-map, slice_get-get_or}
 use Rattle.std.specs.Option.{option_map}

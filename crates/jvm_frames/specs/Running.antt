@@ -1,7 +1,6 @@
 -- What steps of one frame alone are to whole runs.
-use Rattle.std.specs.Prelude.{◌≡◌, ℕ, ◌+◌, ℤ, Bool, true, List, ◌∷◌, Option, Some, None, slice_get}
+use Rattle.std.specs.Prelude.{◌≡◌, ℕ, ◌+◌, ℤ, Bool, true, List, ◌∷◌, Some, None, slice_get}
 use Rattle.program_rules.specs.Names.{Name}
-use Rattle.program_rules.specs.Kinds.{Kind}
 use Rattle.program_rules.specs.Programs.{Look}
 use Rattle.program_rules.specs.Instructions as def
 use Rattle.machine_rules.specs.declared.machine.Limits.{Limits}

@@ -1,4 +1,3 @@
-use Rattle.jvm_state.specs.Ops.{instruction_of}
 use Rattle.class_link.specs.View as view
 use Rattle.jvm_code.specs.Decoded.{named_by}
 use Rattle.jvm_code.proofs.decoding.decode_one.Goals as goal

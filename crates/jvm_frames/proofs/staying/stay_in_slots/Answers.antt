@@ -1,4 +1,4 @@
-use Rattle.std.proofs.Common.{◌≡◌, ◌+◌, ◌≤◌, length, arith, subst, sym, ap, ◌∙◌}
+use Rattle.std.proofs.Common.{arith, subst, sym, ◌∙◌}
 use Rattle.jvm_state.specs.Slots.{IsStack}
 use Rattle.jvm_frames.specs.Staying.{Stays, in_slots}
 use Rattle.jvm_frames.proofs.StaySteps.{stays_more, steps_alone, gone_on, left_there}

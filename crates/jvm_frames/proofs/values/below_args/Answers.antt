@@ -1,4 +1,4 @@
-use Rattle.std.proofs.Common.{◌≡◌, ◌+◌, ◌-◌, ◌<◌, map, length, take, arith, subst, sym, ap, ◌∙◌, zero}
+use Rattle.std.proofs.Common.{◌≡◌, ◌+◌, ◌-◌, ◌<◌, map, length, take, arith, subst, sym, ◌∙◌}
 use Rattle.std.proofs.lemmas.List.{length-map}
 use Rattle.program_rules.specs.Kinds.{height_of}
 use Rattle.class_model.specs.declared.kind.Kind.TheVariants.{Boolean}

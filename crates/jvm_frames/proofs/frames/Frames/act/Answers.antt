@@ -2,7 +2,7 @@ use Rattle.std.proofs.Common.{◌≡◌, ◌∷◌, length, Some, subst, sym, tr
 use Rattle.std.specs.Vec.{with_items}
 use Rattle.std.proofs.lemmas.List.{with_items_is}
 use Rattle.jvm_state.specs.Stores.{AreBelow, RunsIn}
-use Rattle.jvm_frames.specs.Frames.{ActsOn, frames_in, AreFrames}
+use Rattle.jvm_frames.specs.Frames.{ActsOn, frames_in}
 use Rattle.jvm_frames.proofs.Keeping.{stands, frames_are, not_acted, not_acted_frames, acted_on, acted_frames}
 use Rattle.jvm_frames.proofs.frames.Frames.act.Goals as goal
 

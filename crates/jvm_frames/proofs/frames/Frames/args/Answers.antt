@@ -1,4 +1,4 @@
-use Rattle.std.proofs.Common.{◌≡◌, ◌+◌, ◌-◌, length, map, take, Some, arith, subst, sym, ap, ◌∙◌}
+use Rattle.std.proofs.Common.{◌≡◌, ◌+◌, ◌-◌, length, map, take, subst, sym}
 use Rattle.std.proofs.lemmas.List.{length-map}
 use Rattle.program_rules.specs.Kinds.{height_of}
 use Rattle.class_link.specs.Symbols.{kind_of}

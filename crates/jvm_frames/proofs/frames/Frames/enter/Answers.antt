@@ -1,4 +1,4 @@
-use Rattle.std.proofs.Common.{◌≡◌, ◌+◌, ◌≤◌, arith, Some, subst, sym}
+use Rattle.std.proofs.Common.{◌≡◌, ◌≤◌, arith, Some, subst, sym}
 use Rattle.jvm_frames.specs.Frames.{called, frames_in, AreFrames}
 use Rattle.jvm_frames.proofs.Keeping.{stands, frames_are, some_args, words_within, of_running, kept_frames, entered_below, entered_result}
 use Rattle.jvm_frames.proofs.frames.Frames.enter.Goals as goal

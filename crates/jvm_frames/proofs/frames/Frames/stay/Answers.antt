@@ -1,8 +1,8 @@
-use Rattle.std.proofs.Common.{◌≡◌, ◌∷◌, length, take, Some, IfSome, subst, sym, reverse, ◌∙◌}
+use Rattle.std.proofs.Common.{◌≡◌, ◌∷◌, length, take, Some, subst, sym, reverse, ◌∙◌}
 use Rattle.std.specs.Vec.{with_items}
 use Rattle.std.proofs.lemmas.List.{with_items_is}
-use Rattle.jvm_state.specs.Stores.{AreBelow, IsFrame}
-use Rattle.jvm_frames.specs.Frames.{numbered, frames_in, AreFrames}
+use Rattle.jvm_state.specs.Stores.{AreBelow}
+use Rattle.jvm_frames.specs.Frames.{numbered, frames_in}
 use Rattle.jvm_frames.specs.Staying.{Stays, StayOn}
 use Rattle.jvm_frames.proofs.Keeping.{stands, stayed_frames, stayed_on, if_running}
 use Rattle.jvm_frames.proofs.frames.Frames.stay.Goals as goal
