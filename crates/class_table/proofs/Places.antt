@@ -1,5 +1,5 @@
 -- Where a name stands among names, and what that says of a program.
-use Rattle.std.proofs.Common.{◌≡◌, ◌∙◌, sym, refl, ap, ℕ, zero, suc, ◌+◌, ◌<◌, Bool, true, false, List, [], ◌∷◌, length, Option, None, Some, slice_get, slice_set, arith, subst, IsSomeAnd}
+use Rattle.std.proofs.Common.{◌≡◌, ◌∙◌, sym, refl, ap, ℕ, zero, suc, ◌+◌, ◌<◌, Bool, true, false, List, [], ◌∷◌, length, Option, None, Some, slice_get, slice_set, arith, IsSomeAnd}
 use Rattle.std.specs.Prelude.{if◌then◌else◌, option_and_then}
 use Rattle.std.specs.Option.{option_map}
 use Rattle.std.specs.Cmp.Lexicographic.{same_text}
@@ -76,12 +76,6 @@ swap_case p i new (Some old) e h = names_kept p i old new e h.name
 
 pub swap_names : (p : List Info) (i : ℕ) (new : Info) → CanSwap p i new → names (slice_set p i new) ≡ names p
 swap_names p i new h = swap_case p i new (slice_get p i) refl h
-
-pub program_kept : (p q : List Info) → names q ≡ names p → IsProgram p → IsProgram q
-program_kept p q e ok = record {
-  few = (let lp = length-map p (λ x. x.name) in let lq = length-map q (λ x. x.name) in let l : length (names q) ≡ length (names p) = ap length e in let lt = ok.few in omega (arith, lp, lq, l, lt));
-  distinct = subst AreDistinct (sym e) ok.distinct;
-}
 
 pub numbers_kept : {S : Type 0} (m : HashMap Name ℕ S) (p q : List Info) → names q ≡ names p → IsNumbering m p → IsNumbering m q
 numbers_kept m p q e h = λ n. h n ∙ ap (λ ns. place_in ns n) (sym e)

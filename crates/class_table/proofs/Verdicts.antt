@@ -18,9 +18,10 @@ use Rattle.class_order.specs.Graph.{with_parent, supers_of, supers_in, supers_at
 use Rattle.class_order.specs.Standings.{AreStandings, IsStanding, IsLower, cyclic, ranked}
 use Rattle.class_order.specs.Supers.{is_super_missing, IsBelow, next, further, IsOwnSuper, is_super_of_wrong_kind, names_wrong_kind, lacks_superclass, IsLeastWith}
 use Rattle.class_order.specs.Ranks.{HasRanks}
+use Rattle.class_order.specs.Above.{rank_of, AreRanked}
 use Rattle.class_table.specs.Table.{names, number_of, class_at, name_at, look, AreDistinct}
 use Rattle.class_table.specs.Least.{IsMarked, IsLeastMarked}
-use Rattle.class_table.specs.Supers.{misses, names_wrong, numbers_known, IsLinked, AreLinked, AreLinks, is_cyclic, IsRanked, AreOrdered}
+use Rattle.class_table.specs.Supers.{misses, names_wrong, numbers_known, IsLinked, AreLinked, AreLinks, is_cyclic, IsRanked}
 use Rattle.class_table.proofs.Places.{name_at_place, number_within, number_named, name_of_class, number_at, look_at, none_past}
 
 -- ---- one class more
@@ -210,7 +211,7 @@ module _ (p : List Info) (distinct : AreDistinct (names p)) where
             ap supers_in e ∙ ap (λ o. with_parent o l.interfaces.items) fit.parent ∙ ap (with_parent (option_and_then (number_of p) (class_of i).parent)) fit.interfaces ∙ parents_known (class_of i).parent (class_of i).interfaces
 
     -- a super by number is one by name
-    step_named : (a k b : ℕ) → slice_get (supers_at g a) k ≡ Some b → a < length p → (is_listed (name_at p b) (parents_of (look p (name_at p a))) ≡ true) × (b < length p)
+    pub step_named : (a k b : ℕ) → slice_get (supers_at g a) k ≡ Some b → a < length p → (is_listed (name_at p b) (parents_of (look p (name_at p a))) ≡ true) × (b < length p)
     step_named a k b h lt = by_class (slice_get p a) refl
       where
         by_class : (o : Option Info) → slice_get p a ≡ o → (is_listed (name_at p b) (parents_of (look p (name_at p a))) ≡ true) × (b < length p)
@@ -219,7 +220,7 @@ module _ (p : List Info) (distinct : AreDistinct (names p)) where
             let r = known_named (parents_of (Some (class_of i))) k b (subst (λ l. slice_get l k ≡ Some b) (supers_known a i e) h) in
             (subst (λ o. is_listed (name_at p b) (parents_of o) ≡ true) (sym (look_at p a i distinct e)) r.0, r.1)
 
-    leads_below : (b c : ℕ) → Leads g b c → (n : Name) → is_listed (name_at p b) (parents_of (look p n)) ≡ true → b < length p → IsBelow (look p) n (name_at p c)
+    pub leads_below : (b c : ℕ) → Leads g b c → (n : Name) → is_listed (name_at p b) (parents_of (look p n)) ≡ true → b < length p → IsBelow (look p) n (name_at p c)
     leads_below b c (graph.same x) n listed lt = next n (name_at p b) listed
     leads_below b c (graph.up x k d y names rest) n listed lt =
         let r = step_named b k d names lt in
@@ -278,7 +279,7 @@ module _ (p : List Info) (distinct : AreDistinct (names p)) where
           let r = known_has m b (parents_of (Some (class_of c.2))) (subst (λ o. is_listed m (parents_of o) ≡ true) c.4 listed) nb in
           (r.0, subst (λ l. slice_get l r.0 ≡ Some b) (sym (supers_known a c.2 at)) r.1)
 
-      below_leads : (n m : Name) → IsBelow (look p) n m → (a b : ℕ) → number_of p n ≡ Some a → number_of p m ≡ Some b → (k : ℕ) × (over : ℕ) × (slice_get (supers_at g a) k ≡ Some over) × Leads g over b
+      pub below_leads : (n m : Name) → IsBelow (look p) n m → (a b : ℕ) → number_of p n ≡ Some a → number_of p m ≡ Some b → (k : ℕ) × (over : ℕ) × (slice_get (supers_at g a) k ≡ Some over) × Leads g over b
       below_leads n m (next x y listed) a b na nb =
           let r = step_number n m a b listed na nb in
           (r.0, b, r.1, graph.same b)
@@ -376,13 +377,6 @@ module _ (p : List Info) (distinct : AreDistinct (names p)) where
 
 -- ---- ranks
 
-abbrev rank_of : Option Standing → ℕ
-rank_of None = 0
-rank_of (Some New) = 0
-rank_of (Some (Open place)) = 0
-rank_of (Some (Ranked rank)) = rank
-rank_of (Some Cyclic) = 0
-
 module _ (p : List Info) (g : List Links) (links : AreLinks p g) (found : List Standing) (right : AreStandings g found) (none : (k : ℕ) → IsMarked (map is_cyclic found) k → k < length p → ⊥) where
   each : length found ≡ length p
   each = right.each ∙ links.each
@@ -421,8 +415,11 @@ module _ (p : List Info) (g : List Links) (links : AreLinks p g) (found : List S
       by_standing (Some (Ranked rank)) e = subst (λ o. rank_of (slice_get found b) < rank_of o) (sym e) (lower_rank b rank ((right.fit a (Ranked rank) e).1 k b sup))
       by_standing (Some Cyclic) e = absurd (not_cyclic a e)
 
-  pub are_ordered : AreOrdered p g
-  are_ordered = record { links = links; ranked = record { rank = λ a. rank_of (slice_get found a); few = few; lower = lower } }
+  pub are_ranked : IsRanked g
+  are_ranked = record { rank = λ a. rank_of (slice_get found a); few = few; lower = lower }
+
+  pub are_falling : AreRanked g found
+  are_falling a b s = lower a s.place b s.there
 
 -- ---- together
 

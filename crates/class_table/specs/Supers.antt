@@ -10,7 +10,9 @@ use Rattle.class_order.specs.declared.links.Links.{Links}
 use Rattle.class_order.specs.declared.standing.Standing.{Standing}
 use Rattle.class_order.specs.declared.standing.Standing.TheVariants.{New, Open, Ranked, Cyclic}
 use Rattle.class_order.specs.Graph.{supers_at}
+use Rattle.class_order.specs.Above.{AreRows}
 use Rattle.class_order.specs.Supers.{lacks_superclass, names_wrong_kind}
+use Rattle.class_table.specs.declared.supers.Supers.{Supers}
 use Rattle.class_table.specs.Table.{number_of, look}
 
 -- Whether a class of the program misses a super.
@@ -56,7 +58,7 @@ pub record IsRanked (g : List Links) : Type 0 where
   pub few : (a : ℕ) → rank a < 2 ^ 32
   pub lower : (a k b : ℕ) → slice_get (supers_at g a) k ≡ Some b → rank b < rank a
 
--- What is found of the classes of a program that has no fault.
-pub record AreOrdered (p : List Info) (g : List Links) : Type 0 where
-  pub links : AreLinks p g
-  pub ranked : IsRanked g
+-- What is kept of the supers of a program's classes.
+pub record AreSupers (p : List Info) (s : Supers) : Type 0 where
+  pub links : AreLinks p s.links.items
+  pub rows : AreRows s.links.items s.above.items

@@ -1,5 +1,5 @@
 -- The classes of a program by number and by name.
-use Rattle.std.specs.Prelude.{◌≡◌, IsTrue, ℕ, suc, ◌<◌, ◌^◌, if◌then◌else◌, List, [], ◌∷◌, ◌++◌, length, map, Option, Some, None, slice_get, option_and_then, IsSomeAnd, ⊤}
+use Rattle.std.specs.Prelude.{◌≡◌, false, All, IsTrue, ℕ, suc, ◌<◌, ◌^◌, if◌then◌else◌, List, [], ◌∷◌, ◌++◌, length, map, Option, Some, None, slice_get, option_and_then, IsSomeAnd, ⊤}
 use Rattle.std.specs.Option.{option_map}
 use Rattle.std.specs.Ordering.{nat_cmp, is_le}
 use Rattle.std.specs.Cmp.Lexicographic.{slice_cmp}
@@ -14,7 +14,9 @@ use Rattle.class_link.specs.declared.loaded.ClassBody.TheVariants as body
 use Rattle.class_link.specs.declared.linked.Entry.{Entry}
 use Rattle.class_link.specs.declared.linked.MethodRef.{MethodRef}
 use Rattle.class_link.specs.declared.linked.LinkedMethod.{LinkedMethod}
-use Rattle.class_link.specs.Info.{Info, body_name, class_of}
+use Rattle.class_link.specs.Info.{Info, IsInfo, body_name, class_of}
+use Rattle.class_order.specs.Supers.{is_super_missing}
+use Rattle.class_order.specs.Ranks.{HasRanks}
 use Rattle.class_link.specs.View.{method_ref_at}
 
 -- ---- names
@@ -66,11 +68,6 @@ names p = map (λ i. i.name) p
 abbrev pub bodies : List Info → List ClassBody
 bodies p = map (λ i. i.body) p
 
--- There are fewer classes than numbers, and no two have one name.
-pub record IsProgram (p : List Info) : Type 0 where
-  pub few : length p < 2 ^ 32
-  pub distinct : AreDistinct (names p)
-
 -- The number of the class of a name.
 abbrev pub number_of : List Info → Name → Option ℕ
 number_of p n = place_in (names p) n
@@ -86,6 +83,15 @@ name_at p id = name_or_none (slice_get (names p) id)
 -- A program as the machine's definitions ask it: the class of each name.
 abbrev pub look : List Info → Look
 look p n = option_and_then (class_at p) (number_of p n)
+
+-- There are fewer classes than numbers, and no two have one name. Each has the name and the meaning
+-- of its body. No super is missing, and classes have ranks, so none stands above itself.
+pub record IsProgram (p : List Info) : Type 0 where
+  pub few : length p < 2 ^ 32
+  pub distinct : AreDistinct (names p)
+  pub meant : All IsInfo p
+  pub present : (n : Name) → is_super_missing (look p) n ≡ false
+  pub ranks : HasRanks (look p)
 
 -- ---- what a class names, by number
 

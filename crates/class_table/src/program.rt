@@ -4,13 +4,15 @@ ghost use Rattle.std.specs.Prelude.{◌≡◌, ◌<◌, ◌^◌, ℕ, List, All,
 ghost use Rattle.std.specs.Option.{option_map, option_copied};
 ghost use Rattle.std.specs.Arc.{arc_value};
 ghost use Rattle.program_rules.specs.Linked.{method_in};
+ghost use Rattle.program_rules.specs.Names.{is_listed};
+ghost use Rattle.program_rules.specs.Programs.{supers};
 ghost use Rattle.class_link.specs.View.{method_of};
 ghost use Rattle.class_link.specs.Info.{IsInfo, class_of, link_body, file_in};
 ghost use Rattle.class_table.specs.Table.{AreDistinct, IsLeastDuplicate, bodies_of, names_of, names, number_of, CanSwap, class_at, name_at, look, entries_at, methods_at, reference_at, named_number, named_place, IsProgram};
 ghost use Rattle.class_order.specs.Ranks.{HasRanks};
 ghost use Rattle.class_table.specs.Calls.{IsTargetOf, AreTargets};
 ghost use Rattle.class_table.specs.Faults.{look_of, IsFaultless, MissesFirst, CyclesFirst, IsWrongFirst, AreProgram, IsFirstMissing, IsFirstCycle, IsFirstWrongKind};
-ghost use Rattle.class_table.specs.Supers.{AreOrdered};
+ghost use Rattle.class_table.specs.Supers.{AreSupers};
 ghost use Rattle.class_table.specs.Numbers.{IsNumbering};
 ghost use Rattle.class_table.specs.Adding.{shared};
 ghost use Rattle.class_table.specs.declared.fault.TableFault.TheVariants.{Duplicate, SuperMissing, SuperCycle, SuperKind};
@@ -18,10 +20,10 @@ ghost use Rattle.class_table.specs.declared.fault.TableFault.TheVariants.{Duplic
 use crate::calls::{Target, Targets, copy_targets, forget_unless_right, target_at, targets};
 use crate::fault::TableFault;
 use crate::numbering::{infos, least_duplicate, numbers};
-use crate::supers::{all_links, least_cyclic, least_missing, least_wrong};
+use crate::supers::{Supers, all_links, least_cyclic, least_missing, least_wrong, stands_below};
 use class_link::{ClassBody, ClassInfo, LibClass, LinkedMethod, Loaded};
 use class_model::{Class, ClassId, Memory, Name, Seq};
-use class_order::{Links, standings};
+use class_order::{all_above, standings};
 use std::alloc::Global;
 use std::collections::HashMap;
 use std::marker::Model;
@@ -36,6 +38,7 @@ pub struct Program {
     numbers: Arc<HashMap<Name, u32>, Global>,
     // what calls name by number, while it is right
     targets: Option<Arc<Targets, Global>>,
+    supers: Arc<Supers, Global>,
 }
 
 impl Model for Program {
@@ -50,6 +53,7 @@ impl Model for Program {
     ghost use Rattle.class_table.specs.Numbers.{IsNumbering};
     ghost use Rattle.class_table.specs.Adding.{shared};
     ghost use Rattle.class_table.specs.Calls.{AreTargetsOrNone};
+    ghost use Rattle.class_table.specs.Supers.{AreSupers};
 
     ghost Value = { List Info };
 
@@ -57,7 +61,7 @@ impl Model for Program {
 
     ghost view = { λ p. map (λ c. arc_value c) p.classes.items };
 
-    ghost invariant = { λ p. IsProgram (map (λ c. arc_value c) p.classes.items) × IsNumbering (arc_value p.numbers) (map (λ c. arc_value c) p.classes.items) × AreTargetsOrNone (option_map (λ t. arc_value t) p.targets) (map (λ c. arc_value c) p.classes.items) };
+    ghost invariant = { λ p. IsProgram (map (λ c. arc_value c) p.classes.items) × IsNumbering (arc_value p.numbers) (map (λ c. arc_value c) p.classes.items) × AreTargetsOrNone (option_map (λ t. arc_value t) p.targets) (map (λ c. arc_value c) p.classes.items) × AreSupers (map (λ c. arc_value c) p.classes.items) (arc_value p.supers) };
 }
 
 impl Program {
@@ -156,6 +160,16 @@ impl Program {
         self.numbers.get(name).copied()
     }
 
+    /// Whether a class is another one or stands below it. It looks at each class above it at most
+    /// once, and takes no memory.
+    pub fn is_subtype(&self, class: ClassId, over: ClassId) -> bool
+        requires class { class.0 < length self.now }
+        requires over { over.0 < length self.now }
+        ensures { result ≡ is_listed (name_at self.now over.0) (supers (look self.now) (name_at self.now class.0)) }
+    {
+        stands_below(&self.supers, class.0, over.0)
+    }
+
     /// Puts a class in the place of another one of the same name, superclass and interfaces, and
     /// gives back the other. Both are of class files.
     pub fn swap(&mut self, id: ClassId, with: Arc<ClassInfo, Global>) -> Arc<ClassInfo, Global>
@@ -165,6 +179,7 @@ impl Program {
     {
         let at = id.0 as usize;
         forget_unless_right(&mut self.targets, at, info_at(&self.classes, at), &with);
+        meant(&with);
         put(&mut self.classes, at, with)
     }
 
@@ -176,6 +191,7 @@ impl Program {
             classes: copy_classes(&self.classes)?,
             numbers: self.numbers.clone()?,
             targets: copy_targets(&self.targets)?,
+            supers: self.supers.clone()?,
         })
     }
 
@@ -273,18 +289,27 @@ fn put(
     mem::replace(&mut classes[at], with)
 }
 
-// Tells the first fault that these classes have as a program, if there is one, and else what each
-// names as its supers, by number.
-fn links_of(
+// A class has the name and the meaning of its body.
+fn meant(info: &ClassInfo)
+    ensures { IsInfo info.now }
+{
+    let _name = info.name();
+    let _linked = info.linked();
+}
+
+// Tells the first fault that these classes have as a program, if there is one, and else what stands
+// above each.
+fn supers_of(
     alloc: Global,
     infos: &[Arc<ClassInfo, Global>],
     numbers: &HashMap<Name, u32>,
-) -> Result<Vec<Links, Global>, TableFault>
+) -> Result<Supers, TableFault>
     requires few { length infos.now < 2 ^ 32 }
+    requires meant { All IsInfo (shared infos.now) }
     requires numbers { IsNumbering numbers.now (shared infos.now) }
     ensures faultless { OnOk result (IsFaultless (names (shared infos.now)) (look (shared infos.now))) }
-    ensures ranks { OnOk result (HasRanks (look (shared infos.now))) }
-    ensures links { IfOk result (λ g. AreOrdered (shared infos.now) g.items) }
+    ensures program { OnOk result (IsProgram (shared infos.now)) }
+    ensures supers { IfOk result (AreSupers (shared infos.now)) }
     ensures duplicate { (name : List ℕ) → result ≡ Err (Duplicate name) → IsLeastDuplicate (names (shared infos.now)) name }
     ensures missing { (name : List ℕ) → result ≡ Err (SuperMissing name) → MissesFirst (names (shared infos.now)) (look (shared infos.now)) name }
     ensures cycle { (name : List ℕ) → result ≡ Err (SuperCycle name) → CyclesFirst (names (shared infos.now)) (look (shared infos.now)) name }
@@ -304,7 +329,8 @@ fn links_of(
     if let Some(name) = least_wrong(alloc, infos, numbers)? {
         return Err(TableFault::SuperKind { name });
     }
-    Ok(links)
+    let above = all_above(alloc, links.as_slice(), found.as_slice())?;
+    Ok(Supers { links, above })
 }
 
 // The numbers of these classes, and what they name by number, shared.
@@ -322,6 +348,7 @@ fn number_all(
 }
 
 fn program_of(alloc: Global, infos: Vec<Arc<ClassInfo, Global>>) -> Result<Program, TableFault>
+    requires meant { All IsInfo (shared infos.items) }
     ensures classes { IfOk result (λ p. p ≡ shared infos.items) }
     ensures faultless { OnOk result (IsFaultless (names (shared infos.items)) (look (shared infos.items))) }
     ensures ranks { OnOk result (HasRanks (look (shared infos.items))) }
@@ -334,14 +361,16 @@ fn program_of(alloc: Global, infos: Vec<Arc<ClassInfo, Global>>) -> Result<Progr
         return Err(TableFault::Memory);
     }
     let (numbers, targets) = number_all(alloc, infos.as_slice())?;
-    match links_of(alloc, infos.as_slice(), &numbers) {
-        Ok(_links) => Ok(Program {
-            classes: infos,
-            numbers,
-            targets: Some(targets),
-        }),
-        Err(fault) => Err(fault),
-    }
+    let supers = match supers_of(alloc, infos.as_slice(), &numbers) {
+        Ok(supers) => supers,
+        Err(fault) => return Err(fault),
+    };
+    Ok(Program {
+        classes: infos,
+        numbers,
+        targets: Some(targets),
+        supers: Arc::new(alloc, supers)?,
+    })
 }
 
 fn copy_classes(

@@ -1,12 +1,13 @@
 //! Whether the supers that a program's classes name are as they have to be, and their numbers.
 #![tactic(auto, unfolding(class_link::specs::View::linked_of))]
 
-ghost use Rattle.std.specs.Prelude.{◌≡◌, ◌<◌, ◌^◌, ◌++◌, length, map, is_none, not, ◌&&◌, IfOk, OnOk};
+ghost use Rattle.std.specs.Prelude.{◌≡◌, ◌<◌, ◌^◌, ◌++◌, ◌↔◌, length, map, is_none, not, ◌&&◌, IfOk, OnOk, IsTrue};
 ghost use Rattle.std.specs.List.{list_any};
 ghost use Rattle.std.specs.Option.{option_map, option_copied, option_to_list};
 ghost use Rattle.program_rules.specs.Names.{same, object_name};
 ghost use Rattle.program_rules.specs.Linked.{is_interface};
 ghost use Rattle.class_link.specs.Info.{class_of};
+ghost use Rattle.class_order.specs.Above.{AreFalling, IsOver};
 ghost use Rattle.class_order.specs.Supers.{is_final, is_no_superclass, is_no_interface, is_wrong_superclass};
 ghost use Rattle.class_table.specs.Adding.{shared};
 ghost use Rattle.class_table.specs.Least.{IsLeastMarked};
@@ -17,10 +18,25 @@ ghost use Rattle.class_table.specs.Table.{names, number_of, look};
 use crate::least::least_marked;
 use class_link::{ClassInfo, Shared};
 use class_model::{Memory, Name};
-use class_order::{Links, Standing};
+use class_order::{Above, Links, Standing, is_over};
 use std::alloc::Global;
 use std::collections::HashMap;
 use std::sync::Arc;
+
+/// What a program's classes name as their supers, and what stands above each, by number.
+#[derive(Drop)]
+pub struct Supers {
+    pub links: Vec<Links, Global>,
+    pub above: Vec<Above, Global>,
+}
+
+/// Whether a class is another one or stands below it.
+pub fn stands_below(supers: &Supers, class: u32, over: u32) -> bool
+    requires { AreFalling supers.now.above.items }
+    ensures { IsTrue result ↔ IsOver supers.now.above.items class over }
+{
+    is_over(&supers.above, class, over)
+}
 
 // Whether a name is a text of ASCII characters.
 fn is_text(name: &[u16], text: &[u8]) -> bool
