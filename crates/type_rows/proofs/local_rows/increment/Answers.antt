@@ -1,0 +1,11 @@
+use Rattle.std.proofs.Common.{refl}
+use Rattle.type_rules.specs.Rows.{row}
+use Rattle.type_rows.proofs.local_rows.increment.Goals as goal
+
+pub returns-then-reads_int : goal.returns-then-reads_int
+unfolding row
+returns-then-reads_int c z ns s at e = c.if-reads_int.ensures.yes refl ns _
+
+pub returns-else-reads_int : goal.returns-else-reads_int
+unfolding row
+returns-else-reads_int c z ns s at e = c.if-reads_int.ensures.no refl ns _

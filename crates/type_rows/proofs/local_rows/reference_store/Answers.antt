@@ -1,0 +1,19 @@
+use Rattle.std.proofs.Common.{◌+◌, ◌≤◌, length, sym, ap, ◌∙◌, arith}
+use Rattle.type_rules.specs.Rows.{row, Falls}
+use Rattle.vframes.specs.View.{types_in}
+use Rattle.type_rows.proofs.Stored.{has_so_many}
+use Rattle.type_rows.proofs.local_rows.reference_store.Goals as goal
+
+pub returns-in_default : goal.returns-in_default
+unfolding row
+returns-in_default c ns s at e =
+    let room : c.args.n + 1 ≤ length c.args.f.now.locals.items = omega (arith, c.if-n-len.false, c.len.ensures) in
+    has_so_many ns c.args.f.now c.args.n 1 _ room ∙ c.in_default.ensures.none ns _
+
+pub returns : goal.returns
+unfolding row
+returns c ns s at e =
+    let room : c.args.n + 1 ≤ length c.args.f.now.locals.items = omega (arith, c.if-n-len.false, c.len.ensures) in
+    has_so_many ns c.args.f.now c.args.n 1 _ room
+    ∙ c.in-Some.ensures.some ns _
+    ∙ ap (λ l. Falls (record { locals = l; stack = types_in ns c.take_any_reference.new.self; flag = c.args.f.now.flag })) (sym (c.store.ensures.types ns))

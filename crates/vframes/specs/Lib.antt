@@ -1,0 +1,4 @@
+pub mod Named
+pub mod View
+pub mod FrameView
+pub mod Fresh
