@@ -10,4 +10,5 @@ pub mod Framed
 pub mod Spelled
 pub mod Lines
 pub mod Texts
+pub mod Bare
 pub mod Stated

@@ -149,18 +149,62 @@ fn add_lines(lines: &mut Vec<LinkedLine>, attr: &Attr) -> Result<(), Memory>
     }
 }
 
-fn link_lines(alloc: Global, attrs: &[Attr]) -> Result<Seq<LinkedLine>, Memory>
+// Adds the rows of all attributes that are LineNumberTables.
+fn add_all_lines(lines: &mut Vec<LinkedLine>, attrs: &[Attr]) -> Result<(), Memory>
+    ensures { OnOk result (map line_of lines.new.items ≡ map line_of lines.old.items ++ flat_map (λ a. linking.lines_of (linking.content_of a)) attrs.now) }
+{
+    for attr in attrs {
+        add_lines(lines, attr)?;
+    }
+    Ok(())
+}
+
+fn link_lines(alloc: Global, attrs: &[Attr], instructions: usize) -> Result<LineTable, Memory>
     ensures { IfOk result (λ ls. map line_of ls ≡ flat_map (λ a. linking.lines_of (linking.content_of a)) attrs.now) }
 {
-    let mut lines = Vec::new(alloc);
-    for attr in attrs {
-        add_lines(&mut lines, attr)?;
+    let mut rows = Vec::new(alloc);
+    add_all_lines(&mut rows, attrs)?;
+    LineTable::new(alloc, Seq::from_vec(rows), instructions)
+}
+
+// A code in which nothing stands yet.
+fn empty_code(alloc: Global) -> LinkedCode {
+    LinkedCode {
+        max_stack: 0,
+        max_locals: 0,
+        instructions: Seq::new(alloc),
+        switches: Seq::new(alloc),
+        rows: Seq::new(alloc),
+        lines: LineTable::empty(alloc),
+        frames: Seq::new(alloc),
     }
-    Ok(Seq::from_vec(lines))
+}
+
+// Puts what a Code attribute says into a code.
+#[tactic(auto, using(crate::proofs::Resolved::insns_resolved))]
+fn link_code_into(
+    alloc: Global,
+    entries: &[Entry],
+    texts: &Texts,
+    code: &Code,
+    linked: &mut LinkedCode,
+) -> Result<(), Memory>
+    requires { AreEntries entries.now texts.now }
+    ensures { OnOk result (code_of entries.now linked.new ≡ linking.code_in texts.now code.now) }
+{
+    let insns = code.insns.as_slice();
+    let attrs = code.attrs.as_slice();
+    linked.max_stack = code.max_stack;
+    linked.max_locals = code.max_locals;
+    linked.switches = switches_in(alloc, insns)?;
+    linked.instructions = link_insns(alloc, entries, linked.switches.as_slice(), insns)?;
+    linked.rows = link_rows(alloc, texts, code.rows.as_slice())?;
+    linked.lines = link_lines(alloc, attrs, insns.len())?;
+    linked.frames = link_frames(alloc, texts, attrs)?;
+    Ok(())
 }
 
 /// What a Code attribute means.
-#[tactic(auto, using(crate::proofs::Resolved::insns_resolved))]
 pub fn link_code(
     alloc: Global,
     entries: &[Entry],
@@ -170,17 +214,7 @@ pub fn link_code(
     requires { AreEntries entries.now texts.now }
     ensures { IfOk result (λ c. code_of entries.now c ≡ linking.code_in texts.now code.now) }
 {
-    let switches = switches_in(alloc, code.insns.as_slice())?;
-    let instructions = link_insns(alloc, entries, switches.as_slice(), code.insns.as_slice())?;
-    let line_rows = link_lines(alloc, code.attrs.as_slice())?;
-    let lines = LineTable::new(alloc, line_rows, instructions.len())?;
-    Ok(LinkedCode {
-        max_stack: code.max_stack,
-        max_locals: code.max_locals,
-        instructions,
-        switches,
-        rows: link_rows(alloc, texts, code.rows.as_slice())?,
-        lines,
-        frames: link_frames(alloc, texts, code.attrs.as_slice())?,
-    })
+    let mut linked = empty_code(alloc);
+    link_code_into(alloc, entries, texts, code, &mut linked)?;
+    Ok(linked)
 }

@@ -13,13 +13,15 @@ use std::alloc::Global;
 fn method_of(texts: &Texts, class: u16, pair: u16, interface: bool) -> Result<MethodRef, Memory>
     ensures { IfOk result (λ r. method_ref_of r ≡ method_ref interface (class_named texts.now class) (name_or_empty (pair_name_of texts.now pair)) (name_or_empty (pair_desc_of texts.now pair))) }
 {
-    let desc = texts.pair_desc(pair);
+    let class = texts.class(class).name()?;
+    let name = texts.pair_name(pair).name()?;
+    let (desc, args, result) = texts.pair_desc(pair).method()?;
     Ok(MethodRef {
-        class: texts.class(class).name.share()?,
-        name: texts.pair_name(pair).name.share()?,
-        desc: desc.name.share()?,
-        args: desc.args.share()?,
-        result: desc.result.share()?,
+        class,
+        name,
+        desc,
+        args,
+        result,
         interface,
     })
 }
@@ -27,12 +29,14 @@ fn method_of(texts: &Texts, class: u16, pair: u16, interface: bool) -> Result<Me
 fn field_of(texts: &Texts, class: u16, pair: u16) -> Result<FieldRef, Memory>
     ensures { IfOk result (λ r. field_ref_of r ≡ field_ref (class_named texts.now class) (name_or_empty (pair_name_of texts.now pair)) (name_or_empty (pair_desc_of texts.now pair))) }
 {
-    let desc = texts.pair_desc(pair);
+    let class = texts.class(class).name()?;
+    let name = texts.pair_name(pair).name()?;
+    let (desc, kind) = texts.pair_desc(pair).field()?;
     Ok(FieldRef {
-        class: texts.class(class).name.share()?,
-        name: texts.pair_name(pair).name.share()?,
-        desc: desc.name.share()?,
-        kind: desc.kind.share()?,
+        class,
+        name,
+        desc,
+        kind,
     })
 }
 
@@ -42,8 +46,8 @@ fn entry_in(texts: &Texts, constant: &Const) -> Result<Entry, Memory>
     match constant {
         Const::Integer(number) => Ok(Entry::Integer(*number)),
         Const::Long(number) => Ok(Entry::Long(*number)),
-        Const::Text(text) => Ok(Entry::Text(texts.text(*text).name.share()?)),
-        Const::Class(name) => Ok(Entry::Class(texts.text(*name).name.share()?)),
+        Const::Text(text) => Ok(Entry::Text(texts.text(*text).name()?)),
+        Const::Class(name) => Ok(Entry::Class(texts.text(*name).name()?)),
         Const::Field(class, pair) => Ok(Entry::Field(field_of(texts, *class, *pair)?)),
         Const::Method(class, pair) => Ok(Entry::Method(method_of(texts, *class, *pair, false)?)),
         Const::IMethod(class, pair) => Ok(Entry::Method(method_of(texts, *class, *pair, true)?)),

@@ -51,7 +51,7 @@ fn link_item(texts: &Texts, item: VItem) -> Result<VType, Memory>
         VItem::Long => Ok(VType::LongType),
         VItem::Null => Ok(VType::NullType),
         VItem::UninitializedThis => Ok(VType::UninitThis),
-        VItem::Object(index) => Ok(VType::Obj(texts.class(index).name.share()?)),
+        VItem::Object(index) => Ok(VType::Obj(texts.class(index).name()?)),
         VItem::Uninitialized(at) => Ok(VType::Uninit(at)),
     }
 }

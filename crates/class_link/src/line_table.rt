@@ -35,6 +35,17 @@ impl Model for LineTable {
 }
 
 impl LineTable {
+    /// The table of a code without rows.
+    #[tactic(auto, using(crate::proofs::LineLaws::lines_none))]
+    pub fn empty(alloc: Global) -> LineTable
+        ensures { result ≡ [] }
+    {
+        LineTable {
+            rows: Seq::new(alloc),
+            by_instruction: Vec::new(alloc),
+        }
+    }
+
     /// The rows of a code with so many instructions.
     pub fn new(
         alloc: Global,

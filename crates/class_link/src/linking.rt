@@ -1,13 +1,13 @@
 //! What a class means once indices of its constant pool are resolved to names (JVMS 4.1, 4.5 to
 //! 4.7).
 
-ghost use Rattle.std.specs.Prelude.{◌≡◌, List, map, IfOk, option_and_then};
+ghost use Rattle.std.specs.Prelude.{◌≡◌, List, map, IfOk, OnOk, option_and_then};
 ghost use Rattle.std.specs.Option.{option_copied, option_map};
 ghost use Rattle.class_model.specs.Pool.{entry_of};
 ghost use Rattle.class_link.specs.Symbols.{class_named};
 ghost use Rattle.class_link.specs.Linking as linking;
 ghost use Rattle.class_link.specs.Switches.{AreEntries};
-ghost use Rattle.class_link.specs.Texts.{stated};
+ghost use Rattle.class_link.specs.Bare.{bare_field, bare_method};
 ghost use Rattle.class_link.specs.declared.linked.Entry as entry;
 ghost use Rattle.class_link.specs.View.{body_of, method_of, field_of, constant_of, linked_of, native_meaning};
 
@@ -54,7 +54,7 @@ fn constant_in(texts: &Texts, index: u16) -> Result<Option<FieldConstant>, Memor
     match constant {
         Const::Integer(number) => Ok(Some(FieldConstant::Int(*number))),
         Const::Long(number) => Ok(Some(FieldConstant::Long(*number))),
-        Const::Text(text) => Ok(Some(FieldConstant::Text(texts.text(*text).name.share()?))),
+        Const::Text(text) => Ok(Some(FieldConstant::Text(texts.text(*text).name()?))),
         _ => Ok(None),
     }
 }
@@ -68,31 +68,27 @@ fn field_constant(texts: &Texts, attrs: &[Attr]) -> Result<Option<FieldConstant>
     }
 }
 
-fn field_with(
-    flags: u16,
-    name: &Text,
-    desc: &Text,
-    constant: Option<FieldConstant>,
-) -> Result<LinkedField, Memory>
-    requires { desc.now ≡ stated desc.now.name }
-    ensures { IfOk result (λ f. field_of f ≡ linking.field_with flags name.now.name desc.now.name (option_map constant_of constant)) }
+// A field without a constant.
+fn bare_field(flags: u16, name: &Text, desc: &Text) -> Result<LinkedField, Memory>
+    ensures { IfOk result (λ f. f ≡ bare_field flags name.now desc.now) }
 {
+    let name = name.name()?;
+    let (desc, kind) = desc.field()?;
     Ok(LinkedField {
         flags,
-        name: name.name.share()?,
-        desc: desc.name.share()?,
-        kind: desc.kind.share()?,
-        constant,
+        name,
+        desc,
+        kind,
+        constant: None,
     })
 }
 
 fn link_field(texts: &Texts, field: &Member) -> Result<LinkedField, Memory>
     ensures { IfOk result (λ f. field_of f ≡ linking.field_in texts.now field.now) }
 {
-    let constant = field_constant(texts, field.attrs.as_slice())?;
-    let name = texts.text(field.name);
-    let desc = texts.text(field.desc);
-    Ok(field_with(field.flags, name, desc, constant)?)
+    let mut linked = bare_field(field.flags, texts.text(field.name), texts.text(field.desc))?;
+    linked.constant = field_constant(texts, field.attrs.as_slice())?;
+    Ok(linked)
 }
 
 fn link_fields(alloc: Global, texts: &Texts, fields: &[Member]) -> Result<Seq<LinkedField>, Memory>
@@ -120,22 +116,19 @@ fn link_body(
     }
 }
 
-fn method_with(
-    flags: u16,
-    name: &Text,
-    desc: &Text,
-    body: LinkedBody,
-) -> Result<LinkedMethod, Memory>
-    requires { desc.now ≡ stated desc.now.name }
-    ensures { IfOk result (λ m. (es : List entry.Entry) → method_of es m ≡ linking.method_with flags name.now.name desc.now.name (body_of es body)) }
+// A method without a body.
+fn bare_method(flags: u16, name: &Text, desc: &Text) -> Result<LinkedMethod, Memory>
+    ensures { IfOk result (λ m. m ≡ bare_method flags name.now desc.now) }
 {
+    let name = name.name()?;
+    let (desc, args, result) = desc.method()?;
     Ok(LinkedMethod {
         flags,
-        name: name.name.share()?,
-        desc: desc.name.share()?,
-        args: desc.args.share()?,
-        result: desc.result.share()?,
-        body,
+        name,
+        desc,
+        args,
+        result,
+        body: LinkedBody::Absent,
     })
 }
 
@@ -148,10 +141,13 @@ fn link_method(
     requires { AreEntries entries.now texts.now }
     ensures { IfOk result (λ m. method_of entries.now m ≡ linking.method_in texts.now method.now) }
 {
-    let body = link_body(alloc, entries, texts, method.attrs.as_slice())?;
-    let name = texts.text(method.name);
-    let desc = texts.text(method.desc);
-    Ok(method_with(method.flags, name, desc, body)?)
+    let mut linked = bare_method(
+        method.flags,
+        texts.text(method.name),
+        texts.text(method.desc),
+    )?;
+    linked.body = link_body(alloc, entries, texts, method.attrs.as_slice())?;
+    Ok(linked)
 }
 
 fn link_methods(
@@ -175,29 +171,54 @@ fn class_names(alloc: Global, texts: &Texts, indices: &[u16]) -> Result<Seq<Shar
 {
     let mut names = Vec::with_capacity(alloc, indices.len())?;
     for index in indices {
-        names.push(texts.class(*index).name.share()?)?;
+        names.push(texts.class(*index).name()?)?;
     }
     Ok(Seq::from_vec(names))
 }
 
-/// What the class of a class file means.
+// A class in which nothing stands yet.
+fn empty_class(alloc: Global) -> LinkedClass {
+    LinkedClass {
+        library: false,
+        flags: 0,
+        parent: None,
+        interfaces: Seq::new(alloc),
+        fields: Seq::new(alloc),
+        methods: Seq::new(alloc),
+        entries: Seq::new(alloc),
+    }
+}
+
+// Puts what a class file says into a class.
 #[tactic(auto, unfolding(crate::specs::View::linked_of, crate::specs::Linking::link))]
+fn link_into(
+    alloc: Global,
+    texts: &Texts,
+    class: &Class,
+    linked: &mut LinkedClass,
+) -> Result<(), Memory>
+    requires { texts.now ≡ class.now.pool }
+    ensures { OnOk result (linked_of linked.new ≡ linking.link class.now) }
+{
+    let methods = class.methods.as_slice();
+    linked.library = false;
+    linked.flags = class.flags;
+    linked.entries = entries(alloc, texts, class.pool.as_slice())?;
+    linked.methods = link_methods(alloc, linked.entries.as_slice(), texts, methods)?;
+    linked.fields = link_fields(alloc, texts, class.fields.as_slice())?;
+    linked.interfaces = class_names(alloc, texts, class.interfaces.as_slice())?;
+    linked.parent = texts.class_or_none(class.parent)?;
+    Ok(())
+}
+
+/// What the class of a class file means.
 pub fn link(alloc: Global, class: &Class) -> Result<LinkedClass, Memory>
     ensures { IfOk result (λ c. linked_of c ≡ linking.link class.now) }
 {
-    let pool = class.pool.as_slice();
-    let texts = Texts::new(alloc, pool)?;
-    let entries = entries(alloc, &texts, pool)?;
-    let methods = link_methods(alloc, entries.as_slice(), &texts, class.methods.as_slice())?;
-    Ok(LinkedClass {
-        library: false,
-        flags: class.flags,
-        parent: texts.class_or_none(class.parent)?,
-        interfaces: class_names(alloc, &texts, class.interfaces.as_slice())?,
-        fields: link_fields(alloc, &texts, class.fields.as_slice())?,
-        methods,
-        entries,
-    })
+    let texts = Texts::new(alloc, class.pool.as_slice())?;
+    let mut linked = empty_class(alloc);
+    link_into(alloc, &texts, class, &mut linked)?;
+    Ok(linked)
 }
 
 // ---- classes of the library
@@ -234,13 +255,20 @@ fn library_body(body: &LibBody) -> Result<LinkedBody, Memory>
     }
 }
 
+fn library_text(alloc: Global, name: &Name) -> Result<Text, Memory>
+    ensures { IfOk result (λ t. t ≡ name.now) }
+{
+    Text::new(alloc, name.copy()?)
+}
+
 fn library_method(alloc: Global, method: &LibMethod) -> Result<LinkedMethod, Memory>
     ensures { IfOk result (λ m. (es : List entry.Entry) → method_of es m ≡ linking.library_method method.now) }
 {
-    let body = library_body(&method.body)?;
-    let name = Text::new(alloc, method.name.copy()?)?;
-    let desc = Text::new(alloc, method.desc.copy()?)?;
-    Ok(method_with(method.flags, &name, &desc, body)?)
+    let name = library_text(alloc, &method.name)?;
+    let desc = library_text(alloc, &method.desc)?;
+    let mut linked = bare_method(method.flags, &name, &desc)?;
+    linked.body = library_body(&method.body)?;
+    Ok(linked)
 }
 
 fn library_methods(alloc: Global, methods: &[LibMethod]) -> Result<Seq<LinkedMethod>, Memory>
@@ -256,9 +284,9 @@ fn library_methods(alloc: Global, methods: &[LibMethod]) -> Result<Seq<LinkedMet
 fn library_field(alloc: Global, field: &LibField) -> Result<LinkedField, Memory>
     ensures { IfOk result (λ f. field_of f ≡ linking.library_field field.now) }
 {
-    let name = Text::new(alloc, field.name.copy()?)?;
-    let desc = Text::new(alloc, field.desc.copy()?)?;
-    Ok(field_with(field.flags, &name, &desc, None)?)
+    let name = library_text(alloc, &field.name)?;
+    let desc = library_text(alloc, &field.desc)?;
+    bare_field(field.flags, &name, &desc)
 }
 
 fn library_fields(alloc: Global, fields: &[LibField]) -> Result<Seq<LinkedField>, Memory>
@@ -290,19 +318,29 @@ fn share_names(alloc: Global, names: &[Name]) -> Result<Seq<Shared<Name>>, Memor
     Ok(Seq::from_vec(shared))
 }
 
-/// What a class of the library means.
+// Puts what a class of the library says into a class.
 #[tactic(auto, unfolding(crate::specs::View::linked_of, crate::specs::Linking::link_library))]
+fn link_library_into(
+    alloc: Global,
+    class: &LibClass,
+    linked: &mut LinkedClass,
+) -> Result<(), Memory>
+    ensures { OnOk result (linked_of linked.new ≡ linking.link_library class.now) }
+{
+    linked.library = true;
+    linked.flags = class.flags;
+    linked.methods = library_methods(alloc, class.methods.as_slice())?;
+    linked.fields = library_fields(alloc, class.fields.as_slice())?;
+    linked.interfaces = share_names(alloc, class.interfaces.as_slice())?;
+    linked.parent = share_parent(alloc, &class.parent)?;
+    Ok(())
+}
+
+/// What a class of the library means.
 pub fn link_library(alloc: Global, class: &LibClass) -> Result<LinkedClass, Memory>
     ensures { IfOk result (λ c. linked_of c ≡ linking.link_library class.now) }
 {
-    let methods = library_methods(alloc, class.methods.as_slice())?;
-    Ok(LinkedClass {
-        library: true,
-        flags: class.flags,
-        parent: share_parent(alloc, &class.parent)?,
-        interfaces: share_names(alloc, class.interfaces.as_slice())?,
-        fields: library_fields(alloc, class.fields.as_slice())?,
-        methods,
-        entries: Seq::from_vec(vec![in alloc; Entry::Other]?),
-    })
+    let mut linked = empty_class(alloc);
+    link_library_into(alloc, class, &mut linked)?;
+    Ok(linked)
 }

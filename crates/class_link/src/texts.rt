@@ -6,7 +6,7 @@ ghost use Rattle.std.specs.Option.{option_copied};
 ghost use Rattle.class_model.specs.Pool.{entry_of, text_in, pair_name_of, pair_desc_of};
 ghost use Rattle.class_link.specs.Linking.{class_or_none};
 ghost use Rattle.class_link.specs.Symbols.{name_or_empty, class_named, text_named, kind_stated, type_stated};
-ghost use Rattle.class_link.specs.Texts.{stated, stated_in, AreTexts};
+ghost use Rattle.class_link.specs.Texts.{AreTexts};
 
 use crate::shared::Shared;
 use class_model::{
@@ -15,13 +15,25 @@ use class_model::{
 use std::alloc::Global;
 use std::marker::Model;
 
-/// A text, and what it states as the descriptor of a field and as that of a method.
+/// A text with what it states as the descriptor of a field and as that of a method. Contracts see
+/// the text.
 #[derive(Drop)]
 pub struct Text {
-    pub name: Shared<Name>,
-    pub kind: Shared<Kind>,
-    pub args: Shared<Seq<Kind>>,
-    pub result: Shared<Option<Kind>>,
+    name: Shared<Name>,
+    kind: Shared<Kind>,
+    args: Shared<Seq<Kind>>,
+    result: Shared<Option<Kind>>,
+}
+
+impl Model for Text {
+    ghost use Rattle.std.specs.Prelude.{◌≡◌, ℕ, List};
+    ghost use Rattle.class_link.specs.Symbols.{kind_stated, type_stated};
+
+    ghost Value = { List ℕ };
+
+    ghost view = { λ t. t.name };
+
+    ghost invariant = { λ t. (t.kind ≡ kind_stated t.name) × (t.args ≡ (type_stated t.name).args) × (t.result ≡ (type_stated t.name).ret) };
 }
 
 /// A constant pool and its texts. Contracts see the pool.
@@ -29,19 +41,19 @@ pub struct Text {
 pub struct Texts<'a> {
     pool: &'a [Const],
     none: Text,
-    by_place: Vec<Text>,
+    by_place: Vec<Option<Text>>,
 }
 
 impl<'a> Model for Texts<'a> {
     ghost use Rattle.std.specs.Prelude.{◌≡◌, List, []};
     ghost use Rattle.class_model.specs.declared.constant.Const.{Const};
-    ghost use Rattle.class_link.specs.Texts.{stated, AreTexts};
+    ghost use Rattle.class_link.specs.Texts.{AreTexts};
 
     ghost Value = { List Const };
 
     ghost view = { λ t. t.pool.now };
 
-    ghost invariant = { λ t. (t.none ≡ stated []) × AreTexts t.by_place.items t.pool.now };
+    ghost invariant = { λ t. (t.none ≡ []) × AreTexts t.by_place.items t.pool.now };
 }
 
 // What a field's descriptor states.
@@ -74,51 +86,84 @@ fn type_stated(alloc: Global, desc: &Name) -> Result<MethodType, Memory>
     }
 }
 
+// What a field's descriptor states, to be shared.
+fn shared_kind(alloc: Global, desc: &Name) -> Result<Shared<Kind>, Memory>
+    ensures { IfOk result (λ k. k ≡ kind_stated desc.now) }
+{
+    Shared::new(alloc, kind_stated(alloc, desc)?)
+}
+
+// What a method's descriptor states, to be shared.
+fn shared_types(
+    alloc: Global,
+    desc: &Name,
+) -> Result<(Shared<Seq<Kind>>, Shared<Option<Kind>>), Memory>
+    ensures args { IfOk result (λ t. t.0 ≡ (type_stated desc.now).args) }
+    ensures result { IfOk result (λ t. t.1 ≡ (type_stated desc.now).ret) }
+{
+    let types = type_stated(alloc, desc)?;
+    let args = Shared::new(alloc, types.args)?;
+    Ok((args, Shared::new(alloc, types.ret)?))
+}
+
 impl Text {
     /// A text with what it states.
     pub fn new(alloc: Global, name: Name) -> Result<Text, Memory>
-        ensures { IfOk result (λ t. t ≡ stated name) }
+        ensures { IfOk result (λ t. t ≡ name) }
     {
-        let kind = kind_stated(alloc, &name)?;
-        let types = type_stated(alloc, &name)?;
+        let kind = shared_kind(alloc, &name)?;
+        let (args, result) = shared_types(alloc, &name)?;
         Ok(Text {
             name: Shared::new(alloc, name)?,
-            kind: Shared::new(alloc, kind)?,
-            args: Shared::new(alloc, types.args)?,
-            result: Shared::new(alloc, types.ret)?,
+            kind,
+            args,
+            result,
         })
     }
 
-    /// The same text, shared.
-    pub fn share(&self) -> Result<Text, Memory>
-        ensures { IfOk result (λ t. t ≡ self.now) }
+    /// The text.
+    pub fn name(&self) -> Result<Shared<Name>, Memory>
+        ensures { IfOk result (λ n. n ≡ self.now) }
     {
-        Ok(Text {
-            name: self.name.share()?,
-            kind: self.kind.share()?,
-            args: self.args.share()?,
-            result: self.result.share()?,
-        })
+        self.name.share()
+    }
+
+    /// The text with what it states as the descriptor of a field.
+    pub fn field(&self) -> Result<(Shared<Name>, Shared<Kind>), Memory>
+        ensures desc { IfOk result (λ f. f.0 ≡ self.now) }
+        ensures kind { IfOk result (λ f. f.1 ≡ kind_stated self.now) }
+    {
+        let kind = self.kind.share()?;
+        Ok((self.name.share()?, kind))
+    }
+
+    /// The text with what it states as the descriptor of a method.
+    pub fn method(&self) -> Result<(Shared<Name>, Shared<Seq<Kind>>, Shared<Option<Kind>>), Memory>
+        ensures desc { IfOk result (λ m. m.0 ≡ self.now) }
+        ensures args { IfOk result (λ m. m.1 ≡ (type_stated self.now).args) }
+        ensures result { IfOk result (λ m. m.2 ≡ (type_stated self.now).ret) }
+    {
+        let args = self.args.share()?;
+        let result = self.result.share()?;
+        Ok((self.name.share()?, args, result))
     }
 }
 
-fn text_in(alloc: Global, none: &Text, constant: &Const) -> Result<Text, Memory>
-    requires { none.now ≡ stated [] }
-    ensures { IfOk result (λ t. t ≡ stated_in constant.now) }
+fn text_in(alloc: Global, constant: &Const) -> Result<Option<Text>, Memory>
+    ensures { IfOk result (λ t. t ≡ text_in constant.now) }
 {
     match constant {
-        Const::Utf8(text) => Ok(Text::new(alloc, text.copy()?)?),
-        _ => Ok(none.share()?),
+        Const::Utf8(text) => Ok(Some(Text::new(alloc, text.copy()?)?)),
+        _ => Ok(None),
     }
 }
 
-fn texts_in(alloc: Global, none: &Text, pool: &[Const]) -> Result<Vec<Text>, Memory>
-    requires { none.now ≡ stated [] }
+fn texts_in(alloc: Global, pool: &[Const]) -> Result<Vec<Option<Text>>, Memory>
     ensures { IfOk result (λ ts. AreTexts ts.items pool.now) }
 {
     let mut texts = Vec::with_capacity(alloc, pool.len())?;
     for constant in pool {
-        texts.push(text_in(alloc, none, constant)?)?;
+        texts.push(text_in(alloc, constant)?)?;
     }
     Ok(texts)
 }
@@ -139,7 +184,7 @@ impl<'a> Texts<'a> {
         ensures { IfOk result (λ t. t ≡ pool.entry.now) }
     {
         let none = Text::new(alloc, Seq::new(alloc))?;
-        let by_place = texts_in(alloc, &none, pool)?;
+        let by_place = texts_in(alloc, pool)?;
         Ok(Texts {
             pool,
             none,
@@ -156,20 +201,20 @@ impl<'a> Texts<'a> {
 
     /// The text of an index, empty where there is none.
     pub fn text(&self, index: u16) -> &Text
-        ensures { result.now ≡ stated (text_named self.now index) }
+        ensures { result.now ≡ text_named self.now index }
     {
         if index == 0 {
             return &self.none;
         }
         match self.by_place.get(index as usize - 1) {
-            Some(text) => text,
-            None => &self.none,
+            Some(Some(text)) => text,
+            _ => &self.none,
         }
     }
 
     /// The name of the class of an index, empty where there is none.
     pub fn class(&self, index: u16) -> &Text
-        ensures { result.now ≡ stated (class_named self.now index) }
+        ensures { result.now ≡ class_named self.now index }
     {
         match self.entry(index) {
             Some(Const::Class(name)) => self.text(*name),
@@ -179,7 +224,7 @@ impl<'a> Texts<'a> {
 
     /// The name of the pair of an index, empty where there is none.
     pub fn pair_name(&self, index: u16) -> &Text
-        ensures { result.now ≡ stated (name_or_empty (pair_name_of self.now index)) }
+        ensures { result.now ≡ name_or_empty (pair_name_of self.now index) }
     {
         match self.entry(index) {
             Some(Const::Pair(name, _)) => self.text(*name),
@@ -189,7 +234,7 @@ impl<'a> Texts<'a> {
 
     /// The descriptor of the pair of an index, empty where there is none.
     pub fn pair_desc(&self, index: u16) -> &Text
-        ensures { result.now ≡ stated (name_or_empty (pair_desc_of self.now index)) }
+        ensures { result.now ≡ name_or_empty (pair_desc_of self.now index) }
     {
         match self.entry(index) {
             Some(Const::Pair(_, desc)) => self.text(*desc),
@@ -204,6 +249,6 @@ impl<'a> Texts<'a> {
         if index == 0 {
             return Ok(None);
         }
-        Ok(Some(self.class(index).name.share()?))
+        Ok(Some(self.class(index).name()?))
     }
 }
