@@ -8,7 +8,7 @@ use Rattle.machine_rules.specs.Effects.{NoRow}
 use Rattle.machine_rules.specs.Runs.{Ran, limit_of}
 use Rattle.machine_laws.specs.FrameLaw.{HasEnded}
 use Rattle.edit_laws.specs.Edit.{Edit, IsEdited}
-use Rattle.edit_laws.specs.EditLaws.{moved_frame, ReachesLine, ReachTheSame}
+use Rattle.edit_laws.specs.EditLaws.{moved_frame, ReachesLine, ReachAlike, ReachTheSame}
 use Rattle.machine_so_far.specs.Steps.{goes}
 use Rattle.machine_so_far.specs.Runs.{run_so_far}
 
@@ -30,6 +30,14 @@ TestsAlikeUnreached =
     (e : Edit) (p p' : Look) (t : Test) (q : Limits) (limit : ℕ) → IsEdited e p p' →
     HasEnded (run_so_far p t q limit).ending → (ReachesLine e p (run_so_far p t q limit) → ⊥) →
     mutant_run p' t q (run_so_far p t q limit) ≡ run_so_far p t q limit
+
+-- A test that ended reaches the edited line on the program as it does on the edited program, unless
+-- that is stuck right at the edit.
+abbrev pub TestsReachAlike : Type 0
+TestsReachAlike =
+    (e : Edit) (p p' : Look) (t : Test) (q : Limits) (limit : ℕ) → IsEdited e p p' →
+    HasEnded (run_so_far p t q limit).ending →
+    ReachAlike e p (run_so_far p t q limit) (mutant_run p' t q (run_so_far p t q limit))
 
 -- A test that ended reaches the edited line on the program exactly where it does on the edited
 -- program, if a row applies to the edit wherever one applied to the instruction that it replaces.

@@ -4,7 +4,10 @@ mod Listed
 mod IntJumps
 mod Frames
 mod Lines
+mod Relocated
+mod Longer
 mod Linked
+mod Recoded
 mod Edits
 mod RunLaws
 mod SelectedLaws

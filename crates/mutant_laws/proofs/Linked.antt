@@ -202,7 +202,7 @@ with_case : (new : Code) (a : Attr) (attrs : List Attr) (code : Code) (o : Optio
 with_case new a attrs code None e later is = first_behind a (with_code new attrs) (within_is (content_of a) ∙ e) ∙ later is
 with_case new a attrs code (Some first) e later is = first_here (attr_of (name_of a) (body.Code new)) attrs new (ap code_within (out_code (name_of a) new))
 
-with_first : (new : Code) (attrs : List Attr) (code : Code) → code_of attrs ≡ Some code → first_of code_within (with_code new attrs) ≡ Some new
+pub with_first : (new : Code) (attrs : List Attr) (code : Code) → code_of attrs ≡ Some code → first_of code_within (with_code new attrs) ≡ Some new
 with_first new [] code is = absurd cc
 with_first new (a ∷ attrs) code is = with_case new a attrs code (code_in (body_of a)) refl (with_first new attrs code) is
 

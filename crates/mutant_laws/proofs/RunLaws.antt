@@ -6,16 +6,19 @@ use Rattle.std.specs.Cmp.Lexicographic.{same_text}
 use Rattle.std.proofs.lemmas.Bool.{eqb-true, eq-eqb, and_parts, or_cases, or_left, or_right}
 use Rattle.program_rules.specs.Names.{Name, same}
 use Rattle.program_rules.specs.Programs.{Look}
-use Rattle.machine_rules.specs.Runs.{Ran}
+use Rattle.machine_rules.specs.declared.machine.Limits.{Limits}
+use Rattle.machine_rules.specs.Runs.{StuckAt, Ran}
 use Rattle.machine_laws.specs.Consulted.{Hit}
-use Rattle.edit_laws.specs.EditLaws.{ReachesLine}
-use Rattle.edits_so_far.specs.EditLaws.{TestsAlikeUnreached, TestsReachTheSame}
+use Rattle.edit_laws.specs.EditLaws.{ReachesLine, ReachAlike, NotStuckAtEdit}
+use Rattle.edits_so_far.specs.EditLaws.{TestsAlikeUnreached, TestsReachAlike, TestsReachTheSame}
+use Rattle.class_link.specs.Info.{Info}
+use Rattle.class_table.specs.declared.scripted.Test.{Test}
 use Rattle.class_table.specs.Table.{look}
 use Rattle.jvm_step.specs.View.{test_of}
 use Rattle.mutator_ops.specs.declared.mutant.Mutant.{Mutant}
 use Rattle.mutant_runs.specs.Runs.{is_at, reaches, mutant_run}
-use Rattle.mutant_laws.specs.Edited.{IsEditOf, MutantsAreEdits}
-use Rattle.mutant_laws.specs.Covered.{original_run, UnreachedIsAlike, CoveringIsAlike}
+use Rattle.mutant_laws.specs.Edited.{IsEditOf, MutantsAreEdits, IntJumpsGoOn}
+use Rattle.mutant_laws.specs.Covered.{original_run, UnreachedIsAlike, NotStuckThere, ReachingIsAlike, CoveringIsAlike}
 use Rattle.mutant_laws.proofs.Edits.{same_itself}
 
 -- ---- the test for a mutant's line
@@ -55,11 +58,33 @@ same_bool true b there back = sym (there refl)
 same_bool false true there back = back refl
 same_bool false false there back = refl
 
-pub covering_is_alike : MutantsAreEdits → TestsReachTheSame → CoveringIsAlike
+module _ (p : List Info) (m : Mutant) (p' : Look) (t : Test) (q : Limits) (limit : ℕ) where
+  abbrev before : Ran
+  before = original_run p t q limit
+
+  abbrev after : Ran
+  after = mutant_run q p' t before.steps
+
+  reaching : (e : IsEditOf m (look p) p') → ReachAlike e.edit (look p) before after → (reaches m after ≡ true → reaches m before ≡ true) × (NotStuckThere m after → reaches m after ≡ reaches m before)
+  reaching e k =
+      let back : reaches m after ≡ true → reaches m before ≡ true = λ h. reaches_true m (look p) p' e before (k.0 (reaches_line m (look p) p' e after h)) in (
+        back,
+        λ past.
+            let away : NotStuckAtEdit e.edit (look p) after = λ stuck. past (stuck ∙ ap StuckAt e.place) in
+            same_bool (reaches m after) (reaches m before) back (λ h. reaches_true m (look p) p' e after (k.1 away (reaches_line m (look p) p' e before h))),
+      )
+
+pub reaching_is_alike : MutantsAreEdits → TestsReachAlike → ReachingIsAlike
 unfolding mutant_run
-covering_is_alike edits law p m p' t q limit y ended =
+reaching_is_alike edits law p m p' t q limit y ended =
     let e = edits p m p' y in
+    reaching p m p' t q limit e (law e.edit (look p) p' (test_of t) q limit e.edited ended)
+
+pub covering_is_alike : IntJumpsGoOn → TestsReachTheSame → CoveringIsAlike
+unfolding mutant_run
+covering_is_alike edits law p m p' t q limit y jumps ended =
+    let e = edits p m p' y jumps in
     let r = original_run p t q limit in
     let r' = mutant_run q p' t r.steps in
-    let k = law e.edit (look p) p' (test_of t) q limit e.edited e.goes_on_so_far ended in
-    same_bool (reaches m r') (reaches m r) (λ h. reaches_true m (look p) p' e r (k.0 (reaches_line m (look p) p' e r' h))) (λ h. reaches_true m (look p) p' e r' (k.1 (reaches_line m (look p) p' e r h)))
+    let k = law e.of.edit (look p) p' (test_of t) q limit e.of.edited e.goes_on_so_far ended in
+    same_bool (reaches m r') (reaches m r) (λ h. reaches_true m (look p) p' e.of r (k.0 (reaches_line m (look p) p' e.of r' h))) (λ h. reaches_true m (look p) p' e.of r' (k.1 (reaches_line m (look p) p' e.of r h)))

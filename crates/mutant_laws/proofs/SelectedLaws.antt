@@ -1,5 +1,5 @@
 -- The verdict on a mutant by the runs of all tests is that by the tests whose original runs reach its line.
-use Rattle.std.proofs.Common.{◌≡◌, ◌∙◌, refl, sym, ap, subst, ℕ, ◌+◌, Bool, true, false, List, [], ◌∷◌, map, Option, None}
+use Rattle.std.proofs.Common.{◌≡◌, ◌∙◌, refl, sym, ap, subst, ℕ, ◌+◌, Bool, true, false, List, [], ◌∷◌, map, Option, None, ⊎_elim}
 use Rattle.std.specs.Prelude.{cond, filter}
 use Rattle.std.specs.List.{AllByRecursion, enumerate_from}
 use Rattle.std.specs.Option.{option_map, option_map_or, option_or}
@@ -15,7 +15,7 @@ use Rattle.mutator_ops.specs.declared.mutant.Mutant.{Mutant}
 use Rattle.mutator_ops.specs.declared.mutant.State.{State}
 use Rattle.mutant_runs.specs.Runs.{timed, mutant_run, runs_on, reaches, detected}
 use Rattle.mutant_runs.specs.Verdicts.{covering, killer, verdict_by, judged, not_viable, verdict_of}
-use Rattle.mutant_laws.specs.Covered.{original_run, UnreachedIsAlike, CoveringIsAlike, runs_of, SelectedSuffice}
+use Rattle.mutant_laws.specs.Covered.{original_run, UnreachedIsAlike, NotStuckThere, ReachingIsAlike, CoveringIsAlike, runs_of, SelectedSuffice}
 
 -- ---- lists of runs
 
@@ -41,17 +41,21 @@ module _ (p : List Info) (m : Mutant) (p' : Look) (q : Limits) (limit : ℕ) whe
   abbrev steps_of : List Test → List ℕ
   steps_of tests = map (λ t. (before t).steps) tests
 
-  module _ (alike : (t : Test) → HasEnded (before t).ending → reaches m (after t) ≡ reaches m (before t)) (same : (t : Test) → HasEnded (before t).ending → reaches m (before t) ≡ false → after t ≡ before t) where
-    abbrev Passes : Test → Type 0
-    Passes t = (before t).ending ≡ With Passed
+  abbrev Passes : Test → Type 0
+  Passes t = (before t).ending ≡ With Passed
 
+  -- a test's run on the mutant reaches the line as its original run does
+  abbrev Alike : Test → Type 0
+  Alike t = reaches m (after t) ≡ reaches m (before t)
+
+  module _ (same : (t : Test) → HasEnded (before t).ending → reaches m (before t) ≡ false → after t ≡ before t) where
     has_ended : (t : Test) → Passes t → HasEnded (before t).ending
     has_ended t h = subst HasEnded (sym h) tt
 
-    covering_is : (n : ℕ) (tests : List Test) → AllByRecursion Passes tests → covering m (enumerate_from n (runs_on q p' (timed tests (steps_of tests)))) ≡ map (λ t. t.0) (filter reaching (enumerate_from n tests))
+    covering_is : (n : ℕ) (tests : List Test) → AllByRecursion Alike tests → covering m (enumerate_from n (runs_on q p' (timed tests (steps_of tests)))) ≡ map (λ t. t.0) (filter reaching (enumerate_from n tests))
     covering_is n [] h = refl
     covering_is n (t ∷ tests) h =
-        covers_case m n (after t) (enumerate_from (n + 1) (runs_on q p' (timed tests (steps_of tests)))) (filter reaching (enumerate_from (n + 1) tests)) t (reaches m (before t)) (alike t (has_ended t h.0)) (covering_is (n + 1) tests h.1)
+        covers_case m n (after t) (enumerate_from (n + 1) (runs_on q p' (timed tests (steps_of tests)))) (filter reaching (enumerate_from (n + 1) tests)) t (reaches m (before t)) h.0 (covering_is (n + 1) tests h.1)
 
     not_detected : (t : Test) → Passes t → reaches m (before t) ≡ false → detected (after t).ending ≡ None
     not_detected t h miss = ap detected (ap (λ (r : Ran). r.ending) (same t (has_ended t h) miss) ∙ h)
@@ -63,13 +67,24 @@ module _ (p : List Info) (m : Mutant) (p' : Look) (q : Limits) (limit : ℕ) whe
 
 -- ---- the verdict
 
-pub selected_suffice : UnreachedIsAlike → CoveringIsAlike → SelectedSuffice
+both_ways : (p : List Info) (m : Mutant) (p' : Look) (q : Limits) (limit : ℕ) (tests : List Test) → ((t : Test) → HasEnded (original_run p t q limit).ending → NotStuckThere m (mutant_run q p' t (original_run p t q limit).steps) → Alike p m p' q limit t)
+    → AllByRecursion (Passes p m p' q limit) tests → AllByRecursion (λ t. NotStuckThere m (mutant_run q p' t (original_run p t q limit).steps)) tests → AllByRecursion (Alike p m p' q limit) tests
+both_ways p m p' q limit [] h pass past = tt
+both_ways p m p' q limit (t ∷ tests) h pass past = (h t (subst HasEnded (sym pass.0) tt) past.0, both_ways p m p' q limit tests h pass.1 past.1)
+
+each_way : (p : List Info) (m : Mutant) (p' : Look) (q : Limits) (limit : ℕ) (tests : List Test) → ((t : Test) → HasEnded (original_run p t q limit).ending → Alike p m p' q limit t) → AllByRecursion (Passes p m p' q limit) tests → AllByRecursion (Alike p m p' q limit) tests
+each_way p m p' q limit [] h pass = tt
+each_way p m p' q limit (t ∷ tests) h pass = (h t (subst HasEnded (sym pass.0) tt), each_way p m p' q limit tests h pass.1)
+
+pub selected_suffice : UnreachedIsAlike → ReachingIsAlike → CoveringIsAlike → SelectedSuffice
 unfolding verdict_of judged
-selected_suffice unreached covers p m p' q limit tests y pass =
-    let alike : (t : Test) → HasEnded (original_run p t q limit).ending → reaches m (mutant_run q p' t (original_run p t q limit).steps) ≡ reaches m (original_run p t q limit) = λ t h. covers p m p' t q limit y h in
+selected_suffice unreached reaching covers p m p' q limit tests y pass smooth =
+    let all = recursion_from_All (λ t. (original_run p t q limit).ending ≡ With Passed) tests pass in
+    let alike : AllByRecursion (Alike p m p' q limit) tests =
+    ⊎_elim (λ jumps. each_way p m p' q limit tests (λ t h. covers p m p' t q limit y jumps h) all)
+    (λ past. both_ways p m p' q limit tests (λ t h. (reaching p m p' t q limit y h).1) all (recursion_from_All (λ t. NotStuckThere m (mutant_run q p' t (original_run p t q limit).steps)) tests past)) smooth in
     let same : (t : Test) → HasEnded (original_run p t q limit).ending → reaches m (original_run p t q limit) ≡ false → mutant_run q p' t (original_run p t q limit).steps ≡ original_run p t q limit = λ t h. unreached p m p' t q limit y h in
     let timed_tests = timed tests (map (λ t. (original_run p t q limit).steps) tests) in
-    let all = recursion_from_All (λ t. (original_run p t q limit).ending ≡ With Passed) tests pass in
     ap (λ o. option_map_or (judged m) (option_map (λ made. runs_on q made timed_tests) o) not_viable) y.made
-    ∙ ap (λ ns. verdict_by ns (killer (enumerate_from 0 (runs_on q p' timed_tests)))) (covering_is p m p' q limit alike same 0 tests all)
-    ∙ ap (verdict_by _) (killer_is p m p' q limit alike same 0 tests all)
+    ∙ ap (λ ns. verdict_by ns (killer (enumerate_from 0 (runs_on q p' timed_tests)))) (covering_is p m p' q limit same 0 tests alike)
+    ∙ ap (verdict_by _) (killer_is p m p' q limit same 0 tests all)

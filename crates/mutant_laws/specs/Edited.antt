@@ -1,9 +1,10 @@
 -- The program that a mutant's edit makes is the program with one instruction edited (this project's own).
-use Rattle.std.specs.Prelude.{◌≡◌, ◌++◌, ℕ, nat_le, ◌&&◌, Bool, true, false, List, [], ◌∷◌, All, Some}
+use Rattle.std.specs.Prelude.{◌≡◌, ◌⊎◌, ◌++◌, ℕ, nat_le, ◌&&◌, Bool, true, false, List, [], ◌∷◌, All, Some}
 use Rattle.std.specs.List.{Contains}
 use Rattle.class_model.specs.declared.class.Class.{Class}
 use Rattle.class_model.specs.declared.edit.NewInsn.{NewInsn}
 use Rattle.class_model.specs.declared.edit.NewInsn.TheVariants.{Plain}
+use Rattle.class_reader.specs.Spells.{IsClass}
 use Rattle.program_rules.specs.Programs.{Look}
 use Rattle.machine_rules.specs.Steps.{Place}
 use Rattle.edit_laws.specs.Edit.{Edit, IsEdited, edited_line}
@@ -29,9 +30,12 @@ pub record IsEditOf (m : Mutant) (p p' : Look) : Type 0 where
   pub at : edit.at ≡ m.at
   pub line : edited_line edit p ≡ m.line
   pub place : edited_place edit p ≡ mutant_place m
-  -- the new instruction goes on wherever the one that it replaces does, by the rules and so far
-  pub goes_on : GoesOnAlike edit p p'
-  pub goes_on_so_far : so_far.GoesOnAlike edit p p'
+
+-- The same of an edit that goes on wherever the instruction that it replaces does, by the rules and so far.
+pub record IsSmoothEditOf (m : Mutant) (p p' : Look) : Type 0 where
+  pub of : IsEditOf m p p'
+  pub goes_on : GoesOnAlike of.edit p p'
+  pub goes_on_so_far : so_far.GoesOnAlike of.edit p p'
 
 -- A conditional jump that compares ints (JVMS 6.5): ifeq to ifle (99 to 9e) with 0, if_icmpeq to if_icmple (9f to a4) with each other.
 abbrev pub is_int_jump : ℕ → Bool
@@ -43,19 +47,24 @@ abbrev pub puts_int_jump : List NewInsn → Bool
 puts_int_jump (Plain new ∷ []) = is_int_jump new.op
 puts_int_jump other = false
 
--- The mutant is one of a class file of the program, it exchanges jumps on ints, and its edit makes the second program. The laws of the other mutants are still to come.
+-- The mutant is one of a class file of the program, and its edit makes the second program. The file has a spelling, as each that was read has; an edit that exchanges jumps on ints
+-- doesn't ask for it, since it adds nothing to the constant pool.
 pub record IsMutated (p : List Info) (m : Mutant) (p' : Look) : Type 0 where
   pub infos : All IsInfo p
   pub file : Class
   pub found : files_of p m.class ≡ Some file
   pub listed : Contains (class_mutants file) m
-  pub jumps : puts_int_jump m.edit.with ≡ true
+  pub spelled : (puts_int_jump m.edit.with ≡ true) ⊎ IsClass file
   pub made : edited (files_of p) (look p) m ≡ Some p'
 
--- The program that a mutant's edit makes is the program with one instruction edited.
+-- The program that a mutant's edit makes is the program with one instruction edited, whichever mutator it is of and however many instructions it puts there.
 abbrev pub MutantsAreEdits : Type 0
 MutantsAreEdits = (p : List Info) (m : Mutant) (p' : Look) → IsMutated p m p' → IsEditOf m (look p) p'
 
--- Each mutant of an instruction that is a conditional jump on ints puts such a jump there, so these laws are of it.
+-- The edit of a mutant that exchanges jumps on ints goes on wherever the jump that it replaces does.
+abbrev pub IntJumpsGoOn : Type 0
+IntJumpsGoOn = (p : List Info) (m : Mutant) (p' : Look) → IsMutated p m p' → puts_int_jump m.edit.with ≡ true → IsSmoothEditOf m (look p) p'
+
+-- Each mutant of an instruction that is a conditional jump on ints puts such a jump there, and so goes on wherever that does.
 abbrev pub IntJumpsAreExchanged : Type 0
 IntJumpsAreExchanged = (class : Class) (m : Mutant) (x : IsMutant class m) → is_int_jump x.insn.op ≡ true → puts_int_jump m.edit.with ≡ true

@@ -1,29 +1,49 @@
-//! Laws of mutants, over definitions alone: the program that a mutant's edit makes is the program with one instruction edited in the sense of `edit_laws`, so the laws of edits hold of
-//! it. They are of the mutants that exchange conditional jumps on ints (`IsMutated`); those of the other mutators are still to come. Each law is the contract of a function that does
-//! nothing but call the functions whose laws it rests on.
+//! Laws of mutants, over definitions alone: the program that a mutant's edit makes is the program
+//! with one instruction edited in the sense of `edit_laws`, whichever mutator the mutant is of, so the
+//! laws of edits hold of it. Each law is the contract of a function that does nothing but call the
+//! functions whose laws it rests on.
 #![tactic(auto)]
 
-ghost use Rattle.mutant_laws.specs.Edited.{MutantsAreEdits, IntJumpsAreExchanged};
-ghost use Rattle.mutant_laws.specs.Covered.{UnreachedIsAlike, CoveringIsAlike, SelectedSuffice};
+ghost use Rattle.mutant_laws.specs.Edited.{MutantsAreEdits, IntJumpsGoOn, IntJumpsAreExchanged};
+ghost use Rattle.mutant_laws.specs.Covered.{UnreachedIsAlike, ReachingIsAlike, CoveringIsAlike, SelectedSuffice};
 
-use edits_so_far::{runs_so_far_reach_the_line_the_same, unreached_runs_so_far_are_alike};
-use mutant_apply::applied_is_made;
+use apply_laws::what_is_spelled_is_named;
+use class_writer::what_is_spelled_is_written;
+use edits_so_far::{
+    runs_so_far_reach_the_line_alike, runs_so_far_reach_the_line_the_same,
+    unreached_runs_so_far_are_alike,
+};
+use mutant_apply::{applied_is_made, mutants_fit};
 use mutator_ops::listed_exactly;
 
-/// The program that a mutant's edit makes is the program with one instruction edited, at the mutant's class, method and place and on its line.
+/// The program that a mutant's edit makes is the program with one instruction edited, at the
+/// mutant's class, method and place and on its line, also where several instructions are put there.
 pub fn mutants_are_edits()
     ensures { MutantsAreEdits }
 {
     listed_exactly();
     applied_is_made();
+    what_is_spelled_is_named();
+    what_is_spelled_is_written();
+    mutants_fit();
 }
 
-/// Each mutant of a conditional jump on ints is one that these laws are of.
+/// Each mutant of a conditional jump on ints puts such a jump there.
 pub fn int_jumps_are_exchanged()
     ensures { IntJumpsAreExchanged }
 {}
 
-/// A test that ended and doesn't reach the mutant's class and line runs on the mutant exactly as on the program.
+/// The edit of a mutant that puts a jump on ints somewhere goes on wherever the instruction that it
+/// replaces does.
+pub fn int_jumps_go_on()
+    ensures { IntJumpsGoOn }
+{
+    listed_exactly();
+    applied_is_made();
+}
+
+/// A test that ended and doesn't reach the mutant's class and line runs on the mutant exactly as on
+/// the program.
 pub fn unreached_mutants_run_alike()
     ensures { UnreachedIsAlike }
 {
@@ -31,18 +51,31 @@ pub fn unreached_mutants_run_alike()
     unreached_runs_so_far_are_alike();
 }
 
-/// A test that ended reaches the mutant's class and line exactly where its run on the mutant does.
+/// A test that ended reaches the mutant's class and line where its run on the mutant does; and where
+/// it does so does that run, unless it is stuck right at the mutant's place.
+pub fn mutants_are_reached_alike()
+    ensures { ReachingIsAlike }
+{
+    mutants_are_edits();
+    runs_so_far_reach_the_line_alike();
+}
+
+/// A test that ended reaches the class and line of a mutant that exchanges jumps on ints exactly
+/// where its run on the mutant does.
 pub fn mutants_are_covered_alike()
     ensures { CoveringIsAlike }
 {
-    mutants_are_edits();
+    int_jumps_go_on();
     runs_so_far_reach_the_line_the_same();
 }
 
-/// Where all tests pass, a mutant's verdict by the runs of all tests is that by the tests whose original runs reach its class and line, so no other test need be run on it.
+/// Where all tests pass and no run on the mutant is stuck right at its place, a mutant's verdict by
+/// the runs of all tests is that by the tests whose original runs reach its class and line, so no
+/// other test need be run on it. Of a mutant that exchanges jumps on ints it is so in any case.
 pub fn selected_tests_suffice()
     ensures { SelectedSuffice }
 {
     unreached_mutants_run_alike();
+    mutants_are_reached_alike();
     mutants_are_covered_alike();
 }
