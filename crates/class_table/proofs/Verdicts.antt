@@ -198,7 +198,7 @@ module _ (p : List Info) (distinct : AreDistinct (names p)) where
         by_number None e = subst (λ x. with_parent x (numbers_known p is) ≡ option_to_list x ++ numbers_known p is) (sym e) refl
         by_number (Some k) e = subst (λ x. with_parent x (numbers_known p is) ≡ option_to_list x ++ numbers_known p is) (sym e) refl
 
-    supers_known : (a : ℕ) (i : Info) → slice_get p a ≡ Some i → supers_at g a ≡ numbers_known p (parents_of (Some (class_of i)))
+    pub supers_known : (a : ℕ) (i : Info) → slice_get p a ≡ Some i → supers_at g a ≡ numbers_known p (parents_of (Some (class_of i)))
     supers_known a i h = by_links (slice_get g a) refl
       where
         by_links : (o : Option Links) → slice_get g a ≡ o → supers_at g a ≡ numbers_known p (parents_of (Some (class_of i)))
@@ -256,7 +256,7 @@ module _ (p : List Info) (distinct : AreDistinct (names p)) where
           let r = listed_at m (parents_of (look p n)) listed in
           each_false (λ x. is_none (look p x)) m (parents_of (look p n)) (or_right (lacks_superclass n (look p n)) (list_any (λ x. is_none (look p x)) (parents_of (look p n))) (present n)) r.0 r.1
 
-      super_number : (n m : Name) → is_listed m (parents_of (look p n)) ≡ true → (b : ℕ) × (number_of p m ≡ Some b)
+      pub super_number : (n m : Name) → is_listed m (parents_of (look p n)) ≡ true → (b : ℕ) × (number_of p m ≡ Some b)
       super_number n m listed = by_number (number_of p m) refl
         where
           by_number : (o : Option ℕ) → number_of p m ≡ o → (b : ℕ) × (number_of p m ≡ Some b)

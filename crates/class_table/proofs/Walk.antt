@@ -1,15 +1,17 @@
 -- The walk over a class and all above it: what is known stays so, and a class that was consulted with all above it changes nothing.
 use Rattle.std.proofs.Common.{◌≡◌, ℕ, zero, suc, ◌+◌, ◌-◌, ◌<◌, ◌≤◌, ◌++◌, Bool, true, false, List, [], ◌∷◌, length, Option, None, Some, slice_get, slice_set, refl, sym, ap, ◌∙◌, subst, arith, append_assoc, nat_eq}
-use Rattle.std.specs.Prelude.{◌||◌, if◌then◌else◌}
+use Rattle.std.specs.Prelude.{◌||◌, nat_lt, if◌then◌else◌}
 use Rattle.std.specs.List.{list_any}
 use Rattle.std.proofs.lemmas.List.{length-set}
 use Rattle.std.proofs.lemmas.Bool.Decides.{nat_tests}
 use Rattle.std.proofs.lemmas.Cmp.{nat_list_eq_equiv}
 use Rattle.program_rules.specs.Names.{Name, same}
 use Rattle.program_rules.specs.Linked.{Linked, parents_with, parents_of, is_library}
-use Rattle.program_rules.specs.Programs.{Look, concat_over, supers_within, supers, is_known, consult_one, consult_in, consulted_with}
+use Rattle.program_rules.specs.Programs.{Look, concat_over, supers_within, supers, is_known, consult_one, consult_in}
 use Rattle.class_link.specs.Info.{Info}
 use Rattle.class_table.specs.Table.{look, name_at}
+use Rattle.class_order.specs.Ranks.{HasRanks}
+use Rattle.class_table.proofs.Levels.{supers_stable}
 use Rattle.class_table.specs.Seen.{Seen, AreKnown, IsConsultedOf}
 
 -- ---- lists of names
@@ -94,43 +96,6 @@ module _ (p : Look) where
   lower_by ns zero k n h = subst (λ j. AreKnown p ns (supers_within j p n)) (let e : k + 0 ≡ k = omega arith in e) h
   lower_by ns (suc d) k n h = lower_by ns d k n (lower_one ns (k + d) n (subst (λ j. AreKnown p ns (supers_within j p n)) (let e : k + suc d ≡ suc (k + d) = omega arith in e) h))
 
-  -- What was consulted from some level on is known at each level.
-  pub walked_known : (n : Name) (old new : List Name) (levels : ℕ) → ((k : ℕ) → levels ≤ k → new ≡ consult_in p (supers_within k p n) old) → (k : ℕ) → AreKnown p new (supers_within k p n)
-  walked_known n old new levels h k =
-      let e = h (k + levels) (omega arith) in
-      lower_by new levels k n (subst (λ ns. AreKnown p ns (supers_within (k + levels) p n)) (sym e) (known_in (supers_within (k + levels) p n) old))
-
-  -- ---- the walk
-
-  joined_both : (f : Name → List Name) (ms ks : List Name) → concat_over f (ms ++ ks) ≡ concat_over f ms ++ concat_over f ks
-  joined_both f [] ks = refl
-  joined_both f (m ∷ ms) ks = ap (λ l. f m ++ l) (joined_both f ms ks) ∙ sym (append_assoc (f m) (concat_over f ms) (concat_over f ks))
-
-  parents_both : (parent : Option Name) (is : List Name) → parents_with parent is ≡ parents_with parent [] ++ is
-  parents_both None is = refl
-  parents_both (Some n) is = refl
-
-  pub walk_absent : (n : Name) (ns : List Name) (k : ℕ) → p n ≡ None → consult_one p n ns ≡ consult_in p (supers_within k p n) ns
-  walk_absent n ns zero e = refl
-  walk_absent n ns (suc k) e = ap (λ c. consult_in p (concat_over (supers_within k p) (parents_of c)) (consult_one p n ns)) (sym e)
-
-  pub walk_one : (n : Name) (ns : List Name) (f : Name → List Name) → consult_in p (f n) ns ≡ consult_in p (concat_over f (n ∷ [])) ns
-  walk_one n ns f = sym (consult_both (f n) [] ns)
-
-  walk_case : (n : Name) (c : Linked) (old one two three : List Name) (k b : ℕ) → p n ≡ Some c → 0 < b → b ≤ k → one ≡ consult_one p n old → ((j : ℕ) → b - 1 ≤ j → two ≡ consult_in p (concat_over (supers_within j p) (parents_with c.parent [])) one) → ((j : ℕ) → b - 1 ≤ j → three ≡ consult_in p (concat_over (supers_within j p) c.interfaces) two) → three ≡ consult_in p (supers_within k p n) old
-  walk_case n c old one two three zero b e some le first second third = let none : 0 < 0 = omega (arith, some, le) in absurd (omega (arith, none))
-  walk_case n c old one two three (suc j) b e some le first second third =
-      let below : b - 1 ≤ j = omega (arith, some, le) in
-      let f = supers_within j p in
-      let above : consult_in p (concat_over f (parents_with c.parent c.interfaces)) one ≡ consult_in p (concat_over f c.interfaces) (consult_in p (concat_over f (parents_with c.parent [])) one) =
-      ap (λ ms. consult_in p (concat_over f ms) one) (parents_both c.parent c.interfaces) ∙ ap (λ ms. consult_in p ms one) (joined_both f (parents_with c.parent []) c.interfaces) ∙ consult_both (concat_over f (parents_with c.parent [])) (concat_over f c.interfaces) one in
-      third j below ∙ ap (consult_in p (concat_over f c.interfaces)) (second j below) ∙ sym above
-      ∙ ap (consult_in p (concat_over f (parents_with c.parent c.interfaces))) first
-      ∙ ap (λ l. consult_in p (concat_over f (parents_of l)) (consult_one p n old)) (sym e)
-
-  pub walk_class : (n : Name) (c : Linked) (old one two three : List Name) (k b : ℕ) → p n ≡ Some c → 0 < b → b ≤ k → one ≡ consult_one p n old → ((j : ℕ) → b - 1 ≤ j → two ≡ consult_in p (concat_over (supers_within j p) (parents_with c.parent [])) one) → ((j : ℕ) → b - 1 ≤ j → three ≡ consult_in p (concat_over (supers_within j p) c.interfaces) two) → three ≡ consult_in p (supers_within k p n) old
-  walk_class n c old one two three k b e some le first second third = walk_case n c old one two three k b e some le first second third
-
 -- ---- marks
 
 pub kept_grown : (p : List Info) (old new : Seen) → IsConsultedOf p old → new.marks ≡ old.marks → Grows (look p) old.names new.names → IsConsultedOf p new
@@ -159,8 +124,17 @@ kept_marked p old new k h names marks walked = record {
 pub kept_one : (p : List Info) (old new : Seen) (n : Name) → IsConsultedOf p old → new.names ≡ consult_one (look p) n old.names → new.marks ≡ old.marks → IsConsultedOf p new
 kept_one p old new n h names marks = kept_grown p old new h marks (subst (Grows (look p) old.names) (sym names) (grows_one (look p) n old.names))
 
--- ---- to the depth of the definition
-
-pub consulted_is : (p : Look) (n : Name) (old new : List Name) → ((k : ℕ) → 1000 ≤ k → new ≡ consult_in p (supers_within k p n) old) → new ≡ consulted_with p n old
+-- What was consulted with all above it is known at each level.
+pub known_levels : (p : Look) (ranks : HasRanks p) (ns : List Name) (n : Name) → AreKnown p ns (supers p n) → (k : ℕ) → AreKnown p ns (supers_within k p n)
 unfolding supers
-consulted_is p n old new h = h 4294967296 (omega arith)
+known_levels p ranks ns n h k = by_test (nat_lt k 4294967296) refl
+  where
+    by_test : (b : Bool) → nat_lt k 4294967296 ≡ b → AreKnown p ns (supers_within k p n)
+    by_test true e =
+        let lt : k < 4294967296 = grind arith in
+        let whole : 4294967296 ≡ k + (4294967296 - k) = omega (arith, lt) in
+        lower_by p ns (4294967296 - k) k n (subst (λ j. AreKnown p ns (supers_within j p n)) whole h)
+    by_test false e =
+        let le : 4294967296 ≤ k = grind arith in
+        let few = ranks.few n in
+        subst (AreKnown p ns) (sym (supers_stable p ranks n k (omega (arith, le, few)))) h

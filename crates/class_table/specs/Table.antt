@@ -5,7 +5,7 @@ use Rattle.std.specs.Ordering.{nat_cmp, is_le}
 use Rattle.std.specs.Cmp.Lexicographic.{slice_cmp}
 use Rattle.class_model.specs.Text.{text}
 use Rattle.program_rules.specs.Names.{Name, same}
-use Rattle.program_rules.specs.Linked.{Linked, method_place}
+use Rattle.program_rules.specs.Linked.{Linked, parents_of, method_place}
 use Rattle.program_rules.specs.Programs.{Look}
 use Rattle.class_link.specs.declared.loaded.Loaded.{Loaded}
 use Rattle.class_link.specs.declared.loaded.LibClass.{LibClass}
@@ -83,6 +83,11 @@ name_at p id = name_or_none (slice_get (names p) id)
 -- A program as the machine's definitions ask it: the class of each name.
 abbrev pub look : List Info → Look
 look p n = option_and_then (class_at p) (number_of p n)
+
+-- The supers of a class, by number.
+pub record AreLinksOf (p : List Info) (a : ℕ) (over : List ℕ) : Type 0 where
+  pub named : map (name_at p) over ≡ parents_of (look p (name_at p a))
+  pub within : (k b : ℕ) → slice_get over k ≡ Some b → b < length p
 
 -- There are fewer classes than numbers, and no two have one name. Each has the name and the meaning
 -- of its body. No super is missing, and classes have ranks, so none stands above itself.

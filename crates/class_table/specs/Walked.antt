@@ -1,38 +1,108 @@
--- What a walk over a class and all above it leaves, so many levels high or higher (this project's
--- own). No public clause cites these.
-use Rattle.std.specs.Prelude.{◌≡◌, ◌≤◌, ℕ, List, [], ◌++◌, Option}
+-- What a walk over a class and all above it has still to do (this project's own). No public clause
+-- cites these.
+use Rattle.std.specs.List.{list_all}
+use Rattle.program_rules.specs.Linked.{is_library}
+use Rattle.std.specs.Prelude.{◌≡◌, ◌+◌, ◌<◌, ◌&&◌, ℕ, Bool, true, false, ⊤, List, [], ◌∷◌, ◌++◌, length, Some, slice_get}
 use Rattle.program_rules.specs.Names.{Name}
-use Rattle.program_rules.specs.Linked.{parents_with}
-use Rattle.program_rules.specs.Programs.{concat_over, supers_within, consult_in}
+use Rattle.program_rules.specs.Programs.{supers, consult_one, consult_in}
 use Rattle.class_link.specs.Info.{Info}
-use Rattle.class_table.specs.Seen.{Seen}
-use Rattle.class_table.specs.Table.{look}
+use Rattle.class_table.specs.declared.tasks.Task.{Task}
+use Rattle.class_table.specs.declared.tasks.Task.TheVariants.{Visit, Close}
+use Rattle.class_table.specs.Seen.{Seen, AreKnown}
+use Rattle.class_table.specs.Table.{look, name_at, AreLinksOf}
 
--- A class and all above it are consulted.
-abbrev pub Consults : List Info → ℕ → Name → Seen → Seen → Type 0
-Consults p levels n old new =
-    (k : ℕ) → levels ≤ k → new.names ≡ consult_in (look p) (supers_within k (look p) n) old.names
+-- Visits of these classes as they are kept: the first one is the last of the tasks, and is made
+-- first.
+abbrev pub visits_of : List ℕ → List Task
+visits_of [] = []
+visits_of (a ∷ more) = visits_of more ++ Visit a ∷ []
 
--- These classes and all above them are consulted.
-abbrev pub ConsultsAll : List Info → ℕ → List Name → Seen → Seen → Type 0
-ConsultsAll p levels ns old new =
-    (k : ℕ) → levels ≤ k
-    → new.names ≡ consult_in (look p) (concat_over (supers_within k (look p)) ns) old.names
+-- The names that a task consults, in order.
+abbrev pub names_of_task : List Info → Task → List Name
+names_of_task p (Visit a) = supers (look p) (name_at p a)
+names_of_task p (Close a) = []
 
--- The superclass and all above it are consulted.
-abbrev pub ConsultsParent : List Info → ℕ → Option Name → Seen → Seen → Type 0
-ConsultsParent p levels parent old new = ConsultsAll p levels (parents_with parent []) old new
+-- The names that all tasks consult, in order.
+abbrev pub wanted : List Info → List Task → List Name
+wanted p [] = []
+wanted p (t ∷ more) = wanted p more ++ names_of_task p t
 
--- The names of a class and of all above it stand behind those that were there.
-abbrev pub Collects : List Info → ℕ → Name → List Name → List Name → Type 0
-Collects p levels n old new =
-    (k : ℕ) → levels ≤ k → new ≡ old ++ supers_within k (look p) n
+-- A task can be made, where these names were consulted before it.
+abbrev pub IsTask : List Info → List Name → Task → Type 0
+IsTask p ns (Visit a) = a < length p
+IsTask p ns (Close a) = (a < length p) × AreKnown (look p) ns (supers (look p) (name_at p a))
 
--- The same of these classes.
-abbrev pub CollectsAll : List Info → ℕ → List Name → List Name → List Name → Type 0
-CollectsAll p levels ns old new =
-    (k : ℕ) → levels ≤ k → new ≡ old ++ concat_over (supers_within k (look p)) ns
+-- The same of all tasks.
+abbrev pub AreTasks : List Info → List Name → List Task → Type 0
+AreTasks p ns [] = ⊤
+AreTasks p ns (t ∷ more) =
+    IsTask p (consult_in (look p) (wanted p more) ns) t × AreTasks p ns more
 
--- The same of the superclass.
-abbrev pub CollectsParent : List Info → ℕ → Option Name → List Name → List Name → Type 0
-CollectsParent p levels parent old new = CollectsAll p levels (parents_with parent []) old new
+-- The work of a task, in the length of walks. No two classes are looked at for it.
+abbrev pub weight_of : List Info → Task → ℕ
+weight_of p (Visit a) =
+    length (supers (look p) (name_at p a)) + length (supers (look p) (name_at p a))
+weight_of p (Close a) = 1
+
+-- The same of all tasks.
+abbrev pub weight : List Info → List Task → ℕ
+weight p [] = 0
+weight p (t ∷ more) = weight p more + weight_of p t
+
+-- A class that is marked is passed over. Another one is consulted, and its supers are visited
+-- before it is marked.
+pub data Visits (p : List Info) (a : ℕ) (old : Seen) (tasks : List Task) (new : Seen)
+    (more : List Task) : Type 0 where
+  passes :
+      slice_get old.marks a ≡ Some true → new ≡ old → more ≡ tasks → Visits p a old tasks new more
+  enters :
+      (over : List ℕ) → AreLinksOf p a over →
+      new.names ≡ consult_one (look p) (name_at p a) old.names →
+      more ≡ (tasks ++ Close a ∷ []) ++ visits_of over → Visits p a old tasks new more
+
+-- A task is made: what all tasks consult stays as it was, and less is left to do.
+pub record Makes (p : List Info) (t : Task) (old : Seen) (before : List Task) (new : Seen)
+    (more : List Task) : Type 0 where
+  pub tasks : AreTasks p new.names more
+  pub names :
+      consult_in (look p) (wanted p more) new.names
+      ≡ consult_in (look p) (wanted p (before ++ t ∷ [])) old.names
+  pub less : weight p more < weight p (before ++ t ∷ [])
+
+-- ---- a walk that adds each name, as often as the definition does
+
+-- All tasks are visits.
+abbrev pub AreVisits : List Info → List Task → Type 0
+AreVisits p [] = ⊤
+AreVisits p (Visit a ∷ more) = (a < length p) × AreVisits p more
+AreVisits p (Close a ∷ more) = ⊥
+
+-- A task is made: the names that were added, with those that all tasks add, stay as they were, and
+-- less is left to do.
+pub record Adds (p : List Info) (t : Task) (old : List Name) (before : List Task)
+    (new : List Name) (more : List Task) : Type 0 where
+  pub visits : AreVisits p more
+  pub names : new ++ wanted p more ≡ old ++ wanted p (before ++ t ∷ [])
+  pub less : weight p more < weight p (before ++ t ∷ [])
+
+-- The supers of a class are visited before all else.
+pub record AddsVisits (p : List Info) (a : ℕ) (old new : List Task) : Type 0 where
+  pub over : List ℕ
+  pub links : AreLinksOf p a over
+  pub tasks : new ≡ old ++ visits_of over
+
+-- ---- a walk that asks whether all is of the library
+
+-- Whether a class is of the library; where it is, its supers are visited before all else.
+pub data PassesClass (p : List Info) (a : ℕ) (passed : Bool) (old new : List Task) : Type 0 where
+  stays : passed ≡ false → new ≡ old → PassesClass p a passed old new
+  goes : passed ≡ true → AddsVisits p a old new → PassesClass p a passed old new
+
+-- A task is made: whether all that all tasks come to is of the library stays as it was.
+pub record Passes (p : List Info) (t : Task) (passed : Bool) (before more : List Task)
+    : Type 0 where
+  pub visits : AreVisits p more
+  pub names :
+      list_all (λ m. is_library (look p m)) (wanted p (before ++ t ∷ []))
+      ≡ (passed && list_all (λ m. is_library (look p m)) (wanted p more))
+  pub less : weight p more < weight p (before ++ t ∷ [])

@@ -1,22 +1,19 @@
 //! What a run has consulted, and the walk over all that stands above a class.
 
-ghost use Rattle.std.specs.Prelude.{◌≡◌, ◌<◌, ◌↔◌, ℕ, [], length, true, slice_get, slice_set, Some, IfOk, OnOk, IsTrue};
+ghost use Rattle.std.specs.Prelude.{◌≡◌, ◌<◌, ◌↔◌, ℕ, [], ◌∷◌, ◌++◌, length, true, slice_get, slice_set, Some, IfOk, OnOk, IsTrue};
 ghost use Rattle.std.specs.List.{list_any};
 ghost use Rattle.program_rules.specs.Names.{same};
 ghost use Rattle.program_rules.specs.Linked.{is_library};
-ghost use Rattle.program_rules.specs.Programs.{supers_within, supers, consult_one, consulted_with};
+ghost use Rattle.program_rules.specs.Programs.{supers_within, consult_one, consult_in, consulted_with};
 ghost use Rattle.class_table.specs.Table.{look, name_at};
 ghost use Rattle.class_table.specs.Seen.{AreKnown, IsConsultedOf};
-ghost use Rattle.class_table.specs.Walked.{Consults, ConsultsAll, ConsultsParent, Collects, CollectsAll, CollectsParent};
+ghost use Rattle.class_table.specs.Walked.{wanted, AreTasks, Visits, Makes};
 
 use crate::program::Program;
-use class_link::Shared;
+use crate::tasks::{Task, first_task, next, push_supers};
 use class_model::{ClassId, Memory, Name, Seq};
 use std::alloc::Global;
 use std::marker::Model;
-
-// The levels of superclasses and interfaces that a walk goes up.
-const LEVELS: u32 = 1_000;
 
 /// The names that a run has consulted, in order of first use.
 #[derive(Drop)]
@@ -120,69 +117,57 @@ impl Program {
         }
     }
 
-    // Consults the class of a name with all above it, so many levels high.
-    #[cycle(walk)]
-    fn walk(&self, seen: &mut Consulted, name: &Name, levels: u32) -> Result<(), Memory>
-        requires { IsConsultedOf self.now seen.old }
-        ensures names { OnOk result (Consults self.now levels name.now seen.old seen.new) }
+    // Comes to a class: consults it, and what it names as its supers is visited before it is marked.
+    fn visit(&self, seen: &mut Consulted, tasks: &mut Vec<Task>, id: ClassId) -> Result<(), Memory>
+        requires class { id.0 < length self.now }
+        requires seen { IsConsultedOf self.now seen.old }
+        ensures visits { OnOk result (Visits self.now id.0 seen.old tasks.old.items seen.new tasks.new.items) }
         ensures kept { OnOk result (IsConsultedOf self.now seen.new) }
     {
-        let Some(id) = self.find(name) else {
-            seen.note(self, name)?;
-            return Ok(());
-        };
         if seen.is_marked(id) {
             return Ok(());
         }
-        if levels == 0 {
-            return Err(Memory);
+        seen.note(self, self.info(id).name())?;
+        tasks.push(Task::Close(id.0))?;
+        push_supers(tasks, self.links(id))?;
+        Ok(())
+    }
+
+    // Makes a task.
+    fn make(&self, seen: &mut Consulted, tasks: &mut Vec<Task>, task: Task) -> Result<(), Memory>
+        requires seen { IsConsultedOf self.now seen.old }
+        requires tasks { AreTasks self.now seen.old.names (tasks.old.items ++ task ∷ []) }
+        ensures made { OnOk result (Makes self.now task seen.old tasks.old.items seen.new tasks.new.items) }
+        ensures kept { OnOk result (IsConsultedOf self.now seen.new) }
+    {
+        let _len = self.len();
+        match task {
+            Task::Visit(class) => {
+                self.visit(seen, tasks, ClassId(class))?;
+                Ok(())
+            }
+            Task::Close(class) => {
+                seen.mark(self, ClassId(class));
+                Ok(())
+            }
         }
-        seen.note(self, name)?;
-        let linked = self.info(id).linked();
-        self.walk_parent(seen, &linked.parent, levels - 1)?;
-        self.walk_all(seen, linked.interfaces.as_slice(), levels - 1)?;
-        seen.mark(self, id);
-        Ok(())
     }
 
-    #[cycle(walk)]
-    fn walk_parent(
-        &self,
-        seen: &mut Consulted,
-        parent: &Option<Shared<Name>>,
-        levels: u32,
-    ) -> Result<(), Memory>
-        requires { IsConsultedOf self.now seen.old }
-        ensures names { OnOk result (ConsultsParent self.now levels parent.now seen.old seen.new) }
+    // Does all that is still to be done.
+    fn run(&self, seen: &mut Consulted, tasks: &mut Vec<Task>) -> Result<(), Memory>
+        requires seen { IsConsultedOf self.now seen.old }
+        requires tasks { AreTasks self.now seen.old.names tasks.old.items }
+        ensures names { OnOk result (seen.new.names ≡ consult_in (look self.now) (wanted self.now tasks.old.items) seen.old.names) }
         ensures kept { OnOk result (IsConsultedOf self.now seen.new) }
     {
-        let Some(name) = parent else {
-            return Ok(());
-        };
-        self.walk(seen, name, levels)?;
-        Ok(())
-    }
-
-    #[cycle(walk)]
-    fn walk_all(
-        &self,
-        seen: &mut Consulted,
-        names: &[Shared<Name>],
-        levels: u32,
-    ) -> Result<(), Memory>
-        requires { IsConsultedOf self.now seen.old }
-        ensures names { OnOk result (ConsultsAll self.now levels names.now seen.old seen.new) }
-        ensures kept { OnOk result (IsConsultedOf self.now seen.new) }
-    {
-        for name in names {
-            self.walk(seen, name, levels)?;
+        while let Some(task) = next(tasks) {
+            self.make(seen, tasks, task)?;
         }
         Ok(())
     }
 
-    /// Consults a class and all above it. One that was consulted before costs a look at its mark.
-    /// Where the classes above it stand 1,000 levels high or more, as where a class is above
-    /// itself, memory runs out.
+    /// Consults a class and all above it. One that was consulted before costs a look at its mark,
+    /// and each class above it that wasn't is looked at once.
     pub fn consult(&self, seen: &mut Consulted, id: ClassId) -> Result<(), Memory>
         requires class { id.0 < length self.now }
         requires seen { IsConsultedOf self.now seen.old }
@@ -192,85 +177,23 @@ impl Program {
         if seen.is_marked(id) {
             return Ok(());
         }
-        self.consult_name(seen, self.info(id).name())?;
+        let mut tasks = first_task(*seen.marks.allocator(), Task::Visit(id.0))?;
+        self.run(seen, &mut tasks)?;
         Ok(())
     }
 
     /// Consults the class of a name, also where there is none, as `consult` does.
-    #[tactic(auto, using(crate::proofs::Walk::consulted_is))]
     pub fn consult_name(&self, seen: &mut Consulted, name: &Name) -> Result<(), Memory>
         requires seen { IsConsultedOf self.now seen.old }
         ensures names { OnOk result (seen.new.names ≡ consulted_with (look self.now) name.now seen.old.names) }
         ensures kept { OnOk result (IsConsultedOf self.now seen.new) }
     {
-        self.walk(seen, name, LEVELS)?;
-        Ok(())
-    }
-
-    // Adds the names of a class and of all above it, so many levels high.
-    #[cycle(collect)]
-    fn collect(&self, out: &mut Vec<Name>, name: &Name, levels: u32) -> Result<(), Memory>
-        ensures { OnOk result (Collects self.now levels name.now out.old.items out.new.items) }
-    {
-        out.push(name.copy()?)?;
+        let _len = self.len();
         let Some(id) = self.find(name) else {
+            seen.note(self, name)?;
             return Ok(());
         };
-        if levels == 0 {
-            return Err(Memory);
-        }
-        let linked = self.info(id).linked();
-        self.collect_parent(out, &linked.parent, levels - 1)?;
-        self.collect_all(out, linked.interfaces.as_slice(), levels - 1)?;
+        self.consult(seen, id)?;
         Ok(())
-    }
-
-    #[cycle(collect)]
-    fn collect_parent(
-        &self,
-        out: &mut Vec<Name>,
-        parent: &Option<Shared<Name>>,
-        levels: u32,
-    ) -> Result<(), Memory>
-        ensures { OnOk result (CollectsParent self.now levels parent.now out.old.items out.new.items) }
-    {
-        let Some(name) = parent else {
-            return Ok(());
-        };
-        self.collect(out, name, levels)?;
-        Ok(())
-    }
-
-    #[cycle(collect)]
-    fn collect_all(
-        &self,
-        out: &mut Vec<Name>,
-        names: &[Shared<Name>],
-        levels: u32,
-    ) -> Result<(), Memory>
-        ensures { OnOk result (CollectsAll self.now levels names.now out.old.items out.new.items) }
-    {
-        for name in names {
-            self.collect(out, name, levels)?;
-        }
-        Ok(())
-    }
-
-    #[tactic(auto, using(crate::proofs::Collecting::collected_is))]
-    fn supers_of(&self, alloc: Global, name: &Name) -> Result<Seq<Name>, Memory>
-        ensures { IfOk result (λ names. names ≡ supers (look self.now) name.now) }
-    {
-        let mut names = Vec::new(alloc);
-        self.collect(&mut names, name, LEVELS)?;
-        Ok(Seq::from_vec(names))
-    }
-
-    /// The names of a class and of all above it, in the order of consulting. Memory runs out as in
-    /// `consult`.
-    pub fn supers(&self, alloc: Global, id: ClassId) -> Result<Seq<Name>, Memory>
-        requires class { id.0 < length self.now }
-        ensures { IfOk result (λ names. names ≡ supers (look self.now) (name_at self.now id.0)) }
-    {
-        Ok(self.supers_of(alloc, self.info(id).name())?)
     }
 }

@@ -9,6 +9,8 @@ mod numbering;
 mod program;
 mod scripted;
 mod supers;
+mod tasks;
+mod upwards;
 mod words;
 
 pub use class_link::{

@@ -8,10 +8,11 @@ ghost use Rattle.program_rules.specs.Names.{is_listed};
 ghost use Rattle.program_rules.specs.Programs.{supers};
 ghost use Rattle.class_link.specs.View.{method_of};
 ghost use Rattle.class_link.specs.Info.{IsInfo, class_of, link_body, file_in};
-ghost use Rattle.class_table.specs.Table.{AreDistinct, IsLeastDuplicate, bodies_of, names_of, names, number_of, CanSwap, class_at, name_at, look, entries_at, methods_at, reference_at, named_number, named_place, IsProgram};
+ghost use Rattle.class_table.specs.Table.{AreDistinct, IsLeastDuplicate, bodies_of, names_of, names, number_of, CanSwap, class_at, name_at, look, entries_at, methods_at, reference_at, named_number, named_place, IsProgram, AreLinksOf};
 ghost use Rattle.class_order.specs.Ranks.{HasRanks};
 ghost use Rattle.class_table.specs.Calls.{IsTargetOf, AreTargets};
 ghost use Rattle.class_table.specs.Faults.{look_of, IsFaultless, MissesFirst, CyclesFirst, IsWrongFirst, AreProgram, IsFirstMissing, IsFirstCycle, IsFirstWrongKind};
+ghost use Rattle.class_order.specs.Graph.{supers_of};
 ghost use Rattle.class_table.specs.Supers.{AreSupers};
 ghost use Rattle.class_table.specs.Numbers.{IsNumbering};
 ghost use Rattle.class_table.specs.Adding.{shared};
@@ -20,10 +21,12 @@ ghost use Rattle.class_table.specs.declared.fault.TableFault.TheVariants.{Duplic
 use crate::calls::{Target, Targets, copy_targets, forget_unless_right, target_at, targets};
 use crate::fault::TableFault;
 use crate::numbering::{infos, least_duplicate, numbers};
-use crate::supers::{Supers, all_links, least_cyclic, least_missing, least_wrong, stands_below};
+use crate::supers::{
+    Supers, all_links, least_cyclic, least_missing, least_wrong, links_at, stands_below,
+};
 use class_link::{ClassBody, ClassInfo, LibClass, LinkedMethod, Loaded};
 use class_model::{Class, ClassId, Memory, Name, Seq};
-use class_order::{all_above, standings};
+use class_order::{Links, all_above, standings};
 use std::alloc::Global;
 use std::collections::HashMap;
 use std::marker::Model;
@@ -168,6 +171,14 @@ impl Program {
         ensures { result ≡ is_listed (name_at self.now over.0) (supers (look self.now) (name_at self.now class.0)) }
     {
         stands_below(&self.supers, class.0, over.0)
+    }
+
+    /// The supers of a class, by number.
+    pub fn links(&self, id: ClassId) -> &Links
+        requires { id.0 < length self.now }
+        ensures { AreLinksOf self.now id.0 (supers_of result.now) }
+    {
+        links_at(&self.supers, id.0)
     }
 
     /// Puts a class in the place of another one of the same name, superclass and interfaces, and

@@ -1,7 +1,7 @@
 //! Whether the supers that a program's classes name are as they have to be, and their numbers.
 #![tactic(auto, unfolding(class_link::specs::View::linked_of))]
 
-ghost use Rattle.std.specs.Prelude.{◌≡◌, ◌<◌, ◌^◌, ◌++◌, ◌↔◌, length, map, is_none, not, ◌&&◌, IfOk, OnOk, IsTrue};
+ghost use Rattle.std.specs.Prelude.{◌≡◌, ◌<◌, ◌^◌, ◌++◌, ◌↔◌, length, slice_get, Some, map, is_none, not, ◌&&◌, IfOk, OnOk, IsTrue};
 ghost use Rattle.std.specs.List.{list_any};
 ghost use Rattle.std.specs.Option.{option_map, option_copied, option_to_list};
 ghost use Rattle.program_rules.specs.Names.{same, object_name};
@@ -28,6 +28,14 @@ use std::sync::Arc;
 pub struct Supers {
     pub links: Vec<Links, Global>,
     pub above: Vec<Above, Global>,
+}
+
+/// The supers of a class.
+pub fn links_at(supers: &Supers, class: u32) -> &Links
+    requires { class < length supers.now.links.items }
+    ensures { slice_get supers.now.links.items class ≡ Some result.now }
+{
+    &supers.links[class as usize]
 }
 
 /// Whether a class is another one or stands below it.

@@ -1,12 +1,17 @@
-use Rattle.std.proofs.Common.{sym}
-use Rattle.program_rules.specs.Programs.{supers_within}
-use Rattle.class_table.specs.Table.{look, name_at}
-use Rattle.class_table.proofs.Walk.{known_already, consulted_is}
+use Rattle.std.proofs.Common.{◌∙◌, sym, ap, subst}
+use Rattle.program_rules.specs.Programs.{consult_in}
+use Rattle.class_table.specs.Table.{look}
+use Rattle.class_table.specs.Walked.{wanted, AreTasks}
+use Rattle.class_table.proofs.Visiting.{one_visit, marked_is}
 use Rattle.class_table.proofs.program.Program.consult.Goals as goal
 
 pub returns-then-is_marked-clause-names : goal.returns-then-is_marked-clause-names
-returns-then-is_marked-clause-names c =
-    let p = look c.args.self.now in
-    let name = name_at c.args.self.now c.args.id.0 in
-    let names = c.args.seen.now.names in
-    consulted_is p name names names (λ k le. sym (known_already p (supers_within k p name) names (c.requires.seen.marked c.args.id.0 k (c.is_marked.ensures.0 c.if-is_marked.true))))
+returns-then-is_marked-clause-names c = marked_is c.args.self.now c.args.id.0 c.args.seen.now c.requires.seen (c.is_marked.ensures.0 c.if-is_marked.true)
+
+pub run-requires-clause-tasks : goal.run-requires-clause-tasks
+run-requires-clause-tasks c = subst (AreTasks c.args.self.now c.args.seen.now.names) (sym c.in_ok-tasks.ensures) (one_visit c.args.self.now c.args.id.0 c.args.seen.now.names c.requires.class)
+
+pub returns-clause-names : goal.returns-clause-names
+returns-clause-names c =
+    let p = c.args.self.now in
+    c.in_ok-run.ensures.names ∙ ap (λ l. consult_in (look p) (wanted p l) c.args.seen.now.names) c.in_ok-tasks.ensures

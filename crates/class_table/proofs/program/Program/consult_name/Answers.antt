@@ -1,6 +1,11 @@
+use Rattle.std.proofs.Common.{◌∙◌, ap}
+use Rattle.program_rules.specs.Programs.{consulted_with}
 use Rattle.class_table.specs.Table.{look}
-use Rattle.class_table.proofs.Walk.{consulted_is}
+use Rattle.class_table.proofs.Visiting.{absent_is}
 use Rattle.class_table.proofs.program.Program.consult_name.Goals as goal
 
+pub returns-in_default-clause-names : goal.returns-in_default-clause-names
+returns-in_default-clause-names c = c.in_ok-note.ensures.names ∙ absent_is c.args.self.now c.len-len.ensures.form c.args.name.now c.args.seen.now.names c.in_default.ensures.nothing
+
 pub returns-clause-names : goal.returns-clause-names
-returns-clause-names c = consulted_is (look c.args.self.now) c.args.name.now c.args.seen.now.names c.walk.new.seen.names c.in_ok-walk.ensures.names
+returns-clause-names c = c.in_ok-consult.ensures.names ∙ ap (λ n. consulted_with (look c.args.self.now) n c.args.seen.now.names) c.in-Some.ensures.named
