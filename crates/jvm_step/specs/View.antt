@@ -67,9 +67,8 @@ kind_in p (kind.Plain class) = objects.Plain (name_at p class.0)
 kind_in p (kind.Array k) = objects.ArrayOf (kind_of k)
 kind_in p kind.Text = objects.Plain (codes "java/lang/String")
 
--- No native method keeps values in an object yet.
 abbrev pub object_of : List Info → Object → objects.Object
-object_of p o = record { kind = kind_in p o.kind; values = o.values; text = o.text; items = [] }
+object_of p o = record { kind = kind_in p o.kind; values = o.values; text = o.text; items = o.items }
 
 abbrev pub call_of : Call → tests.Call
 call_of c = record { class = c.class; method = c.method; kind = c.kind }

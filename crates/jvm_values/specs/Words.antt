@@ -19,21 +19,21 @@ default_of OfInt = Int (pos 0)
 
 -- A new object of a class with such fields: one word, and one for each field.
 abbrev pub new_object : ℕ → List Kind → Object
-new_object class fields = record { kind = Plain (record { 0 = class }); values = map default_of fields; text = [] }
+new_object class fields = record { kind = Plain (record { 0 = class }); values = map default_of fields; text = []; items = [] }
 
 abbrev pub object_words : List Kind → ℕ
 object_words fields = 1 + length fields
 
 -- A new array of so many such elements: two words, and one for each element.
 abbrev pub new_array : Kind → ℕ → Object
-new_array of len = record { kind = Array of; values = replicate len (default_of of); text = [] }
+new_array of len = record { kind = Array of; values = replicate len (default_of of); text = []; items = [] }
 
 abbrev pub array_words : ℕ → ℕ
 array_words len = 2 + len
 
 -- A new text: two words, and one for each UTF-16 code unit.
 abbrev pub new_text : List ℕ → Object
-new_text units = record { kind = Text; values = []; text = units }
+new_text units = record { kind = Text; values = []; text = units; items = [] }
 
 abbrev pub text_words : List ℕ → ℕ
 text_words units = 2 + length units

@@ -1,3 +1,5 @@
+//! Why an allocation was refused.
+
 ghost use Rattle.std.specs.Prelude.{◌≡◌};
 ghost use Rattle.jvm_values.specs.declared.fault.HeapFault.TheVariants.{Memory as NoMemory};
 

@@ -1,7 +1,9 @@
-ghost use Rattle.std.specs.Prelude.{◌≡◌, ◌+◌, ◌^◌, ◌≤◌, ◌<◌, ◌↔◌, [], ◌∷◌, ◌++◌, length, slice_get, slice_set, OnOk, OnErr, IfOk, IsOkUnless, IsSome, IsSomeAnd, IsTrue};
+//! The heap: objects by their numbers, and the words that they took.
+
+ghost use Rattle.std.specs.Prelude.{◌≡◌, ◌+◌, ◌^◌, ◌≤◌, ◌<◌, ◌↔◌, [], ◌∷◌, ◌++◌, length, slice_get, slice_set, OnOk, OnErr, IfOk, IsOkUnless, IsSome, IsSomeAnd, IsTrue, true, false, IfErr};
 ghost use Rattle.std.specs.Bool.{OnTrue, OnFalse};
 ghost use Rattle.std.specs.Option.{option_copied};
-ghost use Rattle.jvm_values.specs.Contents.{no_objects, object_at, next_number, IsPassedBy, with_object, with_words, with_object_at, HasSlot, with_value, SetsSlot};
+ghost use Rattle.jvm_values.specs.Contents.{no_objects, object_at, next_number, IsPassedBy, with_object, with_words, with_object_at, fits_with, HasSlot, with_value, SetsSlot};
 ghost use Rattle.jvm_values.specs.Words.{new_object, object_words, new_array, array_words, new_text, text_words};
 
 use crate::defaults::{default_elements, default_fields};
@@ -58,6 +60,7 @@ impl Heap {
             kind: ObjKind::Plain(class),
             values: default_fields(alloc, fields.as_slice())?,
             text: Seq::new(alloc),
+            items: Seq::new(alloc),
         };
         let number = add(&mut self.objects, object)?;
         self.words = words;
@@ -77,6 +80,7 @@ impl Heap {
             values: default_elements(alloc, &of, len)?,
             kind: ObjKind::Array(of),
             text: Seq::new(alloc),
+            items: Seq::new(alloc),
         };
         let number = add(&mut self.objects, object)?;
         self.words = words;
@@ -95,21 +99,46 @@ impl Heap {
             kind: ObjKind::Text,
             values: Seq::new(*self.objects.allocator()),
             text: units.copy()?,
+            items: Seq::new(*self.objects.allocator()),
         };
         let number = add(&mut self.objects, object)?;
         self.words = words;
         Ok(number)
     }
 
-    /// The object of this number takes so many words more, as a text builder does. Nothing else changes.
-    pub fn grow(&mut self, at: u32, words: u32) -> Result<(), HeapFault>
+    /// Adds an object that takes one word and so many more. Where these are past the limit, or
+    /// memory runs out, nothing has changed.
+    pub fn add(&mut self, object: Object, more: u64) -> Result<u32, HeapFault>
+        ensures number { IfOk result (λ number. number ≡ next_number self.old) }
+        ensures heap { OnOk result (self.new ≡ with_object self.old object (1 + more)) }
+        ensures fits { OnOk result (fits_with self.old (1 + more) ≡ true) }
+        ensures full { IfErr result (λ fault. (fault ≡ HeapFault.Full) ↔ (fits_with self.old (1 + more) ≡ false)) }
+        ensures err { OnErr result (self.new ≡ self.old) }
+    {
+        let words = words_with(self.words, self.limit, 1, more as usize)?;
+        let number = add(&mut self.objects, object)?;
+        self.words = words;
+        Ok(number)
+    }
+
+    /// The object of this number takes so many words more, as a text builder does. Nothing else
+    /// changes.
+    pub fn grow_by(&mut self, at: u32, words: u64) -> Result<(), HeapFault>
         requires { IsSome (object_at self.old at) }
         ensures heap { OnOk result (self.new ≡ with_words self.old words) }
-        ensures full { (result ≡ Err HeapFault.Full) ↔ IsPassedBy self.old words }
+        ensures fits { OnOk result (fits_with self.old words ≡ true) }
+        ensures full { IfErr result (λ fault. (fault ≡ HeapFault.Full) × (fits_with self.old words ≡ false)) }
         ensures err { OnErr result (self.new ≡ self.old) }
     {
         self.words = words_with(self.words, self.limit, 0, words as usize)?;
         Ok(())
+    }
+
+    /// All objects, that of number 1 first.
+    pub fn objects(&self) -> &[Object]
+        ensures { result.now ≡ self.now.objects }
+    {
+        self.objects.as_slice()
     }
 
     /// The object of this number, if there is one.

@@ -9,5 +9,5 @@ mod object;
 
 pub use fault::HeapFault;
 pub use heap::Heap;
-pub use kept::Kept;
+pub use kept::{Kept, KeptBox};
 pub use object::{ArrayKind, ObjKind, Object};

@@ -1,3 +1,5 @@
+//! What the machine has allocated.
+
 use class_model::{ClassId, Kind, Name, Seq};
 use program_rules::Value;
 
@@ -19,8 +21,11 @@ pub enum ObjKind {
 #[derive(Drop)]
 pub struct Object {
     pub kind: ObjKind,
-    /// The fields, those of the highest superclass first, or the elements.
+    /// The fields, those of the highest superclass first, or an array's elements.
     pub values: Seq<Value>,
     /// The UTF-16 code units that a native class keeps in the object.
     pub text: Name,
+    /// The values that a native class keeps in the object: the elements of a list, the entries of a
+    /// map, the number of a box.
+    pub items: Seq<Value>,
 }

@@ -23,9 +23,9 @@ fn objects_take_their_words_until_the_heap_is_full(rt: HostRuntime) -> Result<()
     assert!(rt; matches!(heap.object(ClassId(7), &fields), Err(HeapFault::Full)));
     assert!(rt; matches!(heap.array(Kind::Int, 2), Err(HeapFault::Full)));
     assert!(rt; matches!(heap.text(&units), Err(HeapFault::Full)));
-    assert!(rt; matches!(heap.grow(3, 4), Err(HeapFault::Full)));
+    assert!(rt; matches!(heap.grow_by(3, 4), Err(HeapFault::Full)));
     assert_eq!(rt; heap.words(), 13);
-    assert_eq!(rt; heap.grow(3, 3).ok(), Some(()));
+    assert_eq!(rt; heap.grow_by(3, 3).ok(), Some(()));
     assert_eq!(rt; heap.words(), 16);
     Ok(())
 }
@@ -63,6 +63,7 @@ fn objects_are_exchanged(rt: HostRuntime) -> Result<(), Fail> {
         kind: ObjKind::Text,
         values: Seq::new(rt.alloc()),
         text: Seq::from_slice(rt.alloc(), &[0x61])?,
+        items: Seq::new(rt.alloc()),
     };
     assert_eq!(rt; heap.exchange(2, &mut other), false);
     assert!(rt; matches!(&other.kind, ObjKind::Text));
