@@ -1,0 +1,4 @@
+pub mod View
+pub mod Known
+pub mod Performed
+pub mod Answers

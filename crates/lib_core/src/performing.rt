@@ -1,0 +1,242 @@
+//! What is to be done for a native method is done to the heap and to the boxes that are kept.
+
+ghost use Rattle.std.specs.Prelude.{◌≡◌, ◌+◌, ◌++◌, ◌∷◌, [], List, Some, None, map, length, true, false, IfOk, OnOk, IfErr, IsSome};
+ghost use Rattle.program_rules.specs.Names.{Name as DefName};
+ghost use Rattle.program_rules.specs.Deeds as deeds;
+ghost use Rattle.machine_rules.specs.State.{World};
+ghost use Rattle.machine_rules.specs.Performing.{performs, with_new, object_with, HeapFull, box_among, number_of};
+ghost use Rattle.jvm_values.specs.Contents.{object_at, fits_with};
+ghost use Rattle.jvm_values.specs.declared.kept.Kept.{Kept as KeptBy};
+ghost use Rattle.lib_core.specs.Known.{IsKnown};
+ghost use Rattle.lib_core.specs.Performed.{IsChanged, Does, IsRefused};
+ghost use Rattle.lib_core.specs.View.{object_of, change_of, deed_of, with_store, result_of, box_of};
+
+use crate::changing::change_object;
+use crate::deed::{Change, Deed};
+use crate::known::Known;
+use class_model::{Memory, Name, Seq};
+use jvm_values::{Heap, HeapFault, Kept, KeptBox, ObjKind, Object};
+use program_rules::{Fault, Making, Value};
+use std::alloc::Global;
+
+/// What a native method came to.
+#[derive(Clone, Copy)]
+pub enum NativeEnd {
+    Returns(Option<Value>),
+    Raises(Fault),
+    /// There is no row for its arguments.
+    NoResult,
+}
+
+// ---- an object is changed
+
+fn placeholder(alloc: Global) -> Object {
+    Object {
+        kind: ObjKind::Text,
+        values: Seq::new(alloc),
+        text: Seq::new(alloc),
+        items: Seq::new(alloc),
+    }
+}
+
+// The object of a number becomes what a change makes of it, and takes so many words more.
+fn change_at(
+    alloc: Global,
+    heap: &mut Heap,
+    at: u32,
+    change: Change,
+    words: u64,
+) -> Result<(), HeapFault>
+    requires { IsSome (object_at heap.old at) }
+    ensures changed { OnOk result (IsChanged heap.old heap.new at change words) }
+    ensures full { IfErr result (λ fault. fault ≡ HeapFault.Full → (fits_with heap.old words ≡ false) × (heap.new ≡ heap.old)) }
+{
+    match heap.grow_by(at, words) {
+        Ok(()) => {}
+        Err(fault) => return Err(fault),
+    }
+    let mut object = placeholder(alloc);
+    if !heap.exchange(at, &mut object) {
+        return Err(HeapFault::Memory);
+    }
+    let mut changed = change_object(object, change)?;
+    if !heap.exchange(at, &mut changed) {
+        return Err(HeapFault::Memory);
+    }
+    Ok(())
+}
+
+fn change(
+    alloc: Global,
+    heap: &mut Heap,
+    at: u32,
+    change: Change,
+    words: u64,
+    v: Option<Value>,
+) -> Result<NativeEnd, HeapFault>
+    ensures done { IfOk result (λ e. (ns : List DefName) (w : World) (kept : KeptBy) → performs heap.old.limit (with_store ns heap.old kept w) (deeds.Changes at (change_of change) words v) ≡ result_of (with_store ns heap.new kept w) e) }
+    ensures full { IfErr result (λ fault. fault ≡ HeapFault.Full → (heap.new ≡ heap.old) × ((ns : List DefName) (w : World) (kept : KeptBy) → performs heap.old.limit (with_store ns heap.old kept w) (deeds.Changes at (change_of change) words v) ≡ HeapFull)) }
+{
+    match heap.get(at) {
+        Some(_) => {}
+        None => return Ok(NativeEnd::NoResult),
+    }
+    match change_at(alloc, heap, at, change, words) {
+        Ok(()) => Ok(NativeEnd::Returns(v)),
+        Err(fault) => Err(fault),
+    }
+}
+
+// ---- an object is made
+
+fn new_object(known: &Known, making: Making, text: Name, items: Seq<Value>) -> Object
+    ensures { (ns : List DefName) → IsKnown ns known.now → object_of ns result ≡ object_with making text items }
+{
+    let values = items.empty();
+    Object {
+        kind: ObjKind::Plain(known.id(making)),
+        values,
+        text,
+        items,
+    }
+}
+
+fn make(
+    known: &Known,
+    heap: &mut Heap,
+    making: Making,
+    text: Name,
+    items: Seq<Value>,
+    words: u64,
+) -> Result<u32, HeapFault>
+    ensures made { IfOk result (λ x. (ns : List DefName) (w : World) (kept : KeptBy) → IsKnown ns known.now → (with_store ns heap.new kept w ≡ with_new (with_store ns heap.old kept w) (object_with making text items) (1 + words)) × (x ≡ length heap.old.objects + 1)) }
+    ensures fits { OnOk result (fits_with heap.old (1 + words) ≡ true) }
+    ensures full { IfErr result (λ fault. fault ≡ HeapFault.Full → (fits_with heap.old (1 + words) ≡ false) × (heap.new ≡ heap.old)) }
+{
+    let object = new_object(known, making, text, items);
+    match heap.add(object, words) {
+        Ok(number) => Ok(number),
+        Err(fault) => Err(fault),
+    }
+}
+
+// ---- the one object for a number
+
+fn making_number(making: Making) -> u8
+    ensures { result ≡ deeds.making_number making }
+{
+    match making {
+        Making::Text => 0,
+        Making::List => 1,
+        Making::Set => 2,
+        Making::Iterator => 3,
+        Making::Optional => 4,
+        Making::Integer => 5,
+        Making::Long => 6,
+        Making::Short => 7,
+        Making::Byte => 8,
+        Making::Character => 9,
+        Making::Boolean => 10,
+    }
+}
+
+// The object that stands for a number in a class, if one was made.
+fn find_box(boxes: &[KeptBox], class: Making, number: i64) -> Option<u32>
+    ensures { result ≡ box_among class number (map box_of boxes.now) }
+{
+    for kept in boxes {
+        if making_number(kept.class) == making_number(class) && kept.number == number {
+            return Some(kept.object);
+        }
+    }
+    None
+}
+
+fn number_of(v: Value) -> i64
+    ensures { result ≡ number_of v }
+{
+    match v {
+        Value::Int(z) => z as i64,
+        Value::Long(z) => z,
+        Value::Ref(_) | Value::Null => 0,
+    }
+}
+
+fn box_for(boxes: &[KeptBox], class: Making, v: Value) -> Option<u32>
+    ensures { result ≡ box_among class (number_of v) (map box_of boxes.now) }
+{
+    find_box(boxes, class, number_of(v))
+}
+
+fn add_box(boxes: &mut Seq<KeptBox>, class: Making, v: Value, object: u32) -> Result<(), Memory>
+    ensures { OnOk result (boxes.new ≡ boxes.old ++ record { class = class; number = number_of v; object = object } ∷ []) }
+{
+    boxes.push(KeptBox {
+        class,
+        number: number_of(v),
+        object,
+    })?;
+    Ok(())
+}
+
+fn give_box(
+    alloc: Global,
+    known: &Known,
+    heap: &mut Heap,
+    kept: &mut Kept,
+    making: Making,
+    v: Value,
+) -> Result<u32, HeapFault>
+    ensures done { IfOk result (λ x. Does known.now (deeds.Boxes making v) heap.old kept.old heap.new kept.new (NativeEnd.Returns (Some (Value.Ref x)))) }
+    ensures full { IfErr result (λ fault. fault ≡ HeapFault.Full → IsRefused known.now (deeds.Boxes making v) heap.old kept.old heap.new kept.new) }
+{
+    if let Some(x) = box_for(kept.boxes.as_slice(), making, v) {
+        return Ok(x);
+    }
+    let items = vec![in alloc; v]?;
+    let x = make(
+        known,
+        heap,
+        making,
+        Seq::new(alloc),
+        Seq::from_vec(items),
+        1,
+    )?;
+    add_box(&mut kept.boxes, making, v, x)?;
+    Ok(x)
+}
+
+// ---- any deed
+
+/// Does what is to be done for a native method. `Full` is where the limit of the heap's words would
+/// be passed: then the heap and what is kept are as before.
+pub fn perform(
+    alloc: Global,
+    known: &Known,
+    heap: &mut Heap,
+    kept: &mut Kept,
+    deed: Deed,
+) -> Result<NativeEnd, HeapFault>
+    ensures done { IfOk result (λ e. Does known.now (deed_of deed) heap.old kept.old heap.new kept.new e) }
+    ensures full { IfErr result (λ fault. fault ≡ HeapFault.Full → IsRefused known.now (deed_of deed) heap.old kept.old heap.new kept.new) }
+{
+    match deed {
+        Deed::Gives(v) => Ok(NativeEnd::Returns(v)),
+        Deed::Throws(fault) => Ok(NativeEnd::Raises(fault)),
+        Deed::NoDeed => Ok(NativeEnd::NoResult),
+        Deed::Changes(at, changed, words, v) => match change(alloc, heap, at, changed, words, v) {
+            Ok(end) => Ok(end),
+            Err(fault) => Err(fault),
+        },
+        Deed::Makes(making, text, items, words) => {
+            match make(known, heap, making, text, items, words) {
+                Ok(number) => Ok(NativeEnd::Returns(Some(Value::Ref(number)))),
+                Err(fault) => Err(fault),
+            }
+        }
+        Deed::Boxes(making, number) => match give_box(alloc, known, heap, kept, making, number) {
+            Ok(number) => Ok(NativeEnd::Returns(Some(Value::Ref(number)))),
+            Err(fault) => Err(fault),
+        },
+    }
+}
