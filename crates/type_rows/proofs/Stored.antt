@@ -1,8 +1,8 @@
 -- Stores into locals.
-use Rattle.std.proofs.Common.{◌≡◌, ◌≤◌, subst, ◌+◌, ℕ, zero, suc, Bool, List, [], ◌∷◌, length, refl, sym, ap, ◌∙◌, arith}
+use Rattle.std.proofs.Common.{◌≡◌, ◌<◌, ◌≤◌, ◌-◌, subst, ◌+◌, ℕ, zero, suc, Bool, true, false, List, [], ◌∷◌, length, refl, sym, ap, ◌∙◌, arith}
 use Rattle.std.specs.Prelude.{if◌then◌else◌, slice_get, slice_set}
 use Rattle.program_rules.specs.Types as rules
-use Rattle.type_rules.specs.Rows.{Checked, Fails, is_long_type, without_long_type, has_locals}
+use Rattle.type_rules.specs.Rows.{Checked, Fails, is_long_type, without_long_type, stored_type, has_locals}
 use Rattle.std.proofs.lemmas.Bool.{le-leb}
 use Rattle.std.proofs.lemmas.List.{length-map}
 use Rattle.vframes.specs.declared.frame.Frame.{Frame}

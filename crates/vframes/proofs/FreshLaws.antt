@@ -3,7 +3,8 @@ use Rattle.std.proofs.Common.{◌≡◌, ◌+◌, ◌++◌, ℕ, Bool, true, fal
 use Rattle.std.specs.Prelude.{if◌then◌else◌, ◌||◌}
 use Rattle.std.specs.List.{list_any}
 use Rattle.std.proofs.lemmas.Grind.{reverse_onto}
-use Rattle.type_rules.specs.Assignability.{same_type, width}
+use Rattle.program_rules.specs.Types as rules
+use Rattle.type_rules.specs.Assignability.{same_type, width, height}
 use Rattle.type_rules.specs.Rows.{replace_type}
 use Rattle.vframes.specs.declared.fresh.Fresh.{Fresh}
 use Rattle.vframes.specs.declared.fresh.Fresh.TheVariants as fresh

@@ -1,3 +1,7 @@
 pub mod Texts
 pub mod Words
+pub mod Bases
+pub mod Lookups
+pub mod Reversed
 pub mod FreshLaws
+pub mod Closed

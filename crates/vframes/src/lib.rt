@@ -1,17 +1,21 @@
-//! Verification types and frames by number (JVMS 4.10.1.2): names taken apart, the types of an
-//! operand stack with their words, and what takes types off it.
+//! Types and frames of the verifier (JVMS 4.10.1.2, 4.7.4): when one type may stand where another
+//! is stated, and the frames that a method states, in full.
 #![tactic(auto)]
 
+mod assign;
 mod base;
+mod by_name;
 mod frame;
 mod fresh;
 mod named;
 mod slot_type;
 mod stack;
 
-pub use base::{Base, is_text, take_apart};
+pub use assign::{is_assignable, is_below, is_frame_assignable, is_interface, is_name_assignable};
+pub use base::{Base, is_text};
+pub use by_name::assignable;
 pub use frame::Frame;
 pub use fresh::Fresh;
-pub use named::{Named, named_at};
+pub use named::{Named, name_parts, named_at};
 pub use slot_type::SlotType;
 pub use stack::{Stack, Two};

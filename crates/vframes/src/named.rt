@@ -1,10 +1,14 @@
-//! The names that a class mentions, each with a number.
+//! What is known of the names that a class mentions.
 
-ghost use Rattle.std.specs.Prelude.{◌≡◌};
-ghost use Rattle.vframes.specs.Named.{HasFirst, name_at};
+ghost use Rattle.std.specs.Prelude.{◌≡◌, IfOk, List};
+ghost use Rattle.std.specs.Option.{option_map};
+ghost use Rattle.class_link.specs.Info.{Info};
+ghost use Rattle.vframes.specs.Named.{IsNamed, IsShaped, AreNamed, HasComponent, HaveComponents, HasFirst, IsWithin, name_at, class_number, base as base_of};
 
-use crate::base::Base;
-use class_model::{ClassId, Name};
+use crate::base::{Base, take_apart};
+use class_model::{ClassId, Memory, Name};
+use class_table::Program;
+use std::alloc::Global;
 
 /// A class or an array by its name, taken apart, with the number of the class behind it.
 #[derive(Drop)]
@@ -18,10 +22,40 @@ pub struct Named {
     pub component: u32,
 }
 
+// The class of a base, if it is one that is there.
+fn class_of(program: &Program, base: &Base) -> Option<ClassId>
+    ensures number { option_map (λ id. id.0) result ≡ class_number program.now (base_of base.now) }
+    ensures within { IsWithin program.now result }
+{
+    match base {
+        Base::Class(name) => program.find(name),
+        Base::Letter(_) => None,
+    }
+}
+
+/// A name, taken apart.
+pub fn name_parts(alloc: Global, program: &Program, name: &Name) -> Result<Named, Memory>
+    ensures name { IfOk result (λ x. x.name ≡ name.now) }
+    ensures known { IfOk result (λ x. IsNamed program.now x) }
+{
+    let (dimensions, base) = take_apart(alloc, name)?;
+    let class = class_of(program, &base);
+    Ok(Named {
+        name: name.copy()?,
+        dimensions,
+        base,
+        class,
+        component: 0,
+    })
+}
+
 /// The name of a number; the first one, where there are not so many.
 pub fn named_at(names: &[Named], number: u32) -> &Named
     requires { HasFirst names.now }
-    ensures { result.now.name ≡ name_at names.now number }
+    ensures name { result.now.name ≡ name_at names.now number }
+    ensures shaped { (p : List Info) → AreNamed p names.now → IsShaped result.now }
+    ensures component { HaveComponents names.now → HasComponent names.now result.now }
+    ensures known { (p : List Info) → AreNamed p names.now → IsNamed p result.now }
 {
     let at = number as usize;
     if at < names.len() {

@@ -1,7 +1,7 @@
-use Rattle.std.proofs.Common.{ap, sym, ◌∙◌}
+use Rattle.std.proofs.Common.{◌≡◌, ap, sym, ◌∙◌}
 use Rattle.std.specs.Prelude.{nat_le, if◌then◌else◌}
 use Rattle.type_rules.specs.Assignability.{height}
-use Rattle.type_rules.specs.Rows.{Falls, Fails}
+use Rattle.type_rules.specs.Rows.{Checked, Falls, Fails}
 use Rattle.vframes.specs.View.{types_in}
 use Rattle.vframes.specs.FrameView.{types_of}
 use Rattle.type_rows.proofs.answer.give.Goals as goal

@@ -1,4 +1,4 @@
-use Rattle.std.proofs.Common.{◌-◌, true, false, refl, sym, ap, ◌∙◌, arith}
+use Rattle.std.proofs.Common.{◌≡◌, ◌-◌, suc, true, false, refl, sym, ap, ◌∙◌, arith}
 use Rattle.std.specs.Prelude.{slice_get, slice_set}
 use Rattle.type_rules.specs.Rows.{is_long_type}
 use Rattle.vframes.specs.declared.slot_type.SlotType.TheVariants.{Top}

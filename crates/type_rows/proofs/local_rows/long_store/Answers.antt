@@ -4,6 +4,7 @@ use Rattle.program_rules.specs.Types as rules
 use Rattle.type_rules.specs.Rows.{row, Falls}
 use Rattle.vframes.specs.declared.slot_type.SlotType.TheVariants.{Top}
 use Rattle.vframes.specs.View.{types_in}
+use Rattle.vframes.specs.FrameView.{types_of}
 use Rattle.type_rows.proofs.Stored.{set_type, has_so_many}
 use Rattle.type_rows.proofs.local_rows.long_store.Goals as goal
 

@@ -1,7 +1,11 @@
-use Rattle.std.proofs.Common.{◌+◌, ◌≤◌, length, sym, ap, ◌∙◌, arith}
+use Rattle.std.proofs.Common.{◌≡◌, ◌+◌, ◌≤◌, suc, length, refl, sym, ap, ◌∙◌, arith}
+use Rattle.std.specs.Prelude.{slice_set}
+use Rattle.program_rules.specs.Types as rules
 use Rattle.type_rules.specs.Rows.{row, Falls}
+use Rattle.vframes.specs.declared.slot_type.SlotType.TheVariants.{Top}
 use Rattle.vframes.specs.View.{types_in}
-use Rattle.type_rows.proofs.Stored.{has_so_many}
+use Rattle.vframes.specs.FrameView.{types_of}
+use Rattle.type_rows.proofs.Stored.{set_type, has_so_many}
 use Rattle.type_rows.proofs.local_rows.reference_store.Goals as goal
 
 pub returns-in_default : goal.returns-in_default

@@ -1,4 +1,4 @@
-use Rattle.std.proofs.Common.{ap, ◌∙◌}
+use Rattle.std.proofs.Common.{◌≡◌, ap, ◌∙◌}
 use Rattle.std.specs.Prelude.{slice_set}
 use Rattle.vframes.specs.View.{type_of}
 use Rattle.type_rows.proofs.Stored.{set_type}

@@ -1,4 +1,4 @@
-use Rattle.std.proofs.Common.{◌∷◌, ◌++◌, ap, sym, ◌∙◌}
+use Rattle.std.proofs.Common.{◌≡◌, ◌∷◌, ◌++◌, refl, ap, sym, ◌∙◌}
 use Rattle.type_rules.specs.Rows.{row, gives}
 use Rattle.vframes.specs.View.{type_of, types_in, two_slots, two_types}
 use Rattle.vframes.specs.FrameView.{types_of}

@@ -1,4 +1,4 @@
-use Rattle.std.proofs.Common.{◌≡◌, ◌+◌, length}
+use Rattle.std.proofs.Common.{◌≡◌, ℕ, ◌+◌, length}
 use Rattle.type_rules.specs.References.{dimensions, base_stated}
 use Rattle.vframes.proofs.base.behind_brackets.Given as goal
 

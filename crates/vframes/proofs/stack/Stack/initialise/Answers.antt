@@ -1,4 +1,4 @@
-use Rattle.std.proofs.Common.{map, reverse, sym, ap, ◌∙◌}
+use Rattle.std.proofs.Common.{◌≡◌, map, reverse, sym, ap, ◌∙◌}
 use Rattle.vframes.specs.declared.slot_type.SlotType.TheVariants.{Obj}
 use Rattle.vframes.specs.Fresh.{slot_replaced}
 use Rattle.vframes.specs.View.{words_of}

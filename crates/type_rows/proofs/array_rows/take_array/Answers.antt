@@ -1,0 +1,31 @@
+use Rattle.std.proofs.Common.{◌≡◌, ◌∷◌, ◌++◌, ◌&&◌, refl, ap, sym, ◌∙◌}
+use Rattle.std.specs.Prelude.{if◌then◌else◌}
+use Rattle.program_rules.specs.Types as rules
+use Rattle.type_rules.specs.References.{classes_of, dimensions}
+use Rattle.std.specs.Prelude.{nat_le, nat_lt}
+use Rattle.type_rules.specs.Assignability.{height}
+use Rattle.type_rules.specs.Assignability.{assignable}
+use Rattle.type_rules.specs.Rows.{Falls, Stops, Fails, row, gives, takes_such, is_array_of, has_room, allows, falls, takes, returns as returns_of, leads, has_kind, is_reference_kind}
+use Rattle.class_table.specs.Table.{look}
+use Rattle.vframes.specs.View.{type_of, types_in}
+use Rattle.vframes.specs.FrameView.{types_of}
+use Rattle.type_rows.specs.Sites.{leads_in}
+use Rattle.type_rules.specs.Frames.{type_of as type_of_kind}
+use Rattle.type_rows.specs.Sites.{is_plain}
+use Rattle.type_rows.proofs.Settings.{leads_is, room_is, args_at, call_ends, ends_full, ends_plain}
+use Rattle.type_rows.proofs.array_rows.take_array.Goals as goal
+
+pub returns-in_default-clause-none : goal.returns-in_default-clause-none
+returns-in_default-clause-none c go =
+    let ns = c.args.site.now.names.now in
+    ap (λ l. takes_such (is_array_of c.args.element) (types_in ns l) go) c.in_default.ensures.none
+
+pub returns-then-is_array_of-clause-some : goal.returns-then-is_array_of-clause-some
+returns-then-is_array_of-clause-some c =
+    let ns = c.args.site.now.names.now in
+    (sym c.if-is_array_of.ensures, λ go. ap (λ l. takes_such (is_array_of c.args.element) (types_in ns l) go) c.in-Some.ensures.some ∙ ap (λ b. if b then go (type_of ns c.in-Some.t) (types_in ns c.pop.new.self) else Fails 7) (sym c.if-is_array_of.ensures))
+
+pub returns-else-is_array_of-clause-none : goal.returns-else-is_array_of-clause-none
+returns-else-is_array_of-clause-none c go =
+    let ns = c.args.site.now.names.now in
+    ap (λ l. takes_such (is_array_of c.args.element) (types_in ns l) go) c.in-Some.ensures.some ∙ ap (λ b. if b then go (type_of ns c.in-Some.t) (types_in ns c.pop.new.self) else Fails 7) (sym c.if-is_array_of.ensures)

@@ -1,0 +1,29 @@
+use Rattle.std.proofs.Common.{◌≡◌, ◌∷◌, ◌++◌, ◌&&◌, refl, ap, sym, ◌∙◌}
+use Rattle.std.specs.Prelude.{if◌then◌else◌}
+use Rattle.program_rules.specs.Types as rules
+use Rattle.type_rules.specs.References.{classes_of}
+use Rattle.type_rules.specs.Assignability.{assignable}
+use Rattle.type_rules.specs.Rows.{Falls, Stops, Fails, row, gives, takes, returns as returns_of, leads, has_kind, is_reference_kind}
+use Rattle.class_table.specs.Table.{look}
+use Rattle.vframes.specs.View.{type_of, types_in}
+use Rattle.vframes.specs.FrameView.{types_of}
+use Rattle.type_rows.specs.Sites.{leads_in}
+use Rattle.type_rules.specs.Frames.{type_of as type_of_kind}
+use Rattle.type_rows.specs.Sites.{is_plain}
+use Rattle.type_rows.proofs.Settings.{leads_is, room_is, args_at, call_ends, ends_full, ends_plain}
+use Rattle.type_rows.proofs.field_rows.get_field.Goals as goal
+
+pub returns-then-not-take_assignable : goal.returns-then-not-take_assignable
+unfolding row
+returns-then-not-take_assignable c s at r x n k =
+    let ns = c.args.site.now.names.now in
+    ap (λ n. takes s (rules.Obj n) (types_in ns c.args.f.now.stack) (λ rest. gives s (types_of ns c.args.f.now) (type_of_kind r.kind ∷ rest))) (sym n) ∙ c.if-not-take_assignable.ensures.no refl s x _
+
+pub returns : goal.returns
+unfolding row
+returns c s at r x n k =
+    let ns = c.args.site.now.names.now in
+    ap (λ n. takes s (rules.Obj n) (types_in ns c.args.f.now.stack) (λ rest. gives s (types_of ns c.args.f.now) (type_of_kind r.kind ∷ rest))) (sym n) ∙ c.if-not-take_assignable.ensures.yes refl s x _
+    ∙ ap (λ u. gives s (types_of ns c.args.f.now) (u ∷ types_in ns c.take_assignable.new.stack)) (sym k)
+    ∙ ap (λ l. gives s (types_of ns c.args.f.now) (types_in ns l)) (sym c.in_ok-push.ensures)
+    ∙ c.give.ensures ns s (room_is s c.args.site.now x)

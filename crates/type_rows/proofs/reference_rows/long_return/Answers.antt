@@ -1,0 +1,26 @@
+use Rattle.std.proofs.Common.{◌≡◌, ◌∷◌, ◌++◌, ◌&&◌, refl, ap, sym, ◌∙◌}
+use Rattle.std.specs.Prelude.{if◌then◌else◌}
+use Rattle.program_rules.specs.Types as rules
+use Rattle.type_rules.specs.References.{classes_of}
+use Rattle.type_rules.specs.Assignability.{assignable}
+use Rattle.type_rules.specs.Rows.{Falls, Stops, Fails, row, gives, takes, returns as returns_of, leads, has_kind, is_reference_kind}
+use Rattle.class_table.specs.Table.{look}
+use Rattle.vframes.specs.View.{type_of, types_in}
+use Rattle.vframes.specs.FrameView.{types_of}
+use Rattle.type_rows.specs.Sites.{leads_in}
+use Rattle.type_rules.specs.Frames.{type_of as type_of_kind}
+use Rattle.type_rows.specs.Sites.{is_plain}
+use Rattle.type_rows.proofs.Settings.{leads_is, room_is, args_at, call_ends, ends_full, ends_plain}
+use Rattle.type_rows.proofs.reference_rows.long_return.Goals as goal
+
+pub returns-then-not-take_long : goal.returns-then-not-take_long
+unfolding row
+returns-then-not-take_long c s at x =
+    let ns = c.args.site.now.names.now in
+    c.if-not-take_long.ensures.no refl ns _
+
+pub returns : goal.returns
+unfolding row
+returns c s at x =
+    let ns = c.args.site.now.names.now in
+    c.if-not-take_long.ensures.yes refl ns _ ∙ ap (returns_of s (types_of ns c.args.f.now)) (x.given.long ∙ sym c.is_long.ensures) ∙ c.leave.ensures s (types_of ns c.args.f.now).stack x

@@ -1,0 +1,28 @@
+use Rattle.std.proofs.Common.{◌≡◌, ◌∷◌, ◌++◌, ◌&&◌, refl, ap, sym, ◌∙◌}
+use Rattle.std.specs.Prelude.{if◌then◌else◌}
+use Rattle.program_rules.specs.Types as rules
+use Rattle.type_rules.specs.References.{classes_of}
+use Rattle.type_rules.specs.Assignability.{assignable}
+use Rattle.type_rules.specs.Rows.{Falls, Stops, Fails, row, gives, takes, returns as returns_of, leads, has_kind, is_reference_kind}
+use Rattle.class_table.specs.Table.{look}
+use Rattle.vframes.specs.View.{type_of, types_in}
+use Rattle.vframes.specs.FrameView.{types_of}
+use Rattle.type_rows.specs.Sites.{leads_in}
+use Rattle.type_rules.specs.Frames.{type_of as type_of_kind}
+use Rattle.type_rows.specs.Sites.{is_plain}
+use Rattle.type_rows.proofs.Settings.{leads_is, room_is, args_at, call_ends, ends_full, ends_plain}
+use Rattle.type_rows.proofs.reference_rows.reference_return.Goals as goal
+
+pub returns-in_default : goal.returns-in_default
+unfolding row
+returns-in_default c s at x =
+    let ns = c.args.site.now.names.now in
+    c.in_default.ensures.none ns _
+
+pub returns : goal.returns
+unfolding row
+returns c s at x =
+    let ns = c.args.site.now.names.now in
+    c.in-Some.ensures.some ns _
+    ∙ ap (λ p. returns_of s (types_of ns c.args.f.now) (has_kind (λ k. is_reference_kind k && assignable p (type_of ns c.in-Some.t) (type_of_kind k)) s.method.result)) x.program
+    ∙ ap (returns_of s (types_of ns c.args.f.now)) (x.given.reference (type_of ns c.in-Some.t) ∙ sym c.gives_reference.ensures) ∙ c.leave.ensures s (types_of ns c.args.f.now).stack x

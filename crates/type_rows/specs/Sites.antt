@@ -1,0 +1,290 @@
+-- Where an instruction stands, seen as the rules have it.
+use Rattle.std.specs.Prelude.{◌≡◌, ◌+◌, drop, ℕ, Bool, true, false, ◌&&◌, List, [], ◌∷◌, map, nat_lt, Option, Some, None, is_none, slice_get, ⊤}
+use Rattle.std.specs.Option.{option_map}
+use Rattle.program_rules.specs.Names.{Name, same, instance_initializer}
+use Rattle.program_rules.specs.Kinds.{Kind, is_int_kind, is_long_kind, reversed_onto}
+use Rattle.program_rules.specs.Instructions.{Instruction, FieldRef, MethodRef, New, NewArray, NewReferenceArray}
+use Rattle.program_rules.specs.declared.operation.Element.{Element}
+use Rattle.program_rules.specs.Types.{VType}
+use Rattle.type_rules.specs.References.{Classes, classes_of, array_of, array_name, dimensions}
+use Rattle.type_rules.specs.Assignability.{assignable}
+use Rattle.type_rules.specs.Frames.{type_of as type_of_kind, is_initializer, stated_at}
+use Rattle.type_rules.specs.Rows.{Setting, Checked, Falls, Fails, row, takes, takes_such, returns, plainly_named, is_array_of, is_element, is_plain_name, is_reference_kind, has_kind, leads, leads_all, leads_to}
+use Rattle.class_link.specs.Symbols.{Symbol, IsOther, IsInteger, IsLong, IsText, IsClass, IsField, IsMethod}
+use Rattle.class_link.specs.View.{code_of, linked_of, meaning_at}
+use Rattle.class_table.specs.Table.{look}
+use Rattle.vframes.specs.declared.frame.Frame.{Frame}
+use Rattle.vframes.specs.declared.named.Named.{Named}
+use Rattle.vframes.specs.declared.slot_type.SlotType.{SlotType}
+use Rattle.vframes.specs.Named.{name_at}
+use Rattle.vframes.specs.View.{type_of, types_in}
+use Rattle.vframes.specs.FrameView.{types_of}
+use Rattle.type_rows.specs.declared.answer.Answer.{Answer}
+use Rattle.type_rows.specs.declared.item.Item.{Item}
+use Rattle.type_rows.specs.declared.item.Item.TheVariants as item
+use Rattle.type_rows.specs.declared.item.Called.{Called}
+use Rattle.type_rows.specs.declared.item.Called.TheVariants as called
+use Rattle.type_rows.specs.declared.item.Signature.{Signature}
+use Rattle.type_rows.specs.declared.site.Given.{Given}
+use Rattle.type_rows.specs.declared.site.Given.TheVariants as given
+use Rattle.type_rows.specs.declared.site.Site.{Site}
+use Rattle.type_rows.specs.Answers.{checked_of}
+
+-- ---- what indices mean
+
+-- Which method a name is that of.
+abbrev pub is_init : Called → Bool
+is_init called.InstanceInitializer = true
+is_init called.ClassInitializer = false
+is_init called.Other = false
+
+abbrev pub is_plain : Called → Bool
+is_plain called.InstanceInitializer = false
+is_plain called.ClassInitializer = false
+is_plain called.Other = true
+
+-- A method is this one.
+pub record IsSignature (ns : List Named) (r : MethodRef) (m : Signature) : Type 0 where
+  pub class : name_at ns m.class ≡ r.class
+  pub init : same r.name instance_initializer ≡ is_init m.called
+  pub plain : is_plain_name r.name ≡ is_plain m.called
+  pub args : map type_of_kind (reversed_onto r.args []) ≡ types_in ns m.args.items
+  pub result : option_map type_of_kind r.result ≡ option_map (type_of ns) m.result
+
+-- An item is what an index means.
+abbrev pub IsItem : List Named → Symbol → Item → Type 0
+IsItem ns (IsClass n) (item.Class c a) = (name_at ns c ≡ n) × (name_at ns a ≡ array_of n)
+IsItem ns (IsClass n) other = ⊥
+IsItem ns (IsField r) (item.Field c t) =
+    (name_at ns c ≡ r.class) × (type_of ns t ≡ type_of_kind r.kind)
+IsItem ns (IsField r) other = ⊥
+IsItem ns (IsMethod r) (item.Method m) = IsSignature ns r m
+IsItem ns (IsMethod r) other = ⊥
+IsItem ns s item.Other = ⊤
+IsItem ns s other = ⊥
+
+-- The item of an index.
+abbrev pub item_in : Option Item → Item
+item_in None = item.Other
+item_in (Some i) = i
+
+-- ---- results
+
+-- What is given, by its kind.
+abbrev pub is_nothing : Given → Bool
+is_nothing given.Nothing = true
+is_nothing given.Int = false
+is_nothing given.Long = false
+is_nothing (given.Reference t) = false
+
+abbrev pub is_int : Given → Bool
+is_int given.Int = true
+is_int given.Nothing = false
+is_int given.Long = false
+is_int (given.Reference t) = false
+
+abbrev pub is_long : Given → Bool
+is_long given.Long = true
+is_long given.Nothing = false
+is_long given.Int = false
+is_long (given.Reference t) = false
+
+-- A reference, to which a type is assignable.
+abbrev pub takes_reference : Classes → List Named → Given → VType → Bool
+takes_reference p ns (given.Reference to) t = assignable p t (type_of ns to)
+takes_reference p ns given.Nothing t = false
+takes_reference p ns given.Int t = false
+takes_reference p ns given.Long t = false
+
+-- What a method gives, by its kind.
+pub record IsGiven (p : Classes) (ns : List Named) (k : Option Kind) (g : Given) : Type 0 where
+  pub nothing : is_none k ≡ is_nothing g
+  pub int : has_kind is_int_kind k ≡ is_int g
+  pub long : has_kind is_long_kind k ≡ is_long g
+  pub reference :
+      (t : VType) →
+      has_kind (λ k. is_reference_kind k && assignable p t (type_of_kind k)) k
+      ≡ takes_reference p ns g t
+
+-- ---- the setting
+
+-- The frame that is stated for an instruction.
+abbrev pub frame_in : Option (Option Frame) → Option Frame
+frame_in None = None
+frame_in (Some f) = f
+
+abbrev pub frame_at : List (Option Frame) → ℕ → Option Frame
+frame_at fs to = frame_in (slice_get fs to)
+
+-- The setting of the rules is this site.
+pub record IsSettingOf (s : Setting) (t : Site) : Type 0 where
+  pub program : s.program ≡ classes_of (look t.program.now)
+  pub class : s.class ≡ name_at t.names.now t.class
+  pub linked : s.linked ≡ linked_of t.linked.now
+  pub code : s.code ≡ code_of t.linked.now.entries t.code.now
+  pub frames :
+      (to : ℕ) → stated_at to s.frames ≡ option_map (types_of t.names.now) (frame_at t.stated.now to)
+  pub initializer : is_initializer s.method ≡ t.is_initializer
+  pub given : IsGiven (classes_of (look t.program.now)) t.names.now s.method.result t.given
+
+-- This row, at this site.
+abbrev pub RowAt : Instruction → Site → Frame → Answer → Frame → Type 0
+RowAt i t old a new =
+    (s : Setting) (at : ℕ) → IsSettingOf s t
+    → row s at i (types_of t.names.now old) ≡ checked_of t.names.now a new
+
+-- Whether the frame that is stated for a target takes this one.
+abbrev pub leads_in : Site → Frame → ℕ → Bool
+leads_in t f to =
+    leads_to (classes_of (look t.program.now)) (types_of t.names.now f)
+    (option_map (types_of t.names.now) (frame_at t.stated.now to))
+
+-- The next instruction begins with the frame, where the target takes it.
+abbrev pub LeadsTo : Site → ℕ → Frame → Answer → Type 0
+LeadsTo t to f a =
+    (s : Setting) → IsSettingOf s t
+    → leads s (types_of t.names.now f) to (Falls (types_of t.names.now f))
+    ≡ checked_of t.names.now a f
+
+-- What is assignable to a type stands on the top, and is taken.
+abbrev pub Takes : Site → SlotType → List SlotType → List SlotType → Type 0
+Takes t to old new =
+    (s : Setting) → IsSettingOf s t → (go : List VType → Checked)
+    → takes s (type_of t.names.now to) (types_in t.names.now old) go
+    ≡ go (types_in t.names.now new)
+
+-- Nothing such stands there.
+abbrev pub TakesNo : Site → SlotType → List SlotType → Type 0
+TakesNo t to old =
+    (s : Setting) → IsSettingOf s t → (go : List VType → Checked)
+    → takes s (type_of t.names.now to) (types_in t.names.now old) go ≡ Fails 7
+
+-- A return, where it is that of the descriptor.
+abbrev pub Returns : Site → Frame → Bool → Answer → Type 0
+Returns t f fits a =
+    (s : Setting) (old : List VType) → IsSettingOf s t
+    → returns s (record (types_of t.names.now f) { stack = old }) fits
+    ≡ checked_of t.names.now a f
+
+-- Values of these types, the first on the top.
+abbrev pub takes_types : Setting → List VType → List VType → (List VType → Checked) → Checked
+takes_types s [] stack go = go stack
+takes_types s (u ∷ us) stack go = takes s u stack (λ rest. takes_types s us rest go)
+
+-- What is assignable to these types stands on the top, and is taken.
+abbrev pub TakesAll : Site → List SlotType → List SlotType → List SlotType → Type 0
+TakesAll t us old new =
+    (s : Setting) → IsSettingOf s t → (go : List VType → Checked)
+    → takes_types s (types_in t.names.now us) (types_in t.names.now old) go
+    ≡ go (types_in t.names.now new)
+
+-- It doesn't.
+abbrev pub TakesNotAll : Site → List SlotType → List SlotType → Type 0
+TakesNotAll t us old =
+    (s : Setting) → IsSettingOf s t → (go : List VType → Checked)
+    → takes_types s (types_in t.names.now us) (types_in t.names.now old) go ≡ Fails 7
+
+-- The row of a call of this method.
+abbrev pub CallIs :
+    (MethodRef → Instruction) → Site → Signature → Frame → Answer → Frame → Type 0
+CallIs call t m old a new =
+    (s : Setting) (at : ℕ) (r : MethodRef) → IsSettingOf s t → IsSignature t.names.now r m
+    → row s at (call r) (types_of t.names.now old) ≡ checked_of t.names.now a new
+
+-- A result on these items, if there is one.
+abbrev pub pushed : Option SlotType → List SlotType → List SlotType
+pushed None ts = ts
+pushed (Some t) ts = t ∷ ts
+
+-- Rule 12, where a call names an initializer.
+abbrev pub PlainIs : Site → Signature → Frame → Answer → Type 0
+PlainIs t m f a =
+    (r : MethodRef) → IsSignature t.names.now r m
+    → plainly_named r (Falls (types_of t.names.now f)) ≡ checked_of t.names.now a f
+
+-- An array of such elements, or null, stands on the top, and is taken.
+abbrev pub TakesArray : List Named → Element → SlotType → List SlotType → List SlotType → Type 0
+TakesArray ns e t old new =
+    (is_array_of e (type_of ns t) ≡ true)
+    × ((go : VType → List VType → Checked)
+    → takes_such (is_array_of e) (types_in ns old) go ≡ go (type_of ns t) (types_in ns new))
+
+-- It doesn't.
+abbrev pub TakesNoArray : List Named → Element → List SlotType → Type 0
+TakesNoArray ns e old =
+    (go : VType → List VType → Checked)
+    → takes_such (is_array_of e) (types_in ns old) go ≡ Fails 7
+
+-- What may be stored into such an array stands on the top, and is taken.
+abbrev pub TakesElement : Element → List SlotType → List SlotType → Type 0
+TakesElement e old new =
+    (ns : List Named) (go : List VType → Checked)
+    → takes_such (is_element e) (types_in ns old) (λ v below. go below) ≡ go (types_in ns new)
+
+-- It doesn't.
+abbrev pub TakesNoElement : Element → List SlotType → Type 0
+TakesNoElement e old =
+    (ns : List Named) (go : List VType → Checked)
+    → takes_such (is_element e) (types_in ns old) (λ v below. go below) ≡ Fails 7
+
+-- `anewarray`, where the array has this name, and fewer dimensions than there may be or not.
+abbrev pub ArrayRow : ℕ → Bool → ℕ → Frame → Answer → Frame → Type 0
+ArrayRow array few room old a new =
+    (ns : List Named) (s : Setting) (at : ℕ) (n : Name) → s.code.max_stack ≡ room
+    → name_at ns array ≡ array_of n → nat_lt (dimensions n) 255 ≡ few
+    → row s at (NewReferenceArray n) (types_of ns old) ≡ checked_of ns a new
+
+-- The row of a field that is static, of this type.
+abbrev pub StaticIs :
+    (FieldRef → Instruction) → Site → SlotType → Frame → Answer → Frame → Type 0
+StaticIs access t held old a new =
+    (s : Setting) (at : ℕ) (r : FieldRef) → IsSettingOf s t
+    → type_of t.names.now held ≡ type_of_kind r.kind
+    → row s at (access r) (types_of t.names.now old) ≡ checked_of t.names.now a new
+
+-- The row of a field of this class, of this type.
+abbrev pub FieldIs :
+    (FieldRef → Instruction) → Site → ℕ → SlotType → Frame → Answer → Frame → Type 0
+FieldIs access t class held old a new =
+    (s : Setting) (at : ℕ) (r : FieldRef) → IsSettingOf s t
+    → name_at t.names.now class ≡ r.class → type_of t.names.now held ≡ type_of_kind r.kind
+    → row s at (access r) (types_of t.names.now old) ≡ checked_of t.names.now a new
+
+-- `new` at an instruction, of the class of this name.
+abbrev pub NewIs : Site → ℕ → ℕ → Frame → Answer → Frame → Type 0
+NewIs t at class old a new =
+    (s : Setting) → IsSettingOf s t
+    → row s at (New (name_at t.names.now class)) (types_of t.names.now old)
+    ≡ checked_of t.names.now a new
+
+-- All targets state a frame that takes this one; or one doesn't.
+abbrev pub LeadToAll : Site → Frame → List ℕ → Type 0
+LeadToAll t f targets =
+    (s : Setting) → IsSettingOf s t → (go : Checked)
+    → leads_all s (types_of t.names.now f) targets go ≡ go
+
+abbrev pub LeadNotToAll : Site → Frame → List ℕ → Type 0
+LeadNotToAll t f targets =
+    (s : Setting) → IsSettingOf s t → (go : Checked)
+    → leads_all s (types_of t.names.now f) targets go ≡ Fails 9
+
+-- The target at a place takes the frame, and the others behind it are left.
+abbrev pub LeadsNext : Site → Frame → List ℕ → ℕ → Type 0
+LeadsNext t f targets at =
+    (s : Setting) → IsSettingOf s t → (go : Checked)
+    → leads_all s (types_of t.names.now f) (drop at targets) go
+    ≡ leads_all s (types_of t.names.now f) (drop (at + 1) targets) go
+
+-- The argument at a place is taken, and the others behind it are left.
+abbrev pub TakesNext : Site → List SlotType → ℕ → List SlotType → List SlotType → Type 0
+TakesNext t us at old new =
+    (s : Setting) → IsSettingOf s t → (go : List VType → Checked)
+    → takes_types s (types_in t.names.now (drop at us)) (types_in t.names.now old) go
+    ≡ takes_types s (types_in t.names.now (drop (at + 1) us)) (types_in t.names.now new) go
+
+-- `newarray` of elements that are no references, where the array has this name.
+abbrev pub NewArrayRow : ℕ → ℕ → Frame → Answer → Frame → Type 0
+NewArrayRow array room old a new =
+    (ns : List Named) (s : Setting) (at : ℕ) (k : Kind) → s.code.max_stack ≡ room
+    → name_at ns array ≡ array_name k → is_reference_kind k ≡ false
+    → row s at (NewArray k) (types_of ns old) ≡ checked_of ns a new

@@ -1,0 +1,52 @@
+//! Switches (JVMS 6.5, `tableswitch`).
+#![tactic(auto, unfolding(type_rules::specs::Rows::row))]
+
+ghost use Rattle.std.specs.Prelude.{◌≡◌, ◌<◌, ℤ, true, false, length, drop};
+ghost use Rattle.program_rules.specs.Instructions.{TableSwitch};
+ghost use Rattle.vframes.specs.Named.{AreNamed};
+ghost use Rattle.type_rows.specs.Sites.{RowAt, LeadsNext, LeadToAll, LeadNotToAll};
+
+use crate::answer::Answer;
+use crate::jump_rows::leads;
+use crate::site::Site;
+use vframes::Frame;
+
+// Whether the target at a place states a frame that takes this one.
+fn leads_at(site: &Site, f: &Frame, targets: &[u32], at: usize) -> bool
+    requires named { AreNamed site.now.program.now site.now.names.now }
+    requires within { at < length targets.now }
+    ensures yes { result ≡ true → LeadsNext site.now f.now targets.now at }
+    ensures no { result ≡ false → LeadNotToAll site.now f.now (drop at targets.now) }
+{
+    leads(site, f, targets[at])
+}
+
+// Whether all these targets do.
+fn lead(site: &Site, f: &Frame, targets: &[u32]) -> bool
+    requires { AreNamed site.now.program.now site.now.names.now }
+    ensures yes { result ≡ true → LeadToAll site.now f.now targets.now }
+    ensures no { result ≡ false → LeadNotToAll site.now f.now targets.now }
+{
+    for at in 0..targets.len() {
+        if !leads_at(site, f, targets, at) {
+            return false;
+        }
+    }
+    true
+}
+
+pub fn table_switch(site: &Site, f: &mut Frame, default: u32, targets: &[u32]) -> Answer
+    requires { AreNamed site.now.program.now site.now.names.now }
+    ensures { (low : ℤ) → RowAt (TableSwitch default low targets.now) site.now f.old result f.new }
+{
+    if !f.stack.take_int() {
+        return Answer::Fails(7);
+    }
+    if !leads(site, f, default) {
+        return Answer::Fails(9);
+    }
+    if !lead(site, f, targets) {
+        return Answer::Fails(9);
+    }
+    Answer::Stops
+}
