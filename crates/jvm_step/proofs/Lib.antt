@@ -7,3 +7,4 @@ pub mod Calls
 pub mod Instances
 pub mod Steps
 pub mod KindLoop
+pub mod Above

@@ -3,7 +3,7 @@
 
 ghost use Rattle.std.specs.Prelude.{◌≡◌, ◌||◌, ◌&&◌, ◌<◌, None, Some, List, map, length, IfOk, OnOk};
 ghost use Rattle.std.specs.List.{list_any};
-ghost use Rattle.program_rules.specs.Linked.{is_library, has_static_constant, fits_kind, is_abstract, is_interface, is_static};
+ghost use Rattle.program_rules.specs.Linked.{has_static_constant, fits_kind, is_abstract, is_interface, is_static};
 ghost use Rattle.std.specs.Option.{option_map};
 ghost use Rattle.program_rules.specs.Kinds.{is_int_kind, is_text_kind};
 ghost use Rattle.program_rules.specs.Programs.{supers};
@@ -26,39 +26,13 @@ use jvm_marks::Begun;
 use machine_rules::InitState;
 use std::alloc::Global;
 
-// Whether a name is that of a class of the library.
-#[tactic(auto, unfolding(class_link::specs::View::linked_of))]
-fn is_library(p: &Program, name: &Name) -> bool
-    ensures { result ≡ is_library (look p.now name.now) }
-{
-    match p.find(name) {
-        Some(id) => p.info(id).linked().library,
-        None => false,
-    }
-}
-
-// Whether all names are those of classes of the library.
-fn are_library(p: &Program, names: &[Name]) -> bool
-    ensures { result ≡ are_library (look p.now) names.now }
-{
-    for name in names {
-        if !is_library(p, name) {
-            return false;
-        }
-    }
-    true
-}
-
 // Whether all classes above a class are of the library.
+#[tactic(auto, using(crate::proofs::Above::are_of_library))]
 fn supers_are_library(alloc: Global, p: &Program, class: ClassId) -> Result<bool, Memory>
     requires { class.0 < length p.now }
     ensures { IfOk result (λ b. b ≡ are_library (look p.now) (behind_first (supers (look p.now) (name_at p.now class.0)))) }
 {
-    let names = p.supers(alloc, class)?;
-    match names.as_slice() {
-        [_, above @ ..] => Ok(are_library(p, above)),
-        [] => Ok(true),
-    }
+    Ok(p.has_library_above(alloc, class)?)
 }
 
 // Whether a name is that of an interface.
