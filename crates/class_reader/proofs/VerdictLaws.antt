@@ -1,7 +1,8 @@
 -- A verdict on a text is never want of memory.
 use Rattle.std.proofs.Common.{◌≡◌, ℕ, List, Option, Some, None, Result, Ok, Err}
 use Rattle.std.specs.Prelude.{ok_or}
-use Rattle.class_model.specs.DescriptorReading.{judged, field_kind, field_type_of, kind_of, method_kinds, method_descriptor_of, method_type}
+use Rattle.class_model.specs.Descriptor.{kind_of, method_type}
+use Rattle.class_model.specs.DescriptorReading.{judged, field_kind, field_type_of, method_kinds, method_descriptor_of}
 use Rattle.class_model.specs.Judged.{outcome, arg_words}
 use Rattle.class_model.specs.declared.fault.DescFault.{DescFault}
 use Rattle.class_model.specs.declared.fault.DescFault.TheVariants as desc_fault
