@@ -3,7 +3,8 @@
 
 ghost use Rattle.std.specs.Prelude.{◌≡◌, ◌<◌, ◌^◌, ℕ, List, All, map, length, slice_get, slice_set, Some, None, Err, IfOk, OnOk, IfSome, IfNone};
 ghost use Rattle.std.specs.Arc.{arc_value};
-ghost use Rattle.program_rules.specs.Programs.{consulted_with};
+ghost use Rattle.program_rules.specs.Names.{is_listed};
+ghost use Rattle.program_rules.specs.Programs.{consulted_with, supers};
 ghost use Rattle.class_table.specs.Table.{AreDistinct, IsLeastDuplicate, bodies_of, names_of, number_of, CanSwap, class_at, name_at, look, named_place};
 ghost use Rattle.class_link.specs.Info.{IsInfo};
 ghost use Rattle.class_order.specs.Graph.{AreWithin};
@@ -60,6 +61,16 @@ pub fn find(program: &Program, name: &Name) -> Option<ClassId>
     ensures nothing { IfNone result (look program.now name.now ≡ None) }
 {
     program.find(name)
+}
+
+/// `Program::is_subtype`
+pub fn is_subtype(program: &Program, class: ClassId, over: ClassId) -> bool
+    requires class { class.0 < length program.now }
+    requires over { over.0 < length program.now }
+    ensures { result ≡ is_listed (name_at program.now over.0) (supers (look program.now) (name_at program.now class.0)) }
+{
+    let is = program.is_subtype(class, over);
+    is
 }
 
 /// `Program::named_method`

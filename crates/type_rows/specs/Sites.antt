@@ -54,14 +54,14 @@ pub record IsSignature (ns : List Named) (r : MethodRef) (m : Signature) : Type 
 -- An item is what an index means.
 abbrev pub IsItem : List Named → Symbol → Item → Type 0
 IsItem ns (IsClass n) (item.Class c a) = (name_at ns c ≡ n) × (name_at ns a ≡ array_of n)
-IsItem ns (IsClass n) other = ⊥
+IsItem ns (IsClass n) _ = ⊥
 IsItem ns (IsField r) (item.Field c t) =
     (name_at ns c ≡ r.class) × (type_of ns t ≡ type_of_kind r.kind)
-IsItem ns (IsField r) other = ⊥
+IsItem ns (IsField r) _ = ⊥
 IsItem ns (IsMethod r) (item.Method m) = IsSignature ns r m
-IsItem ns (IsMethod r) other = ⊥
+IsItem ns (IsMethod r) _ = ⊥
 IsItem ns s item.Other = ⊤
-IsItem ns s other = ⊥
+IsItem ns s _ = ⊥
 
 -- The item of an index.
 abbrev pub item_in : Option Item → Item
