@@ -1,0 +1,11 @@
+pub mod Steps
+pub mod Written
+pub mod Stated
+pub mod Interfaces
+pub mod LangClasses
+pub mod Exceptions
+pub mod Collected
+pub mod Library
+pub mod Rows
+pub mod Whole
+pub mod Typed

@@ -1,0 +1,287 @@
+//! The table's rows are made classes.
+
+ghost use Rattle.std.specs.Prelude.{◌≡◌, false, List, [], Some, None, map, codes, IfOk};
+ghost use Rattle.lib_table.specs.Rows.{const_of, insn_of, body_of, method_with, method_of, field_with, class_with, class_of};
+
+use crate::rows::{ClassRow, CodeRow, ConstRow, InsnRow, MethodRow};
+use class_link::{LibBody, LibClass, LibField, LibMethod};
+use class_model::{Arg, Code, Const, Insn, Memory, Name, Seq};
+use std::alloc::Global;
+
+// A text of ASCII.
+fn name(alloc: Global, text: &str) -> Result<Name, Memory>
+    ensures { IfOk result (λ name. name ≡ text.now) }
+{
+    let mut units = Vec::with_capacity(alloc, text.len())?;
+    for byte in text.as_bytes() {
+        units.push(*byte as u16)?;
+    }
+    Ok(Seq::from_vec(units))
+}
+
+fn names(alloc: Global, texts: &[&'static str]) -> Result<Seq<Name>, Memory>
+    ensures { IfOk result (λ names. names ≡ map (λ t. t.now) texts.now) }
+{
+    let mut names = Vec::with_capacity(alloc, texts.len())?;
+    for text in texts {
+        names.push(name(alloc, text)?)?;
+    }
+    Ok(Seq::from_vec(names))
+}
+
+// ---- written methods
+
+fn entry(alloc: Global, row: &ConstRow) -> Result<Const, Memory>
+    ensures { IfOk result (λ entry. entry ≡ const_of row.now) }
+{
+    match row {
+        ConstRow::Utf8(text) => Ok(Const::Utf8(name(alloc, text)?)),
+        ConstRow::Class(index) => Ok(Const::Class(*index)),
+        ConstRow::Text(index) => Ok(Const::Text(*index)),
+        ConstRow::Pair(name, desc) => Ok(Const::Pair(*name, *desc)),
+        ConstRow::Method(class, pair) => Ok(Const::Method(*class, *pair)),
+    }
+}
+
+fn pool(alloc: Global, rows: &[ConstRow]) -> Result<Seq<Const>, Memory>
+    ensures { IfOk result (λ entries. entries ≡ map const_of rows.now) }
+{
+    let mut entries = Vec::with_capacity(alloc, rows.len())?;
+    for row in rows {
+        entries.push(entry(alloc, row)?)?;
+    }
+    Ok(Seq::from_vec(entries))
+}
+
+fn insn_with(op: u8, arg: Arg) -> Insn
+    ensures { result ≡ record { op = op; wide = false; arg = arg } }
+{
+    Insn {
+        op,
+        wide: false,
+        arg,
+    }
+}
+
+fn insn(row: &InsnRow) -> Insn
+    ensures { result ≡ insn_of row.now }
+{
+    match row {
+        InsnRow::Op(op) => insn_with(*op, Arg::None),
+        InsnRow::Jump(op, to) => insn_with(*op, Arg::To(*to)),
+        InsnRow::Increment(local, by) => insn_with(0x84, Arg::Inc(*local, *by)),
+        InsnRow::Pool(op, index) => insn_with(*op, Arg::Pool(*index)),
+    }
+}
+
+fn insns(alloc: Global, rows: &[InsnRow]) -> Result<Seq<Insn>, Memory>
+    ensures { IfOk result (λ insns. insns ≡ map insn_of rows.now) }
+{
+    let mut insns = Vec::with_capacity(alloc, rows.len())?;
+    for row in rows {
+        insns.push(insn(row))?;
+    }
+    Ok(Seq::from_vec(insns))
+}
+
+fn body(alloc: Global, row: &CodeRow) -> Result<LibBody, Memory>
+    ensures { IfOk result (λ body. body ≡ body_of row.now) }
+{
+    let pool = pool(alloc, row.pool)?;
+    let insns = insns(alloc, row.insns)?;
+    Ok(LibBody::Written(
+        pool,
+        Code {
+            max_stack: 5,
+            max_locals: 4,
+            insns,
+            rows: Seq::new(alloc),
+            attrs: Seq::new(alloc),
+        },
+    ))
+}
+
+// ---- methods and fields
+
+fn method_with(
+    alloc: Global,
+    flags: u16,
+    text: &str,
+    desc: &str,
+    body: LibBody,
+) -> Result<LibMethod, Memory>
+    ensures { IfOk result (λ m. m ≡ method_with flags text.now desc.now body) }
+{
+    let named = name(alloc, text)?;
+    let desc = name(alloc, desc)?;
+    Ok(LibMethod {
+        name: named,
+        desc,
+        flags,
+        body,
+    })
+}
+
+fn method(alloc: Global, row: &MethodRow) -> Result<LibMethod, Memory>
+    ensures { IfOk result (λ m. m ≡ method_of row.now) }
+{
+    match row {
+        MethodRow::Native(number, name, desc) => Ok(method_with(
+            alloc,
+            257,
+            name,
+            desc,
+            LibBody::Native(*number),
+        )?),
+        MethodRow::StaticNative(number, name, desc) => Ok(method_with(
+            alloc,
+            265,
+            name,
+            desc,
+            LibBody::Native(*number),
+        )?),
+        MethodRow::Abstract(name, desc) => {
+            Ok(method_with(alloc, 1025, name, desc, LibBody::Abstract)?)
+        }
+        MethodRow::Written(name, desc, code) => {
+            let body = body(alloc, code)?;
+            Ok(method_with(alloc, 1, name, desc, body)?)
+        }
+        MethodRow::StaticWritten(name, desc, code) => {
+            let body = body(alloc, code)?;
+            Ok(method_with(alloc, 9, name, desc, body)?)
+        }
+    }
+}
+
+fn methods(alloc: Global, rows: &[MethodRow]) -> Result<Seq<LibMethod>, Memory>
+    ensures { IfOk result (λ ms. ms ≡ map method_of rows.now) }
+{
+    let mut methods = Vec::with_capacity(alloc, rows.len())?;
+    for row in rows {
+        methods.push(method(alloc, row)?)?;
+    }
+    Ok(Seq::from_vec(methods))
+}
+
+fn fields(alloc: Global, rows: &[(&'static str, &'static str)]) -> Result<Seq<LibField>, Memory>
+    ensures { IfOk result (λ fs. fs ≡ map (λ f. field_with f.0.now f.1.now) rows.now) }
+{
+    let mut fields = Vec::with_capacity(alloc, rows.len())?;
+    for row in rows {
+        let named = name(alloc, row.0)?;
+        let desc = name(alloc, row.1)?;
+        fields.push(LibField {
+            name: named,
+            desc,
+            flags: 2,
+        })?;
+    }
+    Ok(Seq::from_vec(fields))
+}
+
+// ---- classes
+
+fn class_with(
+    alloc: Global,
+    flags: u16,
+    text: &str,
+    parent: &str,
+    interfaces: Seq<Name>,
+    methods: Seq<LibMethod>,
+) -> Result<LibClass, Memory>
+    ensures { IfOk result (λ c. c ≡ class_with flags text.now (Some parent.now) interfaces [] methods) }
+{
+    let named = name(alloc, text)?;
+    let parent = name(alloc, parent)?;
+    Ok(LibClass {
+        name: named,
+        parent: Some(parent),
+        interfaces,
+        flags,
+        fields: Seq::new(alloc),
+        methods,
+    })
+}
+
+fn root(alloc: Global, text: &str, methods: Seq<LibMethod>) -> Result<LibClass, Memory>
+    ensures { IfOk result (λ c. c ≡ class_with 33 text.now None [] [] methods) }
+{
+    let named = name(alloc, text)?;
+    Ok(LibClass {
+        name: named,
+        parent: None,
+        interfaces: Seq::new(alloc),
+        flags: 33,
+        fields: Seq::new(alloc),
+        methods,
+    })
+}
+
+fn with_fields(
+    alloc: Global,
+    text: &str,
+    parent: &str,
+    fields: Seq<LibField>,
+    methods: Seq<LibMethod>,
+) -> Result<LibClass, Memory>
+    ensures { IfOk result (λ c. c ≡ class_with 33 text.now (Some parent.now) [] fields methods) }
+{
+    let named = name(alloc, text)?;
+    let parent = name(alloc, parent)?;
+    Ok(LibClass {
+        name: named,
+        parent: Some(parent),
+        interfaces: Seq::new(alloc),
+        flags: 33,
+        fields,
+        methods,
+    })
+}
+
+fn class(alloc: Global, row: &ClassRow) -> Result<LibClass, Memory>
+    ensures { IfOk result (λ c. c ≡ class_of row.now) }
+{
+    match row {
+        ClassRow::Class(name, parent, interfaces, rows) => {
+            let interfaces = names(alloc, interfaces)?;
+            let methods = methods(alloc, rows)?;
+            Ok(class_with(alloc, 33, name, parent, interfaces, methods)?)
+        }
+        ClassRow::FinalClass(name, parent, interfaces, rows) => {
+            let interfaces = names(alloc, interfaces)?;
+            let methods = methods(alloc, rows)?;
+            Ok(class_with(alloc, 49, name, parent, interfaces, methods)?)
+        }
+        ClassRow::AbstractClass(name, parent, interfaces, rows) => {
+            let interfaces = names(alloc, interfaces)?;
+            let methods = methods(alloc, rows)?;
+            Ok(class_with(alloc, 1057, name, parent, interfaces, methods)?)
+        }
+        ClassRow::Interface(name, interfaces, rows) => {
+            let interfaces = names(alloc, interfaces)?;
+            let methods = methods(alloc, rows)?;
+            Ok(class_with(alloc, 1537, name, "java/lang/Object", interfaces, methods)?)
+        }
+        ClassRow::Root(name, rows) => {
+            let methods = methods(alloc, rows)?;
+            Ok(root(alloc, name, methods)?)
+        }
+        ClassRow::WithFields(name, parent, field_rows, rows) => {
+            let fields = fields(alloc, field_rows)?;
+            let methods = methods(alloc, rows)?;
+            Ok(with_fields(alloc, name, parent, fields, methods)?)
+        }
+    }
+}
+
+/// The classes of these rows.
+pub fn classes_of(alloc: Global, rows: &[ClassRow]) -> Result<Seq<LibClass>, Memory>
+    ensures { IfOk result (λ cs. cs ≡ map class_of rows.now) }
+{
+    let mut classes = Vec::with_capacity(alloc, rows.len())?;
+    for row in rows {
+        classes.push(class(alloc, row)?)?;
+    }
+    Ok(Seq::from_vec(classes))
+}

@@ -1,0 +1,60 @@
+//! What a row of the table has. Each kind of row is a word of `specs/Stated.antt`.
+
+/// An entry of the constant pool of a written method.
+#[derive(Clone, Copy)]
+pub enum ConstRow {
+    Utf8(&'static str),
+    Class(u16),
+    Text(u16),
+    Pair(u16, u16),
+    Method(u16, u16),
+}
+
+/// An instruction of a written method, its opcode first.
+#[derive(Clone, Copy)]
+pub enum InsnRow {
+    /// One without an operand.
+    Op(u8),
+    /// A jump to an instruction.
+    Jump(u8, u32),
+    /// `iinc` of a local.
+    Increment(u16, i16),
+    /// One that names an entry of the pool.
+    Pool(u8, u16),
+}
+
+/// A written method: its constant pool and its code.
+#[derive(Clone, Copy)]
+pub struct CodeRow {
+    pub pool: &'static [ConstRow],
+    pub insns: &'static [InsnRow],
+}
+
+/// A public method: a native one by its number, each with its name and its descriptor.
+#[derive(Clone, Copy)]
+pub enum MethodRow {
+    Native(u16, &'static str, &'static str),
+    StaticNative(u16, &'static str, &'static str),
+    Abstract(&'static str, &'static str),
+    Written(&'static str, &'static str, &'static CodeRow),
+    StaticWritten(&'static str, &'static str, &'static CodeRow),
+}
+
+/// A public class: its name, its superclass, its interfaces and its methods.
+#[derive(Clone, Copy)]
+pub enum ClassRow {
+    Class(&'static str, &'static str, &'static [&'static str], &'static [MethodRow]),
+    FinalClass(&'static str, &'static str, &'static [&'static str], &'static [MethodRow]),
+    AbstractClass(&'static str, &'static str, &'static [&'static str], &'static [MethodRow]),
+    /// An interface, whose superclass is Object.
+    Interface(&'static str, &'static [&'static str], &'static [MethodRow]),
+    /// The class above all others.
+    Root(&'static str, &'static [MethodRow]),
+    /// A class with private fields, by name and descriptor, and without interfaces.
+    WithFields(
+        &'static str,
+        &'static str,
+        &'static [(&'static str, &'static str)],
+        &'static [MethodRow],
+    ),
+}
