@@ -1,3 +1,5 @@
 pub mod Pushed
 pub mod Stored
 pub mod Settings
+pub mod Homes
+pub mod News

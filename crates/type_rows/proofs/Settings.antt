@@ -19,7 +19,8 @@ use Rattle.vframes.specs.View.{type_of, types_in}
 use Rattle.vframes.specs.FrameView.{types_of}
 use Rattle.type_rows.specs.declared.item.Signature.{Signature}
 use Rattle.type_rows.specs.declared.site.Site.{Site}
-use Rattle.type_rows.specs.Sites.{IsSettingOf, IsSignature, leads_in, takes_types, pushed, frame_at}
+use Rattle.type_rows.specs.Items.{IsSignature}
+use Rattle.type_rows.specs.Sites.{IsSettingOf, leads_in, takes_types, pushed, frame_at}
 
 -- whether a target takes a frame
 pub leads_is : (s : Setting) (t : Site) (f : Frame) (to : ℕ) (go : Checked) → IsSettingOf s t → leads s (types_of t.names.now f) to go ≡ (if leads_in t f to then go else Fails 9)
@@ -55,26 +56,33 @@ result_is ns None (Some t) rest e = cc
 result_is ns (Some k) None rest e = cc
 result_is ns (Some k) (Some t) rest e = let same : type_of_kind k ≡ type_of ns t = cc in ap (λ u. u ∷ types_in ns rest) same
 
+-- the stack behind a call, with its result, where there is no room for it, and where there is
+pub room_lacks : (s : Setting) (t : Site) (r : MethodRef) (m : Signature) (go : List VType → Checked) (rest new : List SlotType) → IsSettingOf s t → IsSignature t.names.now r m → new ≡ pushed m.result rest → false ≡ nat_le (height (types_in t.names.now new)) t.code.now.max_stack → has_room s (with_result r.result (types_in t.names.now rest)) (go (with_result r.result (types_in t.names.now rest))) ≡ Fails 8
+room_lacks s t r m go rest new x i e full =
+    let ns = t.names.now in
+    let stack : with_result r.result (types_in ns rest) ≡ types_in ns new = result_is ns r.result m.result rest i.result ∙ ap (types_in ns) (sym e) in
+    ap (λ l. has_room s l (go l)) stack
+    ∙ ap (λ b. if b then go (types_in ns new) else Fails 8)
+    (ap (nat_le (height (types_in ns new))) (room_is s t x) ∙ sym full)
+
+pub room_serves : (s : Setting) (t : Site) (r : MethodRef) (m : Signature) (go : List VType → Checked) (rest new : List SlotType) → IsSettingOf s t → IsSignature t.names.now r m → new ≡ pushed m.result rest → true ≡ nat_le (height (types_in t.names.now new)) t.code.now.max_stack → has_room s (with_result r.result (types_in t.names.now rest)) (go (with_result r.result (types_in t.names.now rest))) ≡ go (types_in t.names.now new)
+room_serves s t r m go rest new x i e room =
+    let ns = t.names.now in
+    let stack : with_result r.result (types_in ns rest) ≡ types_in ns new = result_is ns r.result m.result rest i.result ∙ ap (types_in ns) (sym e) in
+    ap (λ l. has_room s l (go l)) stack
+    ∙ ap (λ b. if b then go (types_in ns new) else Fails 8)
+    (ap (nat_le (height (types_in ns new))) (room_is s t x) ∙ sym room)
+
 -- the end of a call, with its result on the stack
 abbrev pub call_ends : Setting → MethodRef → FrameTypes → List VType → Checked
 call_ends s r f rest =
     has_room s (with_result r.result rest) (plainly_named r (Falls (record f { stack = with_result r.result rest })))
 
 pub ends_full : (s : Setting) (t : Site) (r : MethodRef) (m : Signature) (f : FrameTypes) (rest new : List SlotType) → IsSettingOf s t → IsSignature t.names.now r m → new ≡ pushed m.result rest → false ≡ nat_le (height (types_in t.names.now new)) t.code.now.max_stack → call_ends s r f (types_in t.names.now rest) ≡ Fails 8
-ends_full s t r m f rest new x i e full =
-    let ns = t.names.now in
-    let stack : with_result r.result (types_in ns rest) ≡ types_in ns new = result_is ns r.result m.result rest i.result ∙ ap (types_in ns) (sym e) in
-    ap (λ l. has_room s l (plainly_named r (Falls (record f { stack = l })))) stack
-    ∙ ap (λ b. if b then plainly_named r (Falls (record f { stack = types_in ns new })) else Fails 8)
-    (ap (nat_le (height (types_in ns new))) (room_is s t x) ∙ sym full)
+ends_full s t r m f rest new x i e full = room_lacks s t r m (λ l. plainly_named r (Falls (record f { stack = l }))) rest new x i e full
 
 pub ends_plain : (s : Setting) (t : Site) (r : MethodRef) (m : Signature) (f : FrameTypes) (rest new : List SlotType) → IsSettingOf s t → IsSignature t.names.now r m → new ≡ pushed m.result rest → true ≡ nat_le (height (types_in t.names.now new)) t.code.now.max_stack → call_ends s r f (types_in t.names.now rest) ≡ plainly_named r (Falls (record f { stack = types_in t.names.now new }))
-ends_plain s t r m f rest new x i e room =
-    let ns = t.names.now in
-    let stack : with_result r.result (types_in ns rest) ≡ types_in ns new = result_is ns r.result m.result rest i.result ∙ ap (types_in ns) (sym e) in
-    ap (λ l. has_room s l (plainly_named r (Falls (record f { stack = l })))) stack
-    ∙ ap (λ b. if b then plainly_named r (Falls (record f { stack = types_in ns new })) else Fails 8)
-    (ap (nat_le (height (types_in ns new))) (room_is s t x) ∙ sym room)
+ends_plain s t r m f rest new x i e room = room_serves s t r m (λ l. plainly_named r (Falls (record f { stack = l }))) rest new x i e room
 
 -- ---- arrays by their dimensions
 
@@ -93,3 +101,8 @@ all_dropped [] zero l = refl
 all_dropped [] (suc n) l = refl
 all_dropped (x ∷ xs) zero l = absurd (omega (arith, l))
 all_dropped (x ∷ xs) (suc n) l = all_dropped xs n (omega (arith, l))
+
+pub drop_mapped : {A B : Type 0} (g : A → B) (xs : List A) (n : ℕ) → drop n (map g xs) ≡ map g (drop n xs)
+drop_mapped g xs zero = refl
+drop_mapped g [] (suc n) = refl
+drop_mapped g (x ∷ xs) (suc n) = drop_mapped g xs n

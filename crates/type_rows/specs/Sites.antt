@@ -1,72 +1,37 @@
 -- Where an instruction stands, seen as the rules have it.
-use Rattle.std.specs.Prelude.{◌≡◌, ◌+◌, drop, ℕ, Bool, true, false, ◌&&◌, List, [], ◌∷◌, map, nat_lt, Option, Some, None, is_none, slice_get, ⊤}
+use Rattle.std.specs.Prelude.{if◌then◌else◌, ◌≡◌, ◌+◌, drop, ℕ, Bool, true, false, ◌&&◌, List, [], ◌∷◌, map, nat_lt, Option, Some, None, is_none, slice_get, ⊤}
 use Rattle.std.specs.Option.{option_map}
 use Rattle.program_rules.specs.Names.{Name, same, instance_initializer}
 use Rattle.program_rules.specs.Kinds.{Kind, is_int_kind, is_long_kind, reversed_onto}
-use Rattle.program_rules.specs.Instructions.{Instruction, FieldRef, MethodRef, New, NewArray, NewReferenceArray}
+use Rattle.program_rules.specs.Instructions.{Instruction, FieldRef, MethodRef, InvokeSpecial, New, NewArray, NewReferenceArray, NewMultiArray, PutField, Unlinked}
 use Rattle.program_rules.specs.declared.operation.Element.{Element}
-use Rattle.program_rules.specs.Types.{VType}
+use Rattle.program_rules.specs.Types.{VType, Obj}
 use Rattle.type_rules.specs.References.{Classes, classes_of, array_of, array_name, dimensions}
 use Rattle.type_rules.specs.Assignability.{assignable}
-use Rattle.type_rules.specs.Frames.{type_of as type_of_kind, is_initializer, stated_at}
-use Rattle.type_rules.specs.Rows.{Setting, Checked, Falls, Fails, row, takes, takes_such, returns, plainly_named, is_array_of, is_element, is_plain_name, is_reference_kind, has_kind, leads, leads_all, leads_to}
-use Rattle.class_link.specs.Symbols.{Symbol, IsOther, IsInteger, IsLong, IsText, IsClass, IsField, IsMethod}
-use Rattle.class_link.specs.View.{code_of, linked_of, meaning_at}
+use Rattle.type_rules.specs.Frames.{type_of as type_of_kind, is_initializer, new_at, new_of, stated_at}
+use Rattle.type_rules.specs.Rows.{Setting, Checked, Falls, Fails, row, takes, takes_such, takes_ints, returns, plainly_named, is_array_of, is_element, is_plain_name, is_reference_kind, has_kind, leads, leads_all, leads_to, replace_type, initialises, calls_special, may_name, is_owner}
+use Rattle.class_link.specs.Symbols.{IsClass}
+use Rattle.class_link.specs.Opcodes.{on_class, on_field, on_method}
+use Rattle.class_link.specs.declared.instruction.Instruction.{Instruction as Linking}
+use Rattle.class_link.specs.declared.linked.Entry.{Entry}
+use Rattle.class_link.specs.declared.linked.Switch.{Switch}
+use Rattle.class_link.specs.View.{code_of, instruction_of, linked_of, meaning_at}
 use Rattle.class_table.specs.Table.{look}
 use Rattle.vframes.specs.declared.frame.Frame.{Frame}
+use Rattle.vframes.specs.declared.fresh.Fresh.{Fresh}
+use Rattle.vframes.specs.Fresh.{fresh_type}
 use Rattle.vframes.specs.declared.named.Named.{Named}
 use Rattle.vframes.specs.declared.slot_type.SlotType.{SlotType}
 use Rattle.vframes.specs.Named.{name_at}
 use Rattle.vframes.specs.View.{type_of, types_in}
 use Rattle.vframes.specs.FrameView.{types_of}
 use Rattle.type_rows.specs.declared.answer.Answer.{Answer}
-use Rattle.type_rows.specs.declared.item.Item.{Item}
-use Rattle.type_rows.specs.declared.item.Item.TheVariants as item
-use Rattle.type_rows.specs.declared.item.Called.{Called}
-use Rattle.type_rows.specs.declared.item.Called.TheVariants as called
 use Rattle.type_rows.specs.declared.item.Signature.{Signature}
 use Rattle.type_rows.specs.declared.site.Given.{Given}
 use Rattle.type_rows.specs.declared.site.Given.TheVariants as given
 use Rattle.type_rows.specs.declared.site.Site.{Site}
 use Rattle.type_rows.specs.Answers.{checked_of}
-
--- ---- what indices mean
-
--- Which method a name is that of.
-abbrev pub is_init : Called → Bool
-is_init called.InstanceInitializer = true
-is_init called.ClassInitializer = false
-is_init called.Other = false
-
-abbrev pub is_plain : Called → Bool
-is_plain called.InstanceInitializer = false
-is_plain called.ClassInitializer = false
-is_plain called.Other = true
-
--- A method is this one.
-pub record IsSignature (ns : List Named) (r : MethodRef) (m : Signature) : Type 0 where
-  pub class : name_at ns m.class ≡ r.class
-  pub init : same r.name instance_initializer ≡ is_init m.called
-  pub plain : is_plain_name r.name ≡ is_plain m.called
-  pub args : map type_of_kind (reversed_onto r.args []) ≡ types_in ns m.args.items
-  pub result : option_map type_of_kind r.result ≡ option_map (type_of ns) m.result
-
--- An item is what an index means.
-abbrev pub IsItem : List Named → Symbol → Item → Type 0
-IsItem ns (IsClass n) (item.Class c a) = (name_at ns c ≡ n) × (name_at ns a ≡ array_of n)
-IsItem ns (IsClass n) _ = ⊥
-IsItem ns (IsField r) (item.Field c t) =
-    (name_at ns c ≡ r.class) × (type_of ns t ≡ type_of_kind r.kind)
-IsItem ns (IsField r) _ = ⊥
-IsItem ns (IsMethod r) (item.Method m) = IsSignature ns r m
-IsItem ns (IsMethod r) _ = ⊥
-IsItem ns s item.Other = ⊤
-IsItem ns s _ = ⊥
-
--- The item of an index.
-abbrev pub item_in : Option Item → Item
-item_in None = item.Other
-item_in (Some i) = i
+use Rattle.type_rows.specs.Items.{Home, IsField, IsSignature, IsSpecial, AreItemsOf}
 
 -- ---- results
 
@@ -126,6 +91,18 @@ pub record IsSettingOf (s : Setting) (t : Site) : Type 0 where
       (to : ℕ) → stated_at to s.frames ≡ option_map (types_of t.names.now) (frame_at t.stated.now to)
   pub initializer : is_initializer s.method ≡ t.is_initializer
   pub given : IsGiven (classes_of (look t.program.now)) t.names.now s.method.result t.given
+
+-- The class of a site.
+abbrev pub home_of : Site → Home
+home_of t = record {
+  program = classes_of (look t.program.now);
+  class = name_at t.names.now t.class;
+  linked = linked_of t.linked.now;
+}
+
+-- Its items are what the indices mean.
+abbrev pub AreItems : Site → Type 0
+AreItems t = AreItemsOf t.names.now (home_of t) t.linked.now.entries t.items.now
 
 -- This row, at this site.
 abbrev pub RowAt : Instruction → Site → Frame → Answer → Frame → Type 0
@@ -288,3 +265,136 @@ NewArrayRow array room old a new =
     (ns : List Named) (s : Setting) (at : ℕ) (k : Kind) → s.code.max_stack ≡ room
     → name_at ns array ≡ array_name k → is_reference_kind k ≡ false
     → row s at (NewArray k) (types_of ns old) ≡ checked_of ns a new
+
+-- ---- what an index means
+
+-- A class, and the array of such components; or no class.
+abbrev pub ClassAt : Site → ℕ → ℕ × ℕ → Type 0
+ClassAt t k x =
+    (meaning_at t.linked.now.entries k ≡ IsClass (name_at t.names.now x.0))
+    × (name_at t.names.now x.1 ≡ array_of (name_at t.names.now x.0))
+
+abbrev pub NoClassAt : Site → ℕ → Type 0
+NoClassAt t k =
+    (made : Name → Instruction) → on_class made (meaning_at t.linked.now.entries k) ≡ Unlinked
+
+-- An instruction that is no `new`, in any class and code.
+abbrev pub IsNoNew : Linking → Type 0
+IsNoNew i = (es : List Entry) (ss : List Switch) → new_of (Some (instruction_of es ss i)) ≡ None
+
+-- The class that the `new` at an instruction names, by the code of a site.
+abbrev pub made_in : Site → ℕ → Option Name
+made_in t at = new_at (code_of t.linked.now.entries t.code.now) at
+
+-- ---- special calls
+
+-- Copies of an object have become those of this class.
+pub record IsInitialised (o : Fresh) (class : ℕ) (old new : Frame) : Type 0 where
+  pub locals :
+      (ns : List Named)
+      → types_in ns new.locals.items
+      ≡ replace_type (fresh_type o) (Obj (name_at ns class)) (types_in ns old.locals.items)
+  pub stack :
+      (ns : List Named)
+      → types_in ns new.stack
+      ≡ replace_type (fresh_type o) (Obj (name_at ns class)) (types_in ns old.stack)
+  pub flag : new.flag ≡ old.flag
+
+-- What is initialised by `<init>`, where this stands below its arguments.
+abbrev pub InitialisesIs : Site → Signature → SlotType → Frame → Answer → Frame → Type 0
+InitialisesIs t m top old a new =
+    (s : Setting) (r : MethodRef) (stack : List VType) → IsSettingOf s t
+    → IsSignature t.names.now r m → IsSpecial (home_of t) r m
+    → initialises s (record (types_of t.names.now old) { stack = stack }) r
+    (types_in t.names.now old.stack) (type_of t.names.now top)
+    ≡ checked_of t.names.now a new
+
+-- The row of a special call of this method.
+abbrev pub SpecialIs : Site → Signature → Frame → Answer → Frame → Type 0
+SpecialIs t m old a new =
+    (s : Setting) (at : ℕ) (r : MethodRef) → IsSettingOf s t → IsSignature t.names.now r m
+    → IsSpecial (home_of t) r m
+    → row s at (InvokeSpecial r) (types_of t.names.now old) ≡ checked_of t.names.now a new
+
+-- The same, where the method is an `<init>` or not.
+abbrev pub SpecialIf : Bool → Site → Signature → Frame → Answer → Frame → Type 0
+SpecialIf init t m old a new =
+    (s : Setting) (r : MethodRef) → IsSettingOf s t → IsSignature t.names.now r m
+    → IsSpecial (home_of t) r m → same r.name instance_initializer ≡ init
+    → calls_special s (types_of t.names.now old) r ≡ checked_of t.names.now a new
+
+-- An object of this class stands on the top, and is taken; or it doesn't.
+abbrev pub TakesObject : Site → ℕ → SlotType → List SlotType → List SlotType → Type 0
+TakesObject t class top old new =
+    (s : Setting) → IsSettingOf s t → (go : VType → List VType → Checked)
+    → takes_such (λ x. assignable s.program x (Obj (name_at t.names.now class)))
+    (types_in t.names.now old) go
+    ≡ go (type_of t.names.now top) (types_in t.names.now new)
+
+abbrev pub TakesNoObject : Site → ℕ → List SlotType → Type 0
+TakesNoObject t class old =
+    (s : Setting) → IsSettingOf s t → (go : VType → List VType → Checked)
+    → takes_such (λ x. assignable s.program x (Obj (name_at t.names.now class)))
+    (types_in t.names.now old) go
+    ≡ Fails 7
+
+-- Rule 12 of a special call that names no initializer, of this object.
+abbrev pub NearIs : Site → Signature → SlotType → Frame → Answer → Type 0
+NearIs t m top f a =
+    (s : Setting) (r : MethodRef) → IsSettingOf s t → IsSignature t.names.now r m
+    → IsSpecial (home_of t) r m
+    → plainly_named r
+    (if may_name s r.class && assignable s.program (type_of t.names.now top) (Obj s.class)
+    then Falls (types_of t.names.now f) else Fails 12)
+    ≡ checked_of t.names.now a f
+
+-- ---- `putfield`
+
+-- Whether this is the object of a putfield.
+abbrev pub OwnerIs : Site → ℕ → SlotType → Bool → SlotType → Bool → Type 0
+OwnerIs t class held own top b =
+    (s : Setting) (r : FieldRef) → IsSettingOf s t
+    → IsField t.names.now (home_of t) r class held own
+    → b ≡ is_owner s r (type_of t.names.now top)
+
+-- Such an object stands on the top, and is taken; or it doesn't.
+abbrev pub TakesOwner :
+    Site → ℕ → SlotType → Bool → List SlotType → List SlotType → Type 0
+TakesOwner t class held own old new =
+    (s : Setting) (r : FieldRef) → IsSettingOf s t
+    → IsField t.names.now (home_of t) r class held own → (go : List VType → Checked)
+    → takes_such (is_owner s r) (types_in t.names.now old) (λ t rest. go rest)
+    ≡ go (types_in t.names.now new)
+
+abbrev pub TakesNoOwner : Site → ℕ → SlotType → Bool → List SlotType → Type 0
+TakesNoOwner t class held own old =
+    (s : Setting) (r : FieldRef) → IsSettingOf s t
+    → IsField t.names.now (home_of t) r class held own → (go : List VType → Checked)
+    → takes_such (is_owner s r) (types_in t.names.now old) (λ t rest. go rest) ≡ Fails 7
+
+-- The row of a store into this field.
+abbrev pub PutIs : Site → ℕ → SlotType → Bool → Frame → Answer → Frame → Type 0
+PutIs t class held own old a new =
+    (s : Setting) (at : ℕ) (r : FieldRef) → IsSettingOf s t
+    → IsField t.names.now (home_of t) r class held own
+    → row s at (PutField r) (types_of t.names.now old) ≡ checked_of t.names.now a new
+
+-- ---- `multianewarray`
+
+-- So many ints stand on the top, and are taken; or they don't.
+abbrev pub TakesInts : ℕ → List SlotType → List SlotType → Type 0
+TakesInts count old new =
+    (ns : List Named) (go : List VType → Checked)
+    → takes_ints count (types_in ns old) go ≡ go (types_in ns new)
+
+abbrev pub TakesNoInts : ℕ → List SlotType → Type 0
+TakesNoInts count old =
+    (ns : List Named) (go : List VType → Checked)
+    → takes_ints count (types_in ns old) go ≡ Fails 7
+
+-- `multianewarray` of the class of this name, by so many dimensions.
+abbrev pub MultiIs : Site → ℕ → ℕ → Frame → Answer → Frame → Type 0
+MultiIs t class count old a new =
+    (s : Setting) (at : ℕ) → IsSettingOf s t
+    → row s at (NewMultiArray (name_at t.names.now class) count) (types_of t.names.now old)
+    ≡ checked_of t.names.now a new

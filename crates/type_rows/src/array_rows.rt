@@ -1,14 +1,14 @@
 //! Arrays (JVMS 6.5, `iaload` to `sastore`, `newarray` to `arraylength`, `multianewarray`).
 #![tactic(auto, unfolding(type_rules::specs::Rows::row))]
 
-ghost use Rattle.std.specs.Prelude.{◌≡◌, IfOk, IfSome, IfNone, true, false};
+ghost use Rattle.std.specs.Prelude.{◌≡◌, ◌&&◌, IfOk, IfSome, IfNone, true, false, nat_le, nat_lt};
 ghost use Rattle.program_rules.specs.Instructions.{ArrayLoad, ArrayStore, ArrayLength};
 ghost use Rattle.program_rules.specs.declared.operation.Element.TheVariants.{ReferenceElement};
 ghost use Rattle.type_rules.specs.References.{dimensions, base_of};
 ghost use Rattle.type_rules.specs.Rows.{holds, is_of_references, is_array_of, is_array_type, element_type};
-ghost use Rattle.vframes.specs.Named.{AreNamed, HaveComponents, HasFirst, IsShaped};
+ghost use Rattle.vframes.specs.Named.{AreNamed, HaveComponents, HasFirst, IsShaped, name_at};
 ghost use Rattle.vframes.specs.View.{type_of};
-ghost use Rattle.type_rows.specs.Sites.{RowAt, TakesArray, TakesNoArray, TakesElement, TakesNoElement, ArrayRow, NewArrayRow};
+ghost use Rattle.type_rows.specs.Sites.{RowAt, TakesArray, TakesNoArray, TakesElement, TakesNoElement, ArrayRow, NewArrayRow, MultiIs, TakesInts, TakesNoInts};
 
 use crate::answer::{Answer, give};
 use crate::site::Site;
@@ -230,4 +230,46 @@ pub fn new_array(f: &mut Frame, room: u16, array: u32) -> Result<Answer, Memory>
     }
     f.stack.push(SlotType::Obj(array))?;
     Ok(give(f, room))
+}
+
+// Takes so many ints off the top.
+fn take_ints(stack: &mut Stack, count: u8) -> bool
+    ensures yes { result ≡ true → TakesInts count stack.old stack.new }
+    ensures no { result ≡ false → TakesNoInts count stack.old }
+{
+    let mut left = count;
+    while left > 0 {
+        if !stack.take_int() {
+            return false;
+        }
+        left -= 1;
+    }
+    true
+}
+
+// Whether an array has so many dimensions, and at least one is named.
+fn has_dimensions(site: &Site, array: u32, count: u8) -> bool
+    requires { AreNamed site.now.program.now site.now.names.now }
+    ensures { result ≡ (nat_lt 0 count && nat_le count (dimensions (name_at site.now.names.now array))) }
+{
+    count > 0 && count as usize <= named_at(site.names, array).dimensions
+}
+
+/// `multianewarray` of the class of this number, by so many dimensions.
+pub fn new_multi_array(site: &Site, f: &mut Frame, array: u32, count: u8) -> Result<Answer, Memory>
+    requires { AreNamed site.now.program.now site.now.names.now }
+    ensures { IfOk result (λ a. MultiIs site.now array count f.old a f.new) }
+{
+    if !take_ints(&mut f.stack, count) {
+        return Ok(Answer::Fails(7));
+    }
+    f.stack.push(SlotType::Obj(array))?;
+    if !f.stack.fits(site.code.max_stack) {
+        return Ok(Answer::Fails(8));
+    }
+    if has_dimensions(site, array, count) {
+        Ok(Answer::Falls)
+    } else {
+        Ok(Answer::Fails(13))
+    }
 }

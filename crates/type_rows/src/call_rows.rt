@@ -23,8 +23,8 @@ fn take_arg(site: &Site, stack: &mut Stack, args: &[SlotType], at: usize) -> boo
     take_assignable(site, stack, args[at])
 }
 
-// Takes the arguments of a call, the last of which stands first.
-fn take_args(site: &Site, stack: &mut Stack, args: &[SlotType]) -> bool
+/// Takes the arguments of a call, the last of which stands first.
+pub fn take_args(site: &Site, stack: &mut Stack, args: &[SlotType]) -> bool
     requires { AreNamed site.now.program.now site.now.names.now }
     ensures yes { result ≡ true → TakesAll site.now args.now stack.old stack.new }
     ensures no { result ≡ false → TakesNotAll site.now args.now stack.old }
@@ -37,8 +37,8 @@ fn take_args(site: &Site, stack: &mut Stack, args: &[SlotType]) -> bool
     true
 }
 
-// Puts the result of a call on the top, if there is one.
-fn push_result(stack: &mut Stack, given: Option<SlotType>) -> Result<(), Memory>
+/// Puts the result of a call on the top, if there is one.
+pub fn push_result(stack: &mut Stack, given: Option<SlotType>) -> Result<(), Memory>
     ensures { OnOk result (stack.new ≡ pushed given stack.old) }
 {
     match given {

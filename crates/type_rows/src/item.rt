@@ -1,5 +1,8 @@
 //! What the indices of a constant pool mean to a row.
 
+ghost use Rattle.std.specs.Prelude.{◌≡◌};
+ghost use Rattle.type_rows.specs.Items.{is_init, is_plain};
+
 use vframes::SlotType;
 
 /// Which method a name is that of.
@@ -12,6 +15,30 @@ pub enum Called {
     Other,
 }
 
+impl Called {
+    /// Whether it is `<init>`.
+    pub fn is_init(self) -> bool
+        ensures { result ≡ is_init self }
+    {
+        match self {
+            Called::InstanceInitializer => true,
+            Called::ClassInitializer => false,
+            Called::Other => false,
+        }
+    }
+
+    /// Whether it is no initializer.
+    pub fn is_plain(self) -> bool
+        ensures { result ≡ is_plain self }
+    {
+        match self {
+            Called::InstanceInitializer => false,
+            Called::ClassInitializer => false,
+            Called::Other => true,
+        }
+    }
+}
+
 /// A method that is named. Of the arguments the last stands first.
 #[derive(Drop)]
 pub struct Signature {
@@ -19,6 +46,11 @@ pub struct Signature {
     pub called: Called,
     pub args: Vec<SlotType>,
     pub result: Option<SlotType>,
+    /// It is of the class itself or of its superclass, so its `<init>` initialises `this`.
+    pub initialises_this: bool,
+    /// It is of the class itself, of a superclass or of a direct superinterface, so a special call
+    /// may name it.
+    pub is_near: bool,
 }
 
 /// What an index means, with the numbers of names.
@@ -28,7 +60,7 @@ pub enum Item {
     Other,
     /// A class or an array, and the array of such components.
     Class(u32, u32),
-    /// The class of a field, and the type that it holds.
-    Field(u32, SlotType),
+    /// The class of a field, the type that it holds, and whether the class itself declares it.
+    Field(u32, SlotType, bool),
     Method(Signature),
 }

@@ -65,6 +65,11 @@ pub record AreNamed (p : List Info) (ns : List Named) : Type 0 where
   pub first : HasFirst ns
   pub each : All (IsNamed p) ns
 
+-- Equal names have equal numbers.
+abbrev pub AreDistinct : List Named → Type 0
+AreDistinct ns =
+    (i j : ℕ) → i < length ns → j < length ns → name_at ns i ≡ name_at ns j → i ≡ j
+
 -- The numbers of all components are right.
 abbrev pub HaveComponents : List Named → Type 0
 HaveComponents ns = All (HasComponent ns) ns

@@ -16,6 +16,6 @@ pub use base::{Base, is_text};
 pub use by_name::assignable;
 pub use frame::Frame;
 pub use fresh::Fresh;
-pub use named::{Named, name_parts, named_at};
+pub use named::{Named, is_same_name, name_parts, named_at};
 pub use slot_type::SlotType;
 pub use stack::{Stack, Two};

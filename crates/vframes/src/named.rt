@@ -1,9 +1,10 @@
 //! What is known of the names that a class mentions.
 
-ghost use Rattle.std.specs.Prelude.{◌≡◌, IfOk, List};
+ghost use Rattle.std.specs.Prelude.{◌≡◌, ◌<◌, IfOk, List, length};
 ghost use Rattle.std.specs.Option.{option_map};
+ghost use Rattle.program_rules.specs.Names.{same};
 ghost use Rattle.class_link.specs.Info.{Info};
-ghost use Rattle.vframes.specs.Named.{IsNamed, IsShaped, AreNamed, HasComponent, HaveComponents, HasFirst, IsWithin, name_at, class_number, base as base_of};
+ghost use Rattle.vframes.specs.Named.{IsNamed, IsShaped, AreNamed, AreDistinct, HasComponent, HaveComponents, HasFirst, IsWithin, name_at, class_number, base as base_of};
 
 use crate::base::{Base, take_apart};
 use class_model::{ClassId, Memory, Name};
@@ -63,4 +64,26 @@ pub fn named_at(names: &[Named], number: u32) -> &Named
     } else {
         &names[0]
     }
+}
+
+// A number in range of the same name.
+fn place(names: &[Named], number: u32) -> u32
+    requires { HasFirst names.now }
+    ensures name { name_at names.now result ≡ name_at names.now number }
+    ensures within { result < length names.now }
+{
+    if (number as usize) < names.len() {
+        number
+    } else {
+        0
+    }
+}
+
+/// Whether two numbers are of the same name.
+pub fn is_same_name(names: &[Named], number: u32, other: u32) -> bool
+    requires first { HasFirst names.now }
+    requires distinct { AreDistinct names.now }
+    ensures { result ≡ same (name_at names.now number) (name_at names.now other) }
+{
+    place(names, number) == place(names, other)
 }

@@ -9,7 +9,7 @@ use Rattle.vframes.specs.View.{type_of, types_in}
 use Rattle.vframes.specs.FrameView.{types_of}
 use Rattle.type_rows.specs.Sites.{leads_in}
 use Rattle.type_rules.specs.Frames.{type_of as type_of_kind}
-use Rattle.type_rows.specs.Sites.{is_plain}
+use Rattle.type_rows.specs.Items.{is_plain}
 use Rattle.type_rows.proofs.Settings.{leads_is, room_is, args_at, call_ends, ends_full, ends_plain}
 use Rattle.type_rows.proofs.jump_rows.goto.Goals as goal
 

@@ -9,7 +9,7 @@ use Rattle.vframes.specs.View.{type_of, types_in}
 use Rattle.vframes.specs.FrameView.{types_of}
 use Rattle.type_rows.specs.Sites.{leads_in, IsSettingOf}
 use Rattle.type_rules.specs.Frames.{type_of as type_of_kind}
-use Rattle.type_rows.specs.Sites.{is_plain}
+use Rattle.type_rows.specs.Items.{is_plain}
 use Rattle.std.specs.Prelude.{nat_lt}
 use Rattle.program_rules.specs.Names.{is_array_name}
 use Rattle.type_rows.proofs.Settings.{array_by_dimensions, leads_is, room_is, args_at, call_ends, ends_full, ends_plain}
