@@ -63,7 +63,8 @@ fn operands_of<'a>(slots: &'a [Slot], f: &Frame) -> &'a [Slot]
 fn put_instance(slots: &mut Vec<Slot>, instance: Option<u32>) -> Result<u16, Memory>
     ensures words { IfOk result (λ n. n ≡ instance_words instance) }
     ensures within { IfOk result (λ n. n ≤ length slots.new.items) }
-    ensures locals { IfOk result (λ n. locals_in (take n slots.new.items) ≡ locals_of (instance_args instance)) }
+    ensures locals { IfOk result (λ n.
+        locals_in (take n slots.new.items) ≡ locals_of (instance_args instance)) }
 {
     let Some(number) = instance else {
         return Ok(0);
@@ -90,7 +91,8 @@ impl Frames {
 
     /// Where the running frame stands.
     pub fn place(&self) -> Option<Place>
-        ensures some { IfSome result (λ r. IsSomeAnd self.now.frame (IsAt r.class.0 r.method r.at)) }
+        ensures some { IfSome result (λ r.
+            IsSomeAnd self.now.frame (IsAt r.class.0 r.method r.at)) }
         ensures none { IfNone result (self.now.frame ≡ None) }
     {
         let frame = self.frame?;
@@ -113,7 +115,8 @@ impl Frames {
 
     /// The value on the top of the running frame's stack.
     pub fn top(&self) -> Option<Value>
-        ensures some { IfSome result (λ v. IsSomeAnd self.now.frame (λ f. f.stack ≡ v ∷ drop 1 f.stack)) }
+        ensures some { IfSome result (λ v.
+            IsSomeAnd self.now.frame (λ f. f.stack ≡ v ∷ drop 1 f.stack)) }
         ensures none { IfNone result (IfSome self.now.frame (λ f. f.stack ≡ [])) }
     {
         let frame = self.frame?;
@@ -123,8 +126,10 @@ impl Frames {
 
     /// The arguments of these kinds on the stack of the running frame, if they are there.
     pub fn args(&self, kinds: &[Kind]) -> Option<Args>
-        ensures some { IfSome result (λ a. HasArgs (map kind_of kinds.now) a.count a.words self.now) }
-        ensures none { IfNone result (IfSome self.now.frame (λ f. NoArgs (map kind_of kinds.now) f.stack)) }
+        ensures some { IfSome result (λ a.
+            HasArgs (map kind_of kinds.now) a.count a.words self.now) }
+        ensures none { IfNone result (
+            IfSome self.now.frame (λ f. NoArgs (map kind_of kinds.now) f.stack)) }
     {
         let frame = self.frame?;
         let below = below_args(kinds, operands_of(&self.slots, &frame), frame.sp)?;
@@ -137,10 +142,11 @@ impl Frames {
     /// The values of arguments.
     pub fn values(&self, alloc: Global, args: Args) -> Result<Vec<Value>, Memory>
         requires { HasWords args.count args.words self.now }
-        ensures { IfOk result (λ vs. IsSomeAnd self.now.frame (λ f. vs.items ≡ args_on args.count f.stack)) }
+        ensures { IfOk result (λ vs.
+            IsSomeAnd self.now.frame (λ f. vs.items ≡ args_on args.count f.stack)) }
     {
         let Some(frame) = self.frame else {
-            return Err(Memory);
+            unreachable!()
         };
         top_values(
             alloc,
@@ -205,10 +211,11 @@ impl Frames {
     ) -> Result<(), Memory>
         requires args { HasWords args.count args.words self.old }
         requires fit { args.words ≤ max_locals }
-        ensures { OnOk result (IsCalled args.count class.0 method max_locals max_stack self.old self.new) }
+        ensures { OnOk result (
+            IsCalled args.count class.0 method max_locals max_stack self.old self.new) }
     {
         let Some(mut caller) = self.frame else {
-            return Err(Memory);
+            unreachable!()
         };
         let from = caller.floor + caller.sp;
         let callee = enter(
@@ -238,7 +245,8 @@ impl Frames {
         requires frame { self.old.frame ≡ None }
         requires callers { self.old.callers ≡ [] }
         requires fit { instance_words instance ≤ max_locals }
-        ensures { OnOk result (self.new ≡ first_frame instance class.0 method max_locals max_stack) }
+        ensures { OnOk result (
+            self.new ≡ first_frame instance class.0 method max_locals max_stack) }
     {
         let words = put_instance(&mut self.slots, instance)?;
         let callee = enter(

@@ -54,8 +54,10 @@ fn is_of_kind(kind: &Kind, v: Value) -> bool
 /// the values there are not of these kinds.
 pub fn below_args(kinds: &[Kind], operands: &[Slot], sp: usize) -> Option<usize>
     requires { IsStack operands.now sp }
-    ensures some { IfSome result (λ below. TakesArgs (map kind_of kinds.now) (stack_in operands.now sp)) }
-    ensures words { IfSome result (λ below. AreWordsAbove (length kinds.now) below operands.now sp) }
+    ensures some { IfSome result (λ below.
+        TakesArgs (map kind_of kinds.now) (stack_in operands.now sp)) }
+    ensures words { IfSome result (λ below.
+        AreWordsAbove (length kinds.now) below operands.now sp) }
     ensures none { IfNone result (NoArgs (map kind_of kinds.now) (stack_in operands.now sp)) }
 {
     let mut rest = sp;
@@ -88,7 +90,7 @@ pub fn top_values(
     let mut rest = sp;
     while values.len() < count {
         let Some((v, below)) = top_value(operands, rest) else {
-            return Err(Memory);
+            unreachable!()
         };
         values.push(v)?;
         rest = below;
