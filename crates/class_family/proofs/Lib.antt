@@ -1,0 +1,7 @@
+mod Pushing
+mod Levels
+mod Upwards
+mod Onces
+mod Numbered
+mod Walking
+mod Searches

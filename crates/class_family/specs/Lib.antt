@@ -1,0 +1,4 @@
+pub mod Once
+pub mod Families
+pub mod Laws
+pub mod Walks

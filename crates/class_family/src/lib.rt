@@ -1,0 +1,12 @@
+//! What a search over a class and all above it goes over, by number: each class once.
+#![tactic(auto)]
+
+pub mod laws;
+mod rising;
+mod seen;
+mod steps;
+mod tasks;
+mod walker;
+
+pub use rising::superclass;
+pub use walker::Walker;

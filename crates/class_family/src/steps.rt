@@ -1,0 +1,49 @@
+//! The supers to which a walk goes on from a class of a program.
+#![tactic(auto, unfolding(class_link::specs::View::linked_of))]
+
+ghost use Rattle.std.specs.Prelude.{◌≡◌, ◌<◌, length, IfOk, OnOk};
+ghost use Rattle.std.specs.Option.{is_some};
+ghost use Rattle.program_rules.specs.Linked.{is_interface};
+ghost use Rattle.program_rules.specs.Programs.{Order};
+ghost use Rattle.class_link.specs.Info.{class_of};
+ghost use Rattle.class_table.specs.Table.{look, name_at};
+ghost use Rattle.class_family.specs.Walks.{order_of, AddsSteps};
+
+use crate::tasks::{Task, Way, push_steps};
+use class_model::{ClassId, Memory};
+use class_table::{ClassInfo, Program};
+
+/// Whether a class names a superclass.
+pub fn names_superclass(info: &ClassInfo) -> bool
+    ensures { result ≡ is_some (class_of info.now).parent }
+{
+    info.linked().parent.is_some()
+}
+
+// Bit 9 is ACC_INTERFACE (JVMS 4.1).
+fn is_interface(info: &ClassInfo) -> bool
+    ensures { result ≡ is_interface (class_of info.now).flags }
+{
+    info.linked().flags / 512 % 2 == 1
+}
+
+/// The supers to which a walk goes on from a class are entered before all else.
+pub fn enter_steps(
+    program: &Program,
+    way: Way,
+    tasks: &mut Vec<Task>,
+    id: ClassId,
+) -> Result<(), Memory>
+    requires { id.0 < length program.now }
+    ensures { OnOk result (AddsSteps (order_of way) program.now id.0 tasks.old.items tasks.new.items) }
+{
+    let info = program.info(id);
+    push_steps(
+        tasks,
+        way,
+        program.links(id),
+        names_superclass(info),
+        is_interface(info),
+    )?;
+    Ok(())
+}
