@@ -14,8 +14,12 @@ mod map_codes;
 mod rows;
 mod util_rows;
 
+pub use assertion_codes::{ASSERT_EQUAL_OBJECTS, ASSERT_UNEQUAL_OBJECTS};
 pub use groups::classes;
 pub use laws::{
     classes_have_supers, names_differ, numbers_are_places, written_calls_are_found,
     written_methods_are_typed,
 };
+pub use list_codes::LIST_REMOVE;
+pub use map_codes::{FIND_ENTRY, MAP_PUT};
+pub use rows::{CodeRow, ConstRow, InsnRow};

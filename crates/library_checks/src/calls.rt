@@ -1,8 +1,8 @@
 //! Calls of native methods, each with the contract of the real one: what wrong bodies are tried on.
 
 ghost use Rattle.std.specs.Prelude.{IfOk};
-ghost use Rattle.program_rules.specs.Natives.{integer_value_of};
-ghost use Rattle.library_rules.specs.Texts.{substring, text_hash, compare_any_text, append_int};
+ghost use Rattle.program_rules.specs.Natives.{append_text, integer_value_of};
+ghost use Rattle.library_rules.specs.Texts.{substring, text_hash, compare_any_text};
 ghost use Rattle.library_rules.specs.Numbers.{parse_int};
 ghost use Rattle.library_rules.specs.Objects.{cause};
 ghost use Rattle.lib_core.specs.Answers.{Answers, AnswersAmong, AnswersKnown};
@@ -28,8 +28,8 @@ pub fn substring(
 ) -> Result<Deed, Memory>
     ensures { IfOk result (λ d. AnswersKnown known.now substring objects.now args.now d) }
 {
-    let deed = text_deed(alloc, known, TextNative::Substring, objects, args)?;
-    Ok(deed)
+    let part = text_deed(alloc, known, TextNative::Substring, objects, args)?;
+    Ok(part)
 }
 
 /// `String.hashCode()`
@@ -41,8 +41,8 @@ pub fn text_hash(
 ) -> Result<Deed, Memory>
     ensures { IfOk result (λ d. AnswersKnown known.now text_hash objects.now args.now d) }
 {
-    let deed = text_deed(alloc, known, TextNative::Hash, objects, args)?;
-    Ok(deed)
+    let hash = text_deed(alloc, known, TextNative::Hash, objects, args)?;
+    Ok(hash)
 }
 
 /// `String.compareTo(Object)`
@@ -54,16 +54,16 @@ pub fn compare_any(
 ) -> Result<Deed, Memory>
     ensures { IfOk result (λ d. AnswersKnown known.now compare_any_text objects.now args.now d) }
 {
-    let deed = text_deed(alloc, known, TextNative::CompareAny, objects, args)?;
-    Ok(deed)
+    let order = text_deed(alloc, known, TextNative::CompareAny, objects, args)?;
+    Ok(order)
 }
 
-/// `StringBuilder.append(I)`
-pub fn append_int(alloc: Global, objects: &[Object], args: &[Value]) -> Result<Deed, Memory>
-    ensures { IfOk result (λ d. Answers append_int objects.now args.now d) }
+/// `StringBuilder.append(String)`
+pub fn append_text(alloc: Global, objects: &[Object], args: &[Value]) -> Result<Deed, Memory>
+    ensures { IfOk result (λ d. Answers append_text objects.now args.now d) }
 {
-    let deed = builder_deed(alloc, BuilderNative::AppendInt, objects, args)?;
-    Ok(deed)
+    let appended = builder_deed(alloc, BuilderNative::AppendText, objects, args)?;
+    Ok(appended)
 }
 
 /// `Integer.valueOf(I)`
@@ -74,11 +74,12 @@ pub fn integer_value_of(
     objects: &[Object],
     args: &[Value],
 ) -> Result<Deed, Memory>
-    ensures { IfOk result (λ d. IsKnown names.now known.now → AnswersAmong names.now integer_value_of objects.now args.now d) }
+    ensures { IfOk result (λ d. IsKnown names.now known.now →
+        AnswersAmong names.now integer_value_of objects.now args.now d) }
 {
     let native = LangNative::Box(BoxNative::OfInt);
-    let deed = lang_deed(alloc, names, known, native, objects, args)?;
-    Ok(deed)
+    let boxed = lang_deed(alloc, names, known, native, objects, args)?;
+    Ok(boxed)
 }
 
 /// `Integer.parseInt(String)`
@@ -89,11 +90,12 @@ pub fn parse_int(
     objects: &[Object],
     args: &[Value],
 ) -> Result<Deed, Memory>
-    ensures { IfOk result (λ d. IsKnown names.now known.now → AnswersAmong names.now parse_int objects.now args.now d) }
+    ensures { IfOk result (λ d. IsKnown names.now known.now →
+        AnswersAmong names.now parse_int objects.now args.now d) }
 {
     let native = LangNative::Number(NumberNative::ParseInt);
-    let deed = lang_deed(alloc, names, known, native, objects, args)?;
-    Ok(deed)
+    let number = lang_deed(alloc, names, known, native, objects, args)?;
+    Ok(number)
 }
 
 /// `Throwable.getCause()`
@@ -104,9 +106,10 @@ pub fn cause(
     objects: &[Object],
     args: &[Value],
 ) -> Result<Deed, Memory>
-    ensures { IfOk result (λ d. IsKnown names.now known.now → AnswersAmong names.now cause objects.now args.now d) }
+    ensures { IfOk result (λ d. IsKnown names.now known.now →
+        AnswersAmong names.now cause objects.now args.now d) }
 {
     let native = LangNative::Throwable(ThrowableNative::Cause);
-    let deed = lang_deed(alloc, names, known, native, objects, args)?;
-    Ok(deed)
+    let cause = lang_deed(alloc, names, known, native, objects, args)?;
+    Ok(cause)
 }
