@@ -1,0 +1,11 @@
+//! Whether code is accepted: the verification of a class by the frames that its methods state
+//! (JVMS 4.10.1).
+#![tactic(auto)]
+
+mod names;
+mod shapes;
+mod types;
+
+pub use names::Names;
+pub use shapes::{Difference, Shape, differences};
+pub use types::{kind_type, kind_types, stated_type, stated_types};
