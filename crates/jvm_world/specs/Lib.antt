@@ -1,0 +1,4 @@
+pub mod Holding
+pub mod Classes
+pub mod Scripts
+pub mod View

@@ -1,0 +1,19 @@
+//! What a machine has beside its frames, as one value: heap, statics, how far classes have come,
+//! objects that are made once, monitors, what was used, and the script.
+#![tactic(auto)]
+
+mod classes;
+mod made;
+mod monitors;
+mod script;
+mod statics;
+mod text;
+mod values;
+mod world;
+
+pub use classes::MachineClasses;
+pub use made::Made;
+pub use monitors::Monitors;
+pub use script::Script;
+pub use statics::Statics;
+pub use world::World;

@@ -1,0 +1,132 @@
+//! The open monitorenters of objects.
+
+ghost use Rattle.std.specs.Prelude.{◌≡◌, ℕ, ◌+◌, ◌-◌, ◌<◌, ◌^◌, nat_eq, if◌then◌else◌, [], length, Ok, true, false, OnOk, OnErr, IfOk};
+ghost use Rattle.std.proofs.Common.{get_or};
+ghost use Rattle.jvm_world.specs.Holding.{opened, Opens, AreOpened};
+
+use class_model::Memory;
+use jvm_marks::Marks;
+use std::alloc::Global;
+use std::marker::Model;
+
+/// How many monitorenters of each object are open, for each object up to the last one that had
+/// any, and the objects that had.
+#[derive(Drop)]
+pub struct Monitors {
+    counts: Vec<u64>,
+    touched: Marks,
+}
+
+impl Model for Monitors {
+    ghost use Rattle.std.specs.Prelude.{List, ℕ};
+    ghost use Rattle.jvm_world.specs.Holding.{AreOpened};
+
+    ghost Value = { List ℕ };
+
+    ghost view = { λ m. m.counts.items };
+
+    ghost invariant = { λ m. AreOpened m.counts.items m.touched };
+}
+
+impl Monitors {
+    /// None is open.
+    pub fn new(alloc: Global) -> Monitors
+        ensures { result ≡ [] }
+    {
+        Monitors {
+            counts: Vec::new(alloc),
+            touched: Marks::new(alloc),
+        }
+    }
+
+    /// How many are open for an object.
+    pub fn count(&self, object: u32) -> u64
+        ensures { result ≡ opened object self.now }
+    {
+        count_in(&self.counts, object as usize)
+    }
+
+    /// One more is open for an object. Where memory runs out each object has as many as before.
+    pub fn open(&mut self, object: u32) -> Result<(), Memory>
+        requires { opened object self.old + 1 < 2 ^ 64 }
+        ensures opened { OnOk result (Opens object (opened object self.old + 1) self.old self.new) }
+        ensures err { OnErr result ((x : ℕ) → opened x self.new ≡ opened x self.old) }
+    {
+        self.touched.note(object)?;
+        make_count(&mut self.counts, object as usize)?;
+        let count = count_in(&self.counts, object as usize);
+        put_count(&mut self.counts, object as usize, count + 1);
+        Ok(())
+    }
+
+    /// One less is open for an object. It is false, and nothing changes, where none was.
+    pub fn close(&mut self, object: u32) -> bool
+        ensures closed { result ≡ true → Opens object (opened object self.old - 1) self.old self.new }
+        ensures there { result ≡ true → 0 < opened object self.old }
+        ensures none { result ≡ false → opened object self.old ≡ 0 }
+        ensures same { result ≡ false → self.new ≡ self.old }
+    {
+        let count = count_in(&self.counts, object as usize);
+        if count == 0 {
+            return false;
+        }
+        put_count(&mut self.counts, object as usize, count - 1);
+        true
+    }
+
+    /// None is open. It takes the time of the objects that had any.
+    pub fn clear(&mut self)
+        ensures { (x : ℕ) → opened x self.new ≡ 0 }
+    {
+        close_all(&mut self.counts, self.touched.numbers());
+        self.touched.clear();
+    }
+}
+
+// How many are open for an object.
+fn count_in(counts: &[u64], object: usize) -> u64
+    ensures { result ≡ opened object counts.now }
+{
+    let Some(count) = counts.get(object) else {
+        return 0;
+    };
+    *count
+}
+
+// Makes place for a count.
+fn make_count(counts: &mut Vec<u64>, at: usize) -> Result<(), Memory>
+    ensures same { (x : ℕ) → opened x counts.new.items ≡ opened x counts.old.items }
+    ensures place { OnOk result (at < length counts.new.items) }
+{
+    while counts.len() <= at {
+        counts.push(0)?;
+    }
+    Ok(())
+}
+
+// Puts a count where there is place for it.
+fn put_count(counts: &mut [u64], at: usize, count: u64)
+    requires { at < length counts.old }
+    ensures { Opens at count counts.old counts.new }
+{
+    counts[at] = count;
+}
+
+// Closes all of an object.
+fn close_one(counts: &mut [u64], object: usize)
+    ensures { Opens object 0 counts.old counts.new }
+{
+    if object < counts.len() {
+        counts[object] = 0;
+    }
+}
+
+// Closes all of these objects.
+fn close_all(counts: &mut [u64], objects: &[u32])
+    requires { AreOpened counts.old objects.now }
+    ensures { (x : ℕ) → opened x counts.new ≡ 0 }
+{
+    for object in objects {
+        close_one(counts, *object as usize);
+    }
+}

@@ -1,0 +1,19 @@
+//! Values that no one stored.
+
+ghost use Rattle.std.specs.Prelude.{◌≡◌};
+ghost use Rattle.program_rules.specs.Kinds.{default_of};
+ghost use Rattle.class_link.specs.Symbols.{kind_of};
+
+use class_model::Kind;
+use program_rules::Value;
+
+/// What a field or an element of a kind holds at first (JVMS 2.3, 2.4).
+pub fn default_value(kind: &Kind) -> Value
+    ensures { result ≡ default_of (kind_of kind.now) }
+{
+    match kind {
+        Kind::Long => Value::Long(0),
+        Kind::Ref(_) => Value::Null,
+        Kind::Boolean | Kind::Byte | Kind::Char | Kind::Short | Kind::Int => Value::Int(0),
+    }
+}
