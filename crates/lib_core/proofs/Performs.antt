@@ -1,6 +1,6 @@
 -- The world that the heap of the code stands for, behind each deed.
-use Rattle.std.proofs.Common.{◌≡◌, ◌∙◌, sym, refl, ap, ℕ, zero, suc, ◌+◌, Bool, true, false, List, [], ◌∷◌, ◌++◌, map, length, Option, None, Some}
-use Rattle.std.specs.Prelude.{ℤ, nat_le, if◌then◌else◌}
+use Rattle.std.proofs.Common.{◌≡◌, ◌∙◌, sym, refl, ap, subst, ℕ, zero, suc, ◌+◌, Bool, true, false, List, [], ◌∷◌, ◌++◌, map, length, Option, None, Some}
+use Rattle.std.specs.Prelude.{ℤ, nat_le, if◌then◌else◌, slice_set, IsSome}
 use Rattle.std.specs.Option.{option_map}
 use Rattle.std.proofs.lemmas.List.{map-set, set-set, map_push, length-map}
 use Rattle.std.proofs.lemmas.Option.{slice_get-map}
@@ -48,6 +48,33 @@ object_none ns os x place e h =
 words_there : (heap : Contents) (words x : ℕ) → object_at (with_words heap words) x ≡ object_at heap x
 words_there heap words zero = refl
 words_there heap words (suc n) = refl
+
+set_there :
+    (os : List Object) (n : ℕ) (o : Object) → IsSome (slice_get os n) →
+    IsSome (slice_get (slice_set os n o) n)
+set_there [] n o h = h
+set_there (x ∷ xs) zero o h = refl
+set_there (x ∷ xs) (suc n) o h = set_there xs n o h
+
+put_there :
+    (heap : Contents) (x : ℕ) (o : Object) → IsSome (object_at heap x) →
+    IsSome (object_at (with_object_at heap x o) x)
+put_there heap zero o h = h
+put_there heap (suc n) o h = set_there heap.objects n o h
+
+-- an object is there once the heap has grown, and once another one was put in its place
+pub grown_there :
+    (old grown : Contents) (words x : ℕ) → grown ≡ with_words old words →
+    IsSome (object_at old x) → IsSome (object_at grown x)
+grown_there old grown words x g h =
+    subst (λ (o : Option Object). IsSome o)
+    (sym (words_there old words x) ∙ sym (ap (λ (c : Contents). object_at c x) g)) h
+
+pub put_is_there :
+    (old new : Contents) (x : ℕ) (o : Object) → new ≡ with_object_at old x o →
+    IsSome (object_at old x) → IsSome (object_at new x)
+put_is_there old new x o e h =
+    subst (λ (c : Contents). IsSome (object_at c x)) (sym e) (put_there old x o h)
 
 put_twice :
     (heap : Contents) (x : ℕ) (a b : Object) →

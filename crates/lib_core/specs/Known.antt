@@ -4,8 +4,10 @@ use Rattle.program_rules.specs.declared.making.Making.{Making}
 use Rattle.program_rules.specs.declared.making.Making.TheVariants as making
 use Rattle.program_rules.specs.Names.{Name, same}
 use Rattle.program_rules.specs.Deeds.{making_name}
+use Rattle.library_rules.specs.Arguments.{is_made_of}
+use Rattle.jvm_values.specs.declared.object.Object.{Object}
 use Rattle.lib_core.specs.declared.known.Known.{Known}
-use Rattle.lib_core.specs.View.{name_at}
+use Rattle.lib_core.specs.View.{name_at, object_of}
 
 abbrev pub known_id : Known → Making → ℕ
 known_id k making.Text = k.text.0
@@ -38,4 +40,9 @@ is_text_class making.Boolean = false
 -- make objects, and no other class has such a name.
 pub record IsKnown (ns : List Name) (k : Known) : Type 0 where
   pub named : (m : Making) → name_at ns (known_id k m) ≡ making_name m
-  pub alone : (m : Making) (id : ℕ) → same (name_at ns id) (making_name m) ≡ nat_eq id (known_id k m)
+  pub alone : (m : Making) (id : ℕ) →
+      same (name_at ns id) (making_name m) ≡ nat_eq id (known_id k m)
+
+-- This says whether an object is of the very class.
+abbrev pub TellsMade : Known → Making → Object → Bool → Type 0
+TellsMade k m o b = (ns : List Name) → IsKnown ns k → is_made_of m (object_of ns o) ≡ b

@@ -1,9 +1,8 @@
 //! An object is changed.
 
-ghost use Rattle.std.specs.Prelude.{◌≡◌, ◌++◌, ◌≤◌, ◌<◌, List, slice_set, IfOk};
-ghost use Rattle.program_rules.specs.Names.{Name};
-ghost use Rattle.program_rules.specs.Deeds.{with_change, insert_item, remove_item, remove_entry};
-ghost use Rattle.lib_core.specs.View.{object_of, change_of};
+ghost use Rattle.std.specs.Prelude.{◌≡◌, ◌++◌, ◌≤◌, ◌<◌, slice_set, IfOk};
+ghost use Rattle.program_rules.specs.Deeds.{insert_item, remove_item, remove_entry};
+ghost use Rattle.lib_core.specs.Performed.{IsAltered};
 
 use crate::deed::Change;
 use class_model::{Memory, Seq};
@@ -64,7 +63,7 @@ fn add_items(items: Seq<Value>, more: Seq<Value>) -> Result<Seq<Value>, Memory>
 
 /// The object once it is changed.
 pub fn change_object(object: Object, change: Change) -> Result<Object, Memory>
-    ensures { IfOk result (λ o. (ns : List Name) → object_of ns o ≡ with_change (change_of change) (object_of ns object)) }
+    ensures { IfOk result (λ o. IsAltered change object o) }
 {
     let mut object = object;
     match change {

@@ -1,10 +1,7 @@
 //! The classes of which native methods make objects.
 
-ghost use Rattle.std.specs.Prelude.{◌≡◌, List};
-ghost use Rattle.program_rules.specs.Names.{Name};
-ghost use Rattle.library_rules.specs.Arguments.{is_made_of};
-ghost use Rattle.lib_core.specs.View.{object_of};
-ghost use Rattle.lib_core.specs.Known.{known_id, is_text_class, IsKnown};
+ghost use Rattle.std.specs.Prelude.{◌≡◌};
+ghost use Rattle.lib_core.specs.Known.{known_id, is_text_class, TellsMade};
 
 use class_model::ClassId;
 use jvm_values::{ObjKind, Object};
@@ -48,7 +45,7 @@ impl Known {
 
     /// Whether an object is of this very class.
     pub fn is_made_of(&self, making: Making, object: &Object) -> bool
-        ensures { (ns : List Name) → IsKnown ns self.now → is_made_of making (object_of ns object.now) ≡ result }
+        ensures { TellsMade self.now making object.now result }
     {
         match &object.kind {
             ObjKind::Plain(class) => class.0 == self.id(making).0,

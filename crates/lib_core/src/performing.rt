@@ -1,15 +1,11 @@
 //! What is to be done for a native method is done to the heap and to the boxes that are kept.
 
-ghost use Rattle.std.specs.Prelude.{◌≡◌, ◌+◌, ◌++◌, ◌∷◌, [], List, Some, None, map, length, true, false, IfOk, OnOk, IfErr, IsSome};
-ghost use Rattle.program_rules.specs.Names.{Name as DefName};
+ghost use Rattle.std.specs.Prelude.{◌≡◌, ◌+◌, ◌++◌, ◌∷◌, [], Some, None, map, true, IfOk, OnOk, IsSome};
 ghost use Rattle.program_rules.specs.Deeds as deeds;
-ghost use Rattle.machine_rules.specs.State.{World};
-ghost use Rattle.machine_rules.specs.Performing.{performs, with_new, object_with, HeapFull, box_among, number_of};
-ghost use Rattle.jvm_values.specs.Contents.{object_at, fits_with};
-ghost use Rattle.jvm_values.specs.declared.kept.Kept.{Kept as KeptBy};
-ghost use Rattle.lib_core.specs.Known.{IsKnown};
-ghost use Rattle.lib_core.specs.Performed.{IsChanged, Does, IsRefused};
-ghost use Rattle.lib_core.specs.View.{object_of, change_of, deed_of, with_store, result_of, box_of};
+ghost use Rattle.machine_rules.specs.Performing.{object_with, box_among, number_of};
+ghost use Rattle.jvm_values.specs.Contents.{object_at, fits_with, with_object_at};
+ghost use Rattle.lib_core.specs.Performed.{OnFull, IsPassed, IsChanged, IsObject, IsAdded, DoesAlone, IsRefusedAlone, Does, IsRefused};
+ghost use Rattle.lib_core.specs.View.{change_of, deed_of, box_of};
 
 use crate::changing::change_object;
 use crate::deed::{Change, Deed};
@@ -39,6 +35,15 @@ fn placeholder(alloc: Global) -> Object {
     }
 }
 
+// The object of a number is exchanged with another one.
+fn exchange(heap: &mut Heap, at: u32, with: &mut Object)
+    requires { IsSome (object_at heap.old at) }
+    ensures heap { heap.new ≡ with_object_at heap.old at with.old }
+    ensures with { object_at heap.old at ≡ Some with.new }
+{
+    let _there = heap.exchange(at, with);
+}
+
 // The object of a number becomes what a change makes of it, and takes so many words more.
 fn change_at(
     alloc: Global,
@@ -49,20 +54,16 @@ fn change_at(
 ) -> Result<(), HeapFault>
     requires { IsSome (object_at heap.old at) }
     ensures changed { OnOk result (IsChanged heap.old heap.new at change words) }
-    ensures full { IfErr result (λ fault. fault ≡ HeapFault.Full → (fits_with heap.old words ≡ false) × (heap.new ≡ heap.old)) }
+    ensures full { OnFull result (IsPassed words heap.old heap.new) }
 {
     match heap.grow_by(at, words) {
         Ok(()) => {}
         Err(fault) => return Err(fault),
     }
     let mut object = placeholder(alloc);
-    if !heap.exchange(at, &mut object) {
-        return Err(HeapFault::Memory);
-    }
+    exchange(heap, at, &mut object);
     let mut changed = change_object(object, change)?;
-    if !heap.exchange(at, &mut changed) {
-        return Err(HeapFault::Memory);
-    }
+    exchange(heap, at, &mut changed);
     Ok(())
 }
 
@@ -74,8 +75,10 @@ fn change(
     words: u64,
     v: Option<Value>,
 ) -> Result<NativeEnd, HeapFault>
-    ensures done { IfOk result (λ e. (ns : List DefName) (w : World) (kept : KeptBy) → performs heap.old.limit (with_store ns heap.old kept w) (deeds.Changes at (change_of change) words v) ≡ result_of (with_store ns heap.new kept w) e) }
-    ensures full { IfErr result (λ fault. fault ≡ HeapFault.Full → (heap.new ≡ heap.old) × ((ns : List DefName) (w : World) (kept : KeptBy) → performs heap.old.limit (with_store ns heap.old kept w) (deeds.Changes at (change_of change) words v) ≡ HeapFull)) }
+    ensures done { IfOk result (λ e.
+        DoesAlone (deeds.Changes at (change_of change) words v) heap.old heap.new e) }
+    ensures full { OnFull result (
+        IsRefusedAlone (deeds.Changes at (change_of change) words v) heap.old heap.new) }
 {
     match heap.get(at) {
         Some(_) => {}
@@ -90,7 +93,7 @@ fn change(
 // ---- an object is made
 
 fn new_object(known: &Known, making: Making, text: Name, items: Seq<Value>) -> Object
-    ensures { (ns : List DefName) → IsKnown ns known.now → object_of ns result ≡ object_with making text items }
+    ensures { IsObject known.now result (object_with making text items) }
 {
     let values = items.empty();
     Object {
@@ -109,9 +112,10 @@ fn make(
     items: Seq<Value>,
     words: u64,
 ) -> Result<u32, HeapFault>
-    ensures made { IfOk result (λ x. (ns : List DefName) (w : World) (kept : KeptBy) → IsKnown ns known.now → (with_store ns heap.new kept w ≡ with_new (with_store ns heap.old kept w) (object_with making text items) (1 + words)) × (x ≡ length heap.old.objects + 1)) }
+    ensures made { IfOk result (λ x.
+        IsAdded known.now (object_with making text items) (1 + words) heap.old heap.new x) }
     ensures fits { OnOk result (fits_with heap.old (1 + words) ≡ true) }
-    ensures full { IfErr result (λ fault. fault ≡ HeapFault.Full → (fits_with heap.old (1 + words) ≡ false) × (heap.new ≡ heap.old)) }
+    ensures full { OnFull result (IsPassed (1 + words) heap.old heap.new) }
 {
     let object = new_object(known, making, text, items);
     match heap.add(object, words) {
@@ -169,7 +173,8 @@ fn box_for(boxes: &[KeptBox], class: Making, v: Value) -> Option<u32>
 }
 
 fn add_box(boxes: &mut Seq<KeptBox>, class: Making, v: Value, object: u32) -> Result<(), Memory>
-    ensures { OnOk result (boxes.new ≡ boxes.old ++ record { class = class; number = number_of v; object = object } ∷ []) }
+    ensures { OnOk result (boxes.new ≡ boxes.old
+        ++ record { class = class; number = number_of v; object = object } ∷ []) }
 {
     boxes.push(KeptBox {
         class,
@@ -187,8 +192,10 @@ fn give_box(
     making: Making,
     v: Value,
 ) -> Result<u32, HeapFault>
-    ensures done { IfOk result (λ x. Does known.now (deeds.Boxes making v) heap.old kept.old heap.new kept.new (NativeEnd.Returns (Some (Value.Ref x)))) }
-    ensures full { IfErr result (λ fault. fault ≡ HeapFault.Full → IsRefused known.now (deeds.Boxes making v) heap.old kept.old heap.new kept.new) }
+    ensures done { IfOk result (λ x. Does known.now (deeds.Boxes making v)
+        heap.old kept.old heap.new kept.new (NativeEnd.Returns (Some (Value.Ref x)))) }
+    ensures full { OnFull result (
+        IsRefused known.now (deeds.Boxes making v) heap.old kept.old heap.new kept.new) }
 {
     if let Some(x) = box_for(kept.boxes.as_slice(), making, v) {
         return Ok(x);
@@ -217,8 +224,10 @@ pub fn perform(
     kept: &mut Kept,
     deed: Deed,
 ) -> Result<NativeEnd, HeapFault>
-    ensures done { IfOk result (λ e. Does known.now (deed_of deed) heap.old kept.old heap.new kept.new e) }
-    ensures full { IfErr result (λ fault. fault ≡ HeapFault.Full → IsRefused known.now (deed_of deed) heap.old kept.old heap.new kept.new) }
+    ensures done { IfOk result (λ e.
+        Does known.now (deed_of deed) heap.old kept.old heap.new kept.new e) }
+    ensures full { OnFull result (
+        IsRefused known.now (deed_of deed) heap.old kept.old heap.new kept.new) }
 {
     match deed {
         Deed::Gives(v) => Ok(NativeEnd::Returns(v)),

@@ -1,15 +1,14 @@
 //! How native methods read their arguments, and what the arguments name. None is for arguments of
 //! another form, for which there is no row.
 
-ghost use Rattle.std.specs.Prelude.{◌≡◌, ℕ, ℤ, List, map, slice_get, Some, None, IfSome, IfNone, IfOk, IfErr};
+ghost use Rattle.std.specs.Prelude.{◌≡◌, slice_get, IfSome, IfNone, IfOk, IfErr};
 ghost use Rattle.std.specs.Option.{option_copied};
-ghost use Rattle.program_rules.specs.declared.value.Value.{Value};
-ghost use Rattle.program_rules.specs.Names.{Name};
-ghost use Rattle.program_rules.specs.Objects.{Object as Stated, object_at};
-ghost use Rattle.program_rules.specs.Deeds.{Deed as Done, NoDeed, value_object};
+ghost use Rattle.program_rules.specs.Objects.{object_at};
+ghost use Rattle.program_rules.specs.Deeds.{NoDeed, value_object};
 ghost use Rattle.program_rules.specs.Natives.{on_this, on_this_int, on_this_value, on_int};
 ghost use Rattle.library_rules.specs.Arguments.{on_receiver, on_receiver_int, on_receiver_value, on_this_ints, on_this_long, on_this_values, on_this_int_value, on_this_value_int, on_this_int_values, on_ints, on_long, on_longs, on_value, on_values, on_needed, on_text, is_ref_to, place_of};
-ghost use Rattle.lib_core.specs.View.{objects_of, object_of, deed_of};
+ghost use Rattle.lib_core.specs.View.{deed_of};
+ghost use Rattle.lib_core.specs.Forms.{Hands, HandsTwo, HandsThree, HandsFour, HandsNone, HandsObject, HandsObjectWith, HandsSeen, Ends, Finds, FindsNone};
 
 use crate::deed::Deed;
 use jvm_values::Object;
@@ -17,8 +16,8 @@ use program_rules::{Fault, Value};
 
 /// The receiver.
 pub fn this(args: &[Value]) -> Option<u32>
-    ensures some { IfSome result (λ x. (go : ℕ → Done) → on_this args.now go ≡ go x) }
-    ensures none { IfNone result ((go : ℕ → Done) → on_this args.now go ≡ NoDeed) }
+    ensures some { IfSome result (λ x. Hands (on_this args.now) x) }
+    ensures none { IfNone result (HandsNone (on_this args.now)) }
 {
     match args {
         [Value::Ref(x)] => Some(*x),
@@ -28,8 +27,8 @@ pub fn this(args: &[Value]) -> Option<u32>
 
 /// The receiver and an int.
 pub fn this_int(args: &[Value]) -> Option<(u32, i32)>
-    ensures some { IfSome result (λ x. (go : ℕ → ℤ → Done) → on_this_int args.now go ≡ go x.0 x.1) }
-    ensures none { IfNone result ((go : ℕ → ℤ → Done) → on_this_int args.now go ≡ NoDeed) }
+    ensures some { IfSome result (λ x. HandsTwo (on_this_int args.now) x.0 x.1) }
+    ensures none { IfNone result (HandsNone (on_this_int args.now)) }
 {
     match args {
         [Value::Ref(x), Value::Int(z)] => Some((*x, *z)),
@@ -39,8 +38,8 @@ pub fn this_int(args: &[Value]) -> Option<(u32, i32)>
 
 /// The receiver and two ints.
 pub fn this_ints(args: &[Value]) -> Option<(u32, i32, i32)>
-    ensures some { IfSome result (λ x. (go : ℕ → ℤ → ℤ → Done) → on_this_ints args.now go ≡ go x.0 x.1 x.2) }
-    ensures none { IfNone result ((go : ℕ → ℤ → ℤ → Done) → on_this_ints args.now go ≡ NoDeed) }
+    ensures some { IfSome result (λ x. HandsThree (on_this_ints args.now) x.0 x.1 x.2) }
+    ensures none { IfNone result (HandsNone (on_this_ints args.now)) }
 {
     match args {
         [Value::Ref(x), Value::Int(y), Value::Int(z)] => Some((*x, *y, *z)),
@@ -50,8 +49,8 @@ pub fn this_ints(args: &[Value]) -> Option<(u32, i32, i32)>
 
 /// The receiver and a long.
 pub fn this_long(args: &[Value]) -> Option<(u32, i64)>
-    ensures some { IfSome result (λ x. (go : ℕ → ℤ → Done) → on_this_long args.now go ≡ go x.0 x.1) }
-    ensures none { IfNone result ((go : ℕ → ℤ → Done) → on_this_long args.now go ≡ NoDeed) }
+    ensures some { IfSome result (λ x. HandsTwo (on_this_long args.now) x.0 x.1) }
+    ensures none { IfNone result (HandsNone (on_this_long args.now)) }
 {
     match args {
         [Value::Ref(x), Value::Long(z)] => Some((*x, *z)),
@@ -61,8 +60,8 @@ pub fn this_long(args: &[Value]) -> Option<(u32, i64)>
 
 /// The receiver and any value.
 pub fn this_value(args: &[Value]) -> Option<(u32, Value)>
-    ensures some { IfSome result (λ x. (go : ℕ → Value → Done) → on_this_value args.now go ≡ go x.0 x.1) }
-    ensures none { IfNone result ((go : ℕ → Value → Done) → on_this_value args.now go ≡ NoDeed) }
+    ensures some { IfSome result (λ x. HandsTwo (on_this_value args.now) x.0 x.1) }
+    ensures none { IfNone result (HandsNone (on_this_value args.now)) }
 {
     match args {
         [Value::Ref(x), v] => Some((*x, *v)),
@@ -72,8 +71,8 @@ pub fn this_value(args: &[Value]) -> Option<(u32, Value)>
 
 /// The receiver and two values.
 pub fn this_values(args: &[Value]) -> Option<(u32, Value, Value)>
-    ensures some { IfSome result (λ x. (go : ℕ → Value → Value → Done) → on_this_values args.now go ≡ go x.0 x.1 x.2) }
-    ensures none { IfNone result ((go : ℕ → Value → Value → Done) → on_this_values args.now go ≡ NoDeed) }
+    ensures some { IfSome result (λ x. HandsThree (on_this_values args.now) x.0 x.1 x.2) }
+    ensures none { IfNone result (HandsNone (on_this_values args.now)) }
 {
     match args {
         [Value::Ref(x), u, v] => Some((*x, *u, *v)),
@@ -83,8 +82,8 @@ pub fn this_values(args: &[Value]) -> Option<(u32, Value, Value)>
 
 /// The receiver, an int and any value.
 pub fn this_int_value(args: &[Value]) -> Option<(u32, i32, Value)>
-    ensures some { IfSome result (λ x. (go : ℕ → ℤ → Value → Done) → on_this_int_value args.now go ≡ go x.0 x.1 x.2) }
-    ensures none { IfNone result ((go : ℕ → ℤ → Value → Done) → on_this_int_value args.now go ≡ NoDeed) }
+    ensures some { IfSome result (λ x. HandsThree (on_this_int_value args.now) x.0 x.1 x.2) }
+    ensures none { IfNone result (HandsNone (on_this_int_value args.now)) }
 {
     match args {
         [Value::Ref(x), Value::Int(z), v] => Some((*x, *z, *v)),
@@ -94,8 +93,8 @@ pub fn this_int_value(args: &[Value]) -> Option<(u32, i32, Value)>
 
 /// The receiver, any value and an int.
 pub fn this_value_int(args: &[Value]) -> Option<(u32, Value, i32)>
-    ensures some { IfSome result (λ x. (go : ℕ → Value → ℤ → Done) → on_this_value_int args.now go ≡ go x.0 x.1 x.2) }
-    ensures none { IfNone result ((go : ℕ → Value → ℤ → Done) → on_this_value_int args.now go ≡ NoDeed) }
+    ensures some { IfSome result (λ x. HandsThree (on_this_value_int args.now) x.0 x.1 x.2) }
+    ensures none { IfNone result (HandsNone (on_this_value_int args.now)) }
 {
     match args {
         [Value::Ref(x), v, Value::Int(z)] => Some((*x, *v, *z)),
@@ -105,8 +104,8 @@ pub fn this_value_int(args: &[Value]) -> Option<(u32, Value, i32)>
 
 /// The receiver, an int and two values.
 pub fn this_int_values(args: &[Value]) -> Option<(u32, i32, Value, Value)>
-    ensures some { IfSome result (λ x. (go : ℕ → ℤ → Value → Value → Done) → on_this_int_values args.now go ≡ go x.0 x.1 x.2 x.3) }
-    ensures none { IfNone result ((go : ℕ → ℤ → Value → Value → Done) → on_this_int_values args.now go ≡ NoDeed) }
+    ensures some { IfSome result (λ x. HandsFour (on_this_int_values args.now) x.0 x.1 x.2 x.3) }
+    ensures none { IfNone result (HandsNone (on_this_int_values args.now)) }
 {
     match args {
         [Value::Ref(x), Value::Int(z), u, v] => Some((*x, *z, *u, *v)),
@@ -116,8 +115,8 @@ pub fn this_int_values(args: &[Value]) -> Option<(u32, i32, Value, Value)>
 
 /// One int.
 pub fn int(args: &[Value]) -> Option<i32>
-    ensures some { IfSome result (λ x. (go : ℤ → Done) → on_int args.now go ≡ go x) }
-    ensures none { IfNone result ((go : ℤ → Done) → on_int args.now go ≡ NoDeed) }
+    ensures some { IfSome result (λ x. Hands (on_int args.now) x) }
+    ensures none { IfNone result (HandsNone (on_int args.now)) }
 {
     match args {
         [Value::Int(z)] => Some(*z),
@@ -127,8 +126,8 @@ pub fn int(args: &[Value]) -> Option<i32>
 
 /// Two ints.
 pub fn ints(args: &[Value]) -> Option<(i32, i32)>
-    ensures some { IfSome result (λ x. (go : ℤ → ℤ → Done) → on_ints args.now go ≡ go x.0 x.1) }
-    ensures none { IfNone result ((go : ℤ → ℤ → Done) → on_ints args.now go ≡ NoDeed) }
+    ensures some { IfSome result (λ x. HandsTwo (on_ints args.now) x.0 x.1) }
+    ensures none { IfNone result (HandsNone (on_ints args.now)) }
 {
     match args {
         [Value::Int(y), Value::Int(z)] => Some((*y, *z)),
@@ -138,8 +137,8 @@ pub fn ints(args: &[Value]) -> Option<(i32, i32)>
 
 /// One long.
 pub fn long(args: &[Value]) -> Option<i64>
-    ensures some { IfSome result (λ x. (go : ℤ → Done) → on_long args.now go ≡ go x) }
-    ensures none { IfNone result ((go : ℤ → Done) → on_long args.now go ≡ NoDeed) }
+    ensures some { IfSome result (λ x. Hands (on_long args.now) x) }
+    ensures none { IfNone result (HandsNone (on_long args.now)) }
 {
     match args {
         [Value::Long(z)] => Some(*z),
@@ -149,8 +148,8 @@ pub fn long(args: &[Value]) -> Option<i64>
 
 /// Two longs.
 pub fn longs(args: &[Value]) -> Option<(i64, i64)>
-    ensures some { IfSome result (λ x. (go : ℤ → ℤ → Done) → on_longs args.now go ≡ go x.0 x.1) }
-    ensures none { IfNone result ((go : ℤ → ℤ → Done) → on_longs args.now go ≡ NoDeed) }
+    ensures some { IfSome result (λ x. HandsTwo (on_longs args.now) x.0 x.1) }
+    ensures none { IfNone result (HandsNone (on_longs args.now)) }
 {
     match args {
         [Value::Long(y), Value::Long(z)] => Some((*y, *z)),
@@ -160,8 +159,8 @@ pub fn longs(args: &[Value]) -> Option<(i64, i64)>
 
 /// Any value.
 pub fn value(args: &[Value]) -> Option<Value>
-    ensures some { IfSome result (λ x. (go : Value → Done) → on_value args.now go ≡ go x) }
-    ensures none { IfNone result ((go : Value → Done) → on_value args.now go ≡ NoDeed) }
+    ensures some { IfSome result (λ x. Hands (on_value args.now) x) }
+    ensures none { IfNone result (HandsNone (on_value args.now)) }
 {
     match args {
         [v] => Some(*v),
@@ -171,8 +170,8 @@ pub fn value(args: &[Value]) -> Option<Value>
 
 /// Two values.
 pub fn values(args: &[Value]) -> Option<(Value, Value)>
-    ensures some { IfSome result (λ x. (go : Value → Value → Done) → on_values args.now go ≡ go x.0 x.1) }
-    ensures none { IfNone result ((go : Value → Value → Done) → on_values args.now go ≡ NoDeed) }
+    ensures some { IfSome result (λ x. HandsTwo (on_values args.now) x.0 x.1) }
+    ensures none { IfNone result (HandsNone (on_values args.now)) }
 {
     match args {
         [u, v] => Some((*u, *v)),
@@ -188,8 +187,8 @@ fn at(objects: &[Object], place: usize) -> Option<&Object>
 
 /// The object of a number.
 pub fn object(objects: &[Object], number: u32) -> Option<&Object>
-    ensures some { IfSome result (λ o. (ns : List Name) → object_at (objects_of ns objects.now) number ≡ Some (object_of ns o.now)) }
-    ensures none { IfNone result ((ns : List Name) → object_at (objects_of ns objects.now) number ≡ None) }
+    ensures some { IfSome result (λ o. Finds (λ h. object_at h number) objects.now o.now) }
+    ensures none { IfNone result (FindsNone (λ h. object_at h number) objects.now) }
 {
     let place = number.checked_sub(1)?;
     match at(objects, place as usize) {
@@ -201,8 +200,9 @@ pub fn object(objects: &[Object], number: u32) -> Option<&Object>
 /// The receiver's object.
 #[tactic(auto, unfolding(library_rules::specs::Arguments::on_receiver))]
 pub fn receiver<'a>(objects: &'a [Object], args: &[Value]) -> Option<&'a Object>
-    ensures some { IfSome result (λ o. (ns : List Name) (go : Stated → Done) → on_receiver (objects_of ns objects.now) args.now go ≡ go (object_of ns o.now)) }
-    ensures none { IfNone result ((ns : List Name) (go : Stated → Done) → on_receiver (objects_of ns objects.now) args.now go ≡ NoDeed) }
+    ensures some { IfSome result (λ o.
+        HandsObject (λ h. on_receiver h args.now) objects.now o.now) }
+    ensures none { IfNone result (Ends (λ h. on_receiver h args.now) objects.now NoDeed) }
 {
     let Some(x) = this(args) else {
         return None;
@@ -216,8 +216,9 @@ pub fn receiver<'a>(objects: &'a [Object], args: &[Value]) -> Option<&'a Object>
 /// The receiver's object, and an int.
 #[tactic(auto, unfolding(library_rules::specs::Arguments::on_receiver_int))]
 pub fn receiver_int<'a>(objects: &'a [Object], args: &[Value]) -> Option<(&'a Object, i32)>
-    ensures some { IfSome result (λ x. (ns : List Name) (go : Stated → ℤ → Done) → on_receiver_int (objects_of ns objects.now) args.now go ≡ go (object_of ns x.0.now) x.1) }
-    ensures none { IfNone result ((ns : List Name) (go : Stated → ℤ → Done) → on_receiver_int (objects_of ns objects.now) args.now go ≡ NoDeed) }
+    ensures some { IfSome result (λ x.
+        HandsObjectWith (λ h. on_receiver_int h args.now) objects.now x.0.now x.1) }
+    ensures none { IfNone result (Ends (λ h. on_receiver_int h args.now) objects.now NoDeed) }
 {
     let Some((x, z)) = this_int(args) else {
         return None;
@@ -231,8 +232,9 @@ pub fn receiver_int<'a>(objects: &'a [Object], args: &[Value]) -> Option<(&'a Ob
 /// The receiver's object, and any value.
 #[tactic(auto, unfolding(library_rules::specs::Arguments::on_receiver_value))]
 pub fn receiver_value<'a>(objects: &'a [Object], args: &[Value]) -> Option<(&'a Object, Value)>
-    ensures some { IfSome result (λ x. (ns : List Name) (go : Stated → Value → Done) → on_receiver_value (objects_of ns objects.now) args.now go ≡ go (object_of ns x.0.now) x.1) }
-    ensures none { IfNone result ((ns : List Name) (go : Stated → Value → Done) → on_receiver_value (objects_of ns objects.now) args.now go ≡ NoDeed) }
+    ensures some { IfSome result (λ x.
+        HandsObjectWith (λ h. on_receiver_value h args.now) objects.now x.0.now x.1) }
+    ensures none { IfNone result (Ends (λ h. on_receiver_value h args.now) objects.now NoDeed) }
 {
     let Some((x, v)) = this_value(args) else {
         return None;
@@ -245,8 +247,8 @@ pub fn receiver_value<'a>(objects: &'a [Object], args: &[Value]) -> Option<(&'a 
 
 /// The object that a value names.
 pub fn value_object(objects: &[Object], v: Value) -> Option<&Object>
-    ensures some { IfSome result (λ o. (ns : List Name) → value_object (objects_of ns objects.now) v ≡ Some (object_of ns o.now)) }
-    ensures none { IfNone result ((ns : List Name) → value_object (objects_of ns objects.now) v ≡ None) }
+    ensures some { IfSome result (λ o. Finds (λ h. value_object h v) objects.now o.now) }
+    ensures none { IfNone result (FindsNone (λ h. value_object h v) objects.now) }
 {
     match v {
         Value::Ref(x) => match object(objects, x) {
@@ -259,8 +261,8 @@ pub fn value_object(objects: &[Object], v: Value) -> Option<&Object>
 
 /// The object that is needed, or what is to be done where there is none.
 pub fn needed<'a>(objects: &'a [Object], v: Value) -> Result<&'a Object, Deed>
-    ensures ok { IfOk result (λ o. (ns : List Name) (go : Stated → Done) → on_needed (objects_of ns objects.now) v go ≡ go (object_of ns o.now)) }
-    ensures err { IfErr result (λ d. (ns : List Name) (go : Stated → Done) → on_needed (objects_of ns objects.now) v go ≡ deed_of d) }
+    ensures ok { IfOk result (λ o. HandsObject (λ h. on_needed h v) objects.now o.now) }
+    ensures err { IfErr result (λ d. Ends (λ h. on_needed h v) objects.now (deed_of d)) }
 {
     match v {
         Value::Null => Err(Deed::Throws(Fault::NullPointerException)),
@@ -274,8 +276,8 @@ pub fn needed<'a>(objects: &'a [Object], v: Value) -> Result<&'a Object, Deed>
 
 /// The text that is needed, or what is to be done where there is none.
 pub fn text<'a>(objects: &'a [Object], v: Value) -> Result<&'a [u16], Deed>
-    ensures ok { IfOk result (λ units. (ns : List Name) (go : List ℕ → Done) → on_text (objects_of ns objects.now) v go ≡ go units.now) }
-    ensures err { IfErr result (λ d. (ns : List Name) (go : List ℕ → Done) → on_text (objects_of ns objects.now) v go ≡ deed_of d) }
+    ensures ok { IfOk result (λ units. HandsSeen (λ h. on_text h v) objects.now units.now) }
+    ensures err { IfErr result (λ d. Ends (λ h. on_text h v) objects.now (deed_of d)) }
 {
     match needed(objects, v) {
         Ok(o) => Ok(o.text.as_slice()),

@@ -25,7 +25,8 @@ fn object_deed(
     objects: &[Object],
     args: &[Value],
 ) -> Result<Deed, Memory>
-    ensures { IfOk result (λ d. AnswersAmong names.now (object_meaning native) objects.now args.now d) }
+    ensures { IfOk result (λ d.
+        AnswersAmong names.now (object_meaning native) objects.now args.now d) }
 {
     match native {
         ObjectNative::DoNothing => Ok(object::do_nothing(args)),
@@ -152,7 +153,8 @@ pub fn lang_deed(
     objects: &[Object],
     args: &[Value],
 ) -> Result<Deed, Memory>
-    ensures { IfOk result (λ d. IsKnown names.now known.now → AnswersAmong names.now (lang_meaning native) objects.now args.now d) }
+    ensures { IfOk result (λ d. IsKnown names.now known.now →
+        AnswersAmong names.now (lang_meaning native) objects.now args.now d) }
 {
     match native {
         LangNative::Object(native) => Ok(object_deed(alloc, names, native, objects, args)?),

@@ -190,7 +190,8 @@ fn class_with(
     interfaces: Seq<Name>,
     methods: Seq<LibMethod>,
 ) -> Result<LibClass, Memory>
-    ensures { IfOk result (λ c. c ≡ class_with flags text.now (Some parent.now) interfaces [] methods) }
+    ensures { IfOk result (λ c.
+        c ≡ class_with flags text.now (Some parent.now) interfaces [] methods) }
 {
     let named = name(alloc, text)?;
     let parent = name(alloc, parent)?;

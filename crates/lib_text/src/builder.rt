@@ -56,7 +56,8 @@ fn append(x: u32, units: Name) -> Deed
 
 // The units of an object, if there is one.
 fn object_units(alloc: Global, objects: &[Object], number: u32) -> Result<Option<Name>, Memory>
-    ensures { IfOk result (λ o. (ns : List Text) → text_in (object_at (objects_of ns objects.now) number) ≡ o) }
+    ensures { IfOk result (λ o. (ns : List Text) →
+        text_in (object_at (objects_of ns objects.now) number) ≡ o) }
 {
     match object(objects, number) {
         Some(object) => {

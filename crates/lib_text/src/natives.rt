@@ -20,7 +20,8 @@ pub fn text_deed(
     objects: &[Object],
     args: &[Value],
 ) -> Result<Deed, Memory>
-    ensures { IfOk result (λ d. AnswersKnown known.now (text_meaning native) objects.now args.now d) }
+    ensures { IfOk result (λ d.
+        AnswersKnown known.now (text_meaning native) objects.now args.now d) }
 {
     match native {
         TextNative::Length => Ok(text::length(objects, args)),

@@ -42,7 +42,8 @@ pub fn concat(alloc: Global, objects: &[Object], args: &[Value]) -> Result<Deed,
 
 // The places from one up to another, where they stand in order within so many units.
 fn span(len: usize, begin: i32, end: i32) -> Option<(usize, usize)>
-    ensures value { option_map (λ s. (s.0, s.1)) result ≡ def.span_within len (place_of begin) (place_of end) }
+    ensures value { option_map (λ s. (s.0, s.1)) result
+        ≡ def.span_within len (place_of begin) (place_of end) }
     ensures order { IfSome result (λ s. s.0 ≤ s.1) }
     ensures within { IfSome result (λ s. s.1 ≤ len) }
 {
@@ -56,7 +57,8 @@ fn span(len: usize, begin: i32, end: i32) -> Option<(usize, usize)>
 
 // The places from one to the end of so many units.
 fn rest(len: usize, begin: i32) -> Option<(usize, usize)>
-    ensures value { option_map (λ s. (s.0, s.1)) result ≡ def.span_within len (place_of begin) (Some len) }
+    ensures value { option_map (λ s. (s.0, s.1)) result
+        ≡ def.span_within len (place_of begin) (Some len) }
     ensures order { IfSome result (λ s. s.0 ≤ s.1) }
     ensures within { IfSome result (λ s. s.1 ≤ len) }
 {
@@ -70,7 +72,8 @@ fn rest(len: usize, begin: i32) -> Option<(usize, usize)>
 fn part(alloc: Global, units: &[u16], span: Option<(usize, usize)>) -> Result<Deed, Memory>
     requires order { IfSome span (λ s. s.0 ≤ s.1) }
     requires within { IfSome span (λ s. s.1 ≤ length units.now) }
-    ensures { IfOk result (λ d. deed_of d ≡ def.makes_part units.now (option_map (λ s. (s.0, s.1)) span)) }
+    ensures { IfOk result (λ d.
+        deed_of d ≡ def.makes_part units.now (option_map (λ s. (s.0, s.1)) span)) }
 {
     let Some((begin, end)) = span else {
         return Ok(Deed::Throws(Fault::StringIndexOutOfBoundsException));

@@ -64,7 +64,9 @@ pub fn char_at(objects: &[Object], args: &[Value]) -> Deed
 
 // Whether an object is a String of these units.
 fn is_text(known: &Known, object: &Object, units: &[u16]) -> bool
-    ensures { (ns : List Name) → IsKnown ns known.now → (is_made_of making.Text (object_of ns object.now) && same object.now.text units.now) ≡ result }
+    ensures { (ns : List Name) → IsKnown ns known.now →
+        (is_made_of making.Text (object_of ns object.now) && same object.now.text units.now)
+        ≡ result }
 {
     known.is_made_of(Making::Text, object) && object.text.as_slice() == units
 }

@@ -28,7 +28,8 @@ pub fn count(objects: &[Object], args: &[Value]) -> Deed
 // One of the three values of the entry at a place, and the entry's place, where there is one.
 fn entry_item(part: usize, items: &[Value], number: i32) -> Option<(u32, Value)>
     requires { part < 3 }
-    ensures { option_map (λ e. (e.0, e.1)) result ≡ def.entry_item part items.now (place_of number) }
+    ensures { option_map (λ e. (e.0, e.1)) result
+        ≡ def.entry_item part items.now (place_of number) }
 {
     let i = place(number)?;
     let v = items.get(3 * (i as usize) + part)?;

@@ -44,8 +44,10 @@ pub fn of_set(alloc: Global, args: &[Value]) -> Result<Deed, Memory>
 
 // What is gone over, and where it stands.
 fn cursor_of(items: &[Value]) -> Option<(u32, i32, i32)>
-    ensures some { IfSome result (λ c. (none : Done) (go : ℕ → ℤ → ℤ → Done) → def.on_cursor items.now none go ≡ go c.0 c.1 c.2) }
-    ensures none { IfNone result ((none : Done) (go : ℕ → ℤ → ℤ → Done) → def.on_cursor items.now none go ≡ none) }
+    ensures some { IfSome result (λ c. (none : Done) (go : ℕ → ℤ → ℤ → Done) →
+        def.on_cursor items.now none go ≡ go c.0 c.1 c.2) }
+    ensures none { IfNone result ((none : Done) (go : ℕ → ℤ → ℤ → Done) →
+        def.on_cursor items.now none go ≡ none) }
 {
     match items {
         [Value::Ref(x), Value::Int(y), Value::Int(z)] => Some((*x, *y, *z)),
