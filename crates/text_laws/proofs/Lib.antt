@@ -1,0 +1,9 @@
+mod EntryLaws
+mod FrameLaws
+mod InsnLaws
+mod LineLaws
+mod MnemonicLaws
+mod NumberLaws
+mod OperandLaws
+mod QuotedLaws
+mod WordLaws
