@@ -5,3 +5,5 @@ pub mod Lookups
 pub mod Reversed
 pub mod FreshLaws
 pub mod Closed
+pub mod StatedLaws
+pub mod StatedTables

@@ -2,3 +2,5 @@ pub mod Named
 pub mod View
 pub mod FrameView
 pub mod Fresh
+pub mod Stated
+pub mod StatedFrames

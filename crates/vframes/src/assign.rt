@@ -232,8 +232,8 @@ fn are_items_assignable(
     }
 }
 
-// The same of two stacks.
-fn is_stack_assignable(program: &Program, names: &[Named], from: &Stack, to: &Stack) -> bool
+/// The same of two stacks.
+pub fn is_stack_assignable(program: &Program, names: &[Named], from: &Stack, to: &Stack) -> bool
     requires { AreNamed program.now names.now }
     ensures { result ≡ stack_assignable (classes_of (look program.now)) (types_in names.now from.now) (types_in names.now to.now) }
 {

@@ -7,15 +7,23 @@ mod base;
 mod by_name;
 mod frame;
 mod fresh;
+mod full;
 mod named;
 mod slot_type;
 mod stack;
+mod stated;
+mod stated_frames;
 
 pub use assign::{is_assignable, is_below, is_frame_assignable, is_interface, is_name_assignable};
 pub use base::{Base, is_text};
 pub use by_name::assignable;
 pub use frame::Frame;
 pub use fresh::Fresh;
+pub use full::frame_in_full;
 pub use named::{Named, is_same_name, name_parts, named_at};
 pub use slot_type::SlotType;
 pub use stack::{Stack, Two};
+pub use stated::{
+    Local, Locals, StatedFrame, chop_locals, is_assignable_to_stated, no_locals, push_local,
+};
+pub use stated_frames::StatedFrames;

@@ -3,6 +3,7 @@
 ghost use Rattle.std.specs.Prelude.{◌≡◌, ◌<◌, List, true, false, nat_eq};
 ghost use Rattle.program_rules.specs.Types.{LongType};
 ghost use Rattle.type_rules.specs.Assignability.{width as width_of};
+ghost use Rattle.type_rules.specs.Frames.{is_uninit_this};
 ghost use Rattle.vframes.specs.View.{type_of};
 ghost use Rattle.vframes.specs.declared.named.Named.{Named};
 
@@ -33,6 +34,21 @@ impl SlotType {
             SlotType::UninitThis => 1,
             SlotType::Uninit(_) => 1,
             SlotType::Obj(_) => 1,
+        }
+    }
+
+    /// Whether it is `this` that isn't initialised.
+    pub fn is_uninit_this(self) -> bool
+        ensures { (ns : List Named) → result ≡ is_uninit_this (type_of ns self) }
+    {
+        match self {
+            SlotType::UninitThis => true,
+            SlotType::Top => false,
+            SlotType::Int => false,
+            SlotType::Long => false,
+            SlotType::Null => false,
+            SlotType::Uninit(_) => false,
+            SlotType::Obj(_) => false,
         }
     }
 

@@ -45,6 +45,16 @@ impl Model for Stack {
     ghost invariant = { λ s. s.words ≡ words_of (reverse s.items.items) };
 }
 
+fn copy_items(alloc: Global, items: &[SlotType]) -> Result<Vec<SlotType>, Memory>
+    ensures { IfOk result (λ copy. copy.items ≡ items.now) }
+{
+    let mut copy = Vec::with_capacity(alloc, items.len())?;
+    for t in items {
+        copy.push(*t)?;
+    }
+    Ok(copy)
+}
+
 impl Stack {
     /// No types.
     pub fn new(alloc: Global) -> Stack
@@ -91,6 +101,18 @@ impl Stack {
         ensures { (ns : List Named) → result ≡ nat_le (height (types_in ns self.now)) room }
     {
         self.words <= room as u32
+    }
+
+    /// An equal stack.
+    pub fn copy(&self) -> Result<Stack, Memory>
+        ensures { IfOk result (λ s. s ≡ self.now) }
+    {
+        let alloc = *self.items.allocator();
+        let items = copy_items(alloc, &self.items)?;
+        Ok(Stack {
+            items,
+            words: self.words,
+        })
     }
 
     /// Whether an object that isn't initialised stands on it.

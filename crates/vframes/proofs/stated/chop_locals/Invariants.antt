@@ -1,0 +1,12 @@
+use Rattle.std.proofs.Common.{ℕ, List, ◌+◌, ◌≡◌, ◌≤◌}
+use Rattle.vframes.specs.declared.slot_type.SlotType.{SlotType}
+use Rattle.vframes.specs.Stated.{AreLocals, AreChopped}
+use Rattle.vframes.proofs.stated.chop_locals.Given as goal
+
+abbrev pub invariant-loop-more : goal.invariant-loop-more
+invariant-loop-more l =
+    (l.more ≤ l.fn.count)
+    × ((ts : List SlotType) → AreLocals l.store l.fn.locals ts → (down : ℕ) → down + l.more ≡ l.fn.count → AreChopped l.store l.left down ts)
+
+abbrev pub decreases-loop-more : goal.decreases-loop-more
+decreases-loop-more l = l.more
