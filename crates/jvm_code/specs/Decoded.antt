@@ -35,6 +35,11 @@ named_by es ss naming.InstanceOf k = on_class def.InstanceOf (meaning_at es k)
 named_by es ss (naming.NewMultiArray n) k =
     on_class (λ class. def.NewMultiArray class n) (meaning_at es k)
 
+-- An instruction in eight bytes is this one, whatever it names.
+abbrev pub Means : def.Instruction → Op → Type 0
+Means i op =
+    (longs : List ℤ) (named : Naming → ℕ → def.Instruction) → instruction_of longs named op ≡ i
+
 -- A long constant stands at this place among these longs.
 abbrev pub IsListed : List ℤ → ℕ → Instruction → Type 0
 IsListed longs n (LongConstant z) = slice_get longs n ≡ Some z

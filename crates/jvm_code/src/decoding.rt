@@ -1,10 +1,9 @@
 //! Linked instructions, decoded into eight bytes each.
 #![tactic(auto, unfolding(jvm_state::specs::Ops::instruction_of, class_link::specs::View::instruction_of))]
 
-ghost use Rattle.std.specs.Prelude.{◌≡◌, ℕ, ℤ, List, take, [], ◌∷◌, length, IfOk, OnOk};
+ghost use Rattle.std.specs.Prelude.{◌≡◌, take, [], ◌∷◌, length, IfOk, OnOk};
 ghost use Rattle.program_rules.specs.Instructions as def;
-ghost use Rattle.jvm_state.specs.Ops.{Naming, instruction_of};
-ghost use Rattle.jvm_code.specs.Decoded.{IsListed, IsDecoded, AreDecoded};
+ghost use Rattle.jvm_code.specs.Decoded.{Means, IsListed, IsDecoded, AreDecoded};
 
 use class_link::Instruction;
 use class_model::Memory;
@@ -14,7 +13,7 @@ use std::alloc::Global;
 
 // A load from an array.
 fn array_load(element: Element) -> Op
-    ensures { (longs : List ℤ) (named : Naming → ℕ → def.Instruction) → instruction_of longs named result ≡ def.ArrayLoad element }
+    ensures { Means (def.ArrayLoad element) result }
 {
     match element {
         Element::IntElement => Op::IntArrayLoad,
@@ -28,7 +27,7 @@ fn array_load(element: Element) -> Op
 
 // A store into an array.
 fn array_store(element: Element) -> Op
-    ensures { (longs : List ℤ) (named : Naming → ℕ → def.Instruction) → instruction_of longs named result ≡ def.ArrayStore element }
+    ensures { Means (def.ArrayStore element) result }
 {
     match element {
         Element::IntElement => Op::IntArrayStore,
@@ -42,7 +41,7 @@ fn array_store(element: Element) -> Op
 
 // An operation on ints.
 fn int_operation(operation: Operation) -> Op
-    ensures { (longs : List ℤ) (named : Naming → ℕ → def.Instruction) → instruction_of longs named result ≡ def.IntOperation operation }
+    ensures { Means (def.IntOperation operation) result }
 {
     match operation {
         Operation::Plus => Op::IntPlus,
@@ -58,7 +57,7 @@ fn int_operation(operation: Operation) -> Op
 
 // An operation on longs.
 fn long_operation(operation: Operation) -> Op
-    ensures { (longs : List ℤ) (named : Naming → ℕ → def.Instruction) → instruction_of longs named result ≡ def.LongOperation operation }
+    ensures { Means (def.LongOperation operation) result }
 {
     match operation {
         Operation::Plus => Op::LongPlus,
@@ -74,7 +73,7 @@ fn long_operation(operation: Operation) -> Op
 
 // A shift of an int.
 fn int_shift(kind: ShiftKind) -> Op
-    ensures { (longs : List ℤ) (named : Naming → ℕ → def.Instruction) → instruction_of longs named result ≡ def.IntShift kind }
+    ensures { Means (def.IntShift kind) result }
 {
     match kind {
         ShiftKind::ShiftLeft => Op::IntShiftLeft,
@@ -85,7 +84,7 @@ fn int_shift(kind: ShiftKind) -> Op
 
 // A shift of a long.
 fn long_shift(kind: ShiftKind) -> Op
-    ensures { (longs : List ℤ) (named : Naming → ℕ → def.Instruction) → instruction_of longs named result ≡ def.LongShift kind }
+    ensures { Means (def.LongShift kind) result }
 {
     match kind {
         ShiftKind::ShiftLeft => Op::LongShiftLeft,
@@ -96,7 +95,7 @@ fn long_shift(kind: ShiftKind) -> Op
 
 // A conversion.
 fn conversion(kind: Conversion) -> Op
-    ensures { (longs : List ℤ) (named : Naming → ℕ → def.Instruction) → instruction_of longs named result ≡ def.Convert kind }
+    ensures { Means (def.Convert kind) result }
 {
     match kind {
         Conversion::IntToLong => Op::IntToLong,
@@ -109,7 +108,7 @@ fn conversion(kind: Conversion) -> Op
 
 // A jump on an int and 0.
 fn if_int(comparison: Comparison, to: u32) -> Op
-    ensures { (longs : List ℤ) (named : Naming → ℕ → def.Instruction) → instruction_of longs named result ≡ def.IfInt comparison to }
+    ensures { Means (def.IfInt comparison to) result }
 {
     match comparison {
         Comparison::IsEqual => Op::IfEqual(to),
@@ -123,7 +122,7 @@ fn if_int(comparison: Comparison, to: u32) -> Op
 
 // A jump on two ints.
 fn if_ints(comparison: Comparison, to: u32) -> Op
-    ensures { (longs : List ℤ) (named : Naming → ℕ → def.Instruction) → instruction_of longs named result ≡ def.IfInts comparison to }
+    ensures { Means (def.IfInts comparison to) result }
 {
     match comparison {
         Comparison::IsEqual => Op::IfsEqual(to),
