@@ -1,10 +1,7 @@
 -- A word without one `/` at its end.
 use Rattle.std.proofs.Common.{◌≡◌, ℕ, ◌+◌, ◌-◌, ◌<◌, Bool, true, false, cond, eqb, ltb, List, [], ◌∷◌, ◌++◌, length, take, drop, refl, sym, ap, ◌∙◌, arith}
-use Rattle.std.specs.Prelude.{slice_index, ◌&&◌, map, string_bytes, None}
-use Rattle.std.specs.Global.{Global}
-use Rattle.std.specs.declared.string.String.{String}
+use Rattle.std.specs.Prelude.{slice_index, ◌&&◌}
 use Rattle.std.specs.Io.BufRead.{ends_with_byte, strip_last}
-use Rattle.mutest_engine.specs.Words.{run_of}
 use Rattle.std.proofs.lemmas.Bool.{eqb-true, ltb-true}
 use Rattle.std.proofs.lemmas.List.{take-append-drop, drop_more, length-drop, nil_from_length}
 
@@ -29,14 +26,3 @@ folder_stays word none = by_test (ends_with_byte 47 word) refl
     by_test : (t : Bool) → ends_with_byte 47 word ≡ t → word ≡ cond t (take (length word - 1) word) word
     by_test true e = absurd (none (take (length word - 1) word) (last_there 47 word e))
     by_test false e = refl
-
--- so many words as no options of `run` are
-pub not_six : (words : List (String Global)) → (length words ≡ 6 → ⊥) → run_of (map string_bytes words) ≡ None
-not_six [] h = refl
-not_six (a ∷ []) h = refl
-not_six (a ∷ b ∷ []) h = refl
-not_six (a ∷ b ∷ c ∷ []) h = refl
-not_six (a ∷ b ∷ c ∷ d ∷ []) h = refl
-not_six (a ∷ b ∷ c ∷ d ∷ e ∷ []) h = refl
-not_six (a ∷ b ∷ c ∷ d ∷ e ∷ f ∷ []) h = absurd (h refl)
-not_six (a ∷ b ∷ c ∷ d ∷ e ∷ f ∷ g ∷ words) h = refl

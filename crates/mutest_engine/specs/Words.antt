@@ -1,9 +1,9 @@
 -- Which command the words behind the program's name are (this project's own).
-use Rattle.std.specs.Prelude.{◌≡◌, ℕ, List, [], ◌∷◌, Bool, true, ◌&&◌, ◌||◌, not, nat_eq, ◌==◌, if◌then◌else◌, length, slice_index, codes, Option, None, Some, MatchOption, Result, Ok, Err}
+use Rattle.std.specs.Prelude.{◌≡◌, ℕ, List, [], ◌∷◌, Bool, true, ◌||◌, nat_eq, if◌then◌else◌, codes, Option, None, Some, MatchOption, option_map, option_and_then, Result, Ok, Err}
 use Rattle.std.specs.List.{ends_with}
-use Rattle.std.specs.Cmp.Lexicographic.{pointwise}
 use Rattle.std.specs.Io.BufRead.{strip_last}
 use Rattle.mt_edge.specs.Files.{slash}
+use Rattle.mutest_engine.specs.Options.{Pair, Given, given_of, value_of, are_options, is_word}
 use Rattle.mutest_engine.specs.declared.command.AsmOptions.{AsmOptions as FoundAsm}
 use Rattle.mutest_engine.specs.declared.command.RunOptions.{RunOptions as FoundRun}
 use Rattle.mutest_engine.specs.declared.command.Command.{Command as Found}
@@ -27,62 +27,75 @@ pub data Command : Type 0 where
   run_suite : RunOptions → Command
   assemble_class : AsmOptions → Command
 
--- ---- words
-
--- a value of a command: not empty, and without a `-` at its front
-abbrev pub is_value : List ℕ → Bool
-is_value word = not (length word == 0) && not (slice_index word 0 == 45)
-
-abbrev pub is_word : List ℕ → List ℕ → Bool
-is_word word text = pointwise nat_eq word text
-
--- A word is an option of this name, and the next one is its value.
-abbrev pub is_option : List ℕ → List ℕ → List ℕ → Bool
-is_option name word value = is_word word name && is_value value
-
 -- a folder's word, without one `/` at its end
 abbrev pub folder_of : List ℕ → List ℕ
 folder_of word = strip_last slash word
 
--- ---- commands
+-- ---- commands, by what the words behind their names give
 
--- behind `list`: FILE
-abbrev pub list_of : List (List ℕ) → Option Command
-list_of (file ∷ []) = if is_value file then Some (list_class file) else None
-list_of other = None
+-- What is made of an option's value, where the option stands.
+abbrev pub with_value : {X : Type 0} → List Pair → List ℕ → (List ℕ → Option X) → Option X
+with_value options name make = option_and_then make (value_of name options)
 
--- behind `run`: --classes DIR --tests DIR --report FILE
-abbrev pub run_of : List (List ℕ) → Option Command
-run_of (for_classes ∷ classes ∷ for_tests ∷ tests ∷ for_report ∷ report ∷ []) =
-    if is_option (codes "--classes") for_classes classes
-    && is_option (codes "--tests") for_tests tests
-    && is_option (codes "--report") for_report report
-    then Some (run_suite (record {
+-- What is made of the only plain word.
+abbrev pub with_file : {X : Type 0} → List (List ℕ) → (List ℕ → Option X) → Option X
+with_file (file ∷ []) make = make file
+with_file words make = None
+
+-- What is made, where no plain word stands.
+abbrev pub without_file : {X : Type 0} → List (List ℕ) → Option X → Option X
+without_file [] made = made
+without_file words made = None
+
+-- `list`: FILE
+abbrev pub list_of : Given → Option Command
+list_of given =
+    if are_options [] given.options
+    then with_file given.plain (λ file. Some (list_class file)) else None
+
+abbrev pub run_names : List (List ℕ)
+run_names = codes "--classes" ∷ codes "--tests" ∷ codes "--report" ∷ []
+
+abbrev pub run_options : List Pair → Option RunOptions
+run_options options =
+    with_value options (codes "--classes") (λ classes.
+    with_value options (codes "--tests") (λ tests.
+    with_value options (codes "--report") (λ report.
+    Some (record {
       classes = folder_of classes;
       tests = folder_of tests;
       report = report;
-    }))
-    else None
-run_of other = None
+    }))))
 
--- behind `asm`: FILE --out FILE
-abbrev pub asm_of : List (List ℕ) → Option Command
-asm_of (text ∷ for_out ∷ out ∷ []) =
-    if is_value text && is_option (codes "--out") for_out out
-    then Some (assemble_class (record { text = text; out = out }))
-    else None
-asm_of other = None
+-- `run`: --classes DIR --tests DIR --report FILE
+abbrev pub run_of : Given → Option Command
+run_of given =
+    if are_options run_names given.options
+    then without_file given.plain (option_map run_suite (run_options given.options)) else None
 
-abbrev pub named_command : List ℕ → List (List ℕ) → Option Command
-named_command name words =
-    if is_word name (codes "list") then list_of words
-    else if is_word name (codes "run") then run_of words
-    else if is_word name (codes "asm") then asm_of words
+abbrev pub asm_names : List (List ℕ)
+asm_names = codes "--out" ∷ []
+
+-- `asm`: FILE --out FILE
+abbrev pub asm_of : Given → Option Command
+asm_of given =
+    if are_options asm_names given.options
+    then with_file given.plain (λ text.
+    with_value given.options (codes "--out") (λ out.
+    Some (assemble_class (record { text = text; out = out }))))
     else None
 
+abbrev pub named_command : List ℕ → Given → Option Command
+named_command name given =
+    if is_word name (codes "list") then list_of given
+    else if is_word name (codes "run") then run_of given
+    else if is_word name (codes "asm") then asm_of given
+    else None
+
+-- The command's name stands first.
 abbrev pub command_of : List (List ℕ) → Option Command
 command_of [] = None
-command_of (name ∷ words) = named_command name words
+command_of (name ∷ words) = named_command name (given_of words)
 
 -- ---- archives, which aren't read
 

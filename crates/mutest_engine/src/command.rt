@@ -1,12 +1,14 @@
 //! The command that the words of the command line are.
 
-ghost use Rattle.std.specs.Prelude.{◌≡◌, false, map, string_bytes, OnOk, IfErr};
+ghost use Rattle.std.specs.Prelude.{◌≡◌, false, map, option_map, string_bytes, IfOk, OnOk, IfErr};
+ghost use Rattle.mutest_engine.specs.Options.{given_in};
 ghost use Rattle.mutest_engine.specs.Steps.{GivesBy, Refuses};
-ghost use Rattle.mutest_engine.specs.Words.{is_value, is_option, folder_of, is_archive, IsArchived, list_of, run_of, asm_of, command_of, words_of, asked, Finds};
+ghost use Rattle.mutest_engine.specs.Words.{folder_of, is_archive, IsArchived, list_of, run_options, run_of, asm_of, named_command, command_of, words_of, run_asked, asked, Finds};
 
+use crate::options::Given;
 use crate::refusal::Refusal;
 use crate::stop::Stop;
-use class_model::Bytes;
+use class_model::{Bytes, Memory};
 use std::alloc::Global;
 
 /// The options of `run`: the folders of classes and of tests, and the path of the report. A folder
@@ -37,20 +39,6 @@ pub enum Command<'a> {
     Assemble(AsmOptions<'a>),
 }
 
-fn is_value(word: &str) -> bool
-    ensures { result ≡ is_value word.now }
-{
-    let bytes = word.as_bytes();
-    bytes.len() != 0 && bytes[0] != b'-'
-}
-
-// A word is an option of this name, and the next one is its value.
-fn is_option(name: &str, word: &str, value: &str) -> bool
-    ensures { result ≡ is_option name.now word.now value.now }
-{
-    word == name && is_value(value)
-}
-
 // The folder of a word, without one `/` at its end.
 fn folder(word: &str) -> &str
     ensures { result.now ≡ folder_of word.now }
@@ -61,75 +49,82 @@ fn folder(word: &str) -> &str
     }
 }
 
-// The words behind `list`: FILE.
-fn list_command(words: &[String]) -> Option<Command<'_>>
-    ensures { Finds (list_of (map string_bytes words.now)) result }
+// `list`: FILE.
+fn list_command<'a>(given: &Given<'a>) -> Option<Command<'a>>
+    ensures { Finds (list_of (given_in given.now)) result }
 {
-    if words.len() == 1 && is_value(words[0].as_str()) {
-        Some(Command::List(words[0].as_str()))
-    } else {
-        None
-    }
-}
-
-// The words behind `run`: --classes DIR --tests DIR --report FILE.
-#[tactic(auto, using(crate::proofs::WordLaws::not_six))]
-fn run_command(words: &[String]) -> Option<Command<'_>>
-    ensures { Finds (run_of (map string_bytes words.now)) result }
-{
-    if words.len() != 6 {
+    if !given.has_only(&[]) {
         return None;
     }
-    if !is_option("--classes", words[0].as_str(), words[1].as_str()) {
-        return None;
-    }
-    if !is_option("--tests", words[2].as_str(), words[3].as_str()) {
-        return None;
-    }
-    if !is_option("--report", words[4].as_str(), words[5].as_str()) {
-        return None;
-    }
-    Some(Command::Run(RunOptions {
-        classes: folder(words[1].as_str()),
-        tests: folder(words[3].as_str()),
-        report: words[5].as_str(),
-    }))
-}
-
-// The words behind `asm`: FILE --out FILE.
-fn asm_command(words: &[String]) -> Option<Command<'_>>
-    ensures { Finds (asm_of (map string_bytes words.now)) result }
-{
-    if words.len() == 3
-        && is_value(words[0].as_str())
-        && is_option("--out", words[1].as_str(), words[2].as_str())
-    {
-        Some(Command::Assemble(AsmOptions {
-            text: words[0].as_str(),
-            out: words[2].as_str(),
-        }))
-    } else {
-        None
-    }
-}
-
-// The command that the words are, by the first of them.
-fn find_command(words: &[String]) -> Option<Command<'_>>
-    ensures { Finds (command_of (map string_bytes words.now)) result }
-{
-    let [name, words @ ..] = words else {
+    let [file] = given.plain.as_slice() else {
         return None;
     };
-    if name.as_str() == "list" {
-        return list_command(words);
+    Some(Command::List(*file))
+}
+
+// The options of `run`, as far as all that it needs stand there.
+fn run_options<'a>(given: &Given<'a>) -> Option<RunOptions<'a>>
+    ensures { option_map run_asked result ≡ run_options (given_in given.now).options }
+{
+    Some(RunOptions {
+        classes: folder(given.value("--classes")?),
+        tests: folder(given.value("--tests")?),
+        report: given.value("--report")?,
+    })
+}
+
+// `run`: --classes DIR --tests DIR --report FILE.
+fn run_command<'a>(given: &Given<'a>) -> Option<Command<'a>>
+    ensures { Finds (run_of (given_in given.now)) result }
+{
+    if !given.has_only(&["--classes", "--tests", "--report"]) {
+        return None;
     }
-    if name.as_str() == "run" {
-        return run_command(words);
+    let [] = given.plain.as_slice() else {
+        return None;
+    };
+    Some(Command::Run(run_options(given)?))
+}
+
+// `asm`: FILE --out FILE.
+fn asm_command<'a>(given: &Given<'a>) -> Option<Command<'a>>
+    ensures { Finds (asm_of (given_in given.now)) result }
+{
+    if !given.has_only(&["--out"]) {
+        return None;
     }
-    if name.as_str() == "asm" {
-        return asm_command(words);
+    let [text] = given.plain.as_slice() else {
+        return None;
+    };
+    let out = given.value("--out")?;
+    Some(Command::Assemble(AsmOptions { text: *text, out }))
+}
+
+// The command of this name, by the words behind it.
+fn named_command<'a>(name: &str, given: &Given<'a>) -> Option<Command<'a>>
+    ensures { Finds (named_command name.now (given_in given.now)) result }
+{
+    if name == "list" {
+        return list_command(given);
+    }
+    if name == "run" {
+        return run_command(given);
+    }
+    if name == "asm" {
+        return asm_command(given);
     }
     None
+}
+
+// The command that the words are.
+fn find_command(alloc: Global, words: &[String]) -> Result<Option<Command<'_>>, Memory>
+    ensures { IfOk result (Finds (command_of (map string_bytes words.now))) }
+{
+    let [name, words @ ..] = words else {
+        return Ok(None);
+    };
+    let given = Given::read(alloc, words)?;
+    Ok(named_command(name.as_str(), &given))
 }
 
 fn is_archive(folder: &str) -> bool
@@ -154,7 +149,7 @@ fn no_archive(alloc: Global, folder: &str) -> Result<(), Stop>
 pub fn command_of<'a>(alloc: Global, words: &'a Vec<String>) -> Result<Command<'a>, Stop>
     ensures { GivesBy asked (words_of (map string_bytes words.now.items)) result }
 {
-    match find_command(words.as_slice()) {
+    match find_command(alloc, words.as_slice())? {
         None => Err(Stop::Refused(Refusal::Usage)),
         Some(Command::Run(options)) => {
             no_archive(alloc, options.classes)?;

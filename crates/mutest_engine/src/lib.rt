@@ -10,6 +10,7 @@ mod files;
 mod judged;
 mod line;
 mod mutants;
+mod options;
 mod originals;
 mod program;
 mod refusal;

@@ -294,7 +294,7 @@ fn finish<T: Tree, S: Sink>(
 /// Does what the words behind the program's name say. `list FILE` puts the identifiers of the mutants of
 /// the class file FILE, one per line. `run --classes DIR --tests DIR --report FILE` runs each test of a
 /// suite on each of its mutants, replaces the report and puts the summary. `asm FILE --out FILE` replaces
-/// the second file by the class file that the text of the first states.
+/// the second file by the class file that the text of the first states. Options stand in any order.
 pub fn run<T: Tree, S: Sink>(
     alloc: Global,
     words: &Vec<String>,

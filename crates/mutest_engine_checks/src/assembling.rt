@@ -80,10 +80,21 @@ end
 }
 
 #[test]
+fn the_option_may_stand_before_the_text(rt: HostRuntime) -> Result<(), Fail> {
+    let words = ["asm", "--out", "A.class", "A.txt"];
+    let told = called(rt.alloc(), &words, TEXT.as_bytes(), &[])?;
+    assert_eq!(rt; told.0, 0);
+    assert!(rt; told.2);
+    Ok(())
+}
+
+#[test]
 fn other_words_for_a_text_are_refused(rt: HostRuntime) -> Result<(), Fail> {
-    let calls: [&[&str]; 6] = [
+    let calls: [&[&str]; 8] = [
         &["asm", "A.txt"],
-        &["asm", "--out", "A.class", "A.txt"],
+        &["asm", "--out", "A.class"],
+        &["asm", "A.txt", "--out"],
+        &["asm", "A.txt", "--out", "A.class", "--out", "A.class"],
         &["asm", "", "--out", "A.class"],
         &["asm", "A.txt", "--out", "-"],
         &["asm", "A.txt", "-out", "A.class"],

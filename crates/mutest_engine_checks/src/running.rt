@@ -119,6 +119,74 @@ fn a_report_that_cannot_be_replaced_is_told(rt: HostRuntime) -> Result<(), Fail>
 }
 
 #[test]
+fn options_stand_in_any_order(rt: HostRuntime) -> Result<(), Fail> {
+    let mut tree = suite(rt.alloc(), &A, &T, &[])?;
+    let words = [
+        "run",
+        "--report",
+        "r.json",
+        "--tests",
+        "t",
+        "--classes",
+        "c",
+    ];
+    let told = call(rt.alloc(), &words, &mut tree, &[])?;
+    assert_eq!(rt; told.0, 0);
+    assert_eq!(rt; told.2, 218);
+    assert!(rt; tree.held("r.json").is_some());
+    Ok(())
+}
+
+#[test]
+fn other_options_are_refused(rt: HostRuntime) -> Result<(), Fail> {
+    let calls: [&[&str]; 6] = [
+        &["run"],
+        // One is missing, stands twice, isn't known, or has no value; a word is none.
+        &["run", "--classes", "c", "--tests", "t"],
+        &[
+            "run",
+            "--classes",
+            "c",
+            "--tests",
+            "t",
+            "--report",
+            "r",
+            "--classes",
+            "c",
+        ],
+        &[
+            "run",
+            "--classes",
+            "c",
+            "--tests",
+            "t",
+            "--report",
+            "r",
+            "--class",
+            "c",
+        ],
+        &["run", "--classes", "c", "--tests", "t", "--report"],
+        &[
+            "run",
+            "c",
+            "--classes",
+            "c",
+            "--tests",
+            "t",
+            "--report",
+            "r",
+        ],
+    ];
+    for words in calls {
+        let mut tree = suite(rt.alloc(), &A, &T, &[])?;
+        let told = call(rt.alloc(), words, &mut tree, &[])?;
+        assert_eq!(rt; told.0, 2);
+        assert_eq!(rt; told.1.as_slice(), b"mutest: Usage\n".as_slice());
+    }
+    Ok(())
+}
+
+#[test]
 fn archives_are_refused(rt: HostRuntime) -> Result<(), Fail> {
     let mut tree = suite(rt.alloc(), &A, &T, &[])?;
     let words = [
