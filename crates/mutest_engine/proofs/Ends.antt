@@ -9,10 +9,8 @@ use Rattle.mt_edge.specs.Pieces.{Grows, GrowsBy}
 use Rattle.mutest_engine.specs.declared.answer.Answer.{Answer}
 use Rattle.mutest_engine.specs.declared.answer.Product.{Product}
 use Rattle.mutest_engine.specs.declared.answer.Write.{Write as Written}
-use Rattle.mutest_engine.specs.declared.answer.Product.TheVariants.{Report, Assembled}
 use Rattle.mutest_engine.specs.declared.refusal.Refusal.{Refusal}
 use Rattle.mutest_engine.specs.declared.refusal.Refusal.TheVariants.{NotFound}
-use Rattle.mutest_engine.specs.declared.status.Output.{Output}
 use Rattle.mutest_engine.specs.declared.status.Output.TheVariants.{File, Text}
 use Rattle.mutest_engine.specs.declared.status.Status.{Status}
 use Rattle.mutest_engine.specs.declared.status.Status.TheVariants.{Done, Refused, ReadFault, WriteFault, WantOfMemory}
@@ -20,13 +18,12 @@ use Rattle.mutest_engine.specs.declared.stop.Halt.{Halt}
 use Rattle.mutest_engine.specs.declared.stop.Halt.TheVariants as halt
 use Rattle.mutest_engine.specs.declared.top_call.Unwritten.{Unwritten}
 use Rattle.mutest_engine.specs.declared.top_call.Unwritten.TheVariants as unwritten
-use Rattle.mutest_engine.specs.StatusText.{refusal_line, line_of}
+use Rattle.mutest_engine.specs.Refusals.{refusal_line, MayRefuse}
+use Rattle.mutest_engine.specs.Ends.{line_of, status_of, unwritten_status, IsToldAs, IsReplaced, IsSome, CarriedOut, TextEnds, Agrees, MayEnd, AgreesUntold, AnswersUntold, Finished, ReadsFailed, WritesFailed, PutsFailed, MeterRose, MeterStays, HaltRose, HaltStays, AnswerMeters, Got, Broken, BrokenOff, HalfTold, Interrupted, Prints, Allows, written, all_written, Stopped, Partly, LeavesWrites, FailsWriting, FilesAfter, writes_in}
 use Rattle.mutest_engine.specs.Steps.{FailsReading, ReadsBy}
 use Rattle.mutest_engine.specs.Words.{Command, list_class, run_suite, assemble_class}
-use Rattle.mutest_engine.specs.Answers.{Answered, Write, write_of, answered, MayRefuse}
+use Rattle.mutest_engine.specs.Answers.{Answered, Write, write_of, answered}
 use Rattle.mutest_engine.specs.Decided.{CanAnswer, CanState}
-use Rattle.mutest_engine.specs.Ends.{status_of, unwritten_status, IsToldAs, IsReplaced, IsSome, IsWritten, CarriedOut, TextEnds, Agrees, Writes, MayEnd, AgreesUntold, AnswersUntold, Finished, ReadsFailed, WritesFailed, PutsFailed, MeterRose, MeterStays, HaltRose, HaltStays, AnswerMeters}
-use Rattle.mutest_engine.specs.Said.{Got, Broken, BrokenOff, HalfTold, Interrupted, Prints, Allows, written, all_written, Stopped, Partly, LeavesWrites, FailsWriting, FilesAfter, writes_in}
 use Rattle.mutest_engine.proofs.OriginalLaws.{drop_at}
 
 two_pieces : (before : Option (List ℕ)) (p q : List ℕ) → option_map (λ bytes. bytes ++ q) (option_map (λ bytes. bytes ++ p) before) ≡ option_map (λ bytes. bytes ++ (p ++ q)) before
@@ -255,25 +252,11 @@ agrees_by (Some files) stated (Err h) end told ended = halt_agrees (stated files
 
 -- ---- what the words alone decide
 
-text_is : (text : List ℕ) → IsSome text → text ≡ [] → ⊥
-text_is [] some is = some
-text_is (byte ∷ bytes) some is = absurd cc
-
-written_by : (command : Command) (a : Answered) → CanAnswer command a → (which : Output) → IsWritten a which → Writes command which
-written_by (list_class path) a can (File product) is = absurd (subst (λ (ws : List Write). IsReplaced ws product) (ap (λ (b : Answered). b.writes) can.1) is)
-written_by (list_class path) a can Text is = refl
-written_by (run_suite options) a can (File product) is =
-    ⊎_elim (λ (e : product ≡ Report). inl (ap File e)) (λ (none : ⊥). absurd none) (subst (λ (ws : List Write). IsReplaced ws product) (ap (λ (b : Answered). b.writes) can.3) is)
-written_by (run_suite options) a can Text is = inr refl
-written_by (assemble_class options) a can (File product) is =
-    ⊎_elim (λ (e : product ≡ Assembled). ap File e) (λ (none : ⊥). absurd none) (subst (λ (ws : List Write). IsReplaced ws product) (ap (λ (b : Answered). b.writes) can.4) is)
-written_by (assemble_class options) a can Text is = absurd (text_is a.text is (ap (λ (b : Answered). b.text) can.4))
-
 may_end : (command : Command) (a : Answered) (end : Status) → CanAnswer command a → CarriedOut a end → MayEnd command end
 may_end command a Done can q = tt
 may_end command a (Refused r) can q = absurd q
 may_end command a (ReadFault faults) can q = tt
-may_end command a (WriteFault which faults) can q = written_by command a can which q
+may_end command a (WriteFault which faults) can q = (a, can, q)
 may_end command a WantOfMemory can q = tt
 
 halt_may_end : (command : Command) (h : Halt) (end : Status) → ((r : Refusal) → h ≡ halt.Refused r → MayRefuse command r) → IsToldAs h end → MayEnd command end

@@ -12,10 +12,10 @@ use Rattle.mutant_apply.specs.Laws.{MutantsFit}
 use Rattle.mutant_runs.specs.Programs.{ClassFiles, IsMutantOf}
 use Rattle.report_schema.specs.declared.input.ReportInput.{ReportInput}
 use Rattle.mutest_engine.specs.SuiteFiles.{IsFormed}
-use Rattle.mutest_engine.specs.declared.suite.LoadedSuite.{LoadedSuite}
 use Rattle.mutest_engine.specs.Steps.{and_then}
 use Rattle.mutest_engine.specs.Originals.{all_classes, classes_in, program_of, accepted, tests_of, tests_among, few_tests, green}
 use Rattle.mutest_engine.specs.Mutation.{class_file, suite_files, program, mutants_of, numbers_from, AreNumbered, AreFirstMutants, linked, judged, suite_steps, few_mutants, few, verdicts_by, green_verdicts, input_of, if_so, all_steps, tested, tested_steps, Stays}
+use Rattle.mutest_engine.specs.declared.suite.LoadedSuite.{LoadedSuite}
 use Rattle.mutest_engine.specs.declared.refusal.Refusal.{Refusal}
 use Rattle.mutest_engine.proofs.FitLaws.{all_fit, classes_both}
 use Rattle.mutest_engine.proofs.NumberLaws.{first_mutants}

@@ -9,15 +9,15 @@ use Rattle.program_rules.specs.Programs.{Look}
 use Rattle.class_table.specs.declared.scripted.Test.{Test}
 use Rattle.mutator_ops.specs.declared.mutant.Mutant.{Mutant}
 use Rattle.mutant_runs.specs.Programs.{ClassFiles}
-use Rattle.mutest_engine.specs.Answers.{IsOfSuite}
+use Rattle.mutest_engine.specs.Refusals.{IsOfSuite, IsBeforeRuns}
 use Rattle.mutest_engine.specs.Steps.{and_then}
-use Rattle.class_model.specs.declared.class.Class.{Class}
-use Rattle.class_order.specs.Supers.{is_super_missing, is_super_of_wrong_kind}
 use Rattle.mutest_engine.specs.Duplicates.{duplicate_in}
 use Rattle.mutest_engine.specs.Supers.{is_own_super, least_with, unless_found}
-use Rattle.mutest_engine.specs.declared.refusal.ProgramFault.{ProgramFault}
 use Rattle.mutest_engine.specs.Originals.{test_text, all_classes, classes_in, names_in, program_of, accepted, tests_of, few_tests, settled, run_ending, run_settled, all_settled, all_passed, green}
-use Rattle.mutest_engine.specs.Mutation.{few_mutants, few, tested, judged, linked, suite_files, program, mutants_of, IsBeforeRuns}
+use Rattle.mutest_engine.specs.Mutation.{few_mutants, few, tested, judged, linked, suite_files, program, mutants_of}
+use Rattle.class_model.specs.declared.class.Class.{Class}
+use Rattle.class_order.specs.Supers.{is_super_missing, is_super_of_wrong_kind}
+use Rattle.mutest_engine.specs.declared.refusal.ProgramFault.{ProgramFault}
 use Rattle.mutest_engine.specs.declared.refusal.Limit.{Limit}
 use Rattle.mutest_engine.specs.declared.refusal.Limit.TheVariants as limit
 use Rattle.mutest_engine.specs.declared.refusal.ProgramFault.TheVariants.{Duplicate, SuperMissing, SuperCycle, SuperKind}

@@ -12,7 +12,8 @@ use Rattle.report_schema.specs.Report.{ReportText}
 use Rattle.report_schema.specs.Summary.{Summary}
 use Rattle.report_schema.specs.declared.input.ReportInput.{ReportInput}
 use Rattle.mutest_engine.specs.Words.{Command, list_class, run_suite, assemble_class, AsmOptions, RunOptions, words_of, run_asked}
-use Rattle.mutest_engine.specs.Answers.{Answered, file_of, spelled_class, MayRefuse}
+use Rattle.mutest_engine.specs.Answers.{Answered, file_of, spelled_class}
+use Rattle.mutest_engine.specs.Refusals.{MayRefuse}
 use Rattle.mutest_engine.specs.Steps.{and_then}
 use Rattle.mutest_engine.specs.SuiteFiles.{suite_of}
 use Rattle.mutest_engine.specs.Mutation.{judged, suite_steps}

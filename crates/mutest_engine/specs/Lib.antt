@@ -1,5 +1,7 @@
 pub mod Options
 pub mod Words
+pub mod Lines
+pub mod Refusals
 pub mod Steps
 pub mod Answers
 pub mod SuiteFiles
@@ -9,6 +11,4 @@ pub mod Originals
 pub mod Mutation
 pub mod Decided
 pub mod Ends
-pub mod StatusText
-pub mod Said
 pub mod Promises

@@ -15,12 +15,13 @@ use Rattle.mutant_runs.specs.Runs.{Timed, timed}
 use Rattle.mutant_runs.specs.Verdicts.{verdict_of, steps_of_all}
 use Rattle.report_schema.specs.FileKey.{file_key}
 use Rattle.report_schema.specs.declared.input.ReportInput.{ReportInput}
+use Rattle.mutest_engine.specs.Refusals.{IsBeforeRuns}
 use Rattle.mutest_engine.specs.Steps.{and_then, Counts}
 use Rattle.mutest_engine.specs.Originals.{all_classes, classes_in, program_of, accepted, tests_of, few_tests, usual, green, original_steps, steps_made}
 use Rattle.mutest_engine.specs.declared.suite.LoadedSuite.{LoadedSuite}
 use Rattle.mutest_engine.specs.declared.refusal.Refusal.{Refusal}
 use Rattle.mutest_engine.specs.declared.stop.Stop.{Stop}
-use Rattle.mutest_engine.specs.declared.refusal.Refusal.TheVariants.{NotGreen, TooMany, MachineCheck}
+use Rattle.mutest_engine.specs.declared.refusal.Refusal.TheVariants.{TooMany}
 use Rattle.mutest_engine.specs.declared.refusal.Limit.TheVariants as limit
 
 -- ---- the mutants
@@ -142,12 +143,6 @@ abbrev pub tested_steps_in : List Info → List Test → List Mutant → ℕ
 tested_steps_in p ts ms = tested_steps (files_of p) (look p) ts ms
 
 -- ---- what runs count
-
--- Refusals that come before the first run.
-abbrev pub IsBeforeRuns : Refusal → Type 0
-IsBeforeRuns (NotGreen tests) = ⊥
-IsBeforeRuns (MachineCheck test class method at) = ⊥
-IsBeforeRuns refusal = Unit {0}
 
 -- They leave the meter as it is, and no refusal lets it fall.
 abbrev pub Stays : ℕ → ℕ → Refusal → Type 0

@@ -6,8 +6,7 @@ use Rattle.mt_edge.specs.Files.{Files}
 use Rattle.mt_edge.specs.Pieces.{GrowsBy}
 use Rattle.mutest_engine.specs.Answers.{Answered, answered}
 use Rattle.mutest_engine.specs.Decided.{CanState, answer_of, steps_of}
-use Rattle.mutest_engine.specs.Ends.{Agrees, MeterRose}
-use Rattle.mutest_engine.specs.Said.{Got, Prints, Allows, FilesAfter, writes_in}
+use Rattle.mutest_engine.specs.Ends.{Agrees, MeterRose, Got, Prints, Allows, FilesAfter, writes_in}
 use Rattle.mutest_engine.specs.SuiteFiles.{texts}
 use Rattle.mutest_engine.specs.Words.{words_of}
 use Rattle.mutest_engine.specs.declared.answer.Answer.{Answer}

@@ -1,5 +1,8 @@
 //! What a command does where nothing fails.
 
+ghost use Rattle.std.specs.Prelude.{◌≡◌};
+ghost use Rattle.mutest_engine.specs.Ends.{product_name};
+
 use class_model::Bytes;
 
 /// A file that a command may replace.
@@ -8,6 +11,18 @@ pub enum Product {
     Report,
     /// A class file that was assembled.
     Assembled,
+}
+
+impl Product {
+    /// As a fault of writing names it.
+    pub fn name(self) -> &'static str
+        ensures { result.now ≡ product_name self }
+    {
+        match self {
+            Product::Report => "report",
+            Product::Assembled => "assembled",
+        }
+    }
 }
 
 /// A file that is replaced: which it is, its path, and what it holds then.

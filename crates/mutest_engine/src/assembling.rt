@@ -2,7 +2,7 @@
 
 ghost use Rattle.std.specs.Prelude.{◌≡◌, ℕ, List, IfOk, IfErr, Err};
 ghost use Rattle.mutest_engine.specs.Decided.{IsAssembledTo, stated_class};
-ghost use Rattle.mutest_engine.specs.Answers.{IsOfText};
+ghost use Rattle.mutest_engine.specs.Refusals.{IsOfText};
 ghost use Rattle.mutest_engine.specs.Steps.{Refuses};
 
 use crate::refusal::Refusal;

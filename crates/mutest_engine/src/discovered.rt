@@ -1,6 +1,6 @@
 //! The tests of a suite, in the order of their classes' names.
 
-ghost use Rattle.std.specs.Prelude.{◌≡◌, map, IfOk};
+ghost use Rattle.std.specs.Prelude.{◌≡◌, IfOk};
 ghost use Rattle.std.specs.List.{flat_map};
 ghost use Rattle.class_model.specs.Text.{text};
 ghost use Rattle.class_link.specs.Info.{own_name};

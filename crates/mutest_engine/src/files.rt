@@ -1,11 +1,12 @@
 //! A class file that is held: its bytes within the limit, and the class that they spell.
 
 ghost use Rattle.std.specs.Prelude.{◌≡◌, ◌≤◌, ℕ, List, IfOk, IfErr};
-ghost use Rattle.mutest_engine.specs.Answers.{few_bytes, within_limit as within, file_of, spelled_class, IsClassFault, IsOfFile, IsOfSuite, IsUnheld};
+ghost use Rattle.mutest_engine.specs.Answers.{few_bytes, within_limit as within, file_of, spelled_class};
+ghost use Rattle.mutest_engine.specs.Refusals.{IsClassFault, IsOfFile, IsOfSuite, IsUnheld};
 ghost use Rattle.mutest_engine.specs.SuiteFiles.{IsSpelled};
+ghost use Rattle.mutest_engine.specs.Steps.{Gives, ReadsHeld, HaltsHeld, Refuses, RefusesReading, FailsReading};
 ghost use Rattle.mutest_engine.specs.declared.refusal.Refusal.TheVariants.{NotFound, BadClass};
 ghost use Rattle.mutest_engine.specs.declared.stop.Halt.TheVariants.{ReadFault};
-ghost use Rattle.mutest_engine.specs.Steps.{Gives, ReadsHeld, HaltsHeld, Refuses, RefusesReading, FailsReading};
 
 use crate::refusal::{Limit, Refusal};
 use crate::stop::{Halt, Stop};

@@ -3,9 +3,9 @@
 ghost use Rattle.std.specs.Prelude.{◌≡◌, ◌≤◌, length, Ok, Err, IfOk, IfErr, OnOk};
 ghost use Rattle.class_table.specs.Table.{look};
 ghost use Rattle.mutest_engine.specs.Steps.{Refuses};
-ghost use Rattle.mutant_runs.specs.Programs.{files_of};
 ghost use Rattle.mutest_engine.specs.Mutation.{class_file, AreNumbered};
 ghost use Rattle.mutest_engine.specs.Originals.{classes_in, program_of, accepted, IsStopOf};
+ghost use Rattle.mutant_runs.specs.Programs.{files_of};
 
 use crate::refusal::{ProgramFault, Refusal};
 use crate::stop::Stop;

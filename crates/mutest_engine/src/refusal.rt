@@ -1,7 +1,15 @@
-//! Why a call is refused: what the words and the files that are held decide.
+//! Why a call is refused: what the words and the files that are held decide. Each refusal with its
+//! exit status and its line.
 
-use class_model::{Bytes, ClassFault, Name, Seq};
+ghost use Rattle.std.specs.Prelude.{◌≡◌, ◌++◌, OnOk};
+ghost use Rattle.mutest_engine.specs.Refusals.{limit_name, program_text, refusal_number, refusal_line};
+
+use crate::line::{
+    class_text, not_green_lines, place_text, put_count, put_name, put_named, put_number, put_str,
+};
+use class_model::{Bytes, ClassFault, Memory, Name, Seq};
 use machine_rules::Outcome;
+use std::alloc::Global;
 
 /// What a count has a limit for.
 #[derive(Clone, Copy)]
@@ -14,6 +22,20 @@ pub enum Limit {
     Bytes,
     Tests,
     Mutants,
+}
+
+impl Limit {
+    fn name(self) -> &'static str
+        ensures { result.now ≡ limit_name self }
+    {
+        match self {
+            Limit::Classes => "classes",
+            Limit::Class => "class",
+            Limit::Bytes => "bytes",
+            Limit::Tests => "tests",
+            Limit::Mutants => "mutants",
+        }
+    }
 }
 
 /// Why the classes are no program.
@@ -71,4 +93,80 @@ pub enum Refusal {
     AsmRefused {
         line: u64,
     },
+}
+
+// Puts the number of a fault of the program, and the class that has it.
+fn put_program(alloc: Global, text: &mut Bytes, fault: &ProgramFault) -> Result<(), Memory>
+    ensures { OnOk result (text.new ≡ text.old ++ program_text fault.now) }
+{
+    let (number, name) = match fault {
+        ProgramFault::Duplicate { name } => (" 13 ", name),
+        ProgramFault::SuperMissing { name } => (" 14 ", name),
+        ProgramFault::SuperCycle { name } => (" 15 ", name),
+        ProgramFault::SuperKind { name } => (" 16 ", name),
+    };
+    put_str(text, number)?;
+    put_name(alloc, text, name)
+}
+
+impl Refusal {
+    /// The exit status.
+    pub fn code(&self) -> u8
+        ensures { result ≡ refusal_number self.now }
+    {
+        match self {
+            Refusal::Usage => 2,
+            Refusal::NotFound { .. } => 3,
+            Refusal::Archive { .. } => 4,
+            Refusal::BadClass { .. } => 5,
+            Refusal::BadProgram { .. } => 6,
+            Refusal::NotGreen { .. } => 8,
+            Refusal::TooMany { .. } => 12,
+            Refusal::MachineCheck { .. } => 13,
+            Refusal::AsmRefused { .. } => 15,
+        }
+    }
+
+    /// Puts the line that tells it; where tests aren't green, a line for each.
+    pub fn put_line(&self, alloc: Global, line: &mut Bytes) -> Result<(), Memory>
+        ensures { OnOk result (line.new ≡ line.old ++ refusal_line self.now) }
+    {
+        match self {
+            Refusal::Usage => put_named(line, "mutest: Usage", b"".as_slice()),
+            Refusal::NotFound { path } => put_named(line, "mutest: NotFound ", path.as_slice()),
+            Refusal::Archive { path } => put_named(line, "mutest: Archive ", path.as_slice()),
+            Refusal::BadClass { path, fault } => {
+                let text = class_text(alloc, path.as_slice(), *fault)?;
+                put_named(line, "mutest: BadClass ", text.as_slice())
+            }
+            Refusal::BadProgram { fault } => {
+                let mut text = Bytes::new(alloc);
+                put_program(alloc, &mut text, fault)?;
+                put_named(line, "mutest: BadProgram", text.as_slice())
+            }
+            Refusal::NotGreen { tests } => {
+                let lines = not_green_lines(alloc, tests.as_slice())?;
+                line.extend_from_slice(lines.as_slice())
+            }
+            Refusal::TooMany { limit, number } => {
+                let mut text = Bytes::new(alloc);
+                put_count(alloc, &mut text, limit.name(), *number)?;
+                put_named(line, "mutest: TooMany ", text.as_slice())
+            }
+            Refusal::MachineCheck {
+                test,
+                class,
+                method,
+                at,
+            } => {
+                let text = place_text(alloc, test.as_slice(), class, method, *at)?;
+                put_named(line, "mutest: MachineCheck ", text.as_slice())
+            }
+            Refusal::AsmRefused { line: number } => {
+                let mut text = Bytes::new(alloc);
+                put_number(alloc, &mut text, *number)?;
+                put_named(line, "mutest: AsmRefused ", text.as_slice())
+            }
+        }
+    }
 }

@@ -1,12 +1,14 @@
 //! How a call of the tool ends.
 
-ghost use Rattle.std.specs.Prelude.{◌≡◌, pos};
-ghost use Rattle.mutest_engine.specs.StatusText.{refusal_number, status_number};
+ghost use Rattle.std.specs.Prelude.{◌≡◌, pos, IfOk};
+ghost use Rattle.mutest_engine.specs.Ends.{status_number, output_name, line_of};
 ghost use Rattle.mutest_engine.specs.declared.status.Status.TheVariants.{WantOfMemory};
 
 use crate::answer::Product;
+use crate::line::{put_named, put_str};
 use crate::refusal::Refusal;
-use std::alloc::{AllocError, AllocFailed};
+use class_model::{Bytes, Memory};
+use std::alloc::{AllocError, AllocFailed, Global};
 
 /// What a call writes to.
 #[derive(Clone, Copy)]
@@ -15,6 +17,17 @@ pub enum Output {
     File(Product),
     /// The sink of texts.
     Text,
+}
+
+impl Output {
+    fn name(self) -> &'static str
+        ensures { result.now ≡ output_name self }
+    {
+        match self {
+            Output::File(product) => product.name(),
+            Output::Text => "output",
+        }
+    }
 }
 
 /// How a call ends.
@@ -46,23 +59,6 @@ impl<T: Drop> From<AllocFailed<T>> for Status {
     }
 }
 
-// The number of a refusal.
-fn refusal_number(refusal: &Refusal) -> u8
-    ensures { result ≡ refusal_number refusal.now }
-{
-    match refusal {
-        Refusal::Usage => 2,
-        Refusal::NotFound { .. } => 3,
-        Refusal::Archive { .. } => 4,
-        Refusal::BadClass { .. } => 5,
-        Refusal::BadProgram { .. } => 6,
-        Refusal::NotGreen { .. } => 8,
-        Refusal::TooMany { .. } => 12,
-        Refusal::MachineCheck { .. } => 13,
-        Refusal::AsmRefused { .. } => 15,
-    }
-}
-
 impl Status {
     /// The exit status.
     pub fn number(&self) -> i32
@@ -77,10 +73,28 @@ impl Status {
     {
         match self {
             Status::Done => 0,
-            Status::Refused(refusal) => refusal_number(refusal),
+            Status::Refused(refusal) => refusal.code(),
             Status::ReadFault { .. } => 10,
             Status::WriteFault { .. } => 11,
             Status::WantOfMemory => 14,
         }
+    }
+
+    /// The line that tells it: of a refusal, or of a fault.
+    pub fn line(&self, alloc: Global) -> Result<Bytes, Memory>
+        ensures { IfOk result (λ line. line ≡ line_of self.now) }
+    {
+        let mut line = Bytes::new(alloc);
+        match self {
+            Status::Done | Status::WantOfMemory => (),
+            Status::Refused(refusal) => refusal.put_line(alloc, &mut line)?,
+            Status::ReadFault { .. } => put_str(&mut line, "mutest: ReadFault\n")?,
+            Status::WriteFault { which, .. } => put_named(
+                &mut line,
+                "mutest: WriteFault ",
+                which.name().as_bytes(),
+            )?,
+        }
+        Ok(line)
     }
 }

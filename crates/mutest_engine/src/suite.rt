@@ -1,7 +1,7 @@
 //! The classes of a suite: two folders are listed, their files are read, and then each is spelled.
 
 ghost use Rattle.std.specs.Prelude.{◌≡◌, ◌+◌, ◌≤◌, length, map, string_bytes, All, IfSome, IfOk, IfErr};
-ghost use Rattle.mutest_engine.specs.Answers.{IsOfSuite};
+ghost use Rattle.mutest_engine.specs.Refusals.{IsOfSuite};
 ghost use Rattle.mutest_engine.specs.Steps.{Gives, ReadsHeld, Refuses, RefusesReading, FailsReading};
 ghost use Rattle.mutest_engine.specs.SuiteFiles.{Lists, ListsBoth, is_class_path, class_paths, few_classes, within_sum, read_one, FilesHeld, bytes_in, loaded, all_loaded, both_loaded, LoadsHeld, IsSpelled, IsFormed};
 

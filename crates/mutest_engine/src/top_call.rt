@@ -2,14 +2,13 @@
 
 ghost use Rattle.std.specs.Prelude.{◌≡◌, ◌⊎◌, ◌<◌, ◌≤◌, ◌^◌, IfOk, IfErr, OnOk, Ok};
 ghost use Rattle.mutest_engine.specs.declared.status.Status.TheVariants.{WantOfMemory};
-ghost use Rattle.mutest_engine.specs.StatusText.{line_of};
+ghost use Rattle.mutest_engine.specs.Ends.{line_of, status_of, unwritten_status, CarriedOut, TextEnds, AgreesUntold, AnswersUntold, AnswersHeld, MetersRun, MetersWords, Finished, ReadsFailed, WritesFailed, PutsFailed, MeterStays, HaltStays, Wrote, WroteAll, LeavesOne, LeavesAll, FailsWriting, FilesAfter};
 ghost use Rattle.mutest_engine.specs.Words.{list_class, words_of, run_asked, asm_asked, asked_run, asked_asm};
 ghost use Rattle.mutest_engine.specs.Decided.{CanAnswer, list_answer, report_answer, run_answer, asm_answer, answer_of};
-ghost use Rattle.mutest_engine.specs.Answers.{answered, one_write, writes_of, made, one, MayRefuse};
+ghost use Rattle.mutest_engine.specs.Answers.{answered, one_write, writes_of, made, one};
+ghost use Rattle.mutest_engine.specs.Refusals.{MayRefuse};
 ghost use Rattle.mutest_engine.specs.SuiteFiles.{texts};
 ghost use Rattle.mutest_engine.specs.Steps.{RefusesReading, FailsReading};
-ghost use Rattle.mutest_engine.specs.Ends.{status_of, unwritten_status, CarriedOut, TextEnds, AgreesUntold, AnswersUntold, AnswersHeld, MetersRun, MetersWords, Finished, ReadsFailed, WritesFailed, PutsFailed, MeterStays, HaltStays};
-ghost use Rattle.mutest_engine.specs.Said.{Wrote, WroteAll, LeavesOne, LeavesAll, FailsWriting, FilesAfter};
 ghost use Rattle.mutest_engine.specs.Promises.{Tells, PrintsMade, PrintsOf, Puts, PutsUntold, AgreesHeld, LeavesOf, LeavesHeld, WritesLast, MeterHeld};
 
 use crate::answer::{Answer, Product, Write};
@@ -17,7 +16,6 @@ use crate::assembling::class_file_of;
 use crate::command::{AsmOptions, Command, RunOptions, command_of};
 use crate::files::{read_file, spelled_class};
 use crate::judged::judge;
-use crate::line::line;
 use crate::status::{Output, Status};
 use crate::stop::Halt;
 use crate::suite::load_suite;
@@ -158,7 +156,7 @@ fn tell<S: Sink>(alloc: Global, out: &mut S, status: Status) -> Status
     ensures printed { Tells S.faults S.written out.old out.new (line_of status) result }
     ensures faults { S.faults out.old ≤ S.faults out.new }
 {
-    let Ok(text) = line(alloc, &status) else {
+    let Ok(text) = status.line(alloc) else {
         return Status::WantOfMemory;
     };
     match out.put(text.as_slice()) {

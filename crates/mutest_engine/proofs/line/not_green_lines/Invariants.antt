@@ -1,5 +1,5 @@
 use Rattle.std.proofs.Common.{◌≡◌, take}
-use Rattle.mutest_engine.specs.StatusText.{not_green_lines}
+use Rattle.mutest_engine.specs.Lines.{not_green_lines}
 use Rattle.mutest_engine.proofs.line.not_green_lines.Given as goal
 
 abbrev pub invariant-loop-test : goal.invariant-loop-test

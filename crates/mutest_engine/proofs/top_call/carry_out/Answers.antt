@@ -1,7 +1,6 @@
 use Rattle.std.proofs.Common.{◌≡◌, ◌⊎◌, ◌∙◌, List, map, ap, subst}
 use Rattle.mutest_engine.specs.Answers.{answered, write_of}
-use Rattle.mutest_engine.specs.Said.{LeavesWrites, all_written}
-use Rattle.mutest_engine.specs.StatusText.{line_of}
+use Rattle.mutest_engine.specs.Ends.{LeavesWrites, all_written, line_of}
 use Rattle.mutest_engine.specs.declared.answer.Write.{Write as Written}
 use Rattle.mutest_engine.specs.declared.status.Status.{Status}
 use Rattle.mutest_engine.specs.declared.status.Status.TheVariants.{WantOfMemory}

@@ -1,5 +1,5 @@
 use Rattle.std.proofs.Common.{◌≡◌, ◌⊎◌, subst}
-use Rattle.mutest_engine.specs.StatusText.{line_of}
+use Rattle.mutest_engine.specs.Ends.{line_of}
 use Rattle.mutest_engine.specs.declared.status.Status.{Status}
 use Rattle.mutest_engine.specs.declared.status.Status.TheVariants.{WantOfMemory}
 use Rattle.mutest_engine.proofs.Ends.{Told, halt_prints, halt_writes, halt_puts}

@@ -1,9 +1,8 @@
 use Rattle.std.proofs.Common.{◌≡◌, [], Ok, sym, inl, ⊎_elim, subst}
 use Rattle.std.specs.Prelude.{IsTrue, true, false}
 use Rattle.mt_edge.specs.Pieces.{GrowsBy}
-use Rattle.mutest_engine.specs.StatusText.{line_of}
+use Rattle.mutest_engine.specs.Ends.{line_of, Got, Prints}
 use Rattle.mutest_engine.specs.Answers.{answered}
-use Rattle.mutest_engine.specs.Said.{Got, Prints}
 use Rattle.mutest_engine.specs.declared.status.Status.{Status}
 use Rattle.mutest_engine.specs.declared.status.Status.TheVariants.{WriteFault, WantOfMemory}
 use Rattle.mutest_engine.specs.declared.status.Output.TheVariants.{Text}

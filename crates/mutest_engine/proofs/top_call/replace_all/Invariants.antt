@@ -2,7 +2,7 @@ use Rattle.std.proofs.Common.{◌≡◌, ◌≤◌, map, drop}
 use Rattle.std.specs.Prelude.{Option}
 use Rattle.mt_edge.specs.Files.{Files}
 use Rattle.mutest_engine.specs.Answers.{write_of}
-use Rattle.mutest_engine.specs.Said.{all_written, LeavesWrites}
+use Rattle.mutest_engine.specs.Ends.{all_written, LeavesWrites}
 use Rattle.mutest_engine.specs.declared.top_call.Unwritten.{Unwritten}
 use Rattle.mutest_engine.proofs.top_call.replace_all.Given as goal
 

@@ -1,12 +1,11 @@
 use Rattle.std.proofs.Common.{map, ℕ, sym, subst}
-use Rattle.mutest_engine.specs.Ends.{ReadsFailed}
+use Rattle.mutest_engine.specs.Ends.{ReadsFailed, Prints}
+use Rattle.mutest_engine.specs.Answers.{Answered}
+use Rattle.mutest_engine.specs.Decided.{answer_of, steps_of}
+use Rattle.mutest_engine.specs.Words.{words_of}
 use Rattle.std.specs.Prelude.{string_bytes, Result}
 use Rattle.mt_edge.specs.Files.{Files}
 use Rattle.mutest_engine.specs.declared.refusal.Refusal.{Refusal}
-use Rattle.mutest_engine.specs.Answers.{Answered}
-use Rattle.mutest_engine.specs.Decided.{answer_of, steps_of}
-use Rattle.mutest_engine.specs.Said.{Prints}
-use Rattle.mutest_engine.specs.Words.{words_of}
 use Rattle.mutest_engine.proofs.Ends.{agrees_by, untold_by, reads_by, prints_by, states_by, rose_by, stays_by}
 use Rattle.mutest_engine.proofs.top_call.run.Goals as goal
 

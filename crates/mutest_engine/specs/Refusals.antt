@@ -1,0 +1,117 @@
+-- What is told of each refusal, its number and its line, and which command it may refuse (this project's own).
+use Rattle.std.specs.Prelude.{◌≡◌, ℕ, ◌<◌, List, [], ◌++◌, codes, decimal, Err}
+use Rattle.mutator_ops.specs.Printing.{printed}
+use Rattle.class_model.specs.Fault.{number_of}
+use Rattle.class_model.specs.declared.fault.ClassFault.{ClassFault}
+use Rattle.class_model.specs.declared.fault.ClassFault.TheVariants as class_fault
+use Rattle.class_asm.specs.Assembled.{AssembledClass}
+use Rattle.asm_text.specs.declared.fault.AsmFault.TheVariants as asm_fault
+use Rattle.mutest_engine.specs.Lines.{named_line, count_text, fault_text, place_text, not_green_lines}
+use Rattle.mutest_engine.specs.Words.{Command, list_class, run_suite, assemble_class}
+use Rattle.mutest_engine.specs.declared.refusal.Limit.{Limit}
+use Rattle.mutest_engine.specs.declared.refusal.Limit.TheVariants as limit
+use Rattle.mutest_engine.specs.declared.refusal.ProgramFault.{ProgramFault}
+use Rattle.mutest_engine.specs.declared.refusal.ProgramFault.TheVariants.{Duplicate, SuperMissing, SuperCycle, SuperKind}
+use Rattle.mutest_engine.specs.declared.refusal.Refusal.{Refusal}
+use Rattle.mutest_engine.specs.declared.refusal.Refusal.TheVariants.{Usage, NotFound, Archive, BadClass, BadProgram, NotGreen, TooMany, MachineCheck, AsmRefused}
+
+-- ---- the exit status
+
+abbrev pub refusal_number : Refusal → ℕ
+refusal_number Usage = 2
+refusal_number (NotFound path) = 3
+refusal_number (Archive path) = 4
+refusal_number (BadClass path fault) = 5
+refusal_number (BadProgram fault) = 6
+refusal_number (NotGreen tests) = 8
+refusal_number (TooMany what number) = 12
+refusal_number (MachineCheck test class method at) = 13
+refusal_number (AsmRefused line) = 15
+
+-- ---- the line
+
+abbrev pub limit_name : Limit → List ℕ
+limit_name limit.Classes = codes "classes"
+limit_name limit.Class = codes "class"
+limit_name limit.Bytes = codes "bytes"
+limit_name limit.Tests = codes "tests"
+limit_name limit.Mutants = codes "mutants"
+
+-- a fault of the program: its number, and the name of the class that has it
+abbrev pub program_text : ProgramFault → List ℕ
+program_text (Duplicate name) = codes " 13 " ++ printed name
+program_text (SuperMissing name) = codes " 14 " ++ printed name
+program_text (SuperCycle name) = codes " 15 " ++ printed name
+program_text (SuperKind name) = codes " 16 " ++ printed name
+
+abbrev pub refusal_line : Refusal → List ℕ
+refusal_line Usage = named_line (codes "mutest: Usage") []
+refusal_line (NotFound path) = named_line (codes "mutest: NotFound ") path
+refusal_line (Archive path) = named_line (codes "mutest: Archive ") path
+refusal_line (BadClass path fault) =
+    named_line (codes "mutest: BadClass ") (path ++ fault_text fault (number_of fault))
+refusal_line (BadProgram fault) = named_line (codes "mutest: BadProgram") (program_text fault)
+refusal_line (NotGreen tests) = not_green_lines tests
+refusal_line (TooMany what number) =
+    named_line (codes "mutest: TooMany ") (count_text (limit_name what) number)
+refusal_line (MachineCheck test class method at) =
+    named_line (codes "mutest: MachineCheck ") (place_text test class method at)
+refusal_line (AsmRefused line) = named_line (codes "mutest: AsmRefused ") (decimal line)
+
+-- ---- how a command may be refused, whatever the tree holds
+
+-- a fault of a class file; want of memory is none
+abbrev pub IsClassFault : ClassFault → Type 0
+IsClassFault class_fault.Memory = ⊥
+IsClassFault fault = Unit {0}
+
+-- a count that passes its limit: the first that does, or for bytes the whole
+abbrev pub IsPassed : Limit → ℕ → Type 0
+IsPassed limit.Classes number = number ≡ 20001
+IsPassed limit.Class number = 4194304 < number
+IsPassed limit.Bytes number = 67108864 < number
+IsPassed limit.Tests number = number ≡ 65536
+IsPassed limit.Mutants number = number ≡ 262145
+
+-- by the class file at this path
+abbrev pub IsOfFile : List ℕ → Refusal → Type 0
+IsOfFile path (NotFound p) = p ≡ path
+IsOfFile path (BadClass p fault) = (p ≡ path) × IsClassFault fault
+IsOfFile path (TooMany limit.Class number) = 4194304 < number
+IsOfFile path r = ⊥
+
+-- by the text at this path: it is read as a class file is, and has a first line at fault
+abbrev pub IsOfText : List ℕ → Refusal → Type 0
+IsOfText path (AsmRefused line) = (text : List ℕ) × (AssembledClass text ≡ Err (asm_fault.Line line))
+IsOfText path (BadClass p fault) = ⊥
+IsOfText path r = IsOfFile path r
+
+-- by the files of a suite, and by their runs
+abbrev pub IsOfSuite : Refusal → Type 0
+IsOfSuite Usage = ⊥
+IsOfSuite (NotFound path) = Unit {0}
+IsOfSuite (Archive path) = ⊥
+IsOfSuite (BadClass path fault) = IsClassFault fault
+IsOfSuite (BadProgram fault) = Unit {0}
+IsOfSuite (NotGreen tests) = Unit {0}
+IsOfSuite (TooMany what number) = IsPassed what number
+IsOfSuite (MachineCheck test class method at) = Unit {0}
+IsOfSuite (AsmRefused line) = ⊥
+
+-- by a file at this path that isn't held or is too large, whichever command reads it
+abbrev pub IsUnheld : List ℕ → Refusal → Type 0
+IsUnheld path r = IsOfFile path r × IsOfText path r × IsOfSuite r
+
+-- A command isn't refused for its words.
+abbrev pub MayRefuse : Command → Refusal → Type 0
+MayRefuse (list_class path) r = IsOfFile path r
+MayRefuse (run_suite suite) r = IsOfSuite r
+MayRefuse (assemble_class assembly) r = IsOfText assembly.text r
+
+-- ---- when
+
+-- Refusals that come before the first run.
+abbrev pub IsBeforeRuns : Refusal → Type 0
+IsBeforeRuns (NotGreen tests) = ⊥
+IsBeforeRuns (MachineCheck test class method at) = ⊥
+IsBeforeRuns refusal = Unit {0}
