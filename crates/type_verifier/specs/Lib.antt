@@ -1,2 +1,4 @@
 pub mod Tables
 pub mod Shapes
+pub mod Pool
+pub mod Heads

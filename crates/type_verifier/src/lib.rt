@@ -2,10 +2,14 @@
 //! (JVMS 4.10.1).
 #![tactic(auto)]
 
+mod given;
 mod names;
+mod pool;
 mod shapes;
 mod types;
 
+pub use given::given_of;
 pub use names::Names;
+pub use pool::{Own, items};
 pub use shapes::{Difference, Shape, differences};
 pub use types::{kind_type, kind_types, stated_type, stated_types};
