@@ -1,6 +1,7 @@
 mod EntryLaws
 mod FrameLaws
 mod InsnLaws
+mod LabelLaws
 mod LineLaws
 mod MnemonicLaws
 mod NumberLaws

@@ -1,3 +1,4 @@
+pub mod CodeText
 pub mod HasText
 pub mod Insns
 pub mod Lines

@@ -3,6 +3,7 @@
 //! Nothing here runs. The definitions are in `specs/`, and each function has laws as its contract.
 #![tactic(auto)]
 
+ghost use Rattle.text_laws.specs.CodeText.{CodesAreLabelled};
 ghost use Rattle.text_laws.specs.LineStatement.{HeadsAreReadBack, NotesAreReadBack, FieldsAreReadBack, MethodsAreReadBack, NumbersAreReadBack, RowsAreReadBack, FramesAreReadBack};
 ghost use Rattle.text_laws.specs.Statement.{InsnsAreReadBack};
 
@@ -24,4 +25,9 @@ pub fn code_lines_are_read_back()
     ensures numbers { NumbersAreReadBack }
     ensures rows { RowsAreReadBack }
     ensures frames { FramesAreReadBack }
+{}
+
+/// In the printed lines of a code each instruction has its label, and so has the code's end. So what the laws above ask of labels holds there.
+pub fn codes_are_labelled()
+    ensures { CodesAreLabelled }
 {}
