@@ -1,7 +1,7 @@
 mod Pushing
-mod Levels
+pub mod Levels
 mod Upwards
 mod Onces
 mod Numbered
 mod Walking
-mod Searches
+pub mod Searches

@@ -1,0 +1,34 @@
+//! The method of a name and a descriptor that a class declares (JVMS 5.4.3.3).
+#![tactic(auto, unfolding(class_link::specs::View::linked_of))]
+
+ghost use Rattle.std.specs.Prelude.{◌≡◌, ◌<◌, length, take, None, IfSome, IfNone};
+ghost use Rattle.program_rules.specs.Outlines.{head_in};
+ghost use Rattle.program_rules.specs.Resolution.{first_declared as first_in};
+ghost use Rattle.class_family.specs.Families.{rising_at};
+ghost use Rattle.jvm_link.specs.Sites.{outline_at, DeclaresMethod, AnswersMethod};
+
+use crate::site::Site;
+use class_model::{ClassId, Name};
+use class_table::Program;
+
+/// The place of the method of this name and descriptor that a class declares, of two the first.
+pub fn declared_method(program: &Program, id: ClassId, name: &Name, desc: &Name) -> Option<usize>
+    requires { id.0 < length program.now }
+    ensures some { IfSome result (λ place. DeclaresMethod program.now id.0 name.now desc.now place) }
+    ensures none { IfNone result (head_in name.now desc.now (outline_at program.now id.0) ≡ None) }
+{
+    program.info(id).linked().method_place(name, desc)
+}
+
+/// The method of this name and descriptor of a class itself: where `<init>` is searched (JVMS
+/// 5.4.3.3, 2.9.1).
+pub fn own_method(program: &Program, id: ClassId, name: &Name, desc: &Name) -> Option<Site>
+    requires { id.0 < length program.now }
+    ensures { AnswersMethod program.now (first_in name.now desc.now (take 1 (rising_at program.now id.0))) result }
+{
+    let _len = program.len();
+    let Some(place) = declared_method(program, id, name, desc) else {
+        return None;
+    };
+    Some(Site { class: id, place })
+}
