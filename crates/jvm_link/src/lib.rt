@@ -7,5 +7,5 @@ mod methods;
 mod site;
 
 pub use fields::resolve_field;
-pub use methods::{declared_method, own_method};
+pub use methods::{declared_method, first_declared, own_method};
 pub use site::Site;

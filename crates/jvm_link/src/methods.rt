@@ -1,4 +1,4 @@
-//! The method of a name and a descriptor that a class declares (JVMS 5.4.3.3).
+//! The first method of a name and a descriptor in a class and its superclasses (JVMS 5.4.3.3).
 #![tactic(auto, unfolding(class_link::specs::View::linked_of))]
 
 ghost use Rattle.std.specs.Prelude.{◌≡◌, ◌<◌, length, take, None, IfSome, IfNone};
@@ -8,6 +8,7 @@ ghost use Rattle.class_family.specs.Families.{rising_at};
 ghost use Rattle.jvm_link.specs.Sites.{outline_at, DeclaresMethod, AnswersMethod};
 
 use crate::site::Site;
+use class_family::superclass;
 use class_model::{ClassId, Name};
 use class_table::Program;
 
@@ -18,6 +19,23 @@ pub fn declared_method(program: &Program, id: ClassId, name: &Name, desc: &Name)
     ensures none { IfNone result (head_in name.now desc.now (outline_at program.now id.0) ≡ None) }
 {
     program.info(id).linked().method_place(name, desc)
+}
+
+/// The first method of this name and descriptor in a class and its superclasses, one class at a
+/// time: it takes no memory.
+pub fn first_declared(program: &Program, id: ClassId, name: &Name, desc: &Name) -> Option<Site>
+    requires { id.0 < length program.now }
+    ensures { AnswersMethod program.now (first_in name.now desc.now (rising_at program.now id.0)) result }
+{
+    let _len = program.len();
+    let mut next = Some(id);
+    while let Some(class) = next {
+        if let Some(place) = declared_method(program, class, name, desc) {
+            return Some(Site { class, place });
+        }
+        next = superclass(program, class);
+    }
+    None
 }
 
 /// The method of this name and descriptor of a class itself: where `<init>` is searched (JVMS
