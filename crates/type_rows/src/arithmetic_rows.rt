@@ -13,7 +13,7 @@ use class_model::Memory;
 use program_rules::Conversion;
 use vframes::{Frame, SlotType};
 
-// A type on the top of the stack.
+/// A type on the top of the stack.
 pub fn give_type(f: &mut Frame, room: u16, t: SlotType) -> Result<Answer, Memory>
     ensures { IfOk result (λ a. Gives room f.old (t ∷ f.old.stack) a f.new) }
 {

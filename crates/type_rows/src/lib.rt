@@ -20,7 +20,7 @@ mod switch_rows;
 
 pub use answer::Answer;
 pub use arithmetic_rows::{
-    convert, int_constant, int_operation, int_to_int, long_compare, long_constant, long_negate,
+    convert, give_type, int_constant, int_operation, int_to_int, long_compare, long_constant, long_negate,
     long_operation, long_shift, null_constant,
 };
 pub use array_rows::{
