@@ -19,8 +19,9 @@ use Rattle.mutest_engine.specs.declared.stop.Halt.TheVariants as halt
 use Rattle.mutest_engine.specs.declared.top_call.Unwritten.{Unwritten}
 use Rattle.mutest_engine.specs.declared.top_call.Unwritten.TheVariants as unwritten
 use Rattle.mutest_engine.specs.Refusals.{refusal_line, MayRefuse}
-use Rattle.mutest_engine.specs.Ends.{line_of, status_of, unwritten_status, IsToldAs, IsReplaced, IsSome, CarriedOut, TextEnds, Agrees, MayEnd, AgreesUntold, AnswersUntold, Finished, ReadsFailed, WritesFailed, PutsFailed, MeterRose, MeterStays, HaltRose, HaltStays, AnswerMeters, Got, Broken, BrokenOff, HalfTold, Interrupted, Prints, Allows, written, all_written, Stopped, Partly, LeavesWrites, FailsWriting, FilesAfter, writes_in}
-use Rattle.mutest_engine.specs.Steps.{FailsReading, ReadsBy}
+use Rattle.mutest_engine.specs.Ends.{line_of, status_of, unwritten_status, IsToldAs, IsReplaced, IsSome, CarriedOut, TextEnds, Agrees, MayEnd, AgreesUntold, HaltsUntold, AnswersUntold, Finished, ReadsFailed, WritesFailed, PutsFailed, MeterRose, MeterStays, HaltRose, HaltStays, AnswerMeters, Got, Broken, BrokenOff, HalfTold, Interrupted, Prints, Allows, written, all_written, Stopped, Partly, LeavesWrites, FailsWriting, FilesAfter, writes_in}
+use Rattle.mutest_engine.specs.declared.stop.Stop.{Stop}
+use Rattle.mutest_engine.specs.Steps.{FailsReading, ReadsBy, Refuses, IsHaltOf}
 use Rattle.mutest_engine.specs.Words.{Command, list_class, run_suite, assemble_class}
 use Rattle.mutest_engine.specs.Answers.{Answered, Write, write_of, answered}
 use Rattle.mutest_engine.specs.Decided.{CanAnswer, CanState}
@@ -263,6 +264,19 @@ halt_may_end : (command : Command) (h : Halt) (end : Status) → ((r : Refusal) 
 halt_may_end command (halt.Refused r) end may same = by_status (Refused r) end (MayEnd command) same (may r refl) tt
 halt_may_end command (halt.ReadFault faults) end may same = by_status (ReadFault faults) end (MayEnd command) same tt tt
 halt_may_end command halt.WantOfMemory end may same = by_status WantOfMemory end (MayEnd command) same tt tt
+
+-- What stops the words halts the call: no other refusal than theirs, and no fault.
+pub untold_halt : (words : Result Command Refusal) (s : Stop) (h : Halt) → Refuses (λ r. words ≡ Err r) s → IsHaltOf s h → HaltsUntold words h
+untold_halt (Ok command) s h refuses is r e = absurd (lost command r (refuses r (is.0 r e)))
+  where
+    lost : (command : Command) (r : Refusal) → Ok command ≡ Err r → ⊥
+    lost command r e = cc
+untold_halt (Err q) s (halt.Refused r) refuses is = inl (ap halt.Refused (same q r (refuses r (is.0 r refl))))
+  where
+    same : (q r : Refusal) → Err q ≡ Err r → r ≡ q
+    same q r e = cc
+untold_halt (Err q) s (halt.ReadFault faults) refuses is = absurd (is.1 faults refl)
+untold_halt (Err q) s halt.WantOfMemory refuses is = inr refl
 
 pub untold_by : (words : Result Command Refusal) (answer : Result Answer Halt) (end : Status) → AnswersUntold words answer → Finished answer end → AgreesUntold words end
 untold_by words (Ok a) end untold ended = subst (λ (w : Result Command Refusal). AgreesUntold w end) (sym untold.1) (may_end untold.0 (answered a) end untold.2 ended)
