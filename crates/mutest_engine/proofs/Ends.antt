@@ -267,7 +267,7 @@ halt_may_end command halt.WantOfMemory end may same = by_status WantOfMemory end
 
 -- What stops the words halts the call: no other refusal than theirs, and no fault.
 pub untold_halt : (words : Result Command Refusal) (s : Stop) (h : Halt) → Refuses (λ r. words ≡ Err r) s → IsHaltOf s h → HaltsUntold words h
-untold_halt (Ok command) s h refuses is r e = absurd (lost command r (refuses r (is.0 r e)))
+untold_halt (Ok command) s h refuses is = λ r e. absurd (lost command r (refuses r (is.0 r e)))
   where
     lost : (command : Command) (r : Refusal) → Ok command ≡ Err r → ⊥
     lost command r e = cc
@@ -362,6 +362,10 @@ halt_files ws old new halt.WantOfMemory end is same = by_status WantOfMemory end
 abbrev pub Left : Option Files → Option Files → Result Answer Halt → Status → Type 0
 Left old new (Ok a) end = FilesAfter (answered a).writes old new end
 Left old new (Err h) end = new ≡ old
+
+pub left_of : (old new : Option Files) (answer : Result Answer Halt) (end : Status) → MatchResult answer (λ a. FilesAfter (answered a).writes old new end) (λ h. new ≡ old) → Left old new answer end
+left_of old new (Ok a) end is = is
+left_of old new (Err h) end is = is
 
 pub files_by : (held new : Option Files) (stated : Files → Result Answered Refusal) (answer : Result Answer Halt) (end : Status) → IfSome held (λ files. ReadsBy answered (stated files) answer) → Finished answer end → Left held new answer end
     → IfSome held (λ files. FilesAfter (writes_in (stated files)) (Some files) new end)

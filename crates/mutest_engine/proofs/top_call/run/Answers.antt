@@ -3,11 +3,12 @@ use Rattle.std.specs.Prelude.{Option}
 use Rattle.mutest_engine.specs.Ends.{ReadsFailed, Prints}
 use Rattle.mutest_engine.specs.Answers.{Answered}
 use Rattle.mutest_engine.specs.Decided.{answer_of, steps_of}
+use Rattle.mutest_engine.specs.Promises.{LeavesOf}
 use Rattle.mutest_engine.specs.Words.{words_of}
 use Rattle.std.specs.Prelude.{string_bytes, Result}
 use Rattle.mt_edge.specs.Files.{Files}
 use Rattle.mutest_engine.specs.declared.refusal.Refusal.{Refusal}
-use Rattle.mutest_engine.proofs.Ends.{agrees_by, untold_by, reads_by, prints_by, states_by, rose_by, stays_by, files_by, Left}
+use Rattle.mutest_engine.proofs.Ends.{agrees_by, untold_by, reads_by, prints_by, states_by, rose_by, stays_by, files_by, left_of}
 use Rattle.mutest_engine.proofs.top_call.run.Goals as goal
 
 pub returns-clause-status : goal.returns-clause-status
@@ -46,4 +47,4 @@ pub returns-clause-files : goal.returns-clause-files
 returns-clause-files g c =
     let h = g.T.Tree.holds in
     files_by (h c.args.tree.now) (h c.finish.new.tree) (λ (files : Files). answer_of (map string_bytes c.args.words.now.items) files) c.answer_to-answer.result c.finish.result c.answer_to-answer.ensures.value c.finish.ensures.status
-    (subst (λ (old : Option Files). Left old (h c.finish.new.tree) c.answer_to-answer.result c.finish.result) c.answer_to-answer.ensures.held c.finish.ensures.files)
+    (left_of (h c.args.tree.now) (h c.finish.new.tree) c.answer_to-answer.result c.finish.result (subst (λ (old : Option Files). LeavesOf old (h c.finish.new.tree) c.answer_to-answer.result c.finish.result) c.answer_to-answer.ensures.held c.finish.ensures.files))
