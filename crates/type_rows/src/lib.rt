@@ -20,8 +20,8 @@ mod switch_rows;
 
 pub use answer::Answer;
 pub use arithmetic_rows::{
-    convert, give_type, int_constant, int_operation, int_to_int, long_compare, long_constant, long_negate,
-    long_operation, long_shift, null_constant,
+    convert, give_type, int_constant, int_operation, int_to_int, long_compare, long_constant,
+    long_negate, long_operation, long_shift, null_constant,
 };
 pub use array_rows::{
     array_length, array_load, array_store, new_array, new_multi_array, new_reference_array,
