@@ -265,16 +265,19 @@ halt_may_end command (halt.Refused r) end may same = by_status (Refused r) end (
 halt_may_end command (halt.ReadFault faults) end may same = by_status (ReadFault faults) end (MayEnd command) same tt tt
 halt_may_end command halt.WantOfMemory end may same = by_status WantOfMemory end (MayEnd command) same tt tt
 
+-- A result is one thing.
+no_refusal : (command : Command) (r : Refusal) (words : Result Command Refusal) → words ≡ Ok command → words ≡ Err r → ⊥
+no_refusal command r words is other = cc
+
+same_refusal : (q r : Refusal) (words : Result Command Refusal) → words ≡ Err q → words ≡ Err r → r ≡ q
+same_refusal q r words is other = cc
+
 -- What stops the words halts the call: no other refusal than theirs, and no fault.
 pub untold_halt : (words : Result Command Refusal) (s : Stop) (h : Halt) → Refuses (λ r. words ≡ Err r) s → IsHaltOf s h → HaltsUntold words h
-untold_halt (Ok command) s h refuses is = λ r e. absurd (lost command r (refuses r (is.0 r e)))
-  where
-    lost : (command : Command) (r : Refusal) → Ok command ≡ Err r → ⊥
-    lost command r e = cc
-untold_halt (Err q) s (halt.Refused r) refuses is = inl (ap halt.Refused (same q r (refuses r (is.0 r refl))))
-  where
-    same : (q r : Refusal) → Err q ≡ Err r → r ≡ q
-    same q r e = cc
+untold_halt (Ok command) s h refuses is =
+    λ r e. absurd (no_refusal command r (Ok command) refl (refuses r (is.0 r e)))
+untold_halt (Err q) s (halt.Refused r) refuses is =
+    inl (ap halt.Refused (same_refusal q r (Err q) refl (refuses r (is.0 r refl))))
 untold_halt (Err q) s (halt.ReadFault faults) refuses is = absurd (is.1 faults refl)
 untold_halt (Err q) s halt.WantOfMemory refuses is = inr refl
 
