@@ -1,8 +1,10 @@
-//! What indices of a constant pool mean at a site.
+//! What indices of a constant pool and numbers of arrays mean at a site.
 
 ghost use Rattle.std.specs.Prelude.{◌≡◌, true, false, IfSome, IfNone};
+ghost use Rattle.program_rules.specs.Instructions.{Unlinked};
+ghost use Rattle.class_link.specs.Opcodes.{array_of};
 ghost use Rattle.type_rows.specs.Sites.{AreItems};
-ghost use Rattle.type_row.specs.Means.{TextAt, NoTextAt, FieldAt, NoFieldAt, MethodAt, NoMethodAt};
+ghost use Rattle.type_row.specs.Means.{AreCommon, TextAt, NoTextAt, FieldAt, NoFieldAt, MethodAt, NoMethodAt, ArrayAt};
 
 use class_link::Entry;
 use type_rows::{Item, Signature, Site};
@@ -53,5 +55,28 @@ pub fn method_at<'a>(site: &Site<'a>, index: u32) -> Option<&'a Signature>
         Some(Item::Class(_, _)) => None,
         Some(Item::Field(_, _, _)) => None,
         None => None,
+    }
+}
+
+/// The name of the array that `newarray` makes by this number (JVMS 6.5).
+pub fn array_at(site: &Site, number: u8) -> Option<u32>
+    requires { AreCommon site.now.names.now site.now.common }
+    ensures some { IfSome result (λ array. ArrayAt site.now number array) }
+    ensures none { IfNone result (array_of number ≡ Unlinked) }
+{
+    if number == 4 {
+        Some(site.common.booleans)
+    } else if number == 5 {
+        Some(site.common.chars)
+    } else if number == 8 {
+        Some(site.common.bytes)
+    } else if number == 9 {
+        Some(site.common.shorts)
+    } else if number == 10 {
+        Some(site.common.ints)
+    } else if number == 11 {
+        Some(site.common.longs)
+    } else {
+        None
     }
 }
