@@ -1,0 +1,4 @@
+//! Functions over which wrong bodies of `class_family` are tried.
+#![tactic(auto)]
+
+pub mod calls;
