@@ -6,8 +6,8 @@ use Rattle.class_order.specs.declared.standing.Standing.{Standing}
 use Rattle.class_order.specs.declared.standing.Standing.TheVariants.{New, Open, Ranked, Cyclic}
 use Rattle.class_order.specs.Graph.{supers_at, Leads, same, up, IsAboveItself}
 use Rattle.class_order.specs.Standings.{IsLower, cyclic, ranked}
-use Rattle.class_order.specs.Walks.{is_closed, IsBehind, closed, waits, Stands, IsWalk, without_end}
-use Rattle.class_order.proofs.Lists.{set_case, set_here, set_there, one_item, taken, take_has, stands_taken}
+use Rattle.class_order.specs.Walks.{summed, one_unclosed, is_closed, IsBehind, closed, waits, Stands, IsWalk, without_end}
+use Rattle.class_order.proofs.Lists.{set_case, set_here, set_there, one_item, sum_set, taken, take_has, stands_taken}
 use Rattle.class_order.proofs.Looking.{less_case}
 
 module _ (g : List Links) (found : List Standing) (looked stack bounds path : List ℕ) (next : ℕ) (ok : IsWalk g found looked stack bounds path next) (b : ℕ) (last : slice_get bounds (length bounds - 1) ≡ Some b) (below : (i k : ℕ) → slice_get path i ≡ Some k → k < b) where
@@ -51,7 +51,7 @@ module _ (g : List Links) (found : List Standing) (looked stack bounds path : Li
   size_part : length (take b stack) ≡ b
   size_part = let w = ok.bounds_in (length bounds - 1) b last in length-take b stack ∙ omega (arith, w)
 
-  module _ (found' : List Standing) (next' : ℕ) (fits' : next' < 2 ^ 32) (each' : length found' ≡ length found) (shut : (x p : ℕ) → slice_get found x ≡ Some (Open p) → b ≤ p → is_closed (slice_get found' x) ≡ true) (others : (x : ℕ) → ((p : ℕ) → slice_get found x ≡ Some (Open p) → p < b) → slice_get found' x ≡ slice_get found x) where
+  module _ (found' : List Standing) (next' : ℕ) (fits' : next' < 2 ^ 32) (left' : next' + summed one_unclosed found' ≤ length g) (each' : length found' ≡ length found) (shut : (x p : ℕ) → slice_get found x ≡ Some (Open p) → b ≤ p → is_closed (slice_get found' x) ≡ true) (others : (x : ℕ) → ((p : ℕ) → slice_get found x ≡ Some (Open p) → p < b) → slice_get found' x ≡ slice_get found x) where
     -- a class is of the part, or it is what it was
     part_or_not : (x : ℕ) → ((p : ℕ) × (slice_get found x ≡ Some (Open p)) × (b ≤ p)) ⊎ (slice_get found' x ≡ slice_get found x)
     part_or_not x = by_case (slice_get found x) refl
@@ -151,6 +151,7 @@ module _ (g : List Links) (found : List Standing) (looked stack bounds path : Li
       lower = lower;
       ranks = ranks;
       fits = fits';
+      left = left';
     }
 
     -- what is closed keeps being lower
@@ -183,6 +184,9 @@ module _ (g : List Links) (found : List Standing) (looked stack bounds path : Li
     one_others : (x : ℕ) → ((p : ℕ) → slice_get found x ≡ Some (Open p) → p < b) → slice_get one' x ≡ slice_get found x
     one_others x none = set_there found a x (Ranked next) (λ e. let q = none b (ap (slice_get found) e ∙ ok.placed b a there) in absurd (omega (arith, q)))
 
+    one_left : (next + 1) + summed one_unclosed one' ≤ length g
+    one_left = let less = sum_set one_unclosed found a (Ranked next) (Open b) (ok.placed b a there) in let le = ok.left in omega (arith, less, le)
+
     -- each super of the class was closed before
     super_closed : (j c : ℕ) → slice_get (supers_at g a) j ≡ Some c → is_closed (slice_get found c) ≡ true
     super_closed j c sup = by_case (part_behind b a j c (omega arith) there sup)
@@ -214,15 +218,15 @@ module _ (g : List Links) (found : List Standing) (looked stack bounds path : Li
 
     pub closed_one : IsWalk g one' looked (take b stack) (without_end bounds) path (next + 1)
     closed_one =
-        closes one' (next + 1) fits' (length-set found a (Ranked next)) one_shut one_others
+        closes one' (next + 1) fits' one_left (length-set found a (Ranked next)) one_shut one_others
         (λ x h. elim (set_case found a (Ranked next) x Cyclic h) [ inl e ↦ absurd (let q = e.1 in cc) | inr e ↦ ok.cyclic x e.1 ])
         (λ x r h. elim (set_case found a (Ranked next) x (Ranked r) h) [ inl e ↦ (λ q. not_above (subst (IsAboveItself g) e.0 q)) | inr e ↦ ok.apart x r e.1 ])
         (λ x r k c h sup. elim (set_case found a (Ranked next) x (Ranked r) h) [
           | inl e ↦
               let q : Ranked r ≡ Ranked next = e.1 in
               let n : r ≡ next = cc in
-              subst (IsLower (slice_get one' c)) (sym n) (lower_same one' (next + 1) fits' (length-set found a (Ranked next)) one_shut one_others c next (super_lower k c (subst (λ y. slice_get (supers_at g y) k ≡ Some c) e.0 sup)))
-          | inr e ↦ lower_same one' (next + 1) fits' (length-set found a (Ranked next)) one_shut one_others c r (ok.lower x r k c e.1 sup)
+              subst (IsLower (slice_get one' c)) (sym n) (lower_same one' (next + 1) fits' one_left (length-set found a (Ranked next)) one_shut one_others c next (super_lower k c (subst (λ y. slice_get (supers_at g y) k ≡ Some c) e.0 sup)))
+          | inr e ↦ lower_same one' (next + 1) fits' one_left (length-set found a (Ranked next)) one_shut one_others c r (ok.lower x r k c e.1 sup)
         ])
         (λ x r h. elim (set_case found a (Ranked next) x (Ranked r) h) [
           | inl e ↦ (let q : Ranked r ≡ Ranked next = e.1 in let n : r ≡ next = cc in omega (arith, n))

@@ -6,8 +6,8 @@ use Rattle.class_order.specs.declared.standing.Standing.{Standing}
 use Rattle.class_order.specs.declared.standing.Standing.TheVariants.{New, Open, Ranked, Cyclic}
 use Rattle.class_order.specs.Graph.{Leads, same}
 use Rattle.class_order.specs.Standings.{IsLower, cyclic, ranked}
-use Rattle.class_order.specs.Walks.{is_closed, IsBehind, closed, waits, Stands, IsWalk}
-use Rattle.class_order.proofs.Lists.{last_case, more, at_last, set_case, set_here, set_there, one_item, stands_more, stands_last, stands_case}
+use Rattle.class_order.specs.Walks.{summed, one_unclosed, is_closed, IsBehind, closed, waits, Stands, IsWalk}
+use Rattle.class_order.proofs.Lists.{last_case, more, at_last, set_case, set_here, set_there, one_item, sum_set, stands_more, stands_last, stands_case}
 
 module _ (g : List Links) (found : List Standing) (looked stack bounds path : List ℕ) (next : ℕ) (ok : IsWalk g found looked stack bounds path next) (a : ℕ) (new : slice_get found a ≡ Some New) (from : (b f : ℕ) → Stands bounds b → slice_get stack b ≡ Some f → Leads g f a) where
   abbrev size : ℕ
@@ -129,4 +129,5 @@ module _ (g : List Links) (found : List Standing) (looked stack bounds path : Li
     lower = λ x r k c h sup. elim (set_case found a (Open size) x (Ranked r) h) [ inl e ↦ absurd (let q = e.1 in cc) | inr e ↦ lower_kept c r (ok.lower x r k c e.1 sup) ];
     ranks = λ x r h. elim (set_case found a (Open size) x (Ranked r) h) [ inl e ↦ absurd (let q = e.1 in cc) | inr e ↦ ok.ranks x r e.1 ];
     fits = ok.fits;
+    left = (let same = sum_set one_unclosed found a (Open size) New new in let le = ok.left in omega (arith, same, le));
   }

@@ -183,6 +183,7 @@ module _ (g : List Links) (found : List Standing) (looked stack bounds path : Li
       lower = ok.lower;
       ranks = ok.ranks;
       fits = ok.fits;
+      left = ok.left;
     }
 
     -- what was looked at stands in the part of `a` or behind it

@@ -1,6 +1,7 @@
 -- What stands in a list that got one more, got another item, or lost its end.
-use Rattle.std.proofs.Common.{◌≡◌, ◌≢◌, ◌⊎◌, inl, inr, ◌∙◌, sym, refl, ap, ℕ, zero, suc, ◌+◌, ◌<◌, List, [], ◌∷◌, ◌++◌, length, take, drop, Some, slice_get, slice_set, arith}
-use Rattle.class_order.specs.Walks.{Stands}
+use Rattle.std.proofs.Common.{◌≡◌, ◌≢◌, ◌⊎◌, inl, inr, ◌∙◌, sym, refl, ap, ℕ, zero, suc, ◌+◌, ◌<◌, ◌≤◌, List, [], ◌∷◌, ◌++◌, length, take, drop, replicate, Some, slice_get, slice_set, arith}
+use Rattle.class_order.specs.declared.standing.Standing.{Standing}
+use Rattle.class_order.specs.Walks.{summed, Stands}
 
 module _ {A : Type 0} where
   pub last_case : (xs : List A) (x : A) (i : ℕ) (y : A) → slice_get (xs ++ x ∷ []) i ≡ Some y → (slice_get xs i ≡ Some y) ⊎ ((i ≡ length xs) × (y ≡ x))
@@ -62,6 +63,32 @@ module _ {A : Type 0} where
 -- the item at a place is one
 pub one_item : {A : Type 0} (xs : List A) (i : ℕ) (x y : A) → slice_get xs i ≡ Some x → slice_get xs i ≡ Some y → x ≡ y
 one_item xs i x y h k = let e : Some x ≡ Some y = sym h ∙ k in cc
+
+-- a class counts for what it is now
+pub sum_set : (f : Standing → ℕ) (xs : List Standing) (i : ℕ) (x y : Standing) → slice_get xs i ≡ Some y → summed f (slice_set xs i x) + f y ≡ summed f xs + f x
+sum_set f [] i x y h = absurd cc
+sum_set f (z ∷ xs) zero x y h = let e : z ≡ y = cc in let q : f z ≡ f y = ap f e in omega (arith, q)
+sum_set f (z ∷ xs) (suc i) x y h = let rest = sum_set f xs i x y h in omega (arith, rest)
+
+-- what stands in the sum
+pub sum_has : (f : Standing → ℕ) (xs : List Standing) (i : ℕ) (x : Standing) → slice_get xs i ≡ Some x → f x ≤ summed f xs
+sum_has f [] i x h = absurd cc
+sum_has f (z ∷ xs) zero x h = let e : z ≡ x = cc in let q : f z ≡ f x = ap f e in omega (arith, q)
+sum_has f (z ∷ xs) (suc i) x h = let rest = sum_has f xs i x h in omega (arith, rest)
+
+pub sum_same : (f : Standing → ℕ) (x : Standing) (n : ℕ) → f x ≡ 1 → summed f (replicate n x) ≡ n
+sum_same f x zero one = refl
+sum_same f x (suc n) one = let rest = sum_same f x n one in omega (arith, rest, one)
+
+-- each item of a list of equal ones
+pub all_equal : {A : Type 0} (n : ℕ) (x : A) (i : ℕ) (y : A) → slice_get (replicate n x) i ≡ Some y → x ≡ y
+all_equal zero x i y h = absurd cc
+all_equal (suc n) x zero y h = cc
+all_equal (suc n) x (suc i) y h = all_equal n x i y h
+
+pub equal_long : {A : Type 0} (n : ℕ) (x : A) → length (replicate n x) ≡ n
+equal_long zero x = refl
+equal_long (suc n) x = ap suc (equal_long n x)
 
 pub stands_more : (ns ms : List ℕ) (n : ℕ) → Stands ns n → Stands (ns ++ ms) n
 stands_more ns ms n h = record { place = h.place; there = more ns ms h.place n h.there }

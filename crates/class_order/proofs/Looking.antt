@@ -72,6 +72,7 @@ module _ (g : List Links) (found : List Standing) (looked stack bounds path : Li
       lower = ok.lower;
       ranks = ok.ranks;
       fits = ok.fits;
+      left = ok.left;
     }
 
   -- the last class of the path has no super more
@@ -109,4 +110,5 @@ module _ (g : List Links) (found : List Standing) (looked stack bounds path : Li
       lower = ok.lower;
       ranks = ok.ranks;
       fits = ok.fits;
+      left = ok.left;
     }

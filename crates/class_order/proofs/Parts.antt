@@ -7,7 +7,7 @@ use Rattle.class_order.specs.declared.links.Links.{Links}
 use Rattle.class_order.specs.declared.standing.Standing.{Standing}
 use Rattle.class_order.specs.declared.standing.Standing.TheVariants.{New, Open, Ranked, Cyclic}
 use Rattle.class_order.specs.Graph.{supers_at, Leads, same, up, IsAboveItself}
-use Rattle.class_order.specs.Walks.{is_closed, Stands, IsWalk, without_end, all_cyclic}
+use Rattle.class_order.specs.Walks.{summed, one_unclosed, is_closed, Stands, IsWalk, without_end, all_cyclic}
 use Rattle.class_order.proofs.Lists.{set_here, set_there, one_item, dropped, drop_has}
 use Rattle.class_order.proofs.Looking.{leads_on, less_case}
 use Rattle.class_order.proofs.Closing.{upto_last, closes, lower_same}
@@ -39,6 +39,19 @@ cyclic_in found (a ∷ more) (suc i) x s h e = elim (same_case x a) [
 cyclic_others : (found : List Standing) (ns : List ℕ) (x : ℕ) → ((i : ℕ) → slice_get ns i ≡ Some x → ⊥) → slice_get (all_cyclic found ns) x ≡ slice_get found x
 cyclic_others found [] x none = refl
 cyclic_others found (a ∷ more) x none = cyclic_others (slice_set found a Cyclic) more x (λ i. none (suc i)) ∙ set_there found a x Cyclic (λ e. none 0 (ap Some (sym e)))
+
+-- a class that is set to be above itself counts for nothing
+pub cyclic_sum : (f : Standing → ℕ) → f Cyclic ≡ 0 → (found : List Standing) (ns : List ℕ) → summed f (all_cyclic found ns) ≤ summed f found
+cyclic_sum f none found [] = omega arith
+cyclic_sum f none found (a ∷ more) =
+    let rest = cyclic_sum f none (slice_set found a Cyclic) more in
+    let one = set_less f none found a in
+    omega (arith, rest, one)
+  where
+    set_less : (f : Standing → ℕ) → f Cyclic ≡ 0 → (found : List Standing) (i : ℕ) → summed f (slice_set found i Cyclic) ≤ summed f found
+    set_less f none [] i = omega arith
+    set_less f none (s ∷ more) zero = omega (arith, none)
+    set_less f none (s ∷ more) (suc i) = let rest = set_less f none more i in omega (arith, rest)
 
 first_step : (g : List Links) (x y : ℕ) → Leads g x y → x ≢ y → Leads g y x → IsAboveItself g x
 first_step g x y (same z) differ back = absurd (differ refl)
@@ -81,6 +94,9 @@ module _ (g : List Links) (found : List Standing) (looked stack bounds path : Li
   part_length : length part' ≡ length found
   part_length = cyclic_length found (drop b stack)
 
+  part_left : next + summed one_unclosed part' ≤ length g
+  part_left = let less = cyclic_sum one_unclosed refl found (drop b stack) in let le = ok.left in omega (arith, less, le)
+
   part_cyclic : (x p : ℕ) → slice_get found x ≡ Some (Open p) → b ≤ p → slice_get part' x ≡ Some Cyclic
   part_cyclic x p e le =
       let at = ok.opened x p e in
@@ -115,8 +131,8 @@ module _ (g : List Links) (found : List Standing) (looked stack bounds path : Li
 
   pub closed_part : IsWalk g part' looked (take b stack) (without_end bounds) path next
   closed_part =
-      closes g found looked stack bounds path next ok b last below part' next ok.fits part_length part_shut part_others
+      closes g found looked stack bounds path next ok b last below part' next ok.fits part_left part_length part_shut part_others
       (λ x h. elim (was x Cyclic h) [ inl e ↦ of_part e.0 x e.2 (ok.opened x e.0 e.1) | inr e ↦ ok.cyclic x e ])
       (λ x r h. elim (was x (Ranked r) h) [ inl e ↦ absurd (let q = e.3 in cc) | inr e ↦ ok.apart x r e ])
-      (λ x r k c h sup. elim (was x (Ranked r) h) [ inl e ↦ absurd (let q = e.3 in cc) | inr e ↦ lower_same g found looked stack bounds path next ok b last below part' next ok.fits part_length part_shut part_others c r (ok.lower x r k c e sup) ])
+      (λ x r k c h sup. elim (was x (Ranked r) h) [ inl e ↦ absurd (let q = e.3 in cc) | inr e ↦ lower_same g found looked stack bounds path next ok b last below part' next ok.fits part_left part_length part_shut part_others c r (ok.lower x r k c e sup) ])
       (λ x r h. elim (was x (Ranked r) h) [ inl e ↦ absurd (let q = e.3 in cc) | inr e ↦ ok.ranks x r e ])

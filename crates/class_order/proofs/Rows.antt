@@ -45,6 +45,39 @@ one_super g a u super one = record {
         let e : u ≡ y = one_item (supers_at g a) k u y (subst (λ i. slice_get (supers_at g a) i ≡ Some u) place super.there) names in
         inr (inr (u, refl, subst (λ w. Leads g w z) (sym e) rest))
 
+-- one of two supers, where the other one names none
+pub two_supers : (g : List Links) (a t u : ℕ) → slice_get (supers_at g a) 0 ≡ Some t → slice_get (supers_at g a) 1 ≡ Some u → slice_get (supers_at g a) 2 ≡ None → supers_at g t ≡ [] → IsWayUp g a (Some u) (t ∷ [])
+two_supers g a t u first second third top = record {
+  super = λ v e. (let q : u ≡ v = cc in record { place = 1; there = second ∙ ap Some q });
+  others = λ b h. others b h.place h.there;
+  whole = whole;
+}
+  where
+    others : (b k : ℕ) → slice_get (t ∷ []) k ≡ Some b → Leads g a b
+    others b zero h = let q : t ≡ b = cc in up a 0 b b (first ∙ ap Some q) (same b)
+    others b (suc k) h = absurd cc
+
+    of_top : (b : ℕ) → Leads g t b → t ≡ b
+    of_top b (same x) = refl
+    of_top b (up x k y z names rest) = let q : slice_get {X = ℕ} [] k ≡ Some y = subst (λ l. slice_get l k ≡ Some y) top names in absurd cc
+
+    no_more : (ns : List ℕ) (k y : ℕ) → slice_get ns 2 ≡ None → slice_get ns (suc (suc k)) ≡ Some y → ⊥
+    no_more [] k y none h = absurd cc
+    no_more (n ∷ []) k y none h = absurd cc
+    no_more (n ∷ m ∷ []) k y none h = absurd cc
+    no_more (n ∷ m ∷ l ∷ ns) k y none h = absurd cc
+
+    whole : (b : ℕ) → Leads g a b → IsReached g a (Some u) (t ∷ []) b
+    whole b (same x) = inl refl
+    whole b (up x zero y z names rest) =
+        let e : t ≡ y = one_item (supers_at g a) 0 t y first names in
+        let top_one : t ≡ z = of_top z (subst (λ w. Leads g w z) (sym e) rest) in
+        inr (inl (record { place = 0; there = ap Some top_one }))
+    whole b (up x (suc zero) y z names rest) =
+        let e : u ≡ y = one_item (supers_at g a) 1 u y second names in
+        inr (inr (u, refl, subst (λ w. Leads g w z) (sym e) rest))
+    whole b (up x (suc (suc k)) y z names rest) = absurd (no_more (supers_at g a) k y third names)
+
 -- Two searches, one behind the other: all above one super, and then all above the others.
 module _ (g : List Links) (a u stamp : ℕ) (super : Stands (supers_at g a) u) (start one two three four : Search) (empty : start.found.items ≡ []) (first : Finds (length g) stamp (u ∷ []) start one) (second : Closes g stamp 0 one two) (third : Finds (length g) stamp (supers_at g a) two three) (fourth : Closes g stamp (length two.found.items) three four) where
   of_super : (x : ℕ) → Stands two.found.items x → Leads g u x

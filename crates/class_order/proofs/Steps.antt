@@ -1,5 +1,5 @@
 -- A step of the walk keeps what it is.
-use Rattle.std.proofs.Common.{◌≡◌, ◌≢◌, inl, inr, ◌∙◌, sym, refl, ap, subst, ℕ, zero, suc, ◌+◌, ◌-◌, ◌<◌, ◌≤◌, Bool, true, false, List, [], ◌∷◌, ◌++◌, length, take, drop, None, Some, slice_get, slice_set, arith}
+use Rattle.std.proofs.Common.{◌≡◌, ◌≢◌, inl, inr, ◌∙◌, sym, refl, ap, subst, ℕ, zero, suc, ◌+◌, ◌*◌, ◌-◌, ◌^◌, ◌<◌, ◌≤◌, Bool, true, false, List, [], ◌∷◌, ◌++◌, length, length-append, length-take, take, drop, replicate, Option, None, Some, slice_get, slice_set, lit<, arith}
 use Rattle.std.specs.Prelude.{nat_eq, ◌||◌}
 use Rattle.std.specs.List.{list_any}
 use Rattle.std.proofs.lemmas.Option.{slice_get_within, slice_get-get_or}
@@ -8,15 +8,15 @@ use Rattle.class_order.specs.declared.links.Links.{Links}
 use Rattle.class_order.specs.declared.walk.Walk.{Walk}
 use Rattle.class_order.specs.declared.standing.Standing.{Standing}
 use Rattle.class_order.specs.declared.standing.Standing.TheVariants.{New, Open, Ranked, Cyclic}
-use Rattle.class_order.specs.Graph.{supers_at, AreWithin, Leads, same, up}
+use Rattle.class_order.specs.Graph.{supers_of, supers_at, AreWithin, Leads, same, up}
 use Rattle.class_order.specs.Standings.{AreStandings, IsStanding}
-use Rattle.class_order.specs.Walks.{IsMet, IsEnd, IsBehind, closed, waits, Stands, IsWalk, IsWalkOf, Enters, Finishes, Meets, enters, joins, passes, Counts, ClosesOne, ClosesPart, AllBelow, AreUpTo, IsLast, KeepsMet, without_end, all_cyclic}
-use Rattle.class_order.proofs.Lists.{more, set_case, set_here, one_item}
+use Rattle.class_order.specs.Walks.{is_closed, IsMet, IsStart, IsEnd, summed, one_unclosed, one_unmet, unlooked, to_do, IsLess, IsBehind, closed, waits, Stands, IsWalk, IsWalkOf, Enters, Finishes, Meets, enters, joins, passes, Counts, ClosesOne, ClosesPart, AllBelow, AreUpTo, IsLast, KeepsMet, without_end, all_cyclic}
+use Rattle.class_order.proofs.Lists.{more, set_case, set_here, one_item, sum_set, sum_has, sum_same, all_equal, equal_long}
 use Rattle.class_order.proofs.Entering.{entered}
 use Rattle.class_order.proofs.Looking.{leads_on, less_case, looked_at, path_shorter}
 use Rattle.class_order.proofs.Joining.{joined, joined_behind}
 use Rattle.class_order.proofs.Closing.{closed_one}
-use Rattle.class_order.proofs.Parts.{closed_part, part_new}
+use Rattle.class_order.proofs.Parts.{closed_part, part_new, cyclic_sum}
 
 walk_as : (g : List Links) (f f' : List Standing) (l l' s s' b b' p p' : List ℕ) (n n' : ℕ) → IsWalk g f l s b p n → f' ≡ f → l' ≡ l → s' ≡ s → b' ≡ b → p' ≡ p → n' ≡ n → IsWalk g f' l' s' b' p' n'
 walk_as g f f' l l' s s' b b' p p' n n' h ef el es eb ep en =
@@ -67,6 +67,10 @@ module _ (g : List Links) (old : Walk) (ok : IsWalkOf g old) where
 
   pub super_found : AreWithin g (length g) → (a n c : ℕ) → slice_get (supers_at g a) n ≡ Some c → c < length old.found.items
   super_found within a n c h = let lt = within a n c h in let e = ok.each in omega (arith, lt, e)
+
+  -- there is a rank for an open class
+  pub rank_left : length g < 2 ^ 32 → (k a : ℕ) → slice_get old.stack.items k ≡ Some a → old.next + 1 < 2 ^ 32
+  rank_left few k a h = let one = sum_has one_unclosed old.found.items a (Open k) (ok.placed k a h) in let left = ok.left in omega (arith, one, left, few)
 
   pub finish_kept : (new : Walk) (k a n : ℕ) → IsLast k old.path.items → slice_get old.stack.items k ≡ Some a → slice_get old.looked.items a ≡ Some n → slice_get (supers_at g a) n ≡ None → Finishes old new → IsWalkOf g new
   finish_kept new k a n last there count none fin =
@@ -156,7 +160,127 @@ module _ (g : List Links) (old : Walk) (ok : IsWalkOf g old) where
       pub close_part_met : KeepsMet old new
       close_part_met x h = part_new g old.found.items old.looked.items old.stack.items old.bounds.items old.path.items old.next ok b last below a there (λ alone. named_at a (supers_at g a) (several alone)) x (subst (λ l. slice_get l x ≡ Some New) e.found h)
 
+-- ---- what is left to do
+
+-- one super less of a class wasn't looked at
+unlooked_less : (g : List Links) (ns : List ℕ) (a n c : ℕ) → slice_get ns a ≡ Some n → slice_get (supers_at g a) n ≡ Some c → unlooked g (slice_set ns a (n + 1)) + 1 ≡ unlooked g ns
+unlooked_less [] ns a n c h e = absurd cc
+unlooked_less (l ∷ g) [] a n c h e = absurd cc
+unlooked_less (l ∷ g) (m ∷ ns) zero n c h e =
+    let one : m ≡ n = cc in
+    let lt = slice_get_within (supers_of l) n c e in
+    omega (arith, one, lt)
+unlooked_less (l ∷ g) (m ∷ ns) (suc a) n c h e = let rest = unlooked_less g ns a n c h e in omega (arith, rest)
+
+-- a list with an end is longer without it
+end_less : (ns : List ℕ) (n : ℕ) → IsLast n ns → length (without_end ns) + 1 ≡ length ns
+end_less ns n last = let lt = slice_get_within ns (length ns - 1) n last in let long = length-take (length ns - 1) ns in omega (arith, lt, long)
+
+module _ (g : List Links) (old new : Walk) where
+  pub finish_less : (k : ℕ) → IsLast k old.path.items → Finishes old new → IsLess g old new
+  finish_less k last e =
+      let found = ap (summed one_unmet) e.found in
+      let looked = ap (unlooked g) e.looked in
+      let bounds = ap (λ (ns : List ℕ). length ns) e.bounds in
+      let path = ap (λ (ns : List ℕ). length ns) e.path in
+      let less = end_less old.path.items k last in
+      omega (arith, found, looked, bounds, path, less)
+
+  pub close_one_less : (a b k : ℕ) → slice_get old.found.items a ≡ Some (Open k) → IsLast b old.bounds.items → ClosesOne a old new → IsLess g old new
+  close_one_less a b k open_now last e =
+      let found = ap (summed one_unmet) e.found in
+      let same_sum = sum_set one_unmet old.found.items a (Ranked old.next) (Open k) open_now in
+      let looked = ap (unlooked g) e.looked in
+      let bounds = ap (λ (ns : List ℕ). length ns) e.bounds in
+      let path = ap (λ (ns : List ℕ). length ns) e.path in
+      let less = end_less old.bounds.items b last in
+      omega (arith, found, same_sum, looked, bounds, path, less)
+
+  pub close_part_less : (b : ℕ) → IsLast b old.bounds.items → ClosesPart b old new → IsLess g old new
+  close_part_less b last e =
+      let found = ap (summed one_unmet) e.found in
+      let less_sum = cyclic_sum one_unmet refl old.found.items (drop b old.stack.items) in
+      let looked = ap (unlooked g) e.looked in
+      let bounds = ap (λ (ns : List ℕ). length ns) e.bounds in
+      let path = ap (λ (ns : List ℕ). length ns) e.path in
+      let less = end_less old.bounds.items b last in
+      omega (arith, found, less_sum, looked, bounds, path, less)
+
+  module _ (mid : Walk) (a n c : ℕ) (count : slice_get old.looked.items a ≡ Some n) (names : slice_get (supers_at g a) n ≡ Some c) (counts : Counts a n mid new) where
+    counted : mid.looked.items ≡ old.looked.items → unlooked g new.looked.items + 1 ≡ unlooked g old.looked.items
+    counted e =
+        let q : new.looked.items ≡ slice_set old.looked.items a (n + 1) = counts.looked ∙ ap (λ ns. slice_set ns a (n + 1)) e in
+        ap (λ ns. unlooked g ns + 1) q ∙ unlooked_less g old.looked.items a n c count names
+
+    pub meet_less : Meets c old mid → IsLess g old new
+    meet_less (enters fresh e) =
+        let size = length old.stack.items in
+        let found = ap (summed one_unmet) (counts.found ∙ e.found) in
+        let less_sum = sum_set one_unmet old.found.items c (Open size) New fresh in
+        let looked = counted e.looked in
+        let bounds = ap (λ (ns : List ℕ). length ns) (counts.bounds ∙ e.bounds) in
+        let path = ap (λ (ns : List ℕ). length ns) (counts.path ∙ e.path) in
+        let more_bounds = length-append old.bounds.items (size ∷ []) in
+        let more_path = length-append old.path.items (size ∷ []) in
+        omega (arith, found, less_sum, looked, bounds, path, more_bounds, more_path)
+    meet_less (joins p open_now j) =
+        let found = ap (summed one_unmet) (counts.found ∙ j.found) in
+        let looked = counted j.looked in
+        let bounds = ap (λ (ns : List ℕ). length ns) (counts.bounds ∙ j.bounds.is) in
+        let shorter = length-take j.bounds.kept old.bounds.items in
+        let path = ap (λ (ns : List ℕ). length ns) (counts.path ∙ j.path) in
+        let long = j.bounds.long in
+        omega (arith, found, looked, bounds, shorter, path, long)
+    meet_less (passes shut e) =
+        let found = ap (summed one_unmet) (counts.found ∙ ap (λ w. w.found.items) e) in
+        let looked = counted (ap (λ w. w.looked.items) e) in
+        let bounds = ap (λ (ns : List ℕ). length ns) (counts.bounds ∙ ap (λ w. w.bounds.items) e) in
+        let path = ap (λ (ns : List ℕ). length ns) (counts.path ∙ ap (λ w. w.path.items) e) in
+        omega (arith, found, looked, bounds, path)
+
 -- ---- the walk over all classes
+
+-- before its first step it is one
+pub start_walk : (g : List Links) (w : Walk) → IsStart (length g) w → IsWalkOf g w
+start_walk g w s = walk_as g (replicate (length g) New) w.found.items (replicate (length g) 0) w.looked.items [] w.stack.items [] w.bounds.items [] w.path.items 0 w.next fresh_walk s.found s.looked s.stack s.bounds s.path s.next
+  where
+    never : {A : Type 0} (a : ℕ) (k : Standing) → (New ≡ k → ⊥) → slice_get (replicate (length g) New) a ≡ Some k → A
+    never a k apart h = absurd (apart (all_equal (length g) New a k h))
+
+    shut_none : (a : ℕ) → is_closed (slice_get (replicate (length g) New) a) ≡ true → ⊥
+    shut_none a h = by_item (slice_get (replicate (length g) New) a) refl
+      where
+        by_item : (o : Option Standing) → slice_get (replicate (length g) New) a ≡ o → ⊥
+        by_item None e = let q : is_closed None ≡ true = subst (λ o. is_closed o ≡ true) e h in absurd cc
+        by_item (Some k) e =
+            let new : New ≡ k = all_equal (length g) New a k e in
+            let q : is_closed (Some New) ≡ true = subst (λ o. is_closed (Some o) ≡ true) (sym new) (subst (λ o. is_closed o ≡ true) e h) in
+            absurd cc
+
+    fresh_walk : IsWalk g (replicate (length g) New) (replicate (length g) 0) [] [] [] 0
+    fresh_walk = record {
+      each = equal_long (length g) New;
+      counts = equal_long (length g) 0;
+      opened = λ a k h. never a (Open k) (λ e. cc) h;
+      placed = λ k a h. absurd cc;
+      bounds_in = λ i b h. absurd cc;
+      bounds_rise = λ i j b c h e lt. absurd cc;
+      bounds_first = λ lt. absurd (omega (arith, lt));
+      path_in = λ i k h. absurd cc;
+      path_rise = λ i j k m h e lt. absurd cc;
+      fresh = λ a n h e. sym (all_equal (length g) 0 a n e);
+      finished = λ k a n h e lt. absurd cc;
+      seen = λ b k a n j c h le hx e lt sup. absurd cc;
+      down = λ b k a c h le hx hc. absurd cc;
+      back = λ b k a c h le near hx hc. absurd cc;
+      over = λ a k c h sup. absurd (shut_none a h);
+      cyclic = λ a h. never a Cyclic (λ e. cc) h;
+      apart = λ a r h. never a (Ranked r) (λ e. cc) h;
+      lower = λ a r k c h sup. never a (Ranked r) (λ e. cc) h;
+      ranks = λ a r h. never a (Ranked r) (λ e. cc) h;
+      fits = lit< tt;
+      left = (let all = sum_same one_unclosed New (length g) refl in omega (arith, all));
+    }
 
 module _ (g : List Links) (old : Walk) (ok : IsWalkOf g old) (none : length old.stack.items ≡ 0) (mid : Walk) (a : ℕ) (fresh : slice_get old.found.items a ≡ Some New) (e : Enters a old mid) where
   pub enter_kept : IsWalkOf g mid

@@ -1,11 +1,11 @@
 -- The state of the walk over all classes that finds those above themselves (this project's own). No
 -- public clause cites these.
-use Rattle.std.specs.Prelude.{◌≡◌, ◌+◌, ◌<◌, ◌≤◌, ◌-◌, ◌^◌, ℕ, Bool, true, false, List, [], ◌∷◌, ◌++◌, Option, Some, None, slice_get, slice_set, length, take, drop, replicate}
+use Rattle.std.specs.Prelude.{◌≡◌, ◌+◌, ◌*◌, ◌<◌, ◌≤◌, ◌-◌, ◌^◌, ℕ, Bool, true, false, List, [], ◌∷◌, ◌++◌, Option, Some, None, slice_get, slice_set, length, take, drop, replicate}
 use Rattle.class_order.specs.declared.links.Links.{Links}
 use Rattle.class_order.specs.declared.standing.Standing.{Standing}
 use Rattle.class_order.specs.declared.standing.Standing.TheVariants.{New, Open, Ranked, Cyclic}
 use Rattle.class_order.specs.declared.walk.Walk.{Walk}
-use Rattle.class_order.specs.Graph.{supers_at, Leads, IsAboveItself}
+use Rattle.class_order.specs.Graph.{supers_of, supers_at, Leads, IsAboveItself}
 use Rattle.class_order.specs.Standings.{IsLower}
 
 -- Whether a class is closed.
@@ -25,6 +25,25 @@ pub data IsBehind (found : Option Standing) (bound : ℕ) : Type 0 where
 pub record Stands (ns : List ℕ) (n : ℕ) : Type 0 where
   pub place : ℕ
   pub there : slice_get ns place ≡ Some n
+
+-- The sum of what each class counts for.
+abbrev pub summed : (Standing → ℕ) → List Standing → ℕ
+summed f [] = 0
+summed f (s ∷ more) = f s + summed f more
+
+-- A class that isn't closed counts for one.
+abbrev pub one_unclosed : Standing → ℕ
+one_unclosed New = 1
+one_unclosed (Open place) = 1
+one_unclosed (Ranked rank) = 0
+one_unclosed Cyclic = 0
+
+-- A class that wasn't met counts for one.
+abbrev pub one_unmet : Standing → ℕ
+one_unmet New = 1
+one_unmet (Open place) = 0
+one_unmet (Ranked rank) = 0
+one_unmet Cyclic = 0
 
 -- What the lists of the walk are at each moment. `found` is what each class is, `looked` how many of
 -- its supers were looked at; `stack` are the classes that were entered and aren't closed; `bounds`
@@ -75,11 +94,29 @@ pub record IsWalk (g : List Links) (found : List Standing) (looked stack bounds 
   -- ranks so far are below the next one
   pub ranks : (a r : ℕ) → slice_get found a ≡ Some (Ranked r) → r < next
   pub fits : next < 2 ^ 32
+  -- a rank is given to one class at most
+  pub left : next + summed one_unclosed found ≤ length g
 
 -- The same of the code's lists.
 abbrev pub IsWalkOf : List Links → Walk → Type 0
 IsWalkOf g w =
     IsWalk g w.found.items w.looked.items w.stack.items w.bounds.items w.path.items w.next
+
+-- How many supers weren't looked at.
+abbrev pub unlooked : List Links → List ℕ → ℕ
+unlooked [] ns = 0
+unlooked (l ∷ g) [] = 0
+unlooked (l ∷ g) (n ∷ ns) = (length (supers_of l) - n) + unlooked g ns
+
+-- What the walk has still to do, and no less.
+abbrev pub to_do : List Links → Walk → ℕ
+to_do g w =
+    ((3 * summed one_unmet w.found.items + unlooked g w.looked.items) + length w.path.items)
+    + length w.bounds.items
+
+-- The walk has less to do than before.
+abbrev pub IsLess : List Links → Walk → Walk → Type 0
+IsLess g old new = to_do g new < to_do g old
 
 -- ---- what a step does
 
@@ -195,6 +232,7 @@ pub record IsStart (count : ℕ) (w : Walk) : Type 0 where
   pub stack : w.stack.items ≡ []
   pub bounds : w.bounds.items ≡ []
   pub path : w.path.items ≡ []
+  pub next : w.next ≡ 0
 
 -- The walk at its end: no class is open, and each was met.
 pub record IsEnd (g : List Links) (w : Walk) : Type 0 where

@@ -1,6 +1,6 @@
 //! What stands above each class, kept so that a look upwards takes no memory.
 
-ghost use Rattle.std.specs.Prelude.{◌≡◌, ◌+◌, ◌<◌, ◌≤◌, ◌^◌, ◌↔◌, [], length, drop, slice_get, Some, IfOk, IfSome, IfNone, OnOk, IsTrue};
+ghost use Rattle.std.specs.Prelude.{◌≡◌, ◌+◌, ◌<◌, ◌≤◌, ◌^◌, ◌↔◌, [], ◌∷◌, length, drop, slice_get, Some, IfOk, IfSome, IfNone, OnOk, IsTrue};
 ghost use Rattle.class_order.specs.Graph.{supers_at, AreWithin};
 ghost use Rattle.class_order.specs.Walks.{Stands};
 ghost use Rattle.class_order.specs.Above.{IsOver, is_here, through_at, rank_of, AreRanked, AreFalling, IsWayUp, IsRow, AreRows};
@@ -60,7 +60,9 @@ pub fn is_over(rows: &[Above], class: u32, over: u32) -> bool
 // ---- how they are made
 
 // Whether a class names no super.
-fn is_top(links: &[Links], class: u32) -> bool {
+fn is_top(links: &[Links], class: u32) -> bool
+    ensures { IsTrue result → supers_at links.now class ≡ [] }
+{
     match links.get(class as usize) {
         Some(own) => own.parent.is_none() && own.interfaces.is_empty(),
         None => true,
@@ -130,7 +132,32 @@ fn beside(
     Ok(behind(alloc, &search.found, split)?)
 }
 
-// The same, without a search where the class names no other super.
+// The other super of a class that names two, where that one is a top.
+fn other_top(links: &[Links], class: u32, through: u32) -> Option<u32>
+    requires class { class < length links.now }
+    requires through { Stands (supers_at links.now class) through }
+    ensures { IfSome result (λ t. IsWayUp links.now class (Some through) (t ∷ [])) }
+{
+    let first = next_super(links, class, 0)?;
+    let second = next_super(links, class, 1)?;
+    let None = next_super(links, class, 2) else {
+        return None;
+    };
+    if second == through && is_top(links, first) {
+        return Some(first);
+    }
+    None
+}
+
+// This number alone.
+fn alone(alloc: Global, number: u32) -> Result<Vec<u32, Global>, Memory>
+    ensures { IfOk result (λ v. v.items ≡ number ∷ []) }
+{
+    Ok(vec![in alloc; number]?)
+}
+
+// The same, without a search where the class names no other super, or one that is a top, as Object
+// is beside the interface that an interface names.
 fn others(
     alloc: Global,
     links: &[Links],
@@ -146,9 +173,12 @@ fn others(
     ensures way { IfOk result (λ b. IsWayUp links.now class (Some through) b.items) }
     ensures marks { OnOk result (AreMarks (length links.now) (class + 1) search.new) }
 {
-    match next_super(links, class, 1) {
-        Some(_) => Ok(beside(alloc, links, search, class, through)?),
-        None => Ok(Vec::new(alloc)),
+    let Some(_) = next_super(links, class, 1) else {
+        return Ok(Vec::new(alloc));
+    };
+    match other_top(links, class, through) {
+        Some(top) => Ok(alone(alloc, top)?),
+        None => Ok(beside(alloc, links, search, class, through)?),
     }
 }
 

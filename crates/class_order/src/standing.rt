@@ -6,7 +6,7 @@ pub enum Standing {
     /// The walk hasn't come to the class.
     New,
     /// It is open, at this place among the open classes.
-    Open(u32),
+    Open(usize),
     /// It doesn't stand above itself. The ranks of its supers are lower, or they do.
     Ranked(u32),
     /// It stands above itself.

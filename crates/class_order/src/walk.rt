@@ -1,11 +1,11 @@
 //! The walk over all classes that finds those above themselves, in one pass over the supers that
 //! they name (Gabow's path-based search for strong components).
 
-ghost use Rattle.std.specs.Prelude.{◌≡◌, ◌<◌, ◌≤◌, nat_eq, length, slice_get, Some, IfOk, OnOk, IsTrue, ◌↔◌, ◌+◌, ◌-◌, ◌^◌, false};
+ghost use Rattle.std.specs.Prelude.{◌≡◌, ◌<◌, ◌≤◌, nat_eq, length, slice_get, Some, IfOk, IfSome, OnOk, IsTrue, ◌↔◌, ◌+◌, ◌^◌, ◌-◌, true, false};
 ghost use Rattle.std.specs.List.{list_any};
 ghost use Rattle.class_order.specs.Graph.{supers_of, supers_at, AreWithin};
 ghost use Rattle.class_order.specs.Standings.{AreStandings};
-ghost use Rattle.class_order.specs.Walks.{Enters, DropsBehind, Joins, Finishes, AllBelow, all_cyclic, ClosesOne, ClosesPart, Meets, Counts, IsLast, AreUpTo, IsWalkOf, KeepsMet, IsMet, IsStart, IsEnd};
+ghost use Rattle.class_order.specs.Walks.{Enters, DropsBehind, Joins, Finishes, AllBelow, all_cyclic, ClosesOne, ClosesPart, Meets, Counts, IsLast, AreUpTo, IsWalkOf, KeepsMet, IsMet, IsStart, IsEnd, IsLess};
 
 use crate::links::Links;
 use crate::standing::Standing;
@@ -22,16 +22,17 @@ pub struct Walk {
     /// The classes that were entered and aren't closed.
     pub stack: Vec<u32, Global>,
     /// Where the parts of the open classes begin. Those of one part stand above one another.
-    pub bounds: Vec<u32, Global>,
+    pub bounds: Vec<usize, Global>,
     /// The places of open classes with supers that weren't looked at.
-    pub path: Vec<u32, Global>,
+    pub path: Vec<usize, Global>,
     /// The next rank.
     pub next: u32,
 }
 
 // The super at a place of what a class names.
 fn super_at(links: &Links, place: usize) -> Option<u32>
-    ensures { result ≡ slice_get (supers_of links.now) place }
+    ensures named { result ≡ slice_get (supers_of links.now) place }
+    ensures few { IfSome result (λ s. place + 1 < 2 ^ 64) }
 {
     let Some(parent) = links.parent else {
         return links.interfaces.get(place).copied();
@@ -48,10 +49,6 @@ fn enter(walk: &mut Walk, class: u32) -> Result<(), Memory>
     ensures { OnOk result (Enters class walk.old walk.new) }
 {
     let at = walk.stack.len();
-    if at > u32::MAX as usize {
-        return Err(Memory);
-    }
-    let at = at as u32;
     walk.stack.push(class)?;
     walk.bounds.push(at)?;
     walk.path.push(at)?;
@@ -60,7 +57,7 @@ fn enter(walk: &mut Walk, class: u32) -> Result<(), Memory>
 }
 
 // Drops the bounds behind a place.
-fn drop_behind(bounds: &mut Vec<u32, Global>, place: u32)
+fn drop_behind(bounds: &mut Vec<usize, Global>, place: usize)
     ensures { DropsBehind place bounds.old.items bounds.new.items }
 {
     while let Some(bound) = bounds.last() {
@@ -72,7 +69,7 @@ fn drop_behind(bounds: &mut Vec<u32, Global>, place: u32)
 }
 
 // Joins the part that has this place and all parts behind it.
-fn join(walk: &mut Walk, place: u32)
+fn join(walk: &mut Walk, place: usize)
     ensures { Joins place walk.old walk.new }
 {
     drop_behind(&mut walk.bounds, place);
@@ -93,11 +90,11 @@ pub fn is_among(classes: &[u32], class: u32) -> bool
 }
 
 // The class at a place of the stack.
-fn class_at(walk: &Walk, at: u32) -> u32
+fn class_at(walk: &Walk, at: usize) -> u32
     requires { at < length walk.now.stack.items }
     ensures { slice_get walk.now.stack.items at ≡ Some result }
 {
-    walk.stack[at as usize]
+    walk.stack[at]
 }
 
 // How many supers of a class were looked at.
@@ -119,7 +116,8 @@ fn standing(walk: &Walk, class: u32) -> Standing
 /// The super at a place of what a class names.
 pub fn next_super(links: &[Links], class: u32, place: usize) -> Option<u32>
     requires { class < length links.now }
-    ensures { result ≡ slice_get (supers_at links.now class) place }
+    ensures named { result ≡ slice_get (supers_at links.now class) place }
+    ensures few { IfSome result (λ s. place + 1 < 2 ^ 64) }
 {
     super_at(links.get(class as usize)?, place)
 }
@@ -156,29 +154,26 @@ fn set_cyclic(found: &mut [Standing], classes: &[u32])
 }
 
 // Closes the last part, which is a class alone that doesn't name itself.
-fn close_one(walk: &mut Walk, class: u32) -> Result<(), Memory>
-    requires { class < length walk.old.found.items }
-    ensures { OnOk result (ClosesOne class walk.old walk.new) }
+fn close_one(walk: &mut Walk, class: u32)
+    requires class { class < length walk.old.found.items }
+    requires rank { walk.old.next + 1 < 2 ^ 32 }
+    ensures { ClosesOne class walk.old walk.new }
 {
     let rank = walk.next;
-    if rank == u32::MAX {
-        return Err(Memory);
-    }
     walk.found[class as usize] = Standing::Ranked(rank);
     walk.next = rank + 1;
     walk.stack.pop();
     walk.bounds.pop();
-    Ok(())
 }
 
 // Closes the last part, whose classes stand above themselves.
-fn close_part(walk: &mut Walk, bound: u32)
+fn close_part(walk: &mut Walk, bound: usize)
     requires classes { AllBelow walk.old.stack.items (length walk.old.found.items) }
     requires bound { bound ≤ length walk.old.stack.items }
     ensures { ClosesPart bound walk.old walk.new }
 {
-    set_cyclic(&mut walk.found, &walk.stack[bound as usize..]);
-    walk.stack.truncate(bound as usize);
+    set_cyclic(&mut walk.found, &walk.stack[bound..]);
+    walk.stack.truncate(bound);
     walk.bounds.pop();
 }
 
@@ -201,25 +196,23 @@ fn meet(walk: &mut Walk, class: u32) -> Result<(), Memory>
 }
 
 // Counts one super more of a class.
-fn count(walk: &mut Walk, class: u32, looked: usize) -> Result<(), Memory>
-    requires { class < length walk.old.looked.items }
-    ensures { OnOk result (Counts class looked walk.old walk.new) }
+fn count(walk: &mut Walk, class: u32, looked: usize)
+    requires class { class < length walk.old.looked.items }
+    requires few { looked + 1 < 2 ^ 64 }
+    ensures { Counts class looked walk.old walk.new }
 {
-    let Some(more) = looked.checked_add(1) else {
-        return Err(Memory);
-    };
-    walk.looked[class as usize] = more;
-    Ok(())
+    walk.looked[class as usize] = looked + 1;
 }
 
 // Looks at the next super of the last class of the path, which stands in the last part.
-fn look(links: &[Links], walk: &mut Walk, at: u32) -> Result<(), Memory>
+fn look(links: &[Links], walk: &mut Walk, at: usize) -> Result<(), Memory>
     requires within { AreWithin links.now (length links.now) }
     requires walk { IsWalkOf links.now walk.old }
     requires last { IsLast at walk.old.path.items }
     requires part { AreUpTo at walk.old.bounds.items }
     ensures walk { OnOk result (IsWalkOf links.now walk.new) }
     ensures met { OnOk result (KeepsMet walk.old walk.new) }
+    ensures falls { OnOk result (IsLess links.now walk.old walk.new) }
 {
     let class = class_at(walk, at);
     let looked = looked_at(walk, class);
@@ -228,39 +221,40 @@ fn look(links: &[Links], walk: &mut Walk, at: u32) -> Result<(), Memory>
         return Ok(());
     };
     meet(walk, up)?;
-    count(walk, class, looked)?;
+    count(walk, class, looked);
     Ok(())
 }
 
 // Whether the class at this place is the last one.
-fn is_alone(walk: &Walk, bound: u32) -> bool
+fn is_alone(walk: &Walk, bound: usize) -> bool
     requires { bound < length walk.now.stack.items }
     ensures { IsTrue result ↔ (length walk.now.stack.items ≡ bound + 1) }
 {
-    walk.stack.len() - 1 == bound as usize
+    walk.stack.len() - 1 == bound
 }
 
 // Closes the last part.
-fn close(links: &[Links], walk: &mut Walk, bound: u32) -> Result<(), Memory>
+fn close(links: &[Links], walk: &mut Walk, bound: usize)
+    requires few { length links.now < 2 ^ 32 }
     requires walk { IsWalkOf links.now walk.old }
     requires last { IsLast bound walk.old.bounds.items }
     requires path { AllBelow walk.old.path.items bound }
-    ensures walk { OnOk result (IsWalkOf links.now walk.new) }
-    ensures met { OnOk result (KeepsMet walk.old walk.new) }
+    ensures walk { IsWalkOf links.now walk.new }
+    ensures met { KeepsMet walk.old walk.new }
+    ensures falls { IsLess links.now walk.old walk.new }
 {
     let class = class_at(walk, bound);
     let is_alone = is_alone(walk, bound);
     let is_own_super = names_itself(links, class);
     if is_alone && !is_own_super {
-        close_one(walk, class)?;
-        return Ok(());
+        close_one(walk, class);
+        return;
     }
     close_part(walk, bound);
-    Ok(())
 }
 
 // The last of these numbers.
-fn last(numbers: &[u32]) -> Option<u32>
+fn last(numbers: &[usize]) -> Option<usize>
     ensures { result ≡ slice_get numbers.now (length numbers.now - 1) }
 {
     numbers.last().copied()
@@ -269,20 +263,22 @@ fn last(numbers: &[u32]) -> Option<u32>
 // Makes one step of the walk: whether there was one to make.
 fn step(links: &[Links], walk: &mut Walk) -> Result<bool, Memory>
     requires within { AreWithin links.now (length links.now) }
+    requires few { length links.now < 2 ^ 32 }
     requires walk { IsWalkOf links.now walk.old }
     ensures walk { OnOk result (IsWalkOf links.now walk.new) }
     ensures met { OnOk result (KeepsMet walk.old walk.new) }
     ensures end { IfOk result (λ goes_on. goes_on ≡ false → length walk.new.stack.items ≡ 0) }
+    ensures falls { IfOk result (λ goes_on. goes_on ≡ true → IsLess links.now walk.old walk.new) }
 {
     let Some(bound) = last(&walk.bounds) else {
         return Ok(false);
     };
     let Some(at) = last(&walk.path) else {
-        close(links, walk, bound)?;
+        close(links, walk, bound);
         return Ok(true);
     };
     if at < bound {
-        close(links, walk, bound)?;
+        close(links, walk, bound);
     } else {
         look(links, walk, at)?;
     }
@@ -292,22 +288,20 @@ fn step(links: &[Links], walk: &mut Walk) -> Result<bool, Memory>
 // Makes steps until no class is open.
 fn run(links: &[Links], walk: &mut Walk) -> Result<(), Memory>
     requires within { AreWithin links.now (length links.now) }
+    requires few { length links.now < 2 ^ 32 }
     requires walk { IsWalkOf links.now walk.old }
     ensures walk { OnOk result (IsWalkOf links.now walk.new) }
     ensures met { OnOk result (KeepsMet walk.old walk.new) }
     ensures end { OnOk result (length walk.new.stack.items ≡ 0) }
 {
-    for _ in 0..u64::MAX {
-        if !step(links, walk)? {
-            return Ok(());
-        }
-    }
-    Err(Memory)
+    'steps: while step(links, walk)? {}
+    Ok(())
 }
 
 // Goes to a class and all above it.
 fn visit(links: &[Links], walk: &mut Walk, class: u32) -> Result<(), Memory>
     requires within { AreWithin links.now (length links.now) }
+    requires few { length links.now < 2 ^ 32 }
     requires class { class < length links.now }
     requires walk { IsWalkOf links.now walk.old }
     requires start { length walk.old.stack.items ≡ 0 }
