@@ -27,11 +27,11 @@ public class LibraryRows {
         if (plain) {
             return "Text(\"" + s + "\")";
         }
-        StringBuilder units = new StringBuilder();
-        for (char c : s.toCharArray()) {
-            units.append(units.isEmpty() ? "" : ", ").append((int) c);
-        }
-        return "Units(&[" + units + "])";
+        return "Units(&[" + units(s) + "])";
+    }
+
+    static String units(String s) {
+        return s.chars().mapToObj(Integer::toString).collect(Collectors.joining(", "));
     }
 
     static String number(Object o) {
@@ -63,6 +63,12 @@ public class LibraryRows {
         if (o instanceof String || o instanceof StringBuilder) {
             return text(o.toString());
         }
+        if (o instanceof char[] chars) {
+            return "Chars(&[" + units(new String(chars)) + "])";
+        }
+        if (o instanceof Class<?> c) {
+            return "Class(\"" + c.getName().replace('.', '/') + "\")";
+        }
         return (o instanceof Long ? "Long(" : "Int(") + number(o) + ")";
     }
 
@@ -93,6 +99,7 @@ public class LibraryRows {
             row("LENGTH", () -> s.length(), s);
             row("IS_EMPTY", () -> s.isEmpty(), s);
             row("ITSELF", () -> s.toString(), s);
+            row("CHARS", () -> s.toCharArray(), s);
         }
         for (int i : new int[] {0, 2, 3, 4, -1}) {
             row("CHAR_AT", () -> "abc".charAt(i), "abc", i);
@@ -231,6 +238,18 @@ public class LibraryRows {
         row("COMPARE_ENUM", () -> Hue.BLUE.compareTo(Hue.RED), blue, red);
         row("COMPARE_ENUM", () -> Hue.RED.compareTo(Hue.BLUE), red, blue);
         row("COMPARE_ENUM", () -> Hue.RED.compareTo(null), red, null);
+        Comparable green = Hue.GREEN;
+        row("COMPARE_ANY_ENUM", () -> green.compareTo(Hue.BLUE), new Written("Constant(\"GREEN\", 1)"), blue);
+        row("COMPARE_ANY_ENUM", () -> green.compareTo(Hue.RED), new Written("Constant(\"GREEN\", 1)"), red);
+        row("COMPARE_ANY_ENUM", () -> green.compareTo(null), new Written("Constant(\"GREEN\", 1)"), null);
+        row("COMPARE_ANY_ENUM", () -> green.compareTo("x"), new Written("Constant(\"GREEN\", 1)"), "x");
+        row("COMPARE_ANY_ENUM", () -> green.compareTo(1), new Written("Constant(\"GREEN\", 1)"), kept(1));
+        char[] chars = {'a'};
+        row("CLASS_OF", () -> "x".getClass(), "x");
+        row("CLASS_OF", () -> Integer.valueOf(1).getClass(), kept(1));
+        row("CLASS_OF", () -> chars.getClass(), (Object) chars);
+        row("CLASS_OF", () -> Optional.empty().getClass(), new Written("Hollow"));
+        row("CLASS_OF", () -> new Throwable("why", null).getClass(), new Written("Thrown(\"why\")"));
         row("SAME_OBJECT", () -> new Object().equals(null), "x", null);
         row("SAME_OBJECT", () -> new Object().equals(new Object()), "x", "y");
         row("MESSAGE", () -> new Throwable("why", null).getMessage(), new Written("Thrown(\"why\")"));

@@ -20,7 +20,7 @@ use Rattle.program_rules.specs.Instructions.{Instruction, MethodRef, Nop, IntCon
 use Rattle.program_rules.specs.Linked.{Linked, LinkedBody, HasCode, IsNative, NoBody, is_static, is_interface, is_abstract, is_covered, is_from_file, has_static_constant, method_place}
 use Rattle.program_rules.specs.Outlines.{has_class_initializer}
 use Rattle.program_rules.specs.Objects.{Object, object_at}
-use Rattle.program_rules.specs.Deeds.{Change, Deed, Gives, Changes, Makes, Boxes, Throws, NoDeed}
+use Rattle.program_rules.specs.Deeds.{Change, Deed, Gives, Changes, Makes, Boxes, MakesChars, GivesClass, GivesWithin, Throws, NoDeed}
 use Rattle.program_rules.specs.Programs.{Look}
 use Rattle.program_rules.specs.Resolution.{same_bool}
 use Rattle.program_rules.specs.Tests.{Call}
@@ -28,8 +28,9 @@ use Rattle.machine_rules.specs.State.{Frame, World, MachineState}
 use Rattle.machine_rules.specs.Effects.{Effect, Goes, NoRow, Current, on_some, on_top, on_int, on_reversed, is_wide, goes_with, jumps, pushes, locals_of, allocate, unless_full, fault_object, throws, enters}
 use Rattle.machine_rules.specs.Lookups.{consult}
 use Rattle.machine_rules.specs.Initialisation.{marks}
-use Rattle.machine_rules.specs.Performing.{NativeResult, Returns, Raises, HeapFull, NoResult, performs, perform_change, perform_boxing, box_among, number_of}
-use Rattle.machine_rules.specs.Calls.{goes_on, ends_native, room_of, is_awaited}
+use Rattle.machine_rules.specs.Performing.{NativeResult, Returns, Raises, ReturnsWithin, HeapFull, NoResult, performs, perform_change, perform_boxing, box_among, number_of, perform_class}
+use Rattle.machine_rules.specs.NewObjects.{made_for}
+use Rattle.machine_rules.specs.Calls.{goes_on, room_of, is_awaited}
 use Rattle.machine_rules.specs.Script.{needs_static}
 use Rattle.machine_rules.specs.Throwing.{rows_of}
 use Rattle.machine_rules.specs.Steps.{int_local, reference_local, fetch, line_of, reach, reaches, outcome_of, Place, place_of, Stepped, Next, Ended, Stuck, next_or, unless_ended}
@@ -38,7 +39,7 @@ use Rattle.machine_laws.specs.FrameLaw.{HasEnded}
 use Rattle.machine_laws.proofs.Lines.{Pairs, Grow, grow_reach, hit_reach, all_more, live_hit}
 use Rattle.machine_laws.proofs.Runs.{least_then, at_end, before_end, then_same}
 use Rattle.machine_so_far.specs.Initialisation.{Need, Ready, Begins, Fails, Unlisted, need_of, needed, when_ready}
-use Rattle.machine_so_far.specs.Calls.{on_object, runs, finds_static, invokes_static, is_object_initializer, returns}
+use Rattle.machine_so_far.specs.Calls.{on_object, ends_native, runs, finds_static, invokes_static, is_object_initializer, returns}
 use Rattle.machine_so_far.specs.Throwing.{pops}
 use Rattle.machine_so_far.specs.Script.{new_object, begins_call, calls_kind, finds_call, calls_next}
 use Rattle.machine_so_far.specs.Steps.{operates, act, goes, step_so_far}
@@ -123,6 +124,7 @@ module _ (p : Look) (rs : Pairs) where
   abbrev Leaves : World → NativeResult → Type 0
   Leaves w (Returns u v) = u.reached ≡ w.reached
   Leaves w (Raises x) = Unit {0}
+  Leaves w (ReturnsWithin x n v fault) = Unit {0}
   Leaves w HeapFull = Unit {0}
   Leaves w NoResult = Unit {0}
 
@@ -138,17 +140,25 @@ module _ (p : Look) (rs : Pairs) where
   boxing_leaves limit w m v (Some x) = refl
   boxing_leaves limit w m v None = leave_if w (nat_le (w.used + 2) limit) _ _ refl tt
 
+  class_leaves : (limit : ℕ) (w : World) (n : Name) (o : Option ℕ) → Leaves w (perform_class limit w n o)
+  class_leaves limit w n (Some x) = refl
+  class_leaves limit w n None = leave_if w (nat_le (w.used + 3) limit) _ _ refl tt
+
   leaves : (limit : ℕ) (w : World) (d : Deed) → Leaves w (performs limit w d)
   leaves limit w (Gives v) = refl
   leaves limit w (Changes x c words v) = change_leaves limit w x c words v (object_at w.heap x)
   leaves limit w (Makes m text items words) = leave_if w (nat_le (w.used + (1 + words)) limit) _ _ refl tt
   leaves limit w (Boxes m v) = boxing_leaves limit w m v (box_among m (number_of v) w.boxes)
+  leaves limit w (MakesChars units) = leave_if w (nat_le (w.used + (2 + length units)) limit) _ _ refl tt
+  leaves limit w (GivesClass n) = class_leaves limit w n (made_for n w.class_objects)
+  leaves limit w (GivesWithin x n v fault) = tt
   leaves limit w (Throws x) = tt
   leaves limit w NoDeed = tt
 
   native_case : (q : Limits) (w : World) (f : Frame) (fs : List Frame) (room : ℕ) (x : NativeResult) → Good p rs w (f ∷ fs) → Leaves w x → Fine p rs (ends_native q w f fs room x)
   native_case q w f fs room (Returns u v) g h = fine_goes_on u f fs room v (subst (λ ts. Grow rs ts × AllHit p ts (f ∷ fs)) (sym h) g)
   native_case q w f fs room (Raises x) g h = fine_throws q w (f ∷ fs) x g
+  native_case q w f fs room (ReturnsWithin x n v fault) g h = tt
   native_case q w f fs room HeapFull g h = fine_goes_with (record w { over = Some MemoryOut }) (f ∷ fs) g
   native_case q w f fs room NoResult g h = tt
 

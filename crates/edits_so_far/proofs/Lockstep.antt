@@ -20,7 +20,7 @@ use Rattle.program_rules.specs.Tests.{Call}
 use Rattle.machine_rules.specs.State.{Frame, World, MachineState}
 use Rattle.machine_rules.specs.Effects.{Effect, NoRow, Current, on_some, jumps, allocate}
 use Rattle.machine_rules.specs.Lookups.{consult}
-use Rattle.machine_rules.specs.Performing.{performs}
+use Rattle.machine_rules.specs.Performing.{NativeResult, Returns, Raises, ReturnsWithin, HeapFull, NoResult, performs}
 use Rattle.machine_rules.specs.Calls.{goes_on, room_of, is_awaited}
 use Rattle.machine_rules.specs.Script.{needs_static}
 use Rattle.machine_rules.specs.Throwing.{rows_of}
@@ -28,7 +28,7 @@ use Rattle.machine_rules.specs.Steps.{Fetched, fetch, reaches, outcome_of, place
 use Rattle.machine_rules.specs.Runs.{comes_to, at_limit}
 use Rattle.machine_laws.specs.FrameLaw.{WentRight, IfNext}
 use Rattle.machine_so_far.specs.Initialisation.{Need, Ready, Begins, Fails, Unlisted, need_of, needed, when_ready}
-use Rattle.machine_so_far.specs.Calls.{on_object, runs, calls_static, finds_static, static_with, invokes_static, is_object_initializer, returns, returns_int}
+use Rattle.machine_so_far.specs.Calls.{on_object, ends_native, runs, calls_static, finds_static, static_with, invokes_static, is_object_initializer, returns, returns_int}
 use Rattle.machine_so_far.specs.Throwing.{pops, unwinds}
 use Rattle.machine_so_far.specs.Script.{new_object, begins_call, calls_kind, finds_call, call_with, calls_next}
 use Rattle.machine_so_far.specs.Steps.{operates, act, goes, step_so_far}
@@ -36,8 +36,8 @@ use Rattle.machine_so_far.specs.Runs.{run_so_far_from}
 use Rattle.edit_laws.specs.Edit.{Edit, place_in, relocate, IsEdited}
 use Rattle.edit_laws.specs.EditLaws.{moved_frame, moved_state, IsAway, AreAway, IsAwayIfLive, StepFollows}
 use Rattle.edit_laws.proofs.Exchange.{MoreRoom, MovedFetch, fetch_alike, room_alike, reaches_alike, consult_alike}
-use Rattle.edit_laws.proofs.Following.{Follows, follows_by, follows_some, follows_if, follows_test, follows_int, follows_reversed, follows_full, follows_enters, follows_next}
-use Rattle.edit_laws.proofs.MovedRows.{moved_push, moved_loads_int, moved_loads_reference, moved_stores_int, moved_pops_word, moved_operates_int, moved_on_int, moved_on_ints, moved_goes_on, native_case}
+use Rattle.edit_laws.proofs.Following.{Follows, follows_by, follows_some, follows_if, follows_test, follows_int, follows_reversed, follows_full, follows_throws, follows_enters, follows_next}
+use Rattle.edit_laws.proofs.MovedRows.{moved_push, moved_loads_int, moved_loads_reference, moved_stores_int, moved_pops_word, moved_operates_int, moved_on_int, moved_on_ints, moved_goes_on}
 use Rattle.edit_laws.proofs.Lockstep.{next_follow, unless_follow, ended_alike, then_alike}
 use Rattle.edits_so_far.proofs.Exchange.{covered_alike, need_alike, ready_same, finds_static_same, finds_call_same, object_alike}
 
@@ -60,9 +60,16 @@ module _ (e : Edit) where
   ready_follows w fs Unlisted c d d' h = tt
 
   module _ (q : Limits) where
+    native_case : (w : World) (f : Frame) (fs : List Frame) → IsAway e f → (room wider : ℕ) → room ≤ wider → (d : NativeResult) → Follows e (ends_native q w f fs room d) (ends_native q w (moved_frame e f) (map (moved_frame e) fs) wider d)
+    native_case w f fs away room wider more (Returns u v) = moved_goes_on e q f fs away room wider more u v
+    native_case w f fs away room wider more (Raises x) = follows_throws e q w (f ∷ fs) x
+    native_case w f fs away room wider more (ReturnsWithin x n v fault) = tt
+    native_case w f fs away room wider more HeapFull = refl
+    native_case w f fs away room wider more NoResult = tt
+
     runs_follows : (w : World) (f : Frame) (fs : List Frame) → IsAway e f → (room wider : ℕ) → room ≤ wider → (class : Name) (k : ℕ) (args : List Value) (body : LinkedBody) → Follows e (runs q w f fs room class k args body) (runs q w (moved_frame e f) (map (moved_frame e) fs) wider class k args body)
     runs_follows w f fs away room wider more class k args (HasCode code) = follows_enters e q w (f ∷ fs) class k code.max_locals args
-    runs_follows w f fs away room wider more class k args (IsNative meaning) = native_case e q f fs away room wider more w (performs q.heap w (meaning w.heap args))
+    runs_follows w f fs away room wider more class k args (IsNative meaning) = native_case w f fs away room wider more (performs q.heap w (meaning w.heap args))
     runs_follows w f fs away room wider more class k args NoBody = tt
 
     calls_static_follows : (w : World) (f : Frame) (fs : List Frame) → IsAway e f → (room wider : ℕ) → room ≤ wider → (r : MethodRef) (k : ℕ) (m : LinkedMethod) (ready ready' : Effect → Effect) → WaitsAlike ready ready' → Follows e (calls_static q w f fs room r k m ready) (calls_static q w (moved_frame e f) (map (moved_frame e) fs) wider r k m ready')

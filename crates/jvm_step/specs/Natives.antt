@@ -11,7 +11,7 @@ use Rattle.machine_rules.specs.State as def
 use Rattle.machine_rules.specs.Effects.{Effect, on_args}
 use Rattle.machine_rules.specs.Lookups.{consult}
 use Rattle.machine_rules.specs.Performing.{performs}
-use Rattle.machine_rules.specs.Calls.{ends_native}
+use Rattle.machine_so_far.specs.Calls.{ends_native}
 use Rattle.class_link.specs.Info.{Info}
 use Rattle.class_link.specs.Symbols.{kind_of}
 use Rattle.class_table.specs.Table.{look}

@@ -1,5 +1,5 @@
 -- What a reader of arguments answers: what it read is what the form of the arguments hands on.
-use Rattle.std.specs.Prelude.{◌≡◌, List, Option, Some, None}
+use Rattle.std.specs.Prelude.{◌≡◌, ℕ, List, Option, Some, None}
 use Rattle.program_rules.specs.Names.{Name}
 use Rattle.program_rules.specs.Objects as def
 use Rattle.program_rules.specs.Deeds.{Deed, NoDeed}
@@ -43,6 +43,13 @@ abbrev pub HandsObjectWith :
 HandsObjectWith {A} form objects o x =
     (ns : List Name) (go : def.Object → A → Deed) →
     form (objects_of ns objects) go ≡ go (object_of ns o) x
+
+-- It hands on the object behind its number.
+abbrev pub HandsNumbered :
+    (List def.Object → (ℕ → def.Object → Deed) → Deed) → List Object → ℕ → Object → Type 0
+HandsNumbered form objects x o =
+    (ns : List Name) (go : ℕ → def.Object → Deed) →
+    form (objects_of ns objects) go ≡ go x (object_of ns o)
 
 -- It hands on a thing that is no object.
 abbrev pub HandsSeen :

@@ -56,7 +56,7 @@ IsAdded known o words old new x =
 abbrev pub DoesAlone : deeds.Deed → Contents → Contents → NativeEnd → Type 0
 DoesAlone d old new e =
     (ns : List Name) (w : World) (kept : Kept) →
-    performs old.limit (with_store ns old kept w) d ≡ result_of (with_store ns new kept w) e
+    performs old.limit (with_store ns old kept w) d ≡ result_of old.limit (with_store ns new kept w) e
 
 -- It isn't done since the heap's limit would be passed, and the heap is as before.
 abbrev pub IsRefusedAlone : deeds.Deed → Contents → Contents → Type 0
@@ -72,7 +72,7 @@ abbrev pub Does :
 Does known d heap kept new_heap new_kept e =
     (ns : List Name) (w : World) → IsKnown ns known →
     performs heap.limit (with_store ns heap kept w) d
-    ≡ result_of (with_store ns new_heap new_kept w) e
+    ≡ result_of heap.limit (with_store ns new_heap new_kept w) e
 
 -- In every world the heap's limit would be passed.
 abbrev pub Passes : Known → deeds.Deed → Contents → Kept → Type 0

@@ -8,6 +8,7 @@ use Rattle.program_rules.specs.Kinds.{Kind, OfBoolean, OfByte, OfChar, OfShort, 
 use Rattle.program_rules.specs.Objects as def
 use Rattle.program_rules.specs.Deeds as deeds
 use Rattle.machine_rules.specs.State as state
+use Rattle.machine_rules.specs.NewObjects.{made_for}
 use Rattle.machine_rules.specs.Performing as performing
 use Rattle.jvm_values.specs.declared.object.ObjKind.{ObjKind}
 use Rattle.jvm_values.specs.declared.object.ObjKind.TheVariants as kind
@@ -75,6 +76,9 @@ deed_of (deed.Gives v) = deeds.Gives v
 deed_of (deed.Changes x c words v) = deeds.Changes x (change_of c) words v
 deed_of (deed.Makes m text items words) = deeds.Makes m text items words
 deed_of (deed.Boxes m v) = deeds.Boxes m v
+deed_of (deed.MakesChars units) = deeds.MakesChars units
+deed_of (deed.GivesClass n) = deeds.GivesClass n
+deed_of (deed.GivesWithin x n v fault) = deeds.GivesWithin x n v fault
 deed_of (deed.Throws x) = deeds.Throws x
 deed_of deed.NoDeed = deeds.NoDeed
 
@@ -91,8 +95,11 @@ with_store ns heap kept w = record w {
   boxes = map box_of kept.boxes;
 }
 
--- What a native method came to, in the world behind it.
-abbrev pub result_of : state.World → NativeEnd → performing.NativeResult
-result_of w (end.Returns v) = performing.Returns w v
-result_of w (end.Raises x) = performing.Raises x
-result_of w end.NoResult = performing.NoResult
+-- What a native method came to, in the world behind it, under a limit of the heap's words.
+abbrev pub result_of : ℕ → state.World → NativeEnd → performing.NativeResult
+result_of limit w (end.Returns v) = performing.Returns w v
+result_of limit w (end.Raises x) = performing.Raises x
+result_of limit w (end.ReturnsClass n) =
+    performing.perform_class limit w n (made_for n w.class_objects)
+result_of limit w (end.ReturnsWithin x n v fault) = performing.ReturnsWithin x n v fault
+result_of limit w end.NoResult = performing.NoResult

@@ -30,6 +30,12 @@ pub enum Deed {
     Makes(Making, Name, Seq<Value>, u64),
     /// The one object of a class for a number.
     Boxes(Making, Value),
+    /// A new array of these chars.
+    MakesChars(Name),
+    /// The one object that stands for a class.
+    GivesClass(Name),
+    /// This, where the object of a number is of a class or of one below it, else the exception.
+    GivesWithin(u32, Name, Value, Fault),
     Throws(Fault),
     /// For other arguments there is no row.
     NoDeed,

@@ -1,25 +1,32 @@
 //! What is to be done for a native method is done to the heap and to the boxes that are kept.
 
-ghost use Rattle.std.specs.Prelude.{◌≡◌, ◌+◌, ◌++◌, ◌∷◌, [], Some, None, map, true, IfOk, OnOk, IsSome};
+ghost use Rattle.std.specs.Prelude.{◌≡◌, ◌+◌, ◌++◌, ◌∷◌, [], List, Some, None, map, true, IfOk, OnOk, IsSome};
 ghost use Rattle.program_rules.specs.Deeds as deeds;
-ghost use Rattle.machine_rules.specs.Performing.{object_with, box_among, number_of};
+ghost use Rattle.program_rules.specs.Names.{Name as Text};
+ghost use Rattle.machine_rules.specs.Performing.{object_with, box_among, number_of, char_value, char_array};
 ghost use Rattle.jvm_values.specs.Contents.{object_at, fits_with, with_object_at};
 ghost use Rattle.lib_core.specs.Performed.{OnFull, IsPassed, IsChanged, IsObject, IsAdded, DoesAlone, IsRefusedAlone, Does, IsRefused};
-ghost use Rattle.lib_core.specs.View.{change_of, deed_of, box_of};
+ghost use Rattle.lib_core.specs.View.{object_of, change_of, deed_of, box_of};
 
 use crate::changing::change_object;
 use crate::deed::{Change, Deed};
 use crate::known::Known;
-use class_model::{Memory, Name, Seq};
+use class_model::{Kind, Memory, Name, Seq};
 use jvm_values::{Heap, HeapFault, Kept, KeptBox, ObjKind, Object};
 use program_rules::{Fault, Making, Value};
 use std::alloc::Global;
 
 /// What a native method came to.
-#[derive(Clone, Copy)]
+#[derive(Drop)]
 pub enum NativeEnd {
     Returns(Option<Value>),
     Raises(Fault),
+    /// The object that stands for a class: the one that was made for it, else a new one of three
+    /// words. It is left to who keeps these objects.
+    ReturnsClass(Name),
+    /// This, where the object of a number is of a class or of one below it, else the exception. It
+    /// is left to who knows the program.
+    ReturnsWithin(u32, Name, Value, Fault),
     /// There is no row for its arguments.
     NoResult,
 }
@@ -213,6 +220,43 @@ fn give_box(
     Ok(x)
 }
 
+// ---- an array of chars
+
+fn char_values(alloc: Global, units: &[u16]) -> Result<Seq<Value>, Memory>
+    ensures { IfOk result (λ values. values ≡ map char_value units.now) }
+{
+    let mut values = Vec::with_capacity(alloc, units.len())?;
+    for unit in units {
+        values.push(Value::Int(*unit as i32))?;
+    }
+    Ok(Seq::from_vec(values))
+}
+
+fn char_array(alloc: Global, units: &[u16]) -> Result<Object, Memory>
+    ensures { IfOk result (λ o. (ns : List Text) → object_of ns o ≡ char_array units.now) }
+{
+    let values = char_values(alloc, units)?;
+    Ok(Object {
+        kind: ObjKind::Array(Kind::Char),
+        values,
+        text: Seq::new(alloc),
+        items: Seq::new(alloc),
+    })
+}
+
+fn make_chars(alloc: Global, heap: &mut Heap, units: &[u16]) -> Result<u32, HeapFault>
+    ensures made { IfOk result (λ x. DoesAlone (deeds.MakesChars units.now)
+        heap.old heap.new (NativeEnd.Returns (Some (Value.Ref x)))) }
+    ensures full { OnFull result (
+        IsRefusedAlone (deeds.MakesChars units.now) heap.old heap.new) }
+{
+    let array = char_array(alloc, units)?;
+    match heap.add(array, 1 + units.len() as u64) {
+        Ok(number) => Ok(number),
+        Err(fault) => Err(fault),
+    }
+}
+
 // ---- any deed
 
 /// Does what is to be done for a native method. `Full` is where the limit of the heap's words would
@@ -242,6 +286,14 @@ pub fn perform(
                 Ok(number) => Ok(NativeEnd::Returns(Some(Value::Ref(number)))),
                 Err(fault) => Err(fault),
             }
+        }
+        Deed::MakesChars(units) => match make_chars(alloc, heap, units.as_slice()) {
+            Ok(number) => Ok(NativeEnd::Returns(Some(Value::Ref(number)))),
+            Err(fault) => Err(fault),
+        },
+        Deed::GivesClass(name) => Ok(NativeEnd::ReturnsClass(name)),
+        Deed::GivesWithin(at, class, v, fault) => {
+            Ok(NativeEnd::ReturnsWithin(at, class, v, fault))
         }
         Deed::Boxes(making, number) => match give_box(alloc, known, heap, kept, making, number) {
             Ok(number) => Ok(NativeEnd::Returns(Some(Value::Ref(number)))),

@@ -6,9 +6,9 @@ ghost use Rattle.std.specs.Option.{option_copied};
 ghost use Rattle.program_rules.specs.Objects.{object_at};
 ghost use Rattle.program_rules.specs.Deeds.{NoDeed, value_object};
 ghost use Rattle.program_rules.specs.Natives.{on_this, on_this_int, on_this_value, on_int};
-ghost use Rattle.library_rules.specs.Arguments.{on_receiver, on_receiver_int, on_receiver_value, on_this_ints, on_this_long, on_this_values, on_this_int_value, on_this_value_int, on_this_int_values, on_ints, on_long, on_longs, on_value, on_values, on_needed, on_text, is_ref_to, place_of};
+ghost use Rattle.library_rules.specs.Arguments.{on_receiver, on_receiver_int, on_receiver_value, on_this_ints, on_this_long, on_this_values, on_this_int_value, on_this_value_int, on_this_int_values, on_ints, on_long, on_longs, on_value, on_values, on_needed, on_needed_number, on_text, is_ref_to, place_of};
 ghost use Rattle.lib_core.specs.View.{deed_of};
-ghost use Rattle.lib_core.specs.Forms.{Hands, HandsTwo, HandsThree, HandsFour, HandsNone, HandsObject, HandsObjectWith, HandsSeen, Ends, Finds, FindsNone};
+ghost use Rattle.lib_core.specs.Forms.{Hands, HandsTwo, HandsThree, HandsFour, HandsNone, HandsObject, HandsObjectWith, HandsNumbered, HandsSeen, Ends, Finds, FindsNone};
 
 use crate::deed::Deed;
 use jvm_values::Object;
@@ -268,6 +268,21 @@ pub fn needed<'a>(objects: &'a [Object], v: Value) -> Result<&'a Object, Deed>
         Value::Null => Err(Deed::Throws(Fault::NullPointerException)),
         Value::Ref(x) => match object(objects, x) {
             Some(o) => Ok(o),
+            None => Err(Deed::NoDeed),
+        },
+        Value::Int(_) | Value::Long(_) => Err(Deed::NoDeed),
+    }
+}
+
+/// The object that is needed and its number, or what is to be done where there is none.
+pub fn needed_number(objects: &[Object], v: Value) -> Result<(u32, &Object), Deed>
+    ensures ok { IfOk result (λ x. HandsNumbered (λ h. on_needed_number h v) objects.now x.0 x.1.now) }
+    ensures err { IfErr result (λ d. Ends (λ h. on_needed_number h v) objects.now (deed_of d)) }
+{
+    match v {
+        Value::Null => Err(Deed::Throws(Fault::NullPointerException)),
+        Value::Ref(x) => match object(objects, x) {
+            Some(o) => Ok((x, o)),
             None => Err(Deed::NoDeed),
         },
         Value::Int(_) | Value::Long(_) => Err(Deed::NoDeed),

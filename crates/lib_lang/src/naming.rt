@@ -1,4 +1,4 @@
-//! `toString()` of `java/lang/Object`, the only native method that asks for the name of a class.
+//! `toString()` and `getClass()` of `java/lang/Object`, which ask for the name of a class.
 
 ghost use Rattle.std.specs.Prelude.{◌≡◌, ◌++◌, ◌∷◌, [], List, Some, None, codes, false, IfOk};
 ghost use Rattle.std.specs.Fmt.{digits};
@@ -11,7 +11,7 @@ ghost use Rattle.lib_core.specs.View.{kind_of, kind_in, name_at};
 use crate::object::dotted;
 use class_model::{ClassId, Kind, Memory, Name, Seq};
 use jvm_values::{ObjKind, Object};
-use lib_core::{Deed, makes_text, object, this, units_of};
+use lib_core::{Deed, makes_text, object, receiver, this, units_of};
 use program_rules::Value;
 use std::alloc::Global;
 
@@ -120,4 +120,20 @@ pub fn object_text(
     let name = kind_name(alloc, names, &object.kind)?;
     let units = object_name(alloc, name.as_slice(), x)?;
     Ok(makes_text(alloc, units))
+}
+
+/// `getClass()`
+pub fn object_class(
+    alloc: Global,
+    names: &[Name],
+    objects: &[Object],
+    args: &[Value],
+) -> Result<Deed, Memory>
+    ensures { IfOk result (λ d. AnswersAmong names.now def.object_class objects.now args.now d) }
+{
+    let Some(object) = receiver(objects, args) else {
+        return Ok(Deed::NoDeed);
+    };
+    let name = kind_name(alloc, names, &object.kind)?;
+    Ok(Deed::GivesClass(name))
 }

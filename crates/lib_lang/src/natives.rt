@@ -39,7 +39,8 @@ fn object_deed(
         ObjectNative::EnumName => Ok(object::enum_name(objects, args)),
         ObjectNative::EnumOrdinal => Ok(object::enum_ordinal(objects, args)),
         ObjectNative::CompareEnum => Ok(object::compare_enum(objects, args)),
-        ObjectNative::NotThere => Ok(object::not_there(args)),
+        ObjectNative::ClassOf => Ok(naming::object_class(alloc, names, objects, args)?),
+        ObjectNative::CompareAny => Ok(object::compare_any_enum(alloc, objects, args)?),
     }
 }
 

@@ -3,17 +3,18 @@
 ghost use Rattle.std.specs.Prelude.{◌≡◌, ◌++◌, ◌∷◌, [], List, Some, None, map, slice_get, IfOk};
 ghost use Rattle.std.specs.Fmt.{digits};
 ghost use Rattle.program_rules.specs.Natives.{do_nothing, kept_int};
-ghost use Rattle.library_rules.specs.Numbered.{not_there};
 ghost use Rattle.library_rules.specs.Objects as def;
+ghost use Rattle.program_rules.specs.Names.{Name as Text};
 ghost use Rattle.lib_core.specs.Answers.{Answers, AnswersAlone};
+ghost use Rattle.lib_core.specs.View.{object_of};
 
 use class_model::{Memory, Name, Seq};
 use jvm_values::Object;
 use lib_core::{
-    Change, Deed, gives_bool, is_ref_to, makes_text, minus, needed, receiver, receiver_value, this,
-    this_value, this_value_int, word,
+    Change, Deed, gives_bool, is_ref_to, makes_text, minus, needed, needed_number, receiver,
+    receiver_value, this, this_value, this_value_int, units_of, word,
 };
-use program_rules::Value;
+use program_rules::{Fault, Value};
 use std::alloc::Global;
 
 /// An `<init>` that keeps nothing, and `Throwable.addSuppressed(Throwable)`
@@ -22,14 +23,6 @@ pub fn do_nothing(args: &[Value]) -> Deed
 {
     let _none = args.is_empty();
     Deed::Gives(None)
-}
-
-/// A method that the table has and that means nothing yet
-pub fn not_there(args: &[Value]) -> Deed
-    ensures { AnswersAlone not_there args.now result }
-{
-    let _none = args.is_empty();
-    Deed::NoDeed
 }
 
 /// `equals(Object)`, by identity
@@ -137,6 +130,14 @@ pub fn enum_ordinal(objects: &[Object], args: &[Value]) -> Deed
     Deed::Gives(Some(Value::Int(ordinal_in(object))))
 }
 
+// The difference of the ordinals.
+fn enum_order(object: &Object, other: &Object) -> i32
+    ensures { (ns : List Text) →
+        def.enum_order (object_of ns object.now) (object_of ns other.now) ≡ result }
+{
+    minus(ordinal_in(object), ordinal_in(other))
+}
+
 /// `compareTo(Enum)`
 pub fn compare_enum(objects: &[Object], args: &[Value]) -> Deed
     ensures { Answers def.compare_enum objects.now args.now result }
@@ -145,7 +146,24 @@ pub fn compare_enum(objects: &[Object], args: &[Value]) -> Deed
         return Deed::NoDeed;
     };
     match needed(objects, v) {
-        Ok(other) => Deed::Gives(Some(Value::Int(minus(ordinal_in(object), ordinal_in(other))))),
+        Ok(other) => Deed::Gives(Some(Value::Int(enum_order(object, other)))),
         Err(deed) => deed,
+    }
+}
+
+/// `compareTo(Object)`: of what is no constant it throws.
+pub fn compare_any_enum(alloc: Global, objects: &[Object], args: &[Value]) -> Result<Deed, Memory>
+    ensures { IfOk result (λ d. Answers def.compare_any_enum objects.now args.now d) }
+{
+    let Some((object, v)) = receiver_value(objects, args) else {
+        return Ok(Deed::NoDeed);
+    };
+    match needed_number(objects, v) {
+        Ok((x, other)) => {
+            let class = units_of(alloc, "java/lang/Enum".as_bytes())?;
+            let order = Value::Int(enum_order(object, other));
+            Ok(Deed::GivesWithin(x, class, order, Fault::ClassCastException))
+        }
+        Err(deed) => Ok(deed),
     }
 }

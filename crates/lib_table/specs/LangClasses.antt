@@ -20,7 +20,7 @@ object_methods =
     ∷ native (as_object object.SameObject) "equals" "(Ljava/lang/Object;)Z"
     ∷ native (as_object object.AllocationNumber) "hashCode" "()I"
     ∷ native (as_object object.ObjectText) "toString" "()Ljava/lang/String;"
-    ∷ native (as_object object.NotThere) "getClass" "()Ljava/lang/Class;"
+    ∷ native (as_object object.ClassOf) "getClass" "()Ljava/lang/Class;"
     ∷ []
 
 -- java/lang/Class
@@ -37,7 +37,7 @@ enum_methods =
     ∷ native (as_object object.EnumName) "name" "()Ljava/lang/String;"
     ∷ native (as_object object.EnumOrdinal) "ordinal" "()I"
     ∷ native (as_object object.EnumName) "toString" "()Ljava/lang/String;"
-    ∷ native (as_object object.NotThere) "compareTo" "(Ljava/lang/Object;)I"
+    ∷ native (as_object object.CompareAny) "compareTo" "(Ljava/lang/Object;)I"
     ∷ native (as_object object.CompareEnum) "compareTo" "(Ljava/lang/Enum;)I"
     ∷ native (as_object object.SameObject) "equals" "(Ljava/lang/Object;)Z"
     ∷ native (as_object object.AllocationNumber) "hashCode" "()I"
@@ -87,7 +87,7 @@ string_methods =
     ∷ native (as_text text.IndexOfText) "indexOf" "(Ljava/lang/String;)I"
     ∷ native (as_text text.StartsWith) "startsWith" "(Ljava/lang/String;)Z"
     ∷ native (as_text text.EndsWith) "endsWith" "(Ljava/lang/String;)Z"
-    ∷ native (as_object object.NotThere) "toCharArray" "()[C"
+    ∷ native (as_text text.Chars) "toCharArray" "()[C"
     ∷ native (as_text text.Itself) "toString" "()Ljava/lang/String;"
     ∷ static_native (as_text text.OfInt) "valueOf" "(I)Ljava/lang/String;"
     ∷ static_native (as_text text.OfLong) "valueOf" "(J)Ljava/lang/String;"

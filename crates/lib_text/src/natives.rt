@@ -43,6 +43,7 @@ pub fn text_deed(
         TextNative::OfLong => Ok(text::of_long(alloc, args)?),
         TextNative::OfChar => Ok(text::of_char(alloc, args)?),
         TextNative::OfBool => Ok(text::of_bool(alloc, args)?),
+        TextNative::Chars => Ok(text::chars(objects, args)?),
     }
 }
 

@@ -179,6 +179,17 @@ pub fn itself(args: &[Value]) -> Deed
     Deed::Gives(Some(Value::Ref(x)))
 }
 
+/// `toCharArray()`
+pub fn chars(objects: &[Object], args: &[Value]) -> Result<Deed, Memory>
+    ensures { IfOk result (λ d. Answers def.text_chars objects.now args.now d) }
+{
+    let Some(object) = receiver(objects, args) else {
+        return Ok(Deed::NoDeed);
+    };
+    let units = object.text.copy()?;
+    Ok(Deed::MakesChars(units))
+}
+
 /// `valueOf(I)`, and `Integer.toString(I)`
 pub fn of_int(alloc: Global, args: &[Value]) -> Result<Deed, Memory>
     ensures { IfOk result (λ d. AnswersAlone def.text_of_int args.now d) }

@@ -1,7 +1,7 @@
 //! Values and objects of rows, put into a heap and compared with what came out.
 
 use crate::datum::Datum;
-use class_model::{ClassId, Seq};
+use class_model::{ClassId, Kind, Memory, Name, Seq};
 use jvm_values::{Heap, HeapFault, ObjKind, Object};
 use lib_core::{Known, NativeEnd, units_of};
 use program_rules::{Making, Value};
@@ -22,8 +22,38 @@ pub const KNOWN: Known = Known {
     boolean: ClassId(11),
 };
 
-// The class of what is of no class that native methods make objects of.
-const OTHER: ClassId = ClassId(12);
+// The class of what is thrown.
+const THROWABLE: ClassId = ClassId(12);
+
+// The class of the constants, which is below Enum.
+const HUE: ClassId = ClassId(13);
+
+// The names of the classes by number.
+const CLASS_NAMES: [&str; 14] = [
+    "java/lang/Object",
+    "java/lang/String",
+    "java/util/ArrayList",
+    "java/util/HashSet",
+    "mt/Iter",
+    "java/util/Optional",
+    "java/lang/Integer",
+    "java/lang/Long",
+    "java/lang/Short",
+    "java/lang/Byte",
+    "java/lang/Character",
+    "java/lang/Boolean",
+    "java/lang/Throwable",
+    "Hue",
+];
+
+/// The names of the classes by number.
+pub fn class_names(alloc: Global) -> Result<Vec<Name>, Memory> {
+    let mut names = Vec::new(alloc);
+    for name in CLASS_NAMES {
+        names.push(units_of(alloc, name.as_bytes())?)?;
+    }
+    Ok(names)
+}
 
 fn text(alloc: Global, heap: &mut Heap, text: &str) -> Result<Value, HeapFault> {
     let units = units_of(alloc, text.as_bytes())?;
@@ -49,6 +79,21 @@ pub fn object(
     Ok(Value::Ref(number))
 }
 
+fn char_array(alloc: Global, heap: &mut Heap, units: &[u16]) -> Result<Value, HeapFault> {
+    let mut values = Vec::new(alloc);
+    for unit in units {
+        values.push(Value::Int(*unit as i32))?;
+    }
+    let object = Object {
+        kind: ObjKind::Array(Kind::Char),
+        values: Seq::from_vec(values),
+        text: Seq::new(alloc),
+        items: Seq::new(alloc),
+    };
+    let number = heap.add(object, 1)?;
+    Ok(Value::Ref(number))
+}
+
 // The value that a datum stands for, with its object in the heap.
 fn value_of(alloc: Global, heap: &mut Heap, datum: &Datum) -> Result<Value, HeapFault> {
     match datum {
@@ -71,12 +116,12 @@ fn value_of(alloc: Global, heap: &mut Heap, datum: &Datum) -> Result<Value, Heap
         Datum::Constant(name, ordinal) => {
             let name = text(alloc, heap, name)?;
             let items = vec![in alloc; name, Value::Int(*ordinal)]?;
-            object(alloc, heap, OTHER, Vec::new(alloc), items)
+            object(alloc, heap, HUE, Vec::new(alloc), items)
         }
         Datum::Thrown(message) => {
             let message = text(alloc, heap, message)?;
             let values = vec![in alloc; message, Value::Null]?;
-            object(alloc, heap, OTHER, values, Vec::new(alloc))
+            object(alloc, heap, THROWABLE, values, Vec::new(alloc))
         }
         Datum::Held(chars) => {
             let held = text(alloc, heap, chars)?;
@@ -90,7 +135,8 @@ fn value_of(alloc: Global, heap: &mut Heap, datum: &Datum) -> Result<Value, Heap
             Vec::new(alloc),
             Vec::new(alloc),
         ),
-        Datum::Null | Datum::Nothing | Datum::Throws(_) => Ok(Value::Null),
+        Datum::Chars(units) => char_array(alloc, heap, units),
+        Datum::Null | Datum::Class(_) | Datum::Nothing | Datum::Throws(_) => Ok(Value::Null),
     }
 }
 
@@ -117,11 +163,31 @@ fn is_ascii_of(units: &[u16], chars: &str) -> bool {
     true
 }
 
+fn is_char_array(object: &Object, units: &[u16]) -> bool {
+    if object.values.len() != units.len() {
+        return false;
+    }
+    for i in 0..units.len() {
+        if object.values.get(i) != Some(&Value::Int(units[i] as i32)) {
+            return false;
+        }
+    }
+    matches!(object.kind, ObjKind::Array(Kind::Char))
+}
+
+fn is_constant(heap: &Heap, x: u32) -> bool {
+    match heap.get(x) {
+        Some(object) => matches!(object.kind, ObjKind::Plain(class) if class.0 == HUE.0),
+        None => false,
+    }
+}
+
 // Whether an object is what a row gives.
 fn is_object(object: &Object, datum: &Datum) -> bool {
     match datum {
         Datum::Text(chars) => is_ascii_of(object.text.as_slice(), chars),
         Datum::Units(units) => object.text.as_slice() == *units,
+        Datum::Chars(units) => is_char_array(object, units),
         Datum::Box(making, number) => {
             KNOWN.is_made_of(*making, object) && object.items.get(0) == Some(&Value::Int(*number))
         }
@@ -151,6 +217,16 @@ pub fn is_end(heap: &Heap, end: NativeEnd, datum: &Datum) -> bool {
         NativeEnd::Returns(Some(v)) => is_value(heap, v, datum),
         NativeEnd::Returns(None) => matches!(datum, Datum::Nothing),
         NativeEnd::Raises(fault) => matches!(datum, Datum::Throws(other) if *other == fault),
+        NativeEnd::ReturnsClass(name) => {
+            matches!(datum, Datum::Class(chars) if is_ascii_of(name.as_slice(), chars))
+        }
+        NativeEnd::ReturnsWithin(x, class, v, fault) => {
+            if is_ascii_of(class.as_slice(), "java/lang/Enum") && is_constant(heap, x) {
+                is_value(heap, v, datum)
+            } else {
+                matches!(datum, Datum::Throws(other) if *other == fault)
+            }
+        }
         NativeEnd::NoResult => false,
     }
 }

@@ -23,6 +23,10 @@ pub enum Datum {
     /// An Optional with this text in it, and one with nothing.
     Held(&'static str),
     Hollow,
+    /// An array of these chars.
+    Chars(&'static [u16]),
+    /// The object that stands for a class.
+    Class(&'static str),
     Nothing,
     Throws(Fault),
 }

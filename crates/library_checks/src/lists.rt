@@ -82,7 +82,7 @@ fn lists_are_as_on_a_java_runtime(rt: HostRuntime) -> Result<(), Fail> {
 fn returned(end: NativeEnd) -> Option<Value> {
     match end {
         NativeEnd::Returns(v) => v,
-        NativeEnd::Raises(_) | NativeEnd::NoResult => None,
+        _ => None,
     }
 }
 

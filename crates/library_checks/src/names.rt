@@ -11,6 +11,8 @@ pub const IS_EMPTY: LangNative = LangNative::Text(TextNative::IsEmpty);
 
 pub const ITSELF: LangNative = LangNative::Text(TextNative::Itself);
 
+pub const CHARS: LangNative = LangNative::Text(TextNative::Chars);
+
 pub const CHAR_AT: LangNative = LangNative::Text(TextNative::CharAt);
 
 pub const SUBSTRING_FROM: LangNative = LangNative::Text(TextNative::SubstringFrom);
@@ -138,6 +140,10 @@ pub const ENUM_NAME: LangNative = LangNative::Object(ObjectNative::EnumName);
 pub const ENUM_ORDINAL: LangNative = LangNative::Object(ObjectNative::EnumOrdinal);
 
 pub const COMPARE_ENUM: LangNative = LangNative::Object(ObjectNative::CompareEnum);
+
+pub const COMPARE_ANY_ENUM: LangNative = LangNative::Object(ObjectNative::CompareAny);
+
+pub const CLASS_OF: LangNative = LangNative::Object(ObjectNative::ClassOf);
 
 pub const SAME_OBJECT: LangNative = LangNative::Object(ObjectNative::SameObject);
 

@@ -1,7 +1,7 @@
 //! Each row of `java/lang` and of Optional gives what a Java runtime gave.
 
 use crate::box_rows::BOX_ROWS;
-use crate::calling::{KNOWN, is_end, values_of};
+use crate::calling::{KNOWN, class_names, is_end, values_of};
 use crate::datum::Row;
 use crate::number_rows::NUMBER_ROWS;
 use crate::object_rows::OBJECT_ROWS;
@@ -16,7 +16,9 @@ fn agrees(alloc: Global, row: &Row) -> Result<bool, HeapFault> {
     let mut heap = Heap::new(alloc, 10_000);
     let mut kept = Kept::new(alloc);
     let args = values_of(alloc, &mut heap, row.1)?;
-    let deed = lang_deed(alloc, &[], &KNOWN, row.0, heap.objects(), args.as_slice())?;
+    let names = class_names(alloc)?;
+    let names = names.as_slice();
+    let deed = lang_deed(alloc, names, &KNOWN, row.0, heap.objects(), args.as_slice())?;
     let end = perform(alloc, &KNOWN, &mut heap, &mut kept, deed)?;
     Ok(is_end(&heap, end, &row.2))
 }

@@ -1,28 +1,35 @@
 //! What a Java runtime gave for these calls: `tools/library-rows` prints this table.
 
-use crate::datum::Datum::{Box, Int, Long, Nothing, Null, Text, Throws, Units};
+use crate::datum::Datum::{Box, Chars, Int, Long, Nothing, Null, Text, Throws, Units};
 use crate::datum::Row;
 use crate::names::{
     APPEND_BOOL, APPEND_CHAR, APPEND_INT, APPEND_LONG, APPEND_TEXT, BUILDER_OF_CAPACITY,
-    BUILDER_OF_TEXT, BUILDER_TEXT, CHAR_AT, COMPARE, COMPARE_ANY, CONCAT, ENDS_WITH, EQUALS, HASH,
-    INDEX_OF_CHAR, INDEX_OF_TEXT, IS_EMPTY, ITSELF, LENGTH, STARTS_WITH, SUBSTRING, SUBSTRING_FROM,
-    TEXT_OF_BOOL, TEXT_OF_CHAR, TEXT_OF_INT, TEXT_OF_LONG,
+    BUILDER_OF_TEXT, BUILDER_TEXT, CHAR_AT, CHARS, COMPARE, COMPARE_ANY, CONCAT, ENDS_WITH, EQUALS,
+    HASH, INDEX_OF_CHAR, INDEX_OF_TEXT, IS_EMPTY, ITSELF, LENGTH, STARTS_WITH, SUBSTRING,
+    SUBSTRING_FROM, TEXT_OF_BOOL, TEXT_OF_CHAR, TEXT_OF_INT, TEXT_OF_LONG,
 };
 use program_rules::{Fault, Making};
 
-pub static TEXT_ROWS: [Row; 116] = [
+pub static TEXT_ROWS: [Row; 119] = [
     (LENGTH, &[Text("")], Int(0)),
     (IS_EMPTY, &[Text("")], Int(1)),
     (ITSELF, &[Text("")], Text("")),
+    (CHARS, &[Text("")], Chars(&[])),
     (LENGTH, &[Text("abc")], Int(3)),
     (IS_EMPTY, &[Text("abc")], Int(0)),
     (ITSELF, &[Text("abc")], Text("abc")),
+    (CHARS, &[Text("abc")], Chars(&[97, 98, 99])),
     (LENGTH, &[Units(&[97, 55357, 56832, 98])], Int(4)),
     (IS_EMPTY, &[Units(&[97, 55357, 56832, 98])], Int(0)),
     (
         ITSELF,
         &[Units(&[97, 55357, 56832, 98])],
         Units(&[97, 55357, 56832, 98]),
+    ),
+    (
+        CHARS,
+        &[Units(&[97, 55357, 56832, 98])],
+        Chars(&[97, 55357, 56832, 98]),
     ),
     (CHAR_AT, &[Text("abc"), Int(0)], Int(97)),
     (SUBSTRING_FROM, &[Text("abc"), Int(0)], Text("abc")),

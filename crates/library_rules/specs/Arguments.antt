@@ -90,6 +90,13 @@ on_needed heap (Ref x) go = on_object heap x go
 on_needed heap (Int z) go = NoDeed
 on_needed heap (Long z) go = NoDeed
 
+-- The same with its number.
+abbrev pub on_needed_number : List Object → Value → (ℕ → Object → Deed) → Deed
+on_needed_number heap Null go = Throws NullPointerException
+on_needed_number heap (Ref x) go = on_object heap x (go x)
+on_needed_number heap (Int z) go = NoDeed
+on_needed_number heap (Long z) go = NoDeed
+
 -- The text that is needed: null throws.
 abbrev pub on_text : List Object → Value → (List ℕ → Deed) → Deed
 on_text heap v go = on_needed heap v (λ o. go o.text)

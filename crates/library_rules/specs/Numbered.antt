@@ -2,10 +2,10 @@
 use Rattle.std.specs.Prelude.{ℕ, Option, slice_get}
 use Rattle.std.specs.Option.{option_map}
 use Rattle.program_rules.specs.declared.making.Making.TheVariants as making
-use Rattle.program_rules.specs.Deeds.{Meaning, NoDeed}
+use Rattle.program_rules.specs.Deeds.{Meaning}
 use Rattle.program_rules.specs.Natives.{do_nothing, append_text, builder_text, integer_value_of, short_value_of, int_value, element_of_list, add_element, assert_true, assert_false}
-use Rattle.library_rules.specs.Objects.{same_object, allocation_number, object_text, name_of_class, assertion_status, enum_init, enum_name, enum_ordinal, compare_enum, message, cause, set_message, set_cause, set_message_and_cause, empty_optional, optional_of, optional_of_nullable, is_present, optional_value, optional_or_else}
-use Rattle.library_rules.specs.Texts.{text_length, is_empty, char_at, text_equals, text_hash, compare_text, compare_any_text, concat, substring_from, substring, index_of_char, index_of_text, text_starts_with, text_ends_with, itself, text_of_int, text_of_long, text_of_char, text_of_bool, builder_of_capacity, builder_of_text, append_int, append_long, append_char, append_bool}
+use Rattle.library_rules.specs.Objects.{same_object, allocation_number, object_text, name_of_class, assertion_status, enum_init, enum_name, enum_ordinal, compare_enum, compare_any_enum, object_class, message, cause, set_message, set_cause, set_message_and_cause, empty_optional, optional_of, optional_of_nullable, is_present, optional_value, optional_or_else}
+use Rattle.library_rules.specs.Texts.{text_length, is_empty, char_at, text_equals, text_hash, compare_text, compare_any_text, concat, substring_from, substring, index_of_char, index_of_text, text_starts_with, text_ends_with, itself, text_of_int, text_of_long, text_of_char, text_of_bool, text_chars, builder_of_capacity, builder_of_text, append_int, append_long, append_char, append_bool}
 use Rattle.library_rules.specs.Numbers.{long_value_of, byte_value_of, char_value_of, bool_value_of, int_as_long, long_value, long_as_int, long_hash, bool_hash, box_text, long_text, char_box_text, bool_box_text, box_equals, long_equals, compare_box, compare_long_box, subtract_box, compare_ints, compare_longs, parse_int, char_is_digit, char_is_letter, abs_int, abs_long, max_int, max_long, min_int, min_long, floor_mod}
 use Rattle.library_rules.specs.Collections.{list_of_capacity, list_size, has_no_items, clear_items, set_element, insert_element, remove_element, unsupported, entry_count, entry_hash, entry_key, entry_value, set_entry_value, add_entry, cut_entry, key_set, value_list, list_iterator, set_iterator, has_next, next, empty_list, empty_set, as_list}
 use Rattle.library_rules.specs.Assertions.{assert_equal_ints, assert_equal_longs, assert_null, assert_not_null, assert_same, assert_not_same, fail}
@@ -41,10 +41,6 @@ use Rattle.library_rules.specs.declared.native.IteratorNative.TheVariants as ite
 use Rattle.library_rules.specs.declared.native.AssertionNative.{AssertionNative}
 use Rattle.library_rules.specs.declared.native.AssertionNative.TheVariants as assertion
 
--- A method that the table has and that means nothing yet.
-abbrev pub not_there : Meaning
-not_there heap args = NoDeed
-
 abbrev pub object_meaning : ObjectNative → Meaning
 object_meaning object.DoNothing = do_nothing
 object_meaning object.SameObject = same_object
@@ -56,7 +52,8 @@ object_meaning object.EnumInit = enum_init
 object_meaning object.EnumName = enum_name
 object_meaning object.EnumOrdinal = enum_ordinal
 object_meaning object.CompareEnum = compare_enum
-object_meaning object.NotThere = not_there
+object_meaning object.ClassOf = object_class
+object_meaning object.CompareAny = compare_any_enum
 
 abbrev pub throwable_meaning : ThrowableNative → Meaning
 throwable_meaning throwable.Message = message
@@ -93,6 +90,7 @@ text_meaning text.OfInt = text_of_int
 text_meaning text.OfLong = text_of_long
 text_meaning text.OfChar = text_of_char
 text_meaning text.OfBool = text_of_bool
+text_meaning text.Chars = text_chars
 
 abbrev pub builder_meaning : BuilderNative → Meaning
 builder_meaning builder.OfCapacity = builder_of_capacity

@@ -1,16 +1,17 @@
 -- java/lang/Object, Class, Enum, Throwable and java/util/Optional. `<init>` of those that keep
 -- nothing is `do_nothing` of `program_rules`.
-use Rattle.std.specs.Prelude.{ℕ, ℤ, ◌-ℤ◌, Bool, true, false, nat_eq, if◌then◌else◌, List, [], ◌∷◌, ◌++◌, map, None, slice_get, slice_set}
+use Rattle.std.specs.Prelude.{ℕ, ℤ, ◌-ℤ◌, Bool, true, false, nat_eq, if◌then◌else◌, List, [], ◌∷◌, ◌++◌, map, None, slice_get, slice_set, codes}
 use Rattle.std.specs.Fmt.{digits}
 use Rattle.std.specs.Int.{w32, int_wrap}
 use Rattle.program_rules.specs.declared.value.Value.{Value}
 use Rattle.program_rules.specs.declared.value.Value.TheVariants.{Int, Long, Ref, Null}
-use Rattle.program_rules.specs.declared.fault.Fault.TheVariants.{NullPointerException, NoSuchElementException}
+use Rattle.program_rules.specs.declared.fault.Fault.TheVariants.{ClassCastException, NullPointerException, NoSuchElementException}
 use Rattle.program_rules.specs.declared.making.Making.TheVariants as making
+use Rattle.program_rules.specs.Names.{Name}
 use Rattle.program_rules.specs.Objects.{Object, ObjectKind, Plain, ArrayOf, descriptor_of_object}
-use Rattle.program_rules.specs.Deeds.{Deed, Changes, Makes, Throws, NoDeed, Meaning, SetItems, SetValues, on_some}
+use Rattle.program_rules.specs.Deeds.{Deed, Changes, Makes, GivesClass, GivesWithin, Throws, NoDeed, Meaning, SetItems, SetValues, on_some}
 use Rattle.program_rules.specs.Natives.{on_this, on_this_value, on_object, kept_int}
-use Rattle.library_rules.specs.Arguments.{on_receiver, on_receiver_value, on_this_value_int, on_this_values, on_value, on_needed, is_ref_to, word, gives, gives_int, gives_bool}
+use Rattle.library_rules.specs.Arguments.{on_receiver, on_receiver_value, on_this_value_int, on_this_values, on_value, on_needed, on_needed_number, is_ref_to, word, gives, gives_int, gives_bool}
 use Rattle.library_rules.specs.Texts.{makes_text}
 
 -- ---- Object, and those that Enum has from it
@@ -35,6 +36,10 @@ dotted units = map dot_for units
 abbrev pub name_of_kind : ObjectKind → List ℕ
 name_of_kind (Plain n) = n
 name_of_kind (ArrayOf k) = descriptor_of_object (ArrayOf k)
+
+-- getClass()
+abbrev pub object_class : Meaning
+object_class heap args = on_receiver heap args (λ o. GivesClass (name_of_kind o.kind))
 
 -- toString(): `@` is 64, and the number of the allocation is in hexadecimal.
 abbrev pub object_text : Meaning
@@ -71,11 +76,24 @@ ordinal_in o = kept_int (slice_get o.items 1)
 abbrev pub enum_ordinal : Meaning
 enum_ordinal heap args = on_receiver heap args (λ o. gives_int (ordinal_in o))
 
--- compareTo(Enum): the difference of the ordinals
+-- The difference of the ordinals, in int arithmetic.
+abbrev pub enum_order : Object → Object → ℤ
+enum_order o other = int_wrap w32 (ordinal_in o -ℤ ordinal_in other)
+
+-- compareTo(Enum)
 abbrev pub compare_enum : Meaning
 compare_enum heap args =
-    on_receiver_value heap args (λ o v. on_needed heap v (λ other.
-    gives_int (int_wrap w32 (ordinal_in o -ℤ ordinal_in other))))
+    on_receiver_value heap args (λ o v. on_needed heap v (λ other. gives_int (enum_order o other)))
+
+-- The class of constants.
+abbrev pub enum_class : Name
+enum_class = codes "java/lang/Enum"
+
+-- compareTo(Object): of what is no constant it throws.
+abbrev pub compare_any_enum : Meaning
+compare_any_enum heap args =
+    on_receiver_value heap args (λ o v. on_needed_number heap v (λ y other.
+    GivesWithin y enum_class (Int (enum_order o other)) ClassCastException))
 
 -- ---- Throwable: its first field is the message, its second one the cause
 

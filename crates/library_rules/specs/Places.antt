@@ -42,7 +42,8 @@ object_number object.EnumInit = 6
 object_number object.EnumName = 7
 object_number object.EnumOrdinal = 8
 object_number object.CompareEnum = 9
-object_number object.NotThere = 10
+object_number object.ClassOf = 10
+object_number object.CompareAny = 121
 
 abbrev pub throwable_number : ThrowableNative → ℕ
 throwable_number throwable.Message = 11
@@ -79,6 +80,7 @@ text_number text.OfInt = 37
 text_number text.OfLong = 38
 text_number text.OfChar = 39
 text_number text.OfBool = 40
+text_number text.Chars = 122
 
 abbrev pub builder_number : BuilderNative → ℕ
 builder_number builder.OfCapacity = 41

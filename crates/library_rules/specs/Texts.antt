@@ -9,7 +9,7 @@ use Rattle.program_rules.specs.declared.making.Making.TheVariants as making
 use Rattle.program_rules.specs.Names.{same}
 use Rattle.program_rules.specs.Kinds.{OfChar, narrow}
 use Rattle.program_rules.specs.Objects.{Object}
-use Rattle.program_rules.specs.Deeds.{Deed, Gives, Changes, Makes, Throws, Meaning, SetText, AddText, value_object}
+use Rattle.program_rules.specs.Deeds.{Deed, Gives, Changes, Makes, MakesChars, Throws, Meaning, SetText, AddText, value_object}
 use Rattle.program_rules.specs.Natives.{on_this, on_this_int, on_this_value, on_int, on_object, is_true}
 use Rattle.library_rules.specs.Arguments.{on_receiver, on_receiver_int, on_receiver_value, on_this_ints, on_this_long, on_long, on_needed, on_text, place_of, is_made_of, word, gives, gives_int, gives_bool}
 
@@ -180,6 +180,10 @@ text_ends_with heap args =
 -- String.toString()
 abbrev pub itself : Meaning
 itself heap args = on_this args (λ x. gives (Ref x))
+
+-- toCharArray()
+abbrev pub text_chars : Meaning
+text_chars heap args = on_receiver heap args (λ o. MakesChars o.text)
 
 -- The name of a boolean.
 abbrev pub bool_text : Bool → List ℕ

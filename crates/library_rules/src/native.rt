@@ -43,8 +43,8 @@ pub enum ObjectNative {
     EnumName,
     EnumOrdinal,
     CompareEnum,
-    /// A method that the table has and that means nothing yet: it has no row for any arguments.
-    NotThere,
+    ClassOf,
+    CompareAny,
 }
 
 #[derive(Clone, Copy)]
@@ -88,6 +88,7 @@ pub enum TextNative {
     OfLong,
     OfChar,
     OfBool,
+    Chars,
 }
 
 /// StringBuilder.
@@ -211,7 +212,7 @@ pub enum AssertionNative {
 }
 
 /// The native methods by their numbers.
-pub const NATIVES: [Native; 121] = [
+pub const NATIVES: [Native; 123] = [
     Native::Lang(LangNative::Object(ObjectNative::DoNothing)),
     Native::Lang(LangNative::Object(ObjectNative::SameObject)),
     Native::Lang(LangNative::Object(ObjectNative::AllocationNumber)),
@@ -222,7 +223,7 @@ pub const NATIVES: [Native; 121] = [
     Native::Lang(LangNative::Object(ObjectNative::EnumName)),
     Native::Lang(LangNative::Object(ObjectNative::EnumOrdinal)),
     Native::Lang(LangNative::Object(ObjectNative::CompareEnum)),
-    Native::Lang(LangNative::Object(ObjectNative::NotThere)),
+    Native::Lang(LangNative::Object(ObjectNative::ClassOf)),
     Native::Lang(LangNative::Throwable(ThrowableNative::Message)),
     Native::Lang(LangNative::Throwable(ThrowableNative::Cause)),
     Native::Lang(LangNative::Throwable(ThrowableNative::SetMessage)),
@@ -333,4 +334,6 @@ pub const NATIVES: [Native; 121] = [
     Native::Junit(AssertionNative::Same),
     Native::Junit(AssertionNative::NotSame),
     Native::Junit(AssertionNative::Fail),
+    Native::Lang(LangNative::Object(ObjectNative::CompareAny)),
+    Native::Lang(LangNative::Text(TextNative::Chars)),
 ];

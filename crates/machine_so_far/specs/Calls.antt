@@ -2,6 +2,7 @@
 use Rattle.std.specs.Prelude.{ℕ, ◌+◌, Bool, ◌&&◌, false, if◌then◌else◌, List, [], ◌∷◌, Option, Some, None, is_none, slice_get}
 use Rattle.program_rules.specs.declared.value.Value.{Value}
 use Rattle.program_rules.specs.declared.value.Value.TheVariants.{Int, Long, Ref, Null}
+use Rattle.machine_rules.specs.declared.machine.Outcome.TheVariants.{MemoryOut}
 use Rattle.machine_rules.specs.declared.machine.Limits.{Limits}
 use Rattle.program_rules.specs.Names.{Name, same, object_name, instance_initializer, plain_descriptor}
 use Rattle.program_rules.specs.Kinds.{Kind, is_int_kind, narrow}
@@ -10,10 +11,10 @@ use Rattle.program_rules.specs.Linked.{Linked, LinkedMethod, LinkedBody, HasCode
 use Rattle.program_rules.specs.Programs.{Look}
 use Rattle.program_rules.specs.Resolution.{same_bool}
 use Rattle.machine_rules.specs.State.{Frame, World}
-use Rattle.machine_rules.specs.Effects.{Effect, NoRow, on_some, on_int, on_args, goes_with, jumps, enters}
+use Rattle.machine_rules.specs.Effects.{Effect, NoRow, on_some, on_int, on_args, goes_with, jumps, throws, enters}
 use Rattle.machine_rules.specs.Lookups.{consult}
-use Rattle.machine_rules.specs.Performing.{performs}
-use Rattle.machine_rules.specs.Calls.{goes_on, ends_native, room_of, is_awaited}
+use Rattle.machine_rules.specs.Performing.{NativeResult, Returns, Raises, ReturnsWithin, HeapFull, NoResult, performs}
+use Rattle.machine_rules.specs.Calls.{goes_on, room_of, is_awaited}
 use Rattle.machine_so_far.specs.Initialisation.{Need, need_of, needed, when_ready}
 
 -- ---- calls
@@ -25,6 +26,14 @@ on_object (Int z ∷ rest) go = NoRow
 on_object (Long z ∷ rest) go = NoRow
 on_object (Ref x ∷ rest) go = go x rest
 on_object (Null ∷ rest) go = NoRow
+
+-- The frame behind a native method. One that asks of what class an object is has no row yet.
+abbrev pub ends_native : Limits → World → Frame → List Frame → ℕ → NativeResult → Effect
+ends_native q w f fs room (Returns u v) = goes_on u f fs room v
+ends_native q w f fs room (Raises x) = throws q w (f ∷ fs) x
+ends_native q w f fs room (ReturnsWithin x n v fault) = NoRow
+ends_native q w f fs room HeapFull = goes_with (record w { over = Some MemoryOut }) (f ∷ fs)
+ends_native q w f fs room NoResult = NoRow
 
 -- A method is called with these arguments from a frame that they were taken of.
 abbrev pub runs :

@@ -134,7 +134,7 @@ module _ (p : Look) (q : Limits) where
     plain_by_class : (n : Name) (c : Linked) (k : ℕ) (m : LinkedMethod) → p n ≡ Some c → slice_get c.methods k ≡ Some m → IsPlain p n → is_class_initializer m ≡ false
     plain_by_class n c k m e got x = none_of is_class_initializer c.methods k m (sym (ap has_class_initializer e) ∙ x.initializer) got
 
-    ties_body : (w : World) (f : Frame) (fs : List Frame) (room : ℕ) (n : Name) (k : ℕ) (args : List Value) (b : LinkedBody) → Good p w (f ∷ fs) → is_initializer_method (method_in (p n) k) ≡ false → Ties p (call_so_far.runs q w f fs room n k args b) (call.calls q w f fs room args n k (callable_of b))
+    ties_body : (w : World) (f : Frame) (fs : List Frame) (room : ℕ) (n : Name) (k : ℕ) (args : List Value) (b : LinkedBody) → Good p w (f ∷ fs) → is_initializer_method (method_in (p n) k) ≡ false → Ties p (call_so_far.runs q w f fs room n k args b) (call.calls p q w f fs room args n k (callable_of b))
     ties_body w f fs room n k args (HasCode code) g h = ties_enters p q w (f ∷ fs) n k code.max_locals args g h
     ties_body w f fs room n k args (IsNative meaning) g h = ties_native p q w f fs room (meaning w.heap args) g
     ties_body w f fs room n k args NoBody g h = tt
@@ -152,16 +152,16 @@ module _ (p : Look) (q : Limits) where
             resolved p r (method_found r.class k m) (plain_name r.class c e) (risen p r.class r.name r.desc c k m e place got concrete) (first_is p r.class r.name r.desc c k m e place got concrete)
             (ap (λ o. same_bool (is_interface_class o) r.interface) (class_there p r.class c e) ∙ kind)
 
-        static_is : is_static m.flags ≡ true → call.invokes_static p q w f fs room r ≡ when_ready p q u (f ∷ fs) r.class (call.calls_static q f fs room r (method_found r.class k m))
+        static_is : is_static m.flags ≡ true → call.invokes_static p q w f fs room r ≡ when_ready p q u (f ∷ fs) r.class (call.calls_static p q f fs room r (method_found r.class k m))
         static_is s =
             resolves_there r.class c w (f ∷ fs) (call.invokes q f fs r (λ v x. call.static_method_at p q v f fs room r x)) e
             ∙ ap (λ a. on_found q u (f ∷ fs) a (call.static_method_at p q u f fs room r)) found_there
-            ∙ ap (λ b. if b then when_ready p q u (f ∷ fs) r.class (call.calls_static q f fs room r (method_found r.class k m)) else throws q u (f ∷ fs) IncompatibleClassChangeError) s
+            ∙ ap (λ b. if b then when_ready p q u (f ∷ fs) r.class (call.calls_static p q f fs room r (method_found r.class k m)) else throws q u (f ∷ fs) IncompatibleClassChangeError) s
 
         called : is_static m.flags ≡ true → Ties p (ready (on_args r.args f.stack (λ args rest. call_so_far.runs q u (record f { stack = rest }) fs room r.class k args m.body))) (call.invokes_static p q w f fs room r)
         called s =
             subst (λ x. Ties p (ready (on_args r.args f.stack (λ args rest. call_so_far.runs q u (record f { stack = rest }) fs room r.class k args m.body))) x) (sym (static_is s))
-            (ties_ready r.class c w (f ∷ fs) _ (call.calls_static q f fs room r (method_found r.class k m)) e g (λ plain.
+            (ties_ready r.class c w (f ∷ fs) _ (call.calls_static p q f fs room r (method_found r.class k m)) e g (λ plain.
             ties_args p r.args f.stack _ _ (λ args rest. ties_body u (record f { stack = rest }) fs room r.class k args m.body g (method_plain r.class c k m e got (plain_by_class r.class c k m e got plain)))))
 
         static_case : (s : Bool) → is_static m.flags ≡ s → Ties p (if s then ready (on_args r.args f.stack (λ args rest. call_so_far.runs q u (record f { stack = rest }) fs room r.class k args m.body)) else NoRow) (call.invokes_static p q w f fs room r)
@@ -229,7 +229,7 @@ module _ (p : Look) (q : Limits) where
         abbrev special_over : World → List Kind → Name → List Value → Effect
         special_over v ks n stack =
             on_args ks stack (λ args below. on_reference below (λ o rest. unless_null q v (f ∷ fs) o (λ x.
-            if is_initializer_name n then call.calls_method q v f fs room (Ref x ∷ args) rest (method_found r.class 0 plain_initializer)
+            if is_initializer_name n then call.calls_method p q v f fs room (Ref x ∷ args) rest (method_found r.class 0 plain_initializer)
             else looks_up p f.class v (call.special_from p q f fs room r (method_found r.class 0 plain_initializer) (Ref x ∷ args) rest))))
 
         special_is : call.invokes_special p q w f fs room r ≡ special_over w [] instance_initializer f.stack

@@ -12,12 +12,14 @@ use Rattle.program_rules.specs.Names.{Name}
 use Rattle.program_rules.specs.Kinds.{Kind, is_of_kind, height_of, reversed_onto}
 use Rattle.program_rules.specs.Linked.{method_in}
 use Rattle.program_rules.specs.Objects.{Object, object_at}
-use Rattle.program_rules.specs.Deeds.{Change, Deed, Gives, Changes, Makes, Boxes, Throws, NoDeed}
+use Rattle.program_rules.specs.Deeds.{Change, Deed, Gives, Changes, Makes, Boxes, MakesChars, GivesClass, GivesWithin, Throws, NoDeed}
 use Rattle.program_rules.specs.Programs.{Look}
 use Rattle.machine_rules.specs.State.{Frame, World}
 use Rattle.machine_rules.specs.Effects.{Effect, Goes, NoRow, on_some, on_top, on_int, on_reversed, on_args, is_wide, on_word, goes_with, jumps, pushes, locals_of, allocate, unless_full, fault_object, throws, enters}
-use Rattle.machine_rules.specs.Performing.{NativeResult, Returns, Raises, HeapFull, NoResult, performs, perform_change, perform_boxing, box_among, number_of}
+use Rattle.machine_rules.specs.Performing.{NativeResult, Returns, Raises, ReturnsWithin, HeapFull, NoResult, performs, perform_change, perform_boxing, box_among, number_of, perform_class}
+use Rattle.machine_rules.specs.NewObjects.{made_for}
 use Rattle.machine_rules.specs.Calls.{goes_on, ends_native}
+use Rattle.machine_so_far.specs.Calls.{ends_native as ends_so_far}
 use Rattle.machine_rules.specs.Throwing.{is_initializer_method}
 use Rattle.machine_so_far_laws.proofs.Needs.{InitsFit}
 
@@ -131,6 +133,7 @@ module _ (p : Look) where
   abbrev Leaves : World → NativeResult → Type 0
   Leaves w (Returns u v) = u.inits ≡ w.inits
   Leaves w (Raises x) = Unit {0}
+  Leaves w (ReturnsWithin x n v fault) = Unit {0}
   Leaves w HeapFull = Unit {0}
   Leaves w NoResult = Unit {0}
 
@@ -146,19 +149,27 @@ module _ (p : Look) where
   boxing_leaves limit w m v (Some x) = refl
   boxing_leaves limit w m v None = leave_if w (nat_le (w.used + 2) limit) _ _ refl tt
 
+  class_leaves : (limit : ℕ) (w : World) (n : Name) (o : Option ℕ) → Leaves w (perform_class limit w n o)
+  class_leaves limit w n (Some x) = refl
+  class_leaves limit w n None = leave_if w (nat_le (w.used + 3) limit) _ _ refl tt
+
   leaves : (limit : ℕ) (w : World) (d : Deed) → Leaves w (performs limit w d)
   leaves limit w (Gives v) = refl
   leaves limit w (Changes x c words v) = change_leaves limit w x c words v (object_at w.heap x)
   leaves limit w (Makes m text items words) = leave_if w (nat_le (w.used + (1 + words)) limit) _ _ refl tt
   leaves limit w (Boxes m v) = boxing_leaves limit w m v (box_among m (number_of v) w.boxes)
+  leaves limit w (MakesChars units) = leave_if w (nat_le (w.used + (2 + length units)) limit) _ _ refl tt
+  leaves limit w (GivesClass n) = class_leaves limit w n (made_for n w.class_objects)
+  leaves limit w (GivesWithin x n v fault) = tt
   leaves limit w (Throws x) = tt
   leaves limit w NoDeed = tt
 
-  native_case : (q : Limits) (w : World) (f : Frame) (fs : List Frame) (room : ℕ) (x : NativeResult) → Good p w (f ∷ fs) → Leaves w x → Ties p (ends_native q w f fs room x) (ends_native q w f fs room x)
+  native_case : (q : Limits) (w : World) (f : Frame) (fs : List Frame) (room : ℕ) (x : NativeResult) → Good p w (f ∷ fs) → Leaves w x → Ties p (ends_so_far q w f fs room x) (ends_native p q w f fs room x)
   native_case q w f fs room (Returns u v) g h = ties_goes_on u f fs room v (g.0, subst (InitsFit p) (sym h) g.1)
   native_case q w f fs room (Raises x) g h = ties_throws q w (f ∷ fs) x g
+  native_case q w f fs room (ReturnsWithin x n v fault) g h = tt
   native_case q w f fs room HeapFull g h = ties_goes (record w { over = Some MemoryOut }) (f ∷ fs) g
   native_case q w f fs room NoResult g h = tt
 
-  pub ties_native : (q : Limits) (w : World) (f : Frame) (fs : List Frame) (room : ℕ) (d : Deed) → Good p w (f ∷ fs) → Ties p (ends_native q w f fs room (performs q.heap w d)) (ends_native q w f fs room (performs q.heap w d))
+  pub ties_native : (q : Limits) (w : World) (f : Frame) (fs : List Frame) (room : ℕ) (d : Deed) → Good p w (f ∷ fs) → Ties p (ends_so_far q w f fs room (performs q.heap w d)) (ends_native p q w f fs room (performs q.heap w d))
   ties_native q w f fs room d g = native_case q w f fs room (performs q.heap w d) g (leaves q.heap w d)
