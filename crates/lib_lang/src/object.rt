@@ -4,9 +4,7 @@ ghost use Rattle.std.specs.Prelude.{◌≡◌, ◌++◌, ◌∷◌, [], List, So
 ghost use Rattle.std.specs.Fmt.{digits};
 ghost use Rattle.program_rules.specs.Natives.{do_nothing, kept_int};
 ghost use Rattle.library_rules.specs.Objects as def;
-ghost use Rattle.program_rules.specs.Names.{Name as Text};
 ghost use Rattle.lib_core.specs.Answers.{Answers, AnswersAlone};
-ghost use Rattle.lib_core.specs.View.{object_of};
 
 use class_model::{Memory, Name, Seq};
 use jvm_values::Object;
@@ -130,14 +128,6 @@ pub fn enum_ordinal(objects: &[Object], args: &[Value]) -> Deed
     Deed::Gives(Some(Value::Int(ordinal_in(object))))
 }
 
-// The difference of the ordinals.
-fn enum_order(object: &Object, other: &Object) -> i32
-    ensures { (ns : List Text) →
-        def.enum_order (object_of ns object.now) (object_of ns other.now) ≡ result }
-{
-    minus(ordinal_in(object), ordinal_in(other))
-}
-
 /// `compareTo(Enum)`
 pub fn compare_enum(objects: &[Object], args: &[Value]) -> Deed
     ensures { Answers def.compare_enum objects.now args.now result }
@@ -146,7 +136,7 @@ pub fn compare_enum(objects: &[Object], args: &[Value]) -> Deed
         return Deed::NoDeed;
     };
     match needed(objects, v) {
-        Ok(other) => Deed::Gives(Some(Value::Int(enum_order(object, other)))),
+        Ok(other) => Deed::Gives(Some(Value::Int(minus(ordinal_in(object), ordinal_in(other))))),
         Err(deed) => deed,
     }
 }
@@ -161,7 +151,7 @@ pub fn compare_any_enum(alloc: Global, objects: &[Object], args: &[Value]) -> Re
     match needed_number(objects, v) {
         Ok((x, other)) => {
             let class = units_of(alloc, "java/lang/Enum".as_bytes())?;
-            let order = Value::Int(enum_order(object, other));
+            let order = Value::Int(minus(ordinal_in(object), ordinal_in(other)));
             Ok(Deed::GivesWithin(x, class, order, Fault::ClassCastException))
         }
         Err(deed) => Ok(deed),
