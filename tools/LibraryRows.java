@@ -2,8 +2,13 @@ import java.io.ByteArrayOutputStream;
 import java.io.PrintStream;
 import java.nio.charset.StandardCharsets;
 import java.util.ArrayList;
+import java.util.Arrays;
+import java.util.Collection;
+import java.util.Collections;
+import java.util.LinkedHashMap;
 import java.util.List;
 import java.util.Optional;
+import java.util.Set;
 import java.util.stream.Collectors;
 
 /** Prints rows of calls of Java's own library, as `crates/library_checks/src/rows.rt` has them. */
@@ -62,6 +67,18 @@ public class LibraryRows {
         }
         if (o instanceof String || o instanceof StringBuilder) {
             return text(o.toString());
+        }
+        if (o instanceof Throwable t) {
+            return "Thrown(\"" + t.getMessage() + "\")";
+        }
+        if (o instanceof Optional<?> held) {
+            return held.isPresent() ? "Held(\"" + held.get() + "\")" : "Hollow";
+        }
+        if (o instanceof List<?> list) {
+            return "List(" + ints(list) + ")";
+        }
+        if (o instanceof Set<?> set) {
+            return "Set(" + ints(set) + ")";
         }
         if (o instanceof char[] chars) {
             return "Chars(&[" + units(new String(chars)) + "])";
@@ -254,7 +271,15 @@ public class LibraryRows {
         row("SAME_OBJECT", () -> new Object().equals(new Object()), "x", "y");
         row("MESSAGE", () -> new Throwable("why", null).getMessage(), new Written("Thrown(\"why\")"));
         row("CAUSE", () -> new Throwable("why", null).getCause(), new Written("Thrown(\"why\")"));
+        row("NAME_OF_CLASS", () -> String.class.getName(), String.class);
+        row("NAME_OF_CLASS", () -> char[].class.getName(), char[].class);
+        row("NAME_OF_CLASS", () -> String[].class.getName(), String[].class);
+        row("ASSERTION_STATUS", () -> String.class.desiredAssertionStatus(), String.class);
         row("OPTIONAL_OF", () -> Optional.of(null), new Object[] {null});
+        row("OPTIONAL_OF", () -> Optional.of("x"), "x");
+        row("EMPTY_OPTIONAL", () -> Optional.empty());
+        row("OPTIONAL_OF_NULLABLE", () -> Optional.ofNullable(null), new Object[] {null});
+        row("OPTIONAL_OF_NULLABLE", () -> Optional.ofNullable("x"), "x");
         row("IS_PRESENT", () -> Optional.empty().isPresent(), new Written("Hollow"));
         row("IS_PRESENT", () -> Optional.of("x").isPresent(), new Written("Held(\"x\")"));
         row("OPTIONAL_VALUE", () -> Optional.of("x").get(), new Written("Held(\"x\")"));
@@ -264,11 +289,42 @@ public class LibraryRows {
         row("OR_ELSE", () -> Optional.empty().orElse(null), new Written("Hollow"), null);
     }
 
+    /** A call, another one behind it, and what that gives. */
+    static void thenRow(String name, Call call, String then, Object... args) {
+        StringBuilder list = new StringBuilder();
+        for (Object arg : args) {
+            list.append(list.isEmpty() ? "" : ", ").append(datum(arg));
+        }
+        String gives;
+        try {
+            gives = datum(call.run());
+        } catch (Throwable t) {
+            throw new AssertionError(t);
+        }
+        System.out.println("    (" + name + ", &[" + list + "], " + then + ", " + gives + "),");
+        count++;
+    }
+
+    static void thens() {
+        Written bare = new Written("Bare");
+        Written thrown = new Written("Thrown(\"why\")");
+        Written red = new Written("Constant(\"\", 7)");
+        Throwable why = new Throwable("why", null);
+        thenRow("DO_NOTHING", () -> new Throwable().getMessage(), "MESSAGE", bare);
+        thenRow("SET_MESSAGE", () -> new Throwable("it").getMessage(), "MESSAGE", bare, "it");
+        thenRow("SET_MESSAGE", () -> new Throwable("it").getCause(), "CAUSE", bare, "it");
+        thenRow("SET_CAUSE", () -> new Throwable(why).getCause(), "CAUSE", bare, thrown);
+        thenRow("SET_MESSAGE_AND_CAUSE", () -> new Throwable("it", why).getMessage(), "MESSAGE", bare, "it", thrown);
+        thenRow("SET_MESSAGE_AND_CAUSE", () -> new Throwable("it", why).getCause(), "CAUSE", bare, "it", thrown);
+        thenRow("ENUM_INIT", () -> Hue.RED.name(), "ENUM_NAME", red, "RED", 0);
+        thenRow("ENUM_INIT", () -> Hue.RED.ordinal(), "ENUM_ORDINAL", red, "RED", 0);
+    }
+
     interface ListCall {
         Object run(ArrayList<Object> list) throws Throwable;
     }
 
-    static String ints(List<Object> list) {
+    static String ints(Collection<?> list) {
         return "&[" + list.stream().map(Object::toString).collect(Collectors.joining(", ")) + "]";
     }
 
@@ -320,6 +376,69 @@ public class LibraryRows {
         }
     }
 
+    interface EntryCall {
+        Object run(LinkedHashMap<Object, Object> map) throws Throwable;
+    }
+
+    /** The entries of a map as hash, key and value. */
+    static String entries(LinkedHashMap<Object, Object> map) {
+        List<Object> list = new ArrayList<>();
+        map.forEach((key, value) -> list.addAll(List.of(key.hashCode(), key, value)));
+        return ints(list);
+    }
+
+    /** A call on a map of so many entries, in order of insertion, and what the map is behind it. */
+    static void entryRow(String name, EntryCall call, int length, Object... args) {
+        LinkedHashMap<Object, Object> map = new LinkedHashMap<>();
+        for (int z = 1; z <= length; z++) {
+            map.put(4 + z, 10 * z);
+        }
+        String before = entries(map);
+        String gives;
+        try {
+            gives = datum(call.run(map));
+        } catch (Throwable t) {
+            gives = "Throws(Fault::" + t.getClass().getSimpleName() + ")";
+        }
+        StringBuilder data = new StringBuilder();
+        for (Object arg : args) {
+            data.append(data.isEmpty() ? "" : ", ").append(datum(arg));
+        }
+        System.out.println("    (" + name + ", " + before + ", &[" + data + "], " + gives + ", " + entries(map) + "),");
+        count++;
+    }
+
+    static Object keyAt(LinkedHashMap<Object, Object> map, int i) {
+        return new ArrayList<>(map.keySet()).get(i);
+    }
+
+    static void entryRows() {
+        for (int length : new int[] {0, 2}) {
+            entryRow("COUNT", map -> map.size(), length);
+            entryRow("KEY_SET", map -> map.keySet(), length);
+            entryRow("VALUE_LIST", map -> new ArrayList<>(map.values()), length);
+            entryRow("ADD_ENTRY", map -> {
+                map.put(9, 90);
+                return NOTHING;
+            }, length, 9, 9, 90);
+        }
+        for (int i : new int[] {0, 1, 2, -1}) {
+            entryRow("ENTRY_HASH", map -> keyAt(map, i).hashCode(), 2, i);
+            entryRow("KEY", map -> keyAt(map, i), 2, i);
+            entryRow("VALUE", map -> map.get(keyAt(map, i)), 2, i);
+            entryRow("SET_VALUE", map -> map.put(keyAt(map, i), 9), 2, i, 9);
+            entryRow("CUT", map -> map.remove(keyAt(map, i)), 2, i);
+        }
+    }
+
+    static void makings() {
+        Object[] none = null;
+        row("EMPTY_LIST", () -> Collections.emptyList());
+        row("EMPTY_SET", () -> Collections.emptySet());
+        row("AS_LIST", () -> Arrays.asList(new Object[] {7, 8}), new Written("Array(&[7, 8])"));
+        row("AS_LIST", () -> Arrays.asList(none), new Object[] {null});
+    }
+
     /** A table of the rows that a part prints. */
     static void table(String name, String row, Runnable part) {
         PrintStream console = System.out;
@@ -338,6 +457,9 @@ public class LibraryRows {
         table("BOX_ROWS", "Row", LibraryRows::boxes);
         table("NUMBER_ROWS", "Row", LibraryRows::numbers);
         table("OBJECT_ROWS", "Row", LibraryRows::objects);
+        table("THEN_ROWS", "ThenRow", LibraryRows::thens);
         table("LIST_ROWS", "ListRow", LibraryRows::lists);
+        table("ENTRY_ROWS", "ListRow", LibraryRows::entryRows);
+        table("MAKING_ROWS", "MakingRow", LibraryRows::makings);
     }
 }

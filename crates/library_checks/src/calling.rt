@@ -28,8 +28,11 @@ const THROWABLE: ClassId = ClassId(12);
 // The class of the constants, which is below Enum.
 const HUE: ClassId = ClassId(13);
 
+// The class of the objects that stand for classes.
+const CLASS: ClassId = ClassId(14);
+
 // The names of the classes by number.
-const CLASS_NAMES: [&str; 14] = [
+const CLASS_NAMES: [&str; 15] = [
     "java/lang/Object",
     "java/lang/String",
     "java/util/ArrayList",
@@ -44,6 +47,7 @@ const CLASS_NAMES: [&str; 14] = [
     "java/lang/Boolean",
     "java/lang/Throwable",
     "Hue",
+    "java/lang/Class",
 ];
 
 /// The names of the classes by number.
@@ -59,6 +63,15 @@ fn text(alloc: Global, heap: &mut Heap, text: &str) -> Result<Value, HeapFault> 
     let units = units_of(alloc, text.as_bytes())?;
     let number = heap.text(&units)?;
     Ok(Value::Ref(number))
+}
+
+/// The values that ints are.
+pub fn ints(alloc: Global, numbers: &[i32]) -> Result<Vec<Value>, Memory> {
+    let mut values = Vec::new(alloc);
+    for number in numbers {
+        values.push(Value::Int(*number))?;
+    }
+    Ok(values)
 }
 
 /// An object with these fields and these items.
@@ -79,18 +92,39 @@ pub fn object(
     Ok(Value::Ref(number))
 }
 
-fn char_array(alloc: Global, heap: &mut Heap, units: &[u16]) -> Result<Value, HeapFault> {
-    let mut values = Vec::new(alloc);
-    for unit in units {
-        values.push(Value::Int(*unit as i32))?;
-    }
+fn array(
+    alloc: Global,
+    heap: &mut Heap,
+    kind: Kind,
+    values: Vec<Value>,
+) -> Result<Value, HeapFault> {
     let object = Object {
-        kind: ObjKind::Array(Kind::Char),
+        kind: ObjKind::Array(kind),
         values: Seq::from_vec(values),
         text: Seq::new(alloc),
         items: Seq::new(alloc),
     };
     let number = heap.add(object, 1)?;
+    Ok(Value::Ref(number))
+}
+
+fn char_array(alloc: Global, heap: &mut Heap, units: &[u16]) -> Result<Value, HeapFault> {
+    let mut values = Vec::new(alloc);
+    for unit in units {
+        values.push(Value::Int(*unit as i32))?;
+    }
+    array(alloc, heap, Kind::Char, values)
+}
+
+// The object that stands for a class.
+fn class_object(alloc: Global, heap: &mut Heap, name: &str) -> Result<Value, HeapFault> {
+    let object = Object {
+        kind: ObjKind::Plain(CLASS),
+        values: Seq::new(alloc),
+        text: units_of(alloc, name.as_bytes())?,
+        items: Seq::new(alloc),
+    };
+    let number = heap.add(object, 2)?;
     Ok(Value::Ref(number))
 }
 
@@ -135,8 +169,22 @@ fn value_of(alloc: Global, heap: &mut Heap, datum: &Datum) -> Result<Value, Heap
             Vec::new(alloc),
             Vec::new(alloc),
         ),
+        Datum::Bare => {
+            let values = vec![in alloc; Value::Null, Value::Null]?;
+            object(alloc, heap, THROWABLE, values, Vec::new(alloc))
+        }
+        Datum::List(numbers) => {
+            let items = ints(alloc, numbers)?;
+            object(alloc, heap, KNOWN.list, Vec::new(alloc), items)
+        }
+        Datum::Array(numbers) => {
+            let name = units_of(alloc, "java/lang/Object".as_bytes())?;
+            let values = ints(alloc, numbers)?;
+            array(alloc, heap, Kind::Ref(name), values)
+        }
         Datum::Chars(units) => char_array(alloc, heap, units),
-        Datum::Null | Datum::Class(_) | Datum::Nothing | Datum::Throws(_) => Ok(Value::Null),
+        Datum::Class(name) => class_object(alloc, heap, name),
+        Datum::Null | Datum::Set(_) | Datum::Nothing | Datum::Throws(_) => Ok(Value::Null),
     }
 }
 
@@ -182,9 +230,59 @@ fn is_constant(heap: &Heap, x: u32) -> bool {
     }
 }
 
+/// Whether values are these ints.
+pub fn are_ints(values: &[Value], numbers: &[i32]) -> bool {
+    if values.len() != numbers.len() {
+        return false;
+    }
+    for i in 0..numbers.len() {
+        if values.get(i) != Some(&Value::Int(numbers[i])) {
+            return false;
+        }
+    }
+    true
+}
+
+// Whether entries have these ints as keys, and as hashes, and no values.
+fn have_keys(entries: &[Value], keys: &[i32]) -> bool {
+    let mut rest = entries;
+    for number in keys {
+        let [hash, key, value, back @ ..] = rest else {
+            return false;
+        };
+        if *hash != Value::Int(*number) || *key != Value::Int(*number) || *value != Value::Null {
+            return false;
+        }
+        rest = back;
+    }
+    rest.is_empty()
+}
+
+// Whether a value is a text of ASCII.
+fn is_text(heap: &Heap, v: Option<&Value>, chars: &str) -> bool {
+    match v {
+        Some(Value::Ref(x)) => match heap.get(*x) {
+            Some(object) => is_ascii_of(object.text.as_slice(), chars),
+            None => false,
+        },
+        _ => false,
+    }
+}
+
 // Whether an object is what a row gives.
-fn is_object(object: &Object, datum: &Datum) -> bool {
+fn is_object(heap: &Heap, object: &Object, datum: &Datum) -> bool {
     match datum {
+        Datum::Thrown(chars) => is_text(heap, object.values.get(0), chars),
+        Datum::Held(chars) => {
+            KNOWN.is_made_of(Making::Optional, object) && is_text(heap, object.items.get(0), chars)
+        }
+        Datum::Hollow => KNOWN.is_made_of(Making::Optional, object) && object.items.is_empty(),
+        Datum::List(numbers) => {
+            KNOWN.is_made_of(Making::List, object) && are_ints(object.items.as_slice(), numbers)
+        }
+        Datum::Set(keys) => {
+            KNOWN.is_made_of(Making::Set, object) && have_keys(object.items.as_slice(), keys)
+        }
         Datum::Text(chars) => is_ascii_of(object.text.as_slice(), chars),
         Datum::Units(units) => object.text.as_slice() == *units,
         Datum::Chars(units) => is_char_array(object, units),
@@ -205,7 +303,7 @@ fn is_value(heap: &Heap, v: Value, datum: &Datum) -> bool {
         Value::Long(number) => matches!(datum, Datum::Long(other) if *other == number),
         Value::Null => matches!(datum, Datum::Null),
         Value::Ref(x) => match heap.get(x) {
-            Some(object) => is_object(object, datum),
+            Some(object) => is_object(heap, object, datum),
             None => false,
         },
     }

@@ -1,6 +1,6 @@
 //! What goes into a call and what comes out of it, as a row has it.
 
-use library_rules::{LangNative, ListNative};
+use library_rules::{AssertionNative, LangNative, UtilNative};
 use program_rules::{Fault, Making};
 
 /// A value, the object that a value names, or the end of a call without a value.
@@ -23,6 +23,13 @@ pub enum Datum {
     /// An Optional with this text in it, and one with nothing.
     Held(&'static str),
     Hollow,
+    /// A Throwable with neither.
+    Bare,
+    /// An ArrayList with these ints in it, and a HashSet.
+    List(&'static [i32]),
+    Set(&'static [i32]),
+    /// An array of objects, with these ints in place of Integers.
+    Array(&'static [i32]),
     /// An array of these chars.
     Chars(&'static [u16]),
     /// The object that stands for a class.
@@ -34,12 +41,22 @@ pub enum Datum {
 /// A call: the native method, its arguments, the receiver first, and what it gives.
 pub type Row = (LangNative, &'static [Datum], Datum);
 
-/// A call on a list: the native method, the ints in the list, the arguments behind the list, what it
-/// gives, and the ints in the list behind it.
+/// A call, and another one on the same receiver: the native method, its arguments, the receiver first,
+/// the second native method, and what that gives.
+pub type ThenRow = (LangNative, &'static [Datum], LangNative, Datum);
+
+/// A call on a list or on the entries of a map: the native method, the ints in it, an entry's as hash,
+/// key and value, the arguments behind it, what it gives, and the ints in it behind the call.
 pub type ListRow = (
-    ListNative,
+    UtilNative,
     &'static [i32],
     &'static [Datum],
     Datum,
     &'static [i32],
 );
+
+/// A call that makes a collection: the native method, its arguments, and what it gives.
+pub type MakingRow = (UtilNative, &'static [Datum], Datum);
+
+/// An assertion, its arguments, and whether it fails.
+pub type AssertionRow = (AssertionNative, &'static [Datum], bool);

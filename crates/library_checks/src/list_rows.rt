@@ -1,8 +1,11 @@
-//! What a Java runtime gave for these calls: `tools/library-rows` prints this table.
+//! What a Java runtime gave for these calls: `tools/library-rows` prints these tables.
 
-use crate::datum::Datum::{Int, Nothing, Throws};
-use crate::datum::ListRow;
-use crate::names::{ADD, CLEAR, GET, HAS_NONE, INSERT, OF_CAPACITY, REMOVE, SET, SIZE};
+use crate::datum::Datum::{Array, Int, List, Nothing, Null, Set, Throws};
+use crate::datum::{ListRow, MakingRow};
+use crate::names::{
+    ADD, ADD_ENTRY, AS_LIST, CLEAR, COUNT, CUT, EMPTY_LIST, EMPTY_SET, ENTRY_HASH, GET, HAS_NONE,
+    INSERT, KEY, KEY_SET, OF_CAPACITY, REMOVE, SET, SET_VALUE, SIZE, VALUE, VALUE_LIST,
+};
 use program_rules::Fault;
 
 pub static LIST_ROWS: [ListRow; 31] = [
@@ -127,4 +130,180 @@ pub static LIST_ROWS: [ListRow; 31] = [
         Throws(Fault::IllegalArgumentException),
         &[],
     ),
+];
+
+pub static ENTRY_ROWS: [ListRow; 28] = [
+    (COUNT, &[], &[], Int(0), &[]),
+    (KEY_SET, &[], &[], Set(&[]), &[]),
+    (VALUE_LIST, &[], &[], List(&[]), &[]),
+    (
+        ADD_ENTRY,
+        &[],
+        &[Int(9), Int(9), Int(90)],
+        Nothing,
+        &[9, 9, 90],
+    ),
+    (
+        COUNT,
+        &[5, 5, 10, 6, 6, 20],
+        &[],
+        Int(2),
+        &[5, 5, 10, 6, 6, 20],
+    ),
+    (
+        KEY_SET,
+        &[5, 5, 10, 6, 6, 20],
+        &[],
+        Set(&[5, 6]),
+        &[5, 5, 10, 6, 6, 20],
+    ),
+    (
+        VALUE_LIST,
+        &[5, 5, 10, 6, 6, 20],
+        &[],
+        List(&[10, 20]),
+        &[5, 5, 10, 6, 6, 20],
+    ),
+    (
+        ADD_ENTRY,
+        &[5, 5, 10, 6, 6, 20],
+        &[Int(9), Int(9), Int(90)],
+        Nothing,
+        &[5, 5, 10, 6, 6, 20, 9, 9, 90],
+    ),
+    (
+        ENTRY_HASH,
+        &[5, 5, 10, 6, 6, 20],
+        &[Int(0)],
+        Int(5),
+        &[5, 5, 10, 6, 6, 20],
+    ),
+    (
+        KEY,
+        &[5, 5, 10, 6, 6, 20],
+        &[Int(0)],
+        Int(5),
+        &[5, 5, 10, 6, 6, 20],
+    ),
+    (
+        VALUE,
+        &[5, 5, 10, 6, 6, 20],
+        &[Int(0)],
+        Int(10),
+        &[5, 5, 10, 6, 6, 20],
+    ),
+    (
+        SET_VALUE,
+        &[5, 5, 10, 6, 6, 20],
+        &[Int(0), Int(9)],
+        Int(10),
+        &[5, 5, 9, 6, 6, 20],
+    ),
+    (CUT, &[5, 5, 10, 6, 6, 20], &[Int(0)], Int(10), &[6, 6, 20]),
+    (
+        ENTRY_HASH,
+        &[5, 5, 10, 6, 6, 20],
+        &[Int(1)],
+        Int(6),
+        &[5, 5, 10, 6, 6, 20],
+    ),
+    (
+        KEY,
+        &[5, 5, 10, 6, 6, 20],
+        &[Int(1)],
+        Int(6),
+        &[5, 5, 10, 6, 6, 20],
+    ),
+    (
+        VALUE,
+        &[5, 5, 10, 6, 6, 20],
+        &[Int(1)],
+        Int(20),
+        &[5, 5, 10, 6, 6, 20],
+    ),
+    (
+        SET_VALUE,
+        &[5, 5, 10, 6, 6, 20],
+        &[Int(1), Int(9)],
+        Int(20),
+        &[5, 5, 10, 6, 6, 9],
+    ),
+    (CUT, &[5, 5, 10, 6, 6, 20], &[Int(1)], Int(20), &[5, 5, 10]),
+    (
+        ENTRY_HASH,
+        &[5, 5, 10, 6, 6, 20],
+        &[Int(2)],
+        Throws(Fault::IndexOutOfBoundsException),
+        &[5, 5, 10, 6, 6, 20],
+    ),
+    (
+        KEY,
+        &[5, 5, 10, 6, 6, 20],
+        &[Int(2)],
+        Throws(Fault::IndexOutOfBoundsException),
+        &[5, 5, 10, 6, 6, 20],
+    ),
+    (
+        VALUE,
+        &[5, 5, 10, 6, 6, 20],
+        &[Int(2)],
+        Throws(Fault::IndexOutOfBoundsException),
+        &[5, 5, 10, 6, 6, 20],
+    ),
+    (
+        SET_VALUE,
+        &[5, 5, 10, 6, 6, 20],
+        &[Int(2), Int(9)],
+        Throws(Fault::IndexOutOfBoundsException),
+        &[5, 5, 10, 6, 6, 20],
+    ),
+    (
+        CUT,
+        &[5, 5, 10, 6, 6, 20],
+        &[Int(2)],
+        Throws(Fault::IndexOutOfBoundsException),
+        &[5, 5, 10, 6, 6, 20],
+    ),
+    (
+        ENTRY_HASH,
+        &[5, 5, 10, 6, 6, 20],
+        &[Int(-1)],
+        Throws(Fault::IndexOutOfBoundsException),
+        &[5, 5, 10, 6, 6, 20],
+    ),
+    (
+        KEY,
+        &[5, 5, 10, 6, 6, 20],
+        &[Int(-1)],
+        Throws(Fault::IndexOutOfBoundsException),
+        &[5, 5, 10, 6, 6, 20],
+    ),
+    (
+        VALUE,
+        &[5, 5, 10, 6, 6, 20],
+        &[Int(-1)],
+        Throws(Fault::IndexOutOfBoundsException),
+        &[5, 5, 10, 6, 6, 20],
+    ),
+    (
+        SET_VALUE,
+        &[5, 5, 10, 6, 6, 20],
+        &[Int(-1), Int(9)],
+        Throws(Fault::IndexOutOfBoundsException),
+        &[5, 5, 10, 6, 6, 20],
+    ),
+    (
+        CUT,
+        &[5, 5, 10, 6, 6, 20],
+        &[Int(-1)],
+        Throws(Fault::IndexOutOfBoundsException),
+        &[5, 5, 10, 6, 6, 20],
+    ),
+];
+
+pub static MAKING_ROWS: [MakingRow; 4] = [
+    (EMPTY_LIST, &[], List(&[])),
+    (EMPTY_SET, &[], Set(&[])),
+    (AS_LIST, &[Array(&[7, 8])], List(&[7, 8])),
+    (AS_LIST, &[Null], Throws(Fault::NullPointerException)),
 ];

@@ -1,8 +1,8 @@
 //! The native methods of the rows, by one word each.
 
 use library_rules::{
-    BoxNative, BuilderNative, LangNative, ListNative, NumberNative, ObjectNative, OptionalNative,
-    OrderNative, TextNative, ThrowableNative,
+    BoxNative, BuilderNative, EntryNative, IteratorNative, LangNative, ListNative, NumberNative,
+    ObjectNative, OptionalNative, OrderNative, TextNative, ThrowableNative, UtilNative,
 };
 
 pub const LENGTH: LangNative = LangNative::Text(TextNative::Length);
@@ -159,20 +159,78 @@ pub const OPTIONAL_VALUE: LangNative = LangNative::Optional(OptionalNative::Valu
 
 pub const OR_ELSE: LangNative = LangNative::Optional(OptionalNative::OrElse);
 
-pub const GET: ListNative = ListNative::Get;
+pub const GET: UtilNative = UtilNative::List(ListNative::Get);
 
-pub const SET: ListNative = ListNative::Set;
+pub const SET: UtilNative = UtilNative::List(ListNative::Set);
 
-pub const REMOVE: ListNative = ListNative::Remove;
+pub const REMOVE: UtilNative = UtilNative::List(ListNative::Remove);
 
-pub const INSERT: ListNative = ListNative::Insert;
+pub const INSERT: UtilNative = UtilNative::List(ListNative::Insert);
 
-pub const SIZE: ListNative = ListNative::Size;
+pub const SIZE: UtilNative = UtilNative::List(ListNative::Size);
 
-pub const HAS_NONE: ListNative = ListNative::IsEmpty;
+pub const HAS_NONE: UtilNative = UtilNative::List(ListNative::IsEmpty);
 
-pub const ADD: ListNative = ListNative::Add;
+pub const ADD: UtilNative = UtilNative::List(ListNative::Add);
 
-pub const CLEAR: ListNative = ListNative::Clear;
+pub const CLEAR: UtilNative = UtilNative::List(ListNative::Clear);
 
-pub const OF_CAPACITY: ListNative = ListNative::OfCapacity;
+pub const OF_CAPACITY: UtilNative = UtilNative::List(ListNative::OfCapacity);
+
+pub const NAME_OF_CLASS: LangNative = LangNative::Object(ObjectNative::NameOfClass);
+
+pub const ASSERTION_STATUS: LangNative = LangNative::Object(ObjectNative::AssertionStatus);
+
+pub const DO_NOTHING: LangNative = LangNative::Object(ObjectNative::DoNothing);
+
+pub const ENUM_INIT: LangNative = LangNative::Object(ObjectNative::EnumInit);
+
+pub const ALLOCATION_NUMBER: LangNative = LangNative::Object(ObjectNative::AllocationNumber);
+
+pub const OBJECT_TEXT: LangNative = LangNative::Object(ObjectNative::ObjectText);
+
+pub const SET_MESSAGE: LangNative = LangNative::Throwable(ThrowableNative::SetMessage);
+
+pub const SET_CAUSE: LangNative = LangNative::Throwable(ThrowableNative::SetCause);
+
+pub const SET_MESSAGE_AND_CAUSE: LangNative = LangNative::Throwable(
+    ThrowableNative::SetMessageAndCause,
+);
+
+pub const EMPTY_OPTIONAL: LangNative = LangNative::Optional(OptionalNative::Empty);
+
+pub const OPTIONAL_OF_NULLABLE: LangNative = LangNative::Optional(OptionalNative::OfNullable);
+
+pub const UNSUPPORTED: UtilNative = UtilNative::List(ListNative::Unsupported);
+
+pub const COUNT: UtilNative = UtilNative::Entry(EntryNative::Count);
+
+pub const ENTRY_HASH: UtilNative = UtilNative::Entry(EntryNative::Hash);
+
+pub const KEY: UtilNative = UtilNative::Entry(EntryNative::Key);
+
+pub const VALUE: UtilNative = UtilNative::Entry(EntryNative::Value);
+
+pub const SET_VALUE: UtilNative = UtilNative::Entry(EntryNative::SetValue);
+
+pub const ADD_ENTRY: UtilNative = UtilNative::Entry(EntryNative::Add);
+
+pub const CUT: UtilNative = UtilNative::Entry(EntryNative::Cut);
+
+pub const KEY_SET: UtilNative = UtilNative::Entry(EntryNative::KeySet);
+
+pub const VALUE_LIST: UtilNative = UtilNative::Entry(EntryNative::ValueList);
+
+pub const EMPTY_LIST: UtilNative = UtilNative::Iterator(IteratorNative::EmptyList);
+
+pub const EMPTY_SET: UtilNative = UtilNative::Iterator(IteratorNative::EmptySet);
+
+pub const AS_LIST: UtilNative = UtilNative::Iterator(IteratorNative::AsList);
+
+pub const OF_LIST: UtilNative = UtilNative::Iterator(IteratorNative::OfList);
+
+pub const OF_SET: UtilNative = UtilNative::Iterator(IteratorNative::OfSet);
+
+pub const HAS_NEXT: UtilNative = UtilNative::Iterator(IteratorNative::HasNext);
+
+pub const NEXT: UtilNative = UtilNative::Iterator(IteratorNative::Next);
