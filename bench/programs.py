@@ -153,4 +153,21 @@ def _():
     put('methods', [('T', test())], [('A', klass('A', flags=0x421, methods=methods, p=p))])
 
 
+# 16 class files of 4 MB, of jumps that two mutators change: 44,000,000 mutants
+@case('mutants')
+def _():
+    p = Pool(); jumps = code(p, b'\x9b\x00\x03' * 21844 + b'\xb1')
+    put('mutants', [('T', test())], [(f'C{i}', klass(f'C{i}', methods=[member(p, 'm', '()V', 9, [jumps])] * 63, p=p)) for i in range(16)])
+
+
+# 120,000 tests in two classes
+@case('tests')
+def _():
+    def tests(name):
+        p = Pool(); note = attr(p, 'RuntimeVisibleAnnotations', u2(1) + u2(p.text('Lorg/junit/Test;')) + u2(0))
+        init = member(p, '<init>', '()V', 1, [code(p, b'\x2a\xb7' + u2(p.method(OBJECT, '<init>', '()V')) + b'\xb1')])
+        return klass(name, methods=[init] + [member(p, f't{i}', '()V', 1, [code(p, b'\xb1'), note]) for i in range(60000)], p=p)
+    put('tests', [(name, tests(name)) for name in ('T', 'U')], [('A', klass('A'))])
+
+
 for name in wanted or CASES: CASES[name]()
