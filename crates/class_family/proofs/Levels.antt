@@ -59,7 +59,7 @@ either_other (inl a) = inr a
 either_other (inr b) = inl b
 
 -- each step is one of the supers that a class names
-steps_in_parents : (order : Order) (c : Option Linked) (m : Name) → is_listed m (steps order (outline_of c)) ≡ true → is_listed m (parents_of c) ≡ true
+pub steps_in_parents : (order : Order) (c : Option Linked) (m : Name) → is_listed m (steps order (outline_of c)) ≡ true → is_listed m (parents_of c) ≡ true
 steps_in_parents Rising None m e = e
 steps_in_parents Searching None m e = e
 steps_in_parents Beginning None m e = e

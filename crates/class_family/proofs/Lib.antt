@@ -1,7 +1,9 @@
-mod Pushing
+pub mod Pushing
 pub mod Levels
 mod Upwards
-mod Onces
-mod Numbered
+pub mod Onces
+pub mod Numbered
 mod Walking
+pub mod Above
+pub mod Several
 pub mod Searches

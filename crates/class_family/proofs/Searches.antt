@@ -73,7 +73,7 @@ module _ (is : List (Name × InitState)) where
 
 -- ---- candidates
 
-abbrev apart : Name → Candidate → Bool
+abbrev pub apart : Name → Candidate → Bool
 apart n c = if same c.method.class n then false else true
 
 both_apart : (n m : Name) (c : Candidate) → cond (apart n c) (apart m c) false ≡ cond (apart m c) (apart n c) false
@@ -85,7 +85,7 @@ both_apart n m c = by_tests (same c.method.class n) (same c.method.class m)
     by_tests false true = refl
     by_tests false false = refl
 
-same_kept : {A : Type 0} (f g : A → Bool) → ((x : A) → f x ≡ g x) → (xs : List A) → filter f xs ≡ filter g xs
+pub same_kept : {A : Type 0} (f g : A → Bool) → ((x : A) → f x ≡ g x) → (xs : List A) → filter f xs ≡ filter g xs
 same_kept f g h [] = refl
 same_kept f g h (x ∷ xs) = ap (λ b. cond b (x ∷ filter f xs) (filter f xs)) (h x) ∙ ap (λ l. cond (g x) (x ∷ l) l) (same_kept f g h xs)
 
@@ -102,7 +102,7 @@ apart_itself n c = by_test (apart n c)
 apart_twice : (n : Name) (cs : List Candidate) → filter (apart n) (filter (apart n) cs) ≡ filter (apart n) cs
 apart_twice n cs = kept_twice (apart n) (apart n) cs ∙ same_kept (λ c. cond (apart n c) (apart n c) false) (apart n) (apart_itself n) cs
 
-filter_both : {A : Type 0} (f : A → Bool) (xs ys : List A) → filter f (xs ++ ys) ≡ filter f xs ++ filter f ys
+pub filter_both : {A : Type 0} (f : A → Bool) (xs ys : List A) → filter f (xs ++ ys) ≡ filter f xs ++ filter f ys
 filter_both f [] ys = refl
 filter_both f (x ∷ xs) ys = by_test (f x) (filter_both f xs ys)
   where
@@ -111,10 +111,10 @@ filter_both f (x ∷ xs) ys = by_test (f x) (filter_both f xs ys)
     by_test false rest = rest
 
 module _ (p : Look) (name desc : Name) where
-  abbrev own : Name → List Candidate
+  abbrev pub own : Name → List Candidate
   own n = candidate_in name desc (node_of p n)
 
-  abbrev chosen : List Name → List Candidate
+  abbrev pub chosen : List Name → List Candidate
   chosen ns = candidates name desc (map (node_of p) ns)
 
   own_apart : (n : Name) → filter (apart n) (own n) ≡ []
@@ -142,7 +142,7 @@ module _ (p : Look) (name desc : Name) where
           ∙ ap (λ l. filter (apart n) (own m) ++ l) (apart_swap n m (chosen (others n ns)) ∙ ap (filter (apart m)) rest ∙ apart_swap m n (chosen ns))
           ∙ sym (filter_both (apart n) (own m) (filter (apart m) (chosen ns)))
 
-  chosen_once : (ns : List Name) → chosen (each_once ns) ≡ chosen ns
+  pub chosen_once : (ns : List Name) → chosen (each_once ns) ≡ chosen ns
   chosen_once [] = refl
   chosen_once (n ∷ ns) = ap (λ l. own n ++ l) (chosen_others n (each_once ns) ∙ ap (filter (apart n)) (chosen_once ns))
 

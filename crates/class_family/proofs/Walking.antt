@@ -11,7 +11,7 @@ use Rattle.class_family.specs.declared.seen.Seen.{Seen}
 use Rattle.class_family.specs.declared.tasks.Task.{Task}
 use Rattle.class_family.specs.declared.tasks.Task.TheVariants.{Enter, Leave}
 use Rattle.class_family.specs.Families.{names_in, classes_of, AreClassesOf}
-use Rattle.class_family.specs.Walks.{before, behind, steps, enters_of, walk, names_of_task, wanted, nobody, add_in, AreThere, IsTask, AreTasks, weight_of, weight, names_of, IsSeen, AddsSteps, Enters, passes, goes, Leaves, Makes}
+use Rattle.class_family.specs.Walks.{before, behind, steps, enters_of, walk, names_of_task, wanted, nobody, add_in, AreThere, IsTask, AreTasks, weight_of, weight, names_of, IsSeen, AddsSteps, walks, Enters, passes, goes, Leaves, Makes}
 use Rattle.class_family.proofs.Pushing.{append_nil}
 use Rattle.class_family.proofs.Levels.{walk_step}
 use Rattle.class_family.proofs.Onces.{add_all}
@@ -30,20 +30,16 @@ module _ (order : Order) (p : List Info) where
   weight_both [] ys = omega arith
   weight_both (x ∷ xs) ys = let e = weight_both xs ys in omega (arith, e)
 
-  -- the walks of these names
-  abbrev walks : List Name → List Name
-  walks ns = concat_over (λ m. names_in (nodes order (look p) m)) ns
-
-  wanted_enters : (over : List ℕ) → wanted order p (enters_of over) ≡ walks (map (name_at p) over)
+  pub wanted_enters : (over : List ℕ) → wanted order p (enters_of over) ≡ walks order p (map (name_at p) over)
   wanted_enters [] = refl
   wanted_enters (a ∷ more) = wanted_both (enters_of more) (Enter a ∷ []) ∙ ap (λ l. walk order p a ++ l) (wanted_enters more)
 
-  weight_enters : (over : List ℕ) → weight order p (enters_of over) ≡ length (walks (map (name_at p) over)) + length (walks (map (name_at p) over))
+  weight_enters : (over : List ℕ) → weight order p (enters_of over) ≡ length (walks order p (map (name_at p) over)) + length (walks order p (map (name_at p) over))
   weight_enters [] = omega arith
   weight_enters (a ∷ more) =
       let e = weight_both (enters_of more) (Enter a ∷ []) in
       let h = weight_enters more in
-      let l = length-append (walk order p a) (walks (map (name_at p) more)) in
+      let l = length-append (walk order p a) (walks order p (map (name_at p) more)) in
       omega (arith, e, h, l)
 
   -- what all tasks find, in two steps
@@ -62,7 +58,7 @@ module _ (order : Order) (p : List Info) where
   tasks_back [] ys ns h = h
   tasks_back (x ∷ xs) ys ns h = tasks_back xs ys ns h.1
 
-  enters_tasks : (over : List ℕ) (ns : List Name) → ((k b : ℕ) → slice_get over k ≡ Some b → b < length p) → AreTasks order p ns (enters_of over)
+  pub enters_tasks : (over : List ℕ) (ns : List Name) → ((k b : ℕ) → slice_get over k ≡ Some b → b < length p) → AreTasks order p ns (enters_of over)
   enters_tasks [] ns h = tt
   enters_tasks (a ∷ more) ns h = tasks_both (enters_of more) (Enter a ∷ []) ns (enters_tasks more (add_in (wanted order p (Enter a ∷ [])) ns) (λ k b e. h (suc k) b e)) (h 0 a refl, tt)
 
@@ -79,7 +75,7 @@ module _ (order : Order) (p : List Info) where
   module _ (ok : IsProgram p) where
     -- what stands between
     abbrev middle : ℕ → List Name
-    middle a = walks (steps order (outline_of (look p (name_at p a))))
+    middle a = walks order p (steps order (outline_of (look p (name_at p a))))
 
     whole : (a : ℕ) → walk order p a ≡ before order (name_at p a) ++ (middle a ++ behind order (name_at p a))
     whole a = walk_step (look p) ok.ranks order (name_at p a)
@@ -119,14 +115,14 @@ module _ (order : Order) (p : List Info) where
           let three = weight_both ts (Enter a ∷ []) in
           let four = weight_enters adds.over in
           let five = long a in
-          let six : length (walks (map (name_at p) adds.over)) ≡ length (middle a) = ap (λ ns. length (walks ns)) adds.named in
+          let six : length (walks order p (map (name_at p) adds.over)) ≡ length (middle a) = ap (λ ns. length (walks order p ns)) adds.named in
           let q : weight order p more ≡ weight order p ((ts ++ Leave a ∷ []) ++ enters_of adds.over) = ap (weight order p) adds.tasks in
           omega (arith, one, two, three, four, five, six, q);
     }
       where
         step : add_in (behind order (name_at p a)) (add_in (wanted order p (enters_of adds.over)) (names_of p new)) ≡ add_in (walk order p a) (names_of p old)
         step =
-            ap (λ l. add_in (behind order (name_at p a)) (add_in l (names_of p new))) (wanted_enters adds.over ∙ ap walks adds.named)
+            ap (λ l. add_in (behind order (name_at p a)) (add_in l (names_of p new))) (wanted_enters adds.over ∙ ap (walks order p) adds.named)
             ∙ ap (λ l. add_in (behind order (name_at p a)) (add_in (middle a) l)) names
             ∙ sym (consult_both nobody (middle a) (behind order (name_at p a)) (add_in (before order (name_at p a)) (names_of p old)))
             ∙ sym (consult_both nobody (before order (name_at p a)) (middle a ++ behind order (name_at p a)) (names_of p old))

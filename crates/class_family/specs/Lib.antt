@@ -1,4 +1,5 @@
 pub mod Once
 pub mod Families
+pub mod Above
 pub mod Laws
 pub mod Walks

@@ -1,9 +1,9 @@
 -- What a walk over a class and all above it has still to do, where each class is found once (this
 -- project's own). No public clause cites these.
 use Rattle.std.specs.Prelude.{◌≡◌, ◌+◌, ◌<◌, ℕ, Bool, true, if◌then◌else◌, ⊤, List, [], ◌∷◌, ◌++◌, map, take, drop, length, Option, Some, None, slice_get}
-use Rattle.program_rules.specs.Names.{Name}
+use Rattle.program_rules.specs.Names.{Name, is_listed}
 use Rattle.program_rules.specs.Outlines.{Outline, outline_of, is_interface_class, interfaces_in}
-use Rattle.program_rules.specs.Programs.{Look, Order, Rising, Searching, Beginning, nodes, superclass_in, consult_in}
+use Rattle.program_rules.specs.Programs.{Look, Order, Rising, Searching, Beginning, nodes, superclass_in, concat_over, consult_in}
 use Rattle.class_link.specs.Info.{Info}
 use Rattle.class_table.specs.Table.{look, name_at}
 use Rattle.class_table.specs.Seen.{AreKnown}
@@ -14,6 +14,7 @@ use Rattle.class_family.specs.declared.tasks.Task.TheVariants.{Enter, Leave}
 use Rattle.class_family.specs.declared.tasks.Way.{Way}
 use Rattle.class_family.specs.declared.tasks.Way.TheVariants as way
 use Rattle.class_family.specs.Families.{names_in}
+use Rattle.class_family.specs.Above.{is_above_any, AreWithin}
 
 -- ---- what a walk is made of
 
@@ -162,3 +163,16 @@ pub record Finds (order : Order) (p : List Info) (ms : List Name) (old new : See
   pub closed : new.closed ≡ old.closed
   pub names : names_of p new ≡ add_in ms (names_of p old)
   pub seen : IsSeen order p new
+
+-- The walks of these names.
+abbrev pub walks : Order → List Info → List Name → List Name
+walks order p ns = concat_over (λ m. names_in (nodes order (look p) m)) ns
+
+-- The supers of all these classes are entered before all else.
+pub record EntersAbove (p : List Info) (ids : List ℕ) (ts : List Task) : Type 0 where
+  pub over : List ℕ
+  pub tasks : ts ≡ enters_of over
+  pub within : AreWithin p over
+  pub above :
+      (m : Name) →
+      is_listed m (walks Searching p (map (name_at p) over)) ≡ is_above_any p ids m

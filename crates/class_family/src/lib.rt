@@ -9,4 +9,4 @@ mod tasks;
 mod walker;
 
 pub use rising::superclass;
-pub use walker::Walker;
+pub use walker::{Walker, class_at};

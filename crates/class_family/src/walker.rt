@@ -1,12 +1,13 @@
 //! Walks over a class and all above it.
 
-ghost use Rattle.std.specs.Prelude.{◌≡◌, ◌<◌, ℕ, [], ◌∷◌, ◌++◌, length, IfOk, OnOk};
+ghost use Rattle.std.specs.Prelude.{◌≡◌, ◌<◌, ℕ, [], ◌∷◌, ◌++◌, length, slice_get, Some, IfOk, OnOk};
 ghost use Rattle.program_rules.specs.Programs.{Searching, Beginning};
-ghost use Rattle.jvm_marks.specs.Marks.{with_number};
+ghost use Rattle.jvm_marks.specs.Marks.{is_among, with_number};
 ghost use Rattle.class_table.specs.Table.{name_at};
 ghost use Rattle.class_family.specs.declared.tasks.Task.TheVariants.{Leave};
+ghost use Rattle.class_family.specs.Above.{AreWithin, AreAbove};
 ghost use Rattle.class_family.specs.Families.{AreClassesOf};
-ghost use Rattle.class_family.specs.Walks.{order_of, before, behind, add_in, names_of, wanted, IsTask, AreTasks, IsSeen, Enters, Leaves, Makes, Finds};
+ghost use Rattle.class_family.specs.Walks.{order_of, before, behind, add_in, names_of, wanted, IsTask, AreTasks, IsSeen, Enters, EntersAbove, Leaves, Makes, Finds};
 
 use crate::seen::Seen;
 use crate::steps::enter_steps;
@@ -178,6 +179,49 @@ fn find_all(
     Ok(())
 }
 
+/// The number of a class, by its place among these.
+pub fn class_at(classes: &[u32], at: usize) -> u32
+    requires { at < length classes.now }
+    ensures { slice_get classes.now at ≡ Some result }
+{
+    classes[at]
+}
+
+// The supers of these classes are entered.
+fn enter_above(program: &Program, tasks: &mut Vec<Task>, classes: &[u32]) -> Result<(), Memory>
+    requires within { AreWithin program.now classes.now }
+    requires tasks { tasks.old.items ≡ [] }
+    ensures { OnOk result (EntersAbove program.now classes.now tasks.new.items) }
+{
+    let _len = program.len();
+    let mut at = 0;
+    while at < classes.len() {
+        let number = class_at(classes, at);
+        enter_steps(program, Way::Searching, tasks, ClassId(number))?;
+        at += 1;
+    }
+    Ok(())
+}
+
+// Finds all above any of these classes, where nothing was found yet.
+fn find_above(
+    program: &Program,
+    seen: &mut Seen,
+    tasks: &mut Vec<Task>,
+    classes: &[u32],
+) -> Result<(), Memory>
+    requires within { AreWithin program.now classes.now }
+    requires found { seen.old.found ≡ [] }
+    requires closed { seen.old.closed ≡ [] }
+    requires tasks { tasks.old.items ≡ [] }
+    ensures { OnOk result (AreAbove program.now classes.now seen.new.found) }
+{
+    let _len = program.len();
+    enter_above(program, tasks, classes)?;
+    run(program, Way::Searching, seen, tasks)?;
+    Ok(())
+}
+
 impl Walker {
     /// Nothing was found yet.
     pub fn new(alloc: Global) -> Walker
@@ -197,6 +241,13 @@ impl Walker {
         ensures { result.now ≡ self.now }
     {
         self.seen.found.numbers()
+    }
+
+    /// Whether a class was found.
+    pub fn has(&self, id: ClassId) -> bool
+        ensures { result ≡ is_among id.0 self.now }
+    {
+        self.seen.found.has(id.0)
     }
 
     fn walk(&mut self, program: &Program, way: Way, id: ClassId) -> Result<(), Memory>
@@ -229,6 +280,29 @@ impl Walker {
         ensures { OnOk result (AreClassesOf Beginning program.now id.0 self.new) }
     {
         self.walk(program, Way::Beginning, id)?;
+        Ok(())
+    }
+
+    /// Finds all that stands above any of these classes, each class once, in one walk for all: it
+    /// looks at each class and at each super that one names once, however many classes these are.
+    /// Where one of them stands above another one, it is found, too.
+    pub fn above(&mut self, program: &Program, classes: &[u32]) -> Result<(), Memory>
+        requires { AreWithin program.now classes.now }
+        ensures { OnOk result (AreAbove program.now classes.now self.new) }
+    {
+        self.seen.found.clear();
+        self.seen.closed.clear();
+        self.tasks.clear();
+        find_above(program, &mut self.seen, &mut self.tasks, classes)?;
+        Ok(())
+    }
+
+    /// Finds this class alone.
+    pub fn alone(&mut self, id: ClassId) -> Result<(), Memory>
+        ensures { OnOk result (self.new ≡ id.0 ∷ []) }
+    {
+        self.seen.found.clear();
+        self.seen.found.note(id.0)?;
         Ok(())
     }
 }
