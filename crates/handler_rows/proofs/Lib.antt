@@ -1,0 +1,2 @@
+mod Retaining
+mod Sweeping
