@@ -2,3 +2,4 @@ pub mod Taking
 pub mod Keeping
 pub mod StaySteps
 pub mod RunSteps
+pub mod Dropping

@@ -36,7 +36,7 @@ length_locals : (vs : List Value) → length (locals_of vs) ≡ height_of vs
 length_locals [] = refl
 length_locals (v ∷ vs) = length-append (local_of v) (locals_of vs) ∙ omega (arith, length_local v, length_locals vs)
 
-height_append : (xs ys : List Value) → height_of (xs ++ ys) ≡ height_of xs + height_of ys
+pub height_append : (xs ys : List Value) → height_of (xs ++ ys) ≡ height_of xs + height_of ys
 height_append [] ys = omega arith
 height_append (x ∷ xs) ys = omega (arith, height_append xs ys)
 
@@ -153,7 +153,7 @@ below_start ks stack left e =
       rest = ap (λ n. drop n stack) (sym none);
     }
 
-take_next : {A : Type 0} (m : ℕ) (xs ys : List A) (x : A) → drop m xs ≡ x ∷ ys → take (m + 1) xs ≡ take m xs ++ x ∷ []
+pub take_next : {A : Type 0} (m : ℕ) (xs ys : List A) (x : A) → drop m xs ≡ x ∷ ys → take (m + 1) xs ≡ take m xs ++ x ∷ []
 take_next m xs ys x e = take-add m 1 xs ∙ ap (λ t. take m xs ++ take 1 t) e
 
 drop_next : {A : Type 0} (m : ℕ) (xs ys : List A) (x : A) → drop m xs ≡ x ∷ ys → drop (m + 1) xs ≡ ys

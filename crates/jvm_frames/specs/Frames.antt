@@ -1,5 +1,5 @@
 -- The frames of a machine, apart from where they are stored.
-use Rattle.std.specs.Prelude.{◌≡◌, ℕ, ℤ, ◌+◌, ◌-◌, ◌≤◌, Bool, true, false, List, [], ◌∷◌, ◌++◌, map, reverse, take, drop, length, replicate, Option, Some, None, IfSome, IsSomeAnd}
+use Rattle.std.specs.Prelude.{◌≡◌, ℕ, ℤ, ◌+◌, ◌-◌, ◌≤◌, nat_le, Bool, true, false, List, [], ◌∷◌, ◌++◌, map, reverse, take, drop, length, replicate, Option, Some, None, IfSome, IsSomeAnd}
 use Rattle.std.specs.Option.{option_map}
 use Rattle.program_rules.specs.Names.{Name}
 use Rattle.program_rules.specs.Kinds.{Kind, height_of}
@@ -9,7 +9,7 @@ use Rattle.program_rules.specs.declared.value.Value.TheVariants.{Ref}
 use Rattle.program_rules.specs.Instructions as def
 use Rattle.machine_rules.specs.declared.machine.Limits.{Limits}
 use Rattle.machine_rules.specs.State as rules
-use Rattle.machine_rules.specs.Effects.{Effect, NoRow, goes_with, on_args, locals_of}
+use Rattle.machine_rules.specs.Effects.{Effect, NoRow, goes_with, on_args, locals_of, pushes}
 use Rattle.jvm_state.specs.declared.op.Op.{Op}
 use Rattle.jvm_state.specs.declared.slot.Slot.{Slot}
 use Rattle.jvm_state.specs.declared.frame.Frame.{Frame}
@@ -105,6 +105,42 @@ ActsOn longs i done old new =
     (kind : Option Kind) (starts : Bool) →
     ActsBy (row_of p q kind f.room starts (instruction_of longs named i))
     (left_by i q (row_of p q kind f.room starts (instruction_of longs named i))) done f old new)
+
+-- ---- the running frame's stack
+
+-- The stack of the frame that runs.
+abbrev pub stack_of : Option NumberedFrame → List Value
+stack_of None = []
+stack_of (Some f) = f.stack
+
+-- A value is pushed.
+abbrev pub pushing : Value → ℕ → Row
+pushing v room = λ w f fs. pushes w f fs room v f.stack
+
+-- A value is pushed in the place of so many.
+abbrev pub replacing : ℕ → Value → ℕ → Row
+replacing count v room = λ w f fs. pushes w f fs room v (drop count f.stack)
+
+-- Whether a frame's stack has room for a value in the place of so many.
+abbrev pub has_room_for : ℕ → Value → NumberedFrame → Bool
+has_room_for count v f = nat_le (height_of (v ∷ drop count f.stack)) f.room
+
+-- It is pushed in the running frame, and those below it are as they were.
+abbrev pub IsPut : ℕ → Value → NumberedFrames → NumberedFrames → Type 0
+IsPut count v old new = IfSome old.frame (λ f. GoOn (replacing count v f.room) f old new)
+
+-- A frame at its next instruction, without the uppermost values of its stack.
+abbrev pub advanced : ℕ → NumberedFrame → NumberedFrame
+advanced count f = record f { at = f.at + 1; stack = drop count f.stack }
+
+-- The same of a frame in the store.
+abbrev pub gone_on : Frame → ℕ → Frame
+gone_on f words = record f { at = f.at + 1; sp = f.sp - words }
+
+-- The running frame goes on so, and those below it are as they were.
+abbrev pub IsAdvanced : ℕ → NumberedFrames → NumberedFrames → Type 0
+IsAdvanced count old new =
+    IfSome old.frame (λ f. new ≡ record old { frame = Some (advanced count f) })
 
 -- ---- calls
 

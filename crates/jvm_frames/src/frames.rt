@@ -1,16 +1,17 @@
 // The frames of a machine in one store.
 
-ghost use Rattle.std.specs.Prelude.{◌≡◌, ◌+◌, ◌<◌, ◌≤◌, ◌^◌, true, nat_lt, None, [], ◌∷◌, length, map, take, drop, OnOk, IfOk, IfSome, IfNone, IsSomeAnd};
+ghost use Rattle.std.specs.Prelude.{◌≡◌, ◌+◌, ◌<◌, ◌≤◌, ◌^◌, true, nat_lt, nat_le, None, [], ◌∷◌, length, map, take, drop, slice_get, OnOk, IfOk, IfSome, IfNone, IsSomeAnd};
 ghost use Rattle.machine_rules.specs.Effects.{locals_of};
 ghost use Rattle.class_link.specs.Symbols.{kind_of};
 ghost use Rattle.jvm_state.specs.Slots.{locals_in};
 ghost use Rattle.jvm_state.specs.Stores.{IsFrame, operands_at};
 ghost use Rattle.jvm_state.specs.Ops.{is_alone};
 ghost use Rattle.jvm_frames.specs.Staying.{StayOn};
-ghost use Rattle.jvm_frames.specs.Frames.{ActsOn, HasArgs, NoArgs, HasWords, IsAt, IsCut, IsCalled, args_on, instance_args, instance_words, first_frame, left_behind, depth_of};
+ghost use Rattle.jvm_frames.specs.Frames.{ActsOn, HasArgs, NoArgs, HasWords, IsAt, IsCut, IsCalled, args_on, instance_args, instance_words, first_frame, left_behind, depth_of, stack_of, gone_on, has_room_for, IsPut, IsAdvanced};
 
+use crate::pushing::push_in;
 use crate::staying::stay_in;
-use crate::values::{below_args, top_value, top_values};
+use crate::values::{below_args, top_value, top_values, value_at, width, words_of};
 use class_model::{ClassId, Kind, Memory};
 use jvm_state::{Frame, Op, Slot, act_in, enter};
 use program_rules::Value;
@@ -77,6 +78,30 @@ fn put_instance(slots: &mut Vec<Slot>, instance: Option<u32>) -> Result<u16, Mem
     Ok(1)
 }
 
+// Whether so many words more are within the room of a stack.
+fn is_within(words: usize, more: usize, room: usize) -> bool
+    ensures { result ≡ nat_le (words + more) room }
+{
+    words <= room && more <= room - words
+}
+
+// A frame at its next instruction, without so many words of its stack.
+fn gone_on(frame: &Frame, words: usize) -> Frame
+    requires next { frame.now.at + 1 < 2 ^ 64 }
+    requires words { words ≤ frame.now.sp }
+    ensures { result ≡ gone_on frame.now words }
+{
+    Frame {
+        class: frame.class,
+        method: frame.method,
+        at: frame.at + 1,
+        base: frame.base,
+        floor: frame.floor,
+        sp: frame.sp - words,
+        top: frame.top,
+    }
+}
+
 impl Frames {
     /// No frame.
     pub fn new(alloc: Global) -> Frames
@@ -122,6 +147,16 @@ impl Frames {
         let frame = self.frame?;
         let (v, _) = top_value(operands_of(&self.slots, &frame), frame.sp)?;
         Some(v)
+    }
+
+    /// The value at a place of the running frame's stack, counted from the top.
+    pub fn value(&self, place: usize) -> Option<Value>
+        ensures { result ≡ slice_get (stack_of self.now.frame) place }
+    {
+        match self.frame {
+            Some(frame) => value_at(operands_of(&self.slots, &frame), frame.sp, place),
+            None => None,
+        }
     }
 
     /// The arguments of these kinds on the stack of the running frame, if they are there.
@@ -183,6 +218,52 @@ impl Frames {
         }
         self.frame = Some(frame);
         true
+    }
+
+    /// Whether the running frame's stack has room for a value in the place of so many.
+    pub fn fits(&self, count: usize, v: Value) -> bool
+        requires { count ≤ length (stack_of self.now.frame) }
+        ensures { IfSome self.now.frame (λ f. result ≡ has_room_for count v f) }
+    {
+        let Some(frame) = self.frame else {
+            return false;
+        };
+        let words = words_of(operands_of(&self.slots, &frame), frame.sp, count);
+        let left = frame.sp - words;
+        is_within(left, width(v), frame.top)
+    }
+
+    /// Puts a value in the place of so many on the stack of the running frame, which goes on to its
+    /// next instruction.
+    pub fn put(&mut self, count: usize, v: Value)
+        requires next { IfSome self.old.frame (λ f. f.at + 1 < 2 ^ 64) }
+        requires count { count ≤ length (stack_of self.old.frame) }
+        requires room { IfSome self.old.frame (λ f. has_room_for count v f ≡ true) }
+        ensures { IsPut count v self.old self.new }
+    {
+        let Some(mut frame) = self.frame else {
+            return;
+        };
+        let words = words_of(operands_of(&self.slots, &frame), frame.sp, count);
+        frame.sp -= words;
+        if !push_in(v, &mut self.slots, &mut frame) {
+            unreachable!()
+        }
+        self.frame = Some(frame);
+    }
+
+    /// Takes so many values off the stack of the running frame, which goes on to its next
+    /// instruction.
+    pub fn advance(&mut self, count: usize)
+        requires next { IfSome self.old.frame (λ f. f.at + 1 < 2 ^ 64) }
+        requires count { count ≤ length (stack_of self.old.frame) }
+        ensures { IsAdvanced count self.old self.new }
+    {
+        let Some(frame) = self.frame else {
+            return;
+        };
+        let words = words_of(operands_of(&self.slots, &frame), frame.sp, count);
+        self.frame = Some(gone_on(&frame, words));
     }
 
     /// Takes steps of the running frame, so many at most, and says how many. Each is of an

@@ -3,6 +3,7 @@
 
 mod frames;
 mod laws;
+mod pushing;
 mod staying;
 mod values;
 

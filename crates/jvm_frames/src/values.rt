@@ -1,7 +1,7 @@
 // The values on the top of a stack.
 
-ghost use Rattle.std.specs.Prelude.{◌≡◌, ◌+◌, ◌≤◌, [], ◌∷◌, length, map, IfSome, IfNone, IfOk};
-ghost use Rattle.program_rules.specs.Kinds.{is_of_kind, width_of};
+ghost use Rattle.std.specs.Prelude.{◌≡◌, ◌+◌, ◌≤◌, ◌<◌, [], ◌∷◌, length, map, take, drop, slice_get, IfSome, IfNone, IfOk};
+ghost use Rattle.program_rules.specs.Kinds.{is_of_kind, width_of, height_of};
 ghost use Rattle.class_link.specs.Symbols.{kind_of};
 ghost use Rattle.jvm_state.specs.Slots.{stack_in, IsStack};
 ghost use Rattle.jvm_frames.specs.Frames.{args_on, TakesArgs, NoArgs, AreWordsAbove};
@@ -34,6 +34,63 @@ pub fn top_value(operands: &[Slot], sp: usize) -> Option<(Value, usize)>
         },
         Some(Slot::Long(_)) => None,
         None => None,
+    }
+}
+
+// The words that are left below so many values; none where there are fewer.
+fn below_values(operands: &[Slot], sp: usize, count: usize) -> Option<usize>
+    requires { IsStack operands.now sp }
+    ensures stack { IfSome result (λ below.
+        stack_in operands.now below ≡ drop count (stack_in operands.now sp)) }
+    ensures whole { IfSome result (λ below. IsStack operands.now below) }
+    ensures words { IfSome result (λ below. AreWordsAbove count below operands.now sp) }
+    ensures none { IfNone result (length (stack_in operands.now sp) < count) }
+{
+    let mut rest = sp;
+    let mut taken = 0;
+    while taken < count {
+        let Some((_, below)) = top_value(operands, rest) else {
+            return None;
+        };
+        rest = below;
+        taken += 1;
+    }
+    Some(rest)
+}
+
+/// The value at a place of a stack, counted from the top.
+pub fn value_at(operands: &[Slot], sp: usize, place: usize) -> Option<Value>
+    requires { IsStack operands.now sp }
+    ensures { result ≡ slice_get (stack_in operands.now sp) place }
+{
+    let Some(rest) = below_values(operands, sp, place) else {
+        return None;
+    };
+    match top_value(operands, rest) {
+        Some((v, _)) => Some(v),
+        None => None,
+    }
+}
+
+/// The words of so many values on the top.
+pub fn words_of(operands: &[Slot], sp: usize, count: usize) -> usize
+    requires stack { IsStack operands.now sp }
+    requires count { count ≤ length (stack_in operands.now sp) }
+    ensures { result ≡ height_of (take count (stack_in operands.now sp)) }
+{
+    let Some(below) = below_values(operands, sp, count) else {
+        unreachable!()
+    };
+    sp - below
+}
+
+/// The words of a value.
+pub fn width(v: Value) -> usize
+    ensures { result ≡ width_of v }
+{
+    match v {
+        Value::Long(_) => 2,
+        Value::Int(_) | Value::Ref(_) | Value::Null => 1,
     }
 }
 
