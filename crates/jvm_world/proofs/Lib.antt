@@ -1,3 +1,4 @@
 mod Named
 mod Rests
 mod Worlds
+pub mod Slots

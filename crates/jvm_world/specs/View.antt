@@ -1,5 +1,5 @@
 -- What the world of a machine means by the names of classes, and what its operations make of it.
-use Rattle.std.specs.Prelude.{◌≡◌, ℕ, ◌<◌, List, [], ◌∷◌, map, length, Bool, true, false, Option, Some, None, codes, zero, suc}
+use Rattle.std.specs.Prelude.{◌≡◌, ℕ, ◌<◌, nat_lt, List, [], ◌∷◌, map, length, slice_set, Bool, true, false, Option, Some, None, codes, zero, suc}
 use Rattle.std.specs.Option.{option_map}
 use Rattle.std.specs.HashMap.{get}
 use Rattle.program_rules.specs.Names.{Name, same}
@@ -11,7 +11,7 @@ use Rattle.machine_rules.specs.declared.machine.Outcome.TheVariants.{MemoryOut}
 use Rattle.machine_rules.specs.State as def
 use Rattle.program_rules.specs.declared.fault.Fault.{Fault}
 use Rattle.machine_rules.specs.Effects.{Effect, Goes, throws}
-use Rattle.machine_rules.specs.Fields.{static_value}
+use Rattle.machine_rules.specs.Fields.{static_value, with_values}
 use Rattle.machine_rules.specs.NewObjects.{made_for}
 use Rattle.machine_rules.specs.TypeRows.{monitor_count, opens}
 use Rattle.jvm_values.specs.declared.object.ObjKind.{ObjKind}
@@ -203,3 +203,26 @@ abbrev pub Takes : List Info → World → World → Type 0
 Takes p old new =
     (v : def.World) (c : tests.Call) (rest : List tests.Call) → Means p old v →
     v.script ≡ c ∷ rest → Means p new (record v { running = Some c; script = rest })
+
+-- ---- objects that are there
+
+-- The object of a number is this one in each world that is meant.
+abbrev pub IsObjectIn : List Info → World → ℕ → Option Object → Type 0
+IsObjectIn p w x o =
+    (v : def.World) → Means p w v → objects.object_at v.heap x ≡ option_map (object_of p) o
+
+-- A slot of an object is there, and holds this value from now on.
+pub record IsSet
+    (p : List Info) (new : World) (x slot : ℕ) (value : Value) (v : def.World) (b : objects.Object)
+    : Type 0 where
+  pub there : nat_lt slot (length b.values) ≡ true
+  pub means : Means p new (with_values x b (slice_set b.values slot value) v)
+
+-- What a store into a slot of an object comes to, by whether the slot is there.
+abbrev pub SetsSlot : List Info → World → World → ℕ → ℕ → Value → Bool → Type 0
+SetsSlot p old new x slot value true =
+    (v : def.World) (b : objects.Object) → Means p old v →
+    objects.object_at v.heap x ≡ Some b → IsSet p new x slot value v b
+SetsSlot p old new x slot value false =
+    (v : def.World) (b : objects.Object) → Means p old v →
+    objects.object_at v.heap x ≡ Some b → nat_lt slot (length b.values) ≡ false

@@ -61,7 +61,8 @@ impl Monitors {
 
     /// One less is open for an object. It is false, and nothing changes, where none was.
     pub fn close(&mut self, object: u32) -> bool
-        ensures closed { result ≡ true → Opens object (opened object self.old - 1) self.old self.new }
+        ensures closed { result ≡ true →
+            Opens object (opened object self.old - 1) self.old self.new }
         ensures there { result ≡ true → 0 < opened object self.old }
         ensures none { result ≡ false → opened object self.old ≡ 0 }
         ensures same { result ≡ false → self.new ≡ self.old }

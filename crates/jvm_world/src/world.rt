@@ -1,6 +1,7 @@
 //! The world of a machine, and what is done to it.
 #![tactic(auto, unfolding(crate::specs::View::world_of))]
 
+ghost use Rattle.std.specs.Option.{option_copied};
 ghost use Rattle.std.specs.Prelude.{◌≡◌, ◌+◌, ◌<◌, ◌^◌, ◌++◌, ◌∷◌, [], List, length, None, Some, Ok, true, false, OnOk, OnErr, IfOk, IfSome, IfNone, IsSome, slice_get};
 ghost use Rattle.program_rules.specs.Kinds.{Kind as DefKind};
 ghost use Rattle.machine_rules.specs.State as def;
@@ -16,7 +17,7 @@ ghost use Rattle.class_link.specs.Symbols.{kind_of};
 ghost use Rattle.class_table.specs.Table.{look, name_at};
 ghost use Rattle.jvm_world.specs.Holding.{opened};
 ghost use Rattle.jvm_world.specs.Classes.{AreMachineClasses};
-ghost use Rattle.jvm_world.specs.View.{object_of, test_of, call_of, Means, IsWorldOf, IsKept, Moves, Allocates, Throws, Exits, Takes};
+ghost use Rattle.jvm_world.specs.View.{object_of, test_of, call_of, Means, IsWorldOf, IsKept, Moves, Allocates, Throws, Exits, Takes, IsObjectIn, SetsSlot};
 
 use crate::classes::MachineClasses;
 use crate::made::Made;
@@ -69,7 +70,12 @@ fn copy_name(name: &Option<Name>) -> Result<Option<Name>, Memory>
 // An object that the machine throws: its message and its cause are null.
 fn fault_object(alloc: Global, class: ClassId) -> Result<Object, Memory>
     ensures { IfOk result (λ o.
-        o ≡ record { kind = ObjKind.Plain class; values = Value.Null ∷ Value.Null ∷ []; text = []; items = [] }) }
+        o ≡ record {
+          kind = ObjKind.Plain class;
+          values = Value.Null ∷ Value.Null ∷ [];
+          text = [];
+          items = [];
+        }) }
 {
     let mut values = Seq::new(alloc);
     values.push(Value::Null)?;
@@ -105,7 +111,8 @@ impl World {
         classes: MachineClasses,
     ) -> Result<World, Memory>
         requires { AreMachineClasses p.now classes }
-        ensures means { IfOk result (λ w. Means p.now w (start (look p.now) (test_of test.now)).world) }
+        ensures means { IfOk result (λ w.
+            Means p.now w (start (look p.now) (test_of test.now)).world) }
         ensures world { IfOk result (λ w. IsWorldOf p.now w) }
         ensures limits { IfOk result (λ w. w.limits ≡ limits) }
     {
@@ -343,6 +350,27 @@ impl World {
         Ok(thrown)
     }
 
+    // ---- objects that are there
+
+    /// The object of a number, if there is one.
+    pub fn object(&self, p: &Program, object: u32) -> Option<&Object>
+        ensures { IsObjectIn p.now self.now object (option_copied result) }
+    {
+        let _ = p.len();
+        self.heap.get(object)
+    }
+
+    /// A slot of an object holds this value from now on. It is false, and nothing changes, where
+    /// there is no such object or slot.
+    pub fn set_slot(&mut self, p: &Program, object: u32, slot: u32, value: Value) -> bool
+        requires world { IsWorldOf p.now self.old }
+        ensures sets { SetsSlot p.now self.old self.new object slot value result }
+        ensures absent { result ≡ false → self.new ≡ self.old }
+        ensures kept { IsKept p.now self.old self.new }
+    {
+        self.heap.set(object, slot, value)
+    }
+
     // ---- monitors
 
     /// One more monitorenter of an object is open. A run has fewer steps than would fill the count.
@@ -361,6 +389,7 @@ impl World {
     pub fn exit_monitor(&mut self, p: &Program, object: u32) -> bool
         requires world { IsWorldOf p.now self.old }
         ensures exits { Exits p.now object self.old self.new result }
+        ensures same { result ≡ false → self.new ≡ self.old }
         ensures kept { IsKept p.now self.old self.new }
     {
         self.monitors.close(object)

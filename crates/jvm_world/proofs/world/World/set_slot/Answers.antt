@@ -1,0 +1,7 @@
+use Rattle.jvm_world.proofs.Slots.{sets_by}
+use Rattle.jvm_world.proofs.world.World.set_slot.Goals as goal
+
+pub returns-clause-sets : goal.returns-clause-sets
+returns-clause-sets c =
+    sets_by c.args.p.now c.args.self.now c.set.new.self c.args.object c.args.slot c.args.value
+    c.set.result c.set.ensures.there c.set.ensures.set
