@@ -31,25 +31,25 @@ use Rattle.text_laws.specs.Words.{joined, label, label_word}
 use Rattle.text_laws.proofs.MnemonicLaws.{IsMnemonic, mnemonic_is}
 use Rattle.text_laws.proofs.WordLaws.{label_is, says_itself}
 
-abbrev Words : Type 0
+abbrev pub Words : Type 0
 Words = List (List ℕ)
 
-abbrev line : ℕ → Words → Line
+abbrev pub line : ℕ → Words → Line
 line number words = record { number = number; text = joined words; words = words }
 
-abbrev mark : ℕ → ℕ → List ℕ → Label
+abbrev pub mark : ℕ → ℕ → List ℕ → Label
 mark at number name = record { name = name; at = at; line = number }
 
 -- ---- lines that are neither labels nor instructions
 
-record IsQuiet (words : Words) : Type 0 where
-  label : is_label (kind_by words) ≡ false
-  instruction : is_instruction (kind_by words) ≡ false
+pub record IsQuiet (words : Words) : Type 0 where
+  pub label : is_label (kind_by words) ≡ false
+  pub instruction : is_instruction (kind_by words) ≡ false
 
-abbrev AreQuiet : List Words → Type 0
+abbrev pub AreQuiet : List Words → Type 0
 AreQuiet words = AllByRecursion IsQuiet words
 
-quiet_append : (xs ys : List Words) → AreQuiet xs → AreQuiet ys → AreQuiet (xs ++ ys)
+pub quiet_append : (xs ys : List Words) → AreQuiet xs → AreQuiet ys → AreQuiet (xs ++ ys)
 quiet_append [] ys p q = q
 quiet_append (x ∷ xs) ys p q = (p.0, quiet_append xs ys p.1 q)
 
@@ -61,16 +61,16 @@ quiet_frames : (frames : List StatedFrame) → AreQuiet (map (λ (frame : Stated
 quiet_frames [] = tt
 quiet_frames (x ∷ frames) = (record { label = refl; instruction = refl }, quiet_frames frames)
 
-quiet_handlers : (rows : List StatedRow) → AreQuiet (map handler_line rows)
+pub quiet_handlers : (rows : List StatedRow) → AreQuiet (map handler_line rows)
 quiet_handlers [] = tt
 quiet_handlers (x ∷ rows) = (record { label = refl; instruction = refl }, quiet_handlers rows)
 
-quiet_marks : (code : StatedCode) (n : ℕ) → AreQuiet (marks_at code n)
+pub quiet_marks : (code : StatedCode) (n : ℕ) → AreQuiet (marks_at code n)
 quiet_marks code n =
     quiet_append (map (λ (line : ℕ × ℕ). number_line line.1) (filter (λ (line : ℕ × ℕ). line.0 == n) code.lines)) (map (λ (frame : StatedFrame). frame_line frame.shape) (filter (λ (frame : StatedFrame). frame.at == n) code.frames))
     (quiet_numbers (filter (λ (line : ℕ × ℕ). line.0 == n) code.lines)) (quiet_frames (filter (λ (frame : StatedFrame). frame.at == n) code.frames))
 
-skip_one : (at number : ℕ) (words : Words) (others : List Line) → IsQuiet words → labels_from at (line number words ∷ others) ≡ labels_from at others
+pub skip_one : (at number : ℕ) (words : Words) (others : List Line) → IsQuiet words → labels_from at (line number words ∷ others) ≡ labels_from at others
 skip_one at number words others q =
     ap (λ (b : Bool). option_to_list (cond b (option_map (mark at number) (label_alone words)) None) ++ labels_from (at + cond (is_instruction (kind_by words)) 1 0) others) q.label
     ∙ ap (λ (b : Bool). labels_from (at + cond b 1 0) others) q.instruction
@@ -100,17 +100,17 @@ kind_of : (wide : Bool) (op : ℕ) (words : Words) → IsMnemonic op → is_inst
 kind_of true op words m = refl
 kind_of false op words m = m.instruction
 
-is_insn : (total : ℕ) (insn : StatedInsn) → HasText total insn → is_instruction (kind_by (insn_words insn)) ≡ true
+pub is_insn : (total : ℕ) (insn : StatedInsn) → HasText total insn → is_instruction (kind_by (insn_words insn)) ≡ true
 is_insn total insn h = kind_of insn.wide insn.op (operand_words (operand_form insn.op) insn.operand) (mnemonic_is insn.op h.form h.opcode h.formed)
 
-past_insn : (at number : ℕ) (words : Words) (others : List Line) → is_instruction (kind_by words) ≡ true → labels_from at (line number words ∷ others) ≡ labels_from (at + 1) others
+pub past_insn : (at number : ℕ) (words : Words) (others : List Line) → is_instruction (kind_by words) ≡ true → labels_from at (line number words ∷ others) ≡ labels_from (at + 1) others
 past_insn at number words others e =
     ap (λ (b : Bool). option_to_list (cond b (option_map (mark at number) (label_alone words)) None) ++ labels_from (at + cond (is_instruction (kind_by words)) 1 0) others) (no_label (kind_by words) e)
     ∙ ap (λ (b : Bool). labels_from (at + cond b 1 0) others) e
 
 -- ---- labels
 
-label_found : (n : ℕ) → label_in (label_word n) ≡ Some (label n)
+pub label_found : (n : ℕ) → label_in (label_word n) ≡ Some (label n)
 label_found n = label_is (label n) (omega arith)
 
 labels_are : (n : ℕ) → is_label (kind_by (label_line n)) ≡ true
@@ -119,7 +119,7 @@ labels_are n = ap (λ (o : Option (List ℕ)). is_label (cond (is_some o) kind.L
 no_insn : (n : ℕ) → is_instruction (kind_by (label_line n)) ≡ false
 no_insn n = ap (λ (o : Option (List ℕ)). is_instruction (cond (is_some o) kind.Label kind.Instruction)) (label_found n)
 
-past_label : (at number n : ℕ) (others : List Line) → labels_from at (line number (label_line n) ∷ others) ≡ mark at number (label n) ∷ labels_from at others
+pub past_label : (at number n : ℕ) (others : List Line) → labels_from at (line number (label_line n) ∷ others) ≡ mark at number (label n) ∷ labels_from at others
 past_label at number n others =
     ap (λ (b : Bool). option_to_list (cond b (option_map (mark at number) (label_in (label_word n))) None) ++ labels_from (at + cond (is_instruction (kind_by (label_line n))) 1 0) others) (labels_are n)
     ∙ ap (λ (o : Option (List ℕ)). option_to_list (option_map (mark at number) o) ++ labels_from (at + cond (is_instruction (kind_by (label_line n))) 1 0) others) (label_found n)
@@ -133,7 +133,7 @@ same_word (x ∷ xs) [] e = absurd cc
 same_word (x ∷ xs) (y ∷ ys) e =
     ap (λ (z : ℕ). z ∷ xs) (eqb-true x y (and_left (nat_eq x y) (says xs ys) e)) ∙ ap (λ (zs : List ℕ). y ∷ zs) (same_word xs ys (and_right (nat_eq x y) (says xs ys) e))
 
-other_label : (n m : ℕ) → n < 2 ^ 64 → m < 2 ^ 64 → n ≢ m → says (label n) (label m) ≡ false
+pub other_label : (n m : ℕ) → n < 2 ^ 64 → m < 2 ^ 64 → n ≢ m → says (label n) (label m) ≡ false
 other_label n m small few apart = by (says (label n) (label m)) refl
   where
     by : (b : Bool) → says (label n) (label m) ≡ b → b ≡ false
@@ -174,15 +174,15 @@ found code total (insn ∷ insns) n number m low high few all =
 
 -- ---- how many instructions there are
 
-abbrev count : List Words → ℕ
+abbrev pub count : List Words → ℕ
 count [] = 0
 count (words ∷ others) = cond (is_instruction (kind_by words)) 1 0 + count others
 
-counted : (number : ℕ) (all : List Words) → insns_in (numbered number all) ≡ count all
+pub counted : (number : ℕ) (all : List Words) → insns_in (numbered number all) ≡ count all
 counted number [] = refl
 counted number (words ∷ others) = ap (λ (n : ℕ). cond (is_instruction (kind_by words)) 1 0 + n) (counted (number + 1) others)
 
-count_quiet : (xs ys : List Words) → AreQuiet xs → count (xs ++ ys) ≡ count ys
+pub count_quiet : (xs ys : List Words) → AreQuiet xs → count (xs ++ ys) ≡ count ys
 count_quiet [] ys q = refl
 count_quiet (x ∷ xs) ys q = ap (λ (b : Bool). cond b 1 0 + count (xs ++ ys)) q.0.instruction ∙ ap (λ (n : ℕ). 0 + n) (count_quiet xs ys q.1) ∙ omega arith
 
@@ -190,7 +190,7 @@ no_more : (xs : List Words) → AreQuiet xs → count xs ≡ 0
 no_more [] q = refl
 no_more (x ∷ xs) q = ap (λ (b : Bool). cond b 1 0 + count xs) q.0.instruction ∙ ap (λ (n : ℕ). 0 + n) (no_more xs q.1)
 
-total_is : (code : StatedCode) (total n : ℕ) (insns : List StatedInsn) → AllByRecursion (HasText total) insns → count (lines_from code n insns) ≡ length insns
+pub total_is : (code : StatedCode) (total n : ℕ) (insns : List StatedInsn) → AllByRecursion (HasText total) insns → count (lines_from code n insns) ≡ length insns
 total_is code total n [] all =
     ap (λ (b : Bool). cond b 1 0 + count (map handler_line code.rows)) (no_insn n) ∙ ap (λ (k : ℕ). 0 + k) (no_more (map handler_line code.rows) (quiet_handlers code.rows))
 total_is code total n (insn ∷ insns) all =
@@ -203,7 +203,7 @@ total_is code total n (insn ∷ insns) all =
 
 -- ---- the law
 
-many : (code : StatedCode) (number : ℕ) → AllByRecursion (HasText (length code.insns)) code.insns → insns_in (numbered number (code_text code)) ≡ length code.insns
+pub many : (code : StatedCode) (number : ℕ) → AllByRecursion (HasText (length code.insns)) code.insns → insns_in (numbered number (code_text code)) ≡ length code.insns
 many code number all = counted number (code_text code) ∙ total_is code (length code.insns) 0 code.insns all
 
 place : (code : StatedCode) (number m : ℕ) → m ≤ length code.insns → length code.insns < 2 ^ 32 → AllByRecursion (HasText (length code.insns)) code.insns → label_at (labels_of (numbered number (code_text code))) (label m) ≡ Some m

@@ -1,10 +1,10 @@
 mod EntryLaws
 mod FrameLaws
 mod InsnLaws
-mod LabelLaws
+pub mod LabelLaws
 mod LineLaws
 mod MnemonicLaws
 mod NumberLaws
 mod OperandLaws
 mod QuotedLaws
-mod WordLaws
+pub mod WordLaws

@@ -1,0 +1,4 @@
+pub mod ClassText
+pub mod HasText
+pub mod Statement
+pub mod Witness
