@@ -2,3 +2,4 @@ mod Naming
 mod Grown
 mod Pools
 mod Keeping
+mod WitnessLaws

@@ -2,7 +2,9 @@
 #![tactic(auto)]
 
 ghost use Rattle.apply_laws.specs.Spelled.{SpelledIsNamed, EditsAreSpelled, MutantsAreSpelled};
+ghost use Rattle.apply_laws.specs.Witness.{sample_file, HasMutant};
 
+use class_reader::files_are_read_as_spelled;
 use class_writer::{what_is_spelled_is_written, what_is_written_is_spelled};
 use mutant_apply::{applied_is_made, edit_keeps_form, mutants_fit};
 
@@ -29,4 +31,12 @@ pub fn mutants_are_spelled()
     edits_are_spelled();
     what_is_spelled_is_written();
     mutants_fit();
+}
+
+/// The premises of these laws are met: by the file of a class, and by a mutant of that class, whose
+/// edit makes another class.
+pub fn apply_laws_are_of_use()
+    ensures { HasMutant sample_file }
+{
+    files_are_read_as_spelled();
 }

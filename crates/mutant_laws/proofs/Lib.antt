@@ -11,3 +11,4 @@ mod Recoded
 mod Edits
 mod RunLaws
 mod SelectedLaws
+mod Premises

@@ -11,11 +11,11 @@ use Rattle.edit_laws.specs.Edit.{Edit, IsEdited, edited_line}
 use Rattle.edit_laws.specs.EditLaws.{edited_place, GoesOnAlike}
 use Rattle.edits_so_far.specs.EditLaws as so_far
 use Rattle.class_link.specs.Info.{Info, IsInfo}
-use Rattle.class_table.specs.Table.{look}
+use Rattle.class_table.specs.Table.{IsProgram, look}
 use Rattle.mutator_ops.specs.Laws.{IsMutant}
 use Rattle.mutator_ops.specs.Mutants.{class_mutants}
 use Rattle.mutator_ops.specs.declared.mutant.Mutant.{Mutant}
-use Rattle.mutant_runs.specs.Programs.{files_of, edited}
+use Rattle.mutant_runs.specs.Programs.{files_of, edited, IsMutantOf}
 
 -- The place of a mutant's instruction.
 abbrev pub mutant_place : Mutant → Place
@@ -56,6 +56,12 @@ pub record IsMutated (p : List Info) (m : Mutant) (p' : Look) : Type 0 where
   pub listed : Contains (class_mutants file) m
   pub spelled : (puts_int_jump m.edit.with ≡ true) ⊎ IsClass file
   pub made : edited (files_of p) (look p) m ≡ Some p'
+
+-- What the run of a suite keeps is what the laws ask: of each mutant that is listed of a class file of a program, where its edit is one that the class takes and makes a second program.
+abbrev pub ListedAreMutated : Type 0
+ListedAreMutated =
+    (p : List Info) (m : Mutant) (p' : Look) (file : Class) → IsProgram p → IsMutantOf (files_of p) m → files_of p m.class ≡ Some file → Contains (class_mutants file) m
+    → edited (files_of p) (look p) m ≡ Some p' → IsMutated p m p'
 
 -- The program that a mutant's edit makes is the program with one instruction edited, whichever mutator it is of and however many instructions it puts there.
 abbrev pub MutantsAreEdits : Type 0

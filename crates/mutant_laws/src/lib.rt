@@ -4,7 +4,7 @@
 //! functions whose laws it rests on.
 #![tactic(auto)]
 
-ghost use Rattle.mutant_laws.specs.Edited.{MutantsAreEdits, IntJumpsGoOn, IntJumpsAreExchanged};
+ghost use Rattle.mutant_laws.specs.Edited.{ListedAreMutated, MutantsAreEdits, IntJumpsGoOn, IntJumpsAreExchanged};
 ghost use Rattle.mutant_laws.specs.Covered.{UnreachedIsAlike, ReachingIsAlike, CoveringIsAlike, SelectedSuffice};
 
 use apply_laws::what_is_spelled_is_named;
@@ -15,6 +15,12 @@ use edits_so_far::{
 };
 use mutant_apply::{applied_is_made, mutants_fit};
 use mutator_ops::listed_exactly;
+
+/// Each mutant that is listed of a class file of a program meets what the laws below ask of it: by
+/// what every program keeps, and by what is asked where the tests of a suite are run on a mutant.
+pub fn listed_are_mutated()
+    ensures { ListedAreMutated }
+{}
 
 /// The program that a mutant's edit makes is the program with one instruction edited, at the
 /// mutant's class, method and place and on its line, also where several instructions are put there.
