@@ -1,4 +1,5 @@
 pub mod AppendedLaws
+pub mod EditLaws
 pub mod FormLaws
 pub mod Resolved
 pub mod LineLaws

@@ -1,19 +1,23 @@
 -- What an index means in a run-time constant pool is what it means in the pool that it is made of; and the switches of a code by their numbers.
 use Rattle.std.proofs.Common.{◌≡◌, ◌∙◌, sym, refl, ap, ℕ, zero, suc, ◌+◌, ◌-◌, Bool, true, false, List, [], ◌∷◌, ◌++◌, map, length, drop, Option, None, Some, slice_get, arith, subst}
-use Rattle.std.specs.Prelude.{ℤ, ◌==◌, if◌then◌else◌}
+use Rattle.std.specs.Prelude.{ℤ, ◌==◌, if◌then◌else◌, option_and_then}
 use Rattle.std.specs.Option.{option_map}
 use Rattle.std.proofs.lemmas.Option.{slice_get-map}
 use Rattle.program_rules.specs.Instructions.{TableSwitch, LookupSwitch, Unlinked}
 use Rattle.class_model.specs.declared.constant.Const.{Const}
+use Rattle.class_model.specs.declared.constant.Const.TheVariants as const
+use Rattle.class_model.specs.Pool.{entry_of, class_in, text_of}
 use Rattle.class_model.specs.declared.instruction.Insn.{Insn}
 use Rattle.class_model.specs.declared.instruction.Arg.{Arg}
 use Rattle.class_model.specs.declared.instruction.Arg.TheVariants as arg
 use Rattle.class_link.specs.declared.linked.Entry.{Entry}
+use Rattle.class_link.specs.declared.linked.Entry.TheVariants as entry
 use Rattle.class_link.specs.declared.linked.Switch.{Switch}
 use Rattle.class_link.specs.declared.linked.Switch.TheVariants as switch
-use Rattle.class_link.specs.Symbols.{Symbol, IsOther, symbol_in, symbol_or_other, symbol_at}
+use Rattle.program_rules.specs.Names.{Name}
+use Rattle.class_link.specs.Symbols.{Symbol, IsOther, IsClass, name_or_empty, class_named, symbol_in, symbol_or_other, symbol_at}
 use Rattle.class_link.specs.Opcodes.{with_operand, instruction_by, instruction_in}
-use Rattle.class_link.specs.View.{symbol_of, entry_symbol, meaning_at, table_of, lookup_of}
+use Rattle.class_link.specs.View.{symbol_of, entry_symbol, class_entry, meaning_at, table_of, lookup_of}
 use Rattle.class_link.specs.Switches.{AreEntries}
 
 -- ---- indices
@@ -45,6 +49,43 @@ symbol_there pool (suc k) =
 pub meaning_same : (es : List Entry) (pool : List Const) (index : ℕ) → AreEntries es pool → meaning_at es index ≡ symbol_at pool index
 meaning_same es pool index h =
     entry_or (slice_get es index) ∙ ap or_other (sym (slice_get-map symbol_of es index)) ∙ ap (λ l. or_other (slice_get l index)) h ∙ symbol_there pool index
+
+-- The class that a symbol is.
+abbrev class_symbol : Symbol → Name
+class_symbol (IsClass n) = n
+class_symbol other = []
+
+by_entry : (o : Option Entry) → class_symbol (entry_symbol o) ≡ class_entry o
+by_entry None = refl
+by_entry (Some entry.Other) = refl
+by_entry (Some (entry.Integer z)) = refl
+by_entry (Some (entry.Long z)) = refl
+by_entry (Some (entry.Text t)) = refl
+by_entry (Some (entry.Class n)) = refl
+by_entry (Some (entry.Field r)) = refl
+by_entry (Some (entry.Method r)) = refl
+
+by_constant : (pool : List Const) (o : Option Const) → class_symbol (symbol_or_other pool o) ≡ name_or_empty (option_and_then (text_of pool) (option_and_then class_in o))
+by_constant pool None = refl
+by_constant pool (Some (const.Utf8 t)) = refl
+by_constant pool (Some (const.Integer z)) = refl
+by_constant pool (Some (const.Float bits)) = refl
+by_constant pool (Some (const.Long z)) = refl
+by_constant pool (Some (const.Double bits)) = refl
+by_constant pool (Some (const.Class i)) = refl
+by_constant pool (Some (const.Text i)) = refl
+by_constant pool (Some (const.Field class pair)) = refl
+by_constant pool (Some (const.Method class pair)) = refl
+by_constant pool (Some (const.IMethod class pair)) = refl
+by_constant pool (Some (const.Pair name desc)) = refl
+by_constant pool (Some (const.Handle kind member)) = refl
+by_constant pool (Some (const.MethodKind desc)) = refl
+by_constant pool (Some (const.Dynamic bootstrap pair)) = refl
+by_constant pool (Some const.Second) = refl
+
+pub class_meant : (es : List Entry) (pool : List Const) (index : ℕ) → AreEntries es pool → class_named pool index ≡ class_entry (slice_get es index)
+class_meant es pool index h =
+    sym (by_constant pool (entry_of pool index)) ∙ sym (ap class_symbol (meaning_same es pool index h)) ∙ by_entry (slice_get es index)
 
 -- ---- instructions
 

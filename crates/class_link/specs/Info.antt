@@ -1,13 +1,15 @@
 -- A class of a program: its name, where it comes from, and what it means.
-use Rattle.std.specs.Prelude.{◌≡◌, ◌<◌, ◌^◌, length, Option, Some, None}
+use Rattle.std.specs.Prelude.{◌≡◌, ◌<◌, ◌^◌, ⊤, List, length, Option, Some, None}
 use Rattle.class_model.specs.declared.class.Class.{Class}
 use Rattle.program_rules.specs.Names.{Name}
 use Rattle.program_rules.specs.Linked.{Linked}
 use Rattle.class_link.specs.declared.loaded.ClassBody.{ClassBody}
 use Rattle.class_link.specs.declared.loaded.ClassBody.TheVariants as body
+use Rattle.class_link.specs.declared.linked.Entry.{Entry}
 use Rattle.class_link.specs.declared.linked.LinkedClass.{LinkedClass}
 use Rattle.class_link.specs.Symbols.{class_named}
 use Rattle.class_link.specs.Linking.{link, link_library}
+use Rattle.class_link.specs.Switches.{AreEntries}
 use Rattle.class_link.specs.View.{linked_of}
 
 -- The name that a class file gives to its class (JVMS 4.1, this_class).
@@ -23,15 +25,22 @@ abbrev pub link_body : ClassBody → Linked
 link_body (body.File loaded) = link loaded.class
 link_body (body.Library c) = link_library c
 
+-- Each index means in these entries what it means in the constant pool of the class file. A class of
+-- the library has none.
+abbrev pub HasEntries : ClassBody → List Entry → Type 0
+HasEntries (body.File loaded) es = AreEntries es loaded.class.pool
+HasEntries (body.Library c) es = ⊤
+
 pub record Info : Type 0 where
   pub name : Name
   pub body : ClassBody
   pub linked : LinkedClass
 
--- The name and the meaning are those of the body, and each method has a number.
+-- The name, the meaning and the entries are those of the body, and each method has a number.
 pub record IsInfo (i : Info) : Type 0 where
   pub name : i.name ≡ body_name i.body
   pub linked : linked_of i.linked ≡ link_body i.body
+  pub entries : HasEntries i.body i.linked.entries
   pub few : length i.linked.methods < 2 ^ 32
 
 -- The class as the definitions see it.

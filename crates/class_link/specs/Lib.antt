@@ -6,6 +6,7 @@ pub mod Switches
 pub mod Appended
 pub mod Forms
 pub mod Info
+pub mod Edits
 pub mod Framed
 pub mod Spelled
 pub mod Lines

@@ -1,9 +1,10 @@
 -- The code's linked class, seen as the linked class of the definitions: what stands in a table of
 -- the class or of a code stands in the instruction itself.
-use Rattle.std.specs.Prelude.{ℕ, List, map, Option, Some, None, slice_get}
+use Rattle.std.specs.Prelude.{ℕ, List, [], map, Option, Some, None, slice_get}
 use Rattle.std.specs.Option.{option_map}
 use Rattle.program_rules.specs.Instructions as def
 use Rattle.program_rules.specs.Linked as def_linked
+use Rattle.program_rules.specs.Names.{Name}
 use Rattle.program_rules.specs.Types as def_types
 use Rattle.program_rules.specs.Deeds.{Meaning}
 use Rattle.program_rules.specs.Natives.{assert_true, assert_false, do_nothing}
@@ -59,6 +60,11 @@ entry_symbol (Some e) = symbol_of e
 -- What an index means in a run-time constant pool.
 abbrev pub meaning_at : List Entry → ℕ → Symbol
 meaning_at entries index = entry_symbol (slice_get entries index)
+
+-- The class that an entry names; an empty name where it names none.
+abbrev pub class_entry : Option Entry → Name
+class_entry (Some (entry.Class n)) = n
+class_entry other = []
 
 abbrev pub method_entry : Option Entry → Option MethodRef
 method_entry (Some (entry.Method r)) = Some r

@@ -13,8 +13,8 @@ use crate::frames::link_frames;
 use crate::instruction::Instruction;
 use crate::line_table::LineTable;
 use crate::linked::{Entry, LinkedCode, LinkedLine, LinkedRow, Switch};
+use crate::named_classes::NamedClasses;
 use crate::opcodes;
-use crate::texts::Texts;
 use class_model::{Arg, Attr, Body, Code, Insn, Memory, Row, Seq};
 use std::alloc::Global;
 
@@ -103,23 +103,23 @@ fn link_insns(
     Ok(Seq::from_vec(instructions))
 }
 
-fn link_row(texts: &Texts, row: &Row) -> Result<LinkedRow, Memory>
-    ensures { IfOk result (λ r. row_of r ≡ linking.row_in texts.now row.now) }
+fn link_row(classes: &NamedClasses, row: &Row) -> Result<LinkedRow, Memory>
+    ensures { IfOk result (λ r. row_of r ≡ linking.row_in classes.now row.now) }
 {
     Ok(LinkedRow {
         start: row.start,
         end: row.end,
         handler: row.handler,
-        catch: texts.class_or_none(row.catch)?,
+        catch: classes.class_or_none(row.catch)?,
     })
 }
 
-fn link_rows(alloc: Global, texts: &Texts, rows: &[Row]) -> Result<Seq<LinkedRow>, Memory>
-    ensures { IfOk result (λ rs. map row_of rs ≡ map (linking.row_in texts.now) rows.now) }
+fn link_rows(alloc: Global, classes: &NamedClasses, rows: &[Row]) -> Result<Seq<LinkedRow>, Memory>
+    ensures { IfOk result (λ rs. map row_of rs ≡ map (linking.row_in classes.now) rows.now) }
 {
     let mut linked = Vec::with_capacity(alloc, rows.len())?;
     for row in rows {
-        linked.push(link_row(texts, row)?)?;
+        linked.push(link_row(classes, row)?)?;
     }
     Ok(Seq::from_vec(linked))
 }
@@ -185,12 +185,12 @@ fn empty_code(alloc: Global) -> LinkedCode {
 fn link_code_into(
     alloc: Global,
     entries: &[Entry],
-    texts: &Texts,
+    classes: &NamedClasses,
     code: &Code,
     linked: &mut LinkedCode,
 ) -> Result<(), Memory>
-    requires { AreEntries entries.now texts.now }
-    ensures { OnOk result (code_of entries.now linked.new ≡ linking.code_in texts.now code.now) }
+    requires { AreEntries entries.now classes.now }
+    ensures { OnOk result (code_of entries.now linked.new ≡ linking.code_in classes.now code.now) }
 {
     let insns = code.insns.as_slice();
     let attrs = code.attrs.as_slice();
@@ -198,9 +198,9 @@ fn link_code_into(
     linked.max_locals = code.max_locals;
     linked.switches = switches_in(alloc, insns)?;
     linked.instructions = link_insns(alloc, entries, linked.switches.as_slice(), insns)?;
-    linked.rows = link_rows(alloc, texts, code.rows.as_slice())?;
+    linked.rows = link_rows(alloc, classes, code.rows.as_slice())?;
     linked.lines = link_lines(alloc, attrs, insns.len())?;
-    linked.frames = link_frames(alloc, texts, attrs)?;
+    linked.frames = link_frames(alloc, classes, attrs)?;
     Ok(())
 }
 
@@ -208,13 +208,13 @@ fn link_code_into(
 pub fn link_code(
     alloc: Global,
     entries: &[Entry],
-    texts: &Texts,
+    classes: &NamedClasses,
     code: &Code,
 ) -> Result<LinkedCode, Memory>
-    requires { AreEntries entries.now texts.now }
-    ensures { IfOk result (λ c. code_of entries.now c ≡ linking.code_in texts.now code.now) }
+    requires { AreEntries entries.now classes.now }
+    ensures { IfOk result (λ c. code_of entries.now c ≡ linking.code_in classes.now code.now) }
 {
     let mut linked = empty_code(alloc);
-    link_code_into(alloc, entries, texts, code, &mut linked)?;
+    link_code_into(alloc, entries, classes, code, &mut linked)?;
     Ok(linked)
 }

@@ -5,8 +5,8 @@ ghost use Rattle.class_link.specs.Framed.{Adds, frames_at, frames_in};
 ghost use Rattle.class_link.specs.Linking.{vtype_in, shape_in, frame_in};
 ghost use Rattle.class_link.specs.View.{vtype_of, shape_of, frame_of};
 
+use crate::named_classes::NamedClasses;
 use crate::shared::Shared;
-use crate::texts::Texts;
 use class_model::{Attr, Body, Frame, Memory, Name, Seq, Shape, VItem};
 use std::alloc::Global;
 
@@ -42,8 +42,8 @@ pub struct StatedFrame {
     pub shape: FrameShape,
 }
 
-fn link_item(texts: &Texts, item: VItem) -> Result<VType, Memory>
-    ensures { IfOk result (λ t. vtype_of t ≡ vtype_in texts.now item) }
+fn link_item(classes: &NamedClasses, item: VItem) -> Result<VType, Memory>
+    ensures { IfOk result (λ t. vtype_of t ≡ vtype_in classes.now item) }
 {
     match item {
         VItem::Top => Ok(VType::Top),
@@ -51,36 +51,36 @@ fn link_item(texts: &Texts, item: VItem) -> Result<VType, Memory>
         VItem::Long => Ok(VType::LongType),
         VItem::Null => Ok(VType::NullType),
         VItem::UninitializedThis => Ok(VType::UninitThis),
-        VItem::Object(index) => Ok(VType::Obj(texts.class(index).name()?)),
+        VItem::Object(index) => Ok(VType::Obj(classes.class(index)?)),
         VItem::Uninitialized(at) => Ok(VType::Uninit(at)),
     }
 }
 
-fn link_items(alloc: Global, texts: &Texts, items: &[VItem]) -> Result<Seq<VType>, Memory>
-    ensures { IfOk result (λ ts. map vtype_of ts ≡ map (vtype_in texts.now) items.now) }
+fn link_items(alloc: Global, classes: &NamedClasses, items: &[VItem]) -> Result<Seq<VType>, Memory>
+    ensures { IfOk result (λ ts. map vtype_of ts ≡ map (vtype_in classes.now) items.now) }
 {
     let mut linked = Vec::with_capacity(alloc, items.len())?;
     for item in items {
-        linked.push(link_item(texts, *item)?)?;
+        linked.push(link_item(classes, *item)?)?;
     }
     Ok(Seq::from_vec(linked))
 }
 
-fn link_shape(alloc: Global, texts: &Texts, shape: &Shape) -> Result<FrameShape, Memory>
-    ensures { IfOk result (λ s. shape_of s ≡ shape_in texts.now shape.now) }
+fn link_shape(alloc: Global, classes: &NamedClasses, shape: &Shape) -> Result<FrameShape, Memory>
+    ensures { IfOk result (λ s. shape_of s ≡ shape_in classes.now shape.now) }
 {
     match shape {
         Shape::Same(_) => Ok(FrameShape::SameLocals),
-        Shape::One(_, item) => Ok(FrameShape::OneItem(link_item(texts, *item)?)),
+        Shape::One(_, item) => Ok(FrameShape::OneItem(link_item(classes, *item)?)),
         Shape::Chop(count) => Ok(FrameShape::Chopped(*count)),
         Shape::Append(items) => Ok(FrameShape::Appended(link_items(
             alloc,
-            texts,
+            classes,
             items.as_slice(),
         )?)),
         Shape::Full(locals, stack) => {
-            let locals = link_items(alloc, texts, locals.as_slice())?;
-            let stack = link_items(alloc, texts, stack.as_slice())?;
+            let locals = link_items(alloc, classes, locals.as_slice())?;
+            let stack = link_items(alloc, classes, stack.as_slice())?;
             Ok(FrameShape::Whole(locals, stack))
         }
     }
@@ -89,16 +89,16 @@ fn link_shape(alloc: Global, texts: &Texts, shape: &Shape) -> Result<FrameShape,
 // Adds what these frames of a class file mean.
 fn add_all(
     alloc: Global,
-    texts: &Texts,
+    classes: &NamedClasses,
     out: &mut Vec<StatedFrame>,
     frames: &[Frame],
 ) -> Result<(), Memory>
-    ensures { OnOk result (Adds out.old.items (map (frame_in texts.now) frames.now) out.new.items) }
+    ensures { OnOk result (Adds out.old.items (map (frame_in classes.now) frames.now) out.new.items) }
 {
     for frame in frames {
         out.push(StatedFrame {
             at: frame.at,
-            shape: link_shape(alloc, texts, &frame.shape)?,
+            shape: link_shape(alloc, classes, &frame.shape)?,
         })?;
     }
     Ok(())
@@ -107,15 +107,15 @@ fn add_all(
 // Adds the frames of an attribute that is a StackMapTable.
 fn add_frames(
     alloc: Global,
-    texts: &Texts,
+    classes: &NamedClasses,
     out: &mut Vec<StatedFrame>,
     attr: &Attr,
 ) -> Result<(), Memory>
-    ensures { OnOk result (Adds out.old.items (frames_at texts.now attr.now) out.new.items) }
+    ensures { OnOk result (Adds out.old.items (frames_at classes.now attr.now) out.new.items) }
 {
     match &attr.body {
         Body::Frames(frames) => {
-            add_all(alloc, texts, out, frames.as_slice())?;
+            add_all(alloc, classes, out, frames.as_slice())?;
             Ok(())
         }
         _ => Ok(()),
@@ -123,12 +123,16 @@ fn add_frames(
 }
 
 /// The frames that a code's attributes state.
-pub fn link_frames(alloc: Global, texts: &Texts, attrs: &[Attr]) -> Result<Seq<StatedFrame>, Memory>
-    ensures { IfOk result (λ fs. map frame_of fs ≡ frames_in texts.now attrs.now) }
+pub fn link_frames(
+    alloc: Global,
+    classes: &NamedClasses,
+    attrs: &[Attr],
+) -> Result<Seq<StatedFrame>, Memory>
+    ensures { IfOk result (λ fs. map frame_of fs ≡ frames_in classes.now attrs.now) }
 {
     let mut out = Vec::new(alloc);
     for attr in attrs {
-        add_frames(alloc, texts, &mut out, attr)?;
+        add_frames(alloc, classes, &mut out, attr)?;
     }
     Ok(Seq::from_vec(out))
 }

@@ -4,11 +4,15 @@ ghost use Rattle.std.specs.Prelude.{◌≡◌, ◌<◌, ◌^◌, length, IfOk};
 ghost use Rattle.std.specs.Option.{option_copied};
 ghost use Rattle.class_model.specs.Pool.{text_of, class_name_of};
 ghost use Rattle.class_link.specs.View.{linked_of};
-ghost use Rattle.class_link.specs.Info.{own_name, body_name, link_body, class_of};
+ghost use Rattle.class_link.specs.Edits.{IsEditOfBody, HaveSameHeads};
+ghost use Rattle.class_link.specs.Info.{HasEntries, own_name, body_name, link_body, class_of};
+ghost use Rattle.class_link.specs.Linking as linking;
+ghost use Rattle.class_link.specs.declared.loaded.ClassBody.TheVariants as content;
 
 use crate::linked::LinkedClass;
 use crate::linking::{link, link_library};
-use crate::loaded::ClassBody;
+use crate::loaded::{ClassBody, Loaded};
+use crate::relinking::relink;
 use crate::texts::entry;
 use class_model::{Class, Const, Memory, Name, Seq};
 use std::alloc::Global;
@@ -48,6 +52,26 @@ impl ClassInfo {
         Ok(ClassInfo { name, body, linked })
     }
 
+    /// The class of a class file that is this one's but for the attributes of one method, by that
+    /// method's place. Its code alone is linked; what isn't edited is shared.
+    #[tactic(auto, using(crate::proofs::EditLaws::entries_stay, crate::proofs::EditLaws::name_stays, crate::proofs::EditLaws::means_edited))]
+    pub fn edited(&self, alloc: Global, loaded: Loaded, method: usize) -> Result<ClassInfo, Memory>
+        requires { IsEditOfBody self.now.body method loaded.class }
+        ensures body { IfOk result (λ info. info.body ≡ content.File loaded) }
+        ensures name { IfOk result (λ info. info.name ≡ own_name loaded.class) }
+        ensures class { IfOk result (λ info. class_of info ≡ linking.link loaded.class) }
+        ensures heads { IfOk result (λ info. HaveSameHeads self.now.linked.methods info.linked.methods) }
+        ensures entries { IfOk result (λ info. info.linked.entries ≡ self.now.linked.entries) }
+    {
+        let linked = relink(alloc, &self.linked, &loaded.class, method)?;
+        let name = self.name.copy()?;
+        Ok(ClassInfo {
+            name,
+            body: ClassBody::File(loaded),
+            linked,
+        })
+    }
+
     /// The class's name.
     pub fn name(&self) -> &Name
         ensures value { result.now ≡ self.now.name }
@@ -67,6 +91,7 @@ impl ClassInfo {
     pub fn linked(&self) -> &LinkedClass
         ensures value { result.now ≡ self.now.linked }
         ensures of_body { class_of self.now ≡ link_body self.now.body }
+        ensures entries { HasEntries self.now.body self.now.linked.entries }
         ensures few { length self.now.linked.methods < 2 ^ 32 }
     {
         &self.linked
@@ -112,7 +137,8 @@ fn body_name(alloc: Global, body: &ClassBody) -> Result<Name, Memory>
 }
 
 fn link_body(alloc: Global, body: &ClassBody) -> Result<LinkedClass, Memory>
-    ensures { IfOk result (λ linked. linked_of linked ≡ link_body body.now) }
+    ensures meant { IfOk result (λ linked. linked_of linked ≡ link_body body.now) }
+    ensures entries { IfOk result (λ linked. HasEntries body.now linked.entries) }
 {
     match body {
         ClassBody::File(loaded) => Ok(link(alloc, &loaded.class)?),
@@ -124,6 +150,7 @@ fn link_body(alloc: Global, body: &ClassBody) -> Result<LinkedClass, Memory>
 fn name_and_link(alloc: Global, body: &ClassBody) -> Result<(Name, LinkedClass), Memory>
     ensures name { IfOk result (λ both. both.0 ≡ body_name body.now) }
     ensures linked { IfOk result (λ both. linked_of both.1 ≡ link_body body.now) }
+    ensures entries { IfOk result (λ both. HasEntries body.now both.1.entries) }
     ensures few { IfOk result (λ both. length both.1.methods < 2 ^ 32) }
 {
     let linked = link_body(alloc, body)?;

@@ -12,7 +12,9 @@ mod line_table;
 mod linked;
 mod linking;
 mod loaded;
+mod named_classes;
 mod opcodes;
+mod relinking;
 mod shared;
 mod texts;
 

@@ -99,7 +99,7 @@ pub enum Native {
 /// a row.
 #[derive(Drop)]
 pub enum LinkedBody {
-    Code(LinkedCode),
+    Code(Shared<LinkedCode>),
     Native(Native),
     Absent,
 }
@@ -133,7 +133,7 @@ pub struct LinkedField {
 }
 
 /// A class with names in place of pool indices. `library` is set for the classes that come with the
-/// machine and not from a class file.
+/// machine and not from a class file. The class of an edit shares codes and entries with it.
 #[derive(Drop)]
 pub struct LinkedClass {
     pub library: bool,
@@ -144,7 +144,7 @@ pub struct LinkedClass {
     pub methods: Seq<LinkedMethod>,
     /// The run-time constant pool by the indices of the class file. At place 0, which is no index,
     /// stands `Other`.
-    pub entries: Seq<Entry>,
+    pub entries: Shared<Seq<Entry>>,
 }
 
 impl LinkedClass {

@@ -17,6 +17,7 @@ use crate::linked::{
     Entry, FieldConstant, LinkedBody, LinkedClass, LinkedField, LinkedMethod, Native,
 };
 use crate::loaded::{LibBody, LibClass, LibField, LibMethod};
+use crate::named_classes::NamedClasses;
 use crate::shared::Shared;
 use crate::texts::{Text, Texts};
 use class_model::{Attr, Body, Class, Code, Const, Member, Memory, Name, Seq};
@@ -101,17 +102,21 @@ fn link_fields(alloc: Global, texts: &Texts, fields: &[Member]) -> Result<Seq<Li
     Ok(Seq::from_vec(linked))
 }
 
-fn link_body(
+/// What the attributes of a method give it as its body.
+pub fn link_body(
     alloc: Global,
     entries: &[Entry],
-    texts: &Texts,
+    classes: &NamedClasses,
     attrs: &[Attr],
 ) -> Result<LinkedBody, Memory>
-    requires { AreEntries entries.now texts.now }
-    ensures { IfOk result (λ b. body_of entries.now b ≡ linking.body_of texts.now (linking.first_of linking.code_within attrs.now)) }
+    requires { AreEntries entries.now classes.now }
+    ensures { IfOk result (λ b. body_of entries.now b ≡ linking.body_of classes.now (linking.first_of linking.code_within attrs.now)) }
 {
     match first_code(attrs) {
-        Some(code) => Ok(LinkedBody::Code(link_code(alloc, entries, texts, code)?)),
+        Some(code) => {
+            let code = link_code(alloc, entries, classes, code)?;
+            Ok(LinkedBody::Code(Shared::new(alloc, code)?))
+        }
         None => Ok(LinkedBody::Absent),
     }
 }
@@ -136,9 +141,11 @@ fn link_method(
     alloc: Global,
     entries: &[Entry],
     texts: &Texts,
+    classes: &NamedClasses,
     method: &Member,
 ) -> Result<LinkedMethod, Memory>
-    requires { AreEntries entries.now texts.now }
+    requires entries { AreEntries entries.now texts.now }
+    requires pool { classes.now ≡ texts.now }
     ensures { IfOk result (λ m. method_of entries.now m ≡ linking.method_in texts.now method.now) }
 {
     let mut linked = bare_method(
@@ -146,7 +153,7 @@ fn link_method(
         texts.text(method.name),
         texts.text(method.desc),
     )?;
-    linked.body = link_body(alloc, entries, texts, method.attrs.as_slice())?;
+    linked.body = link_body(alloc, entries, classes, method.attrs.as_slice())?;
     Ok(linked)
 }
 
@@ -154,16 +161,33 @@ fn link_methods(
     alloc: Global,
     entries: &[Entry],
     texts: &Texts,
+    classes: &NamedClasses,
     methods: &[Member],
 ) -> Result<Seq<LinkedMethod>, Memory>
-    requires { AreEntries entries.now texts.now }
+    requires entries { AreEntries entries.now texts.now }
+    requires pool { classes.now ≡ texts.now }
     ensures { IfOk result (λ ms. map (method_of entries.now) ms ≡ map (linking.method_in texts.now) methods.now) }
 {
     let mut linked = Vec::with_capacity(alloc, methods.len())?;
     for method in methods {
-        linked.push(link_method(alloc, entries, texts, method)?)?;
+        linked.push(link_method(alloc, entries, texts, classes, method)?)?;
     }
     Ok(Seq::from_vec(linked))
+}
+
+// The methods of a class file.
+fn class_methods(
+    alloc: Global,
+    entries: &[Entry],
+    texts: &Texts,
+    class: &Class,
+) -> Result<Seq<LinkedMethod>, Memory>
+    requires pool { texts.now ≡ class.now.pool }
+    requires entries { AreEntries entries.now class.now.pool }
+    ensures { IfOk result (λ ms. map (method_of entries.now) ms ≡ map (linking.method_in class.now.pool) class.now.methods) }
+{
+    let classes = NamedClasses::new(alloc, class.pool.as_slice(), entries);
+    link_methods(alloc, entries, texts, &classes, class.methods.as_slice())
 }
 
 fn class_names(alloc: Global, texts: &Texts, indices: &[u16]) -> Result<Seq<Shared<Name>>, Memory>
@@ -176,8 +200,10 @@ fn class_names(alloc: Global, texts: &Texts, indices: &[u16]) -> Result<Seq<Shar
     Ok(Seq::from_vec(names))
 }
 
-// A class in which nothing stands yet.
-fn empty_class(alloc: Global) -> LinkedClass {
+/// A class in which nothing stands yet but these entries.
+pub fn empty_class(alloc: Global, entries: Shared<Seq<Entry>>) -> LinkedClass
+    ensures { result.entries ≡ entries }
+{
     LinkedClass {
         library: false,
         flags: 0,
@@ -185,7 +211,7 @@ fn empty_class(alloc: Global) -> LinkedClass {
         interfaces: Seq::new(alloc),
         fields: Seq::new(alloc),
         methods: Seq::new(alloc),
-        entries: Seq::new(alloc),
+        entries,
     }
 }
 
@@ -197,14 +223,14 @@ fn link_into(
     class: &Class,
     linked: &mut LinkedClass,
 ) -> Result<(), Memory>
-    requires { texts.now ≡ class.now.pool }
-    ensures { OnOk result (linked_of linked.new ≡ linking.link class.now) }
+    requires pool { texts.now ≡ class.now.pool }
+    requires entries { AreEntries linked.old.entries class.now.pool }
+    ensures meant { OnOk result (linked_of linked.new ≡ linking.link class.now) }
+    ensures entries { linked.new.entries ≡ linked.old.entries }
 {
-    let methods = class.methods.as_slice();
     linked.library = false;
     linked.flags = class.flags;
-    linked.entries = entries(alloc, texts, class.pool.as_slice())?;
-    linked.methods = link_methods(alloc, linked.entries.as_slice(), texts, methods)?;
+    linked.methods = class_methods(alloc, linked.entries.as_slice(), texts, class)?;
     linked.fields = link_fields(alloc, texts, class.fields.as_slice())?;
     linked.interfaces = class_names(alloc, texts, class.interfaces.as_slice())?;
     linked.parent = texts.class_or_none(class.parent)?;
@@ -213,10 +239,12 @@ fn link_into(
 
 /// What the class of a class file means.
 pub fn link(alloc: Global, class: &Class) -> Result<LinkedClass, Memory>
-    ensures { IfOk result (λ c. linked_of c ≡ linking.link class.now) }
+    ensures meant { IfOk result (λ c. linked_of c ≡ linking.link class.now) }
+    ensures entries { IfOk result (λ c. AreEntries c.entries class.now.pool) }
 {
     let texts = Texts::new(alloc, class.pool.as_slice())?;
-    let mut linked = empty_class(alloc);
+    let entries = entries(alloc, &texts, class.pool.as_slice())?;
+    let mut linked = empty_class(alloc, Shared::new(alloc, entries)?);
     link_into(alloc, &texts, class, &mut linked)?;
     Ok(linked)
 }
@@ -340,7 +368,7 @@ fn link_library_into(
 pub fn link_library(alloc: Global, class: &LibClass) -> Result<LinkedClass, Memory>
     ensures { IfOk result (λ c. linked_of c ≡ linking.link_library class.now) }
 {
-    let mut linked = empty_class(alloc);
+    let mut linked = empty_class(alloc, Shared::new(alloc, Seq::new(alloc))?);
     link_library_into(alloc, class, &mut linked)?;
     Ok(linked)
 }

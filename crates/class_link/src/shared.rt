@@ -2,7 +2,7 @@
 
 ghost use Rattle.std.specs.Prelude.{◌≡◌, IfOk};
 
-use class_model::Memory;
+use class_model::{Copied, Memory};
 use std::alloc::Global;
 use std::marker::Model;
 use std::ops::Deref;
@@ -48,5 +48,11 @@ impl<T> Deref for Shared<T> {
 
     fn deref(&self) -> &T {
         &self.kept
+    }
+}
+
+impl<T: Drop> Copied for Shared<T> {
+    fn copied(&self) -> Result<Shared<T>, Memory> {
+        self.share()
     }
 }

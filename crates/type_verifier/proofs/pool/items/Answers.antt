@@ -40,4 +40,4 @@ pub returns-clause-items : goal.returns-clause-items
 returns-clause-items c = λ more.
     let es = c.as_slice-entries.result.now in
     let whole : take c.loop-entry.entry-index es ≡ es = grind (arith, common_steps, c.loop-entry-test.false) in
-    subst (λ l. AreItemsOf (c.loop-entry.names.list.items ++ more) (home_of c.args.own.now) l c.loop-entry.items.items) (whole ∙ c.as_slice-entries.ensures) (c.loop-entry.invariant.2 more)
+    subst (λ l. AreItemsOf (c.loop-entry.names.list.items ++ more) (home_of c.args.own.now) l c.loop-entry.items.items) (whole ∙ c.as_slice-entries.ensures ∙ c.deref.ensures) (c.loop-entry.invariant.2 more)
