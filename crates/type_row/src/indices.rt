@@ -29,7 +29,7 @@ pub fn is_text_at(site: &Site, index: u32) -> bool
 
 /// The field that an index names: its class, the type that it holds, and whether the class itself
 /// declares it.
-pub fn field_at(site: &Site, index: u32) -> Option<(u32, SlotType, bool)>
+pub fn field_at(site: &Site, index: u32) -> Option<(usize, SlotType, bool)>
     requires { AreItems site.now }
     ensures some { IfSome result (λ x. FieldAt site.now index x) }
     ensures none { IfNone result (NoFieldAt site.now index) }
@@ -59,7 +59,7 @@ pub fn method_at<'a>(site: &Site<'a>, index: u32) -> Option<&'a Signature>
 }
 
 /// The name of the array that `newarray` makes by this number (JVMS 6.5).
-pub fn array_at(site: &Site, number: u8) -> Option<u32>
+pub fn array_at(site: &Site, number: u8) -> Option<usize>
     requires { AreCommon site.now.names.now site.now.common }
     ensures some { IfSome result (λ array. ArrayAt site.now number array) }
     ensures none { IfNone result (array_of number ≡ Unlinked) }

@@ -20,7 +20,7 @@ use Rattle.vframes.specs.FrameView.{types_of}
 use Rattle.type_rows.specs.declared.item.Signature.{Signature}
 use Rattle.type_rows.specs.declared.site.Site.{Site}
 use Rattle.type_rows.specs.Items.{IsSignature}
-use Rattle.type_rows.specs.Sites.{IsSettingOf, leads_in, takes_types, pushed, frame_at}
+use Rattle.type_rows.specs.Sites.{IsSettingOf, leads_in, takes_types, pushed}
 
 -- whether a target takes a frame
 pub leads_is : (s : Setting) (t : Site) (f : Frame) (to : ℕ) (go : Checked) → IsSettingOf s t → leads s (types_of t.names.now f) to go ≡ (if leads_in t f to then go else Fails 9)

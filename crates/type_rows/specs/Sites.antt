@@ -7,7 +7,7 @@ use Rattle.program_rules.specs.Instructions.{Instruction, FieldRef, MethodRef, I
 use Rattle.program_rules.specs.declared.operation.Element.{Element}
 use Rattle.program_rules.specs.Types.{VType, Obj}
 use Rattle.type_rules.specs.References.{Classes, classes_of, array_of, array_name, dimensions}
-use Rattle.type_rules.specs.Assignability.{assignable}
+use Rattle.type_rules.specs.Assignability.{FrameTypes, assignable}
 use Rattle.type_rules.specs.Frames.{type_of as type_of_kind, is_initializer, new_at, new_of, stated_at}
 use Rattle.type_rules.specs.Rows.{Setting, Checked, Falls, Fails, row, takes, takes_such, takes_ints, returns, plainly_named, is_array_of, is_element, is_plain_name, is_reference_kind, has_kind, leads, leads_all, leads_to, replace_type, initialises, calls_special, may_name, is_owner}
 use Rattle.class_link.specs.Symbols.{IsClass}
@@ -25,6 +25,7 @@ use Rattle.vframes.specs.declared.slot_type.SlotType.{SlotType}
 use Rattle.vframes.specs.Named.{name_at}
 use Rattle.vframes.specs.View.{type_of, types_in}
 use Rattle.vframes.specs.FrameView.{types_of}
+use Rattle.vframes.specs.StatedFrames.{stated_types, frame_at}
 use Rattle.type_rows.specs.declared.answer.Answer.{Answer}
 use Rattle.type_rows.specs.declared.item.Signature.{Signature}
 use Rattle.type_rows.specs.declared.site.Given.{Given}
@@ -74,12 +75,8 @@ pub record IsGiven (p : Classes) (ns : List Named) (k : Option Kind) (g : Given)
 -- ---- the setting
 
 -- The frame that is stated for an instruction.
-abbrev pub frame_in : Option (Option Frame) → Option Frame
-frame_in None = None
-frame_in (Some f) = f
-
-abbrev pub frame_at : List (Option Frame) → ℕ → Option Frame
-frame_at fs to = frame_in (slice_get fs to)
+abbrev pub stated_in : Site → ℕ → Option FrameTypes
+stated_in t to = option_map (stated_types t.names.now) (frame_at t.stated.now to)
 
 -- The setting of the rules is this site.
 pub record IsSettingOf (s : Setting) (t : Site) : Type 0 where
@@ -87,8 +84,7 @@ pub record IsSettingOf (s : Setting) (t : Site) : Type 0 where
   pub class : s.class ≡ name_at t.names.now t.class
   pub linked : s.linked ≡ linked_of t.linked.now
   pub code : s.code ≡ code_of t.linked.now.entries t.code.now
-  pub frames :
-      (to : ℕ) → stated_at to s.frames ≡ option_map (types_of t.names.now) (frame_at t.stated.now to)
+  pub frames : (to : ℕ) → stated_at to s.frames ≡ stated_in t to
   pub initializer : is_initializer s.method ≡ t.is_initializer
   pub given : IsGiven (classes_of (look t.program.now)) t.names.now s.method.result t.given
 
@@ -113,8 +109,7 @@ RowAt i t old a new =
 -- Whether the frame that is stated for a target takes this one.
 abbrev pub leads_in : Site → Frame → ℕ → Bool
 leads_in t f to =
-    leads_to (classes_of (look t.program.now)) (types_of t.names.now f)
-    (option_map (types_of t.names.now) (frame_at t.stated.now to))
+    leads_to (classes_of (look t.program.now)) (types_of t.names.now f) (stated_in t to)
 
 -- The next instruction begins with the frame, where the target takes it.
 abbrev pub LeadsTo : Site → ℕ → Frame → Answer → Type 0

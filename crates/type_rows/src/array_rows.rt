@@ -172,7 +172,7 @@ pub fn array_store(site: &Site, f: &mut Frame, element: Element) -> Answer
 pub fn new_reference_array(
     f: &mut Frame,
     room: u16,
-    array: u32,
+    array: usize,
     few: bool,
 ) -> Result<Answer, Memory>
     ensures { IfOk result (λ a. ArrayRow array few room f.old a f.new) }
@@ -222,7 +222,7 @@ pub fn array_length(site: &Site, f: &mut Frame) -> Result<Answer, Memory>
 }
 
 /// `newarray`; the array's name has this number.
-pub fn new_array(f: &mut Frame, room: u16, array: u32) -> Result<Answer, Memory>
+pub fn new_array(f: &mut Frame, room: u16, array: usize) -> Result<Answer, Memory>
     ensures { IfOk result (λ a. NewArrayRow array room f.old a f.new) }
 {
     if !f.stack.take_int() {
@@ -248,7 +248,7 @@ fn take_ints(stack: &mut Stack, count: u8) -> bool
 }
 
 // Whether an array has so many dimensions, and at least one is named.
-fn has_dimensions(site: &Site, array: u32, count: u8) -> bool
+fn has_dimensions(site: &Site, array: usize, count: u8) -> bool
     requires { AreNamed site.now.program.now site.now.names.now }
     ensures { result ≡ (nat_lt 0 count && nat_le count (dimensions (name_at site.now.names.now array))) }
 {
@@ -256,7 +256,12 @@ fn has_dimensions(site: &Site, array: u32, count: u8) -> bool
 }
 
 /// `multianewarray` of the class of this number, by so many dimensions.
-pub fn new_multi_array(site: &Site, f: &mut Frame, array: u32, count: u8) -> Result<Answer, Memory>
+pub fn new_multi_array(
+    site: &Site,
+    f: &mut Frame,
+    array: usize,
+    count: u8,
+) -> Result<Answer, Memory>
     requires { AreNamed site.now.program.now site.now.names.now }
     ensures { IfOk result (λ a. MultiIs site.now array count f.old a f.new) }
 {

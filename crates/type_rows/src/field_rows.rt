@@ -33,7 +33,7 @@ pub fn put_static(site: &Site, f: &mut Frame, held: SlotType) -> Answer
 }
 
 /// `getfield` of a field of this type in this class.
-pub fn get_field(site: &Site, f: &mut Frame, class: u32, held: SlotType) -> Result<Answer, Memory>
+pub fn get_field(site: &Site, f: &mut Frame, class: usize, held: SlotType) -> Result<Answer, Memory>
     requires { AreNamed site.now.program.now site.now.names.now }
     ensures { IfOk result (λ a. FieldIs GetField site.now class held f.old a f.new) }
 {
@@ -46,7 +46,7 @@ pub fn get_field(site: &Site, f: &mut Frame, class: u32, held: SlotType) -> Resu
 
 // Whether it is the object of a `putfield`: of the field's class; or `this` before it is
 // initialised, where its own class declares the field.
-fn is_owner(site: &Site, class: u32, held: SlotType, own: bool, t: SlotType) -> bool
+fn is_owner(site: &Site, class: usize, held: SlotType, own: bool, t: SlotType) -> bool
     requires { AreNamed site.now.program.now site.now.names.now }
     ensures { OwnerIs site.now class held own t result }
 {
@@ -58,7 +58,7 @@ fn is_owner(site: &Site, class: u32, held: SlotType, own: bool, t: SlotType) -> 
 }
 
 // Takes the object of a `putfield` off the top.
-fn take_owner(site: &Site, stack: &mut Stack, class: u32, held: SlotType, own: bool) -> bool
+fn take_owner(site: &Site, stack: &mut Stack, class: usize, held: SlotType, own: bool) -> bool
     requires { AreNamed site.now.program.now site.now.names.now }
     ensures yes { result ≡ true → TakesOwner site.now class held own stack.old stack.new }
     ensures no { result ≡ false → TakesNoOwner site.now class held own stack.old }
@@ -71,7 +71,7 @@ fn take_owner(site: &Site, stack: &mut Stack, class: u32, held: SlotType, own: b
 
 /// `putfield` of a field of this type in this class, which is one that the class itself declares or
 /// not.
-pub fn put_field(site: &Site, f: &mut Frame, class: u32, held: SlotType, own: bool) -> Answer
+pub fn put_field(site: &Site, f: &mut Frame, class: usize, held: SlotType, own: bool) -> Answer
     requires { AreNamed site.now.program.now site.now.names.now }
     ensures { PutIs site.now class held own f.old result f.new }
 {

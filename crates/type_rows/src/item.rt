@@ -42,7 +42,7 @@ impl Called {
 /// A method that is named. Of the arguments the last stands first.
 #[derive(Drop)]
 pub struct Signature {
-    pub class: u32,
+    pub class: usize,
     pub called: Called,
     pub args: Vec<SlotType>,
     pub result: Option<SlotType>,
@@ -59,8 +59,8 @@ pub enum Item {
     /// Nothing that a type depends on.
     Other,
     /// A class or an array, and the array of such components.
-    Class(u32, u32),
+    Class(usize, usize),
     /// The class of a field, the type that it holds, and whether the class itself declares it.
-    Field(u32, SlotType, bool),
+    Field(usize, SlotType, bool),
     Method(Signature),
 }

@@ -2,36 +2,21 @@
 #![tactic(auto, unfolding(type_rules::specs::Rows::row))]
 
 ghost use Rattle.std.specs.Prelude.{◌≡◌};
-ghost use Rattle.std.specs.Option.{option_copied};
 ghost use Rattle.program_rules.specs.Instructions.{IfInt, IfInts, IfSame, IfNotSame, IfNull, IfNotNull, Goto};
 ghost use Rattle.program_rules.specs.declared.operation.Comparison.{Comparison};
 ghost use Rattle.vframes.specs.Named.{AreNamed};
-ghost use Rattle.type_rows.specs.Sites.{RowAt, LeadsTo, leads_in, frame_at};
+ghost use Rattle.type_rows.specs.Sites.{RowAt, LeadsTo, leads_in};
 
 use crate::answer::Answer;
 use crate::site::Site;
-use vframes::{Frame, is_frame_assignable};
-
-// The frame that is stated for an instruction.
-fn stated<'a>(stated: &'a [Option<Frame>], at: u32) -> Option<&'a Frame>
-    ensures { option_copied result ≡ frame_at stated.now at }
-{
-    match stated.get(at as usize) {
-        Some(Some(frame)) => Some(frame),
-        Some(None) => None,
-        None => None,
-    }
-}
+use vframes::Frame;
 
 /// Whether a target states a frame to which this one is assignable.
 pub fn leads(site: &Site, f: &Frame, to: u32) -> bool
     requires { AreNamed site.now.program.now site.now.names.now }
     ensures { result ≡ leads_in site.now f.now to }
 {
-    match stated(site.stated, to) {
-        Some(other) => is_frame_assignable(site.program, site.names, f, other),
-        None => false,
-    }
+    site.stated.leads(site.program, site.names, f, to)
 }
 
 // The next instruction, where the target takes the frame.

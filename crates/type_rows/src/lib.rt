@@ -33,7 +33,7 @@ pub use jump_rows::{goto, if_int, if_ints, if_reference, if_references, leads};
 pub use local_rows::{
     increment, int_load, int_store, long_load, long_store, reference_load, reference_store,
 };
-pub use meaning::{class_at, class_made};
+pub use meaning::{class_at, class_made, new_index};
 pub use object_rows::new_object;
 pub use reference_rows::{
     check_cast, instance_of, int_return, long_return, monitor, plain_return, reference_return,

@@ -10,7 +10,7 @@ use crate::site::Site;
 use class_link::Instruction;
 
 /// The class or array that an index names, and the array of such components.
-pub fn class_at(site: &Site, index: u32) -> Option<(u32, u32)>
+pub fn class_at(site: &Site, index: u32) -> Option<(usize, usize)>
     requires { AreItems site.now }
     ensures some { IfSome result (λ x. ClassAt site.now index x) }
     ensures none { IfNone result (NoClassAt site.now index) }
@@ -25,7 +25,7 @@ pub fn class_at(site: &Site, index: u32) -> Option<(u32, u32)>
 }
 
 /// The class that the `new` at an instruction names.
-pub fn class_made(site: &Site, at: u32) -> Option<u32>
+pub fn class_made(site: &Site, at: u32) -> Option<usize>
     requires { AreItems site.now }
     ensures some { IfSome result (λ class. made_in site.now at ≡ Some (name_at site.now.names.now class)) }
     ensures none { IfNone result (made_in site.now at ≡ None) }
@@ -42,8 +42,8 @@ pub fn class_made(site: &Site, at: u32) -> Option<u32>
     Some(class)
 }
 
-// The index of a `new`.
-fn new_index(instruction: Instruction) -> Option<u32>
+/// The index of a `new`.
+pub fn new_index(instruction: Instruction) -> Option<u32>
     ensures some { IfSome result (λ k. instruction ≡ New k) }
     ensures none { IfNone result (IsNoNew instruction) }
 {

@@ -12,7 +12,7 @@ use class_model::Memory;
 use vframes::{Frame, Fresh, SlotType, named_at};
 
 // Whether a name is that of an array.
-fn is_array(site: &Site, class: u32) -> bool
+fn is_array(site: &Site, class: usize) -> bool
     requires { AreNamed site.now.program.now site.now.names.now }
     ensures { result ≡ is_array_name (name_at site.now.names.now class) }
 {
@@ -20,7 +20,7 @@ fn is_array(site: &Site, class: u32) -> bool
 }
 
 /// `new` at an instruction, of this class.
-pub fn new_object(site: &Site, f: &mut Frame, at: u32, class: u32) -> Result<Answer, Memory>
+pub fn new_object(site: &Site, f: &mut Frame, at: u32, class: usize) -> Result<Answer, Memory>
     requires { AreNamed site.now.program.now site.now.names.now }
     ensures { IfOk result (λ a. NewIs site.now at class f.old a f.new) }
 {

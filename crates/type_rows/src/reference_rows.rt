@@ -126,7 +126,7 @@ pub fn plain_return(site: &Site, f: &Frame) -> Answer
 }
 
 /// `athrow`; the type is Throwable's.
-pub fn throw(site: &Site, f: &mut Frame, throwable: u32) -> Answer
+pub fn throw(site: &Site, f: &mut Frame, throwable: usize) -> Answer
     requires named { AreNamed site.now.program.now site.now.names.now }
     requires throwable { name_at site.now.names.now throwable ≡ throwable_name }
     ensures { RowAt Throw site.now f.old result f.new }
@@ -138,7 +138,7 @@ pub fn throw(site: &Site, f: &mut Frame, throwable: u32) -> Answer
     }
 }
 
-pub fn check_cast(f: &mut Frame, room: u16, to: u32) -> Result<Answer, Memory>
+pub fn check_cast(f: &mut Frame, room: u16, to: usize) -> Result<Answer, Memory>
     ensures { IfOk result (λ a. (ns : List Named) (s : Setting) (at : ℕ) → s.code.max_stack ≡ room → row s at (CheckCast (name_at ns to)) (types_of ns f.old) ≡ checked_of ns a f.new) }
 {
     let Some(_) = f.stack.take_reference() else {

@@ -3,7 +3,7 @@
 use crate::item::Item;
 use class_link::{LinkedClass, LinkedCode};
 use class_table::Program;
-use vframes::{Frame, Named, SlotType};
+use vframes::{Named, SlotType, StatedFrames};
 
 /// What a method gives.
 #[derive(Clone, Copy)]
@@ -18,30 +18,29 @@ pub enum Given {
 /// these.
 #[derive(Clone, Copy)]
 pub struct CommonNames {
-    pub string: u32,
-    pub class: u32,
-    pub throwable: u32,
-    pub booleans: u32,
-    pub chars: u32,
-    pub bytes: u32,
-    pub shorts: u32,
-    pub ints: u32,
-    pub longs: u32,
+    pub string: usize,
+    pub class: usize,
+    pub throwable: usize,
+    pub booleans: usize,
+    pub chars: usize,
+    pub bytes: usize,
+    pub shorts: usize,
+    pub ints: usize,
+    pub longs: usize,
 }
 
 /// The method that is checked: its program, its class with the names that it mentions and what the
-/// indices of its constant pool mean, its code, and the frames that it states, in full.
+/// indices of its constant pool mean, its code, and the frames that it states, by instruction.
 pub struct Site<'a> {
     pub program: &'a Program,
     pub names: &'a [Named],
     pub common: CommonNames,
     pub items: &'a [Item],
-    /// By instruction.
-    pub stated: &'a [Option<Frame>],
+    pub stated: &'a StatedFrames,
     pub linked: &'a LinkedClass,
     pub code: &'a LinkedCode,
     /// The number of the class's name.
-    pub class: u32,
+    pub class: usize,
     pub given: Given,
     pub is_initializer: bool,
 }

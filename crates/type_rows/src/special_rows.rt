@@ -15,7 +15,7 @@ use class_model::Memory;
 use vframes::{Frame, Fresh, SlotType, Stack, is_assignable, is_same_name};
 
 // Makes all copies of an object those of a class.
-fn initialise(f: &mut Frame, fresh: Fresh, class: u32) -> Result<(), Memory>
+fn initialise(f: &mut Frame, fresh: Fresh, class: usize) -> Result<(), Memory>
     ensures { OnOk result (IsInitialised fresh class f.old f.new) }
 {
     let alloc = *f.locals.allocator();
@@ -99,7 +99,7 @@ fn call_initializer(site: &Site, f: &mut Frame, method: &Signature) -> Result<An
 }
 
 // Takes an object of this class off the top.
-fn take_object(site: &Site, stack: &mut Stack, class: u32) -> Option<SlotType>
+fn take_object(site: &Site, stack: &mut Stack, class: usize) -> Option<SlotType>
     requires { AreNamed site.now.program.now site.now.names.now }
     ensures some { IfSome result (λ t. TakesObject site.now class t stack.old stack.new) }
     ensures none { IfNone result (TakesNoObject site.now class stack.old) }

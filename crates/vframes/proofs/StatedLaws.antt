@@ -18,8 +18,8 @@ use Rattle.vframes.specs.declared.stated.Locals.{Locals}
 use Rattle.vframes.specs.declared.stated.StatedFrame.{StatedFrame}
 use Rattle.program_rules.specs.Resolution.{same_bool}
 use Rattle.vframes.specs.View.{type_of, types_in, words_of}
-use Rattle.vframes.specs.Stated.{AreNone, AreMore, AreLocals, IsLast, AreChopped, AreWithin, IsFull, full_locals}
-use Rattle.vframes.proofs.Words.{words_are}
+use Rattle.vframes.specs.Stated.{AreNone, AreMore, AreLocals, IsLast, AreChopped, AreWithin, IsFull, full_locals, HasRoom, HasRoomFor, StayRight, IsOneMore, AreMoreBy}
+use Rattle.vframes.proofs.Words.{words_are, words_append, words_turned, words_take, words_least, at_least_one}
 use Rattle.vframes.proofs.FreshLaws.{map_turned, any_turned}
 use Rattle.vframes.proofs.Lookups.{get_inside}
 
@@ -85,6 +85,32 @@ pushed store new n l e last count words flag ts h = record {
   flag = flag;
   rest = kept_in store new n e n.below ts h;
 }
+
+-- there is room for one more, and for several
+pub room_in : (store : List Local) (l : Locals) (ts : List SlotType) → AreLocals store l ts → words_of ts ≤ 65535 → HasRoom l
+room_in store l ts h few =
+    let c = count_is store l ts h in
+    let w = words_is store l ts h in
+    let least = words_least ts in
+    record { count = omega (arith, c, least, few); words = omega (arith, w, few) }
+
+pub room_after : (old now : List Local) (below l : Locals) (more : List SlotType) (k : ℕ) → HasRoomFor old below more → AreMoreBy old now below (take k more) l → HasRoom l
+room_after old now below l more k room so_far =
+    let ts = room.types in
+    let some = take k more in
+    let a = words_append (reverse some) ts in
+    let b = words_turned some in
+    let c = words_take k more in
+    let few = room.few in
+    room_in now l (reverse some ++ ts) (so_far ts room.are) (omega (arith, a, b, c, few))
+
+pub one_behind : (old now new : List Local) (below l m : Locals) (some next : List SlotType) (t : SlotType) → AreMoreBy old now below some l → IsOneMore now new l t m → next ≡ some ++ t ∷ [] → AreMoreBy old new below next m
+one_behind old now new below l m some next t so_far one e ts h =
+    let turned : reverse next ≡ t ∷ reverse some = ap reverse e ∙ reverse-append some (t ∷ []) in
+    subst (λ us. AreLocals new m (us ++ ts)) (sym turned) (one (reverse some ++ ts) (so_far ts h))
+
+pub stay_twice : (old now new : List Local) → StayRight old now → StayRight now new → StayRight old new
+stay_twice old now new a b l ts h = b l ts (a l ts h)
 
 -- ---- the last one
 
@@ -271,15 +297,6 @@ words_drop zero ts = omega arith
 words_drop (suc d) [] = omega arith
 words_drop (suc d) (t ∷ ts) = let l = words_drop d ts in omega (arith, l)
 
-wide_enough : (t : SlotType) → 1 ≤ width (type_of [] t)
-wide_enough slot.Top = omega arith
-wide_enough slot.Int = omega arith
-wide_enough slot.Long = omega arith
-wide_enough slot.Null = omega arith
-wide_enough slot.UninitThis = omega arith
-wide_enough (slot.Uninit at) = omega arith
-wide_enough (slot.Obj i) = omega arith
-
 module _ (p : Classes) (ns : List Named) (from : List SlotType) where
   abbrev pub taken : List SlotType → Bool
   taken ts = locals_assignable p (types_in ns from) (full_locals ns (length from) ts)
@@ -310,7 +327,7 @@ module _ (p : Classes) (ns : List Named) (from : List SlotType) where
         let d = drop_next down ts n.t x.rest x.is in
         let w : n.below.words ≡ words_of x.rest = words_is store n.below x.rest x.are in
         let few : AreWithin (length from) (n.t ∷ x.rest) = (let a = words_drop down ts in let q = ap words_of x.is in omega (arith, within, a, q)) in
-        let g = get_inside from (words_of x.rest) (let one = wide_enough n.t in omega (arith, few, one)) in
+        let g = get_inside from (words_of x.rest) (let one = at_least_one n.t in omega (arith, few, one)) in
         ap taken x.is ∙ taken_more n.t x.rest g.0 few g.1
         ∙ ap (λ c. taken x.rest && c) (sym (test g.0 (ap (slice_get from) w ∙ g.1)))
         ∙ ap (λ us. taken us && b) (sym d.0)

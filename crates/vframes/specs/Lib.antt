@@ -4,3 +4,5 @@ pub mod FrameView
 pub mod Fresh
 pub mod Stated
 pub mod StatedFrames
+pub mod Takes
+pub mod Fits

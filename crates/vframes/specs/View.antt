@@ -1,7 +1,7 @@
 -- Types by number, seen as those of the rules.
-use Rattle.std.specs.Prelude.{ℕ, List, [], ◌∷◌, map}
+use Rattle.std.specs.Prelude.{◌≡◌, ℕ, false, nat_eq, List, [], ◌∷◌, map}
 use Rattle.program_rules.specs.Types as rules
-use Rattle.type_rules.specs.Assignability.{height}
+use Rattle.type_rules.specs.Assignability.{width, height}
 use Rattle.vframes.specs.declared.named.Named.{Named}
 use Rattle.vframes.specs.declared.slot_type.SlotType.{SlotType}
 use Rattle.vframes.specs.declared.slot_type.SlotType.TheVariants as slot
@@ -18,6 +18,10 @@ type_of ns slot.Null = rules.NullType
 type_of ns slot.UninitThis = rules.UninitThis
 type_of ns (slot.Uninit at) = rules.Uninit at
 type_of ns (slot.Obj i) = rules.Obj (name_at ns i)
+
+-- It isn't of two words.
+abbrev pub IsNoPair : rules.VType → Type 0
+IsNoPair t = nat_eq (width t) 2 ≡ false
 
 -- Types by the names of a class.
 abbrev pub types_in : List Named → List SlotType → List rules.VType

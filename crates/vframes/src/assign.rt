@@ -1,16 +1,15 @@
 //! When one type may stand where another is stated (JVMS 4.10.1.2).
 
-ghost use Rattle.std.specs.Prelude.{◌≡◌, ◌<◌, ◌&&◌, nat_eq, ℕ, List, false, is_none, IfSome, map, reverse, length, slice_get, Some};
+ghost use Rattle.std.specs.Prelude.{◌≡◌, ◌<◌, length};
 ghost use Rattle.std.specs.Option.{option_map};
-ghost use Rattle.program_rules.specs.Names.{Name as Text, same, object_name};
+ghost use Rattle.program_rules.specs.Names.{same, object_name};
 ghost use Rattle.program_rules.specs.Linked.{is_interface};
-ghost use Rattle.type_rules.specs.References.{classes_of, dimensions, base_of};
-ghost use Rattle.type_rules.specs.Assignability.{class_assignable, takes_arrays, width, base_assignable, name_assignable, assignable, locals_assignable, stack_assignable, frame_assignable};
-ghost use Rattle.class_link.specs.Info.{Info, class_of};
-ghost use Rattle.class_table.specs.Table.{look, number_of, name_at as class_name};
+ghost use Rattle.type_rules.specs.References.{classes_of};
+ghost use Rattle.type_rules.specs.Assignability.{takes_arrays, name_assignable};
+ghost use Rattle.class_table.specs.Table.{look};
 ghost use Rattle.vframes.specs.Named.{IsNamed, AreNamed, IsNumberOf, IsWithin, IsClosed, base as base_is, is_absent_base, is_array_base, class_number};
-ghost use Rattle.vframes.specs.View.{type_of, types_in};
 ghost use Rattle.vframes.specs.FrameView.{types_of};
+ghost use Rattle.vframes.specs.Fits.{InterfaceIs, BelowIs, ClassFits, base_fits, type_fits, locals_fit, item_fits, stack_fits, frame_fits};
 
 use crate::base::{Base, is_text};
 use crate::frame::Frame;
@@ -46,7 +45,7 @@ fn has_interface_flag(flags: u16) -> bool
 #[tactic(auto, using(crate::proofs::Lookups::interface_is, crate::proofs::Lookups::no_interface))]
 pub fn is_interface(program: &Program, class: Option<ClassId>) -> bool
     requires { IsWithin program.now class }
-    ensures { (n : Text) → IsNumberOf program.now class n → result ≡ (classes_of (look program.now)).interface n }
+    ensures { InterfaceIs program.now class result }
 {
     match class {
         Some(id) => has_interface_flag(program.info(id).linked().flags),
@@ -60,7 +59,7 @@ pub fn is_below(program: &Program, class: ClassId, above: Option<ClassId>) -> bo
     requires class { class.0 < length program.now }
     requires above { IsWithin program.now above }
     requires closed { IsClosed program.now }
-    ensures { (m n : Text) → number_of program.now m ≡ Some class.0 → IsNumberOf program.now above n → result ≡ (classes_of (look program.now)).subtype m n }
+    ensures { BelowIs program.now class.0 above result }
 {
     match above {
         Some(above) => program.is_subtype(class, above),
@@ -79,7 +78,7 @@ fn is_class_assignable(
     requires to { IsNumberOf program.now to name.now }
     requires to_within { IsWithin program.now to }
     requires from_within { IsWithin program.now from }
-    ensures { (m : Text) → IsNumberOf program.now from m → result ≡ class_assignable (classes_of (look program.now)) m name.now }
+    ensures { ClassFits program.now from name.now result }
 {
     if is_object(name) {
         return true;
@@ -121,7 +120,7 @@ fn is_base_assignable(program: &Program, from: &Named, to: &Named) -> bool
     requires closed { IsClosed program.now }
     requires from { IsNamed program.now from.now }
     requires to { IsNamed program.now to.now }
-    ensures { result ≡ base_assignable (classes_of (look program.now)) 0 0 (base_of from.now.name) (base_of to.now.name) }
+    ensures { result ≡ base_fits program.now from.now.name to.now.name }
 {
     match (&from.base, &to.base) {
         (Base::Class(_), Base::Class(name)) => {
@@ -153,7 +152,7 @@ pub fn is_name_assignable(program: &Program, from: &Named, to: &Named) -> bool
 /// Whether a type is assignable to another.
 pub fn is_assignable(program: &Program, names: &[Named], from: SlotType, to: SlotType) -> bool
     requires { AreNamed program.now names.now }
-    ensures { result ≡ assignable (classes_of (look program.now)) (type_of names.now from) (type_of names.now to) }
+    ensures { result ≡ type_fits program.now names.now from to }
 {
     match (from, to) {
         (SlotType::Obj(from), SlotType::Obj(to)) => {
@@ -178,7 +177,7 @@ fn are_locals_assignable(
     to: &[SlotType],
 ) -> bool
     requires { AreNamed program.now names.now }
-    ensures { result ≡ locals_assignable (classes_of (look program.now)) (types_in names.now from.now) (types_in names.now to.now) }
+    ensures { result ≡ locals_fit program.now names.now from.now to.now }
 {
     let mut items = from;
     let mut others = to;
@@ -200,7 +199,7 @@ fn are_locals_assignable(
 // Whether an item of a stack is assignable to another one of as many words.
 fn is_item_assignable(program: &Program, names: &[Named], from: SlotType, to: SlotType) -> bool
     requires { AreNamed program.now names.now }
-    ensures { result ≡ (nat_eq (width (type_of names.now from)) (width (type_of names.now to)) && assignable (classes_of (look program.now)) (type_of names.now from) (type_of names.now to)) }
+    ensures { result ≡ item_fits program.now names.now from to }
 {
     from.width() == to.width() && is_assignable(program, names, from, to)
 }
@@ -213,7 +212,7 @@ fn are_items_assignable(
     to: &[SlotType],
 ) -> bool
     requires { AreNamed program.now names.now }
-    ensures { result ≡ stack_assignable (classes_of (look program.now)) (types_in names.now from.now) (types_in names.now to.now) }
+    ensures { result ≡ stack_fits program.now names.now from.now to.now }
 {
     let mut items = from;
     let mut others = to;
@@ -235,7 +234,7 @@ fn are_items_assignable(
 /// The same of two stacks.
 pub fn is_stack_assignable(program: &Program, names: &[Named], from: &Stack, to: &Stack) -> bool
     requires { AreNamed program.now names.now }
-    ensures { result ≡ stack_assignable (classes_of (look program.now)) (types_in names.now from.now) (types_in names.now to.now) }
+    ensures { result ≡ stack_fits program.now names.now from.now to.now }
 {
     are_items_assignable(program, names, from.as_slice(), to.as_slice())
 }
@@ -244,7 +243,7 @@ pub fn is_stack_assignable(program: &Program, names: &[Named], from: &Stack, to:
 /// by item.
 pub fn is_frame_assignable(program: &Program, names: &[Named], from: &Frame, to: &Frame) -> bool
     requires { AreNamed program.now names.now }
-    ensures { result ≡ frame_assignable (classes_of (look program.now)) (types_of names.now from.now) (types_of names.now to.now) }
+    ensures { result ≡ frame_fits program.now names.now from.now (types_of names.now to.now) }
 {
     from.flag == to.flag
         && is_stack_assignable(program, names, &from.stack, &to.stack)

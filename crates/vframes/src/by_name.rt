@@ -1,11 +1,9 @@
 //! Assignability of types that name their classes.
 
 ghost use Rattle.std.specs.Prelude.{◌≡◌, IfOk};
-ghost use Rattle.type_rules.specs.References.{classes_of};
-ghost use Rattle.type_rules.specs.Assignability.{name_assignable, assignable};
-ghost use Rattle.class_link.specs.View.{vtype_of};
-ghost use Rattle.class_table.specs.Table.{look};
+ghost use Rattle.type_rules.specs.Assignability.{name_assignable};
 ghost use Rattle.vframes.specs.Named.{IsClosed};
+ghost use Rattle.vframes.specs.Fits.{classes_in, assignable_by_name};
 
 use crate::assign::is_name_assignable;
 use crate::named::name_parts;
@@ -29,7 +27,7 @@ fn is_class_assignable(
     from: &Name,
     to: &Name,
 ) -> Result<bool, Memory>
-    ensures { IfOk result (λ b. b ≡ name_assignable (classes_of (look program.now)) from.now to.now) }
+    ensures { IfOk result (λ b. b ≡ name_assignable (classes_in program.now) from.now to.now) }
 {
     let from = name_parts(alloc, program, from)?;
     let to = name_parts(alloc, program, to)?;
@@ -44,7 +42,7 @@ pub fn assignable(
     from: &VType,
     to: &VType,
 ) -> Result<bool, Memory>
-    ensures { IfOk result (λ b. b ≡ assignable (classes_of (look program.now)) (vtype_of from.now) (vtype_of to.now)) }
+    ensures { IfOk result (λ b. b ≡ assignable_by_name program.now from.now to.now) }
 {
     match (from, to) {
         (VType::Obj(from), VType::Obj(to)) => Ok(is_class_assignable(alloc, program, from, to)?),

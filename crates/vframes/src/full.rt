@@ -1,13 +1,8 @@
 //! Stated frames in full: of as many locals as their method has.
 
-ghost use Rattle.std.specs.Prelude.{◌≡◌, ◌++◌, [], ◌∷◌, ℕ, List, reverse, IfOk, OnOk};
-ghost use Rattle.type_rules.specs.Assignability.{FrameTypes};
-ghost use Rattle.type_rules.specs.Frames.{with_tops};
-ghost use Rattle.vframes.specs.View.{type_of, types_in};
-ghost use Rattle.vframes.specs.FrameView.{types_of};
-ghost use Rattle.vframes.specs.Stated.{AreLocals, AreWithin, IsFull, full_locals};
-ghost use Rattle.vframes.specs.declared.named.Named.{Named};
-ghost use Rattle.vframes.specs.declared.slot_type.SlotType.{SlotType as Slot};
+ghost use Rattle.std.specs.Prelude.{IfOk, OnOk};
+ghost use Rattle.vframes.specs.Stated.{AreTypesOf, PutsWords, AreSpread, AreFull};
+ghost use Rattle.vframes.specs.Fits.{FrameIs};
 
 use crate::frame::Frame;
 use crate::slot_type::SlotType;
@@ -17,7 +12,7 @@ use std::alloc::Global;
 
 // The types of locals, the last one first.
 fn types_down(alloc: Global, store: &[Local], locals: Locals) -> Result<Vec<SlotType>, Memory>
-    ensures { IfOk result (λ out. (ts : List Slot) → AreLocals store.now locals ts → out.items ≡ ts) }
+    ensures { IfOk result (λ out. AreTypesOf store.now locals out.items) }
 {
     let mut out = Vec::with_capacity(alloc, locals.count as usize)?;
     let mut left = locals;
@@ -37,7 +32,7 @@ fn types_down(alloc: Global, store: &[Local], locals: Locals) -> Result<Vec<Slot
 
 // Puts a type into the next locals; a long takes two.
 fn push_words(all: &mut Vec<SlotType>, t: SlotType) -> Result<(), Memory>
-    ensures { OnOk result ((ns : List Named) → types_in ns all.new.items ≡ types_in ns all.old.items ++ with_tops (type_of ns t ∷ [])) }
+    ensures { OnOk result (PutsWords all.old.items t all.new.items) }
 {
     all.push(t)?;
     match t {
@@ -56,7 +51,7 @@ fn push_words(all: &mut Vec<SlotType>, t: SlotType) -> Result<(), Memory>
 
 // The locals that these take, the last one first.
 fn spread(alloc: Global, down: Vec<SlotType>, max: usize) -> Result<Vec<SlotType>, Memory>
-    ensures { IfOk result (λ all. (ns : List Named) → types_in ns all.items ≡ with_tops (types_in ns (reverse down.items))) }
+    ensures { IfOk result (λ all. AreSpread down.items all.items) }
 {
     let mut items = down;
     let mut all = Vec::with_capacity(alloc, max)?;
@@ -73,7 +68,7 @@ fn locals_in_full(
     max: usize,
     locals: Locals,
 ) -> Result<Vec<SlotType>, Memory>
-    ensures { IfOk result (λ all. (ns : List Named) (ts : List Slot) → AreLocals store.now locals ts → AreWithin max ts → types_in ns all.items ≡ full_locals ns max ts) }
+    ensures { IfOk result (λ all. AreFull store.now max locals all.items) }
 {
     let down = types_down(alloc, store, locals)?;
     let mut all = spread(alloc, down, max)?;
@@ -88,7 +83,7 @@ pub fn frame_in_full(
     max_locals: u16,
     stated: &StatedFrame,
 ) -> Result<Frame, Memory>
-    ensures { IfOk result (λ g. (ns : List Named) (f : FrameTypes) → IsFull ns store.now max_locals stated.now f → f ≡ types_of ns g) }
+    ensures { IfOk result (λ g. FrameIs store.now max_locals stated.now g) }
 {
     let locals = locals_in_full(alloc, store, max_locals as usize, stated.locals)?;
     let stack = stated.stack.copy()?;

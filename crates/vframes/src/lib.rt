@@ -22,8 +22,9 @@ pub use fresh::Fresh;
 pub use full::frame_in_full;
 pub use named::{Named, is_same_name, name_parts, named_at};
 pub use slot_type::SlotType;
-pub use stack::{Stack, Two};
+pub use stack::{Stack, Two, words_of};
 pub use stated::{
     Local, Locals, StatedFrame, chop_locals, is_assignable_to_stated, no_locals, push_local,
+    push_locals,
 };
 pub use stated_frames::StatedFrames;

@@ -20,7 +20,7 @@ pub struct Named {
     /// The class of the base in the program, if it is there.
     pub class: Option<ClassId>,
     /// The number of the component's name, where this is an array of references.
-    pub component: u32,
+    pub component: usize,
 }
 
 // The class of a base, if it is one that is there.
@@ -51,36 +51,31 @@ pub fn name_parts(alloc: Global, program: &Program, name: &Name) -> Result<Named
 }
 
 /// The name of a number; the first one, where there are not so many.
-pub fn named_at(names: &[Named], number: u32) -> &Named
+pub fn named_at(names: &[Named], number: usize) -> &Named
     requires { HasFirst names.now }
     ensures name { result.now.name ≡ name_at names.now number }
     ensures shaped { (p : List Info) → AreNamed p names.now → IsShaped result.now }
     ensures component { HaveComponents names.now → HasComponent names.now result.now }
     ensures known { (p : List Info) → AreNamed p names.now → IsNamed p result.now }
 {
-    let at = number as usize;
-    if at < names.len() {
-        &names[at]
+    if number < names.len() {
+        &names[number]
     } else {
         &names[0]
     }
 }
 
 // A number in range of the same name.
-fn place(names: &[Named], number: u32) -> u32
+fn place(names: &[Named], number: usize) -> usize
     requires { HasFirst names.now }
     ensures name { name_at names.now result ≡ name_at names.now number }
     ensures within { result < length names.now }
 {
-    if (number as usize) < names.len() {
-        number
-    } else {
-        0
-    }
+    if number < names.len() { number } else { 0 }
 }
 
 /// Whether two numbers are of the same name.
-pub fn is_same_name(names: &[Named], number: u32, other: u32) -> bool
+pub fn is_same_name(names: &[Named], number: usize, other: usize) -> bool
     requires first { HasFirst names.now }
     requires distinct { AreDistinct names.now }
     ensures { result ≡ same (name_at names.now number) (name_at names.now other) }

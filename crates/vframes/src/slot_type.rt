@@ -1,10 +1,10 @@
 //! Verification types by number.
 
-ghost use Rattle.std.specs.Prelude.{◌≡◌, ◌<◌, List, true, false, nat_eq};
+ghost use Rattle.std.specs.Prelude.{◌≡◌, ◌<◌, List, true, false};
 ghost use Rattle.program_rules.specs.Types.{LongType};
 ghost use Rattle.type_rules.specs.Assignability.{width as width_of};
 ghost use Rattle.type_rules.specs.Frames.{is_uninit_this};
-ghost use Rattle.vframes.specs.View.{type_of};
+ghost use Rattle.vframes.specs.View.{type_of, IsNoPair};
 ghost use Rattle.vframes.specs.declared.named.Named.{Named};
 
 /// A verification type (JVMS 4.10.1.2). A class or an array has the number of its name among those
@@ -17,7 +17,7 @@ pub enum SlotType {
     Null,
     UninitThis,
     Uninit(u32),
-    Obj(u32),
+    Obj(usize),
 }
 
 impl SlotType {
@@ -55,7 +55,7 @@ impl SlotType {
     /// Whether a value of this type takes two words.
     pub fn is_wide(self) -> bool
         ensures long { (ns : List Named) → result ≡ true → type_of ns self ≡ LongType }
-        ensures word { (ns : List Named) → result ≡ false → nat_eq (width_of (type_of ns self)) 2 ≡ false }
+        ensures word { (ns : List Named) → result ≡ false → IsNoPair (type_of ns self) }
     {
         match self {
             SlotType::Long => true,

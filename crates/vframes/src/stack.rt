@@ -1,10 +1,10 @@
 //! The types of an operand stack.
 
 ghost use Rattle.std.specs.Prelude.{◌≡◌, [], ◌∷◌, ◌++◌, true, false, IfSome, IfNone, OnOk, ℕ, List, nat_le, reverse, map, IfOk};
-ghost use Rattle.program_rules.specs.Types as rules;
 ghost use Rattle.type_rules.specs.Assignability.{height};
-ghost use Rattle.type_rules.specs.Rows.{Checked, Fails, takes_int, takes_long, takes_such, is_reference, is_any_reference, takes_word, takes_two};
-ghost use Rattle.vframes.specs.View.{type_of, types_in, two_types, two_slots};
+ghost use Rattle.type_rules.specs.Rows.{is_reference, is_any_reference};
+ghost use Rattle.vframes.specs.View.{types_in, two_slots, words_of};
+ghost use Rattle.vframes.specs.Takes.{TakesInt, TakesNoInt, TakesLong, TakesNoLong, TakesWord, TakesNoWord, TakesSuch, TakesNoSuch, TakesTwo, TakesNoTwo};
 ghost use Rattle.std.specs.List.{list_any};
 ghost use Rattle.vframes.specs.Fresh.{is_fresh, slot_replaced};
 ghost use Rattle.vframes.specs.declared.slot_type.SlotType.TheVariants.{Obj};
@@ -15,9 +15,6 @@ use crate::slot_type::SlotType;
 use class_model::Memory;
 use std::alloc::Global;
 use std::marker::Model;
-
-// The words that a stack has at most; no method may have so many.
-const MOST: u32 = 1 << 20;
 
 /// Two words of a stack: a long, or two types of one word each, the upper one first.
 #[derive(Clone, Copy)]
@@ -30,7 +27,7 @@ pub enum Two {
 #[derive(Drop)]
 pub struct Stack {
     items: Vec<SlotType>,
-    words: u32,
+    words: u128,
 }
 
 impl Model for Stack {
@@ -55,6 +52,17 @@ fn copy_items(alloc: Global, items: &[SlotType]) -> Result<Vec<SlotType>, Memory
     Ok(copy)
 }
 
+/// The words that these types take.
+pub fn words_of(types: &[SlotType]) -> u128
+    ensures { result ≡ words_of types.now }
+{
+    let mut words = 0u128;
+    for t in types {
+        words += t.width() as u128;
+    }
+    words
+}
+
 impl Stack {
     /// No types.
     pub fn new(alloc: Global) -> Stack
@@ -66,6 +74,15 @@ impl Stack {
         }
     }
 
+    /// These types, of which the last one is the top.
+    pub fn of(alloc: Global, types: &[SlotType]) -> Result<Stack, Memory>
+        ensures { IfOk result (λ s. s ≡ reverse types.now) }
+    {
+        let items = copy_items(alloc, types)?;
+        let words = words_of(types);
+        Ok(Stack { items, words })
+    }
+
     /// The types, the top last.
     pub fn as_slice(&self) -> &[SlotType]
         ensures { reverse result.now ≡ self.now }
@@ -73,15 +90,13 @@ impl Stack {
         self.items.as_slice()
     }
 
-    /// Puts a type on the top. A stack of more than a million words is out of memory.
+    /// Puts a type on the top.
     pub fn push(&mut self, t: SlotType) -> Result<(), Memory>
         ensures { OnOk result (self.new ≡ t ∷ self.old) }
     {
-        if self.words > MOST {
-            return Err(Memory);
-        }
+        let _count = self.items.len();
         self.items.push(t)?;
-        self.words += t.width();
+        self.words += t.width() as u128;
         Ok(())
     }
 
@@ -91,7 +106,7 @@ impl Stack {
         ensures none { IfNone result (self.old ≡ []) }
     {
         let t = self.items.pop()?;
-        self.words -= t.width();
+        self.words -= t.width() as u128;
         Some(t)
     }
 
@@ -100,7 +115,7 @@ impl Stack {
     pub fn fits(&self, room: u16) -> bool
         ensures { (ns : List Named) → result ≡ nat_le (height (types_in ns self.now)) room }
     {
-        self.words <= room as u32
+        self.words <= room as u128
     }
 
     /// An equal stack.
@@ -123,7 +138,7 @@ impl Stack {
     }
 
     /// The stack with a class in the place of an object that isn't initialised, wherever it stands.
-    pub fn initialise(&self, fresh: Fresh, class: u32) -> Result<Stack, Memory>
+    pub fn initialise(&self, fresh: Fresh, class: usize) -> Result<Stack, Memory>
         ensures { IfOk result (λ s. s ≡ map (slot_replaced fresh (Obj class)) self.now) }
     {
         let alloc = *self.items.allocator();
@@ -136,8 +151,8 @@ impl Stack {
 
     /// Takes an int off the top.
     pub fn take_int(&mut self) -> bool
-        ensures yes { result ≡ true → (ns : List Named) (go : List rules.VType → Checked) → takes_int (types_in ns self.old) go ≡ go (types_in ns self.new) }
-        ensures no { result ≡ false → (ns : List Named) (go : List rules.VType → Checked) → takes_int (types_in ns self.old) go ≡ Fails 7 }
+        ensures yes { result ≡ true → TakesInt self.old self.new }
+        ensures no { result ≡ false → TakesNoInt self.old }
     {
         match self.pop() {
             Some(SlotType::Int) => true,
@@ -153,8 +168,8 @@ impl Stack {
 
     /// Takes a long off the top.
     pub fn take_long(&mut self) -> bool
-        ensures yes { result ≡ true → (ns : List Named) (go : List rules.VType → Checked) → takes_long (types_in ns self.old) go ≡ go (types_in ns self.new) }
-        ensures no { result ≡ false → (ns : List Named) (go : List rules.VType → Checked) → takes_long (types_in ns self.old) go ≡ Fails 7 }
+        ensures yes { result ≡ true → TakesLong self.old self.new }
+        ensures no { result ≡ false → TakesNoLong self.old }
     {
         match self.pop() {
             Some(SlotType::Long) => true,
@@ -170,8 +185,8 @@ impl Stack {
 
     /// Takes a type of one word off the top.
     pub fn take_word(&mut self) -> Option<SlotType>
-        ensures some { IfSome result (λ t. (ns : List Named) (go : rules.VType → List rules.VType → Checked) → takes_word (types_in ns self.old) go ≡ go (type_of ns t) (types_in ns self.new)) }
-        ensures none { IfNone result ((ns : List Named) (go : rules.VType → List rules.VType → Checked) → takes_word (types_in ns self.old) go ≡ Fails 7) }
+        ensures some { IfSome result (λ t. TakesWord self.old t self.new) }
+        ensures none { IfNone result (TakesNoWord self.old) }
     {
         match self.pop() {
             Some(SlotType::Long) => None,
@@ -187,8 +202,8 @@ impl Stack {
 
     /// Takes a reference off the top, initialised or not.
     pub fn take_any_reference(&mut self) -> Option<SlotType>
-        ensures some { IfSome result (λ t. (ns : List Named) (go : rules.VType → List rules.VType → Checked) → takes_such is_any_reference (types_in ns self.old) go ≡ go (type_of ns t) (types_in ns self.new)) }
-        ensures none { IfNone result ((ns : List Named) (go : rules.VType → List rules.VType → Checked) → takes_such is_any_reference (types_in ns self.old) go ≡ Fails 7) }
+        ensures some { IfSome result (λ t. TakesSuch is_any_reference self.old t self.new) }
+        ensures none { IfNone result (TakesNoSuch is_any_reference self.old) }
     {
         match self.pop() {
             Some(SlotType::Null) => Some(SlotType::Null),
@@ -204,8 +219,8 @@ impl Stack {
 
     /// Takes an initialised reference off the top.
     pub fn take_reference(&mut self) -> Option<SlotType>
-        ensures some { IfSome result (λ t. (ns : List Named) (go : rules.VType → List rules.VType → Checked) → takes_such is_reference (types_in ns self.old) go ≡ go (type_of ns t) (types_in ns self.new)) }
-        ensures none { IfNone result ((ns : List Named) (go : rules.VType → List rules.VType → Checked) → takes_such is_reference (types_in ns self.old) go ≡ Fails 7) }
+        ensures some { IfSome result (λ t. TakesSuch is_reference self.old t self.new) }
+        ensures none { IfNone result (TakesNoSuch is_reference self.old) }
     {
         match self.pop() {
             Some(SlotType::Null) => Some(SlotType::Null),
@@ -221,8 +236,8 @@ impl Stack {
 
     /// Takes two words off the top.
     pub fn take_two(&mut self) -> Option<Two>
-        ensures some { IfSome result (λ ts. (ns : List Named) (go : List rules.VType → List rules.VType → Checked) → takes_two (types_in ns self.old) go ≡ go (two_types ns ts) (types_in ns self.new)) }
-        ensures none { IfNone result ((ns : List Named) (go : List rules.VType → List rules.VType → Checked) → takes_two (types_in ns self.old) go ≡ Fails 7) }
+        ensures some { IfSome result (λ ts. TakesTwo self.old ts self.new) }
+        ensures none { IfNone result (TakesNoTwo self.old) }
     {
         let Some(upper) = self.pop() else {
             return None;

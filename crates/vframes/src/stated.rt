@@ -1,16 +1,11 @@
 //! The frames that a method states (JVMS 4.7.4). Locals that frames share are kept once: each local
 //! names those below it, so what is kept grows with what the class file spells.
 
-ghost use Rattle.std.specs.Prelude.{◌≡◌, ◌<◌, ◌∷◌, [], List, length, drop, slice_get, Some, IfOk, OnOk, IfSome, IfNone};
+ghost use Rattle.std.specs.Prelude.{◌≡◌, [], List, length, slice_get, IfOk, OnOk, IfSome, IfNone};
 ghost use Rattle.program_rules.specs.Resolution.{same_bool};
-ghost use Rattle.type_rules.specs.References.{classes_of};
-ghost use Rattle.type_rules.specs.Assignability.{FrameTypes, assignable, frame_assignable, locals_assignable};
-ghost use Rattle.class_table.specs.Table.{look};
 ghost use Rattle.vframes.specs.Named.{AreNamed};
-ghost use Rattle.vframes.specs.View.{type_of, types_in};
-ghost use Rattle.vframes.specs.FrameView.{types_of};
-ghost use Rattle.vframes.specs.Stated.{AreLocals, IsLast, AreChopped, AreWithin, IsFull, full_locals};
-ghost use Rattle.vframes.specs.declared.slot_type.SlotType.{SlotType as Slot};
+ghost use Rattle.vframes.specs.Stated.{AreLocals, HasRoom, HasRoomFor, StayRight, IsOneMore, AreMoreBy, IsLastOf, AreEmpty, IsChopOf, AreFewer};
+ghost use Rattle.vframes.specs.Fits.{LocalFits, LocalsFit, FrameFits};
 
 use crate::assign::{is_assignable, is_stack_assignable};
 use crate::frame::Frame;
@@ -20,14 +15,11 @@ use crate::stack::Stack;
 use class_model::Memory;
 use class_table::Program;
 
-// The words that locals take at most; no method may have so many.
-const MOST: u32 = 1 << 20;
-
 /// Locals that are stated: the place of the last one, how many there are and how many words they
 /// take, and whether one of them is `this` that isn't initialised.
 #[derive(Clone, Copy)]
 pub struct Locals {
-    pub last: u32,
+    pub last: usize,
     pub count: u32,
     pub words: u32,
     pub flag: bool,
@@ -59,35 +51,50 @@ pub fn no_locals() -> Locals
     }
 }
 
-/// One more local. Locals of more than a million words are out of memory.
+/// One more local.
 pub fn push_local(store: &mut Vec<Local>, below: Locals, t: SlotType) -> Result<Locals, Memory>
-    ensures more { IfOk result (λ l. (ts : List Slot) → AreLocals store.old.items below ts → AreLocals store.new.items l (t ∷ ts)) }
-    ensures kept { OnOk result ((l : Locals) (ts : List Slot) → AreLocals store.old.items l ts → AreLocals store.new.items l ts) }
+    requires { HasRoom below }
+    ensures more { IfOk result (λ l. IsOneMore store.old.items store.new.items below t l) }
+    ensures kept { OnOk result (StayRight store.old.items store.new.items) }
 {
     let last = store.len();
-    if last > u32::MAX as usize || below.count > MOST || below.words > MOST {
-        return Err(Memory);
-    }
     store.push(Local { t, below })?;
     Ok(Locals {
-        last: last as u32,
+        last,
         count: below.count + 1,
         words: below.words + t.width(),
         flag: t.is_uninit_this() || below.flag,
     })
 }
 
+/// Locals with these behind them.
+pub fn push_locals(
+    store: &mut Vec<Local>,
+    below: Locals,
+    types: &[SlotType],
+) -> Result<Locals, Memory>
+    requires { HasRoomFor store.old.items below types.now }
+    ensures more { IfOk result (λ l. AreMoreBy store.old.items store.new.items below types.now l) }
+    ensures kept { OnOk result (StayRight store.old.items store.new.items) }
+{
+    let mut locals = below;
+    for t in types {
+        locals = push_local(store, locals, *t)?;
+    }
+    Ok(locals)
+}
+
 // The local at a place of the store.
-fn local_at(store: &[Local], at: u32) -> Option<Local>
+fn local_at(store: &[Local], at: usize) -> Option<Local>
     ensures { result ≡ slice_get store.now at }
 {
-    store.get(at as usize).copied()
+    store.get(at).copied()
 }
 
 /// Locals without the last one.
 pub fn below(store: &[Local], locals: Locals) -> Option<Local>
-    ensures some { IfSome result (λ n. (ts : List Slot) → AreLocals store.now locals ts → IsLast store.now n ts) }
-    ensures none { IfNone result ((ts : List Slot) → AreLocals store.now locals ts → ts ≡ []) }
+    ensures some { IfSome result (λ n. IsLastOf store.now locals n) }
+    ensures none { IfNone result (AreEmpty store.now locals) }
 {
     if locals.count == 0 {
         return None;
@@ -97,8 +104,8 @@ pub fn below(store: &[Local], locals: Locals) -> Option<Local>
 
 /// Locals without the last ones, if there are so many.
 pub fn chop_locals(store: &[Local], locals: Locals, count: u8) -> Option<Locals>
-    ensures some { IfSome result (λ l. (ts : List Slot) → AreLocals store.now locals ts → AreChopped store.now l count ts) }
-    ensures none { IfNone result ((ts : List Slot) → AreLocals store.now locals ts → length ts < count) }
+    ensures some { IfSome result (λ l. IsChopOf store.now locals count l) }
+    ensures none { IfNone result (AreFewer store.now locals count) }
 {
     let mut left = locals;
     let mut more = count;
@@ -130,7 +137,7 @@ fn is_local_assignable(
     to: SlotType,
 ) -> bool
     requires { AreNamed program.now names.now }
-    ensures { (u : Slot) → slice_get from.now at ≡ Some u → result ≡ assignable (classes_of (look program.now)) (type_of names.now u) (type_of names.now to) }
+    ensures { LocalFits program.now names.now from.now at to result }
 {
     match type_at(from, at) {
         Some(t) => is_assignable(program, names, t, to),
@@ -147,7 +154,7 @@ fn are_locals_assignable(
     to: Locals,
 ) -> bool
     requires { AreNamed program.now names.now }
-    ensures { (ts : List Slot) → AreLocals store.now to ts → AreWithin (length from.now) ts → result ≡ locals_assignable (classes_of (look program.now)) (types_in names.now from.now) (full_locals names.now (length from.now) ts) }
+    ensures { LocalsFit program.now names.now store.now (length from.now) from.now to result }
 {
     let mut left = to;
     let mut more = to.count;
@@ -176,7 +183,7 @@ fn are_all_assignable(
     to: Locals,
 ) -> bool
     requires { AreNamed program.now names.now }
-    ensures { (ts : List Slot) → AreLocals store.now to ts → AreWithin max ts → result ≡ locals_assignable (classes_of (look program.now)) (types_in names.now from.now) (full_locals names.now max ts) }
+    ensures { LocalsFit program.now names.now store.now max from.now to result }
 {
     if from.len() != max {
         return false;
@@ -194,7 +201,7 @@ pub fn is_assignable_to_stated(
     to: &StatedFrame,
 ) -> bool
     requires { AreNamed program.now names.now }
-    ensures { (f : FrameTypes) → IsFull names.now store.now max_locals to.now f → result ≡ frame_assignable (classes_of (look program.now)) (types_of names.now from.now) f }
+    ensures { FrameFits program.now names.now store.now max_locals from.now to.now result }
 {
     if !is_same_flag(from.flag, to.locals.flag) {
         return false;

@@ -1,14 +1,10 @@
 //! The frames that a method states, by instruction.
 
-ghost use Rattle.std.specs.Prelude.{◌≡◌, List, slice_get, IfOk};
-ghost use Rattle.std.specs.Option.{option_map, option_copied};
-ghost use Rattle.type_rules.specs.References.{classes_of};
-ghost use Rattle.type_rules.specs.Rows.{leads_to};
-ghost use Rattle.class_table.specs.Table.{look};
+ghost use Rattle.std.specs.Prelude.{◌≡◌, slice_get, IfOk};
+ghost use Rattle.std.specs.Option.{option_copied};
 ghost use Rattle.vframes.specs.Named.{AreNamed};
-ghost use Rattle.vframes.specs.FrameView.{types_of};
-ghost use Rattle.vframes.specs.StatedFrames.{filled, frame_at, stated_types, AreKept, table_of};
-ghost use Rattle.vframes.specs.declared.named.Named.{Named as NameOf};
+ghost use Rattle.vframes.specs.StatedFrames.{filled, AreKept, table_of};
+ghost use Rattle.vframes.specs.Fits.{leads_among, leads_in, IsStatedAt};
 
 use crate::frame::Frame;
 use crate::full::frame_in_full;
@@ -54,7 +50,7 @@ impl StatedFrames {
     /// Whether an instruction states a frame to which this one is assignable.
     pub fn leads(&self, program: &Program, names: &[Named], from: &Frame, to: u32) -> bool
         requires { AreNamed program.now names.now }
-        ensures { result ≡ leads_to (classes_of (look program.now)) (types_of names.now from.now) (option_map (stated_types names.now) (frame_at self.now to)) }
+        ensures { result ≡ leads_among program.now names.now from.now self.now to }
     {
         leads_in(
             &self.frames,
@@ -69,7 +65,7 @@ impl StatedFrames {
 
     /// The frame that is stated for an instruction, in full.
     pub fn in_full(&self, alloc: Global, at: u32) -> Result<Option<Frame>, Memory>
-        ensures { IfOk result (λ f. (ns : List NameOf) → option_map (types_of ns) f ≡ option_map (stated_types ns) (frame_at self.now at)) }
+        ensures { IfOk result (λ f. IsStatedAt self.now at f) }
     {
         full_at(alloc, &self.frames, &self.store, self.max_locals, at)
     }
@@ -97,7 +93,7 @@ fn leads_in(
 ) -> bool
     requires named { AreNamed program.now names.now }
     requires kept { AreKept store.now max_locals frames.now }
-    ensures { result ≡ leads_to (classes_of (look program.now)) (types_of names.now from.now) (option_map (stated_types names.now) (frame_at (table_of store.now max_locals frames.now) to)) }
+    ensures { result ≡ leads_in program.now names.now store.now max_locals from.now frames.now to }
 {
     match stated_at(frames, to) {
         Some(stated) => is_assignable_to_stated(program, names, store, max_locals, from, stated),
@@ -113,7 +109,7 @@ fn full_at(
     at: u32,
 ) -> Result<Option<Frame>, Memory>
     requires { AreKept store.now max_locals frames.now }
-    ensures { IfOk result (λ f. (ns : List NameOf) → option_map (types_of ns) f ≡ option_map (stated_types ns) (frame_at (table_of store.now max_locals frames.now) at)) }
+    ensures { IfOk result (λ f. IsStatedAt (table_of store.now max_locals frames.now) at f) }
 {
     match stated_at(frames, at) {
         Some(stated) => {
