@@ -1,6 +1,7 @@
 //! The calls of `mutator_ops`.
 
 ghost use Rattle.std.specs.Prelude.{◌≡◌, length, IfOk};
+ghost use Rattle.std.specs.Io.Iter.{u64_saturate};
 ghost use Rattle.mutator_ops.specs.Mutants.{class_mutants};
 ghost use Rattle.mutator_ops.specs.Table.{mutators, row};
 
@@ -18,7 +19,7 @@ pub fn class_mutants(alloc: Global, class: &Class) -> Result<Seq<Mutant>, Memory
 
 /// `mutator_ops::count_mutants`.
 pub fn count_mutants(alloc: Global, class: &Class) -> Result<u64, Memory>
-    ensures { IfOk result (λ n. n ≡ length (class_mutants class.now)) }
+    ensures { IfOk result (λ n. n ≡ u64_saturate (length (class_mutants class.now))) }
 {
     let count = mutator_ops::count_mutants(alloc, class)?;
     Ok(count)

@@ -1,8 +1,9 @@
 -- What is counted is the length of the list.
-use Rattle.std.proofs.Common.{◌≡◌, ◌∙◌, refl, sym, ap, ℕ, ◌+◌, Bool, true, false, List, [], ◌∷◌, length, Option, None, Some, if◌then◌else◌}
+use Rattle.std.proofs.Common.{◌≡◌, ◌∙◌, refl, sym, ap, ℕ, ◌+◌, ◌<◌, Bool, true, false, List, [], ◌∷◌, length, take, get_or, arith, Option, None, Some, if◌then◌else◌}
 use Rattle.std.specs.Prelude.{is_some, cond, sum_by}
-use Rattle.std.proofs.lemmas.List.{length-append}
-use Rattle.std.proofs.lemmas.List.Sums.{sum_by-cons}
+use Rattle.std.specs.Io.Iter.{u64_saturate}
+use Rattle.std.proofs.lemmas.List.{length-append, take_more}
+use Rattle.std.proofs.lemmas.List.Sums.{sum_by-cons, sum_by-append}
 use Rattle.class_model.specs.declared.attribute.Code.{Code, out-Code}
 use Rattle.class_model.specs.declared.class.Class.{Class}
 use Rattle.class_model.specs.declared.class.Member.{Member}
@@ -60,3 +61,19 @@ class_count_is class = sym (by (is_synthetic class.flags))
     by : (b : Bool) → length (if b then [] else methods_mutants (own_name class) class.pool 0 class.methods) ≡ (if b then 0 else sum_by (method_count class.pool) class.methods)
     by true = refl
     by false = in_methods (own_name class) class.pool 0 class.methods
+
+-- ---- sums that stay at the largest number
+
+sum_more : {X : Type 0} (f : X → ℕ) (xs : List X) (i : ℕ) (d : X) → i < length xs → sum_by f (take (i + 1) xs) ≡ sum_by f (take i xs) + f (get_or xs i d)
+sum_more f xs i d lt =
+    let more : sum_by f (take (i + 1) xs) ≡ sum_by f (take i xs) + sum_by f (get_or xs i d ∷ []) = ap (sum_by f) (take_more xs i d lt) ∙ sum_by-append f (take i xs) (get_or xs i d ∷ []) in
+    let one = sum_by-cons f (get_or xs i d) [] in
+    omega (arith, more, one)
+
+pub counts_more : {X : Type 0} (f : X → ℕ) (xs : List X) (i : ℕ) (d : X) (n k : ℕ) → i < length xs → n ≡ u64_saturate (sum_by f (take i xs)) → k ≡ u64_saturate (f (get_or xs i d)) → u64_saturate (n + k) ≡ u64_saturate (sum_by f (take (i + 1) xs))
+counts_more f xs i d n k lt before now =
+    let more = sum_more f xs i d lt in
+    omega (arith, before, now, more)
+
+pub class_saturates : (class : Class) (n : ℕ) → n ≡ u64_saturate (class_count class) → n ≡ u64_saturate (length (class_mutants class))
+class_saturates class n is = is ∙ ap u64_saturate (class_count_is class)

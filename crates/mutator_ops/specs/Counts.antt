@@ -1,12 +1,16 @@
--- How many mutants a class has, without making them (this project's own). No public clause cites these.
-use Rattle.std.specs.Prelude.{ℕ, is_some, if◌then◌else◌, List, Option, None, Some, sum_by, count_by}
+-- How many mutants a class has, without making them (this project's own). No public clause cites these. A count stays at
+-- 2^64 - 1 (`u64_saturate` of std).
+use Rattle.std.specs.Prelude.{ℕ, is_some, if◌then◌else◌, length, List, Option, None, Some, sum_by, count_by}
+use Rattle.std.specs.Io.Iter.{u64_saturate}
+use Rattle.class_model.specs.Text.{text}
 use Rattle.class_model.specs.declared.attribute.Code.{Code, out-Code}
 use Rattle.class_model.specs.declared.class.Class.{Class}
 use Rattle.class_model.specs.declared.class.Member.{Member}
 use Rattle.class_model.specs.declared.constant.Const.{Const}
 use Rattle.class_model.specs.declared.instruction.Insn.{Insn}
 use Rattle.class_model.specs.declared.mutator.Mutator.{Mutator}
-use Rattle.mutator_ops.specs.Mutants.{asked_of, code_of, is_synthetic, is_left_out}
+use Rattle.class_link.specs.Info.{own_name}
+use Rattle.mutator_ops.specs.Mutants.{asked_of, code_of, is_synthetic, is_left_out, class_mutants}
 use Rattle.mutator_ops.specs.Table.{Asked, mutators, row}
 
 -- how many rows of a table apply to an instruction
@@ -25,3 +29,7 @@ method_count pool member = if is_left_out member.flags then 0 else code_count po
 
 abbrev pub class_count : Class → ℕ
 class_count class = if is_synthetic class.flags then 0 else sum_by (method_count class.pool) class.methods
+
+-- How many mutants a class has, by its name in modified UTF-8.
+abbrev pub count_by_name : Class → List ℕ × ℕ
+count_by_name class = (text (own_name class), u64_saturate (length (class_mutants class)))

@@ -1,5 +1,6 @@
 -- The mutants of classes of a program (this project's own): classes in the order of their names' bytes in modified UTF-8.
-use Rattle.std.specs.Prelude.{ℕ, List, [], fold, map, flat_map, filter_map, slice_get, Option, None, Some, option_and_then}
+use Rattle.std.specs.Prelude.{◌≡◌, ℕ, List, [], fold, map, flat_map, filter_map, slice_get, Option, None, Some, option_and_then, option_copied}
+use Rattle.std.specs.Borrow.{Bor}
 use Rattle.std.specs.BTreeMap.{insert_entry}
 use Rattle.std.specs.Ordering.{nat_cmp}
 use Rattle.std.specs.Cmp.Lexicographic.{slice_cmp}
@@ -35,7 +36,18 @@ mutants p ids = mutants_among (files_among p ids)
 
 -- ---- how they are gathered. No public clause cites this.
 
--- the mutants of one more class, if it is one
-abbrev pub with_class : List (List ℕ × List Mutant) → Option Class → List (List ℕ × List Mutant)
-with_class kept None = kept
-with_class kept (Some class) = insert_entry (slice_cmp nat_cmp) kept (text (own_name class)) (class_mutants class)
+-- what each of these classes has, by its name
+abbrev pub among_by_name :
+    {X : Type 0} → (Class → List ℕ × X) → List Info → List ClassId → List (List ℕ × X)
+among_by_name by_name p ids = in_order (map by_name (files_among p ids))
+
+-- with what one more class has, if it is one
+abbrev pub with_class :
+    {X : Type 0} → (Class → List ℕ × X) → List (List ℕ × X) → Option Class → List (List ℕ × X)
+with_class by_name kept None = kept
+with_class by_name kept (Some class) =
+    insert_entry (slice_cmp nat_cmp) kept (by_name class).0 (by_name class).1
+
+abbrev pub Adds :
+    {X : Type 0} → (Class → List ℕ × X) → List (List ℕ × X) → List (List ℕ × X) → Option (Bor Class) → Type 0
+Adds by_name old new class = new ≡ with_class by_name old (option_copied class)

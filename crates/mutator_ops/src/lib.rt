@@ -25,5 +25,5 @@ pub use listing::class_mutants;
 pub use mutant::{CellTable, Mutant, State, Verdict};
 pub use pool::Pool;
 pub use printing::{id_lines, id_text};
-pub use program::mutants;
+pub use program::{count_all, mutants};
 pub use table::{mutators, row};

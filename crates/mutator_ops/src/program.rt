@@ -1,8 +1,13 @@
-//! The mutants of classes of a program.
+//! The mutants of classes of a program, and how many they are.
 
-ghost use Rattle.std.specs.Prelude.{◌≡◌, map, flat_map, option_copied, IfOk, OnOk};
-ghost use Rattle.mutator_ops.specs.Programs.{files_among, in_order, mutants_by_name, mutants, with_class};
+ghost use Rattle.std.specs.Prelude.{◌≡◌, flat_map, sum_by, length, IfOk, OnOk};
+ghost use Rattle.std.specs.Io.Iter.{u64_saturate};
+ghost use Rattle.class_model.specs.Text.{text};
+ghost use Rattle.class_link.specs.Info.{own_name};
+ghost use Rattle.mutator_ops.specs.Counts.{count_by_name};
+ghost use Rattle.mutator_ops.specs.Programs.{mutants_by_name, among_by_name, mutants, Adds};
 
+use crate::counting::count_mutants;
 use crate::listing::class_mutants;
 use crate::mutant::Mutant;
 use class_model::{Bytes, Class, ClassId, Memory, Name, Seq, write_text};
@@ -11,15 +16,21 @@ use mt_pool::class_name_of;
 use std::alloc::Global;
 use std::collections::BTreeMap;
 
-// The mutants of a class, and its name in modified UTF-8.
+// The name of a class in modified UTF-8.
+fn name_text(alloc: Global, class: &Class) -> Result<Bytes, Memory>
+    ensures { IfOk result (λ name. name ≡ text (own_name class.now)) }
+{
+    match class_name_of(class.pool.as_slice(), class.this) {
+        Some(name) => write_text(alloc, name),
+        None => Ok(Bytes::new(alloc)),
+    }
+}
+
+// The mutants of a class, by its name.
 fn mutants_by_name(alloc: Global, class: &Class) -> Result<(Bytes, Seq<Mutant>), Memory>
     ensures { IfOk result (λ found. found ≡ mutants_by_name class.now) }
 {
-    let name = match class_name_of(class.pool.as_slice(), class.this) {
-        Some(name) => write_text(alloc, name)?,
-        None => Bytes::new(alloc),
-    };
-    Ok((name, class_mutants(alloc, class)?))
+    Ok((name_text(alloc, class)?, class_mutants(alloc, class)?))
 }
 
 // The mutants of one more class, if it is one.
@@ -28,7 +39,7 @@ fn insert_class(
     found: &mut BTreeMap<Bytes, Seq<Mutant>>,
     class: Option<&Class>,
 ) -> Result<(), Memory>
-    ensures { OnOk result (found.new.entries ≡ with_class found.old.entries (option_copied class.entry)) }
+    ensures { OnOk result (Adds mutants_by_name found.old.entries found.new.entries class.entry) }
 {
     if let Some(class) = class {
         let (name, mutants) = mutants_by_name(alloc, class)?;
@@ -43,7 +54,7 @@ fn all_by_name(
     p: &Program,
     ids: &[ClassId],
 ) -> Result<BTreeMap<Bytes, Seq<Mutant>>, Memory>
-    ensures { IfOk result (λ found. found.entries ≡ in_order (map mutants_by_name (files_among p.now ids.now))) }
+    ensures { IfOk result (λ found. found.entries ≡ among_by_name mutants_by_name p.now ids.now) }
 {
     let mut found = BTreeMap::new(alloc);
     for id in ids {
@@ -70,4 +81,55 @@ pub fn mutants(alloc: Global, p: &Program, from: &Seq<ClassId>) -> Result<Seq<Mu
 {
     let by_name = all_by_name(alloc, p, from.as_slice())?;
     joined(alloc, by_name)
+}
+
+// How many mutants one more class has, if it is one.
+fn insert_count(
+    alloc: Global,
+    counts: &mut BTreeMap<Bytes, u64>,
+    class: Option<&Class>,
+) -> Result<(), Memory>
+    ensures { OnOk result (Adds count_by_name counts.old.entries counts.new.entries class.entry) }
+{
+    if let Some(class) = class {
+        let name = name_text(alloc, class)?;
+        let count = count_mutants(alloc, class)?;
+        counts.insert(name, count)?;
+    }
+    Ok(())
+}
+
+#[tactic(auto, using(crate::proofs::ProgramLaws::one_more_count))]
+fn counts_by_name(
+    alloc: Global,
+    p: &Program,
+    ids: &[ClassId],
+) -> Result<BTreeMap<Bytes, u64>, Memory>
+    ensures { IfOk result (λ counts. counts.entries ≡ among_by_name count_by_name p.now ids.now) }
+{
+    let mut counts = BTreeMap::new(alloc);
+    for id in ids {
+        insert_count(alloc, &mut counts, p.file_class(*id))?;
+    }
+    Ok(counts)
+}
+
+// All counts together, which stay at 2^64 - 1.
+fn sum_of(mut counts: BTreeMap<Bytes, u64>) -> u64
+    ensures { result ≡ u64_saturate (sum_by (λ e. e.1) counts.entries) }
+{
+    let mut sum = 0u64;
+    while let Some((_, count)) = counts.pop_first() {
+        sum = sum.saturating_add(count);
+    }
+    sum
+}
+
+/// How many mutants the class files of these numbers have. None is made, and the memory that is taken
+/// grows with the classes alone. The count stays at 2^64 - 1.
+pub fn count_all(alloc: Global, p: &Program, from: &Seq<ClassId>) -> Result<u64, Memory>
+    ensures { IfOk result (λ n. n ≡ u64_saturate (length (mutants p.now from.now))) }
+{
+    let counts = counts_by_name(alloc, p, from.as_slice())?;
+    Ok(sum_of(counts))
 }
