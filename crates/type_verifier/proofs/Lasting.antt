@@ -219,3 +219,7 @@ pub one_more : {A B C : Type 0} (g : A → C) (h : B → C) (xs : List A) (ys : 
 one_more g h xs ys x y all whole a w e f =
     ap (map g) a ∙ map-append g xs (x ∷ []) ∙ ap (λ l. l ++ g x ∷ []) e ∙ ap (λ z. map h ys ++ z ∷ []) f
     ∙ sym (map-append h ys (y ∷ [])) ∙ ap (map h) (sym w)
+
+-- a name's number after names are added
+pub name_lasts : (p : List Info) (old new : Names) (k : ℕ) (n : Name) → Adds p old new → NameLasts old.list.items k n → NameLasts new.list.items k n
+name_lasts p old new k n a h = lasts (λ ns. name_at ns k ≡ n) old.list.items new.list.items a.more h

@@ -4,11 +4,13 @@ use Rattle.std.specs.Option.{option_map}
 use Rattle.program_rules.specs.Names.{Name, same}
 use Rattle.program_rules.specs.Types.{VType}
 use Rattle.type_rules.specs.References.{classes_of}
+use Rattle.type_rules.specs.Frames.{type_of as type_of_kind}
+use Rattle.class_model.specs.declared.kind.Kind.{Kind as KindStated}
 use Rattle.type_rules.specs.Rows.{Setting, may_name, is_parent, declares}
 use Rattle.class_link.specs.declared.linked.Entry.{Entry}
 use Rattle.class_link.specs.declared.linked.FieldRef.{FieldRef}
 use Rattle.class_link.specs.declared.linked.MethodRef.{MethodRef}
-use Rattle.class_link.specs.Symbols.{IsClass, IsField, IsMethod}
+use Rattle.class_link.specs.Symbols.{IsClass, IsField, IsMethod, kind_of}
 use Rattle.class_link.specs.View.{linked_of, field_ref_of, method_ref_of, symbol_of}
 use Rattle.class_table.specs.Table.{number_of, look}
 use Rattle.vframes.specs.declared.named.Named.{Named}
@@ -18,6 +20,7 @@ use Rattle.vframes.specs.View.{type_of}
 use Rattle.type_rows.specs.declared.item.Item.{Item}
 use Rattle.type_rows.specs.declared.item.Signature.{Signature}
 use Rattle.type_rows.specs.Items.{Home, IsIn, IsSignature, IsSpecial, IsItem, AreItemsOf}
+use Rattle.type_verifier.specs.declared.names.Names.{Names}
 use Rattle.type_verifier.specs.declared.pool.Own.{Own}
 
 -- A class is this one of its program.
@@ -74,3 +77,13 @@ ItemLasts ns h e i = (more : List Named) → IsItem (ns ++ more) h (symbol_of e)
 
 abbrev pub ItemsLast : List Named → Home → List Entry → List Item → Type 0
 ItemsLast ns h es is = (more : List Named) → AreItemsOf (ns ++ more) h es is
+
+-- The same of a result by its kind, of a method of a class, and of all entries of a class.
+abbrev pub KindIfAny : List Named → Option KindStated → Option SlotType → Type 0
+KindIfAny ns k t = ResultLasts ns (option_map (λ k. type_of_kind (kind_of k)) k) t
+
+abbrev pub MethodIs : Names → Own → MethodRef → Signature → Type 0
+MethodIs t o r m = SignatureLasts t.list.items (home_of o) r m
+
+abbrev pub ItemsAre : Names → Own → List Item → Type 0
+ItemsAre t o is = ItemsLast t.list.items (home_of o) o.linked.now.entries is

@@ -2,7 +2,8 @@
 use Rattle.std.specs.Prelude.{◌≡◌, ◌++◌, List, map}
 use Rattle.program_rules.specs.Types as rules
 use Rattle.class_link.specs.declared.frames.FrameShape.{FrameShape}
-use Rattle.class_link.specs.View.{shape_of}
+use Rattle.class_link.specs.declared.frames.StatedFrame.{StatedFrame}
+use Rattle.class_link.specs.View.{shape_of, frame_of}
 use Rattle.vframes.specs.declared.named.Named.{Named}
 use Rattle.vframes.specs.View.{type_of, types_in}
 use Rattle.type_verifier.specs.declared.shapes.Shape.{Shape}
@@ -27,3 +28,6 @@ ShapeLasts ns s f = (more : List Named) → shape_in (ns ++ more) s ≡ shape_of
 
 abbrev pub DifferencesLast : List Named → List Difference → List rules.StatedFrame → Type 0
 DifferencesLast ns ds fs = (more : List Named) → map (frame_in (ns ++ more)) ds ≡ fs
+
+abbrev pub FramesLast : List Named → List Difference → List StatedFrame → Type 0
+FramesLast ns ds fs = DifferencesLast ns ds (map frame_of fs)

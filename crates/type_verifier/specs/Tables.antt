@@ -1,5 +1,5 @@
 -- The names that a class mentions, by number, while more are found (this project's own).
-use Rattle.std.specs.Prelude.{◌≡◌, ◌<◌, ℕ, true, List, [], ◌∷◌, ◌++◌, All, Some, length}
+use Rattle.std.specs.Prelude.{◌≡◌, ◌<◌, ℕ, true, List, [], ◌∷◌, ◌++◌, All, Some, length, map}
 use Rattle.std.specs.HashMap.{get}
 use Rattle.program_rules.specs.Names.{Name, same}
 use Rattle.type_rules.specs.References.{dimensions, base_of, component_of}
@@ -8,6 +8,11 @@ use Rattle.class_link.specs.Info.{Info}
 use Rattle.vframes.specs.declared.named.Named.{Named}
 use Rattle.vframes.specs.Named.{AreNamed, HasComponent, name_at}
 use Rattle.program_rules.specs.Types.{VType}
+use Rattle.type_rules.specs.Frames.{type_of as type_of_kind}
+use Rattle.class_model.specs.declared.kind.Kind.{Kind as KindStated}
+use Rattle.class_link.specs.declared.frames.VType.{VType as TypeStated}
+use Rattle.class_link.specs.Symbols.{kind_of}
+use Rattle.class_link.specs.View.{vtype_of}
 use Rattle.vframes.specs.declared.slot_type.SlotType.{SlotType}
 use Rattle.vframes.specs.View.{type_of, types_in}
 use Rattle.type_verifier.specs.declared.names.Names.{Names}
@@ -62,3 +67,13 @@ TypeLasts ns t v = (more : List Named) → type_of (ns ++ more) t ≡ v
 
 abbrev pub TypesLast : List Named → List SlotType → List VType → Type 0
 TypesLast ns ts vs = (more : List Named) → types_in (ns ++ more) ts ≡ vs
+
+-- The same of a type of values of a kind, of types of such values, and of types that are stated.
+abbrev pub KindLasts : List Named → SlotType → KindStated → Type 0
+KindLasts ns t k = TypeLasts ns t (type_of_kind (kind_of k))
+
+abbrev pub KindsLast : List Named → List SlotType → List KindStated → Type 0
+KindsLast ns ts ks = TypesLast ns ts (map (λ k. type_of_kind (kind_of k)) ks)
+
+abbrev pub StatedLast : List Named → List SlotType → List TypeStated → Type 0
+StatedLast ns ts vs = TypesLast ns ts (map vtype_of vs)

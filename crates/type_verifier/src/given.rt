@@ -1,10 +1,9 @@
 //! What a method gives.
 
 ghost use Rattle.std.specs.Prelude.{◌≡◌, IfOk, OnOk, Some};
-ghost use Rattle.std.specs.Option.{option_map};
 ghost use Rattle.class_link.specs.Symbols.{kind_of};
 ghost use Rattle.type_verifier.specs.Tables.{IsTable, Adds};
-ghost use Rattle.type_verifier.specs.Heads.{GivenLasts};
+ghost use Rattle.type_verifier.specs.Heads.{GivenLasts, ResultGives};
 
 use crate::names::Names;
 use class_model::{Kind, Memory};
@@ -42,7 +41,7 @@ pub fn given_of(
 ) -> Result<Given, Memory>
     requires { IsTable program.now names.old }
     ensures adds { OnOk result (Adds program.now names.old names.new) }
-    ensures given { IfOk result (λ g. GivenLasts names.new.list.items (option_map kind_of stated.now) g) }
+    ensures given { IfOk result (λ g. ResultGives names.new.list.items stated.now g) }
 {
     match stated {
         Some(kind) => {

@@ -2,12 +2,17 @@
 //! (JVMS 4.10.1).
 #![tactic(auto)]
 
+mod common;
+mod first;
 mod given;
 mod names;
 mod pool;
 mod shapes;
+mod texts;
 mod types;
 
+pub use common::common_names;
+pub use first::{first_frame, first_types, is_init};
 pub use given::given_of;
 pub use names::Names;
 pub use pool::{Own, items};

@@ -18,7 +18,7 @@ use vframes::{Base, Named, name_parts};
 #[derive(Drop)]
 pub struct Names {
     pub list: Vec<Named>,
-    pub numbers: HashMap<Name, u32>,
+    pub numbers: HashMap<Name, usize>,
 }
 
 // A program has all supers that it names.
@@ -82,7 +82,7 @@ impl Names {
     }
 
     // The number of a name, if it has one.
-    fn find(&self, program: &Program, name: &Name) -> Option<u32>
+    fn find(&self, program: &Program, name: &Name) -> Option<usize>
         requires { IsTable program.now self.now }
         ensures some { IfSome result (λ k. NameLasts self.now.list.items k name.now) }
         ensures none { IfNone result (get same self.now.numbers name.now ≡ None) }
@@ -90,8 +90,8 @@ impl Names {
         self.numbers.get(name).copied()
     }
 
-    // One more name, which has no number. Where there are 2^32, memory runs out.
-    fn push(&mut self, program: &Program, named: Named) -> Result<u32, Memory>
+    // One more name, which has no number.
+    fn push(&mut self, program: &Program, named: Named) -> Result<usize, Memory>
         requires table { IsTable program.now self.old }
         requires named { IsNamed program.now named }
         requires fresh { get same self.old.numbers named.name ≡ None }
@@ -100,16 +100,13 @@ impl Names {
         ensures number { IfOk result (λ k. NameLasts self.new.list.items k named.name) }
     {
         let number = self.list.len();
-        if number > u32::MAX as usize {
-            return Err(Memory);
-        }
-        self.numbers.insert(named.name.copy()?, number as u32)?;
+        self.numbers.insert(named.name.copy()?, number)?;
         self.list.push(named)?;
-        Ok(number as u32)
+        Ok(number)
     }
 
     // The number of a name, which is added unless it has one.
-    fn add(&mut self, program: &Program, named: Named) -> Result<u32, Memory>
+    fn add(&mut self, program: &Program, named: Named) -> Result<usize, Memory>
         requires table { IsTable program.now self.old }
         requires named { IsNamed program.now named }
         requires component { ComponentLasts self.old.list.items named.name named.component }
@@ -129,7 +126,7 @@ impl Names {
         program: &Program,
         name: &Name,
         chain: &mut Vec<Named>,
-    ) -> Result<u32, Memory>
+    ) -> Result<usize, Memory>
         requires table { IsTable program.now self.old }
         requires empty { chain.old.items ≡ [] }
         ensures adds { OnOk result (Adds program.now self.old self.new) }
@@ -153,7 +150,7 @@ impl Names {
     }
 
     /// The number of a name, which is added with its components unless it is there.
-    pub fn number(&mut self, program: &Program, name: &Name) -> Result<u32, Memory>
+    pub fn number(&mut self, program: &Program, name: &Name) -> Result<usize, Memory>
         requires { IsTable program.now self.old }
         ensures adds { OnOk result (Adds program.now self.old self.new) }
         ensures number { IfOk result (λ k. NameLasts self.new.list.items k name.now) }

@@ -11,7 +11,7 @@ ghost use Rattle.class_link.specs.Symbols.{kind_of};
 ghost use Rattle.class_link.specs.View.{linked_of, field_of, field_ref_of, method_ref_of, symbol_of};
 ghost use Rattle.type_rows.specs.Items.{is_init, is_plain};
 ghost use Rattle.type_verifier.specs.Tables.{IsTable, Adds};
-ghost use Rattle.type_verifier.specs.Pool.{IsOwn, home_of, is_superclass, NearIs, InitialisesIs, DeclaredIs, ResultLasts, FieldLasts, ClassLasts, SignatureLasts, ItemLasts, ItemsLast};
+ghost use Rattle.type_verifier.specs.Pool.{IsOwn, home_of, is_superclass, NearIs, InitialisesIs, DeclaredIs, KindIfAny, FieldLasts, ClassLasts, MethodIs, ItemLasts, ItemsAre};
 
 use crate::names::Names;
 use crate::types::{kind_type, kind_types};
@@ -168,7 +168,7 @@ fn result_type(
 ) -> Result<Option<SlotType>, Memory>
     requires { IsTable program.now names.old }
     ensures adds { OnOk result (Adds program.now names.old names.new) }
-    ensures result_ { IfOk result (λ t. ResultLasts names.new.list.items (option_map (λ k. type_of (kind_of k)) given.now) t) }
+    ensures result_ { IfOk result (λ t. KindIfAny names.new.list.items given.now t) }
 {
     match given {
         Some(kind) => {
@@ -197,7 +197,7 @@ fn signature_of(names: &mut Names, own: &Own, r: &MethodRef) -> Result<Signature
     requires own { IsOwn own.now }
     requires table { IsTable own.now.program.now names.old }
     ensures adds { OnOk result (Adds own.now.program.now names.old names.new) }
-    ensures method { IfOk result (λ m. SignatureLasts names.new.list.items (home_of own.now) r.now m) }
+    ensures method { IfOk result (λ m. MethodIs names.new own.now r.now m) }
 {
     let class = names.number(own.program, &r.class)?;
     let mut args = kind_types(names, own.program, r.args.as_slice())?;
@@ -254,7 +254,7 @@ pub fn items(names: &mut Names, own: &Own) -> Result<Vec<Item>, Memory>
     requires own { IsOwn own.now }
     requires table { IsTable own.now.program.now names.old }
     ensures adds { OnOk result (Adds own.now.program.now names.old names.new) }
-    ensures items { IfOk result (λ is. ItemsLast names.new.list.items (home_of own.now) own.now.linked.now.entries is.items) }
+    ensures items { IfOk result (λ is. ItemsAre names.new own.now is.items) }
 {
     let alloc = *names.list.allocator();
     let entries = own.linked.entries.as_slice();

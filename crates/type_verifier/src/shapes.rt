@@ -1,9 +1,8 @@
 //! Stated frames by the numbers of names, each as it differs from the one before.
 
-ghost use Rattle.std.specs.Prelude.{◌≡◌, map, IfOk, OnOk};
-ghost use Rattle.class_link.specs.View.{frame_of};
+ghost use Rattle.std.specs.Prelude.{IfOk, OnOk};
 ghost use Rattle.type_verifier.specs.Tables.{IsTable, Adds};
-ghost use Rattle.type_verifier.specs.Shapes.{ShapeLasts, DifferencesLast};
+ghost use Rattle.type_verifier.specs.Shapes.{ShapeLasts, FramesLast};
 
 use crate::names::Names;
 use crate::types::{stated_type, stated_types};
@@ -67,7 +66,7 @@ pub fn differences(
 ) -> Result<Vec<Difference>, Memory>
     requires { IsTable program.now names.old }
     ensures adds { OnOk result (Adds program.now names.old names.new) }
-    ensures frames { IfOk result (λ ds. DifferencesLast names.new.list.items ds.items (map frame_of frames.now)) }
+    ensures frames { IfOk result (λ ds. FramesLast names.new.list.items ds.items frames.now) }
 {
     let alloc = *names.list.allocator();
     let mut differences = Vec::with_capacity(alloc, frames.len())?;

@@ -1,10 +1,8 @@
 //! Types of kinds, and types that a class file states, by the numbers of names.
 
-ghost use Rattle.std.specs.Prelude.{◌≡◌, map, IfOk, OnOk};
-ghost use Rattle.type_rules.specs.Frames.{type_of};
-ghost use Rattle.class_link.specs.Symbols.{kind_of};
+ghost use Rattle.std.specs.Prelude.{IfOk, OnOk};
 ghost use Rattle.class_link.specs.View.{vtype_of};
-ghost use Rattle.type_verifier.specs.Tables.{IsTable, Adds, TypeLasts, TypesLast};
+ghost use Rattle.type_verifier.specs.Tables.{IsTable, Adds, TypeLasts, KindLasts, KindsLast, StatedLast};
 
 use crate::names::Names;
 use class_link::VType;
@@ -17,7 +15,7 @@ use vframes::SlotType;
 pub fn kind_type(names: &mut Names, program: &Program, kind: &Kind) -> Result<SlotType, Memory>
     requires { IsTable program.now names.old }
     ensures adds { OnOk result (Adds program.now names.old names.new) }
-    ensures type_ { IfOk result (λ t. TypeLasts names.new.list.items t (type_of (kind_of kind.now))) }
+    ensures type_ { IfOk result (λ t. KindLasts names.new.list.items t kind.now) }
 {
     match kind {
         Kind::Boolean => Ok(SlotType::Int),
@@ -41,7 +39,7 @@ pub fn kind_types(
 ) -> Result<Vec<SlotType>, Memory>
     requires { IsTable program.now names.old }
     ensures adds { OnOk result (Adds program.now names.old names.new) }
-    ensures types { IfOk result (λ ts. TypesLast names.new.list.items ts.items (map (λ k. type_of (kind_of k)) kinds.now)) }
+    ensures types { IfOk result (λ ts. KindsLast names.new.list.items ts.items kinds.now) }
 {
     let alloc = *names.list.allocator();
     let mut types = Vec::with_capacity(alloc, kinds.len())?;
@@ -81,7 +79,7 @@ pub fn stated_types(
 ) -> Result<Vec<SlotType>, Memory>
     requires { IsTable program.now names.old }
     ensures adds { OnOk result (Adds program.now names.old names.new) }
-    ensures types { IfOk result (λ ts. TypesLast names.new.list.items ts.items (map vtype_of stated.now)) }
+    ensures types { IfOk result (λ ts. StatedLast names.new.list.items ts.items stated.now) }
 {
     let alloc = *names.list.allocator();
     let mut types = Vec::with_capacity(alloc, stated.len())?;
