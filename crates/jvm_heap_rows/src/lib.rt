@@ -1,0 +1,17 @@
+//! The rows of the machine that touch the running frame and the heap.
+#![tactic(auto)]
+
+mod effect;
+mod elements;
+mod ending;
+mod fields;
+mod kinds;
+mod monitors;
+mod stack;
+mod storing;
+
+pub use effect::Effect;
+pub use elements::load_element;
+pub use fields::{get_field, put_field};
+pub use monitors::{enter_monitor, exit_monitor, throw_object};
+pub use storing::store_element;
