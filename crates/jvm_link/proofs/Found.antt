@@ -1,23 +1,20 @@
 -- What searches find, class by class.
-use Rattle.std.proofs.Common.{◌≡◌, ◌∙◌, sym, refl, ap, subst, ℕ, zero, suc, ◌+◌, ◌<◌, ◌≤◌, Bool, true, false, List, [], ◌∷◌, map, length, take, drop, Option, None, Some, slice_get, arith}
+use Rattle.std.proofs.Common.{◌≡◌, ◌∙◌, sym, refl, ap, ℕ, zero, suc, ◌+◌, ◌<◌, ◌≤◌, List, [], ◌∷◌, map, length, take, drop, Option, None, Some, slice_get, arith}
 use Rattle.std.specs.Prelude.{if◌then◌else◌, IfSome, IfNone}
-use Rattle.program_rules.specs.Names.{Name, is_array_name}
-use Rattle.program_rules.specs.Linked.{LinkedField}
-use Rattle.program_rules.specs.Kinds.{Kind}
+use Rattle.program_rules.specs.Names.{Name}
 use Rattle.program_rules.specs.Faults.{Answer, Found, Fails}
 use Rattle.program_rules.specs.declared.fault.Fault.TheVariants.{NoSuchFieldError}
-use Rattle.program_rules.specs.Outlines.{Head, fields_in, field_in, head_in}
+use Rattle.program_rules.specs.Outlines.{field_in, head_in}
 use Rattle.program_rules.specs.Programs.{Node, Rising, Searching, nodes, family, concat_over, superclass_in}
-use Rattle.program_rules.specs.Resolution.{FieldAt, MethodAt, field_at, field_or, search_field, resolve_field, method_at, with_node, declared_method, or_else, first_declared}
+use Rattle.program_rules.specs.Resolution.{FieldAt, MethodAt, field_at, field_or, search_field, resolve_field, with_node, or_else, first_declared}
 use Rattle.class_model.specs.declared.class.ClassId.{ClassId}
 use Rattle.class_link.specs.Info.{Info}
 use Rattle.class_table.specs.Table.{look, name_at, IsProgram}
-use Rattle.class_family.specs.Families.{node_of, rising_at, classes_of, AreClassesOf, GoesOn, EndsAt}
-use Rattle.class_family.specs.Laws.{once}
+use Rattle.class_family.specs.Families.{node_of, rising_at, AreClassesOf, GoesOn, EndsAt}
 use Rattle.class_family.proofs.Levels.{rising_step}
 use Rattle.class_family.proofs.Searches.{fields}
 use Rattle.jvm_link.specs.declared.site.Site.{Site}
-use Rattle.jvm_link.specs.Sites.{outline_at, node_at, nodes_at, rising_from, DeclaresField, IsField, AnswersField, field_ref, IsResolvedField, ResolvesToField, ResolvesField, DeclaresMethod, IsMethod, AnswersMethod}
+use Rattle.jvm_link.specs.Sites.{outline_at, node_at, nodes_at, rising_from, DeclaresField, IsField, AnswersField, IsResolvedField, ResolvesField, DeclaresMethod, IsMethod}
 use Rattle.jvm_link.proofs.Members.{field_there}
 
 -- ---- fields
@@ -58,7 +55,7 @@ module _ (p : List Info) (name desc : Name) (ids : List ℕ) where
   pub field_nowhere : (i : ℕ) → length ids ≤ i → ((rising : List Node) → search_field rising name desc (nodes_at p ids) ≡ search rising i) → (rising : List Node) → search_field rising name desc (nodes_at p ids) ≡ Fails NoSuchFieldError
   field_nowhere i le before rising = before rising ∙ ap (λ l. search_field rising name desc (nodes_at p l)) (dropped_past ids i le)
 
-map_twice : (f : ℕ → Name) (g : Name → Node) (ids : List ℕ) → map (λ a. g (f a)) ids ≡ map g (map f ids)
+pub map_twice : (f : ℕ → Name) (g : Name → Node) (ids : List ℕ) → map (λ a. g (f a)) ids ≡ map g (map f ids)
 map_twice f g [] = refl
 map_twice f g (a ∷ ids) = ap (λ l. g (f a) ∷ l) (map_twice f g ids)
 

@@ -1,2 +1,7 @@
 mod Members
 mod Found
+mod HeadPlaces
+mod Searched
+mod Choosing
+mod Resolving
+mod Selecting

@@ -1,9 +1,9 @@
 -- The places of members that a class declares, as the definitions count them.
-use Rattle.std.proofs.Common.{◌≡◌, ◌∙◌, sym, refl, ap, subst, ℕ, zero, suc, ◌+◌, ◌-◌, ◌<◌, ◌≤◌, Bool, true, false, List, [], ◌∷◌, map, Option, None, Some, slice_get, arith}
+use Rattle.std.proofs.Common.{◌≡◌, ◌∙◌, sym, refl, ap, ℕ, suc, ◌+◌, Bool, true, false, List, [], ◌∷◌, map, Option, None, Some, slice_get, arith}
 use Rattle.std.specs.Prelude.{◌&&◌, if◌then◌else◌, IfSome, IfNone}
 use Rattle.program_rules.specs.Names.{Name, same}
 use Rattle.program_rules.specs.Linked.{Linked, LinkedField, LinkedMethod, method_from, method_place}
-use Rattle.program_rules.specs.Outlines.{Outline, Head, head_of, outline, outline_of, fields_in, heads_in, field_from, field_in, head_from, head_in}
+use Rattle.program_rules.specs.Outlines.{Outline, Head, head_of, outline_of, fields_in, heads_in, field_from, field_in, head_from, head_in}
 use Rattle.class_link.specs.Info.{Info}
 use Rattle.class_table.specs.Table.{look, name_at}
 use Rattle.jvm_link.specs.Sites.{field_place, outline_at, DeclaresField, DeclaresMethod}

@@ -1,1 +1,3 @@
 pub mod Sites
+pub mod Candidates
+pub mod Answers

@@ -1,27 +1,19 @@
 //! Resolution of fields (JVMS 5.4.3.2).
 
 ghost use Rattle.std.specs.Prelude.{◌≡◌, ◌<◌, ℕ, length, slice_get, Some, IfOk};
-ghost use Rattle.program_rules.specs.Resolution.{search_field as found_in};
 ghost use Rattle.class_family.specs.Families.{AreClassesOf};
-ghost use Rattle.jvm_link.specs.Sites.{nodes_at, AnswersField, ResolvesField};
+ghost use Rattle.jvm_link.specs.Sites.{FindsField, ResolvesField};
 
 use crate::declared::declared_field;
 use crate::site::Site;
-use class_family::Walker;
+use class_family::{Walker, class_at};
 use class_model::{ClassId, Memory, Name};
 use class_table::Program;
-
-fn class_at(classes: &[u32], at: usize) -> u32
-    requires { at < length classes.now }
-    ensures { slice_get classes.now at ≡ Some result }
-{
-    classes[at]
-}
 
 // The first of these classes that declares such a field.
 fn search_field(program: &Program, classes: &[u32], name: &Name, desc: &Name) -> Option<Site>
     requires { (k b : ℕ) → slice_get classes.now k ≡ Some b → b < length program.now }
-    ensures { AnswersField program.now (λ rising. found_in rising name.now desc.now (nodes_at program.now classes.now)) result }
+    ensures { FindsField program.now name.now desc.now classes.now result }
 {
     let mut at = 0;
     while at < classes.len() {

@@ -2,10 +2,19 @@
 #![tactic(auto)]
 
 mod declared;
+mod family;
 mod fields;
+mod heads;
+mod interfaces;
 mod methods;
+mod resolve;
+mod select;
 mod site;
+mod text;
 
 pub use fields::resolve_field;
+pub use interfaces::{Choice, Search, Specific};
 pub use methods::{declared_method, first_declared, own_method};
-pub use site::Site;
+pub use resolve::resolve_method;
+pub use select::select_named;
+pub use site::{Callee, Site};

@@ -1,11 +1,9 @@
 //! The first method of a name and a descriptor in a class and its superclasses (JVMS 5.4.3.3).
 #![tactic(auto, unfolding(class_link::specs::View::linked_of))]
 
-ghost use Rattle.std.specs.Prelude.{◌≡◌, ◌<◌, length, take, None, IfSome, IfNone};
+ghost use Rattle.std.specs.Prelude.{◌≡◌, ◌<◌, length, None, IfSome, IfNone};
 ghost use Rattle.program_rules.specs.Outlines.{head_in};
-ghost use Rattle.program_rules.specs.Resolution.{first_declared as first_in};
-ghost use Rattle.class_family.specs.Families.{rising_at};
-ghost use Rattle.jvm_link.specs.Sites.{outline_at, DeclaresMethod, AnswersMethod};
+ghost use Rattle.jvm_link.specs.Sites.{outline_at, DeclaresMethod, FirstDeclared, OwnDeclared};
 
 use crate::site::Site;
 use class_family::superclass;
@@ -15,7 +13,7 @@ use class_table::Program;
 /// The place of the method of this name and descriptor that a class declares, of two the first.
 pub fn declared_method(program: &Program, id: ClassId, name: &Name, desc: &Name) -> Option<usize>
     requires { id.0 < length program.now }
-    ensures some { IfSome result (λ place. DeclaresMethod program.now id.0 name.now desc.now place) }
+    ensures some { IfSome result (λ k. DeclaresMethod program.now id.0 name.now desc.now k) }
     ensures none { IfNone result (head_in name.now desc.now (outline_at program.now id.0) ≡ None) }
 {
     program.info(id).linked().method_place(name, desc)
@@ -25,7 +23,7 @@ pub fn declared_method(program: &Program, id: ClassId, name: &Name, desc: &Name)
 /// time: it takes no memory.
 pub fn first_declared(program: &Program, id: ClassId, name: &Name, desc: &Name) -> Option<Site>
     requires { id.0 < length program.now }
-    ensures { AnswersMethod program.now (first_in name.now desc.now (rising_at program.now id.0)) result }
+    ensures { FirstDeclared program.now id.0 name.now desc.now result }
 {
     let _len = program.len();
     let mut next = Some(id);
@@ -42,7 +40,7 @@ pub fn first_declared(program: &Program, id: ClassId, name: &Name, desc: &Name) 
 /// 5.4.3.3, 2.9.1).
 pub fn own_method(program: &Program, id: ClassId, name: &Name, desc: &Name) -> Option<Site>
     requires { id.0 < length program.now }
-    ensures { AnswersMethod program.now (first_in name.now desc.now (take 1 (rising_at program.now id.0))) result }
+    ensures { OwnDeclared program.now id.0 name.now desc.now result }
 {
     let _len = program.len();
     let Some(place) = declared_method(program, id, name, desc) else {

@@ -8,3 +8,10 @@ pub struct Site {
     pub class: ClassId,
     pub place: usize,
 }
+
+/// A method that was found. An array has its own `clone`, which no class declares (JLS 10.7).
+#[derive(Clone, Copy)]
+pub enum Callee {
+    Method(Site),
+    ArrayClone,
+}

@@ -1,5 +1,4 @@
 use Rattle.std.proofs.Common.{◌≡◌, ◌<◌, ℕ, Some, List, length, slice_get, sym, subst}
-use Rattle.program_rules.specs.Programs.{Node}
 use Rattle.program_rules.specs.Resolution.{search_field}
 use Rattle.jvm_link.specs.Sites.{nodes_at, AnswersField}
 use Rattle.jvm_link.proofs.Found.{resolves}

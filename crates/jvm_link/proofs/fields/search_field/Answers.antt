@@ -1,4 +1,4 @@
-use Rattle.std.proofs.Common.{arith, refl}
+use Rattle.std.proofs.Common.{refl}
 use Rattle.jvm_link.proofs.Found.{field_passed, field_here, field_nowhere}
 use Rattle.jvm_link.proofs.fields.search_field.Goals as goal
 

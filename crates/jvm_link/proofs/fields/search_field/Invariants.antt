@@ -1,4 +1,4 @@
-use Rattle.std.proofs.Common.{◌≡◌, ◌≤◌, ◌-◌, List, length, drop}
+use Rattle.std.proofs.Common.{◌≡◌, ◌-◌, List, length, drop}
 use Rattle.program_rules.specs.Programs.{Node}
 use Rattle.program_rules.specs.Resolution.{search_field}
 use Rattle.jvm_link.specs.Sites.{nodes_at}

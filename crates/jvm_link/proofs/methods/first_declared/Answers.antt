@@ -1,4 +1,4 @@
-use Rattle.std.proofs.Common.{◌≡◌, ◌∙◌, ◌<◌, length, refl, ap, subst, arith}
+use Rattle.std.proofs.Common.{◌∙◌, ◌<◌, length, refl, ap, subst, arith}
 use Rattle.std.specs.Prelude.{IfSome}
 use Rattle.program_rules.specs.Resolution.{first_declared}
 use Rattle.class_model.specs.declared.class.ClassId.{ClassId}

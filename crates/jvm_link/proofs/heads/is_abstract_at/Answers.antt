@@ -1,0 +1,9 @@
+use Rattle.std.proofs.Common.{◌∙◌, ap}
+use Rattle.program_rules.specs.Outlines.{Head, is_abstractly}
+use Rattle.jvm_link.proofs.HeadPlaces.{head_there}
+use Rattle.jvm_link.proofs.heads.is_abstract_at.Goals as goal
+
+pub returns : goal.returns
+returns c = λ h has.
+    let r = head_there c.args.program.now c.args.id.0 c.args.place c.info.result.now.linked h c.info.ensures.class has in
+    c.is_empty_of.ensures r.0 r.1 c.info.result.now.linked.entries ∙ ap (λ (x : Head). is_abstractly x.callable) r.2
