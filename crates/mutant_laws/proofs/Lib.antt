@@ -12,3 +12,4 @@ mod Edits
 mod RunLaws
 mod SelectedLaws
 mod Premises
+mod WitnessLaws

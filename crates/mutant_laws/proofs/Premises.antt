@@ -1,5 +1,5 @@
 -- What the laws of mutants ask is met where a suite is run.
-use Rattle.std.proofs.Common.{◌≡◌, inr, subst, List, Option, Some}
+use Rattle.std.proofs.Common.{◌≡◌, inr, subst, Option, Some}
 use Rattle.std.specs.Prelude.{IfSome}
 use Rattle.class_model.specs.declared.class.Class.{Class}
 use Rattle.class_reader.specs.Spells.{IsClass}

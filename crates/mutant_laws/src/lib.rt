@@ -6,8 +6,10 @@
 
 ghost use Rattle.mutant_laws.specs.Edited.{ListedAreMutated, MutantsAreEdits, IntJumpsGoOn, IntJumpsAreExchanged};
 ghost use Rattle.mutant_laws.specs.Covered.{UnreachedIsAlike, ReachingIsAlike, CoveringIsAlike, SelectedSuffice};
+ghost use Rattle.mutant_laws.specs.Witness.{PremisesAreMet};
 
 use apply_laws::what_is_spelled_is_named;
+use class_reader::files_are_read_as_spelled;
 use class_writer::what_is_spelled_is_written;
 use edits_so_far::{
     runs_so_far_reach_the_line_alike, runs_so_far_reach_the_line_the_same,
@@ -84,4 +86,14 @@ pub fn selected_tests_suffice()
     unreached_mutants_run_alike();
     mutants_are_reached_alike();
     mutants_are_covered_alike();
+}
+
+/// What these laws ask is met: by a program of a class A, of tests T and of Object, by the mutant of
+/// A's jump with its bound moved, and by two tests that pass, one of which reaches the mutant's line.
+pub fn mutant_laws_are_of_use()
+    ensures { PremisesAreMet }
+{
+    files_are_read_as_spelled();
+    what_is_spelled_is_written();
+    mutants_fit();
 }

@@ -1,0 +1,225 @@
+-- A program and a mutant meet the premises of the laws, by computing.
+use Rattle.std.proofs.Common.{◌≡◌, refl, sym, subst, ℕ, zero, suc, Bool, true, false, List, [], ◌∷◌, Option, Some, None, Ok, drop, lit<, arith, codes}
+use Rattle.std.specs.Prelude.{◌<◌, ◌^◌, nat_lt, ◌&&◌, ◌||◌, if◌then◌else◌, is_none, length, option_and_then}
+use Rattle.std.specs.List.{Contains, list_all, list_any}
+use Rattle.std.specs.Cmp.Lexicographic.{same_text}
+use Rattle.std.proofs.lemmas.Bool.{ltb-true}
+use Rattle.std.proofs.lemmas.List.Elements.{All-from_recursion}
+use Rattle.class_model.specs.Text.{units_within}
+use Rattle.class_model.specs.DescriptorReading.{parameters_at}
+use Rattle.class_model.specs.declared.attribute.Body.TheBlock.{hidden-the_row-Attr-0, shape-the_row-Attr-0, shown-the_row-Attr-0}
+use Rattle.class_model.specs.declared.attribute.Body.TheViews.{roll-Code, out-Body, out-Code}
+use Rattle.std.specs.Char.Utf16.{utf16_chars}
+use Rattle.codec_rules.specs.Input.{IsBytes}
+use Rattle.codec_rules.specs.Reading.{many_at, whole_at}
+use Rattle.class_reader.specs.Reading.{magic_at, major_at, member_at, counted_at, class_at, class_of_file}
+use Rattle.class_reader.specs.Spells.{Spells}
+use Rattle.class_reader.specs.SpellingLaws.{ReadIsSpelled}
+use Rattle.class_writer.specs.Writing.{HasClassForm, SpelledIsWritten}
+use Rattle.mt_pool.specs.Whole.{pool_at}
+use Rattle.mt_pool.specs.Reading.{places_at, place_at, entry_at, text_at, one_at, double_at, float_at, handle_at, handle_kind_at, integer_at, long_at, two_at, u8_at}
+use Rattle.mt_attrs.specs.Item.{many_by}
+use Rattle.mt_attrs.specs.Attributes.{attr_at}
+use Rattle.mt_attrs.specs.CodeParts.{code_content_at, table_at}
+use Rattle.mt_attrs.specs.Frames.{far_at, frame_at, full_at, one_at as frame_one_at, same_at, vitem_at}
+use Rattle.mt_attrs.specs.Lines.{line_at}
+use Rattle.mt_attrs.specs.Notes.{enum_at, front_at, note_at, token_at, tokens_at}
+use Rattle.mt_attrs.specs.Rows.{row_at}
+use Rattle.mt_insn.specs.Reading.{insn_at, formed_at, wide_at}
+use Rattle.mt_insn.specs.Operands.{jump_at, array_at, constant_at, dimensions_at, far_jump_at, increment_at, interface_at, local_at, long_constant_at, lookup_at, lookup_body_at, named_at, pair_at, refused_at, small_constant_at, small_number_at, table_at as operand_table_at, table_items_at, wide_increment_at, wide_local_at, wide_number_at}
+use denote.Hole.Carrier.{hidden, out, roll, shown}
+use Rattle.program_rules.specs.Names.{Name, same, object_name, is_listed}
+use Rattle.program_rules.specs.Linked.{parents_of}
+use Rattle.program_rules.specs.Programs.{supers}
+use Rattle.machine_rules.specs.declared.machine.Outcome.TheVariants.{Passed}
+use Rattle.machine_rules.specs.Runs.{With}
+use Rattle.machine_rules.specs.Worked.{roomy}
+use Rattle.machine_laws.specs.FrameLaw.{HasEnded}
+use Rattle.machine_so_far.specs.Steps.{act, step_so_far}
+use Rattle.class_link.specs.Info.{Info, IsInfo}
+use Rattle.class_link.specs.Linking.{link, link_library}
+use Rattle.class_link.specs.Opcodes.{instruction_by}
+use Rattle.class_link.specs.View.{instruction_of, linked_of}
+use Rattle.class_order.specs.Supers.{is_super_missing, lacks_superclass}
+use Rattle.class_order.specs.Ranks.{HasRanks}
+use Rattle.class_table.specs.Table.{look, class_at as class_of_number, names, AreDistinct, IsProgram}
+use Rattle.mutator_ops.specs.Laws.{IsMutant}
+use Rattle.mutator_ops.specs.Mutants.{class_mutants}
+use Rattle.mutator_ops.specs.declared.mutant.Mutant.{Mutant}
+use Rattle.mutant_apply.specs.Fitting.{Fits}
+use Rattle.mutant_apply.specs.Laws.{MutantsFit}
+use Rattle.apply_laws.specs.Witness.{sample_file}
+use Rattle.mutant_runs.specs.Programs.{files_of, edited, IsMutantOf}
+use Rattle.mutant_runs.specs.Runs.{reaches}
+use Rattle.mutant_laws.specs.Edited.{is_int_jump}
+use Rattle.mutant_laws.specs.Covered.{original_run}
+use Rattle.mutant_laws.specs.Witness.{a_jumping, t_class, t_file, a_info, t_info, object_info, sample_program, sample_mutant, sample_mutated, neg_test, idle_test, IsSpelled, PremisesAreMet}
+use Rattle.mutant_laws.proofs.Premises.{listed_are_mutated}
+
+-- ---- the class files, each definition of the reading opened
+
+and_first : (x y : Bool) → (x && y) ≡ true → x ≡ true
+and_first true y e = refl
+and_first false y e = absurd cc
+
+and_second : (x y : Bool) → (x && y) ≡ true → y ≡ true
+and_second true y e = e
+and_second false y e = absurd cc
+
+bytes_are : (xs : List ℕ) → list_all (λ b. nat_lt b 256) xs ≡ true → IsBytes xs
+bytes_are [] e i = lit< tt
+bytes_are (x ∷ xs) e zero = ltb-true x 256 (and_first (nat_lt x 256) (list_all (λ b. nat_lt b 256) xs) e)
+bytes_are (x ∷ xs) e (suc i) = bytes_are xs (and_second (nat_lt x 256) (list_all (λ b. nat_lt b 256) xs) e) i
+
+a_read : class_of_file sample_file ≡ Ok (a_jumping 0x9c)
+unfolding class_of_file class_at counted_at member_at major_at magic_at pool_at places_at place_at entry_at text_at one_at double_at float_at handle_at handle_kind_at integer_at long_at two_at u8_at units_within utf16_chars many_at whole_at parameters_at many_by attr_at code_content_at table_at insn_at formed_at wide_at jump_at array_at constant_at dimensions_at far_jump_at increment_at interface_at local_at long_constant_at lookup_at lookup_body_at named_at pair_at refused_at small_constant_at small_number_at operand_table_at table_items_at wide_increment_at wide_local_at wide_number_at hidden-the_row-Attr-0 shape-the_row-Attr-0 shown-the_row-Attr-0 roll-Code far_at frame_at full_at frame_one_at same_at vitem_at line_at enum_at front_at note_at token_at tokens_at row_at hidden roll shown out out-Body out-Code
+a_read = refl
+
+t_read : class_of_file t_file ≡ Ok t_class
+unfolding class_of_file class_at counted_at member_at major_at magic_at pool_at places_at place_at entry_at text_at one_at double_at float_at handle_at handle_kind_at integer_at long_at two_at u8_at units_within utf16_chars many_at whole_at parameters_at many_by attr_at code_content_at table_at insn_at formed_at wide_at jump_at array_at constant_at dimensions_at far_jump_at increment_at interface_at local_at long_constant_at lookup_at lookup_body_at named_at pair_at refused_at small_constant_at small_number_at operand_table_at table_items_at wide_increment_at wide_local_at wide_number_at hidden-the_row-Attr-0 shape-the_row-Attr-0 shown-the_row-Attr-0 roll-Code far_at frame_at full_at frame_one_at same_at vitem_at line_at enum_at front_at note_at token_at tokens_at row_at hidden roll shown out out-Body out-Code
+t_read = refl
+
+a_spelled : ReadIsSpelled → Spells sample_file (a_jumping 0x9c)
+a_spelled read = (read sample_file (a_jumping 0x9c) (bytes_are sample_file refl)).0 a_read
+
+t_spelled : ReadIsSpelled → Spells t_file t_class
+t_spelled read = (read t_file t_class (bytes_are t_file refl)).0 t_read
+
+-- ---- the infos
+
+a_is : IsInfo a_info
+unfolding linked_of link instruction_of instruction_by hidden-the_row-Attr-0 shape-the_row-Attr-0 shown-the_row-Attr-0 roll-Code hidden roll shown out out-Body out-Code parameters_at
+a_is = record { name = refl; linked = refl; entries = refl; few = lit< tt }
+
+t_is : IsInfo t_info
+unfolding linked_of link instruction_of instruction_by hidden-the_row-Attr-0 shape-the_row-Attr-0 shown-the_row-Attr-0 roll-Code hidden roll shown out out-Body out-Code parameters_at
+t_is = record { name = refl; linked = refl; entries = refl; few = lit< tt }
+
+object_is : IsInfo object_info
+unfolding linked_of link_library parameters_at
+object_is = record { name = refl; linked = refl; entries = tt; few = lit< tt }
+
+-- ---- the program
+
+distinct : AreDistinct (names sample_program)
+distinct zero lt = refl
+distinct (suc zero) lt = refl
+distinct (suc (suc zero)) lt = refl
+distinct (suc (suc (suc i))) lt = let few : suc (suc (suc i)) < 3 = lt in absurd (omega (arith, few))
+
+-- a super is missing of the class of a number
+abbrev misses : Name → Option ℕ → Bool
+misses n o =
+    lacks_superclass n (option_and_then (class_of_number sample_program) o) || list_any (λ m. is_none (look sample_program m)) (parents_of (option_and_then (class_of_number sample_program) o))
+
+present_by : (n : Name) (a t o : Bool) → o ≡ same object_name n → misses n (if a then Some 0 else if t then Some 1 else if o then Some 2 else None) ≡ false
+unfolding linked_of
+present_by n true t o e = refl
+present_by n false true o e = refl
+present_by n false false true e = subst (λ m. misses m (Some 2) ≡ false) (same_text object_name n e) refl
+present_by n false false false e = refl
+
+present : (n : Name) → is_super_missing (look sample_program) n ≡ false
+present n = present_by n (same (codes "A") n) (same (codes "T") n) (same object_name n) refl
+
+-- the supers of the class of a number, where these tell which of the three names it has
+abbrev parents_by : Bool → Bool → Bool → List Name
+parents_by a t o = parents_of (option_and_then (class_of_number sample_program) (if a then Some 0 else if t then Some 1 else if o then Some 2 else None))
+
+few_by : (a t o : Bool) → length (parents_by a t o) < 2 ^ 32
+unfolding linked_of
+few_by true t o = lit< tt
+few_by false true o = lit< tt
+few_by false false true = lit< tt
+few_by false false false = lit< tt
+
+-- Object has none
+under : (m : Name) (b : Bool) → b ≡ same object_name m → (b || false) ≡ true → length (parents_of (look sample_program m)) < 1
+unfolding linked_of
+under m true e l = subst (λ k. length (parents_of (look sample_program k)) < 1) (same_text object_name m e) (lit< tt)
+under m false e l = let no : false ≡ true = l in absurd cc
+
+lower_by : (a t o : Bool) (m : Name) → is_listed m (parents_by a t o) ≡ true → length (parents_of (look sample_program m)) < length (parents_by a t o)
+unfolding linked_of
+lower_by true t o m l = under m (same object_name m) refl l
+lower_by false true o m l = under m (same object_name m) refl l
+lower_by false false true m l = let no : false ≡ true = l in absurd cc
+lower_by false false false m l = let no : false ≡ true = l in absurd cc
+
+ranks : HasRanks (look sample_program)
+ranks = record {
+  rank = λ n. length (parents_of (look sample_program n));
+  few = λ n. few_by (same (codes "A") n) (same (codes "T") n) (same object_name n);
+  lower = λ n m l. lower_by (same (codes "A") n) (same (codes "T") n) (same object_name n) m l;
+}
+
+program : IsProgram sample_program
+program = record { few = lit< tt; distinct = distinct; meant = All-from_recursion IsInfo sample_program (a_is, (t_is, (object_is, tt))); present = present; ranks = ranks }
+
+-- ---- the mutant
+
+found : files_of sample_program sample_mutant.class ≡ Some (a_jumping 0x9c)
+found = refl
+
+mutants_are : class_mutants (a_jumping 0x9c) ≡ sample_mutant ∷ drop 1 (class_mutants (a_jumping 0x9c))
+unfolding parameters_at hidden-the_row-Attr-0 shape-the_row-Attr-0 shown-the_row-Attr-0 roll-Code hidden roll shown out out-Body out-Code
+mutants_are = refl
+
+listed : Contains (class_mutants (a_jumping 0x9c)) sample_mutant
+listed = subst (λ (l : List Mutant). Contains l sample_mutant) (sym mutants_are) (0, omega arith, refl)
+
+made : edited (files_of sample_program) (look sample_program) sample_mutant ≡ Some sample_mutated
+unfolding parameters_at hidden-the_row-Attr-0 shape-the_row-Attr-0 shown-the_row-Attr-0 roll-Code hidden roll shown out out-Body out-Code
+made = refl
+
+mutant : IsMutant (a_jumping 0x9c) sample_mutant
+unfolding parameters_at hidden-the_row-Attr-0 shape-the_row-Attr-0 shown-the_row-Attr-0 roll-Code hidden roll shown out out-Body out-Code
+mutant = record { real = refl; member = _; declared = refl; kept = refl; code = _; coded = refl; insn = _; stands = refl; listed = (0, lit< tt, refl); change = _; applies = refl; is = refl }
+
+jumps : is_int_jump mutant.insn.op ≡ true
+unfolding mutant parameters_at hidden-the_row-Attr-0 shape-the_row-Attr-0 shown-the_row-Attr-0 roll-Code hidden roll shown out out-Body out-Code
+jumps = refl
+
+-- ---- the runs
+
+neg_passed : (original_run sample_program neg_test roomy 1000000000).ending ≡ With Passed
+unfolding supers act step_so_far linked_of instruction_of
+neg_passed = refl
+
+idle_passed : (original_run sample_program idle_test roomy 1000000000).ending ≡ With Passed
+unfolding supers act step_so_far linked_of instruction_of
+idle_passed = refl
+
+neg_reaches : reaches sample_mutant (original_run sample_program neg_test roomy 1000000000) ≡ true
+unfolding supers act step_so_far linked_of instruction_of
+neg_reaches = refl
+
+idle_misses : reaches sample_mutant (original_run sample_program idle_test roomy 1000000000) ≡ false
+unfolding supers act step_so_far linked_of instruction_of
+idle_misses = refl
+
+-- ---- the premises
+
+pub premises_are_met : ReadIsSpelled → SpelledIsWritten → MutantsFit → PremisesAreMet
+premises_are_met read written fit =
+    let spelled = a_spelled read in
+    let form : HasClassForm (a_jumping 0x9c) = (written sample_file (a_jumping 0x9c) spelled).0 in
+    let fits = subst (λ (m : Mutant). Fits (a_jumping 0x9c) m.edit) listed.2 (fit (a_jumping 0x9c) form listed.0 sample_mutant listed.1) in
+    let of : IsMutantOf (files_of sample_program) sample_mutant = (form, fits, spelled.form) in
+    record {
+      program = program;
+      spelled = All-from_recursion (λ (i : Info). IsSpelled i.body) sample_program (spelled, (t_spelled read, (tt, tt)));
+      of = of;
+      found = found;
+      listed = listed;
+      made = made;
+      mutated = listed_are_mutated sample_program sample_mutant sample_mutated (a_jumping 0x9c) program of found listed made;
+      mutant = mutant;
+      jumps = jumps;
+      puts = refl;
+      passed = All-from_recursion (λ t. (original_run sample_program t roomy 1000000000).ending ≡ With Passed) (neg_test ∷ idle_test ∷ []) (neg_passed, (idle_passed, tt));
+      reaching_ended = subst HasEnded (sym neg_passed) tt;
+      missing_ended = subst HasEnded (sym idle_passed) tt;
+      reached = neg_reaches;
+      missed = idle_misses;
+    }
