@@ -5,3 +5,7 @@ mod Searched
 mod Choosing
 mod Resolving
 mod Selecting
+mod Overrides
+mod Packages
+mod Reaching
+mod Virtual

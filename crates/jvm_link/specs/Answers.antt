@@ -1,5 +1,5 @@
 -- What resolution and selection of methods answer, by number.
-use Rattle.std.specs.Prelude.{◌≡◌, ℕ, Bool, List, Option, Some, Result, Ok, Err}
+use Rattle.std.specs.Prelude.{◌≡◌, ◌<◌, ℕ, Bool, ⊤, List, Option, Some, Result, Ok, Err, length}
 use Rattle.program_rules.specs.Names.{is_array_name}
 use Rattle.program_rules.specs.declared.fault.Fault.{Fault}
 use Rattle.program_rules.specs.Faults.{Answer, Found, Fails}
@@ -7,7 +7,7 @@ use Rattle.program_rules.specs.Instructions.{MethodRef}
 use Rattle.program_rules.specs.Outlines.{is_interface_class}
 use Rattle.program_rules.specs.Programs.{family}
 use Rattle.program_rules.specs.Resolution.{same_bool, MethodAt, Candidate, clone_method, declared_method, resolve_method, found_or_none, own_initializer, search_interfaces, search_method, candidates, most_specific_concrete}
-use Rattle.program_rules.specs.Selection.{if_virtual, first_through, the_one, select_named}
+use Rattle.program_rules.specs.Selection.{if_virtual, first_through, the_one, select_named, select_virtual}
 use Rattle.class_link.specs.declared.linked.MethodRef as code
 use Rattle.class_link.specs.View.{method_ref_of}
 use Rattle.class_link.specs.Info.{Info}
@@ -76,6 +76,18 @@ SelectsAbove p a array r =
 -- An object of this class, or an array of it, selects this by name and descriptor.
 abbrev pub SelectsNamed : List Info → ℕ → Bool → MethodRef → Result Callee Fault → Type 0
 SelectsNamed p a array r = AnswersCall p (select_named r (family_at p a array))
+
+-- The class of a method is one of the program.
+abbrev pub HasCallee : List Info → Callee → Type 0
+HasCallee p (Method s) = s.class.0 < length p
+HasCallee p ArrayClone = ⊤
+
+-- An object of this class, or an array of it, selects this of a method that was resolved.
+abbrev pub SelectsOf :
+    List Info → ℕ → Bool → MethodRef → Callee → Result Callee Fault → Type 0
+SelectsOf p a array r callee answer =
+    (m : MethodAt) → IsCallee p m callee →
+    AnswersCall p (select_virtual r m (family_at p a array)) answer
 
 -- What a search answers that may have found a method.
 abbrev pub AnswersFound : Option Site → Result Callee Fault → Type 0

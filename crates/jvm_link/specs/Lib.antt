@@ -1,3 +1,4 @@
 pub mod Sites
 pub mod Candidates
+pub mod Overriding
 pub mod Answers

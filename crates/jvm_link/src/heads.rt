@@ -2,7 +2,7 @@
 #![tactic(auto, unfolding(class_link::specs::View::linked_of))]
 
 ghost use Rattle.std.specs.Prelude.{◌≡◌, ◌<◌, length, slice_get, Some};
-ghost use Rattle.program_rules.specs.Linked.{is_interface, is_static, is_private, is_abstract};
+ghost use Rattle.program_rules.specs.Linked.{is_interface, is_static, is_private, is_open, is_abstract};
 ghost use Rattle.program_rules.specs.Outlines.{Head, is_interface_class, is_abstractly};
 ghost use Rattle.class_link.specs.Info.{class_of};
 ghost use Rattle.class_link.specs.declared.linked.LinkedMethod.{LinkedMethod};
@@ -39,6 +39,13 @@ pub fn is_static(flags: u16) -> bool
     ensures { result ≡ is_static flags }
 {
     flags / 8 % 2 == 1
+}
+
+/// Bits 0 and 2 are ACC_PUBLIC and ACC_PROTECTED (JVMS 4.6).
+pub fn is_open(flags: u16) -> bool
+    ensures { result ≡ is_open flags }
+{
+    flags % 2 == 1 || flags / 4 % 2 == 1
 }
 
 fn flags_in(methods: &[LinkedMethod], place: usize) -> u16

@@ -29,8 +29,8 @@ pub struct Choice {
     pub first: Option<Site>,
 }
 
-// Whether a method is neither private nor static.
-fn can_choose(flags: u16) -> bool
+/// Whether a method is neither private nor static.
+pub fn can_choose(flags: u16) -> bool
     ensures { result ≡ can_choose flags }
 {
     !(is_private(flags) || is_static(flags))

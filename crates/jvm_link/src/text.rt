@@ -1,7 +1,9 @@
 //! What the name of a class says.
 
 ghost use Rattle.std.specs.Prelude.{◌≡◌};
-ghost use Rattle.program_rules.specs.Names.{same, is_array_name};
+ghost use Rattle.program_rules.specs.Names.{same, is_array_name, package_of};
+
+const SLASH: u16 = b'/' as u16;
 
 /// Whether a name is an array's descriptor (JVMS 4.4.1).
 pub fn is_array_name(name: &[u16]) -> bool
@@ -23,4 +25,25 @@ pub fn is_text(name: &[u16], text: &[u8]) -> bool
         ([], [_, ..]) => false,
         ([_, ..], []) => false,
     }
+}
+
+// The package of a class: what stands before the last `/` of its name (JVMS 5.3).
+fn package(name: &[u16]) -> &[u16]
+    ensures { result.now ≡ package_of name.now }
+{
+    let mut end = name.len();
+    while end > 0 {
+        end -= 1;
+        if name[end] == SLASH {
+            return &name[..end];
+        }
+    }
+    &name[..0]
+}
+
+/// Whether two classes are of one package, by their names.
+pub fn same_package(one: &[u16], other: &[u16]) -> bool
+    ensures { result ≡ same (package_of one.now) (package_of other.now) }
+{
+    package(one) == package(other)
 }
