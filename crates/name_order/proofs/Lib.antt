@@ -1,2 +1,3 @@
 mod Members
 mod OrderedLaws
+pub mod Seen

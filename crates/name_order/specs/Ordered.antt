@@ -10,6 +10,10 @@ use Rattle.std.specs.Ordering.{nat_cmp}
 abbrev pub ordered : {X : Type 0} → List (List ℕ × X) → List (List ℕ × X)
 ordered es = fold (λ kept e. insert_entry (slice_cmp nat_cmp) kept e.0 e.1) [] es
 
+-- A member, with what has the name seen in another way.
+abbrev pub seen : {X Y : Type 0} → (X → Y) → List ℕ × X → List ℕ × Y
+seen see e = (e.0, see e.1)
+
 -- Each name is below those of the members behind it.
 abbrev pub OrderedAscend : Type 0 → Type 0
 OrderedAscend X = (es : List (List ℕ × X)) → IsStrictlySortedBy (slice_cmp nat_cmp) (keys_of (ordered es))
