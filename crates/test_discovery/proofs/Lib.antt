@@ -3,3 +3,4 @@ mod Cut
 mod Lists
 mod First
 mod Whole
+mod Counts

@@ -19,5 +19,5 @@ mod script;
 mod search;
 
 pub use fault::{Rule, TestFault};
-pub use plain::class_tests;
+pub use plain::{class_tests, count_class_tests};
 pub use search::tests;

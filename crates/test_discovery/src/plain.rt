@@ -1,6 +1,6 @@
 //! The plain tests of a class. They go once nobody asks for them.
 
-ghost use Rattle.std.specs.Prelude.{◌≡◌, ◌++◌, IfOk, OnOk};
+ghost use Rattle.std.specs.Prelude.{◌≡◌, ◌++◌, length, count_by, IfOk, OnOk};
 ghost use Rattle.std.specs.List.{list_any};
 ghost use Rattle.test_discovery.specs.Tests.{is_test, is_plain_constructor, test_of, method_tests, tests_among, class_tests};
 
@@ -109,4 +109,26 @@ pub fn class_tests(alloc: Global, class: &Class) -> Result<Seq<Test>, Memory>
         push_methods_tests(alloc, &mut tests, pool, &name, methods)?;
     }
     Ok(tests)
+}
+
+fn count_tests(pool: &[Const], methods: &[Member]) -> usize
+    ensures { result ≡ count_by (is_test pool.now) methods.now }
+{
+    methods
+        .iter()
+        .filter(|member| is_test(pool, member))
+        .count()
+}
+
+/// How many tests a class has. None is made.
+#[tactic(auto, using(crate::proofs::Counts::some_counted, crate::proofs::Counts::none_counted))]
+pub fn count_class_tests(class: &Class) -> usize
+    ensures { result ≡ length (class_tests class.now) }
+{
+    let pool = class.pool.as_slice();
+    let methods = class.methods.as_slice();
+    if has_plain_constructor(pool, methods) {
+        return count_tests(pool, methods);
+    }
+    0
 }
