@@ -1,6 +1,7 @@
 //! The program: its words, the real files and the real output are handed to the top call, whose status is the exit status.
 #![tactic(auto)]
 
+use class_model::Memory;
 use mt_edge::{HostSink, HostTree, Meter};
 use mutest_engine::{Status, run};
 use std::env;
@@ -9,7 +10,7 @@ use std::io::ErrorKind;
 use std::process::ExitCode;
 
 // The words behind the program's name. Words that are no text count as no words, which no command has.
-fn words(rt: &(impl Env + AllocGlobal)) -> Result<Vec<String>, Status> {
+fn words(rt: &(impl Env + AllocGlobal)) -> Result<Vec<String>, Memory> {
     let mut words = Vec::new(rt.alloc());
     match env::args(rt) {
         Ok(args) => {
@@ -18,7 +19,7 @@ fn words(rt: &(impl Env + AllocGlobal)) -> Result<Vec<String>, Status> {
             }
             Ok(words)
         }
-        Err(error) if error.kind() == ErrorKind::OutOfMemory => Err(Status::WantOfMemory),
+        Err(error) if error.kind() == ErrorKind::OutOfMemory => Err(Memory),
         Err(_) => Ok(words),
     }
 }
@@ -29,7 +30,7 @@ fn main(rt: HostRuntime) -> ExitCode {
     let mut meter = Meter::new();
     let status = match words(&rt) {
         Ok(words) => run(rt.alloc(), &words, &mut tree, &mut out, &mut meter),
-        Err(status) => status,
+        Err(Memory) => Status::WantOfMemory,
     };
     ExitCode::from(status.code())
 }

@@ -22,7 +22,7 @@ use Rattle.mutest_engine.specs.Refusals.{refusal_line, MayRefuse}
 use Rattle.mutest_engine.specs.Ends.{line_of, status_of, unwritten_status, IsToldAs, IsReplaced, IsSome, CarriedOut, TextEnds, Agrees, MayEnd, AgreesUntold, HaltsUntold, AnswersUntold, Finished, ReadsFailed, WritesFailed, PutsFailed, MeterRose, MeterStays, HaltRose, HaltStays, AnswerMeters, Got, Broken, BrokenOff, HalfTold, Interrupted, Prints, Allows, written, all_written, Stopped, Partly, LeavesWrites, FailsWriting, FilesAfter, writes_in}
 use Rattle.mutest_engine.specs.declared.stop.Stop.{Stop}
 use Rattle.mutest_engine.specs.Steps.{FailsReading, ReadsBy, Refuses, IsHaltOf}
-use Rattle.mutest_engine.specs.Words.{Command, list_class, run_suite, assemble_class}
+use Rattle.mutest_words.specs.Words.{Command, list_class, run_suite, assemble_class}
 use Rattle.mutest_engine.specs.Answers.{Answered, Write, write_of, answered}
 use Rattle.mutest_engine.specs.Decided.{CanAnswer, CanState}
 use Rattle.mutest_engine.proofs.OriginalLaws.{drop_at}

@@ -1,8 +1,9 @@
 -- What the runs on the program of a suite say of the suite.
-use Rattle.std.proofs.Common.{◌≡◌, ◌∙◌, ℕ, suc, ◌+◌, ◌≤◌, List, [], ◌∷◌, ◌++◌, length, Result, Ok, Err, refl, sym, ap, subst, arith}
+use Rattle.std.proofs.Common.{◌≡◌, ◌∙◌, ℕ, suc, ◌+◌, ◌≤◌, Bool, true, false, ltb, List, [], ◌∷◌, ◌++◌, length, Result, Ok, Err, refl, sym, ap, subst, arith}
+use Rattle.std.proofs.lemmas.Bool.{ltb-false, le-ltb}
 use Rattle.std.proofs.lemmas.List.{length-append}
 use Rattle.class_link.specs.Info.{Info}
-use Rattle.std.specs.Prelude.{All}
+use Rattle.std.specs.Prelude.{All, if◌then◌else◌}
 use Rattle.program_rules.specs.Programs.{Look}
 use Rattle.class_table.specs.declared.scripted.Test.{Test}
 use Rattle.mutator_ops.specs.declared.mutant.Mutant.{Mutant}
@@ -13,20 +14,38 @@ use Rattle.mutant_runs.specs.Programs.{ClassFiles, IsMutantOf}
 use Rattle.report_schema.specs.declared.input.ReportInput.{ReportInput}
 use Rattle.mutest_engine.specs.SuiteFiles.{IsFormed}
 use Rattle.mutest_engine.specs.Steps.{and_then}
-use Rattle.mutest_engine.specs.Originals.{all_classes, classes_in, program_of, accepted, tests_of, tests_among, few_tests, green}
-use Rattle.mutest_engine.specs.Mutation.{class_file, suite_files, program, mutants_of, numbers_from, AreNumbered, AreFirstMutants, linked, judged, suite_steps, few_mutants, few, verdicts_by, green_verdicts, input_of, if_so, all_steps, tested, tested_steps, Stays}
+use Rattle.mutest_engine.specs.Originals.{all_classes, classes_in, program_of, accepted, tests_of, tests_among, few_tests, few_of, green}
+use Rattle.mutest_engine.specs.Mutation.{class_file, suite_files, program, mutants_of, numbers_from, AreNumbered, AreFirstMutants, linked, judged, suite_steps, few_mutants, HasTooMany, few, verdicts_by, green_verdicts, input_of, if_so, all_steps, tested, tested_steps, Stays}
 use Rattle.mutest_engine.specs.declared.suite.LoadedSuite.{LoadedSuite}
+use Rattle.mutest_engine.specs.declared.refusal.Limit.TheVariants as limit
 use Rattle.mutest_engine.specs.declared.refusal.Refusal.{Refusal}
+use Rattle.mutest_engine.specs.declared.refusal.Refusal.TheVariants.{TooMany}
+use Rattle.mutest_engine.specs.declared.stop.Stop.TheVariants as stop
 use Rattle.mutest_engine.proofs.FitLaws.{all_fit, classes_both}
 use Rattle.mutest_engine.proofs.NumberLaws.{first_mutants}
 use Rattle.mutest_engine.proofs.RefusalLaws.{of_green}
 
--- The tests and the mutants are few enough, by what the code found of their counts.
-pub is_few : (ts : List Test) (ms : List Mutant) (n m : ℕ) (u v : Unit {0}) → Ok u ≡ few_tests n → n ≡ length ts → Ok v ≡ few_mutants m → m ≡ length ms → few ts ms ≡ Ok tt
-is_few ts ms n m u v tests len mutants len' =
-    let one : few_tests (length ts) ≡ Ok tt = ap few_tests (sym len) ∙ sym tests in
-    let other : few_mutants (length ms) ≡ Ok tt = ap few_mutants (sym len') ∙ sym mutants in
-    ap (λ x. and_then x (λ ok. few_mutants (length ms))) one ∙ other
+abbrev within : Refusal → Bool → Result (Unit {0}) Refusal
+within r t = if t then Err r else Ok tt
+
+bounded : (limit n : ℕ) (r : Refusal) (t : Bool) → ltb limit n ≡ t → within r t ≡ Ok tt → n ≤ limit
+bounded limit n r true e h = absurd cc
+bounded limit n r false e h = ltb-false limit n e
+
+-- Tests and mutants are few enough.
+pub few_is : (ts : List Test) (ms : List Mutant) → length ts ≤ 65535 → length ms ≤ 262144 → few ts ms ≡ Ok tt
+few_is ts ms tests mutants =
+    ap (λ t. and_then (within (TooMany limit.Tests 65536) t) (λ ok. few_mutants (length ms))) (le-ltb 65535 (length ts) tests)
+    ∙ ap (within (TooMany limit.Mutants 262145)) (le-ltb 262144 (length ms) mutants)
+
+-- What the code found of tests: they are few enough, or they are refused.
+few_found : (ts found : List Test) (x : Result (Unit {0}) Refusal) → Ok found ≡ and_then x (λ ok. Ok ts) → (x ≡ Ok tt) × (found ≡ ts)
+few_found ts found (Ok u) is = (refl, cc)
+few_found ts found (Err r) is = absurd cc
+
+many_found : (ts : List Test) (r : Refusal) (x : Result (Unit {0}) Refusal) → Err r ≡ and_then x (λ ok. Ok ts) → x ≡ Err r
+many_found ts r (Ok u) is = absurd cc
+many_found ts r (Err q) is = cc
 
 tested_is : (files : ClassFiles) (p : Look) (ts : List Test) (ms : List Mutant) → few ts ms ≡ Ok tt → tested files p ts ms ≡ and_then (green p ts) (λ ok. Ok (input_of ts ms (verdicts_by files p ts ms)))
 unfolding tested
@@ -95,15 +114,69 @@ enough s p all count is len many =
     omega (arith, more, sum, len, many)
 
 -- What the code found, piece by piece.
-pub is_linked : (s : LoadedSuite) (files : ClassFiles) (p : Look) (all tests : List Loaded) (ts : List Test) (ms : List Mutant) → accepted (classes_in all) ≡ Ok tt → files ≡ class_file (classes_in all)
-    → p ≡ program_of (classes_in all) → all ≡ all_classes s → tests ≡ s.tests → ts ≡ tests_among (classes_in tests) → ms ≡ mutants_of s → IsLinked s files p ts ms
-is_linked s files p all tests ts ms acc fs look is is_tests t m = record {
+pub is_linked : (s : LoadedSuite) (files : ClassFiles) (p : Look) (all : List Loaded) (ts : List Test) (ms : List Mutant) → accepted (classes_in all) ≡ Ok tt → files ≡ class_file (classes_in all)
+    → p ≡ program_of (classes_in all) → all ≡ all_classes s → ts ≡ tests_of s → ms ≡ mutants_of s → IsLinked s files p ts ms
+is_linked s files p all ts ms acc fs look is t m = record {
   asked = ap (λ l. accepted (classes_in l)) (sym is) ∙ acc;
   by_file = fs ∙ ap (λ l. class_file (classes_in l)) is;
   by_name = look ∙ ap (λ l. program_of (classes_in l)) is;
-  of_tests = t ∙ ap (λ l. tests_among (classes_in l)) is_tests;
+  of_tests = t;
   of_mutants = m;
 }
+
+-- The tests of the tests folder are those that were found, and few.
+pub tests_are : (s : LoadedSuite) (tests : List Loaded) (ts : List Test) → tests ≡ s.tests → Ok ts ≡ few_of (tests_among (classes_in tests)) → (ts ≡ tests_of s) × (length ts ≤ 65535)
+tests_are s tests ts is found =
+    let parts = few_found (tests_among (classes_in tests)) ts (few_tests (length (tests_among (classes_in tests)))) found in (
+      parts.1 ∙ ap (λ l. tests_among (classes_in l)) is,
+      subst (λ (l : List Test). length l ≤ 65535) (sym parts.1) (bounded 65535 (length (tests_among (classes_in tests))) (TooMany limit.Tests 65536) (ltb 65535 (length (tests_among (classes_in tests)))) refl parts.0),
+    )
+
+pub mutants_few : (ms : List Mutant) → few_mutants (length ms) ≡ Ok tt → length ms ≤ 262144
+mutants_few ms few = bounded 262144 (length ms) (TooMany limit.Mutants 262145) (ltb 262144 (length ms)) refl few
+
+-- Too many tests or mutants are told before a run.
+pub record IsRefused (s : LoadedSuite) (r : Refusal) : Type 0 where
+  pub stated : judged s ≡ Err r
+  pub unrun : suite_steps s ≡ 0
+
+tested_refused_by : (files : ClassFiles) (p : Look) (ts : List Test) (ms : List Mutant) (r : Refusal) → few ts ms ≡ Err r → tested files p ts ms ≡ Err r
+unfolding tested
+tested_refused_by files p ts ms r h = ap (λ x. and_then x (λ ok. and_then (green p ts) (λ ok. Ok (input_of ts ms (verdicts_by files p ts ms))))) h
+
+none_run : (files : ClassFiles) (p : Look) (ts : List Test) (ms : List Mutant) (r : Refusal) → few ts ms ≡ Err r → tested_steps files p ts ms ≡ 0
+unfolding tested_steps
+none_run files p ts ms r h = ap (λ x. if_so x (all_steps files p ts ms)) h
+
+few_refused : (s : LoadedSuite) (r : Refusal) → linked s ≡ Ok tt → few (tests_of s) (mutants_of s) ≡ Err r → IsRefused s r
+few_refused s r ok h = record {
+  stated = ap (λ x. and_then x (λ ok. tested (suite_files s) (program s) (tests_of s) (mutants_of s))) ok ∙ tested_refused_by (suite_files s) (program s) (tests_of s) (mutants_of s) r h;
+  unrun = ap (λ x. if_so x (tested_steps (suite_files s) (program s) (tests_of s) (mutants_of s))) ok ∙ none_run (suite_files s) (program s) (tests_of s) (mutants_of s) r h;
+}
+
+-- the same by the refusal that the code has
+pub stated_as : (s : LoadedSuite) (r told : Refusal) → IsRefused s r → stop.Refused r ≡ stop.Refused told → judged s ≡ Err told
+stated_as s r told h is = let same : r ≡ told = cc in h.stated ∙ ap (λ x. Err x) same
+
+pub counts_none : (s : LoadedSuite) (r : Refusal) (n : ℕ) → IsRefused s r → n ≡ n + suite_steps s
+counts_none s r n h = let none = h.unrun in omega (arith, none)
+
+is_program : (s : LoadedSuite) (all : List Loaded) → accepted (classes_in all) ≡ Ok tt → all ≡ all_classes s → linked s ≡ Ok tt
+is_program s all acc is = ap (λ l. accepted (classes_in l)) (sym is) ∙ acc
+
+pub tests_refused : (s : LoadedSuite) (all tests : List Loaded) (r : Refusal) → accepted (classes_in all) ≡ Ok tt → all ≡ all_classes s → tests ≡ s.tests → Err r ≡ few_of (tests_among (classes_in tests)) → IsRefused s r
+tests_refused s all tests r acc is is_tests found =
+    let many = many_found (tests_among (classes_in tests)) r (few_tests (length (tests_among (classes_in tests)))) found in
+    let own : few_tests (length (tests_of s)) ≡ Err r = ap (λ l. few_tests (length (tests_among (classes_in l)))) (sym is_tests) ∙ many in
+    few_refused s r (is_program s all acc is) (ap (λ x. and_then x (λ ok. few_mutants (length (mutants_of s)))) own)
+
+pub mutants_refused : (s : LoadedSuite) (p : List Info) (all tests : List Loaded) (ts : List Test) (count : ℕ) (r : Refusal) → accepted (classes_in all) ≡ Ok tt → all ≡ all_classes s → tests ≡ s.tests
+    → Ok ts ≡ few_of (tests_among (classes_in tests)) → AreNumbered p (classes_in all) → count ≡ length s.classes → HasTooMany p count r → IsRefused s r
+mutants_refused s p all tests ts count r acc is is_tests found numbered len many =
+    let parts = few_found (tests_among (classes_in tests)) ts (few_tests (length (tests_among (classes_in tests)))) found in
+    let own : few_tests (length (tests_of s)) ≡ Ok tt = ap (λ l. few_tests (length (tests_among (classes_in l)))) (sym is_tests) ∙ parts.0 in
+    let ms : many.0 ≡ mutants_of s = mutants_are s p all count many.0 numbered is len many.1 in
+    few_refused s r (is_program s all acc is) (ap (λ x. and_then x (λ ok. few_mutants (length (mutants_of s)))) own ∙ ap (λ l. few_mutants (length l)) (sym ms) ∙ many.2)
 
 pub fit_of : MutantsFit → (s : LoadedSuite) (files : ClassFiles) (p : Look) (ts : List Test) (ms : List Mutant) → IsFormed s → IsLinked s files p ts ms → All (IsMutantOf files) ms
 fit_of fit s files p ts ms formed h =

@@ -1,5 +1,7 @@
 mod AcceptedLaws
 mod AsmLaws
+mod ClassLaws
+mod CountLaws
 mod DuplicateLaws
 mod Ends
 mod FaultLaws
@@ -13,4 +15,3 @@ mod RefusalLaws
 mod StepLaws
 mod SuiteLaws
 mod SuperLaws
-mod WordLaws

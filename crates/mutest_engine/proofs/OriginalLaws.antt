@@ -1,5 +1,8 @@
 -- The original runs one after the other, as a loop does, and their steps.
-use Rattle.std.proofs.Common.{◌≡◌, ◌∙◌, ℕ, zero, suc, ◌+◌, ◌*◌, ◌<◌, ◌≤◌, List, [], ◌∷◌, length, drop, get_or, Err, refl, sym, ap, arith}
+use Rattle.std.proofs.Common.{◌≡◌, ◌∙◌, ℕ, zero, suc, ◌+◌, ◌*◌, ◌<◌, ◌≤◌, List, [], ◌∷◌, ◌++◌, length, drop, get_or, Option, None, Some, Result, Ok, Err, refl, sym, ap, append_assoc, arith}
+use Rattle.std.proofs.lemmas.List.{append-nil}
+use Rattle.codec_rules.specs.Reading.{with_values}
+use Rattle.machine_rules.specs.declared.machine.Outcome.{Outcome}
 use Rattle.machine_rules.specs.declared.machine.Outcome.TheVariants as outcome
 use Rattle.machine_rules.specs.declared.machine.Limits.{Limits}
 use Rattle.program_rules.specs.Programs.{Look}
@@ -10,7 +13,8 @@ use Rattle.machine_rules.specs.Runs.{Ending, With, StuckAt, Ran, then_run}
 use Rattle.machine_so_far.specs.Runs.{run_so_far_from, run_so_far}
 use Rattle.class_table.specs.declared.scripted.Test.{Test}
 use Rattle.jvm_step.specs.View.{test_of}
-use Rattle.mutest_engine.specs.Originals.{usual, original_run, settled, unless_stuck, steps_made}
+use Rattle.mutest_engine.specs.Steps.{and_then}
+use Rattle.mutest_engine.specs.Originals.{usual, original_run, run_ending, run_steps, settled, run_settled, with_first, all_settled, unless_stuck, steps_made}
 use Rattle.mutest_engine.specs.declared.refusal.Refusal.{Refusal}
 
 -- ---- one run
@@ -57,12 +61,55 @@ stuck_steps t (With outcome.TimedOut) s n h = absurd cc
 stuck_steps t (With outcome.MemoryOut) s n h = absurd cc
 stuck_steps t (StuckAt place) s n h = refl
 
--- ---- where a run ends all
+-- ---- one run more, and where a run ends all
+
+abbrev Told : Type 0
+Told = List ℕ × Outcome
 
 pub drop_at : {X : Type 0} (ts : List X) (i : ℕ) (t : X) → i < length ts → t ≡ get_or ts i t → drop i ts ≡ t ∷ drop (suc i) ts
 drop_at [] i t lt e = absurd (omega (arith, lt))
 drop_at (x ∷ ts) zero t lt e = ap (λ z. z ∷ ts) (sym e)
 drop_at (x ∷ ts) (suc i) t lt e = drop_at ts i t (omega (arith, lt)) e
+
+at_item : (p : Look) (ts : List Test) (i : ℕ) (t : Test) → i < length ts → t ≡ get_or ts i t → drop i ts ≡ t ∷ drop (i + 1) ts
+at_item p ts i t lt e = let next : suc i ≡ i + 1 = omega arith in drop_at ts i t lt e ∙ ap (λ k. t ∷ drop k ts) next
+
+-- One more run, whose test isn't stuck.
+noted : (old : List Told) (ended : Option Told) (others : List Told) → old ++ with_first ended others ≡ (old ++ with_first ended []) ++ others
+noted old None others = ap (λ l. l ++ others) (sym (append-nil old))
+noted old (Some x) others = sym (append_assoc old (x ∷ []) others)
+
+told_by : (old : List Told) (ended : Option Told) (r : Result (List Told) Refusal) → with_values old (and_then r (λ others. Ok (with_first ended others))) ≡ with_values (old ++ with_first ended []) r
+told_by old ended (Ok others) = ap (λ l. Ok l) (noted old ended others)
+told_by old ended (Err q) = refl
+
+pub told_more : (p : Look) (ts : List Test) (i : ℕ) (t : Test) (old new : List Told) (ended : Option Told) (all : Result (List Told) Refusal) → i < length ts → t ≡ get_or ts i t
+    → new ≡ old ++ with_first ended [] → run_settled p t ≡ Ok ended → with_values old (all_settled p (drop i ts)) ≡ all → with_values new (all_settled p (drop (i + 1) ts)) ≡ all
+told_more p ts i t old new ended all lt e is ok so_far =
+    ap (λ l. with_values l (all_settled p (drop (i + 1) ts))) is
+    ∙ sym (told_by old ended (all_settled p (drop (i + 1) ts)))
+    ∙ ap (λ (x : Result (Option Told) Refusal). with_values old (and_then x (λ first. and_then (all_settled p (drop (i + 1) ts)) (λ others. Ok (with_first first others))))) (sym ok)
+    ∙ ap (λ l. with_values old (all_settled p l)) (sym (at_item p ts i t lt e))
+    ∙ so_far
+
+unstuck : (t : Test) (e : Ending) (o : Option Told) (n : ℕ) → settled t e ≡ Ok o → unless_stuck e n ≡ n
+unstuck t (With outcome) o n h = refl
+unstuck t (StuckAt place) o n h = absurd cc
+
+pub steps_more : (p : Look) (ts : List Test) (i : ℕ) (t : Test) (part new total : ℕ) (ended : Option Told) → i < length ts → t ≡ get_or ts i t → new ≡ part + run_steps p t → run_settled p t ≡ Ok ended
+    → part + steps_made p (drop i ts) ≡ total → new + steps_made p (drop (i + 1) ts) ≡ total
+steps_more p ts i t part new total ended lt e here ok so_far =
+    let whole : part + (run_steps p t + unless_stuck (run_ending p t) (steps_made p (drop (i + 1) ts))) ≡ total = ap (λ l. part + steps_made p l) (sym (at_item p ts i t lt e)) ∙ so_far in
+    let rest = unstuck t (run_ending p t) ended (steps_made p (drop (i + 1) ts)) ok in
+    omega (arith, here, whole, rest)
+
+-- A run that is stuck is told in place of all.
+pub told_end : (p : Look) (ts : List Test) (i : ℕ) (t : Test) (old : List Told) (all : Result (List Told) Refusal) (r : Refusal) → i < length ts → t ≡ get_or ts i t → run_settled p t ≡ Err r
+    → with_values old (all_settled p (drop i ts)) ≡ all → all ≡ Err r
+told_end p ts i t old all r lt e stuck so_far =
+    sym so_far
+    ∙ ap (λ l. with_values old (all_settled p l)) (at_item p ts i t lt e)
+    ∙ ap (λ (x : Result (Option Told) Refusal). with_values old (and_then x (λ first. and_then (all_settled p (drop (i + 1) ts)) (λ others. Ok (with_first first others))))) stuck
 
 -- The steps that are counted where a run ends all.
 pub exact_end : (p : Look) (ts : List Test) (i : ℕ) (t : Test) (part new total : ℕ) (r : Refusal) → i < length ts → t ≡ get_or ts i t → part + steps_made p (drop i ts) ≡ total

@@ -11,13 +11,14 @@ use Rattle.mutator_ops.specs.Printing.{id_lines}
 use Rattle.report_schema.specs.Report.{ReportText}
 use Rattle.report_schema.specs.Summary.{Summary}
 use Rattle.report_schema.specs.declared.input.ReportInput.{ReportInput}
-use Rattle.mutest_engine.specs.Words.{Command, list_class, run_suite, assemble_class, AsmOptions, RunOptions, words_of, run_asked}
+use Rattle.mutest_words.specs.Words.{Command, list_class, run_suite, assemble_class, AsmOptions, RunOptions, run_asked}
+use Rattle.mutest_engine.specs.Words.{words_of}
 use Rattle.mutest_engine.specs.Answers.{Answered, file_of, spelled_class}
 use Rattle.mutest_engine.specs.Refusals.{MayRefuse}
 use Rattle.mutest_engine.specs.Steps.{and_then}
 use Rattle.mutest_engine.specs.SuiteFiles.{suite_of}
 use Rattle.mutest_engine.specs.Mutation.{judged, suite_steps}
-use Rattle.mutest_engine.specs.declared.command.RunOptions.{RunOptions as FoundRun}
+use Rattle.mutest_words.specs.declared.command.RunOptions.{RunOptions as FoundRun}
 use Rattle.mutest_engine.specs.declared.answer.Product.TheVariants.{Report, Assembled}
 use Rattle.mutest_engine.specs.declared.suite.LoadedSuite.{LoadedSuite}
 use Rattle.mutest_engine.specs.declared.refusal.Refusal.{Refusal}

@@ -1,6 +1,6 @@
 -- How a call may end: each status with its number and its line, when it comes, what it leaves in the sink and in the tree, and the meter (this project's own).
 use Rattle.std.specs.Prelude.{◌≡◌, ◌⊎◌, ℕ, ◌+◌, ◌≤◌, List, [], ◌∷◌, Option, IfSome, Result, Ok, Err, MatchResult, ◌++◌, map, option_map, codes}
-use Rattle.mutest_engine.specs.Words.{Command}
+use Rattle.mutest_words.specs.Words.{Command}
 use Rattle.mutest_engine.specs.Answers.{Answered, Write, answered, write_of}
 use Rattle.mutest_engine.specs.Refusals.{MayRefuse, refusal_line, refusal_number}
 use Rattle.mutest_engine.specs.Decided.{CanAnswer, steps_asked, steps_of}
@@ -8,7 +8,7 @@ use Rattle.mutest_engine.specs.Mutation.{Stays}
 use Rattle.mutest_engine.specs.Steps.{Failed, ReadsBy, RefusesReading}
 use Rattle.mt_edge.specs.Files.{Files}
 use Rattle.mutest_engine.specs.declared.answer.Answer.{Answer}
-use Rattle.mutest_engine.specs.declared.command.RunOptions.{RunOptions as FoundRun}
+use Rattle.mutest_words.specs.declared.command.RunOptions.{RunOptions as FoundRun}
 use Rattle.mutest_engine.specs.declared.answer.Product.{Product}
 use Rattle.mutest_engine.specs.declared.refusal.Refusal.{Refusal}
 use Rattle.mutest_engine.specs.declared.status.Output.{Output}

@@ -52,6 +52,11 @@ mutants_of s = mutants_among (classes_in s.classes)
 abbrev pub few_mutants : ℕ → Result (Unit {0}) Refusal
 few_mutants count = if nat_lt 262144 count then Err (TooMany limit.Mutants 262145) else Ok tt
 
+-- The first class files of a program have too many mutants.
+abbrev pub HasTooMany : List Info → ℕ → Refusal → Type 0
+HasTooMany p count r =
+    (ms : List Mutant) × AreFirstMutants p count ms × (few_mutants (length ms) ≡ Err r)
+
 -- ---- every test on every mutant
 
 -- The class file of each name: the first of these classes that has it.

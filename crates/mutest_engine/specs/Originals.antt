@@ -1,9 +1,8 @@
 -- The program of a suite, its tests, and their runs on the program as it is (this project's own).
-use Rattle.std.specs.Prelude.{◌≡◌, ℕ, ◌+◌, nat_lt, MatchOption, List, [], ◌∷◌, ◌++◌, codes, map, fold, Option, Some, None, Result, Ok, Err, if◌then◌else◌}
+use Rattle.std.specs.Prelude.{◌≡◌, ℕ, ◌+◌, nat_lt, MatchOption, List, [], ◌∷◌, ◌++◌, codes, map, length, Option, Some, None, Result, Ok, Err, if◌then◌else◌}
 use Rattle.std.specs.List.{flat_map}
-use Rattle.std.specs.BTreeMap.{insert_entry}
-use Rattle.std.specs.Ordering.{nat_cmp}
-use Rattle.std.specs.Cmp.Lexicographic.{slice_cmp}
+use Rattle.std.specs.Borrow.{Bor}
+use Rattle.name_order.specs.Ordered.{ordered, seen}
 use Rattle.class_model.specs.Text.{text}
 use Rattle.class_model.specs.declared.class.Class.{Class}
 use Rattle.machine_rules.specs.declared.machine.Limits.{Limits}
@@ -78,20 +77,17 @@ IsStopOf table s =
 
 -- ---- the tests
 
--- What is kept by keys that are lists of bytes, in their order. Of two at one key the later one counts.
-abbrev pub ordered : {X : Type 0} → List (List ℕ × X) → List (List ℕ × X)
-ordered es = fold (λ kept e. insert_entry (slice_cmp nat_cmp) kept e.0 e.1) [] es
+-- A class by its name in modified UTF-8.
+abbrev pub class_by_name : Class → List ℕ × Class
+class_by_name c = (text (own_name c), c)
 
--- The tests of a class, by its name in modified UTF-8.
-abbrev pub tests_by_name : Class → List ℕ × List Test
-tests_by_name c = (text (own_name c), class_tests c)
+-- The classes by their names, in the order of the names; of two of one name the later one.
+abbrev pub kept_classes : List Class → List (List ℕ × Class)
+kept_classes classes = ordered (map class_by_name classes)
 
 -- The tests of these classes, in the order of the classes' names.
-abbrev pub kept_tests : List Class → List (List ℕ × List Test)
-kept_tests classes = ordered (map tests_by_name classes)
-
 abbrev pub tests_among : List Class → List Test
-tests_among classes = flat_map (λ e. e.1) (kept_tests classes)
+tests_among classes = flat_map class_tests (map (λ e. e.1) (kept_classes classes))
 
 -- The tests of a suite are those of its tests folder.
 abbrev pub tests_of : LoadedSuite → List Test
@@ -100,6 +96,16 @@ tests_of s = tests_among (classes_in s.tests)
 -- So many tests are at most 65,535.
 abbrev pub few_tests : ℕ → Result (Unit {0}) Refusal
 few_tests count = if nat_lt 65535 count then Err (TooMany limit.Tests 65536) else Ok tt
+
+abbrev pub few_of : List Test → Result (List Test) Refusal
+few_of ts = and_then (few_tests (length ts)) (λ few. Ok ts)
+
+-- what the code has: classes that are referred to, and these by their names
+abbrev pub referred : List (Bor Class) → List Class
+referred classes = map (λ c. c.now) classes
+
+abbrev pub entries_in : List (List ℕ × Bor Class) → List (List ℕ × Class)
+entries_in entries = map (seen (λ c. c.now)) entries
 
 -- ---- the original runs
 

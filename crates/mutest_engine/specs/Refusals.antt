@@ -7,7 +7,7 @@ use Rattle.class_model.specs.declared.fault.ClassFault.TheVariants as class_faul
 use Rattle.class_asm.specs.Assembled.{AssembledClass}
 use Rattle.asm_text.specs.declared.fault.AsmFault.TheVariants as asm_fault
 use Rattle.mutest_engine.specs.Lines.{named_line, count_text, fault_text, place_text, not_green_lines}
-use Rattle.mutest_engine.specs.Words.{Command, list_class, run_suite, assemble_class}
+use Rattle.mutest_words.specs.Words.{Command, list_class, run_suite, assemble_class}
 use Rattle.mutest_engine.specs.declared.refusal.Limit.{Limit}
 use Rattle.mutest_engine.specs.declared.refusal.Limit.TheVariants as limit
 use Rattle.mutest_engine.specs.declared.refusal.ProgramFault.{ProgramFault}

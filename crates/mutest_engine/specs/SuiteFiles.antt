@@ -7,7 +7,7 @@ use Rattle.class_reader.specs.Spells.{IsClass}
 use Rattle.class_writer.specs.Writing.{HasClassForm}
 use Rattle.class_link.specs.declared.loaded.Loaded.{Loaded}
 use Rattle.mt_edge.specs.Files.{Files, listed}
-use Rattle.mutest_engine.specs.Words.{ends_in}
+use Rattle.mutest_words.specs.Words.{ends_in}
 use Rattle.mutest_engine.specs.Answers.{file_of, spelled_class}
 use Rattle.mutest_engine.specs.Steps.{and_then, Reads, ReadsBy}
 use Rattle.mutest_engine.specs.declared.stop.Halt.{Halt}

@@ -41,8 +41,8 @@ fn within_limit(bytes: Bytes) -> Result<Bytes, Refusal>
     Ok(bytes)
 }
 
-// Nothing is held at a path.
-fn not_found(alloc: Global, path: &str) -> Halt
+/// Nothing is held at a path, or below it.
+pub fn not_found(alloc: Global, path: &str) -> Halt
     ensures refusal { RefusesReading (λ r. r ≡ NotFound path.now) result }
     ensures unread { (faults : ℕ) → result ≡ ReadFault faults → ⊥ }
 {

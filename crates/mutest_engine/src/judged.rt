@@ -7,8 +7,8 @@ ghost use Rattle.mutest_engine.specs.Steps.{Gives, Refuses, Counts};
 ghost use Rattle.mutest_engine.specs.SuiteFiles.{IsFormed};
 ghost use Rattle.mutest_engine.specs.Mutation.{verdicts_in, steps_on_all, input_of, tested_in, tested_steps_in, judged, suite_steps, Stays, Meters, MetersRuns};
 
-use crate::discovered::{few_tests, tests_of};
-use crate::mutants::{few_mutants, first_mutants};
+use crate::discovered::tests_of;
+use crate::mutants::first_mutants;
 use crate::originals::{USUAL, green};
 use crate::program::program_of;
 use crate::stop::Stop;
@@ -114,14 +114,14 @@ fn test_mutants(
     mutants: Seq<Mutant>,
     meter: &mut Meter,
 ) -> Result<ReportInput, Stop>
+    requires few_tests { length tests ≤ 65535 }
+    requires few_mutants { length mutants ≤ 262144 }
     requires fit { All (IsMutantOf (files_of program.old)) mutants }
     requires room { meter.old < 2 ^ 63 }
     ensures value { Gives (tested_in program.old tests mutants) result }
     ensures meter { Meters meter.old meter.new (tested_steps_in program.old tests mutants) result }
     ensures stays { IfErr result (Refuses (Stays meter.old meter.new)) }
 {
-    few_tests(tests.len())?;
-    few_mutants(mutants.len())?;
     let verdicts = metered_runs(alloc, program, tests.as_slice(), mutants.as_slice(), meter)?;
     Ok(input_of(alloc, tests, mutants, verdicts)?)
 }
@@ -145,10 +145,11 @@ pub fn judge(alloc: Global, suite: LoadedSuite, meter: &mut Meter) -> Result<Rep
     ensures meter { Meters meter.old meter.new (suite_steps suite) result }
     ensures stays { IfErr result (Refuses (Stays meter.old meter.new)) }
 {
-    let tests = tests_of(alloc, suite.tests.as_slice())?;
+    let found = tests_of(alloc, suite.tests.as_slice())?;
     let own = suite.classes.len();
     let classes = all_classes(suite.classes, suite.tests)?;
     let mut program = program_of(alloc, classes)?;
+    let tests = found?;
     let mutants = first_mutants(alloc, &program, own)?;
     mutants_fit();
     test_mutants(alloc, &mut program, tests, mutants, meter)

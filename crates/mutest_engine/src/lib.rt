@@ -4,13 +4,11 @@
 
 mod answer;
 mod assembling;
-mod command;
 mod discovered;
 mod files;
 mod judged;
 mod line;
 mod mutants;
-mod options;
 mod originals;
 mod program;
 mod refusal;
@@ -18,6 +16,7 @@ mod status;
 mod stop;
 mod suite;
 mod top_call;
+mod words;
 
 pub use answer::Product;
 pub use class_table::Loaded;

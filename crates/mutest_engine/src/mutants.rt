@@ -1,15 +1,18 @@
-//! The mutants of a suite: those of the class files that have the first numbers of its program.
+//! The mutants of a suite: those of the class files that have the first numbers of its program. They
+//! are counted before one is made.
 
-ghost use Rattle.std.specs.Prelude.{◌≡◌, ◌≤◌, length, IfOk};
-ghost use Rattle.mutest_engine.specs.Mutation.{numbers_from, numbers_of, AreFirstMutants, few_mutants};
+ghost use Rattle.std.specs.Prelude.{◌≡◌, ◌≤◌, length, Ok, IfOk, IfErr};
+ghost use Rattle.mutest_engine.specs.Mutation.{numbers_from, numbers_of, AreFirstMutants, few_mutants, HasTooMany};
+ghost use Rattle.mutest_engine.specs.Steps.{Refuses};
 
 use crate::refusal::{Limit, Refusal};
+use crate::stop::Stop;
 use class_model::{ClassId, Memory, Seq};
 use class_table::Program;
-use mutator_ops::{Mutant, mutants};
+use mutator_ops::{Mutant, count_all, mutants};
 use std::alloc::Global;
 
-const MUTANTS_LIMIT: usize = 262_144;
+const MUTANTS_LIMIT: u64 = 262_144;
 
 // So many numbers of classes, from the first on.
 fn first_numbers(alloc: Global, count: u32) -> Result<Seq<ClassId>, Memory>
@@ -22,25 +25,31 @@ fn first_numbers(alloc: Global, count: u32) -> Result<Seq<ClassId>, Memory>
     Ok(ids)
 }
 
-/// The mutants of so many class files of a program, from the first on.
-pub fn first_mutants(alloc: Global, program: &Program, count: usize) -> Result<Seq<Mutant>, Memory>
-    requires { count ≤ length program.now }
-    ensures { IfOk result (AreFirstMutants program.now count) }
-{
-    let _all = program.len();
-    let ids = first_numbers(alloc, count as u32)?;
-    mutants(alloc, program, &ids)
-}
-
-/// So many mutants are few enough.
-pub fn few_mutants(count: usize) -> Result<(), Refusal>
+// So many mutants are few enough.
+fn few_mutants(count: u64) -> Result<(), Refusal>
     ensures { result ≡ few_mutants count }
 {
     if count > MUTANTS_LIMIT {
         return Err(Refusal::TooMany {
             limit: Limit::Mutants,
-            number: MUTANTS_LIMIT as u64 + 1,
+            number: MUTANTS_LIMIT + 1,
         });
     }
     Ok(())
+}
+
+/// The mutants of so many class files of a program, from the first on, or that they are too many.
+/// None is made then.
+#[tactic(auto, using(crate::proofs::CountLaws::same_mutants))]
+pub fn first_mutants(alloc: Global, program: &Program, count: usize) -> Result<Seq<Mutant>, Stop>
+    requires { count ≤ length program.now }
+    ensures found { IfOk result (AreFirstMutants program.now count) }
+    ensures few { IfOk result (λ ms. few_mutants (length ms) ≡ Ok tt) }
+    ensures many { IfErr result (Refuses (HasTooMany program.now count)) }
+{
+    let _all = program.len();
+    let ids = first_numbers(alloc, count as u32)?;
+    let number = count_all(alloc, program, &ids)?;
+    few_mutants(number)?;
+    Ok(mutants(alloc, program, &ids)?)
 }

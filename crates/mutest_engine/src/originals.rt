@@ -1,9 +1,9 @@
 //! The runs of the tests on the program as it is.
 
-ghost use Rattle.std.specs.Prelude.{◌≡◌, ◌+◌, ◌<◌, ◌≤◌, ◌^◌, length, IfOk, OnOk};
+ghost use Rattle.std.specs.Prelude.{◌≡◌, ◌+◌, ◌<◌, ◌≤◌, ◌^◌, ◌++◌, [], length, IfOk, OnOk};
 ghost use Rattle.class_table.specs.Table.{look};
 ghost use Rattle.mutest_engine.specs.Steps.{Gives, GivesBy, Counts};
-ghost use Rattle.mutest_engine.specs.Originals.{test_text, settled, run_ending, run_steps, run_settled, all_settled, all_passed, green_steps, original_steps, steps_made};
+ghost use Rattle.mutest_engine.specs.Originals.{test_text, settled, run_ending, run_steps, run_settled, with_first, all_settled, all_passed, green_steps, original_steps, steps_made};
 ghost use Rattle.jvm_step.specs.Ending.{ending_of};
 
 use crate::line::{put_name, put_str};
@@ -95,6 +95,16 @@ fn original(
     Ok((ended, steps))
 }
 
+// Notes how a run ended, unless its test passed.
+fn note(failed: &mut Seq<(Bytes, Ended)>, ended: Option<(Bytes, Ended)>) -> Result<(), Memory>
+    ensures { OnOk result (failed.new ≡ failed.old ++ with_first ended []) }
+{
+    if let Some(ended) = ended {
+        failed.push(ended)?;
+    }
+    Ok(())
+}
+
 // The tests that didn't pass, and the steps of each run. They are counted in the part.
 fn all_settled(
     alloc: Global,
@@ -112,11 +122,9 @@ fn all_settled(
     let mut failed = Seq::new(alloc);
     let mut counts = Seq::new(alloc);
     for test in tests {
-        let (ended, steps) = original(alloc, program, test, part)?;
-        if let Some(ended) = ended {
-            failed.push(ended)?;
-        }
-        counts.push(steps)?;
+        let run = original(alloc, program, test, part)?;
+        note(&mut failed, run.0)?;
+        counts.push(run.1)?;
     }
     Ok((failed, counts))
 }

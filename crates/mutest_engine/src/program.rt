@@ -6,6 +6,8 @@ ghost use Rattle.mutest_engine.specs.Steps.{Refuses};
 ghost use Rattle.mutest_engine.specs.Mutation.{class_file, AreNumbered};
 ghost use Rattle.mutest_engine.specs.Originals.{classes_in, program_of, accepted, IsStopOf};
 ghost use Rattle.mutant_runs.specs.Programs.{files_of};
+ghost use Rattle.mutest_engine.specs.declared.refusal.Refusal.TheVariants.{BadProgram};
+ghost use Rattle.mutest_engine.specs.declared.stop.Stop.TheVariants.{Refused};
 
 use crate::refusal::{ProgramFault, Refusal};
 use crate::stop::Stop;
@@ -14,18 +16,23 @@ use class_table::{Loaded, Program, TableFault};
 use jvm_step::library;
 use std::alloc::Global;
 
+fn bad_program(fault: ProgramFault) -> Stop
+    ensures { result ≡ Refused (BadProgram fault) }
+{
+    Stop::Refused(Refusal::BadProgram { fault })
+}
+
 // Why there is no program, by the table's fault.
 fn fault_stop(fault: TableFault) -> Stop
     ensures { IsStopOf fault result }
 {
-    let fault = match fault {
-        TableFault::Duplicate { name } => ProgramFault::Duplicate { name },
-        TableFault::SuperMissing { name } => ProgramFault::SuperMissing { name },
-        TableFault::SuperCycle { name } => ProgramFault::SuperCycle { name },
-        TableFault::SuperKind { name } => ProgramFault::SuperKind { name },
-        TableFault::Memory => return Stop::WantOfMemory,
-    };
-    Stop::Refused(Refusal::BadProgram { fault })
+    match fault {
+        TableFault::Duplicate { name } => bad_program(ProgramFault::Duplicate { name }),
+        TableFault::SuperMissing { name } => bad_program(ProgramFault::SuperMissing { name }),
+        TableFault::SuperCycle { name } => bad_program(ProgramFault::SuperCycle { name }),
+        TableFault::SuperKind { name } => bad_program(ProgramFault::SuperKind { name }),
+        TableFault::Memory => Stop::WantOfMemory,
+    }
 }
 
 /// The program of these classes.

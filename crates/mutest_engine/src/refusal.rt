@@ -2,6 +2,7 @@
 //! exit status and its line.
 
 ghost use Rattle.std.specs.Prelude.{◌≡◌, ◌++◌, OnOk};
+ghost use Rattle.mutator_ops.specs.Printing.{printed};
 ghost use Rattle.mutest_engine.specs.Refusals.{limit_name, program_text, refusal_number, refusal_line};
 
 use crate::line::{
@@ -95,18 +96,24 @@ pub enum Refusal {
     },
 }
 
+// Puts a number and the class that has it.
+fn put_class(alloc: Global, text: &mut Bytes, number: &str, name: &Name) -> Result<(), Memory>
+    ensures { OnOk result (text.new ≡ text.old ++ (number.now ++ printed name.now)) }
+{
+    put_str(text, number)?;
+    put_name(alloc, text, name)
+}
+
 // Puts the number of a fault of the program, and the class that has it.
 fn put_program(alloc: Global, text: &mut Bytes, fault: &ProgramFault) -> Result<(), Memory>
     ensures { OnOk result (text.new ≡ text.old ++ program_text fault.now) }
 {
-    let (number, name) = match fault {
-        ProgramFault::Duplicate { name } => (" 13 ", name),
-        ProgramFault::SuperMissing { name } => (" 14 ", name),
-        ProgramFault::SuperCycle { name } => (" 15 ", name),
-        ProgramFault::SuperKind { name } => (" 16 ", name),
-    };
-    put_str(text, number)?;
-    put_name(alloc, text, name)
+    match fault {
+        ProgramFault::Duplicate { name } => put_class(alloc, text, " 13 ", name),
+        ProgramFault::SuperMissing { name } => put_class(alloc, text, " 14 ", name),
+        ProgramFault::SuperCycle { name } => put_class(alloc, text, " 15 ", name),
+        ProgramFault::SuperKind { name } => put_class(alloc, text, " 16 ", name),
+    }
 }
 
 impl Refusal {

@@ -1,14 +1,13 @@
 //! How a call of the tool ends.
 
-ghost use Rattle.std.specs.Prelude.{◌≡◌, pos, IfOk};
+ghost use Rattle.std.specs.Prelude.{◌≡◌, IfOk};
 ghost use Rattle.mutest_engine.specs.Ends.{status_number, output_name, line_of};
-ghost use Rattle.mutest_engine.specs.declared.status.Status.TheVariants.{WantOfMemory};
 
 use crate::answer::Product;
 use crate::line::{put_named, put_str};
 use crate::refusal::Refusal;
 use class_model::{Bytes, Memory};
-use std::alloc::{AllocError, AllocFailed, Global};
+use std::alloc::Global;
 
 /// What a call writes to.
 #[derive(Clone, Copy)]
@@ -43,31 +42,8 @@ pub enum Status {
     WantOfMemory,
 }
 
-impl From<AllocError> for Status {
-    ghost from_gives = { λ _ e. e ≡ WantOfMemory };
-
-    fn from(_: AllocError) -> Self {
-        Status::WantOfMemory
-    }
-}
-
-impl<T: Drop> From<AllocFailed<T>> for Status {
-    ghost from_gives = { λ _ e. e ≡ WantOfMemory };
-
-    fn from(_: AllocFailed<T>) -> Self {
-        Status::WantOfMemory
-    }
-}
-
 impl Status {
     /// The exit status.
-    pub fn number(&self) -> i32
-        ensures { result ≡ pos (status_number self.now) }
-    {
-        i32::from(self.code())
-    }
-
-    /// The exit status as the operating system takes it.
     pub fn code(&self) -> u8
         ensures { result ≡ status_number self.now }
     {

@@ -5,7 +5,7 @@ ghost use Rattle.mutest_engine.specs.Refusals.{IsOfSuite};
 ghost use Rattle.mutest_engine.specs.Steps.{Gives, ReadsHeld, Refuses, RefusesReading, FailsReading};
 ghost use Rattle.mutest_engine.specs.SuiteFiles.{Lists, ListsBoth, is_class_path, class_paths, few_classes, within_sum, read_one, FilesHeld, bytes_in, loaded, all_loaded, both_loaded, LoadsHeld, IsSpelled, IsFormed};
 
-use crate::files::{read_file, spelled_class};
+use crate::files::{not_found, read_file, spelled_class};
 use crate::refusal::{Limit, Refusal};
 use crate::stop::{Halt, Stop};
 use class_model::{Bytes, Seq, SharedBytes};
@@ -45,8 +45,7 @@ fn list_folder<T: Tree>(alloc: Global, tree: &mut T, folder: &str) -> Result<Vec
     match tree.list(folder) {
         Ok(paths) => {
             if paths.is_empty() {
-                let path = Bytes::from_slice(alloc, folder.as_bytes())?;
-                return Err(Halt::Refused(Refusal::NotFound { path }));
+                return Err(not_found(alloc, folder));
             }
             Ok(paths)
         }

@@ -3,7 +3,8 @@
 ghost use Rattle.std.specs.Prelude.{◌≡◌, ◌⊎◌, ◌<◌, ◌≤◌, ◌^◌, IfOk, IfErr, OnOk, Ok};
 ghost use Rattle.mutest_engine.specs.declared.status.Status.TheVariants.{WantOfMemory};
 ghost use Rattle.mutest_engine.specs.Ends.{line_of, status_of, unwritten_status, CarriedOut, TextEnds, AgreesUntold, AnswersUntold, AnswersHeld, MetersRun, MetersWords, Finished, ReadsFailed, WritesFailed, PutsFailed, MeterStays, HaltStays, Wrote, WroteAll, LeavesOne, LeavesAll, FailsWriting, FilesAfter};
-ghost use Rattle.mutest_engine.specs.Words.{list_class, words_of, run_asked, asm_asked, asked_run, asked_asm};
+ghost use Rattle.mutest_words.specs.Words.{list_class, run_asked, asm_asked, asked_run, asked_asm};
+ghost use Rattle.mutest_engine.specs.Words.{words_of};
 ghost use Rattle.mutest_engine.specs.Decided.{CanAnswer, list_answer, report_answer, run_answer, asm_answer, answer_of};
 ghost use Rattle.mutest_engine.specs.Answers.{answered, one_write, writes_of, made, one};
 ghost use Rattle.mutest_engine.specs.Refusals.{MayRefuse};
@@ -13,15 +14,16 @@ ghost use Rattle.mutest_engine.specs.Promises.{Tells, PrintsMade, PrintsOf, Puts
 
 use crate::answer::{Answer, Product, Write};
 use crate::assembling::class_file_of;
-use crate::command::{AsmOptions, Command, RunOptions, command_of};
 use crate::files::{read_file, spelled_class};
 use crate::judged::judge;
 use crate::status::{Output, Status};
 use crate::stop::Halt;
 use crate::suite::load_suite;
+use crate::words::read_words;
 use class_model::{Bytes, Memory};
 use mt_edge::{EdgeFault, Meter, Sink, Tree};
 use mutator_ops::{class_mutants, id_lines};
+use mutest_words::{AsmOptions, Command, RunOptions};
 use report_schema::{ReportInput, report_text, summary_text};
 use std::alloc::Global;
 
@@ -141,7 +143,7 @@ fn answer_to<'a, T: Tree>(
     ensures held { T.holds tree.new ≡ T.holds tree.old }
     ensures unwritten { T.writing tree.new ≡ T.writing tree.old }
 {
-    match command_of(alloc, words)? {
+    match read_words(alloc, words)? {
         Command::List(file) => list_answer(alloc, tree, file),
         Command::Run(options) => run_answer(alloc, tree, options, meter),
         Command::Assemble(options) => asm_answer(alloc, tree, options),

@@ -76,7 +76,7 @@ pub fn call(
     let mut meter = Meter::new();
     let status = run(alloc, &all, tree, &mut out, &mut meter);
     Ok((
-        status.number(),
+        i32::from(status.code()),
         Bytes::from_slice(alloc, out.bytes())?,
         meter.count(),
     ))

@@ -5,28 +5,28 @@ use Rattle.class_table.specs.declared.scripted.Test.{Test}
 use Rattle.mutator_ops.specs.declared.mutant.Mutant.{Mutant}
 use Rattle.mutant_runs.specs.Programs.{files_of}
 use Rattle.mutest_engine.specs.Mutation.{green_verdicts}
-use Rattle.mutest_engine.proofs.JudgeLaws.{all_inputs, is_few, counted_steps, tested_refused, refused_stays, tested_ok}
+use Rattle.mutest_engine.proofs.JudgeLaws.{all_inputs, few_is, counted_steps, tested_refused, refused_stays, tested_ok}
 use Rattle.mutest_engine.proofs.StepLaws.{all_verdicts}
 use Rattle.mutest_engine.proofs.judged.test_mutants.Goals as goal
 
 pub returns-in_err-verdicts-clause-value : goal.returns-in_err-verdicts-clause-value
 returns-in_err-verdicts-clause-value c =
-    let ready = is_few c.args.tests c.args.mutants c.len.result c.len-2.result c.in_ok-few_tests.field-0 c.in_ok-few_mutants.field-0 c.in_ok-few_tests.ensures c.len.ensures c.in_ok-few_mutants.ensures c.len-2.ensures in
+    let ready = few_is c.args.tests c.args.mutants c.requires.few_tests c.requires.few_mutants in
     let files = files_of c.args.program.now in
     let p = look c.args.program.now in
-    let q = err_from_is_err_and c.from_residual-in_err-verdicts.result c.from_residual-in_err-verdicts.ensures.1 in
+    let q = err_from_is_err_and c.from_residual.result c.from_residual.ensures.1 in
     rw (q.1, q.2) (λ r is. tested_refused files p c.args.tests c.args.mutants r ready (subst (λ (ts : List Test). green_verdicts files p ts c.args.mutants ≡ Err r) c.as_slice.ensures (subst (λ (ms : List Mutant). green_verdicts files p c.as_slice.result.now ms ≡ Err r) c.as_slice-2.ensures (c.in_err-verdicts.ensures.value r is))))
 
 pub returns-in_err-verdicts-clause-stays : goal.returns-in_err-verdicts-clause-stays
 returns-in_err-verdicts-clause-stays c =
     let files = files_of c.args.program.now in
     let p = look c.args.program.now in
-    let q = err_from_is_err_and c.from_residual-in_err-verdicts.result c.from_residual-in_err-verdicts.ensures.1 in
+    let q = err_from_is_err_and c.from_residual.result c.from_residual.ensures.1 in
     rw (q.1, q.2) (λ r is. refused_stays files p c.as_slice.result.now c.as_slice-2.result.now r c.args.meter.now c.metered_runs.new.meter c.in_err-verdicts.ensures.meter.0 (c.in_err-verdicts.ensures.value r is))
 
 pub returns-clause-value : goal.returns-clause-value
 returns-clause-value c =
-    let ready = is_few c.args.tests c.args.mutants c.len.result c.len-2.result c.in_ok-few_tests.field-0 c.in_ok-few_mutants.field-0 c.in_ok-few_tests.ensures c.len.ensures c.in_ok-few_mutants.ensures c.len-2.ensures in
+    let ready = few_is c.args.tests c.args.mutants c.requires.few_tests c.requires.few_mutants in
     let files = files_of c.args.program.now in
     let p = look c.args.program.now in
     tested_ok files p c.args.tests c.args.mutants c.in_ok-verdicts.verdicts ready (subst (λ (ts : List Test). green_verdicts files p ts c.args.mutants ≡ all_verdicts c.in_ok-verdicts.verdicts) c.as_slice.ensures (subst (λ (ms : List Mutant). green_verdicts files p c.as_slice.result.now ms ≡ all_verdicts c.in_ok-verdicts.verdicts) c.as_slice-2.ensures c.in_ok-verdicts.ensures.value))
@@ -34,11 +34,11 @@ returns-clause-value c =
 
 pub returns-in_err-verdicts-clause-meter : goal.returns-in_err-verdicts-clause-meter
 returns-in_err-verdicts-clause-meter c =
-    let ready = is_few c.args.tests c.args.mutants c.len.result c.len-2.result c.in_ok-few_tests.field-0 c.in_ok-few_mutants.field-0 c.in_ok-few_tests.ensures c.len.ensures c.in_ok-few_mutants.ensures c.len-2.ensures in
+    let ready = few_is c.args.tests c.args.mutants c.requires.few_tests c.requires.few_mutants in
     let files = files_of c.args.program.now in
     let p = look c.args.program.now in
     let steps = counted_steps files p c.args.tests c.args.mutants c.as_slice.result.now c.as_slice-2.result.now ready c.as_slice.ensures c.as_slice-2.ensures in
-    let q = err_from_is_err_and c.from_residual-in_err-verdicts.result c.from_residual-in_err-verdicts.ensures.1 in
+    let q = err_from_is_err_and c.from_residual.result c.from_residual.ensures.1 in
     let meter = c.in_err-verdicts.ensures.meter in
     let before = meter.0 in
     let most = meter.1 in
@@ -46,7 +46,7 @@ returns-in_err-verdicts-clause-meter c =
 
 pub returns-in_err-input_of-clause-meter : goal.returns-in_err-input_of-clause-meter
 returns-in_err-input_of-clause-meter c =
-    let ready = is_few c.args.tests c.args.mutants c.len.result c.len-2.result c.in_ok-few_tests.field-0 c.in_ok-few_mutants.field-0 c.in_ok-few_tests.ensures c.len.ensures c.in_ok-few_mutants.ensures c.len-2.ensures in
+    let ready = few_is c.args.tests c.args.mutants c.requires.few_tests c.requires.few_mutants in
     let files = files_of c.args.program.now in
     let p = look c.args.program.now in
     let steps = counted_steps files p c.args.tests c.args.mutants c.as_slice.result.now c.as_slice-2.result.now ready c.as_slice.ensures c.as_slice-2.ensures in
@@ -59,7 +59,7 @@ returns-in_err-input_of-clause-meter c =
 
 pub returns-clause-meter : goal.returns-clause-meter
 returns-clause-meter c =
-    let ready = is_few c.args.tests c.args.mutants c.len.result c.len-2.result c.in_ok-few_tests.field-0 c.in_ok-few_mutants.field-0 c.in_ok-few_tests.ensures c.len.ensures c.in_ok-few_mutants.ensures c.len-2.ensures in
+    let ready = few_is c.args.tests c.args.mutants c.requires.few_tests c.requires.few_mutants in
     let files = files_of c.args.program.now in
     let p = look c.args.program.now in
     let steps = counted_steps files p c.args.tests c.args.mutants c.as_slice.result.now c.as_slice-2.result.now ready c.as_slice.ensures c.as_slice-2.ensures in

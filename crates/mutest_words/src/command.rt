@@ -1,14 +1,11 @@
 //! The command that the words of the command line are.
 
-ghost use Rattle.std.specs.Prelude.{◌≡◌, false, map, option_map, string_bytes, IfOk, OnOk, IfErr};
-ghost use Rattle.mutest_engine.specs.Options.{given_in};
-ghost use Rattle.mutest_engine.specs.Steps.{GivesBy, Refuses};
-ghost use Rattle.mutest_engine.specs.Words.{folder_of, is_archive, IsArchived, list_of, run_options, run_of, asm_of, named_command, command_of, words_of, run_asked, asked, Finds};
+ghost use Rattle.std.specs.Prelude.{◌≡◌, map, option_map, string_bytes, IfOk};
+ghost use Rattle.mutest_words.specs.Options.{given_in};
+ghost use Rattle.mutest_words.specs.Words.{folder_of, is_archive, list_of, run_options, run_of, asm_of, named_command, command_of, run_asked, Finds};
 
 use crate::options::Given;
-use crate::refusal::Refusal;
-use crate::stop::Stop;
-use class_model::{Bytes, Memory};
+use class_model::Memory;
 use std::alloc::Global;
 
 /// The options of `run`: the folders of classes and of tests, and the path of the report. A folder
@@ -116,8 +113,8 @@ fn named_command<'a>(name: &str, given: &Given<'a>) -> Option<Command<'a>>
     None
 }
 
-// The command that the words are.
-fn find_command(alloc: Global, words: &[String]) -> Result<Option<Command<'_>>, Memory>
+/// The command that the words behind the program's name are, if they are one.
+pub fn command_of(alloc: Global, words: &[String]) -> Result<Option<Command<'_>>, Memory>
     ensures { IfOk result (Finds (command_of (map string_bytes words.now))) }
 {
     let [name, words @ ..] = words else {
@@ -127,36 +124,10 @@ fn find_command(alloc: Global, words: &[String]) -> Result<Option<Command<'_>>, 
     Ok(named_command(name.as_str(), &given))
 }
 
-fn is_archive(folder: &str) -> bool
+/// The folder is an archive, which isn't read.
+pub fn is_archive(folder: &str) -> bool
     ensures { result ≡ is_archive folder.now }
 {
     let bytes = folder.as_bytes();
     bytes.ends_with(b".jar") || bytes.ends_with(b".zip") || bytes.ends_with(b".war")
-}
-
-fn no_archive(alloc: Global, folder: &str) -> Result<(), Stop>
-    ensures passed { OnOk result (is_archive folder.now ≡ false) }
-    ensures refused { IfErr result (Refuses (IsArchived folder.now)) }
-{
-    if is_archive(folder) {
-        let path = Bytes::from_slice(alloc, folder.as_bytes())?;
-        return Err(Stop::Refused(Refusal::Archive { path }));
-    }
-    Ok(())
-}
-
-/// What the words decide alone: the command that they are, unless one of its folders is an archive.
-pub fn command_of<'a>(alloc: Global, words: &'a Vec<String>) -> Result<Command<'a>, Stop>
-    ensures { GivesBy asked (words_of (map string_bytes words.now.items)) result }
-{
-    match find_command(alloc, words.as_slice())? {
-        None => Err(Stop::Refused(Refusal::Usage)),
-        Some(Command::Run(options)) => {
-            no_archive(alloc, options.classes)?;
-            no_archive(alloc, options.tests)?;
-            Ok(Command::Run(options))
-        }
-        Some(Command::List(file)) => Ok(Command::List(file)),
-        Some(Command::Assemble(options)) => Ok(Command::Assemble(options)),
-    }
 }

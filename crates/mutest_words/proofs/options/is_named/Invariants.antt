@@ -1,6 +1,6 @@
 use Rattle.std.proofs.Common.{◌≡◌, drop}
-use Rattle.mutest_engine.specs.Options.{is_named, texts_in}
-use Rattle.mutest_engine.proofs.options.is_named.Given as goal
+use Rattle.mutest_words.specs.Options.{is_named, texts_in}
+use Rattle.mutest_words.proofs.options.is_named.Given as goal
 
 abbrev pub invariant-loop-known : goal.invariant-loop-known
 invariant-loop-known l =

@@ -1,7 +1,7 @@
 //! What the words behind a command's name give: plain words, and options with their values.
 
 ghost use Rattle.std.specs.Prelude.{◌≡◌, map, string_bytes, option_map, IfOk};
-ghost use Rattle.mutest_engine.specs.Options.{is_value, is_named, value_of, are_options, given_of, given_in, texts_in, pairs_in};
+ghost use Rattle.mutest_words.specs.Options.{is_value, is_named, value_of, are_options, given_of, given_in, texts_in, pairs_in};
 
 use class_model::Memory;
 use std::alloc::Global;

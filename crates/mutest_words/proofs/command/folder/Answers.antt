@@ -1,5 +1,5 @@
-use Rattle.mutest_engine.proofs.WordLaws.{folder_stays}
-use Rattle.mutest_engine.proofs.command.folder.Goals as goal
+use Rattle.mutest_words.proofs.WordLaws.{folder_stays}
+use Rattle.mutest_words.proofs.command.folder.Goals as goal
 
 pub returns-in-None : goal.returns-in-None
 unfolding lib.Utf8.encode

@@ -1,6 +1,6 @@
 use Rattle.std.proofs.Common.{◌≡◌, length}
-use Rattle.mutest_engine.specs.Options.{are_options, texts_in, pairs_in}
-use Rattle.mutest_engine.proofs.options.are_options.Given as goal
+use Rattle.mutest_words.specs.Options.{are_options, texts_in, pairs_in}
+use Rattle.mutest_words.proofs.options.are_options.Given as goal
 
 abbrev pub invariant-loop-rest : goal.invariant-loop-rest
 invariant-loop-rest l =

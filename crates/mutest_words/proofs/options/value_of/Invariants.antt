@@ -1,6 +1,6 @@
 use Rattle.std.proofs.Common.{◌≡◌, drop}
-use Rattle.mutest_engine.specs.Options.{value_of, pairs_in}
-use Rattle.mutest_engine.proofs.options.value_of.Given as goal
+use Rattle.mutest_words.specs.Options.{value_of, pairs_in}
+use Rattle.mutest_words.proofs.options.value_of.Given as goal
 
 abbrev pub invariant-loop-option : goal.invariant-loop-option
 invariant-loop-option l =

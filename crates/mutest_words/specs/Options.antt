@@ -2,7 +2,7 @@
 use Rattle.std.specs.Prelude.{ℕ, List, [], ◌∷◌, Bool, true, false, ◌&&◌, ◌||◌, not, nat_eq, ◌==◌, if◌then◌else◌, length, slice_index, map, is_some, Option, None, Some}
 use Rattle.std.specs.Borrow.{Bor}
 use Rattle.std.specs.Cmp.Lexicographic.{pointwise}
-use Rattle.mutest_engine.specs.declared.options.Given.{Given as FoundGiven}
+use Rattle.mutest_words.specs.declared.options.Given.{Given as FoundGiven}
 
 -- a value of a command: not empty, and without a `-` at its front
 abbrev pub is_value : List ℕ → Bool

@@ -1,7 +1,7 @@
 use Rattle.std.proofs.Common.{◌≡◌, ◌++◌, map, length}
 use Rattle.std.specs.Prelude.{string_bytes}
-use Rattle.mutest_engine.specs.Options.{plain_of, options_of, texts_in, pairs_in}
-use Rattle.mutest_engine.proofs.options.Given.read.Given as goal
+use Rattle.mutest_words.specs.Options.{plain_of, options_of, texts_in, pairs_in}
+use Rattle.mutest_words.proofs.options.Given.read.Given as goal
 
 abbrev pub invariant-loop-rest : goal.invariant-loop-rest
 invariant-loop-rest l = record {

@@ -1,0 +1,39 @@
+//! What the words decide alone: the command that they are, or why they are refused.
+
+ghost use Rattle.std.specs.Prelude.{◌≡◌, false, map, string_bytes, OnOk, IfErr};
+ghost use Rattle.mutest_words.specs.Words.{is_archive, asked};
+ghost use Rattle.mutest_engine.specs.Steps.{GivesBy, Refuses};
+ghost use Rattle.mutest_engine.specs.Words.{IsArchived, words_of};
+
+use crate::refusal::Refusal;
+use crate::stop::Stop;
+use class_model::Bytes;
+use mutest_words::{Command, command_of, is_archive};
+use std::alloc::Global;
+
+fn no_archive(alloc: Global, folder: &str) -> Result<(), Stop>
+    ensures passed { OnOk result (is_archive folder.now ≡ false) }
+    ensures refused { IfErr result (Refuses (IsArchived folder.now)) }
+{
+    if is_archive(folder) {
+        let path = Bytes::from_slice(alloc, folder.as_bytes())?;
+        return Err(Stop::Refused(Refusal::Archive { path }));
+    }
+    Ok(())
+}
+
+/// The command that the words are, unless one of its folders is an archive.
+pub fn read_words<'a>(alloc: Global, words: &'a Vec<String>) -> Result<Command<'a>, Stop>
+    ensures { GivesBy asked (words_of (map string_bytes words.now.items)) result }
+{
+    match command_of(alloc, words.as_slice())? {
+        None => Err(Stop::Refused(Refusal::Usage)),
+        Some(Command::Run(options)) => {
+            no_archive(alloc, options.classes)?;
+            no_archive(alloc, options.tests)?;
+            Ok(Command::Run(options))
+        }
+        Some(Command::List(file)) => Ok(Command::List(file)),
+        Some(Command::Assemble(options)) => Ok(Command::Assemble(options)),
+    }
+}
