@@ -107,6 +107,12 @@ referred classes = map (λ c. c.now) classes
 abbrev pub entries_in : List (List ℕ × Bor Class) → List (List ℕ × Class)
 entries_in entries = map (seen (λ c. c.now)) entries
 
+abbrev pub values_in : List (List ℕ × Bor Class) → List Class
+values_in entries = map (λ e. e.1) (entries_in entries)
+
+abbrev pub kept_among : List Loaded → List (List ℕ × Class)
+kept_among classes = kept_classes (classes_in classes)
+
 -- ---- the original runs
 
 -- What a run may use: 4,194,304 words of heap and 1,024 frames.

@@ -1,12 +1,12 @@
 //! The tests of a suite, in the order of their classes' names. They are counted before one is made.
 
-ghost use Rattle.std.specs.Prelude.{◌≡◌, length, map, IfOk};
+ghost use Rattle.std.specs.Prelude.{◌≡◌, length, IfOk};
 ghost use Rattle.std.specs.Io.Iter.{u64_saturate};
 ghost use Rattle.std.specs.List.{flat_map};
 ghost use Rattle.class_model.specs.Text.{text};
 ghost use Rattle.class_link.specs.Info.{own_name};
 ghost use Rattle.test_discovery.specs.Tests.{class_tests};
-ghost use Rattle.mutest_engine.specs.Originals.{classes_in, entries_in, referred, kept_classes, tests_among, few_tests, few_of};
+ghost use Rattle.mutest_engine.specs.Originals.{classes_in, entries_in, values_in, referred, kept_among, tests_among, few_tests, few_of};
 
 use crate::refusal::{Limit, Refusal};
 use class_model::{Bytes, Class, Memory, Seq, write_text};
@@ -30,7 +30,7 @@ fn class_name(alloc: Global, class: &Class) -> Result<Bytes, Memory>
 
 // The classes by their names; of two of one name the later one.
 fn by_name<'a>(alloc: Global, classes: &'a [Loaded]) -> Result<BTreeMap<Bytes, &'a Class>, Memory>
-    ensures { IfOk result (λ found. entries_in found.entries ≡ kept_classes (classes_in classes.now)) }
+    ensures { IfOk result (λ found. entries_in found.entries ≡ kept_among classes.now) }
 {
     let mut found = BTreeMap::new(alloc);
     for loaded in classes {
@@ -45,7 +45,7 @@ fn in_order<'a>(
     alloc: Global,
     mut by_name: BTreeMap<Bytes, &'a Class>,
 ) -> Result<Vec<&'a Class>, Memory>
-    ensures { IfOk result (λ cs. referred cs.items ≡ map (λ e. e.1) (entries_in by_name.entry.entries)) }
+    ensures { IfOk result (λ cs. referred cs.items ≡ values_in by_name.entry.entries) }
 {
     let mut classes = Vec::new(alloc);
     while let Some((_, class)) = by_name.pop_first() {
