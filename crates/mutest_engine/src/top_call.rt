@@ -5,7 +5,7 @@ ghost use Rattle.mutest_engine.specs.declared.status.Status.TheVariants.{WantOfM
 ghost use Rattle.mutest_engine.specs.Ends.{line_of, status_of, unwritten_status, CarriedOut, TextEnds, AgreesUntold, AnswersUntold, AnswersHeld, MetersRun, MetersWords, Finished, ReadsFailed, WritesFailed, PutsFailed, MeterStays, HaltStays, Wrote, WroteAll, LeavesOne, LeavesAll, FailsWriting, FilesAfter};
 ghost use Rattle.mutest_words.specs.Words.{list_class, run_asked, asm_asked, asked_run, asked_asm};
 ghost use Rattle.mutest_engine.specs.Words.{words_of};
-ghost use Rattle.mutest_engine.specs.Decided.{CanAnswer, list_answer, report_answer, run_answer, asm_answer, answer_of};
+ghost use Rattle.mutest_engine.specs.Decided.{CanAnswer, listing, list_answer, report_answer, run_answer, asm_answer, answer_of};
 ghost use Rattle.mutest_engine.specs.Answers.{answered, one_write, writes_of, made, one};
 ghost use Rattle.mutest_engine.specs.Refusals.{MayRefuse};
 ghost use Rattle.mutest_engine.specs.SuiteFiles.{texts};
@@ -20,7 +20,7 @@ use crate::status::{Output, Status};
 use crate::stop::Halt;
 use crate::suite::load_suite;
 use crate::words::read_words;
-use class_model::{Bytes, Memory};
+use class_model::{Bytes, Class, Memory};
 use mt_edge::{EdgeFault, Meter, Sink, Tree};
 use mutator_ops::{class_mutants, id_lines};
 use mutest_words::{AsmOptions, Command, RunOptions};
@@ -28,6 +28,18 @@ use report_schema::{ReportInput, report_text, summary_text};
 use std::alloc::Global;
 
 // ---- answers
+
+// What `list` prints for a class.
+fn listing<'a>(alloc: Global, class: &Class) -> Result<Answer<'a>, Memory>
+    ensures { IfOk result (λ a. answered a ≡ listing class.now) }
+{
+    let mutants = class_mutants(alloc, class)?;
+    let text = id_lines(alloc, mutants.as_slice())?;
+    Ok(Answer {
+        writes: Vec::new(alloc),
+        text,
+    })
+}
 
 // The text that `list` prints for a file.
 fn list_answer<'a, T: Tree>(alloc: Global, tree: &mut T, path: &'a str) -> Result<Answer<'a>, Halt>
@@ -40,12 +52,7 @@ fn list_answer<'a, T: Tree>(alloc: Global, tree: &mut T, path: &'a str) -> Resul
 {
     let bytes = read_file(alloc, tree, path)?;
     let class = spelled_class(alloc, path.as_bytes(), bytes.as_slice())?;
-    let mutants = class_mutants(alloc, &class)?;
-    let text = id_lines(alloc, mutants.as_slice())?;
-    Ok(Answer {
-        writes: Vec::new(alloc),
-        text,
-    })
+    Ok(listing(alloc, &class)?)
 }
 
 // One file that is replaced.
