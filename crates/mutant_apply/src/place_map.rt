@@ -90,7 +90,8 @@ pub fn push_moved(edited: &mut Seq<Insn>, by: PlaceMap, insns: &[Insn]) -> Resul
     Ok(())
 }
 
-fn moved_row(by: PlaceMap, row: Row) -> Row
+/// A row of the exception table, moved.
+pub fn moved_row(by: PlaceMap, row: Row) -> Row
     requires { IsNearRow row }
     ensures { result ≡ moved_row (moved_place by.at by.more) row }
 {

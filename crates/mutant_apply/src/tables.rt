@@ -59,8 +59,9 @@ fn with_items_moved(by: PlaceMap, shape: &Shape) -> Result<Shape, Memory>
     }
 }
 
-// The shape, in the longer form where the offset passes that of the short one.
-fn long_enough(delta: u64, shape: Shape) -> Shape
+/// The shape of a frame at an offset from the frame before it, in the longer form where the offset
+/// passes that of the short one (JVMS 4.7.4).
+pub fn long_enough(delta: u64, shape: Shape) -> Shape
     ensures { result ≡ long_enough delta shape }
 {
     match shape {

@@ -13,8 +13,10 @@ mod list_tests;
 mod samples;
 #[cfg(test)]
 mod small_methods;
+mod steps;
 #[cfg(test)]
 mod tests;
 
 pub use calls::{apply, edited_parts};
 pub use list_calls::{class_mutants, count_mutants, mutators, row};
+pub use steps::{index_of, long_enough, moved_row, places};

@@ -3,3 +3,4 @@ pub mod RunLaws
 pub mod VerdictLaws
 pub mod FitLaws
 pub mod MutantLaws
+pub mod EditLaws

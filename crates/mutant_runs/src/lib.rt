@@ -10,3 +10,4 @@ mod tests_run;
 
 pub use all::verdicts;
 pub use laws::{files_are_found, mutants_are_of};
+pub use on_mutant::link_edit;

@@ -2,14 +2,17 @@
 
 ghost use Rattle.std.specs.Prelude.{◌≡◌, ◌+◌, ◌≤◌, ◌<◌, ◌^◌, All, length, IfOk, OnOk, MatchOption, None};
 ghost use Rattle.std.specs.Arc.{arc_value};
+ghost use Rattle.class_link.specs.declared.loaded.ClassBody.TheVariants as content;
+ghost use Rattle.class_link.specs.Info.{own_name, class_of};
+ghost use Rattle.class_link.specs.Linking.{link};
 ghost use Rattle.class_table.specs.Table.{look};
-ghost use Rattle.mutant_runs.specs.Programs.{files_of, edited, IsMutantOf, Makes};
+ghost use Rattle.mutant_runs.specs.Programs.{files_of, edited, IsMutantOf, IsMadeBy, is_pool_kept, Makes};
 ghost use Rattle.mutant_runs.specs.Runs.{timed, most_steps};
 ghost use Rattle.mutant_runs.specs.Verdicts.{verdict_of, steps_on};
 
 use crate::tally::not_viable;
 use crate::tests_run::run_tests;
-use class_model::{ClassId, Memory, SharedBytes};
+use class_model::{Class, ClassId, Edit, Memory, SharedBytes};
 use class_table::{ClassBody, ClassInfo, Loaded, Program, Test};
 use jvm_run::Limits;
 use mt_edge::MeterPart;
@@ -17,6 +20,37 @@ use mutant_apply::apply;
 use mutator_ops::{Mutant, Verdict};
 use std::alloc::Global;
 use std::sync::Arc;
+
+// No entry stands in the constant pool of an edited class but those of the class that was edited.
+fn is_pool_kept(original: &ClassInfo, edited: &Class) -> bool
+    ensures { result ≡ is_pool_kept original.now.body edited.now }
+{
+    match original.body() {
+        ClassBody::File(loaded) => loaded.class.pool.len() == edited.pool.len(),
+        ClassBody::Library(_) => false,
+    }
+}
+
+/// The class of a class file that an edit made of another class. Where the edit added nothing to the
+/// constant pool the edited method alone is linked, and all else of what the other means is shared.
+#[tactic(auto, using(crate::proofs::EditLaws::edits_body))]
+pub fn link_edit(
+    alloc: Global,
+    original: &ClassInfo,
+    edit: &Edit,
+    loaded: Loaded,
+) -> Result<ClassInfo, Memory>
+    requires { IsMadeBy original.now edit.now loaded }
+    ensures body { IfOk result (λ info. info.body ≡ content.File loaded) }
+    ensures name { IfOk result (λ info. info.name ≡ own_name loaded.class) }
+    ensures class { IfOk result (λ info. class_of info ≡ link loaded.class) }
+{
+    if is_pool_kept(original, &loaded.class) {
+        original.edited(alloc, loaded, edit.method as usize)
+    } else {
+        ClassInfo::new(alloc, ClassBody::File(loaded))
+    }
+}
 
 // The class that a mutant's edit makes, and the number of the class in whose place it stands; none where the edit has no layout.
 fn edited_class(
@@ -39,7 +73,7 @@ fn edited_class(
         return Ok(None);
     };
     let bytes = SharedBytes::new(alloc, bytes)?;
-    let edited = ClassInfo::new(alloc, ClassBody::File(Loaded { bytes, class }))?;
+    let edited = link_edit(alloc, original, &mutant.edit, Loaded { bytes, class })?;
     Ok(Some((id, Arc::new(alloc, edited)?)))
 }
 
