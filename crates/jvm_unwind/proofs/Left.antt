@@ -1,5 +1,5 @@
 -- An object leaves a frame.
-use Rattle.std.proofs.Common.{◌≡◌, ◌∙◌, sym, refl, ap, subst, ℕ, Bool, true, false, List, [], ◌∷◌, Option, Some, None, IsSomeAnd}
+use Rattle.std.proofs.Common.{◌≡◌, ◌∙◌, sym, refl, ap, ℕ, Bool, true, false, List, [], Option, Some, None, IsSomeAnd}
 use Rattle.std.specs.Prelude.{if◌then◌else◌, codes}
 use Rattle.program_rules.specs.Names.{Name, is_listed, class_behind}
 use Rattle.program_rules.specs.Outlines.{outline_of}
@@ -16,7 +16,7 @@ use Rattle.machine_rules.specs.Throwing.{Caught, catch_by, chooses, matches, exp
 use Rattle.class_link.specs.Info.{Info}
 use Rattle.class_table.specs.Table.{look, name_at}
 use Rattle.jvm_world.specs.declared.world.World.{World}
-use Rattle.jvm_world.specs.View.{Means, Moves, Throws}
+use Rattle.jvm_world.specs.View.{Moves, Throws}
 use Rattle.jvm_catch.specs.declared.row.Catch.{Catch}
 use Rattle.jvm_catch.specs.Rows.{catch_name}
 use Rattle.jvm_unwind.specs.declared.thrown.Thrown.{Thrown}

@@ -2,21 +2,20 @@
 use Rattle.std.proofs.Common.{◌≡◌, ◌∙◌, ◌⊎◌, inl, inr, sym, refl, ap, subst, ℕ, ◌≤◌, Bool, true, false, List, [], ◌∷◌, map, Option, Some, None, IfSome, IfNone, IsSomeAnd}
 use Rattle.std.specs.Prelude.{if◌then◌else◌}
 use Rattle.class_model.specs.declared.class.ClassId.{ClassId}
-use Rattle.program_rules.specs.declared.value.Value.TheVariants.{Ref}
 use Rattle.program_rules.specs.Names.{Name}
-use Rattle.program_rules.specs.Linked.{method_in, LinkedRow}
+use Rattle.program_rules.specs.Linked.{LinkedRow}
 use Rattle.program_rules.specs.Objects as objects
 use Rattle.program_rules.specs.Programs.{family, supers}
 use Rattle.machine_rules.specs.declared.machine.InitState.TheVariants.{Failed}
 use Rattle.machine_rules.specs.declared.machine.Limits.{Limits}
 use Rattle.machine_rules.specs.State as def
-use Rattle.machine_rules.specs.Effects.{Effect, NoRow, on_some, goes_with}
+use Rattle.machine_rules.specs.Effects.{Effect, on_some, goes_with}
 use Rattle.machine_rules.specs.Initialisation.{marks}
-use Rattle.machine_rules.specs.Throwing.{Caught, breaks, pops, pops_frame, is_initializer_method, lands, lands_by, find_handler, rows_of, unwinds}
+use Rattle.machine_rules.specs.Throwing.{breaks, pops, lands, lands_by, find_handler, rows_of, unwinds}
 use Rattle.class_link.specs.Info.{Info}
 use Rattle.class_table.specs.Table.{look, name_at}
 use Rattle.jvm_state.specs.Rows.{Row}
-use Rattle.jvm_frames.specs.Frames.{NumberedFrame, NumberedFrames, framed, left_behind, landing, Does, GoOn, IsLanded, IsAt}
+use Rattle.jvm_frames.specs.Frames.{NumberedFrame, NumberedFrames, framed, left_behind, landing, Does, GoOn, IsLanded}
 use Rattle.jvm_world.specs.declared.world.World.{World}
 use Rattle.jvm_world.specs.View.{Means, Comes}
 use Rattle.jvm_catch.specs.declared.row.CatchRow.{CatchRow}

@@ -1,12 +1,11 @@
 -- Worlds in which classes were tested.
-use Rattle.std.proofs.Common.{◌≡◌, ◌∙◌, sym, refl, ap, subst, ℕ, Bool, true, false, List, [], map, Option, Some, None, IsSomeAnd}
+use Rattle.std.proofs.Common.{◌≡◌, ◌∙◌, sym, refl, ap, ℕ, Bool, true, false, List, [], map, Option, None}
 use Rattle.std.specs.Prelude.{◌&&◌, is_some}
 use Rattle.std.specs.Option.{option_map}
 use Rattle.class_model.specs.declared.class.ClassId.{ClassId}
-use Rattle.program_rules.specs.Names.{Name}
 use Rattle.machine_rules.specs.State as def
 use Rattle.machine_rules.specs.Calls.{is_awaited, is_test_call}
-use Rattle.machine_rules.specs.Throwing.{Caught, catch_by, chooses, find_handler}
+use Rattle.machine_rules.specs.Throwing.{Caught, catch_by, find_handler}
 use Rattle.class_link.specs.Info.{Info}
 use Rattle.class_table.specs.Seen.{Seen, IsConsultedOf}
 use Rattle.class_table.specs.Table.{look}

@@ -23,7 +23,7 @@ use std::alloc::Global;
 
 /// The class of an initializer has failed; what is thrown from the frames below. It is the object if
 /// it is an Error, else an ExceptionInInitializerError, or none where the heap would be passed.
-#[tactic(auto, using(crate::proofs::Left::kept_error, crate::proofs::Left::replaced))]
+#[tactic(auto, using(crate::proofs::Left::kept_error))]
 pub fn fail_class(
     world: &mut World,
     alloc: Global,
@@ -98,7 +98,7 @@ fn awaited(alloc: Global, p: &Program, world: &World) -> Result<Option<Catch>, M
 
 /// The object leaves the script, unless it is the exception that the test method is to throw; what
 /// is thrown, if anything is.
-#[tactic(auto, using(crate::proofs::Left::not_awaited, crate::proofs::Left::other_leaves, crate::proofs::Left::expected_leaves))]
+#[tactic(auto, using(crate::proofs::Left::not_awaited))]
 pub fn leave_script(
     world: &mut World,
     alloc: Global,

@@ -13,7 +13,7 @@ use jvm_catch::{Catch, CatchRow, find_handler};
 use jvm_world::World;
 
 /// The instruction at which these rows go on with an object of this class, thrown at an instruction.
-#[tactic(auto, using(crate::proofs::Worlds::searched, crate::proofs::Worlds::none_found, crate::proofs::Worlds::kept_tested))]
+#[tactic(auto, using(crate::proofs::Worlds::kept_tested))]
 pub fn handler(
     world: &mut World,
     p: &Program,
@@ -35,7 +35,7 @@ pub fn handler(
 }
 
 /// Whether an object of this class is of the one that is named, or of one below it.
-#[tactic(auto, using(crate::proofs::Worlds::caught, crate::proofs::Worlds::kept_tested))]
+#[tactic(auto, using(crate::proofs::Worlds::kept_tested))]
 pub fn is_caught(
     world: &mut World,
     p: &Program,

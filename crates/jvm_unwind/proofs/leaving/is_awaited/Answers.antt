@@ -1,4 +1,4 @@
-use Rattle.std.proofs.Common.{rules, ◌≡◌, ◌∙◌, sym, ap, Bool}
+use Rattle.std.proofs.Common.{rules, ◌≡◌, ◌∙◌, sym, ap}
 use Rattle.std.specs.Prelude.{◌&&◌, is_some}
 use Rattle.jvm_unwind.proofs.Worlds.{awaited_is}
 use Rattle.jvm_unwind.proofs.leaving.is_awaited.Goals as goal
