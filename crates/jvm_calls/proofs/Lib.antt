@@ -1,3 +1,2 @@
 mod Given
 mod Back
-mod Called
