@@ -3,3 +3,4 @@ pub mod Keeping
 pub mod StaySteps
 pub mod RunSteps
 pub mod Dropping
+pub mod Lands

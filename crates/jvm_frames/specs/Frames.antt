@@ -9,7 +9,7 @@ use Rattle.program_rules.specs.declared.value.Value.TheVariants.{Ref}
 use Rattle.program_rules.specs.Instructions as def
 use Rattle.machine_rules.specs.declared.machine.Limits.{Limits}
 use Rattle.machine_rules.specs.State as rules
-use Rattle.machine_rules.specs.Effects.{Effect, NoRow, goes_with, on_args, locals_of, pushes}
+use Rattle.machine_rules.specs.Effects.{Effect, NoRow, goes_with, on_args, locals_of, pushes, jumps}
 use Rattle.jvm_state.specs.declared.op.Op.{Op}
 use Rattle.jvm_state.specs.declared.slot.Slot.{Slot}
 use Rattle.jvm_state.specs.declared.frame.Frame.{Frame}
@@ -141,6 +141,16 @@ gone_on f words = record f { at = f.at + 1; sp = f.sp - words }
 abbrev pub IsAdvanced : ℕ → NumberedFrames → NumberedFrames → Type 0
 IsAdvanced count old new =
     IfSome old.frame (λ f. new ≡ record old { frame = Some (advanced count f) })
+
+-- ---- handlers
+
+-- A frame goes on at an instruction, with this object as the only item of its stack (JVMS 2.10).
+abbrev pub landing : ℕ → ℕ → Row
+landing x to = λ w f fs. jumps w f fs to (Ref x ∷ [])
+
+-- The running frame goes on so, and those below it are as they were.
+abbrev pub IsLanded : ℕ → ℕ → NumberedFrames → NumberedFrames → Type 0
+IsLanded x to old new = IfSome old.frame (λ f. GoOn (landing x to) f old new)
 
 -- ---- calls
 

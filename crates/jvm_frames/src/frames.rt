@@ -7,8 +7,9 @@ ghost use Rattle.jvm_state.specs.Slots.{locals_in};
 ghost use Rattle.jvm_state.specs.Stores.{IsFrame, operands_at};
 ghost use Rattle.jvm_state.specs.Ops.{is_alone};
 ghost use Rattle.jvm_frames.specs.Staying.{StayOn};
-ghost use Rattle.jvm_frames.specs.Frames.{ActsOn, HasArgs, NoArgs, HasWords, IsAt, IsCut, IsCalled, args_on, instance_args, instance_words, first_frame, left_behind, depth_of, stack_of, gone_on, has_room_for, IsPut, IsAdvanced};
+ghost use Rattle.jvm_frames.specs.Frames.{ActsOn, HasArgs, NoArgs, HasWords, IsAt, IsCut, IsCalled, args_on, instance_args, instance_words, first_frame, left_behind, depth_of, stack_of, gone_on, has_room_for, IsPut, IsAdvanced, IsLanded};
 
+use crate::landing::land_in;
 use crate::pushing::push_in;
 use crate::staying::stay_in;
 use crate::values::{below_args, top_value, top_values, value_at, width, words_of};
@@ -266,6 +267,19 @@ impl Frames {
         self.frame = Some(gone_on(&frame, words));
     }
 
+    /// The running frame goes on at a handler, with the object that is thrown as the only item of
+    /// its stack. Its stack has room for one.
+    pub fn land(&mut self, object: u32, to: usize)
+        requires room { IfSome self.old.frame (λ f. 1 ≤ f.room) }
+        ensures { IsLanded object to self.old self.new }
+    {
+        let Some(mut frame) = self.frame else {
+            return;
+        };
+        land_in(object, to, &mut self.slots, &mut frame);
+        self.frame = Some(frame);
+    }
+
     /// Takes steps of the running frame, so many at most, and says how many. Each is of an
     /// instruction of these that touches the frame alone and has a mark.
     pub fn stay(&mut self, ops: &[Op], longs: &[i64], marks: &[bool], limit: u64) -> u64
@@ -341,6 +355,23 @@ impl Frames {
         )?;
         self.frame = Some(callee);
         Ok(())
+    }
+
+    /// How many frames stand below the running one.
+    pub fn below(&self) -> usize
+        ensures { result ≡ length self.now.callers }
+    {
+        self.callers.len()
+    }
+
+    /// Whether the stack of the frame below has room for a value, if there is one.
+    pub fn fits_below(&self, v: Value) -> bool
+        ensures { IfSome (slice_get self.now.callers 0) (λ f. result ≡ has_room_for 0 v f) }
+    {
+        match self.callers.last() {
+            Some(caller) => is_within(caller.sp, width(v), caller.top),
+            None => true,
+        }
     }
 
     /// The running frame is popped.

@@ -2,6 +2,7 @@
 #![tactic(auto)]
 
 mod frames;
+mod landing;
 mod laws;
 mod pushing;
 mod staying;

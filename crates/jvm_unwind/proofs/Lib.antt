@@ -1,0 +1,4 @@
+mod Classes
+mod Worlds
+pub mod Left
+pub mod Steps
