@@ -5,6 +5,6 @@ mod behind;
 mod row;
 mod search;
 
-pub use behind::class_behind;
+pub use behind::{class_behind, is_array_name};
 pub use row::{Catch, CatchRow, catch_rows};
 pub use search::find_handler;
