@@ -1,2 +1,3 @@
 mod Keeping
 mod Finding
+mod Selected

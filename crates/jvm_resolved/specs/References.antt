@@ -20,9 +20,11 @@ use Rattle.jvm_link.specs.declared.site.Callee.{Callee}
 use Rattle.jvm_link.specs.Sites.{outline_at, node_at}
 use Rattle.jvm_link.specs.Answers.{AnswersCall}
 use Rattle.jvm_link.specs.Named.{IsClassNamed, field_named, method_named}
+use Rattle.jvm_resolved.specs.declared.rows.Receiver.{Receiver}
 use Rattle.jvm_resolved.specs.declared.rows.Kept.{Kept}
 use Rattle.jvm_resolved.specs.declared.rows.Kept.TheVariants as kept
 use Rattle.jvm_resolved.specs.Holding.{held}
+use Rattle.jvm_resolved.specs.Selecting.{SelectsVirtual, SelectsByName}
 
 -- A reference to a field resolves to the field of this class at this place.
 pub record IsFieldNamed (p : List Info) (r : FieldRef) (s : Site) : Type 0 where
@@ -61,7 +63,8 @@ pub record IsMethodOf
   pub named : IsClassNamed p r.class id
   pub resolved : ResolvesMethodRef p r answer
 
--- What is kept for an index is what the definitions give, whichever kind of reference it is.
+-- What is kept for an index is what the definitions give, whichever kind of reference it is, and
+-- whatever is selected there.
 abbrev pub IsRight : List Info → ℕ → ℕ → Kept → Type 0
 IsRight p class index (kept.Class id) =
     (n : Name) → IsEntry p class index (entry.Class n) → IsClassNamed p n id
@@ -69,6 +72,10 @@ IsRight p class index (kept.Field id answer) =
     (r : FieldRef) → IsEntry p class index (entry.Field r) → IsFieldOf p id answer r
 IsRight p class index (kept.Method id answer) =
     (r : MethodRef) → IsEntry p class index (entry.Method r) → IsMethodOf p id answer r
+IsRight p class index (kept.Virtual to answer) =
+    (r : MethodRef) → IsEntry p class index (entry.Method r) → SelectsVirtual p r to answer
+IsRight p class index (kept.Named to answer) =
+    (r : MethodRef) → IsEntry p class index (entry.Method r) → SelectsByName p r to answer
 
 -- All that is kept is right.
 abbrev pub IsTableOf : List Info → List (List (Option Kept)) → Type 0
@@ -105,3 +112,19 @@ pub record KeepsMethod
   pub resolved :
       (p : List Info) (r : MethodRef) → IsTableOf p rows →
       IsEntry p class index (entry.Method r) → ResolvesMethodRef p r answer
+
+-- What is kept for such an object is what it selects of the resolved method.
+pub record KeepsVirtual
+    (rows : List (List (Option Kept))) (class index : ℕ) (to : Receiver)
+    (answer : Result Callee Fault) : Type 0 where
+  pub selects :
+      (p : List Info) (r : MethodRef) → IsTableOf p rows →
+      IsEntry p class index (entry.Method r) → SelectsVirtual p r to answer
+
+-- It is what it selects by name and descriptor.
+pub record KeepsNamed
+    (rows : List (List (Option Kept))) (class index : ℕ) (to : Receiver)
+    (answer : Result Callee Fault) : Type 0 where
+  pub selects :
+      (p : List Info) (r : MethodRef) → IsTableOf p rows →
+      IsEntry p class index (entry.Method r) → SelectsByName p r to answer

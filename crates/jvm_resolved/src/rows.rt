@@ -9,12 +9,22 @@ use jvm_link::{Callee, Site};
 use program_rules::Fault;
 use std::marker::Model;
 
-/// What an index of a constant pool resolves to, with the class that its name stands for.
+/// The class of an object, or of the elements of an array.
+#[derive(Clone, Copy)]
+pub struct Receiver {
+    pub class: ClassId,
+    pub array: bool,
+}
+
+/// What an index of a constant pool resolves to, with the class that its name stands for; or what
+/// an object selects there, of the resolved method or by name, with the object's class.
 #[derive(Clone, Copy)]
 pub enum Kept {
     Class(ClassId),
     Field(ClassId, Result<Site, Fault>),
     Method(ClassId, Result<Callee, Fault>),
+    Virtual(Receiver, Result<Callee, Fault>),
+    Named(Receiver, Result<Callee, Fault>),
 }
 
 /// What is kept for the indices of one class, up to the last one that anything is kept for.
