@@ -9,3 +9,4 @@ mod Overrides
 mod Packages
 mod Reaching
 mod Virtual
+mod Naming

@@ -1,26 +1,20 @@
 -- The method of a class that overrides a resolved one, by number.
 use Rattle.std.proofs.Common.{◌≡◌, ◌∙◌, sym, refl, ap, subst, ℕ, zero, suc, ◌+◌, ◌<◌, ◌≤◌, nat_eq, Bool, true, false, List, [], ◌∷◌, map, length, drop, Option, None, Some, slice_get, arith}
 use Rattle.std.specs.Prelude.{◌&&◌, ◌||◌, if◌then◌else◌}
-use Rattle.std.specs.List.{list_any}
-use Rattle.program_rules.specs.Names.{Name, same, is_listed, package_of}
+use Rattle.program_rules.specs.Names.{same, is_listed, package_of}
 use Rattle.program_rules.specs.Instructions.{MethodRef}
 use Rattle.program_rules.specs.Linked.{is_open}
-use Rattle.program_rules.specs.Outlines.{Head, head_in, heads_in}
+use Rattle.program_rules.specs.Outlines.{heads_in}
 use Rattle.program_rules.specs.Programs.{supers}
 use Rattle.program_rules.specs.Resolution.{MethodAt, method_at, with_node}
 use Rattle.class_link.specs.Info.{Info}
 use Rattle.class_table.specs.Table.{look, name_at, IsProgram}
 use Rattle.class_family.specs.Above.{is_above}
 use Rattle.class_family.proofs.Numbered.{among_named}
-use Rattle.jvm_marks.specs.Marks.{is_among}
 use Rattle.jvm_link.specs.declared.site.Site.{Site}
-use Rattle.jvm_link.specs.Sites.{outline_at, node_at, DeclaresMethod, IsMethod, AnswersMethod}
+use Rattle.jvm_link.specs.Sites.{outline_at, node_at, DeclaresMethod, IsMethod}
 use Rattle.jvm_link.specs.Candidates.{can_choose}
-use Rattle.jvm_link.specs.Overriding.{own_method, fits, opens, is_opened, reaches, overrides, if_overriding, is_opened_at, IsShut, StandsBelow, Reach, IsResolved, Takes}
-
-both_none : (b : Bool) (none : Option MethodAt) → (if b then none else none) ≡ none
-both_none true none = refl
-both_none false none = refl
+use Rattle.jvm_link.specs.Overriding.{own_method, fits, opens, is_opened, overrides, if_overriding, is_opened_at, StandsBelow, Reach, IsResolved, Takes}
 
 pub both_hold : (x y a b : Bool) → a ≡ x → b ≡ y → a ≡ true → b ≡ true → (x && y) ≡ true
 both_hold x y a b e f g h = ap (λ z. z && y) (sym e ∙ g) ∙ sym f ∙ h
@@ -45,23 +39,12 @@ pub number_named : (p : List Info) (a b : ℕ) → IsProgram p → a < length p 
 number_named p a b ok la lb =
     sym (or_none (nat_eq a b)) ∙ among_named p b (a ∷ []) ok.distinct lb (one_within p a la) ∙ or_none (same (name_at p a) (name_at p b))
 
-pub above_same : (p : List Info) (a b : ℕ) → IsProgram p → a < length p → b < length p → a ≡ b → false ≡ is_above (look p) (name_at p a) (name_at p b)
-above_same p a b ok la lb e =
-    let t : nat_eq a b ≡ true = grind (arith, e) in
-    sym (ap (λ x. if x then false else is_listed (name_at p b) (supers (look p) (name_at p a))) (sym (number_named p a b ok la lb) ∙ t))
-
 pub above_other : (p : List Info) (a b : ℕ) (r : Bool) → IsProgram p → a < length p → b < length p → (a ≡ b → ⊥) → r ≡ is_listed (name_at p b) (supers (look p) (name_at p a)) → r ≡ is_above (look p) (name_at p a) (name_at p b)
 above_other p a b r ok la lb other e =
     let t : nat_eq a b ≡ false = grind (arith, other) in
     e ∙ sym (ap (λ x. if x then false else is_listed (name_at p b) (supers (look p) (name_at p a))) (sym (number_named p a b ok la lb) ∙ t))
 
 module _ (p : List Info) (r : MethodRef) where
-  pub declared_fits : (test : ℕ → Bool) (a place flags : ℕ) (answer : Bool) (h : DeclaresMethod p a r.name r.desc place) → flags ≡ h.head.flags → answer ≡ test flags → answer ≡ fits test (own_method (look p) r (name_at p a))
-  declared_fits test a place flags answer h e is = is ∙ ap test e ∙ sym (ap (λ o. fits test (with_node (node_at p a) o)) h.there)
-
-  pub nothing_fits : (test : ℕ → Bool) (a : ℕ) → head_in r.name r.desc (outline_at p a) ≡ None → false ≡ fits test (own_method (look p) r (name_at p a))
-  nothing_fits test a e = sym (ap (λ o. fits test (with_node (node_at p a) o)) e)
-
   -- ---- classes that wide
 
   module _ (over : ℕ) (ids : List ℕ) (a : ℕ) where
@@ -90,14 +73,6 @@ module _ (p : List Info) (r : MethodRef) where
     pub opened_nowhere : (i : ℕ) → length ids ≤ i → opened_in ids ≡ opened_in (drop i ids) → false ≡ opened_in ids
     opened_nowhere i le before = sym (before ∙ ap opened_in (dropped_past ids i le))
 
-    -- ---- a class that reaches
-
-    pub reach_near : (wide near : Bool) → near ≡ same (package_of (name_at p a)) (package_of (name_at p over)) → (wide || near) ≡ true → Reach p r over wide ids a true
-    reach_near wide near e is = sym (ap (λ b. b || is_opened_at p r over ids a) (ap (λ x. wide || x) (sym e) ∙ is))
-
-    pub reach_far : (wide near answer : Bool) → near ≡ same (package_of (name_at p a)) (package_of (name_at p over)) → (wide || near) ≡ false → answer ≡ is_opened_at p r over ids a → Reach p r over wide ids a answer
-    reach_far wide near answer e is opened = opened ∙ sym (ap (λ b. b || is_opened_at p r over ids a) (ap (λ x. wide || x) (sym e) ∙ is))
-
     -- ---- the method of a class
 
     abbrev own : Option MethodAt
@@ -105,9 +80,6 @@ module _ (p : List Info) (r : MethodRef) where
 
     taken_by : (m : MethodAt) (b : Bool) → overrides (look p) r m (map (name_at p) ids) (name_at p a) ≡ b → if_overriding (look p) r m (map (name_at p) ids) (name_at p a) ≡ (if b then own else None)
     taken_by m b e = ap (λ x. if x then own else None) e
-
-    pub site_absent : (wide : Bool) → head_in r.name r.desc (outline_at p a) ≡ None → Takes p r over wide ids a None
-    site_absent wide e m is = ap (λ o. if overrides (look p) r m (map (name_at p) ids) (name_at p a) then o else None) (ap (with_node (node_at p a)) e) ∙ both_none (overrides (look p) r m (map (name_at p) ids) (name_at p a)) None
 
     overrides_by : (m : MethodAt) (wide s f b c : Bool) → IsResolved p over wide m → same (name_at p over) (name_at p a) ≡ s → fits can_choose own ≡ f → is_above (look p) (name_at p a) (name_at p over) ≡ b → Reach p r over wide ids a c → overrides (look p) r m (map (name_at p) ids) (name_at p a) ≡ (s || (f && (b && c)))
     overrides_by m wide s f b c is es ef eb ec =
@@ -125,12 +97,6 @@ module _ (p : List Info) (r : MethodRef) where
       there = subst (λ x. slice_get (heads_in (outline_at p x)) s.place ≡ Some h.head) (sym here) h.within;
       found = e ∙ ap (with_node (node_at p a)) h.there ∙ ap (λ x. Some (method_at (node_at p x) (s.place, h.head))) (sym here);
     }
-
-    pub site_same : (wide : Bool) (s : Site) → s.class.0 ≡ a → IsProgram p → a < length p → over < length p → a ≡ over → DeclaresMethod p a r.name r.desc s.place → Takes p r over wide ids a (Some s)
-    site_same wide s here ok la lo e h m is =
-        let t : nat_eq over a ≡ true = grind (arith, e) in
-        let st : same (name_at p over) (name_at p a) ≡ true = sym (number_named p over a ok lo la) ∙ t in
-        own_there s here la h (if_overriding (look p) r m (map (name_at p) ids) (name_at p a)) (taken_by m true (overrides_by m wide true (fits can_choose own) (is_above (look p) (name_at p a) (name_at p over)) ((wide || same (package_of (name_at p a)) (package_of (name_at p over))) || is_opened_at p r over ids a) is st refl refl refl))
 
     apart_false : IsProgram p → a < length p → over < length p → (a ≡ over → ⊥) → same (name_at p over) (name_at p a) ≡ false
     apart_false ok la lo other =

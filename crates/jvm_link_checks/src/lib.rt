@@ -1,0 +1,20 @@
+//! What references resolve to and what is selected, as a Java runtime has it; and what the wrong
+//! bodies of `jvm_link` are tried on.
+//!
+//! Each function of `calls` is a call of `jvm_link` with the same contract. A wrong body in its
+//! place that is refused would be refused there too.
+#![tactic(auto)]
+
+pub mod calls;
+#[cfg(test)]
+mod links;
+#[cfg(test)]
+mod program;
+#[cfg(test)]
+mod row;
+#[cfg(test)]
+mod rows;
+#[cfg(test)]
+mod shapes;
+#[cfg(test)]
+mod uses;

@@ -1,0 +1,14 @@
+//! What a reference resolves to, and what objects select of it, found once and kept by class number
+//! and index of the constant pool.
+#![tactic(auto)]
+
+mod entries;
+mod references;
+mod rows;
+mod search;
+mod selections;
+
+pub use entries::entry;
+pub use references::References;
+pub use rows::{Kept, Receiver};
+pub use selections::Selections;
