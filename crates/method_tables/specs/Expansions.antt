@@ -87,11 +87,11 @@ ExpandFrom x ts ds store frames (Some at) = OneFails x ts ds at
 -- A method of the rules and its code are these, by the names of a class; and so are the receiver
 -- with the arguments, and the frames that are stated.
 pub record IsMethodOf
-    (x : MethodCode) (first : List SlotType) (ds : List Difference) (ns : List Named) (n : Name)
-    (m : LinkedMethod) (code : LinkedCode) : Type 0 where
-  pub method : IsOf x m code
-  pub first : types_in ns first ≡ first_items n m
-  pub frames : map (frame_in ns) ds ≡ code.frames
+    (x : MethodCode) (ts : List SlotType) (ds : List Difference) (ns : List Named) (n : Name)
+    (m : LinkedMethod) (c : LinkedCode) : Type 0 where
+  pub method : IsOf x m c
+  pub first : types_in ns ts ≡ first_items n m
+  pub frames : map (frame_in ns) ds ≡ c.frames
 
 -- What the frames that are stated come to.
 abbrev pub IsExpansion : List Named → Expansion → Result (List FullFrame) ℕ → Type 0

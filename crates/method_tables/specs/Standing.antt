@@ -20,9 +20,9 @@ use Rattle.method_tables.specs.declared.method.MethodCode.{MethodCode}
 abbrev pub code_in : MethodCode → linked.LinkedCode
 code_in x = code_of x.linked.now.entries x.code.now
 
-pub record IsOf (x : MethodCode) (m : linked.LinkedMethod) (code : linked.LinkedCode) : Type 0 where
+pub record IsOf (x : MethodCode) (m : linked.LinkedMethod) (c : linked.LinkedCode) : Type 0 where
   pub initializer : is_initializer m ≡ x.is_initializer
-  pub code : code ≡ code_in x
+  pub code : c ≡ code_in x
 
 -- Whether a `new` of this index names a class; whether an instruction is such a `new`, and whether
 -- the one at a place is.
@@ -46,10 +46,10 @@ abbrev pub fits : MethodCode → ℕ → List SlotType → Bool
 fits x max ts = nat_le (words_of ts) max && list_all (stands x) ts
 
 -- These are the types of a method's receiver and of its arguments, which fit its locals.
-pub record AreFirst (x : MethodCode) (first : List SlotType) : Type 0 where
+pub record AreFirst (x : MethodCode) (ts : List SlotType) : Type 0 where
   pub names : List Named
   pub class : Name
   pub method : linked.LinkedMethod
   pub initializer : is_initializer method ≡ x.is_initializer
-  pub types : types_in names first ≡ first_items class method
-  pub few : words_of first ≤ x.code.now.max_locals
+  pub types : types_in names ts ≡ first_items class method
+  pub few : words_of ts ≤ x.code.now.max_locals
