@@ -1,8 +1,8 @@
 -- Frame by frame, what the rules make of all.
-use Rattle.std.proofs.Common.{◌≡◌, ◌<◌, ◌≤◌, ◌+◌, ◌-◌, ℕ, zero, suc, Bool, true, false, List, [], ◌∷◌, ◌++◌, length, map, reverse, drop, get_or, Option, Some, None, Result, Ok, Err, All, refl, sym, ap, ◌∙◌, subst, arith}
+use Rattle.std.proofs.Common.{◌≡◌, ℕ, Bool, true, false, List, [], ◌∷◌, ◌++◌, map, reverse, Option, Some, None, Result, Ok, Err, refl, sym, ap, ◌∙◌, subst}
 use Rattle.std.specs.Prelude.{if◌then◌else◌, nat_eq, slice_get, IfSome}
 use Rattle.std.specs.Option.{option_map}
-use Rattle.std.proofs.lemmas.List.{append-nil, reverse-reverse}
+use Rattle.std.proofs.lemmas.List.{reverse-reverse}
 use Rattle.std.proofs.lemmas.List.Elements.{All-cons, All-head, All-nil, All-tail}
 use Rattle.program_rules.specs.Names.{Name}
 use Rattle.program_rules.specs.Linked.{LinkedMethod, LinkedCode}
@@ -15,8 +15,8 @@ use Rattle.vframes.specs.declared.slot_type.SlotType.{SlotType}
 use Rattle.vframes.specs.declared.stated.Local.{Local}
 use Rattle.vframes.specs.declared.stated.Locals.{Locals}
 use Rattle.vframes.specs.declared.stated.StatedFrame.{StatedFrame}
-use Rattle.vframes.specs.View.{types_in, words_of}
-use Rattle.vframes.specs.Stated.{AreLocals, AreMoreBy, StayRight}
+use Rattle.vframes.specs.View.{types_in}
+use Rattle.vframes.specs.Stated.{AreLocals, StayRight}
 use Rattle.vframes.specs.StatedFrames.{StatedTypes, stated_types, types_down, kept_types, IsKept, AreKept, table_of, filled, frame_at}
 use Rattle.vframes.proofs.StatedTables.{down_is, kept_is, in_table}
 use Rattle.type_verifier.specs.declared.shapes.Difference.{Difference}

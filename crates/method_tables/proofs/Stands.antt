@@ -1,5 +1,5 @@
 -- Which types may stand in a frame, and how many.
-use Rattle.std.proofs.Common.{◌≡◌, ◌≤◌, ◌+◌, ◌&&◌, ℕ, zero, suc, Bool, true, false, List, [], ◌∷◌, ◌++◌, map, reverse, drop, Option, Some, None, refl, sym, ap, ◌∙◌, subst, arith}
+use Rattle.std.proofs.Common.{◌≡◌, ◌≤◌, ◌+◌, ◌&&◌, ℕ, zero, suc, Bool, true, false, List, [], ◌∷◌, ◌++◌, map, reverse, drop, Some, None, refl, sym, ap, ◌∙◌, arith}
 use Rattle.std.specs.Prelude.{if◌then◌else◌, nat_le, slice_get, is_some}
 use Rattle.std.specs.List.{list_all}
 use Rattle.std.specs.Option.{option_map}
@@ -19,9 +19,9 @@ use Rattle.vframes.specs.declared.named.Named.{Named}
 use Rattle.vframes.specs.declared.slot_type.SlotType.{SlotType}
 use Rattle.vframes.specs.declared.slot_type.SlotType.TheVariants as slot
 use Rattle.vframes.specs.View.{type_of, types_in, words_of}
-use Rattle.vframes.proofs.Words.{words_append, words_turned, words_take}
+use Rattle.vframes.proofs.Words.{words_append, words_turned}
 use Rattle.method_tables.specs.declared.method.MethodCode.{MethodCode}
-use Rattle.method_tables.specs.Standing.{IsOf, AreFirst, has_new, is_new_in, stands, fits}
+use Rattle.method_tables.specs.Standing.{IsOf, AreFirst, is_new_in, stands, fits}
 
 -- ---- the instruction at a place
 

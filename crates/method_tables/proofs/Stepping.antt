@@ -1,5 +1,5 @@
 -- A difference, by the names of a class, makes the frame that the rules make of it.
-use Rattle.std.proofs.Common.{◌≡◌, ◌≤◌, ◌+◌, ◌-◌, ◌&&◌, ℕ, zero, suc, Bool, true, false, List, [], ◌∷◌, ◌++◌, length, map, reverse, take, drop, Option, Some, None, Result, Ok, Err, refl, sym, ap, ◌∙◌, subst, arith}
+use Rattle.std.proofs.Common.{◌≡◌, ◌≤◌, ◌-◌, ◌&&◌, ℕ, zero, suc, Bool, true, false, List, [], ◌∷◌, ◌++◌, length, map, reverse, take, drop, Option, Some, None, Result, Err, refl, sym, ap, ◌∙◌, arith}
 use Rattle.std.specs.Prelude.{if◌then◌else◌, nat_le, nat_lt}
 use Rattle.std.specs.List.{list_all}
 use Rattle.std.specs.Option.{option_map}
@@ -25,7 +25,7 @@ use Rattle.type_verifier.specs.declared.shapes.Difference.{Difference}
 use Rattle.type_verifier.specs.Shapes.{shape_in}
 use Rattle.method_tables.specs.declared.method.MethodCode.{MethodCode}
 use Rattle.method_tables.specs.Standing.{IsOf, code_in, stands, fits}
-use Rattle.method_tables.specs.Steps.{AreThese, IsThis, IsFrameBy, chopped, locals_by, stack_by, fit_any, is_framed}
+use Rattle.method_tables.specs.Steps.{IsFrameBy, locals_by, stack_by, fit_any, is_framed}
 use Rattle.method_tables.proofs.Stands.{all_stand, all_turned}
 
 -- ---- locals and stack

@@ -1,4 +1,4 @@
-use Rattle.std.proofs.Common.{◌≡◌, ◌∙◌, sym}
+use Rattle.std.proofs.Common.{◌∙◌, sym}
 use Rattle.method_tables.proofs.Nexts.{stack_fits, stack_unfit}
 use Rattle.method_tables.proofs.steps.stack_of.Goals as goal
 

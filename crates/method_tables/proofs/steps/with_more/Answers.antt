@@ -1,4 +1,4 @@
-use Rattle.std.proofs.Common.{◌≡◌, ◌∙◌, sym}
+use Rattle.std.proofs.Common.{◌∙◌, sym}
 use Rattle.method_tables.proofs.Nexts.{words_within, has_room, more_fit, more_unfit}
 use Rattle.method_tables.proofs.steps.with_more.Goals as goal
 
