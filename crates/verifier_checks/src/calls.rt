@@ -1,12 +1,12 @@
 //! A function for each public call over which wrong bodies are tried, with the call's contract.
 
 ghost use Rattle.std.specs.Prelude.{◌≡◌, IfOk};
-ghost use Rattle.program_rules.specs.Names.{Name as Text};
 ghost use Rattle.program_rules.specs.Instructions.{ArrayLoad, LongStore, NullConstant, ReferenceReturn};
 ghost use Rattle.type_rules.specs.References.{classes_of};
 ghost use Rattle.type_rules.specs.Assignability.{name_assignable};
 ghost use Rattle.class_table.specs.Table.{look};
-ghost use Rattle.vframes.specs.Named.{AreDistinct, AreNamed, HaveComponents, IsClosed, IsNamed, IsNumberOf, IsWithin};
+ghost use Rattle.vframes.specs.Named.{AreDistinct, AreNamed, HaveComponents, IsClosed, IsNamed, IsWithin};
+ghost use Rattle.vframes.specs.Fits.{InterfaceIs};
 ghost use Rattle.type_rows.specs.Answers.{RowIs};
 ghost use Rattle.type_rows.specs.Sites.{AreItems, RowAt, SpecialIs};
 
@@ -30,7 +30,7 @@ pub fn is_name_assignable(program: &Program, from: &Named, to: &Named) -> bool
 /// `vframes::is_interface`
 pub fn is_interface(program: &Program, class: Option<ClassId>) -> bool
     requires { IsWithin program.now class }
-    ensures { (n : Text) → IsNumberOf program.now class n → result ≡ (classes_of (look program.now)).interface n }
+    ensures { InterfaceIs program.now class result }
 {
     let answer = vframes::is_interface(program, class);
     answer
