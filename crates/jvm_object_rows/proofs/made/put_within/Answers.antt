@@ -1,4 +1,3 @@
-use Rattle.jvm_heap_rows.specs.declared.effect.Effect.TheVariants as effect
 use Rattle.jvm_heap_rows.specs.Rows.{putting}
 use Rattle.jvm_heap_rows.proofs.Ends.{no_row, put_runs, fits_not, fits_there}
 use Rattle.jvm_heap_rows.proofs.Loading.{no_room}
