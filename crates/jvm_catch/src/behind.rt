@@ -58,15 +58,15 @@ pub fn class_behind(alloc: Global, name: &Name) -> Result<Name, Memory>
     }
 }
 
-// The class above all others.
-fn object_name(alloc: Global) -> Result<Name, Memory>
+/// The class above all others.
+pub fn object_name(alloc: Global) -> Result<Name, Memory>
     ensures { IfOk result (λ n. n ≡ object_name) }
 {
     ascii(alloc, "java/lang/Object")
 }
 
-// The name of a text of ASCII characters.
-fn ascii(alloc: Global, text: &str) -> Result<Name, Memory>
+/// The name of a text of ASCII characters.
+pub fn ascii(alloc: Global, text: &str) -> Result<Name, Memory>
     ensures { IfOk result (λ name. name ≡ text.now) }
 {
     let mut units = Vec::with_capacity(alloc, text.len())?;

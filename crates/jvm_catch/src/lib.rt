@@ -5,6 +5,6 @@ mod behind;
 mod row;
 mod search;
 
-pub use behind::class_behind;
-pub use row::{Catch, CatchRow, catch_rows};
+pub use behind::{ascii, class_behind, object_name};
+pub use row::{Catch, CatchRow, catch_named, catch_rows};
 pub use search::find_handler;

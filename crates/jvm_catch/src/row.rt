@@ -31,8 +31,8 @@ pub struct CatchRow {
     pub catch: Catch,
 }
 
-// What a row catches that names this class.
-fn catch_named(alloc: Global, program: &Program, name: &Shared<Name>) -> Result<Catch, Memory>
+/// What a row catches that names this class.
+pub fn catch_named(alloc: Global, program: &Program, name: &Shared<Name>) -> Result<Catch, Memory>
     ensures name { IfOk result (λ c. catch_name program.now c ≡ Some name.now) }
     ensures right { IfOk result (λ c. IsCatch program.now c) }
 {

@@ -42,8 +42,8 @@ fn tests_class(
 }
 
 impl Catch {
-    // Consults the class that is named, and says whether the row catches an object of this class.
-    fn catches(
+    /// Consults the class that is named, and says whether the row catches an object of this class.
+    pub fn catches(
         &self,
         program: &Program,
         seen: &mut Consulted,
