@@ -4,8 +4,10 @@
 mod casting;
 mod descriptors;
 mod instance;
+mod storing;
 mod texts;
 mod within;
 
 pub use casting::{check_cast, is_instance, test_instance};
 pub use instance::is_kind_within;
+pub use storing::store_reference;

@@ -81,8 +81,7 @@ fn without_first(text: &[u16]) -> &[u16]
     }
 }
 
-/// The name of a class or an array that a field descriptor says, if the text is one of a class or an
-/// array.
+/// The name of a class or an array that a field descriptor says, if the text is one of either.
 pub fn name_in(descriptor: &[u16]) -> &[u16]
     ensures { result.now ≡ name_in descriptor.now }
 {
