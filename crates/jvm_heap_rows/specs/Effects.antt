@@ -1,5 +1,5 @@
 -- What a row of the machine comes to, of frames and a world by number.
-use Rattle.std.specs.Prelude.{◌≡◌, ℕ, List, ◌∷◌, None, Some, IfSome, IsSomeAnd}
+use Rattle.std.specs.Prelude.{◌≡◌, ℕ, Bool, true, false, List, ◌∷◌, None, Some, IfSome, IsSomeAnd}
 use Rattle.program_rules.specs.Names.{Name}
 use Rattle.machine_rules.specs.declared.machine.Limits.{Limits}
 use Rattle.machine_rules.specs.State as def
@@ -36,6 +36,12 @@ abbrev pub IsThrown : List Info → Row → NumberedFrame → World → World �
 IsThrown p row f w u x =
     AtEach p f w (λ class v fs.
     Comes p u (framed class f ∷ fs) (Some x) (row v (framed class f) fs))
+
+-- Whether a row applied.
+abbrev pub is_row : code.Effect → Bool
+is_row effect.NoRow = false
+is_row effect.Goes = true
+is_row (effect.Throws x) = true
 
 -- What a row comes to at the running frame of these frames, in this world. Where no row applies
 -- both are as they were.

@@ -24,7 +24,7 @@ is_primitive e = true
 abbrev pub storing_element : Look → Element → RowOf
 storing_element p e = λ q room w f fs. stores_element p q w f fs e
 
--- What is left of it for a value that is no reference, once value, index and array were read.
+-- What is left of it for a value that has no test, once value, index and array were read.
 abbrev pub storing_at : Element → ℤ → ℕ → Value → RowOf
 storing_at e i x value = λ q room w f fs.
     on_element q w (f ∷ fs) e i (Some x) (λ y b k old.

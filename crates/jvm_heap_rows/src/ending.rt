@@ -1,9 +1,9 @@
 // How rows end.
 
-ghost use Rattle.std.specs.Prelude.{OnOk, IfOk};
+ghost use Rattle.std.specs.Prelude.{◌≡◌, true, OnOk, IfOk};
 ghost use Rattle.jvm_frames.specs.Frames.{NumberedFrames};
 ghost use Rattle.jvm_world.specs.View.{IsWorldOf, IsKept};
-ghost use Rattle.jvm_heap_rows.specs.Effects.{Runs};
+ghost use Rattle.jvm_heap_rows.specs.Effects.{Runs, is_row};
 ghost use Rattle.jvm_heap_rows.specs.Rows.{throwing};
 
 use crate::effect::Effect;
@@ -18,6 +18,7 @@ pub fn throw(world: &mut World, alloc: Global, p: &Program, fault: Fault) -> Res
     requires { IsWorldOf p.now world.old }
     ensures throws { IfOk result (λ e. (fs : NumberedFrames) →
         Runs p.now (throwing fault) e fs fs world.old world.new) }
+    ensures done { IfOk result (λ e. is_row e ≡ true) }
     ensures kept { OnOk result (IsKept p.now world.old world.new) }
 {
     let thrown = world.throw(alloc, p, fault)?;

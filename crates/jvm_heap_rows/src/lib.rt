@@ -11,7 +11,10 @@ mod stack;
 mod storing;
 
 pub use effect::Effect;
-pub use elements::load_element;
+pub use elements::{Sought, find_element, load_element};
+pub use ending::throw;
 pub use fields::{get_field, put_field};
+pub use kinds::narrow_to;
 pub use monitors::{enter_monitor, exit_monitor, throw_object};
-pub use storing::store_element;
+pub use stack::{int_at, of_kind_at, reference_at};
+pub use storing::{store_element, store_in};

@@ -56,8 +56,9 @@ fn narrow_in(world: &World, p: &Program, object: u32, value: Value) -> Value
     }
 }
 
-// A value is stored at an index of an array, and all three are taken off.
-fn store_in(
+/// A value is stored at an index of an array, and all three are taken off. Of a reference this asks
+/// no class.
+pub fn store_in(
     frames: &mut Frames,
     world: &mut World,
     alloc: Global,

@@ -2,3 +2,4 @@ mod Named
 mod Rests
 mod Worlds
 pub mod Slots
+mod Lengths

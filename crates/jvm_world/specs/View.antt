@@ -1,5 +1,5 @@
 -- What the world of a machine means by the names of classes, and what its operations make of it.
-use Rattle.std.specs.Prelude.{◌≡◌, ℕ, ◌<◌, nat_lt, List, [], ◌∷◌, map, length, slice_set, Bool, true, false, Option, Some, None, codes, zero, suc}
+use Rattle.std.specs.Prelude.{◌≡◌, ℕ, ℤ, pos, ◌<◌, ◌+◌, ◌^◌, nat_lt, nat_le, List, [], ◌∷◌, map, length, slice_set, Bool, true, false, Option, Some, None, is_some, codes, zero, suc}
 use Rattle.std.specs.Option.{option_map}
 use Rattle.std.specs.HashMap.{get}
 use Rattle.program_rules.specs.Names.{Name, same}
@@ -10,6 +10,7 @@ use Rattle.program_rules.specs.Tests as tests
 use Rattle.machine_rules.specs.declared.machine.Outcome.TheVariants.{MemoryOut}
 use Rattle.machine_rules.specs.State as def
 use Rattle.program_rules.specs.declared.fault.Fault.{Fault}
+use Rattle.machine_rules.specs.Arrays.{array_kind}
 use Rattle.machine_rules.specs.Effects.{Effect, Goes, throws}
 use Rattle.machine_rules.specs.Fields.{static_value, with_values}
 use Rattle.machine_rules.specs.NewObjects.{made_for}
@@ -129,10 +130,17 @@ abbrev pub AreClasses : {A : Type 0} → List Info → List (ℕ × A) → Type 
 AreClasses p [] = Unit {0}
 AreClasses p (x ∷ xs) = (x.0 < length p) × AreClasses p xs
 
+-- Each object has fewer slots than an int counts.
+abbrev pub AreShort : List Object → Type 0
+AreShort [] = Unit {0}
+AreShort (o ∷ os) = (length o.values < 2 ^ 31) × AreShort os
+
 -- What always holds of a world of a program.
 pub record IsWorldOf (p : List Info) (w : World) : Type 0 where
   pub program : IsProgram p
   pub limit : w.heap.limit ≡ w.limits.heap
+  pub small : w.limits.heap < 2 ^ 31
+  pub lengths : AreShort w.heap.objects
   pub begun : AreClasses p w.begun
   pub consulted : IsConsultedOf p w.consulted
   pub reached : AreClasses p w.reached
@@ -167,6 +175,15 @@ abbrev pub Allocates :
     List Info → World → World → (def.World → Option (def.World × ℕ)) → Option ℕ → Type 0
 Allocates p old new make (Some x) = (v : def.World) → Means p old v → Gives p new x (make v)
 Allocates p old new make None = (v : def.World) → Means p old v → Fills p new v (make v)
+
+-- Whether so many words more are within the limit of the heap, in each world that is meant.
+abbrev pub TellsRoom : List Info → World → ℕ → Bool → Type 0
+TellsRoom p w words there =
+    (v : def.World) → Means p w v → nat_le (v.used + words) w.limits.heap ≡ there
+
+-- Whether there is room for what takes words of the heap, or it was made before.
+abbrev pub TellsMade : List Info → World → (def.World → Option (def.World × ℕ)) → Bool → Type 0
+TellsMade p w make there = (v : def.World) → Means p w v → is_some (make v) ≡ there
 
 -- An effect comes to these frames, to this object that is thrown, and to what the world means.
 pub record Comes
@@ -210,6 +227,16 @@ Takes p old new =
 abbrev pub IsObjectIn : List Info → World → ℕ → Option Object → Type 0
 IsObjectIn p w x o =
     (v : def.World) → Means p w v → objects.object_at v.heap x ≡ option_map (object_of p) o
+
+-- The number of an array's elements; none where it is no array.
+abbrev pub length_in : Option objects.Object → Option ℤ
+length_in None = None
+length_in (Some o) = option_map (λ k. pos (length o.values)) (array_kind o.kind)
+
+-- The same of the object of a number, in each world that is meant.
+abbrev pub TellsLength : List Info → World → ℕ → Option ℤ → Type 0
+TellsLength p w x n =
+    (v : def.World) → Means p w v → length_in (objects.object_at v.heap x) ≡ n
 
 -- A slot of an object is there, and holds this value from now on.
 pub record IsSet

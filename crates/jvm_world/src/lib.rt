@@ -5,6 +5,7 @@
 mod classes;
 mod made;
 mod monitors;
+mod objects;
 mod script;
 mod statics;
 mod text;

@@ -1,8 +1,7 @@
 //! The world of a machine, and what is done to it.
 #![tactic(auto, unfolding(crate::specs::View::world_of))]
 
-ghost use Rattle.std.specs.Option.{option_copied};
-ghost use Rattle.std.specs.Prelude.{◌≡◌, ◌+◌, ◌<◌, ◌^◌, ◌++◌, ◌∷◌, [], List, length, None, Some, Ok, true, false, OnOk, OnErr, IfOk, IfSome, IfNone, IsSome, slice_get};
+ghost use Rattle.std.specs.Prelude.{◌≡◌, ◌+◌, ◌<◌, ◌≤◌, ◌^◌, ◌++◌, ◌∷◌, [], List, length, None, Some, Ok, true, false, OnOk, OnErr, IfOk, IfSome, IfNone, IsSome, slice_get};
 ghost use Rattle.program_rules.specs.Kinds.{Kind as DefKind};
 ghost use Rattle.machine_rules.specs.State as def;
 ghost use Rattle.machine_rules.specs.State.{start};
@@ -17,7 +16,7 @@ ghost use Rattle.class_link.specs.Symbols.{kind_of};
 ghost use Rattle.class_table.specs.Table.{look, name_at};
 ghost use Rattle.jvm_world.specs.Holding.{opened};
 ghost use Rattle.jvm_world.specs.Classes.{AreMachineClasses};
-ghost use Rattle.jvm_world.specs.View.{object_of, test_of, call_of, Means, IsWorldOf, IsKept, Moves, Allocates, Throws, Exits, Takes, IsObjectIn, SetsSlot};
+ghost use Rattle.jvm_world.specs.View.{object_of, test_of, call_of, Means, IsWorldOf, IsKept, Moves, Allocates, Throws, Exits, Takes};
 
 use crate::classes::MachineClasses;
 use crate::made::Made;
@@ -110,7 +109,8 @@ impl World {
         limits: Limits,
         classes: MachineClasses,
     ) -> Result<World, Memory>
-        requires { AreMachineClasses p.now classes }
+        requires classes { AreMachineClasses p.now classes }
+        requires small { limits.heap < 2 ^ 31 }
         ensures means { IfOk result (λ w.
             Means p.now w (start (look p.now) (test_of test.now)).world) }
         ensures world { IfOk result (λ w. IsWorldOf p.now w) }
@@ -235,8 +235,8 @@ impl World {
 
     // ---- new objects
 
-    /// An object is made that takes one word and so many more; its number. There is none where the
-    /// heap would be passed, and then the run is over.
+    /// An object is made that takes one word and so many more, which count its slots; its number.
+    /// There is none where the heap would be passed, and then the run is over.
     pub fn allocate(
         &mut self,
         p: &Program,
@@ -244,6 +244,7 @@ impl World {
         more: u64,
     ) -> Result<Option<u32>, Memory>
         requires world { IsWorldOf p.now self.old }
+        requires slots { length object.values ≤ 1 + more }
         ensures made { IfOk result (λ x. Allocates p.now self.old self.new (λ v.
             allocate self.old.limits v (object_of p.now object) (1 + more)) x) }
         ensures kept { OnOk result (IsKept p.now self.old self.new) }
@@ -348,27 +349,6 @@ impl World {
         let object = fault_object(alloc, self.classes.fault(fault))?;
         let thrown = self.allocate(p, object, 2)?;
         Ok(thrown)
-    }
-
-    // ---- objects that are there
-
-    /// The object of a number, if there is one.
-    pub fn object(&self, p: &Program, object: u32) -> Option<&Object>
-        ensures { IsObjectIn p.now self.now object (option_copied result) }
-    {
-        let _ = p.len();
-        self.heap.get(object)
-    }
-
-    /// A slot of an object holds this value from now on. It is false, and nothing changes, where
-    /// there is no such object or slot.
-    pub fn set_slot(&mut self, p: &Program, object: u32, slot: u32, value: Value) -> bool
-        requires world { IsWorldOf p.now self.old }
-        ensures sets { SetsSlot p.now self.old self.new object slot value result }
-        ensures absent { result ≡ false → self.new ≡ self.old }
-        ensures kept { IsKept p.now self.old self.new }
-    {
-        self.heap.set(object, slot, value)
     }
 
     // ---- monitors

@@ -40,6 +40,8 @@ returns-clause-kept c =
         consulted = r.consulted;
         reached = subst (AreClasses p) (sym c.in_ok-note.ensures.noted)
             (classes_listed p c.args.class.0 c.args.line c.args.self.now.reached c.requires.class r.reached);
+        small = r.small;
+        lengths = r.lengths;
         classes = r.classes;
       };
       limits = refl;

@@ -1,0 +1,4 @@
+pub mod Described
+pub mod Numbers
+pub mod Casts
+pub mod Stores
