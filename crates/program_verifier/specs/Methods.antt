@@ -22,12 +22,13 @@ use Rattle.program_verifier.specs.Heads.{AreMet}
 abbrev pub BodyIs : LinkedBody → Bool → Type 0
 BodyIs x b = (es : List Entry) → b ≡ is_some (code_in (body_of es x))
 
--- Whether a method isn't native, and has code exactly where it isn't abstract.
+-- Whether a method of these flags isn't native, and has code exactly where it isn't abstract.
+abbrev pub allows_code : ℕ → Bool → Bool
+allows_code flags has =
+    if is_native flags || same_bool (is_abstract flags) has then false else true
+
 abbrev pub HeadIs : LinkedMethod → Bool → Type 0
-HeadIs m b =
-    (es : List Entry)
-    → b ≡ (if is_native m.flags || same_bool (is_abstract m.flags) (is_some (code_in (body_of es m.body)))
-    then false else true)
+HeadIs m b = (es : List Entry) → b ≡ allows_code m.flags (is_some (code_in (body_of es m.body)))
 
 -- Whether rule 1 passes the method at a place of a class, where the methods that were met are those
 -- before it.

@@ -71,6 +71,10 @@ StatedFaultIs o m c ns stated r =
     (method_of o.linked.now.entries m) (code_of o.linked.now.entries c) (Ok fs)
     ≡ fault_of r
 
+abbrev pub StatedFaultBy :
+    Own → Tables → LinkedMethod → LinkedCode → List (Option StatedTypes) → Option Fault → Type 0
+StatedFaultBy o t m c stated r = StatedFaultIs o m c t.names.list.items stated r
+
 -- What the frames that a method states come to, by the names of its class.
 abbrev pub ExpansionIs : Own → LinkedMethod → LinkedCode → List Named → Expansion → Type 0
 ExpansionIs o m c ns e =

@@ -119,9 +119,9 @@ pub fn fault_of_class(
 }
 
 /// Verifies the methods of a class by the frames that they state, in the order of the class file.
-/// The class is accepted, or the fault is the first one: of the first method that has one; there rule
-/// 1, then rule 2, then rule 3 by frame, then the others by instruction and by rule. Of the library
-/// nothing is verified: that it is accepted is asked for.
+/// The class is accepted, or the fault is the first one: of the first method that has one; there
+/// rule 1, then rule 2, then rule 3 by frame, then the others by instruction and by rule. Of the
+/// library nothing is verified: that it is accepted is asked for.
 pub fn verify_class(alloc: Global, program: &Program, id: ClassId) -> Result<(), VerifyEnd>
     requires within { id.0 < length program.now }
     requires numbered { AreNumbered program.now }

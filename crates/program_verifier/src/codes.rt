@@ -2,7 +2,7 @@
 
 ghost use Rattle.std.specs.Prelude.{◌≤◌, IfOk, OnOk};
 ghost use Rattle.vframes.specs.View.{words_of};
-ghost use Rattle.program_verifier.specs.Tables.{AreTables, AreParts, IsShort, ExpansionIs, StatedFaultIs, CodeFaultIs};
+ghost use Rattle.program_verifier.specs.Tables.{AreTables, AreParts, IsShort, ExpansionIs, StatedFaultBy, CodeFaultIs};
 
 use crate::parts::{Parts, parts_of};
 use crate::tables::Tables;
@@ -29,7 +29,7 @@ fn fault_of_stated(
     requires parts { AreParts own.now method.now code.now tables.now.names.list.items parts.now }
     requires short { IsShort code.now }
     requires fit { words_of parts.now.first.items ≤ code.now.max_locals }
-    ensures { IfOk result (StatedFaultIs own.now method.now code.now tables.now.names.list.items stated.now) }
+    ensures { IfOk result (StatedFaultBy own.now tables.now method.now code.now stated.now) }
 {
     let first = first_frame(alloc, code.max_locals, &parts.first)?;
     let site = Site {

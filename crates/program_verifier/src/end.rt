@@ -5,8 +5,8 @@ ghost use Rattle.program_verifier.specs.declared.end.VerifyEnd.TheVariants.{Memo
 
 use class_model::{ClassId, Memory};
 
-/// The rule that refuses a program, and where it does: the class, the method by its place there, and
-/// the instruction, which is the first one for rules 1 and 2.
+/// The rule that refuses a program, and where: the class, the method by its place there, and the
+/// instruction, which is the first one for rules 1 and 2.
 #[derive(Clone, Copy)]
 pub struct VerifyFault {
     pub class: ClassId,

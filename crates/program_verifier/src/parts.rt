@@ -12,8 +12,8 @@ use type_rows::Given;
 use type_verifier::{Difference, Names, Own, differences, first_types, given_of};
 use vframes::SlotType;
 
-/// What a method's head and its code say by number: its class, the receiver with the arguments, what
-/// it gives, the frames that it states, and its handlers.
+/// What a method's head and its code say by number: its class, the receiver with the arguments,
+/// what it gives, the frames that it states, and its handlers.
 #[derive(Drop)]
 pub struct Parts {
     pub class: usize,

@@ -71,8 +71,8 @@ fn first_fault(alloc: Global, program: &Program) -> Result<Option<Found>, Memory
     Ok(found)
 }
 
-/// Verifies the code of a program. It is accepted, or the fault is the first one: of the class whose
-/// name is the least, by its bytes in modified UTF-8, and there the first one of that class. That the
+/// Verifies the code of a program. It is accepted, or the fault is the first one: of the class with
+/// the least name, by its bytes in modified UTF-8, and there the first one of that class. That the
 /// library is accepted is asked for.
 pub fn verify(alloc: Global, program: &Program) -> Result<(), VerifyEnd>
     requires numbered { AreNumbered program.now }
