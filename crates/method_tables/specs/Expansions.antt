@@ -1,18 +1,15 @@
 -- The frames that a code states, by instruction and by the numbers of names.
-use Rattle.std.specs.Prelude.{◌≡◌, ◌<◌, ℕ, nat_eq, if◌then◌else◌, List, ◌++◌, length, map, replicate, reverse, Option, Some, None, Result, Ok, Err, slice_get}
+use Rattle.std.specs.Prelude.{◌≡◌, ℕ, nat_eq, if◌then◌else◌, List, ◌++◌, map, replicate, Option, Some, None, Result, Ok, Err, slice_get}
 use Rattle.std.specs.Option.{option_map}
 use Rattle.program_rules.specs.Names.{Name}
-use Rattle.program_rules.specs.Types.{VType}
-use Rattle.program_rules.specs.Types as rules
 use Rattle.program_rules.specs.Linked.{LinkedMethod, LinkedCode}
-use Rattle.type_rules.specs.Frames.{FullFrame, first_items, expand, expand_from, stated_at}
+use Rattle.type_rules.specs.Frames.{FullFrame, first_items, expand, stated_at}
 use Rattle.vframes.specs.declared.named.Named.{Named}
 use Rattle.vframes.specs.declared.slot_type.SlotType.{SlotType}
 use Rattle.vframes.specs.declared.stated.Local.{Local}
-use Rattle.vframes.specs.declared.stated.Locals.{Locals}
 use Rattle.vframes.specs.declared.stated.StatedFrame.{StatedFrame}
 use Rattle.vframes.specs.View.{types_in}
-use Rattle.vframes.specs.StatedFrames.{StatedTypes, stated_types, frame_at, filled, types_down, table_of, AreKept, IsKept}
+use Rattle.vframes.specs.StatedFrames.{StatedTypes, stated_types, frame_at, filled, AreKept, IsKept}
 use Rattle.type_verifier.specs.declared.shapes.Difference.{Difference}
 use Rattle.type_verifier.specs.Shapes.{frame_in}
 use Rattle.method_tables.specs.declared.frames.Expansion.{Expansion}
@@ -46,43 +43,15 @@ StayKept old x new =
     (store : List Local) (max : ℕ) → AreKept store max old → IsKept store max x
     → AreKept store max new
 
--- ---- all frames
+-- ---- of a method
 
 -- All frames can be expanded, and by instruction they are these.
 pub record AreInFull
-    (ns : List Named) (fs : List (Option StatedTypes)) (r : Result (List FullFrame) ℕ) : Type 0 where
+    (ns : List Named) (fs : List (Option StatedTypes)) (r : Result (List FullFrame) ℕ)
+    : Type 0 where
   pub frames : List FullFrame
   pub is : r ≡ Ok frames
   pub each : (to : ℕ) → stated_at to frames ≡ option_map (stated_types ns) (frame_at fs to)
-
--- What the rules make of frames behind locals of these types, the last one first.
-abbrev pub expansion_in :
-    List Named → LinkedMethod → LinkedCode → List SlotType → List Difference
-    → Result (List FullFrame) ℕ
-expansion_in ns m code ts ds =
-    expand_from m code (types_in ns (reverse ts)) (map (frame_in ns) ds)
-
--- All can be expanded; or the first that can't be is for this instruction.
-abbrev pub AllExpand :
-    MethodCode → List SlotType → List Difference → List (Option StatedTypes) → Type 0
-AllExpand x ts ds fs =
-    (ns : List Named) (m : LinkedMethod) (code : LinkedCode) → IsOf x m code
-    → AreInFull ns fs (expansion_in ns m code ts ds)
-
-abbrev pub OneFails : MethodCode → List SlotType → List Difference → ℕ → Type 0
-OneFails x ts ds at =
-    (ns : List Named) (m : LinkedMethod) (code : LinkedCode) → IsOf x m code
-    → expansion_in ns m code ts ds ≡ Err at
-
--- The same of locals by the last one, and a table.
-abbrev pub ExpandFrom :
-    MethodCode → List SlotType → List Difference → List Local → List (Option StatedFrame)
-    → Option ℕ → Type 0
-ExpandFrom x ts ds store frames None =
-    AllExpand x ts ds (table_of store x.code.now.max_locals frames)
-ExpandFrom x ts ds store frames (Some at) = OneFails x ts ds at
-
--- ---- of a method
 
 -- A method of the rules and its code are these, by the names of a class; and so are the receiver
 -- with the arguments, and the frames that are stated.

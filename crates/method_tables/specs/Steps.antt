@@ -38,7 +38,8 @@ fit_any x (Some ts) = fits x x.code.now.max_locals ts
 
 -- Locals are these, and fit; or there are none that do.
 pub record AreThese
-    (x : MethodCode) (store : List Local) (wanted : Option (List SlotType)) (l : Locals) : Type 0 where
+    (x : MethodCode) (store : List Local) (wanted : Option (List SlotType)) (l : Locals)
+    : Type 0 where
   pub is : wanted ≡ Some (types_down store l)
   pub right : AreRight x store l
 
@@ -58,9 +59,9 @@ AreFewer x store before n l = AreNext x store (chopped n (types_down store befor
 abbrev pub AreAlone : MethodCode → List Local → List SlotType → Option Locals → Type 0
 AreAlone x new types l = AreNext x new (Some (reverse types)) l
 
-abbrev pub LocalsBy :
+abbrev pub NextBy :
     MethodCode → List Local → List Local → Locals → Shape → Option Locals → Type 0
-LocalsBy x old new before s l = AreNext x new (locals_by (types_down old before) s) l
+NextBy x old new before s l = AreNext x new (locals_by (types_down old before) s) l
 
 -- ---- the stack
 
@@ -95,7 +96,8 @@ is_framed x ts d =
 
 -- It is this one; or it can't be.
 pub record IsFrameBy
-    (x : MethodCode) (ts : List SlotType) (d : Difference) (store : List Local) (f : StatedFrame) : Type 0 where
+    (x : MethodCode) (ts : List SlotType) (d : Difference) (store : List Local) (f : StatedFrame)
+    : Type 0 where
   pub there : nat_lt d.at (length x.code.now.instructions) ≡ true
   pub locals : AreThese x store (locals_by ts d.shape) f.locals
   pub stack : IsThis x (stack_by d.shape) f.stack

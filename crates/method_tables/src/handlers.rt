@@ -1,14 +1,63 @@
 //! The rows of an exception table by number (JVMS 4.7.3).
 
-ghost use Rattle.std.specs.Prelude.{IfOk, OnOk};
-ghost use Rattle.type_verifier.specs.Tables.{IsTable, Adds};
-ghost use Rattle.method_tables.specs.Caught.{RowsAre};
+ghost use Rattle.std.specs.Prelude.{◌≡◌, map, IfOk, OnOk};
+ghost use Rattle.type_rules.specs.References.{throwable_name};
+ghost use Rattle.type_verifier.specs.Tables.{IsTable, Adds, NameLasts};
+ghost use Rattle.method_tables.specs.Caught.{CaughtIs, RowIs, RowsAre};
 
 use class_link::LinkedRow;
-use class_model::Memory;
+use class_model::{Memory, Name, Seq};
 use class_table::Program;
 use handler_rows::Handler;
+use std::alloc::Global;
+use type_pass::is_thrown;
 use type_verifier::Names;
+
+// The name of these characters.
+fn name_of(alloc: Global, text: &[u8]) -> Result<Name, Memory>
+    ensures { IfOk result (λ n. n ≡ text.now) }
+{
+    let mut name = Seq::new(alloc);
+    for byte in text {
+        name.push(*byte as u16)?;
+    }
+    Ok(name)
+}
+
+// What a row catches: the class that it names, or all that is thrown.
+fn caught<'a>(row: &'a LinkedRow, throwable: &'a Name) -> &'a Name
+    requires { throwable.now ≡ throwable_name }
+    ensures { CaughtIs row.now result.now }
+{
+    match &row.catch {
+        Some(name) => name,
+        None => throwable,
+    }
+}
+
+// A row by number.
+fn handler_of(
+    names: &mut Names,
+    program: &Program,
+    row: &LinkedRow,
+    throwable: &Name,
+) -> Result<Handler, Memory>
+    requires table { IsTable program.now names.old }
+    requires throwable { throwable.now ≡ throwable_name }
+    ensures adds { OnOk result (Adds program.now names.old names.new) }
+    ensures row { IfOk result (λ h. RowIs program.now names.new h row.now) }
+{
+    let class = caught(row, throwable);
+    let number = names.number(program, class)?;
+    let thrown = is_thrown(program, class, throwable);
+    Ok(Handler {
+        start: row.start,
+        end: row.end,
+        target: row.handler,
+        caught: number,
+        is_thrown: thrown,
+    })
+}
 
 /// The rows of an exception table by number, in order: what each catches has its number among the
 /// names of the class. A row that names no class catches all that is thrown.
@@ -21,5 +70,12 @@ pub fn handlers_of(
     ensures adds { OnOk result (Adds program.now names.old names.new) }
     ensures rows { IfOk result (λ hs. RowsAre program.now names.new hs.items rows.now) }
 {
-    Err(Memory)
+    let alloc = *names.list.allocator();
+    let throwable = name_of(alloc, b"java/lang/Throwable")?;
+    let mut handlers = Vec::with_capacity(alloc, rows.len())?;
+    for row in rows {
+        let handler = handler_of(names, program, row, &throwable)?;
+        handlers.push(handler)?;
+    }
+    Ok(handlers)
 }

@@ -5,6 +5,8 @@
 mod frames;
 mod handlers;
 mod method;
+mod steps;
+mod table;
 
 pub use frames::{Expansion, expand};
 pub use handlers::handlers_of;
