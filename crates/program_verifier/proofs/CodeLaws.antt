@@ -19,6 +19,7 @@ use Rattle.class_link.specs.declared.linked.LinkedMethod.{LinkedMethod}
 use Rattle.class_table.specs.Table.{look}
 use Rattle.vframes.specs.declared.named.Named.{Named}
 use Rattle.vframes.specs.declared.frame.Frame.{Frame}
+use Rattle.vframes.specs.declared.slot_type.SlotType.{SlotType}
 use Rattle.vframes.specs.Named.{AreDistinct, AreNamed, HasComponent, HaveComponents, name_at}
 use Rattle.vframes.specs.StatedFrames.{StatedTypes, stated_types, frame_at}
 use Rattle.vframes.specs.View.{types_in, words_of}
@@ -34,6 +35,7 @@ use Rattle.type_pass.specs.declared.pass.Fault.{Fault}
 use Rattle.type_pass.specs.Handlers.{AreHandlersOf}
 use Rattle.type_pass.specs.Passes.{FirstFaultIs, fault_of}
 use Rattle.type_verifier.specs.declared.names.Names.{Names}
+use Rattle.type_verifier.specs.declared.shapes.Difference.{Difference}
 use Rattle.type_verifier.specs.declared.pool.Own.{Own}
 use Rattle.type_verifier.specs.Heads.{FirstIs, InitIs}
 use Rattle.type_verifier.specs.Pool.{home_of}
@@ -41,11 +43,12 @@ use Rattle.type_verifier.specs.Shapes.{frame_in}
 use Rattle.type_verifier.specs.Tables.{IsTable, Adds, NameLasts}
 use Rattle.type_verifier.proofs.Lasting.{lasts}
 use Rattle.method_tables.specs.declared.method.MethodCode.{MethodCode}
-use Rattle.method_tables.specs.Expansions.{AreInFull, IsMethodOf}
+use Rattle.method_tables.specs.declared.frames.Expansion.{Expansion}
+use Rattle.method_tables.specs.Expansions.{AreInFull, ExpandsTo, IsMethodOf}
 use Rattle.method_tables.specs.Standing.{AreFirst}
 use Rattle.program_verifier.specs.declared.tables.Tables.{Tables}
 use Rattle.program_verifier.specs.declared.parts.Parts.{Parts}
-use Rattle.program_verifier.specs.Tables.{AreTables, AreParts, classes_around, CodeFaultIs, StatedFaultIs}
+use Rattle.program_verifier.specs.Tables.{AreTables, AreParts, classes_around, CodeFaultIs, ExpansionIs, StatedFaultIs}
 
 -- what lasts holds now
 pub now : (P : List Named → Type 0) (old ns : List Named) → ns ≡ old → ((more : List Named) → P (old ++ more)) → P ns
@@ -150,6 +153,14 @@ method_is o m c ns x states linked code init p = record {
   first = now (λ l. types_in l x.first.items ≡ first_items o.name.now (method_of o.linked.now.entries m)) ns ns refl (p.first o.linked.now.entries);
   frames = now (λ l. map (frame_in l) x.differences.items ≡ map frame_of c.frames) ns ns refl p.frames;
 }
+
+pub expansion_is : {E : Type 0} (o : Own) (m : LinkedMethod) (c : LinkedCode) (ns : List Named) (x : Parts) (states : MethodCode) (ts : List SlotType) (ds : List Difference) (r : Result Expansion E) → IfOk r (λ e. ExpandsTo states ts ds e) → states.linked.now ≡ o.linked.now → states.code.now ≡ c → InitIs m states.is_initializer → ts ≡ x.first.items → ds ≡ x.differences.items → AreParts o m c ns x → IfOk r (λ e. ExpansionIs o m c ns e)
+expansion_is o m c ns x states ts ds r is linked code init et ed p =
+    for_ok (λ e. ExpandsTo states ts ds e) (λ e. ExpansionIs o m c ns e) r
+    (λ e h. h ns o.name.now (method_of o.linked.now.entries m) (code_of o.linked.now.entries c)
+    (subst (λ l. IsMethodOf states l ds ns o.name.now (method_of o.linked.now.entries m) (code_of o.linked.now.entries c)) (sym et)
+    (subst (λ l. IsMethodOf states x.first.items l ns o.name.now (method_of o.linked.now.entries m) (code_of o.linked.now.entries c)) (sym ed)
+    (method_is o m c ns x states linked code init p)))) is
 
 pub first_are : (o : Own) (m : LinkedMethod) (c : LinkedCode) (ns : List Named) (x : Parts) (states : MethodCode) → states.code.now ≡ c → InitIs m states.is_initializer → AreParts o m c ns x → words_of x.first.items ≤ c.max_locals → AreFirst states x.first.items
 first_are o m c ns x states code init p few = record {

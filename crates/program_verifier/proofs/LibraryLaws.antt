@@ -12,7 +12,6 @@ use Rattle.class_link.specs.Info.{Info}
 use Rattle.class_link.specs.View.{linked_of}
 use Rattle.class_table.specs.Table.{IsProgram, class_at, look, name_at, number_of}
 use Rattle.class_table.proofs.Places.{number_named, number_within}
-use Rattle.program_verifier.specs.Tables.{HasShortCode}
 use Rattle.program_verifier.specs.Methods.{BodyFaultIn}
 use Rattle.program_verifier.specs.Programs.{AreBodiesIn, IsAcceptedInLibrary, IsInfoOf, IsLibraryAccepted}
 use Rattle.program_verifier.proofs.ClassLaws.{before_or_here, is_library, own_method, class_found}
@@ -70,14 +69,14 @@ got (x ∷ xs) (suc k) d l = got xs k d (omega (arith, l))
 pub all_by_place : {A : Type 0} (P : A → Type 0) (xs : List A) → ((k : ℕ) (x : A) → k < length xs → slice_get xs k ≡ Some x → P x) → All P xs
 all_by_place P xs h k d l = h k (get_or xs k d) l (got xs k d l)
 
--- one more class
-pub one_more_numbered : (p : List Info) (id : ℕ) (i : Info) → slice_get p id ≡ Some i → All HasShortCode i.linked.methods → ((k : ℕ) (x : Info) → k < id → slice_get p k ≡ Some x → All HasShortCode x.linked.methods) → (k : ℕ) (x : Info) → k < id + 1 → slice_get p k ≡ Some x → All HasShortCode x.linked.methods
-one_more_numbered p id i there all before k x l at =
-    elim (before_or_here k id l) [
-      | inl h ↦ before k x h at
-      | inr h ↦ (let same : Some i ≡ Some x = sym there ∙ ap (slice_get p) (sym h) ∙ at in
-          let one : i ≡ x = cc in
-          subst (λ z. All HasShortCode z.linked.methods) one all)
+-- one more of those before a place
+pub one_more_place : {A : Type 0} (P : A → Type 0) (xs : List A) (i : ℕ) (x : A) → slice_get xs i ≡ Some x → P x → ((k : ℕ) (y : A) → k < i → slice_get xs k ≡ Some y → P y) → (k : ℕ) (y : A) → k < i + 1 → slice_get xs k ≡ Some y → P y
+one_more_place P xs i x there here before k y l at =
+    elim (before_or_here k i l) [
+      | inl h ↦ before k y h at
+      | inr h ↦ (let same : Some x ≡ Some y = sym there ∙ ap (slice_get xs) (sym h) ∙ at in
+          let one : x ≡ y = cc in
+          subst P one here)
     ]
 
 pub for_none : {A : Type 0} (P Q : Type 0) → (P → Q) → (o : Option A) → IfNone o P → IfNone o Q

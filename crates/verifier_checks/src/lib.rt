@@ -1,5 +1,5 @@
-//! Tests of `vframes` and `program_verifier`, and the functions over which wrong bodies of `vframes`
-//! and `type_rows` are tried.
+//! Tests of `vframes` and `program_verifier`, and the functions over which wrong bodies of them and
+//! of `type_rows` are tried.
 #![tactic(auto)]
 
 #[cfg(test)]
@@ -7,3 +7,4 @@ mod assignability;
 pub mod calls;
 #[cfg(test)]
 mod methods;
+pub mod verdicts;

@@ -5,7 +5,7 @@ use class_link::LibClass;
 use class_model::{ClassId, Seq, SharedBytes, read_text};
 use class_reader::read_class;
 use class_table::{Loaded, Program};
-use program_verifier::{VerifyEnd, is_numbered, verify_class, verify_library};
+use program_verifier::{VerifyEnd, is_numbered, verify, verify_class, verify_library};
 use std::alloc::Global;
 use std::test::Fail;
 
@@ -80,8 +80,17 @@ fn program(alloc: Global, lines: &str) -> Result<Program, Fail> {
     Ok(Program::build(alloc, classes, library(alloc)?)?)
 }
 
-// The rule that refuses the first class of a program, and the instruction; none, where it is
-// accepted. Rule 0 stands for a program that can't be asked for.
+// The rule that refuses, and the instruction; none, where all is accepted.
+fn told(end: Result<(), VerifyEnd>) -> Option<(u8, u32)> {
+    match end {
+        Ok(()) => None,
+        Err(VerifyEnd::Refused(fault)) => Some((fault.rule, fault.at)),
+        Err(VerifyEnd::Memory) => Some((0, 2)),
+    }
+}
+
+// What is told of the first class of a program, and of all of it. Rule 0 stands for a program that
+// can't be asked for, and for two answers.
 fn verdict(alloc: Global, program: &Program) -> Option<(u8, u32)> {
     if program.len() == 0 || !is_numbered(program) {
         return Some((0, 0));
@@ -89,11 +98,9 @@ fn verdict(alloc: Global, program: &Program) -> Option<(u8, u32)> {
     if verify_library(alloc, program).is_err() {
         return Some((0, 1));
     }
-    match verify_class(alloc, program, ClassId(0)) {
-        Ok(()) => None,
-        Err(VerifyEnd::Refused(fault)) => Some((fault.rule, fault.at)),
-        Err(VerifyEnd::Memory) => Some((0, 2)),
-    }
+    let class = told(verify_class(alloc, program, ClassId(0)));
+    let whole = told(verify(alloc, program));
+    if class == whole { class } else { Some((0, 3)) }
 }
 
 // Lines that are accepted.

@@ -14,7 +14,7 @@ library_fault-requires c =
     let at = get_or_from_slice_get p c.loop-id.id i i c.info-info.ensures.place in
     record {
       there = c.info-info.ensures.place;
-      short = subst (λ x. All HasShortCode x.linked.methods) at (c.requires c.loop-id.id i (omega (arith, c.loop-id-test.true, c.len.ensures.value)));
+      short = subst (λ x. All HasShortCode x.linked.methods) at (c.requires c.loop-id.id i (omega (arith, c.loop-id-test.true, c.len-count.ensures.value)));
     }
 
 pub loop-id-preserved : goal.loop-id-preserved
@@ -26,4 +26,4 @@ loop-id-preserved c j l =
     ]
 
 pub returns : goal.returns
-returns c = library_is c.args.program.now (λ j l. c.loop-id.invariant j (omega (arith, l, c.loop-id-test.false, c.len.ensures.value)))
+returns c = library_is c.args.program.now (λ j l. c.loop-id.invariant j (omega (arith, l, c.loop-id-test.false, c.len-count.ensures.value)))

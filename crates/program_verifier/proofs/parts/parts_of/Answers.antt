@@ -1,4 +1,4 @@
-use Rattle.std.proofs.Common.{◌≡◌, map, ap, subst}
+use Rattle.std.proofs.Common.{◌≡◌, map, subst}
 use Rattle.std.specs.Option.{option_map}
 use Rattle.type_rules.specs.Frames.{first_items}
 use Rattle.class_link.specs.Symbols.{kind_of}

@@ -7,5 +7,5 @@ loop-id-init c j l = absurd (omega (arith, l))
 
 pub returns : goal.returns
 returns c =
-    let all : c.loop-id.id ≡ length c.args.program.now = omega (arith, c.loop-id-test.false, c.loop-id.auto.id-end, c.len.ensures.value) in
+    let all : c.loop-id.id ≡ length c.args.program.now = omega (arith, c.loop-id-test.false, c.loop-id.auto.id-end, c.len-count.ensures.value) in
     subst (λ k. FoundAmong c.args.program.now k c.loop-id.found) all c.loop-id.invariant
