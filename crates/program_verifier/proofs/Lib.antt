@@ -1,0 +1,6 @@
+mod HeadLaws
+mod CodeLaws
+mod MethodLaws
+mod ClassLaws
+mod LibraryLaws
+mod ProgramLaws

@@ -1,0 +1,42 @@
+use Rattle.std.proofs.Common.{◌∙◌, ◌<◌, ◌^◌, All, sym, ap, subst, length}
+use Rattle.std.specs.Prelude.{IfNone}
+use Rattle.std.proofs.lemmas.Option.{slice_get_within}
+use Rattle.class_table.specs.Table.{number_of}
+use Rattle.class_table.proofs.Places.{name_of_class, number_at}
+use Rattle.program_verifier.specs.Tables.{HasShortCode}
+use Rattle.program_verifier.specs.Programs.{AreBodiesIn, IsAcceptedInLibrary}
+use Rattle.program_verifier.proofs.CodeLaws.{for_ok}
+use Rattle.program_verifier.proofs.LibraryLaws.{bodies_accepted, file_passed, for_none}
+use Rattle.program_verifier.proofs.library.library_fault.Goals as goal
+
+pub returns-then-not-library : goal.returns-then-not-library
+returns-then-not-library c =
+    file_passed c.args.program.now c.args.id.0 c.args.info.now c.is_program.ensures.form c.requires (sym (ap (λ l. l.library) c.linked-linked.ensures.value) ∙ c.if-not-library.true)
+
+pub body_fault_of_own-fault-requires-clause-own : goal.body_fault_of_own-fault-requires-clause-own
+body_fault_of_own-fault-requires-clause-own c =
+    let p = c.args.program.now in
+    let id = c.args.id.0 in
+    let i = c.args.info.now in
+    record {
+      closed = c.is_program.ensures.closed;
+      number = ap (number_of p) (c.name.ensures.value ∙ sym (name_of_class p id i c.requires.there)) ∙ number_at p id i c.is_program.ensures.form.distinct c.requires.there;
+      within = slice_get_within p id i c.requires.there;
+    }
+
+pub body_fault_of_own-fault-requires-clause-few : goal.body_fault_of_own-fault-requires-clause-few
+body_fault_of_own-fault-requires-clause-few c = subst (λ l. length l.methods < 2 ^ 32) (sym c.linked-linked.ensures.value) c.linked-linked.ensures.few
+
+pub body_fault_of_own-fault-requires-clause-short : goal.body_fault_of_own-fault-requires-clause-short
+body_fault_of_own-fault-requires-clause-short c = subst (λ l. All HasShortCode l.methods) (sym c.linked-linked.ensures.value) c.requires.short
+
+pub returns : goal.returns
+returns c =
+    let p = c.args.program.now in
+    let id = c.args.id.0 in
+    let i = c.args.info.now in
+    for_ok (λ r. IfNone r (AreBodiesIn p c.name.result.now c.linked-linked.result.now)) (λ r. IfNone r (IsAcceptedInLibrary p id)) c.body_fault_of_own-fault.result
+    (for_none (AreBodiesIn p c.name.result.now c.linked-linked.result.now) (IsAcceptedInLibrary p id)
+    (λ all. bodies_accepted p id i c.is_program.ensures.form c.requires c.name.result.now c.linked-linked.result.now
+    (c.name.ensures.value ∙ sym (name_of_class p id i c.requires.there)) c.linked-linked.ensures.value all c.if-not-library.false))
+    c.body_fault_of_own-fault.ensures

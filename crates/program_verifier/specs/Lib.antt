@@ -1,0 +1,4 @@
+pub mod Heads
+pub mod Tables
+pub mod Methods
+pub mod Programs

@@ -1,0 +1,34 @@
+//! What the methods of a class share.
+
+ghost use Rattle.std.specs.Prelude.{IfOk};
+ghost use Rattle.type_verifier.specs.Pool.{IsOwn};
+ghost use Rattle.program_verifier.specs.Tables.{AreTables};
+
+use class_model::Memory;
+use std::alloc::Global;
+use type_rows::{CommonNames, Item};
+use type_verifier::{Names, Own, common_names, items};
+
+/// What the methods of a class share: the names that it mentions by number, and what the indices of
+/// its constant pool mean.
+#[derive(Drop)]
+pub struct Tables {
+    pub names: Names,
+    pub common: CommonNames,
+    pub items: Vec<Item>,
+}
+
+/// The tables of a class, before its methods.
+pub fn tables_of(alloc: Global, own: &Own) -> Result<Tables, Memory>
+    requires { IsOwn own.now }
+    ensures { IfOk result (AreTables own.now) }
+{
+    let mut names = Names::new(alloc, own.program)?;
+    let common = common_names(&mut names, own.program)?;
+    let items = items(&mut names, own)?;
+    Ok(Tables {
+        names,
+        common,
+        items,
+    })
+}
