@@ -1,7 +1,10 @@
-//! Tests of `vframes`, and the functions over which wrong bodies of `vframes` and `type_rows` are
-//! tried.
+//! Tests of `vframes` and `program_verifier`, and the functions over which wrong bodies of them and
+//! of `type_rows` are tried.
 #![tactic(auto)]
 
 #[cfg(test)]
 mod assignability;
 pub mod calls;
+#[cfg(test)]
+mod methods;
+pub mod verdicts;
