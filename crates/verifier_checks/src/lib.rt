@@ -3,8 +3,14 @@
 #![tactic(auto)]
 
 #[cfg(test)]
+mod accepted;
+#[cfg(test)]
 mod assignability;
 pub mod calls;
 #[cfg(test)]
-mod methods;
+mod refused;
+#[cfg(test)]
+mod refused_further;
+#[cfg(test)]
+mod small_methods;
 pub mod verdicts;
