@@ -76,7 +76,11 @@ fn first_other(
 #[test]
 fn members_are_those_that_a_java_runtime_uses(rt: HostRuntime) -> Result<(), Fail> {
     let program = program(rt.alloc())?;
-    let main = program.find(&name(rt.alloc(), MAIN)?).ok_or(Memory)?;
+    let main = name(rt.alloc(), MAIN)?;
+    let Some(main) = program.find(&main) else {
+        assert!(rt; false, "{MAIN}");
+        return Ok(());
+    };
     let first = first_other(rt.alloc(), &program, main, &ROWS)?;
     assert_eq!(rt; first, ROWS.len());
     Ok(())

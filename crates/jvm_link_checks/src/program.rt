@@ -21,12 +21,12 @@ pub fn name(alloc: Global, text: &str) -> Result<Name, Memory> {
     Ok(units)
 }
 
-// Adds an entry, and gives its index.
+// Adds an entry, and gives its index; 0, which names none, where the pool has no room for it.
 fn add(pool: &mut Seq<Const>, entry: Const) -> Result<u16, Memory> {
     pool.push(entry)?;
     match u16::try_from(pool.len()) {
         Ok(index) => Ok(index),
-        Err(_) => Err(Memory),
+        Err(_) => Ok(0),
     }
 }
 

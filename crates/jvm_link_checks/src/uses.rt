@@ -22,6 +22,8 @@ pub enum Came {
     To(Site),
     Clone,
     Throws(Fault),
+    /// Nothing: the program lacks what the row asks for.
+    Unasked,
 }
 
 // What a call of a method comes to: a method without a body is AbstractMethodError.
@@ -75,7 +77,7 @@ fn virtual_end(
         Callee::ArrayClone => Ok(Callee::ArrayClone),
         Callee::Method(site) => {
             if site.class.0 as usize >= program.len() {
-                return Err(Memory);
+                return Ok(Came::Unasked);
             }
             let found = Callee::Method(site);
             select_virtual(program, searching, id, array, reference, found)?
@@ -109,7 +111,7 @@ fn super_end(
 {
     match superclass(program, caller) {
         Some(up) => named_end(program, searching, up, false, reference),
-        None => Err(Memory),
+        None => Ok(Came::Unasked),
     }
 }
 
@@ -126,7 +128,7 @@ fn selected_end(
     let behind = class_behind(alloc, &written)?;
     let array = row.5.starts_with("[");
     let Some(id) = program.find(&behind) else {
-        return Err(Memory);
+        return Ok(Came::Unasked);
     };
     match row.0 {
         How::Virtual => virtual_end(program, searching, id, array, reference, resolved),
@@ -134,7 +136,7 @@ fn selected_end(
         How::Super => super_end(program, searching, id, reference),
         How::Itself => Ok(call_end(program, Ok(resolved))),
         How::Static => Ok(call_end(program, Ok(resolved))),
-        How::Field => Err(Memory),
+        How::Field => Ok(Came::Unasked),
     }
 }
 
@@ -202,7 +204,7 @@ pub fn end_of(
     row: &Row,
 ) -> Result<Came, Memory> {
     let Some(info) = program.get(main) else {
-        return Err(Memory);
+        return Ok(Came::Unasked);
     };
     let mut seen = Consulted::new(alloc, program)?;
     let named = name(alloc, row.1)?;
@@ -211,7 +213,7 @@ pub fn end_of(
         Err(fault) => return Ok(Came::Throws(fault)),
     };
     if id.0 as usize >= program.len() {
-        return Err(Memory);
+        return Ok(Came::Unasked);
     }
     let mut searching = Search::new(alloc);
     match info.linked().entries.get(index as usize) {
@@ -219,6 +221,6 @@ pub fn end_of(
         Some(Entry::Method(reference)) => {
             method_use(alloc, program, &mut searching, row, id, reference)
         }
-        _ => Err(Memory),
+        _ => Ok(Came::Unasked),
     }
 }

@@ -48,7 +48,8 @@ fn push_array(
     requires world { IsWorldOf p.now world.old }
     requires next { IfSome frames.old.frame (λ f. f.at + 1 < 2 ^ 64) }
     requires there { 1 ≤ length (stack_of frames.old.frame) }
-    ensures row { IfOk result (λ e. Runs p.now (made_row (λ q w. new_array q w (kind_of kind) len) 1)
+    ensures row { IfOk result (λ e. Runs p.now
+        (made_row (λ q w. new_array q w (kind_of kind) len) 1)
         e frames.old frames.new world.old world.new) }
     ensures kept { OnOk result (IsKept p.now world.old world.new) }
 {
