@@ -76,13 +76,13 @@ use Rattle.apply_laws.proofs.Pools.{AreAdded, Got, got_string, got_method, none_
 module _ (mv : ℕ → ℕ) where
   same_index : (a : Arg) → index_in (operand.Done (moved_arg mv a)) ≡ index_in (operand.Done a)
   same_index (arg.To n) = refl
-  same_index (arg.Table n low ns) = refl
+  same_index (arg.Table n (low, ns)) = refl
   same_index (arg.Lookup n pairs) = refl
   same_index other = refl
 
   same_count : (a : Arg) → count_in (operand.Done (moved_arg mv a)) ≡ count_in (operand.Done a)
   same_count (arg.To n) = refl
-  same_count (arg.Table n low ns) = refl
+  same_count (arg.Table n (low, ns)) = refl
   same_count (arg.Lookup n pairs) = refl
   same_count other = refl
 

@@ -61,13 +61,13 @@ by_each P Q next h s (x ∷ xs) q = (h s x q.0, by_each P Q next h (next s x) xs
 -- offsets in the place of targets leave the index and the count
 index_same : (starts : List ℕ) (place : ℕ) (a : Arg) → index_in (operand_of starts place a) ≡ index_in (operand.Done a)
 index_same starts place (arg.To n) = refl
-index_same starts place (arg.Table n low ns) = refl
+index_same starts place (arg.Table n (low, ns)) = refl
 index_same starts place (arg.Lookup n pairs) = refl
 index_same starts place a = refl
 
 count_same : (starts : List ℕ) (place : ℕ) (a : Arg) → count_in (operand_of starts place a) ≡ count_in (operand.Done a)
 count_same starts place (arg.To n) = refl
-count_same starts place (arg.Table n low ns) = refl
+count_same starts place (arg.Table n (low, ns)) = refl
 count_same starts place (arg.Lookup n pairs) = refl
 count_same starts place a = refl
 

@@ -105,30 +105,30 @@ highest_fits low (suc count) b room =
     let low_is : negsuc 0x7FFF_FFFF ≤ℤ low = b.low in
     (omega arith, fits_four (highest low (suc count)) (record { low = rw same (grind (arith, ints, low_is)); high = rw same (grind (arith, ints, le)) }))
 
-table_arg_is : (labels : Labels) (low : ℤ) (default : ℕ) (ns : List ℕ) → IsBetween 0x7FFF_FFFF low → IsStart labels default → AllByRecursion (IsStart labels) ns → has_room low (length ns) ≡ true → IsDone labels.total form.Table (arg.Table default low ns)
+table_arg_is : (labels : Labels) (low : ℤ) (default : ℕ) (ns : List ℕ) → IsBetween 0x7FFF_FFFF low → IsStart labels default → AllByRecursion (IsStart labels) ns → has_room low (length ns) ≡ true → IsDone labels.total form.Table (arg.Table default (low, ns))
 table_arg_is labels low default ns b is all room = let h = highest_fits low (length ns) b room in ((refl, fits_four low b, h.0, h.1), (is, all))
 
 table_targets : (labels : Labels) (words : List (List ℕ)) (low : ℤ) (default : ℕ) → IsBetween 0x7FFF_FFFF low → IsStart labels default
-    → IfSome (cond (has_room low (length words)) (option_map (λ targets. arg.Table default low targets) (starts_in labels words)) None) (IsDone labels.total form.Table)
+    → IfSome (cond (has_room low (length words)) (option_map (λ targets. arg.Table default (low, targets)) (starts_in labels words)) None) (IsDone labels.total form.Table)
 table_targets labels words low default b is =
-    of_if (has_room low (length words)) (option_map (λ targets. arg.Table default low targets) (starts_in labels words)) (IsDone labels.total form.Table)
-    (λ room. of_map (λ targets. arg.Table default low targets) (starts_in labels words) (IsDone labels.total form.Table)
-    (weaker (starts_in labels words) (λ ns. AllByRecursion (IsStart labels) ns × (length ns ≡ length words)) (λ targets. IsDone labels.total form.Table (arg.Table default low targets))
+    of_if (has_room low (length words)) (option_map (λ targets. arg.Table default (low, targets)) (starts_in labels words)) (IsDone labels.total form.Table)
+    (λ room. of_map (λ targets. arg.Table default (low, targets)) (starts_in labels words) (IsDone labels.total form.Table)
+    (weaker (starts_in labels words) (λ ns. AllByRecursion (IsStart labels) ns × (length ns ≡ length words)) (λ targets. IsDone labels.total form.Table (arg.Table default (low, targets)))
     (λ ns p. table_arg_is labels low default ns b is p.0 (ap (λ n. has_room low n) p.1 ∙ room)) (starts_are labels words)))
 
 table_default : (labels : Labels) (other : List ℕ) (words : List (List ℕ)) (low : ℤ) → IsBetween 0x7FFF_FFFF low
-    → IfSome (option_and_then (λ default. cond (has_room low (length words)) (option_map (λ targets. arg.Table default low targets) (starts_in labels words)) None) (start_in labels other)) (IsDone labels.total form.Table)
+    → IfSome (option_and_then (λ default. cond (has_room low (length words)) (option_map (λ targets. arg.Table default (low, targets)) (starts_in labels words)) None) (start_in labels other)) (IsDone labels.total form.Table)
 table_default labels other words low b =
-    of_then (λ default. cond (has_room low (length words)) (option_map (λ targets. arg.Table default low targets) (starts_in labels words)) None) (start_in labels other) (IsDone labels.total form.Table)
-    (weaker (start_in labels other) (IsStart labels) (λ default. IfSome (cond (has_room low (length words)) (option_map (λ targets. arg.Table default low targets) (starts_in labels words)) None) (IsDone labels.total form.Table))
+    of_then (λ default. cond (has_room low (length words)) (option_map (λ targets. arg.Table default (low, targets)) (starts_in labels words)) None) (start_in labels other) (IsDone labels.total form.Table)
+    (weaker (start_in labels other) (IsStart labels) (λ default. IfSome (cond (has_room low (length words)) (option_map (λ targets. arg.Table default (low, targets)) (starts_in labels words)) None) (IsDone labels.total form.Table))
     (λ default is. table_targets labels words low default b is) (start_is labels other))
 
 table_is : (labels : Labels) (words : List (List ℕ)) → IfSome (table labels words) (IsDone labels.total form.Table)
 table_is labels [] = tt
 table_is labels (word ∷ []) = tt
 table_is labels (word ∷ other ∷ words) =
-    of_then (λ low. option_and_then (λ default. cond (has_room low (length words)) (option_map (λ targets. arg.Table default low targets) (starts_in labels words)) None) (start_in labels other)) (between 0x7FFF_FFFF word) (IsDone labels.total form.Table)
-    (weaker (between 0x7FFF_FFFF word) (IsBetween 0x7FFF_FFFF) (λ low. IfSome (option_and_then (λ default. cond (has_room low (length words)) (option_map (λ targets. arg.Table default low targets) (starts_in labels words)) None) (start_in labels other)) (IsDone labels.total form.Table))
+    of_then (λ low. option_and_then (λ default. cond (has_room low (length words)) (option_map (λ targets. arg.Table default (low, targets)) (starts_in labels words)) None) (start_in labels other)) (between 0x7FFF_FFFF word) (IsDone labels.total form.Table)
+    (weaker (between 0x7FFF_FFFF word) (IsBetween 0x7FFF_FFFF) (λ low. IfSome (option_and_then (λ default. cond (has_room low (length words)) (option_map (λ targets. arg.Table default (low, targets)) (starts_in labels words)) None) (start_in labels other)) (IsDone labels.total form.Table))
     (λ low b. table_default labels other words low b) (between_is 0x7FFF_FFFF word))
 
 abbrev IsCase : Labels → ℤ × ℕ → Type 0

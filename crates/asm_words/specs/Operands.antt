@@ -66,7 +66,7 @@ abbrev pub table : Labels → List (List ℕ) → Option Arg
 table labels [] = None
 table labels (word ∷ []) = None
 table labels (word ∷ other ∷ words) =
-    option_and_then (λ low. option_and_then (λ default. if has_room low (length words) then option_map (λ targets. arg.Table default low targets) (starts_in labels words) else None) (start_in labels other)) (between 0x7FFF_FFFF word)
+    option_and_then (λ low. option_and_then (λ default. if has_room low (length words) then option_map (λ targets. arg.Table default (low, targets)) (starts_in labels words) else None) (start_in labels other)) (between 0x7FFF_FFFF word)
 
 -- a key and a label, which a colon parts
 abbrev pub pair_in : Labels → List ℕ → Option (ℤ × ℕ)

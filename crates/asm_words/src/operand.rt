@@ -117,7 +117,7 @@ pub fn table(alloc: Global, labels: &Labels, words: &[Name]) -> Result<Option<Ar
         return Ok(None);
     }
     match starts_in(alloc, labels, targets)? {
-        Some(starts) => Ok(Some(Arg::Table(default, low, starts))),
+        Some(starts) => Ok(Some(Arg::table(default, low, starts)?)),
         None => Ok(None),
     }
 }
@@ -189,7 +189,7 @@ pub fn lookup(alloc: Global, labels: &Labels, words: &[Name]) -> Result<Option<A
         return Ok(None);
     };
     match pairs_in(alloc, labels, pairs)? {
-        Some(pairs) if keys_ascend(pairs.as_slice()) => Ok(Some(Arg::Lookup(default, pairs))),
+        Some(pairs) if keys_ascend(pairs.as_slice()) => Ok(Some(Arg::lookup(default, pairs)?)),
         _ => Ok(None),
     }
 }

@@ -131,7 +131,7 @@ module _ (pool more : List Const) where
   operand_kept op (arg.Local n) form h = refl
   operand_kept op (arg.Inc n z) form h = refl
   operand_kept op (arg.To to) form h = refl
-  operand_kept op (arg.Table default low targets) form h = refl
+  operand_kept op (arg.Table default (low, targets)) form h = refl
   operand_kept op (arg.Lookup default keys) form h = refl
   operand_kept op (arg.Kind n) form h = refl
   operand_kept op (arg.Multi index n) form h = ap (λ s. with_count op s n) (meaning_kept index form h)

@@ -124,7 +124,7 @@ operand_stated pool n (arg.Pool index) = symbol_stated n (symbol_at pool index) 
 operand_stated pool n (arg.Local k) = local_stated n k
 operand_stated pool n (arg.Inc k z) = increment_stated n k z
 operand_stated pool n (arg.To to) = target_stated n to
-operand_stated pool n (arg.Table default low targets) = pick (n == 0xaa) (TableSwitch default low targets) Unlinked tt tt
+operand_stated pool n (arg.Table default (low, targets)) = pick (n == 0xaa) (TableSwitch default low targets) Unlinked tt tt
 operand_stated pool n (arg.Lookup default keys) = pick (n == 0xab) (LookupSwitch default keys) Unlinked tt tt
 operand_stated pool n (arg.Kind k) = elements_stated n k
 operand_stated pool n (arg.Multi index k) = count_stated n (symbol_at pool index) k (entry_stated pool (entry_of pool index))

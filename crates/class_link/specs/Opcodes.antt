@@ -249,7 +249,7 @@ with_operand means op (arg.Pool index) = with_symbol op (means index)
 with_operand means op (arg.Local n) = with_local op n
 with_operand means op (arg.Inc n z) = with_increment op n z
 with_operand means op (arg.To to) = with_target op to
-with_operand means op (arg.Table default low targets) = if op == 0xaa then TableSwitch default low targets else Unlinked
+with_operand means op (arg.Table default (low, targets)) = if op == 0xaa then TableSwitch default low targets else Unlinked
 with_operand means op (arg.Lookup default keys) = if op == 0xab then LookupSwitch default keys else Unlinked
 with_operand means op (arg.Kind n) = with_elements op n
 with_operand means op (arg.Multi index n) = with_count op (means index) n

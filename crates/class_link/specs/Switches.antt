@@ -13,7 +13,7 @@ use Rattle.class_link.specs.View.{symbol_of}
 
 -- The switch that an instruction is, if it is one.
 abbrev pub switch_by : ℕ → Arg → List Switch
-switch_by op (arg.Table default low targets) = if op == 0xaa then switch.Table default low targets ∷ [] else []
+switch_by op (arg.Table default (low, targets)) = if op == 0xaa then switch.Table default low targets ∷ [] else []
 switch_by op (arg.Lookup default keys) = if op == 0xab then switch.Lookup default keys ∷ [] else []
 switch_by op other = []
 

@@ -23,12 +23,13 @@ fn add_switch(switches: &mut Vec<Switch>, insn: &Insn) -> Result<(), Memory>
     ensures { OnOk result (switches.new.items ≡ switches.old.items ++ switch_in insn.now) }
 {
     match &insn.arg {
-        Arg::Table(default, low, targets) if insn.op == 0xaa => {
+        Arg::Table(default, table) if insn.op == 0xaa => {
+            let (low, targets) = table.get();
             let targets = targets.copy()?;
             switches.push(Switch::Table(*default, *low, targets))?;
         }
         Arg::Lookup(default, keys) if insn.op == 0xab => {
-            let keys = keys.copy()?;
+            let keys = keys.get().copy()?;
             switches.push(Switch::Lookup(*default, keys))?;
         }
         _ => {}
@@ -58,7 +59,7 @@ fn link_insn(entries: &[Entry], next: u32, insn: &Insn) -> Instruction
         Arg::Local(local) => opcodes::with_local(insn.op, *local),
         Arg::Inc(local, by) => opcodes::with_increment(insn.op, *local, *by),
         Arg::To(to) => opcodes::with_target(insn.op, *to),
-        Arg::Table(_, _, _) => opcodes::table_switch(insn.op, next),
+        Arg::Table(_, _) => opcodes::table_switch(insn.op, next),
         Arg::Lookup(_, _) => opcodes::lookup_switch(insn.op, next),
         Arg::Kind(elements) => opcodes::with_elements(insn.op, *elements),
         Arg::Multi(index, count) => opcodes::with_count(insn.op, *index, *count),
@@ -69,7 +70,7 @@ fn is_switch(insn: &Insn) -> bool
     ensures { (if result then 1 else 0) ≡ length (switch_in insn.now) }
 {
     match &insn.arg {
-        Arg::Table(_, _, _) => insn.op == 0xaa,
+        Arg::Table(_, _) => insn.op == 0xaa,
         Arg::Lookup(_, _) => insn.op == 0xab,
         _ => false,
     }

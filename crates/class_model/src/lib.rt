@@ -3,6 +3,7 @@
 
 mod annotation;
 mod attribute;
+mod boxed;
 mod class;
 mod compared;
 mod constant;
@@ -23,6 +24,7 @@ mod text;
 
 pub use annotation::{Note, Token};
 pub use attribute::{Attr, Body, Code, Row};
+pub use boxed::Boxed;
 pub use class::{Class, ClassId, Member};
 pub use constant::Const;
 pub use copies::Copied;

@@ -32,6 +32,15 @@ impl<T> Seq<T> {
         }
     }
 
+    /// An empty list with room for so many items.
+    pub fn with_capacity(alloc: Global, room: usize) -> Result<Seq<T>, Memory>
+        ensures { IfOk result (λ list. list ≡ []) }
+    {
+        Ok(Seq {
+            items: Vec::with_capacity(alloc, room)?,
+        })
+    }
+
     /// An empty list on the same allocator.
     pub fn empty(&self) -> Seq<T>
         ensures { result ≡ [] }

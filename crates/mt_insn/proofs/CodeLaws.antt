@@ -40,7 +40,7 @@ use Rattle.mt_insn.proofs.TargetLaws.{some, some_is, and_then_some, map_some, Is
 -- What is kept as it was read has no target.
 abbrev IsPlain : Operand → Type 0
 IsPlain (operand.Done (arg.To n)) = ⊥
-IsPlain (operand.Done (arg.Table n low ns)) = ⊥
+IsPlain (operand.Done (arg.Table n (low, ns))) = ⊥
 IsPlain (operand.Done (arg.Lookup n pairs)) = ⊥
 IsPlain other = Unit {0}
 
@@ -67,7 +67,7 @@ AreTargets count ns = AllByRecursion (IsTarget count) ns
 -- an operand that was resolved is made of its number again
 done_back : (starts : List ℕ) (place : ℕ) (a : Arg) → IsPlain (operand.Done a) → AreTargets (length starts) (targets_in a) × (operand_of starts place a ≡ operand.Done a)
 done_back starts place (arg.To n) q = absurd q
-done_back starts place (arg.Table n low ns) q = absurd q
+done_back starts place (arg.Table n (low, ns)) q = absurd q
 done_back starts place (arg.Lookup n pairs) q = absurd q
 done_back starts place a q = (tt, refl)
 
@@ -82,8 +82,8 @@ arg_back starts place (operand.To z) a q e =
     let t = target_back starts place n.0 z n.1 in
     subst (Back starts place (operand.To z)) n.2 ((t.0, tt), ap operand.To t.1)
 arg_back starts place (operand.Table z low zs) a q e =
-    let n = and_then_some (λ n. option_map (λ ns. arg.Table n low ns) (targets starts place zs)) (target starts place z) a e in
-    let ns = map_some (λ (ns : List ℕ). arg.Table n.0 low ns) (targets starts place zs) a n.2 in
+    let n = and_then_some (λ n. option_map (λ ns. arg.Table n (low, ns)) (targets starts place zs)) (target starts place z) a e in
+    let ns = map_some (λ (ns : List ℕ). arg.Table n.0 (low, ns)) (targets starts place zs) a n.2 in
     let t = target_back starts place n.0 z n.1 in
     let u = targets_back starts place zs ns.0 ns.1 in
     subst (Back starts place (operand.Table z low zs)) ns.2 ((t.0, u.0), ap (λ (y : ℤ). operand.Table y low (map (offset starts place) ns.0)) t.1 ∙ ap (λ (ys : List ℤ). operand.Table z low ys) u.1)
@@ -96,7 +96,7 @@ arg_back starts place (operand.Lookup z pairs) a q e =
 
 arg_again : (starts : List ℕ) (place : ℕ) (a : Arg) → Ascends starts → AreTargets (length starts) (targets_in a) → arg_of starts place (operand_of starts place a) ≡ Some a
 arg_again starts place (arg.To n) ascends q = rw (target_again starts place n ascends q.0) refl
-arg_again starts place (arg.Table n low ns) ascends q = rw (target_again starts place n ascends q.0, targets_again starts place ns ascends q.1) refl
+arg_again starts place (arg.Table n (low, ns)) ascends q = rw (target_again starts place n ascends q.0, targets_again starts place ns ascends q.1) refl
 arg_again starts place (arg.Lookup n pairs) ascends q = rw (target_again starts place n ascends q.0, pair_targets_again starts place pairs ascends q.1) refl
 arg_again starts place a ascends q = refl
 

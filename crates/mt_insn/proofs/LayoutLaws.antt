@@ -34,7 +34,7 @@ done_inj a b e = cc
 
 done_is : (starts : List ℕ) (place : ℕ) (a b : Arg) → operand_of starts place a ≡ operand.Done b → a ≡ b
 done_is starts place (arg.To n) b e = absurd cc
-done_is starts place (arg.Table n low ns) b e = absurd cc
+done_is starts place (arg.Table n (low, ns)) b e = absurd cc
 done_is starts place (arg.Lookup n pairs) b e = absurd cc
 done_is starts place a b e = done_inj a b e
 
@@ -44,12 +44,12 @@ To starts place a z = (a ≡ arg.To (target_in a)) × (offset starts place (targ
 to_is : (starts : List ℕ) (place : ℕ) (a : Arg) (z : ℤ) → operand_of starts place a ≡ operand.To z → To starts place a z
 unfolding To
 to_is starts place (arg.To n) z e = (refl, cc)
-to_is starts place (arg.Table n low ns) z e = absurd cc
+to_is starts place (arg.Table n (low, ns)) z e = absurd cc
 to_is starts place (arg.Lookup n pairs) z e = absurd cc
 to_is starts place a z e = absurd cc
 
 Table : List ℕ → ℕ → Arg → ℤ → List ℤ → Type 0
-Table starts place a low zs = (a ≡ arg.Table (target_in a) (arg_low a) (arg_targets a)) × (arg_low a ≡ low) × (length (arg_targets a) ≡ length zs)
+Table starts place a low zs = (a ≡ arg.Table (target_in a) (arg_low a, arg_targets a)) × (arg_low a ≡ low) × (length (arg_targets a) ≡ length zs)
 
 length-offsets : (starts : List ℕ) (place : ℕ) (ns : List ℕ) → length (map (offset starts place) ns) ≡ length ns
 length-offsets starts place [] = refl
@@ -58,7 +58,7 @@ length-offsets starts place (n ∷ ns) = ap suc (length-offsets starts place ns)
 table_is : (starts : List ℕ) (place : ℕ) (a : Arg) (z low : ℤ) (zs : List ℤ) → operand_of starts place a ≡ operand.Table z low zs → Table starts place a low zs
 unfolding Table
 table_is starts place (arg.To n) z low zs e = absurd cc
-table_is starts place (arg.Table n lowest ns) z low zs e = (refl, cc, sym (length-offsets starts place ns) ∙ (let same : map (offset starts place) ns ≡ zs = cc in ap (λ (x : List ℤ). length x) same))
+table_is starts place (arg.Table n (lowest, ns)) z low zs e = (refl, cc, sym (length-offsets starts place ns) ∙ (let same : map (offset starts place) ns ≡ zs = cc in ap (λ (x : List ℤ). length x) same))
 table_is starts place (arg.Lookup n pairs) z low zs e = absurd cc
 table_is starts place a z low zs e = absurd cc
 
@@ -68,7 +68,7 @@ Lookup starts place a pairs = (a ≡ arg.Lookup (target_in a) (arg_pairs a)) × 
 lookup_is : (starts : List ℕ) (place : ℕ) (a : Arg) (z : ℤ) (pairs : List (ℤ × ℤ)) → operand_of starts place a ≡ operand.Lookup z pairs → Lookup starts place a pairs
 unfolding Lookup
 lookup_is starts place (arg.To n) z pairs e = absurd cc
-lookup_is starts place (arg.Table n low ns) z pairs e = absurd cc
+lookup_is starts place (arg.Table n (low, ns)) z pairs e = absurd cc
 lookup_is starts place (arg.Lookup n ps) z pairs e = (refl, cc)
 lookup_is starts place a z pairs e = absurd cc
 

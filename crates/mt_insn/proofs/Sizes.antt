@@ -48,7 +48,7 @@ padded_size : (at : ℕ) (bytes : List ℕ) (n : ℕ) → length bytes ≡ n →
 padded_size at bytes n e = length-append (padding_bytes at) bytes ∙ omega (arith, length-replicate {A = ℕ} (padding at) 0, e)
 
 table_size : (starts : List ℕ) (place : ℕ) (a : Arg) → length (table_bytes (items_in (operand_of starts place a))) ≡ 12 + 4 * table_keys a
-table_size starts place (arg.Table default low ns) = omega (arith, offsets_size starts place ns)
+table_size starts place (arg.Table default (low, ns)) = omega (arith, offsets_size starts place ns)
 table_size starts place (arg.Lookup default pairs) = refl
 table_size starts place (arg.To n) = refl
 table_size starts place a = refl

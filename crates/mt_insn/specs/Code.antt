@@ -25,7 +25,7 @@ use Rattle.mt_insn.specs.declared.raw.RawInsn.{RawInsn}
 
 -- how many keys a switch has
 abbrev pub table_keys : Arg → ℕ
-table_keys (arg.Table default low targets) = length targets
+table_keys (arg.Table default (low, targets)) = length targets
 table_keys other = 0
 
 abbrev pub lookup_keys : Arg → ℕ
@@ -95,7 +95,7 @@ offset starts place number = pos (slice_index starts number) -ℤ pos place
 
 abbrev pub operand_of : List ℕ → ℕ → Arg → Operand
 operand_of starts place (arg.To n) = operand.To (offset starts place n)
-operand_of starts place (arg.Table n low ns) = operand.Table (offset starts place n) low (map (offset starts place) ns)
+operand_of starts place (arg.Table n (low, ns)) = operand.Table (offset starts place n) low (map (offset starts place) ns)
 operand_of starts place (arg.Lookup n pairs) = operand.Lookup (offset starts place n) (map (λ pair. (pair.0, offset starts place pair.1)) pairs)
 operand_of starts place other = operand.Done other
 
@@ -119,7 +119,7 @@ code insns = spelled_from raw_bytes 0 (raws insns)
 -- the numbers of the instructions to which an operand leads
 abbrev pub targets_in : Arg → List ℕ
 targets_in (arg.To n) = n ∷ []
-targets_in (arg.Table n low ns) = n ∷ ns
+targets_in (arg.Table n (low, ns)) = n ∷ ns
 targets_in (arg.Lookup n pairs) = n ∷ map (λ pair. pair.1) pairs
 targets_in other = []
 
@@ -136,16 +136,16 @@ pub record IsCode (pool : List Const) (insns : List Insn) : Type 0 where
 
 abbrev pub target_in : Arg → ℕ
 target_in (arg.To n) = n
-target_in (arg.Table n low ns) = n
+target_in (arg.Table n (low, ns)) = n
 target_in (arg.Lookup n pairs) = n
 target_in other = 0
 
 abbrev pub arg_low : Arg → ℤ
-arg_low (arg.Table n low ns) = low
+arg_low (arg.Table n (low, ns)) = low
 arg_low other = pos 0
 
 abbrev pub arg_targets : Arg → List ℕ
-arg_targets (arg.Table n low ns) = ns
+arg_targets (arg.Table n (low, ns)) = ns
 arg_targets other = []
 
 abbrev pub arg_pairs : Arg → List (ℤ × ℕ)
@@ -173,7 +173,7 @@ IsArg form.Local a = (a ≡ arg.Local (local_in (operand.Done a))) × (local_in 
 IsArg form.Increment a = (a ≡ arg.Inc (local_in (operand.Done a)) (number_in (operand.Done a))) × (local_in (operand.Done a) < 2 ^ 8) × FitsSigned w8 (number_in (operand.Done a))
 IsArg form.Jump a = a ≡ arg.To (target_in a)
 IsArg form.FarJump a = a ≡ arg.To (target_in a)
-IsArg form.Table a = (a ≡ arg.Table (target_in a) (arg_low a) (arg_targets a)) × FitsSigned w32 (arg_low a) × (0 < length (arg_targets a)) × FitsSigned w32 (highest (arg_low a) (length (arg_targets a)))
+IsArg form.Table a = (a ≡ arg.Table (target_in a) (arg_low a, arg_targets a)) × FitsSigned w32 (arg_low a) × (0 < length (arg_targets a)) × FitsSigned w32 (highest (arg_low a) (length (arg_targets a)))
 IsArg form.Lookup a = (a ≡ arg.Lookup (target_in a) (arg_pairs a)) × AllByRecursion (λ pair. FitsSigned w32 pair.0) (arg_pairs a) × (keys_ascend (arg_pairs a) ≡ true)
 IsArg form.Interface a = (a ≡ arg.Multi (index_in (operand.Done a)) (count_in (operand.Done a))) × (index_in (operand.Done a) < 2 ^ 16) × (count_in (operand.Done a) < 2 ^ 8)
 IsArg form.Dynamic a = ⊥

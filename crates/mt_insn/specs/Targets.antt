@@ -53,7 +53,7 @@ pair_targets starts place (pair ∷ pairs) = option_and_then (λ n. option_map (
 abbrev pub arg_of : List ℕ → ℕ → Operand → Option Arg
 arg_of starts place (operand.Done a) = Some a
 arg_of starts place (operand.To offset) = option_map arg.To (target starts place offset)
-arg_of starts place (operand.Table default low offsets) = option_and_then (λ n. option_map (λ ns. arg.Table n low ns) (targets starts place offsets)) (target starts place default)
+arg_of starts place (operand.Table default low offsets) = option_and_then (λ n. option_map (λ ns. arg.Table n (low, ns)) (targets starts place offsets)) (target starts place default)
 arg_of starts place (operand.Lookup default pairs) = option_and_then (λ n. option_map (λ ns. arg.Lookup n ns) (pair_targets starts place pairs)) (target starts place default)
 
 abbrev pub insn_of : RawInsn → Arg → Insn

@@ -14,7 +14,7 @@ fn table_keys(arg: &Arg) -> usize
     ensures { result ≡ table_keys arg.now }
 {
     match arg {
-        Arg::Table(_, _, targets) => targets.len(),
+        Arg::Table(_, table) => table.get().1.len(),
         _ => 0,
     }
 }
@@ -23,7 +23,7 @@ fn lookup_keys(arg: &Arg) -> usize
     ensures { result ≡ lookup_keys arg.now }
 {
     match arg {
-        Arg::Lookup(_, pairs) => pairs.len(),
+        Arg::Lookup(_, pairs) => pairs.get().len(),
         _ => 0,
     }
 }

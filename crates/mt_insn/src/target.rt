@@ -84,7 +84,7 @@ fn table_arg(
         return Ok(None);
     };
     match targets(alloc, starts, place, offsets)? {
-        Some(numbers) => Ok(Some(Arg::Table(default, low, numbers))),
+        Some(numbers) => Ok(Some(Arg::table(default, low, numbers)?)),
         None => Ok(None),
     }
 }
@@ -103,7 +103,7 @@ fn lookup_arg(
         return Ok(None);
     };
     match pair_targets(alloc, starts, place, pairs)? {
-        Some(numbers) => Ok(Some(Arg::Lookup(default, numbers))),
+        Some(numbers) => Ok(Some(Arg::lookup(default, numbers)?)),
         None => Ok(None),
     }
 }

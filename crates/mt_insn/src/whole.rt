@@ -57,7 +57,7 @@ fn resolve(
     requires room { AllByRecursion (λ p. base + p.place < 2 ^ 64) insns }
     ensures { Gives fault.Memory (λ x. x) (resolved base starts.now insns) result }
 {
-    let mut all = Seq::new(alloc);
+    let mut all = Seq::with_capacity(alloc, starts.len())?;
     for placed in insns.into_vec() {
         let Placed { place, insn } = placed;
         let RawInsn { op, wide, operand } = insn;

@@ -70,7 +70,7 @@ pub fn target(arg: &Arg) -> u32
     ensures { result ≡ target_in arg.now }
 {
     match arg {
-        Arg::To(n) | Arg::Table(n, _, _) | Arg::Lookup(n, _) => *n,
+        Arg::To(n) | Arg::Table(n, _) | Arg::Lookup(n, _) => *n,
         _ => 0,
     }
 }
@@ -240,7 +240,7 @@ fn low(arg: &Arg) -> i32
     ensures { result ≡ arg_low arg.now }
 {
     match arg {
-        Arg::Table(_, low, _) => *low,
+        Arg::Table(_, table) => table.get().0,
         _ => 0,
     }
 }
@@ -250,7 +250,7 @@ fn table_targets(arg: &Arg) -> &[u32]
     ensures { result.now ≡ arg_targets arg.now }
 {
     match arg {
-        Arg::Table(_, _, targets) => targets.as_slice(),
+        Arg::Table(_, table) => table.get().1.as_slice(),
         _ => &[],
     }
 }
@@ -260,7 +260,7 @@ fn lookup_pairs(arg: &Arg) -> &[(i32, u32)]
     ensures { result.now ≡ arg_pairs arg.now }
 {
     match arg {
-        Arg::Lookup(_, pairs) => pairs.as_slice(),
+        Arg::Lookup(_, pairs) => pairs.get().as_slice(),
         _ => &[],
     }
 }

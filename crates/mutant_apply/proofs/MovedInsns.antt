@@ -50,13 +50,13 @@ module _ (mv : ℕ → ℕ) where
 
   pub moved_leads : (a : Arg) → targets_in (moved_arg mv a) ≡ map mv (targets_in a)
   moved_leads (arg.To n) = refl
-  moved_leads (arg.Table n low ns) = refl
+  moved_leads (arg.Table n (low, ns)) = refl
   moved_leads (arg.Lookup n pairs) = ap (λ (ns : List ℕ). mv n ∷ ns) (pairs_led pairs)
   moved_leads other = refl
 
   stays : (a : Arg) → targets_in a ≡ [] → moved_arg mv a ≡ a
   stays (arg.To n) e = absurd cc
-  stays (arg.Table n low ns) e = absurd cc
+  stays (arg.Table n (low, ns)) e = absurd cc
   stays (arg.Lookup n pairs) e = absurd cc
   stays other e = refl
 
@@ -67,7 +67,7 @@ module _ (mv : ℕ → ℕ) where
   jump_moved other q = absurd cc
 
   table_moved : (a : Arg) → IsArg form.Table a → IsArg form.Table (moved_arg mv a)
-  table_moved (arg.Table n low ns) q =
+  table_moved (arg.Table n (low, ns)) q =
       let count : length ns ≡ length (map mv ns) = sym (length-map ns mv) in
       (refl, q.1, subst (λ (k : ℕ). 0 < k) count q.2, subst (λ (k : ℕ). FitsSigned w32 (highest low k)) count q.3)
   table_moved other q = absurd cc

@@ -29,7 +29,7 @@ moved_place at more place = if nat_le place at then place else place + more
 -- Where a jump or a switch leads moves.
 abbrev pub moved_arg : (ℕ → ℕ) → Arg → Arg
 moved_arg mv (arg.To n) = arg.To (mv n)
-moved_arg mv (arg.Table n low ns) = arg.Table (mv n) low (map mv ns)
+moved_arg mv (arg.Table n (low, ns)) = arg.Table (mv n) (low, map mv ns)
 moved_arg mv (arg.Lookup n pairs) = arg.Lookup (mv n) (map (λ pair. (pair.0, mv pair.1)) pairs)
 moved_arg mv other = other
 

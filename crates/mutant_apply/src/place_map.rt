@@ -55,13 +55,12 @@ fn moved_arg(by: PlaceMap, arg: &Arg) -> Result<Arg, Memory>
 {
     match arg {
         Arg::To(target) => Ok(Arg::To(by.moved(*target))),
-        Arg::Table(default, low, targets) => Ok(Arg::Table(
-            by.moved(*default),
-            *low,
-            moved_targets(by, targets)?,
-        )),
-        Arg::Lookup(default, pairs) => {
-            Ok(Arg::Lookup(by.moved(*default), moved_pairs(by, pairs)?))
+        Arg::Table(default, table) => {
+            let (low, targets) = table.get();
+            Arg::table(by.moved(*default), *low, moved_targets(by, targets)?)
+        }
+        Arg::Lookup(default, keys) => {
+            Arg::lookup(by.moved(*default), moved_pairs(by, keys.get())?)
         }
         other => other.copy(),
     }

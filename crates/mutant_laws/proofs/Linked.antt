@@ -103,7 +103,7 @@ nothing_moved number at new more = λ i place. stays_there (nat_le place at) pla
 
 arg_id : (a : Arg) → moved_arg (λ place. place) a ≡ a
 arg_id (arg.To n) = refl
-arg_id (arg.Table n low ns) = ap (arg.Table n low) (map_id ns)
+arg_id (arg.Table n (low, ns)) = ap (λ (targets : List ℕ). arg.Table n (low, targets)) (map_id ns)
 arg_id (arg.Lookup n pairs) = ap (arg.Lookup n) (map_id pairs)
 arg_id other = refl
 

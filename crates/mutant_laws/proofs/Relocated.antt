@@ -94,7 +94,7 @@ module _ (mv : ℕ → ℕ) where
   operand_moves means n (arg.Local k) = local_stays n k
   operand_moves means n (arg.Inc k z) = increment_stays n k z
   operand_moves means n (arg.To to) = target_moves n to
-  operand_moves means n (arg.Table default low targets) = pick (n == 0xaa) (TableSwitch default low targets) Unlinked (TableSwitch (mv default) low (map mv targets)) Unlinked refl refl
+  operand_moves means n (arg.Table default (low, targets)) = pick (n == 0xaa) (TableSwitch default low targets) Unlinked (TableSwitch (mv default) low (map mv targets)) Unlinked refl refl
   operand_moves means n (arg.Lookup default keys) =
       pick (n == 0xab) (LookupSwitch default keys) Unlinked (LookupSwitch (mv default) (map (λ pair. (pair.0, mv pair.1)) keys)) Unlinked (ap (LookupSwitch (mv default)) (keys_move keys)) refl
   operand_moves means n (arg.Kind k) = elements_stay n k

@@ -42,15 +42,15 @@ starts_are total labels known (n ∷ targets) all =
     ∙ ap (option_map (λ (ns : List ℕ). n ∷ ns)) (starts_are total labels known targets all.1)
 
 table_is : (total : ℕ) (labels : Labels) → AreLabelled total labels → (default : ℕ) (low : ℤ) (targets : List ℕ) → default < total → size low ≤ 0x7FFF_FFFF → AllByRecursion (λ n. n < total) targets
-    → has_room low (length targets) ≡ true → table labels (signed_decimal low ∷ label default ∷ map label targets) ≡ Some (arg.Table default low targets)
+    → has_room low (length targets) ≡ true → table labels (signed_decimal low ∷ label default ∷ map label targets) ≡ Some (arg.Table default (low, targets))
 table_is total labels known default low targets d fits all room =
     let words = map label targets in
-    ap (option_and_then (λ (l : ℤ). option_and_then (λ (x : ℕ). cond (has_room l (length words)) (option_map (λ (ts : List ℕ). arg.Table x l ts) (starts_in labels words)) None) (start_in labels (label default))))
+    ap (option_and_then (λ (l : ℤ). option_and_then (λ (x : ℕ). cond (has_room l (length words)) (option_map (λ (ts : List ℕ). arg.Table x (l, ts)) (starts_in labels words)) None) (start_in labels (label default))))
     (between_is 0x7FFF_FFFF low (omega arith) fits)
-    ∙ ap (option_and_then (λ (x : ℕ). cond (has_room low (length words)) (option_map (λ (ts : List ℕ). arg.Table x low ts) (starts_in labels words)) None)) (known default d)
-    ∙ ap (λ (n : ℕ). cond (has_room low n) (option_map (λ (ts : List ℕ). arg.Table default low ts) (starts_in labels words)) None) (length-map targets label)
-    ∙ ap (λ (b : Bool). cond b (option_map (λ (ts : List ℕ). arg.Table default low ts) (starts_in labels words)) None) room
-    ∙ ap (option_map (λ (ts : List ℕ). arg.Table default low ts)) (starts_are total labels known targets all)
+    ∙ ap (option_and_then (λ (x : ℕ). cond (has_room low (length words)) (option_map (λ (ts : List ℕ). arg.Table x (low, ts)) (starts_in labels words)) None)) (known default d)
+    ∙ ap (λ (n : ℕ). cond (has_room low n) (option_map (λ (ts : List ℕ). arg.Table default (low, ts)) (starts_in labels words)) None) (length-map targets label)
+    ∙ ap (λ (b : Bool). cond b (option_map (λ (ts : List ℕ). arg.Table default (low, ts)) (starts_in labels words)) None) room
+    ∙ ap (option_map (λ (ts : List ℕ). arg.Table default (low, ts))) (starts_are total labels known targets all)
 
 glyphs_lack : (word : List ℕ) → AllByRecursion IsGlyph word → Lacks 58 word
 glyphs_lack [] all = tt

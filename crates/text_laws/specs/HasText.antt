@@ -64,7 +64,7 @@ HasOperand total form.Increment o = (n : ℕ) × (by : ℤ) × (n < 2 ^ 8) × Fi
 HasOperand total form.Jump o = (n : ℕ) × (n < total) × (o ≡ operand.Done (arg.To n))
 HasOperand total form.Table o =
     (default : ℕ) × (low : ℤ) × (targets : List ℕ) × (default < total) × FitsSigned w32 low × AllByRecursion (λ n. n < total) targets × (has_room low (length targets) ≡ true)
-    × (o ≡ operand.Done (arg.Table default low targets))
+    × (o ≡ operand.Done (arg.Table default (low, targets)))
 HasOperand total form.Lookup o =
     (default : ℕ) × (pairs : List (ℤ × ℕ)) × (default < total) × AllByRecursion (λ pair. FitsSigned w32 pair.0 × (pair.1 < total)) pairs × (keys_ascend pairs ≡ true)
     × (o ≡ operand.Done (arg.Lookup default pairs))

@@ -5,7 +5,7 @@ use Rattle.class_link.proofs.code_linking.link_insn.Goals as goal
 
 pub returns-in-Table : goal.returns-in-Table
 unfolding instruction_by
-returns-in-Table c = rw c.in-Table.is (λ ss more h. c.table_switch.ensures c.args.entries.now ss ∙ table_switch_is c.args.insn.now.op c.args.next ss more c.in-Table.field-0 c.in-Table.field-1 c.in-Table.field-2 h)
+returns-in-Table c = rw c.in-Table.is (λ ss more h. c.table_switch.ensures c.args.entries.now ss ∙ table_switch_is c.args.insn.now.op c.args.next ss more c.in-Table.field-0 c.in-Table.field-1.0 c.in-Table.field-1.1 h)
 
 pub returns-in-Lookup : goal.returns-in-Lookup
 unfolding instruction_by
