@@ -7,7 +7,7 @@ ghost use Rattle.class_model.specs.Pool.{entry_of};
 ghost use Rattle.class_link.specs.Symbols.{class_named};
 ghost use Rattle.class_link.specs.Linking as linking;
 ghost use Rattle.class_link.specs.Switches.{AreEntries};
-ghost use Rattle.class_link.specs.Bare.{bare_field, bare_method};
+ghost use Rattle.class_link.specs.Bare.{bare_field, method_with};
 ghost use Rattle.class_link.specs.declared.linked.Entry as entry;
 ghost use Rattle.class_link.specs.View.{body_of, method_of, field_of, constant_of, linked_of, native_meaning};
 
@@ -121,9 +121,14 @@ pub fn link_body(
     }
 }
 
-// A method without a body.
-fn bare_method(flags: u16, name: &Text, desc: &Text) -> Result<LinkedMethod, Memory>
-    ensures { IfOk result (λ m. m ≡ bare_method flags name.now desc.now) }
+// A method of this head and body.
+fn method_with(
+    flags: u16,
+    name: &Text,
+    desc: &Text,
+    body: LinkedBody,
+) -> Result<LinkedMethod, Memory>
+    ensures { IfOk result (λ m. m ≡ method_with flags name.now desc.now body) }
 {
     let name = name.name()?;
     let (desc, args, result) = desc.method()?;
@@ -133,7 +138,7 @@ fn bare_method(flags: u16, name: &Text, desc: &Text) -> Result<LinkedMethod, Mem
         desc,
         args,
         result,
-        body: LinkedBody::Absent,
+        body,
     })
 }
 
@@ -148,13 +153,10 @@ fn link_method(
     requires pool { classes.now ≡ texts.now }
     ensures { IfOk result (λ m. method_of entries.now m ≡ linking.method_in texts.now method.now) }
 {
-    let mut linked = bare_method(
-        method.flags,
-        texts.text(method.name),
-        texts.text(method.desc),
-    )?;
-    linked.body = link_body(alloc, entries, classes, method.attrs.as_slice())?;
-    Ok(linked)
+    let body = link_body(alloc, entries, classes, method.attrs.as_slice())?;
+    let name = texts.text(method.name);
+    let desc = texts.text(method.desc);
+    method_with(method.flags, name, desc, body)
 }
 
 fn link_methods(
@@ -289,14 +291,22 @@ fn library_text(alloc: Global, name: &Name) -> Result<Text, Memory>
     Text::new(alloc, name.copy()?)
 }
 
+// A method of the library of this name and descriptor.
+fn library_method_of(method: &LibMethod, name: &Text, desc: &Text) -> Result<LinkedMethod, Memory>
+    requires name { name.now ≡ method.now.name }
+    requires desc { desc.now ≡ method.now.desc }
+    ensures { IfOk result (λ m. (es : List entry.Entry) → method_of es m ≡ linking.library_method method.now) }
+{
+    let body = library_body(&method.body)?;
+    method_with(method.flags, name, desc, body)
+}
+
 fn library_method(alloc: Global, method: &LibMethod) -> Result<LinkedMethod, Memory>
     ensures { IfOk result (λ m. (es : List entry.Entry) → method_of es m ≡ linking.library_method method.now) }
 {
     let name = library_text(alloc, &method.name)?;
     let desc = library_text(alloc, &method.desc)?;
-    let mut linked = bare_method(method.flags, &name, &desc)?;
-    linked.body = library_body(&method.body)?;
-    Ok(linked)
+    library_method_of(method, &name, &desc)
 }
 
 fn library_methods(alloc: Global, methods: &[LibMethod]) -> Result<Seq<LinkedMethod>, Memory>

@@ -1,4 +1,4 @@
-//! Tests of `class_table` and `test_discovery`, and the functions over which wrong bodies are tried.
+//! Tests of `class_table`, and the functions over which wrong bodies are tried.
 #![tactic(auto)]
 
 pub mod calls;
@@ -6,5 +6,3 @@ pub mod calls;
 mod classes;
 #[cfg(test)]
 mod programs;
-#[cfg(test)]
-mod tests_found;
