@@ -2,7 +2,6 @@
 use Rattle.std.specs.Prelude.{◌≡◌, ℕ, List, [], ◌∷◌, Bool, ◌||◌, nat_eq, if◌then◌else◌, codes, Option, None, Some, MatchOption, option_map, option_and_then}
 use Rattle.std.specs.List.{ends_with}
 use Rattle.std.specs.Io.BufRead.{strip_last}
-use Rattle.mt_edge.specs.Files.{slash}
 use Rattle.mutest_words.specs.Options.{Pair, Given, given_of, value_of, are_options, is_word}
 use Rattle.mutest_words.specs.declared.command.AsmOptions.{AsmOptions as FoundAsm}
 use Rattle.mutest_words.specs.declared.command.RunOptions.{RunOptions as FoundRun}
@@ -25,9 +24,9 @@ pub data Command : Type 0 where
   run_suite : RunOptions → Command
   assemble_class : AsmOptions → Command
 
--- a folder's word, without one `/` at its end
+-- a folder's word, without one `/` (47) at its end
 abbrev pub folder_of : List ℕ → List ℕ
-folder_of word = strip_last slash word
+folder_of word = strip_last 47 word
 
 -- ---- commands, by what the words behind their names give
 

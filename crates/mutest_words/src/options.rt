@@ -83,13 +83,14 @@ impl<'a> Given<'a> {
                 rest = behind;
             }
         }
-        if let [word] = rest {
-            if is_value(word.as_str()) {
-                plain.push(word.as_str())?;
-            } else {
-                options.push((word.as_str(), ""))?;
-            }
+        let [word, ..] = rest else {
+            return Ok(Given { plain, options });
+        };
+        if is_value(word.as_str()) {
+            plain.push(word.as_str())?;
+            return Ok(Given { plain, options });
         }
+        options.push((word.as_str(), ""))?;
         Ok(Given { plain, options })
     }
 
