@@ -70,7 +70,7 @@ pub is_library : (c : LinkedClass) → (linked_of c).library ≡ c.library
 unfolding linked_of
 is_library c = refl
 
-has_method : (c : LinkedClass) (k : ℕ) (m : LinkedMethod) → slice_get c.methods k ≡ Some m → slice_get (linked_of c).methods k ≡ Some (method_of c.entries m)
+pub has_method : (c : LinkedClass) (k : ℕ) (m : LinkedMethod) → slice_get c.methods k ≡ Some m → slice_get (linked_of c).methods k ≡ Some (method_of c.entries m)
 unfolding linked_of
 has_method c k m e = slice_get-map (method_of c.entries) c.methods k ∙ ap (option_map (method_of c.entries)) e
 

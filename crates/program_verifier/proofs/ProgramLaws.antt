@@ -47,6 +47,7 @@ module _ (p : List Info) (id : ℕ) where
         | inr h ↦ subst (λ k. ClassAccepted (look p) (name_at p k)) (sym h) here
       ]
   passes (Some f) all here = record {
+    within = all.within;
     bytes = all.bytes;
     refused = all.refused;
     before = λ j l less.
@@ -60,6 +61,7 @@ module _ (p : List Info) (id : ℕ) where
   pub behind : (old : Option Found) (bytes : List ℕ) → bytes ≡ text (name_at p id) → before_found bytes old ≡ false → FoundAmong p id old → FoundAmong p (id + 1) old
   behind None bytes e b all = absurd cc
   behind (Some f) bytes e b all = record {
+    within = all.within;
     bytes = all.bytes;
     refused = all.refused;
     before = λ j l less.
@@ -77,8 +79,9 @@ module _ (p : List Info) (id : ℕ) where
       (before_before (text (name_at p j)) (text (name_at p id)) (text (name_at p f.fault.class.0)) less
       (ap (λ x. is_lt (slice_cmp nat_cmp (text (name_at p id)) x)) (sym all.bytes) ∙ ap (λ x. is_lt (slice_cmp nat_cmp x f.name)) (sym e) ∙ b))
 
-  pub refused : (old : Option Found) (bytes : List ℕ) (fault : VerifyFault) → bytes ≡ text (name_at p id) → before_found bytes old ≡ true → IsRefused p id fault → FoundAmong p id old → IsFoundAmong p (id + 1) (record { name = bytes; fault = fault })
-  refused old bytes fault e b is all = record {
+  pub refused : (old : Option Found) (bytes : List ℕ) (fault : VerifyFault) → id < length p → bytes ≡ text (name_at p id) → before_found bytes old ≡ true → IsRefused p id fault → FoundAmong p id old → IsFoundAmong p (id + 1) (record { name = bytes; fault = fault })
+  refused old bytes fault lt e b is all = record {
+    within = subst (λ k. k < length p) (sym is.class) lt;
     bytes = e ∙ ap (λ k. text (name_at p k)) (sym is.class);
     refused = subst (λ k. IsRefused p k fault) (sym is.class) is;
     before = λ j l less.
@@ -108,8 +111,11 @@ all_accepted p all n = by_number p n (number_of p n) refl (λ j l e. all j l)
 
 pub first_refused : (p : List Info) (f : Found) → IsFoundAmong p (length p) f → IsFirstRefused p f.fault
 first_refused p f is = record {
-  first = is.refused.first;
-  before = λ m less.
-      by_number p m (number_of p m) refl
-      (λ j l e. is.before j l (ap (λ n. comes_before n (name_at p f.fault.class.0)) e ∙ less));
+  within = is.within;
+  first = record {
+    first = is.refused.first;
+    before = λ m less.
+        by_number p m (number_of p m) refl
+        (λ j l e. is.before j l (ap (λ n. comes_before n (name_at p f.fault.class.0)) e ∙ less));
+  };
 }

@@ -1,5 +1,5 @@
 -- The first fault of a class and of a program.
-use Rattle.std.specs.Prelude.{◌≡◌, ◌<◌, ◌+◌, ℕ, Bool, true, false, List, All, Option, Some, None, slice_get}
+use Rattle.std.specs.Prelude.{◌≡◌, ◌<◌, ◌+◌, ℕ, Bool, true, false, List, length, All, Option, Some, None, slice_get}
 use Rattle.std.specs.Ordering.{nat_cmp, is_lt}
 use Rattle.std.specs.Cmp.Lexicographic.{slice_cmp}
 use Rattle.class_model.specs.Text.{text}
@@ -16,7 +16,7 @@ use Rattle.type_verifier.specs.declared.pool.Own.{Own}
 use Rattle.program_verifier.specs.declared.end.VerifyFault.{VerifyFault}
 use Rattle.program_verifier.specs.declared.programs.Found.{Found}
 use Rattle.program_verifier.specs.Tables.{HasShortCode}
-use Rattle.program_verifier.specs.Methods.{BodyFaultIn, FaultIn}
+use Rattle.program_verifier.specs.Methods.{FaultIn}
 
 -- ---- what is asked of a program
 
@@ -72,27 +72,6 @@ abbrev pub ClassFaultIs : List Info → ℕ → Option VerifyFault → Type 0
 ClassFaultIs p id None = ClassAccepted (look p) (name_at p id)
 ClassFaultIs p id (Some f) = IsRefused p id f
 
--- ---- the code of the library
-
--- The code of each method of a class is accepted, whatever the flags.
-abbrev pub AreBodiesIn : List Info → Name → LinkedClass → Type 0
-AreBodiesIn p n c =
-    (j : ℕ) (m : LinkedMethod) → slice_get c.methods j ≡ Some m → BodyFaultIn p n c m None
-
-abbrev pub AreBodiesFaultless : Own → Type 0
-AreBodiesFaultless o = AreBodiesIn o.program.now o.name.now o.linked.now
-
--- A class of this number, whose instructions have numbers.
-pub record IsInfoOf (p : List Info) (id : ℕ) (i : Info) : Type 0 where
-  pub there : slice_get p id ≡ Some i
-  pub short : All HasShortCode i.linked.methods
-
--- It is accepted, if it is one of the library.
-abbrev pub IsAcceptedInLibrary : List Info → ℕ → Type 0
-IsAcceptedInLibrary p id =
-    (c : Linked) → look p (name_at p id) ≡ Some c → c.library ≡ true
-    → ClassAccepted (look p) (name_at p id)
-
 -- ---- the first fault of a program
 
 -- Names are ordered by their bytes in modified UTF-8.
@@ -100,9 +79,9 @@ abbrev pub comes_before : Name → Name → Bool
 comes_before m n = is_lt (slice_cmp nat_cmp (text m) (text n))
 
 -- A program is refused by this fault, which is its first.
-abbrev pub IsFirstRefused : List Info → VerifyFault → Type 0
-IsFirstRefused p f =
-    IsFirstInProgram comes_before (look p) (name_at p f.class.0) f.method (place_of f)
+pub record IsFirstRefused (p : List Info) (f : VerifyFault) : Type 0 where
+  pub within : f.class.0 < length p
+  pub first : IsFirstInProgram comes_before (look p) (name_at p f.class.0) f.method (place_of f)
 
 -- Whether bytes come before those of the class of a fault, if there is one.
 abbrev pub before_found : List ℕ → Option Found → Bool
@@ -111,6 +90,7 @@ before_found bytes (Some f) = is_lt (slice_cmp nat_cmp bytes f.name)
 
 -- Of so many classes this is the least that has a fault.
 pub record IsFoundAmong (p : List Info) (count : ℕ) (f : Found) : Type 0 where
+  pub within : f.fault.class.0 < length p
   pub bytes : f.name ≡ text (name_at p f.fault.class.0)
   pub refused : IsRefused p f.fault.class.0 f.fault
   pub before :

@@ -1,10 +1,13 @@
 //! The code of the library.
 
-ghost use Rattle.std.specs.Prelude.{◌≡◌, ◌<◌, ◌^◌, All, length, IfOk, IfNone, OnOk};
+ghost use Rattle.std.specs.Prelude.{◌≡◌, ◌<◌, ◌^◌, All, length, Err, IfOk, OnOk};
 ghost use Rattle.class_table.specs.Table.{look};
 ghost use Rattle.type_verifier.specs.Pool.{IsOwn};
 ghost use Rattle.program_verifier.specs.Tables.{AreTables, HasShortCode};
-ghost use Rattle.program_verifier.specs.Programs.{AreNumbered, IsInfoOf, IsLibraryAccepted, AreBodiesFaultless, IsAcceptedInLibrary};
+ghost use Rattle.program_verifier.specs.Libraries.{FirstBodyIs, IsFirstInLibrary, IsInfoOf, LibraryFaultIs};
+ghost use Rattle.program_verifier.specs.Programs.{AreNumbered, IsLibraryAccepted};
+ghost use Rattle.program_verifier.specs.declared.end.VerifyFault.{VerifyFault};
+ghost use Rattle.program_verifier.specs.declared.end.VerifyEnd.TheVariants.{Refused};
 
 use crate::classes::is_program;
 use crate::end::{VerifyEnd, VerifyFault};
@@ -26,7 +29,7 @@ fn refused_body(
     requires methods { methods.now ≡ own.now.linked.now.methods }
     requires few { length methods.now < 2 ^ 32 }
     requires short { All HasShortCode methods.now }
-    ensures { IfOk result (λ r. IfNone r (AreBodiesFaultless own.now)) }
+    ensures { IfOk result (FirstBodyIs own.now) }
 {
     for (k, method) in methods.iter().enumerate() {
         let fault = body_fault(own, tables, method)?;
@@ -47,7 +50,7 @@ fn body_fault_of_own(alloc: Global, own: &Own) -> Result<Option<VerifyFault>, Me
     requires own { IsOwn own.now }
     requires few { length own.now.linked.now.methods < 2 ^ 32 }
     requires short { All HasShortCode own.now.linked.now.methods }
-    ensures { IfOk result (λ r. IfNone r (AreBodiesFaultless own.now)) }
+    ensures { IfOk result (FirstBodyIs own.now) }
 {
     let mut tables = tables_of(alloc, own)?;
     let fault = refused_body(own, &mut tables, own.linked.methods.as_slice())?;
@@ -62,7 +65,7 @@ fn library_fault(
     info: &ClassInfo,
 ) -> Result<Option<VerifyFault>, Memory>
     requires { IsInfoOf program.now id.0 info.now }
-    ensures { IfOk result (λ r. IfNone r (IsAcceptedInLibrary program.now id.0)) }
+    ensures { IfOk result (LibraryFaultIs program.now id.0) }
 {
     is_program(program);
     let linked = info.linked();
@@ -86,11 +89,14 @@ fn library_fault(
     fault
 }
 
-/// Verifies the code of the library's classes, whatever the flags of their methods. Where there is
-/// no fault, the library is accepted, beside the classes that the program has.
+/// Verifies the code of the library's classes, whatever the flags of their methods. The library is
+/// accepted, beside the classes that the program has, or the fault is the first one: of the class
+/// with the least number, and there of the first method whose code has a fault; there rule 2, then
+/// rule 3 by frame, then the others by instruction and by rule. Rule 1 isn't asked.
 pub fn verify_library(alloc: Global, program: &Program) -> Result<(), VerifyEnd>
     requires { AreNumbered program.now }
-    ensures { OnOk result (IsLibraryAccepted (look program.now)) }
+    ensures yes { OnOk result (IsLibraryAccepted (look program.now)) }
+    ensures no { (f : VerifyFault) → result ≡ Err (Refused f) → IsFirstInLibrary program.now f }
 {
     let count = program.len() as u32;
     for id in 0..count {

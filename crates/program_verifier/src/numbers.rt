@@ -9,7 +9,8 @@ use class_model::ClassId;
 use class_table::Program;
 
 fn has_short_code(method: &LinkedMethod) -> bool
-    ensures { result ≡ true → HasShortCode method.now }
+    ensures yes { result ≡ true → HasShortCode method.now }
+    ensures no { HasShortCode method.now → result ≡ true }
 {
     match &method.body {
         LinkedBody::Code(code) => code.instructions.len() <= u32::MAX as usize,
@@ -19,7 +20,8 @@ fn has_short_code(method: &LinkedMethod) -> bool
 }
 
 fn have_short_code(methods: &[LinkedMethod]) -> bool
-    ensures { result ≡ true → All HasShortCode methods.now }
+    ensures yes { result ≡ true → All HasShortCode methods.now }
+    ensures no { All HasShortCode methods.now → result ≡ true }
 {
     for method in methods {
         if !has_short_code(method) {
@@ -32,7 +34,8 @@ fn have_short_code(methods: &[LinkedMethod]) -> bool
 /// Whether the instructions of all methods have numbers: no code has 2^32 of them. By the rules of
 /// class files each code has fewer, so this is true of each program that is read.
 pub fn is_numbered(program: &Program) -> bool
-    ensures { result ≡ true → AreNumbered program.now }
+    ensures yes { result ≡ true → AreNumbered program.now }
+    ensures no { AreNumbered program.now → result ≡ true }
 {
     let count = program.len() as u32;
     for id in 0..count {

@@ -13,7 +13,7 @@ use Rattle.handler_rows.specs.declared.handlers.Handler.{Handler}
 use Rattle.std.specs.List.{list_any}
 use Rattle.std.proofs.lemmas.Bool.{and_parts}
 use Rattle.handler_rows.specs.Sweeps.{is_over, AreOpen}
-use Rattle.type_pass.specs.Handlers.{Caught, HasLocalsOf, caught_in, caught_of, fits, all_fit, takes_caught, AllFit}
+use Rattle.type_pass.specs.Handlers.{Caught, HasLocalsOf, caught_in, caught_of, fits, all_fit, takes_caught}
 use Rattle.type_pass.specs.Passes.{IsPass, IsPassAt}
 
 -- the rules' own rows
@@ -30,10 +30,6 @@ fits_moved s at ns f g h e = sym (ap (λ x. fits s at (types_of ns x) h) (frame_
 
 pub fits_next : (s : Setting) (at : ℕ) (f : FrameTypes) (h : Caught) (hs : List Caught) (b : Bool) → fits s at f h ≡ b → all_fit s at f (h ∷ hs) ≡ (b && all_fit s at f hs)
 fits_next s at f h hs b e = ap (λ x. x && all_fit s at f hs) e
-
--- by the rows of a pass
-pub pass_fits : (s : Setting) (t : Site) (at : ℕ) (hs : List Handler) (f : Frame) (b : Bool) → IsPassAt s t at hs → AllFit t at hs f b → handlers_fit s at (types_of t.names.now f) s.code.rows ≡ b
-pass_fits s t at hs f b x e = x.fit (types_of t.names.now f) ∙ e s x.setting
 
 -- ---- the rows that cover an instruction
 

@@ -13,13 +13,13 @@ use Rattle.type_rows.specs.declared.answer.Answer.{Answer}
 use Rattle.type_rows.specs.declared.answer.Answer.TheVariants as answer
 use Rattle.type_rows.specs.declared.site.Site.{Site}
 use Rattle.type_rows.specs.Answers.{checked_of}
+use Rattle.type_rows.specs.Sites.{IsSettingOf}
 use Rattle.type_row.specs.Means.{RowMeant, meant}
 use Rattle.handler_rows.specs.declared.handlers.Handler.{Handler}
 use Rattle.type_pass.specs.Handlers.{AllFit}
-use Rattle.type_pass.specs.Passes.{IsPass, IsPassAt, IsBegun, IsLesser, IsJudged, NextIs, GoesOn, FallsInto, rule_of, first_fault}
+use Rattle.type_pass.specs.Passes.{IsPass, IsPassAt, IsAnswered, IsBegun, IsLesser, IsJudged, HandledRow, NextIs, GoesOn, FallsInto, rule_of, first_fault}
 use Rattle.pass_laws.proofs.Entering.{judged, next_is, fault_step, fault_end}
 use Rattle.type_pass.proofs.Falling.{instructions_are, count_is}
-use Rattle.type_pass.proofs.Fitting.{pass_fits}
 
 next_by : (s : Setting) (at : ℕ) (ns : List Named) (a : Answer) (new : Frame) → falls_into s (suc at) ≡ frame_given (checked_of ns a new) → NextIs s at a (types_of ns new)
 next_by s at ns answer.Falls new e = e
@@ -29,17 +29,29 @@ next_by s at ns (answer.Fails v) new e = tt
 pub none_then : {X : Type 0} (o : Option X) (P : Type 0) → IfNone o P → o ≡ None → P
 none_then o P h e = subst (λ z. IfNone z P) e h
 
-pub judged_by : (s : Setting) (t : Site) (hs : List Handler) (at : ℕ) (f g new : Frame) (i : Instruction) (fit : Bool) (a r : Answer) → IsPassAt s t at hs → IsBegun s at (types_of t.names.now f) → falls_out s at (slice_get s.code.instructions at) ≡ false → Some i ≡ slice_get t.code.now.instructions at → AllFit t at hs f fit → g ≡ f → RowMeant t at i g a new → IsLesser fit a r → IsJudged s at r (types_of t.names.now new)
-judged_by s t hs at f g new i fit a r x b out there all same meant_ lesser =
+-- the answer of the row and the handlers
+pub answered_by : (s : Setting) (t : Site) (hs : List Handler) (at : ℕ) (f g new : Frame) (i : Instruction) (fit : Bool) (a r : Answer) → IsSettingOf s t → AllFit t at hs f fit → g ≡ f → RowMeant t at i g a new → IsLesser fit a r → IsAnswered s t hs at i f r new
+answered_by s t hs at f g new i fit a r x all same meant_ lesser =
+    let ns = t.names.now in
+    let made : row s at (meant t i) (types_of ns f) ≡ checked_of ns a new = ap (λ h. row s at (meant t i) (types_of ns h)) (sym same) ∙ meant_ s x in
+    record {
+      rule =
+          ap (λ z. with_handlers z (row s at (meant t i) (types_of ns f))) (all s x)
+          ∙ ap (with_handlers fit) made ∙ lesser.rule ns new;
+      next = λ e. lesser.next s at (types_of ns new) (next_by s at ns a new (e ∙ ap frame_given made));
+    }
+
+pub judged_by : (s : Setting) (t : Site) (hs : List Handler) (at : ℕ) (f new : Frame) (i : Instruction) (r : Answer) → IsPassAt s t at hs → IsBegun s at (types_of t.names.now f) → falls_out s at (slice_get s.code.instructions at) ≡ false → Some i ≡ slice_get t.code.now.instructions at → HandledRow t hs at i f r new → IsJudged s at r (types_of t.names.now new)
+judged_by s t hs at f new i r x b out there answers =
     let ns = t.names.now in
     let is = instructions_are s t at (Some i) x.setting there in
-    let made : row s at (meant t i) (types_of ns f) ≡ checked_of ns a new = ap (λ h. row s at (meant t i) (types_of ns h)) (sym same) ∙ meant_ s x.setting in
+    let answered = answers s x.setting in
     record {
       rule =
           judged s at (types_of ns f) (meant t i) (b.frame, b.taken) is out
-          ∙ ap (λ z. with_handlers z (row s at (meant t i) (types_of ns f))) (pass_fits s t at hs f fit x all)
-          ∙ ap (with_handlers fit) made ∙ lesser.rule ns new;
-      next = lesser.next s at (types_of ns new) (next_by s at ns a new (next_is s at (types_of ns f) (meant t i) b.frame is ∙ ap frame_given made));
+          ∙ ap (λ z. with_handlers z (row s at (meant t i) (types_of ns f))) (x.fit (types_of ns f))
+          ∙ answered.rule;
+      next = answered.next (next_is s at (types_of ns f) (meant t i) b.frame is);
     }
 
 -- ---- the loop

@@ -5,8 +5,9 @@ use Rattle.program_rules.specs.Linked.{Linked, LinkedMethod, LinkedCode}
 use Rattle.type_rules.specs.References.{Classes, classes_of}
 use Rattle.type_rules.specs.Assignability.{FrameTypes}
 use Rattle.type_rules.specs.Frames.{FullFrame, stated_at, first_frame}
-use Rattle.type_rules.specs.Rows.{Setting}
-use Rattle.type_rules.specs.Rules.{MethodFault, frame_before, falls_into, falls_out, is_refused, handlers_fit, with_handlers, rule_at, fault_from, fault_within, setting_of}
+use Rattle.type_rules.specs.Rows.{Setting, row}
+use Rattle.type_rules.specs.Rules.{MethodFault, frame_before, frame_given, falls_into, falls_out, is_refused, handlers_fit, with_handlers, rule_at, fault_from, fault_within, setting_of}
+use Rattle.class_link.specs.declared.instruction.Instruction.{Instruction}
 use Rattle.class_table.specs.Table.{look}
 use Rattle.vframes.specs.declared.frame.Frame.{Frame}
 use Rattle.vframes.specs.declared.named.Named.{Named}
@@ -16,6 +17,7 @@ use Rattle.type_rows.specs.declared.answer.Answer.TheVariants as answer
 use Rattle.type_rows.specs.declared.site.Site.{Site}
 use Rattle.type_rows.specs.Answers.{checked_of}
 use Rattle.type_rows.specs.Sites.{IsSettingOf, leads_in}
+use Rattle.type_row.specs.Means.{meant}
 use Rattle.handler_rows.specs.declared.handlers.Handler.{Handler}
 use Rattle.type_pass.specs.declared.pass.Fault.{Fault}
 use Rattle.type_pass.specs.Handlers.{AreHandlersOf, all_fit, caught_in}
@@ -95,6 +97,25 @@ pub record IsPassAt (s : Setting) (t : Site) (at : ℕ) (hs : List Handler) : Ty
   pub fit :
       (f : FrameTypes) → handlers_fit s at f s.code.rows
       ≡ all_fit s at f (map (caught_in t.names.now) hs)
+
+-- What the row of an instruction and these handlers answer to the frame before it: the lesser rule
+-- of both, and the frame that the row leaves.
+pub record IsAnswered
+    (s : Setting) (t : Site) (hs : List Handler) (at : ℕ) (i : Instruction) (old : Frame)
+    (a : Answer) (new : Frame) : Type 0 where
+  pub rule :
+      with_handlers
+      (all_fit s at (types_of t.names.now old) (map (caught_in t.names.now) hs))
+      (row s at (meant t i) (types_of t.names.now old))
+      ≡ rule_of a
+  pub next :
+      falls_into s (suc at) ≡ frame_given (row s at (meant t i) (types_of t.names.now old))
+      → NextIs s at a (types_of t.names.now new)
+
+abbrev pub HandledRow :
+    Site → List Handler → ℕ → Instruction → Frame → Answer → Frame → Type 0
+HandledRow t hs at i old a new =
+    (s : Setting) → IsSettingOf s t → IsAnswered s t hs at i old a new
 
 abbrev pub Judged : Site → List Handler → ℕ → Bool → Frame → Answer → Frame → Type 0
 Judged t hs at falls old a new =

@@ -7,5 +7,5 @@ mod entry;
 mod handlers;
 mod pass;
 
-pub use handlers::is_thrown;
-pub use pass::{Fault, check_code, faults_agree};
+pub use handlers::{handlers_fit, is_thrown};
+pub use pass::{Fault, check_code, faults_agree, row_with_handlers, with_handlers};

@@ -2,11 +2,12 @@
 
 ghost use Rattle.std.specs.Prelude.{◌≡◌, ◌<◌, ◌^◌, IfOk, length};
 ghost use Rattle.type_row.specs.Means.{IsSite};
-ghost use Rattle.type_pass.specs.Passes.{FaultsAgree, GoesOn, IsLesser, Judged, FirstFaultIs, rule_of};
+ghost use Rattle.type_pass.specs.Passes.{FaultsAgree, GoesOn, IsLesser, Judged, FirstFaultIs, HandledRow, rule_of};
 
 use crate::ends::falls_out;
 use crate::entry::enter;
 use crate::handlers::handlers_fit;
+use class_link::Instruction;
 use class_model::Memory;
 use handler_rows::{Handler, Sweep};
 use type_row::row;
@@ -20,8 +21,8 @@ pub struct Fault {
     pub rule: u8,
 }
 
-// The lesser rule of what a row says and of what the handlers say (rule 10).
-fn with_handlers(fit: bool, answer: Answer) -> Answer
+/// The lesser rule of what a row says and of what the handlers say (rule 10).
+pub fn with_handlers(fit: bool, answer: Answer) -> Answer
     ensures { IsLesser fit answer result }
 {
     match answer {
@@ -49,6 +50,24 @@ fn with_handlers(fit: bool, answer: Answer) -> Answer
     }
 }
 
+/// What the row of an instruction answers, or rule 10, if one of these handlers doesn't take the
+/// locals before the instruction, or catches what isn't thrown, and the row's rule isn't less. The
+/// frame becomes what the row leaves. Of the handlers those count that cover the instruction.
+pub fn row_with_handlers(
+    site: &Site,
+    at: u32,
+    handlers: &[Handler],
+    instruction: Instruction,
+    f: &mut Frame,
+) -> Result<Answer, Memory>
+    requires { IsSite site.now }
+    ensures { IfOk result (λ a. HandledRow site.now handlers.now at instruction f.old a f.new) }
+{
+    let fit = handlers_fit(site, at, handlers, f)?;
+    let answer = row(site, at, instruction, f)?;
+    Ok(with_handlers(fit, answer))
+}
+
 // The first rule that refuses at an instruction that these handlers cover; if none does, the frame
 // becomes the one that the next instruction begins with, if it begins behind this one.
 fn judge(
@@ -70,9 +89,8 @@ fn judge(
     match enter(site, at, falls, f)? {
         Some(rule) => Ok(Answer::Fails(rule)),
         None => {
-            let fit = handlers_fit(site, at, handlers, f)?;
-            let answer = row(site, at, *instruction, f)?;
-            Ok(with_handlers(fit, answer))
+            let answer = row_with_handlers(site, at, handlers, *instruction, f)?;
+            Ok(answer)
         }
     }
 }

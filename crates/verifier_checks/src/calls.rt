@@ -1,12 +1,13 @@
 //! A function for each public call over which wrong bodies are tried, with the call's contract.
 
-ghost use Rattle.std.specs.Prelude.{◌≡◌, IfOk};
+ghost use Rattle.std.specs.Prelude.{◌≡◌, IfNone, IfOk, IfSome};
 ghost use Rattle.program_rules.specs.Instructions.{ArrayLoad, LongStore, NullConstant, ReferenceReturn};
 ghost use Rattle.type_rules.specs.References.{classes_of};
 ghost use Rattle.type_rules.specs.Assignability.{name_assignable};
 ghost use Rattle.class_table.specs.Table.{look};
 ghost use Rattle.vframes.specs.Named.{AreDistinct, AreNamed, HaveComponents, IsClosed, IsNamed, IsWithin};
 ghost use Rattle.vframes.specs.Fits.{InterfaceIs};
+ghost use Rattle.vframes.specs.Stated.{AreFewer, IsChopOf};
 ghost use Rattle.type_rows.specs.Answers.{RowIs};
 ghost use Rattle.type_rows.specs.Sites.{AreItems, RowAt, SpecialIs};
 
@@ -14,7 +15,7 @@ use class_model::{ClassId, Memory};
 use class_table::Program;
 use program_rules::Element;
 use type_rows::{Answer, Signature, Site};
-use vframes::{Frame, Named};
+use vframes::{Frame, Local, Locals, Named};
 
 /// `vframes::is_name_assignable`
 pub fn is_name_assignable(program: &Program, from: &Named, to: &Named) -> bool
@@ -80,4 +81,13 @@ pub fn call_special(site: &Site, f: &mut Frame, method: &Signature) -> Result<An
 {
     let called = type_rows::call_special(site, f, method)?;
     Ok(called)
+}
+
+/// `vframes::chop_locals`
+pub fn chop_locals(store: &[Local], locals: Locals, count: u8) -> Option<Locals>
+    ensures some { IfSome result (λ l. IsChopOf store.now locals count l) }
+    ensures none { IfNone result (AreFewer store.now locals count) }
+{
+    let chopped = vframes::chop_locals(store, locals, count);
+    chopped
 }

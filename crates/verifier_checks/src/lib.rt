@@ -1,5 +1,5 @@
-//! Tests of `vframes` and `program_verifier`, and the functions over which wrong bodies of them and
-//! of `type_rows` are tried.
+//! Tests of `vframes` and `program_verifier`, and the functions over which wrong bodies of them, of
+//! `type_rows` and of `type_pass` are tried.
 #![tactic(auto)]
 
 #[cfg(test)]
@@ -7,6 +7,7 @@ mod accepted;
 #[cfg(test)]
 mod assignability;
 pub mod calls;
+pub mod passes;
 #[cfg(test)]
 mod refused;
 #[cfg(test)]

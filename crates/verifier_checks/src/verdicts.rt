@@ -1,6 +1,6 @@
 //! The calls of `program_verifier` over which wrong bodies are tried, with their contracts.
 
-ghost use Rattle.std.specs.Prelude.{◌≡◌, ◌<◌, length, Err, OnOk};
+ghost use Rattle.std.specs.Prelude.{◌≡◌, ◌<◌, true, length, Err, IfOk, OnOk};
 ghost use Rattle.type_rules.specs.Rules.{Accepted, ClassAccepted};
 ghost use Rattle.class_table.specs.Table.{look, name_at};
 ghost use Rattle.program_verifier.specs.Programs.{AreNumbered, IsFirstRefused, IsLibraryAccepted, IsRefused};
@@ -33,4 +33,17 @@ pub fn verify(alloc: Global, program: &Program) -> Result<(), VerifyEnd>
 {
     let end = program_verifier::verify(alloc, program);
     end
+}
+
+/// Whether all code of a program is accepted, of which nothing is known: what `is_numbered` and
+/// `verify_library` answer is what `verify` asks. Where instructions have no numbers, it isn't told.
+pub fn accepts(alloc: Global, program: &Program) -> Result<bool, VerifyEnd>
+    ensures { IfOk result (λ is. is ≡ true → Accepted (look program.now)) }
+{
+    if !program_verifier::is_numbered(program) {
+        return Ok(false);
+    }
+    program_verifier::verify_library(alloc, program)?;
+    program_verifier::verify(alloc, program)?;
+    Ok(true)
 }

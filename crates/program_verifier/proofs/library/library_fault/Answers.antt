@@ -1,12 +1,11 @@
-use Rattle.std.proofs.Common.{◌∙◌, ◌<◌, ◌^◌, All, sym, ap, subst, length}
-use Rattle.std.specs.Prelude.{IfNone}
+use Rattle.std.proofs.Common.{◌∙◌, ◌<◌, ◌^◌, All, refl, sym, ap, subst, length}
 use Rattle.std.proofs.lemmas.Option.{slice_get_within}
 use Rattle.class_table.specs.Table.{number_of}
 use Rattle.class_table.proofs.Places.{name_of_class, number_at}
 use Rattle.program_verifier.specs.Tables.{HasShortCode}
-use Rattle.program_verifier.specs.Programs.{AreBodiesIn, IsAcceptedInLibrary}
+use Rattle.program_verifier.specs.Libraries.{FirstBodyIn, LibraryFaultIs}
 use Rattle.program_verifier.proofs.CodeLaws.{for_ok}
-use Rattle.program_verifier.proofs.LibraryLaws.{bodies_accepted, file_passed, for_none}
+use Rattle.program_verifier.proofs.LibraryLaws.{library_fault, file_passed}
 use Rattle.program_verifier.proofs.library.library_fault.Goals as goal
 
 pub returns-then-not-library : goal.returns-then-not-library
@@ -35,8 +34,7 @@ returns c =
     let p = c.args.program.now in
     let id = c.args.id.0 in
     let i = c.args.info.now in
-    for_ok (λ r. IfNone r (AreBodiesIn p c.name.result.now c.linked-linked.result.now)) (λ r. IfNone r (IsAcceptedInLibrary p id)) c.body_fault_of_own-fault.result
-    (for_none (AreBodiesIn p c.name.result.now c.linked-linked.result.now) (IsAcceptedInLibrary p id)
-    (λ all. bodies_accepted p id i c.is_program.ensures.form c.requires c.name.result.now c.linked-linked.result.now
-    (c.name.ensures.value ∙ sym (name_of_class p id i c.requires.there)) c.linked-linked.ensures.value all c.if-not-library.false))
+    for_ok (FirstBodyIn p c.name.result.now c.linked-linked.result.now c.args.id) (LibraryFaultIs p id) c.body_fault_of_own-fault.result
+    (library_fault p id i c.is_program.ensures.form c.requires c.name.result.now c.linked-linked.result.now c.args.id
+    (c.name.ensures.value ∙ sym (name_of_class p id i c.requires.there)) c.linked-linked.ensures.value c.if-not-library.false refl)
     c.body_fault_of_own-fault.ensures

@@ -5,6 +5,20 @@ use Rattle.program_verifier.specs.Methods.{BodyFaultIs}
 use Rattle.program_verifier.proofs.LibraryLaws.{one_more_body}
 use Rattle.program_verifier.proofs.library.refused_body.Goals as goal
 
+pub returns-in-Some : goal.returns-in-Some
+returns-in-Some c =
+    let ms = c.args.methods.now in
+    let k = c.loop-k.k in
+    let there = slice_get_read ms (length ms) k c.index-methods-k.result refl c.loop-k-test.true c.index-methods-k.is in (
+      refl,
+      record {
+        method = c.index-methods-k.result;
+        there = ap (λ l. slice_get l k) (sym c.requires.methods) ∙ there;
+        fault = subst (BodyFaultIs c.args.own.now c.index-methods-k.result) c.in-Some.is c.in_ok-fault.ensures.fault;
+        before = c.loop-k.invariant.1;
+      },
+    )
+
 pub loop-k-preserved : goal.loop-k-preserved
 loop-k-preserved c =
     let ms = c.args.methods.now in

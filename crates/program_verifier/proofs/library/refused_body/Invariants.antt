@@ -1,5 +1,5 @@
 use Rattle.program_verifier.specs.Tables.{AreTables}
-use Rattle.program_verifier.proofs.LibraryLaws.{BodiesBefore}
+use Rattle.program_verifier.specs.Libraries.{BodiesBefore}
 use Rattle.program_verifier.proofs.library.refused_body.Given as goal
 
 abbrev pub invariant-loop-k : goal.invariant-loop-k

@@ -1,10 +1,9 @@
-use Rattle.std.proofs.Common.{All, sym, subst, inl, inr, arith}
-use Rattle.std.specs.Prelude.{IfNone}
+use Rattle.std.proofs.Common.{◌≡◌, All, sym, subst, inl, inr, arith}
 use Rattle.std.proofs.lemmas.Option.{get_or_from_slice_get}
 use Rattle.program_verifier.specs.Tables.{HasShortCode}
-use Rattle.program_verifier.specs.Programs.{IsAcceptedInLibrary}
+use Rattle.program_verifier.specs.Libraries.{IsAcceptedInLibrary, IsFirstInLibrary, LibraryFaultIs}
 use Rattle.program_verifier.proofs.ClassLaws.{before_or_here}
-use Rattle.program_verifier.proofs.LibraryLaws.{library_is}
+use Rattle.program_verifier.proofs.LibraryLaws.{first_in_library, library_is}
 use Rattle.program_verifier.proofs.library.verify_library.Goals as goal
 
 pub library_fault-requires : goal.library_fault-requires
@@ -19,11 +18,19 @@ library_fault-requires c =
 
 pub loop-id-preserved : goal.loop-id-preserved
 loop-id-preserved c j l =
-    let here = subst (λ r. IfNone r (IsAcceptedInLibrary c.args.program.now c.loop-id.id)) c.in_default.is c.in_ok-fault.ensures in
+    let here = subst (LibraryFaultIs c.args.program.now c.loop-id.id) c.in_default.is c.in_ok-fault.ensures in
     elim (before_or_here j c.loop-id.id l) [
       | inl h ↦ c.loop-id.invariant j h
       | inr h ↦ subst (IsAcceptedInLibrary c.args.program.now) (sym h) here
     ]
 
-pub returns : goal.returns
-returns c = library_is c.args.program.now (λ j l. c.loop-id.invariant j (omega (arith, l, c.loop-id-test.false, c.len-count.ensures.value)))
+pub returns-in-Some-clause-no : goal.returns-in-Some-clause-no
+returns-in-Some-clause-no c f e =
+    let p = c.args.program.now in
+    let same : c.in-Some.fault ≡ f = cc in
+    subst (IsFirstInLibrary p) same
+    (first_in_library p c.loop-id.id c.in-Some.fault (omega (arith, c.loop-id-test.true, c.len-count.ensures.value)) c.loop-id.invariant
+    (subst (LibraryFaultIs p c.loop-id.id) c.in-Some.is c.in_ok-fault.ensures))
+
+pub returns-clause-yes : goal.returns-clause-yes
+returns-clause-yes c = library_is c.args.program.now (λ j l. c.loop-id.invariant j (omega (arith, l, c.loop-id-test.false, c.len-count.ensures.value)))

@@ -1,5 +1,5 @@
 use Rattle.std.proofs.Common.{ℕ, ◌<◌}
-use Rattle.program_verifier.specs.Programs.{IsAcceptedInLibrary}
+use Rattle.program_verifier.specs.Libraries.{IsAcceptedInLibrary}
 use Rattle.program_verifier.proofs.library.verify_library.Given as goal
 
 abbrev pub invariant-loop-id : goal.invariant-loop-id
