@@ -63,13 +63,10 @@ fn list_command<'a>(given: &Given<'a>) -> Option<Command<'a>>
 fn run_options<'a>(given: &Given<'a>) -> Option<RunOptions<'a>>
     ensures { option_map run_asked result ≡ run_options (given_in given.now).options }
 {
-    let classes = given.value("--classes")?;
-    let tests = given.value("--tests")?;
-    let report = given.value("--report")?;
     Some(RunOptions {
-        classes: folder(classes),
-        tests: folder(tests),
-        report,
+        classes: folder(given.value("--classes")?),
+        tests: folder(given.value("--tests")?),
+        report: given.value("--report")?,
     })
 }
 
