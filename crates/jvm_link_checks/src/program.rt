@@ -11,6 +11,9 @@ use std::alloc::Global;
 /// The class whose first method uses the members of all rows, an instruction each.
 pub const MAIN: ClassId = ClassId(0);
 
+const HEAD: &str =
+    "class Main super java/lang/Object flags 33 major 52|method 9 uses ()V stack 9 locals 0";
+
 /// A text of ASCII characters.
 pub fn name(alloc: Global, text: &str) -> Result<Name, Memory> {
     let mut units = Seq::new(alloc);
@@ -35,23 +38,21 @@ fn add_class(classes: &mut Seq<Loaded>, text: &[u8]) -> bool {
     }
 }
 
-// The text of the class that uses the members of all rows.
-fn push_uses(text: &mut Bytes, rows: &[Row]) -> Result<(), Memory> {
-    text.extend_from_slice(b"class Main super java/lang/Object flags 33 major 52\n")?;
-    text.extend_from_slice(b"method 9 uses ()V stack 9 locals 0\n")?;
-    for row in rows {
-        text.extend_from_slice(row.0.as_bytes())?;
-        text.push(b'\n')?;
-    }
-    text.extend_from_slice(b"return\nend\n")
-}
-
-// The text of a class in a line.
+// Lines of a text, in which a bar ends a line.
 fn push_line(text: &mut Bytes, line: &[u8]) -> Result<(), Memory> {
     for byte in line {
         text.push(if *byte == b'|' { b'\n' } else { *byte })?;
     }
     text.push(b'\n')
+}
+
+// The text of the class that uses the members of all rows.
+fn push_uses(text: &mut Bytes, rows: &[Row]) -> Result<(), Memory> {
+    push_line(text, HEAD.as_bytes())?;
+    for row in rows {
+        push_line(text, row.0.as_bytes())?;
+    }
+    push_line(text, "return|end".as_bytes())
 }
 
 fn add_line(classes: &mut Seq<Loaded>, line: &[u8]) -> bool {
