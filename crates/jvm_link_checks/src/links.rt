@@ -71,27 +71,29 @@ fn agrees(
     }
 }
 
-// The number of the first row that comes to something else; so many where none does.
+// The number of the first row that comes to something else, if any does. (The length of the table
+// itself, named in a test, takes the prover half a minute.)
 fn first_other(
     alloc: Global,
     program: &Program,
     searching: &mut Search,
     rows: &[Row],
-) -> Result<usize, Memory> {
+) -> Result<Option<usize>, Memory> {
     for number in 0..rows.len() {
         if !agrees(alloc, program, searching, number, &rows[number])? {
-            return Ok(number);
+            return Ok(Some(number));
         }
     }
-    Ok(rows.len())
+    Ok(None)
 }
 
 #[test]
 fn members_are_those_that_a_java_runtime_uses(rt: HostRuntime) -> Result<(), Fail> {
     let program = program(rt.alloc())?;
     let mut searching = Search::new(rt.alloc());
-    let first = first_other(rt.alloc(), &program, &mut searching, &ROWS)?;
-    assert_eq!(rt; first, ROWS.len());
+    if let Some(row) = first_other(rt.alloc(), &program, &mut searching, &ROWS)? {
+        assert!(rt; false, "row {row}");
+    }
     Ok(())
 }
 
