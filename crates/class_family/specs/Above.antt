@@ -1,5 +1,6 @@
 -- What stands above a class, the class itself left out.
-use Rattle.std.specs.Prelude.{◌≡◌, ◌<◌, ℕ, Bool, false, if◌then◌else◌, List, Some, slice_get, length}
+use Rattle.std.specs.Prelude.{◌≡◌, ◌<◌, ℕ, Bool, false, if◌then◌else◌}
+use Rattle.std.specs.Prelude.{List, Some, slice_get, length}
 use Rattle.std.specs.List.{list_any}
 use Rattle.program_rules.specs.Names.{Name, same, is_listed}
 use Rattle.program_rules.specs.Programs.{Look, supers}

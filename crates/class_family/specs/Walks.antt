@@ -1,10 +1,15 @@
 -- What a walk over a class and all above it has still to do, where each class is found once (this
 -- project's own). No public clause cites these.
-use Rattle.std.specs.Prelude.{◌≡◌, ◌+◌, ◌<◌, ℕ, Bool, true, if◌then◌else◌, ⊤, List, [], ◌∷◌, ◌++◌, map, take, drop, length, Option, Some, None, slice_get}
+use Rattle.std.specs.Prelude.{◌≡◌, ◌+◌, ◌<◌, ℕ, Bool, true, if◌then◌else◌, ⊤}
+use Rattle.std.specs.Prelude.{List, [], ◌∷◌, ◌++◌, map, take, drop, length, slice_get}
+use Rattle.std.specs.Prelude.{Option, Some, None}
 use Rattle.program_rules.specs.Names.{Name, is_listed}
 use Rattle.program_rules.specs.Outlines.{Outline, outline_of, is_interface_class, interfaces_in}
-use Rattle.program_rules.specs.Programs.{Look, Order, Rising, Searching, Beginning, nodes, superclass_in, concat_over, consult_in}
+use Rattle.program_rules.specs.Programs.{Look, Order, Rising, Searching, Beginning, nodes}
+use Rattle.program_rules.specs.Programs.{superclass_in, concat_over, consult_in}
 use Rattle.class_link.specs.Info.{Info}
+use Rattle.class_order.specs.declared.links.Links.{Links}
+use Rattle.class_order.specs.Graph.{supers_of}
 use Rattle.class_table.specs.Table.{look, name_at}
 use Rattle.class_table.specs.Seen.{AreKnown}
 use Rattle.jvm_marks.specs.Marks.{is_among, with_number}
@@ -64,6 +69,31 @@ abbrev pub enters_of : List ℕ → List Task
 enters_of [] = []
 enters_of (a ∷ more) = enters_of more ++ Enter a ∷ []
 
+-- These classes are entered before all else.
+abbrev pub Pushes : List ℕ → List Task → List Task → Type 0
+Pushes over old new = new ≡ old ++ enters_of over
+
+-- The super of a class at a place is, if there is one.
+abbrev pub PushesAt : Links → ℕ → List Task → List Task → Type 0
+PushesAt links at old new = Pushes (take 1 (drop at (supers_of links))) old new
+
+-- The supers from a place on are.
+abbrev pub PushesFrom : Links → ℕ → List Task → List Task → Type 0
+PushesFrom links from old new = Pushes (drop from (supers_of links)) old new
+
+-- The superclass is, if the class names one.
+abbrev pub PushesSuperclass : Links → Bool → List Task → List Task → Type 0
+PushesSuperclass links named old new = Pushes (superclass_among named (supers_of links)) old new
+
+-- The interfaces are.
+abbrev pub PushesInterfaces : Links → Bool → List Task → List Task → Type 0
+PushesInterfaces links named old new = Pushes (interfaces_among named (supers_of links)) old new
+
+-- The supers that a walk goes on to are.
+abbrev pub GoesUp : Links → Way → Bool → Bool → List Task → List Task → Type 0
+GoesUp links way named interface old new =
+    Pushes (steps_among (order_of way) named interface (supers_of links)) old new
+
 -- The names that a walk comes to.
 abbrev pub walk : Order → List Info → ℕ → List Name
 walk order p a = names_in (nodes order (look p) (name_at p a))
@@ -102,6 +132,18 @@ AreTasks order p ns [] = ⊤
 AreTasks order p ns (t ∷ more) =
     IsTask order p (add_in (wanted order p more) ns) t × AreTasks order p ns more
 
+-- The names of what was found.
+abbrev pub names_of : List Info → Seen → List Name
+names_of p s = map (name_at p) s.found
+
+-- A task can be made behind what was found.
+abbrev pub CanMake : Way → List Info → Seen → Task → Type 0
+CanMake way p s t = IsTask (order_of way) p (names_of p s) t
+
+-- The same of all tasks.
+abbrev pub CanMakeAll : Way → List Info → Seen → List Task → Type 0
+CanMakeAll way p s ts = AreTasks (order_of way) p (names_of p s) ts
+
 -- The work of a task, in the length of walks. No two classes are looked at for it.
 abbrev pub weight_of : Order → List Info → Task → ℕ
 weight_of order p (Enter a) = length (walk order p a) + length (walk order p a)
@@ -113,10 +155,6 @@ weight order p [] = 0
 weight order p (t ∷ more) = weight order p more + weight_of order p t
 
 -- ---- what was found
-
--- The names of what was found.
-abbrev pub names_of : List Info → Seen → List Name
-names_of p s = map (name_at p) s.found
 
 -- What was found are classes of the program, and all above a closed one was found.
 pub record IsSeen (order : Order) (p : List Info) (s : Seen) : Type 0 where
@@ -131,6 +169,10 @@ pub record AddsSteps (order : Order) (p : List Info) (a : ℕ) (old new : List T
   pub named : map (name_at p) over ≡ steps order (outline_of (look p (name_at p a)))
   pub within : (k b : ℕ) → slice_get over k ≡ Some b → b < length p
   pub tasks : new ≡ old ++ enters_of over
+
+-- The same by the way of a walk.
+abbrev pub AddsStepsOf : Way → List Info → ℕ → List Task → List Task → Type 0
+AddsStepsOf way p a old new = AddsSteps (order_of way) p a old new
 
 -- A class that is closed is passed over. Another one is found, if the walk comes to it first, and
 -- its supers are entered before it is left.
@@ -163,6 +205,21 @@ pub record Finds (order : Order) (p : List Info) (ms : List Name) (old new : See
   pub closed : new.closed ≡ old.closed
   pub names : names_of p new ≡ add_in ms (names_of p old)
   pub seen : IsSeen order p new
+
+-- A class is, where a walk comes to it before all above it.
+abbrev pub FindsBefore : Way → List Info → ℕ → Seen → Seen → Type 0
+FindsBefore way p a old new =
+    Finds (order_of way) p (before (order_of way) (name_at p a)) old new
+
+-- A class is, where a walk comes to it behind all above it.
+abbrev pub FindsBehind : Way → List Info → ℕ → Seen → Seen → Type 0
+FindsBehind way p a old new =
+    Finds (order_of way) p (behind (order_of way) (name_at p a)) old new
+
+-- What all tasks come to is.
+abbrev pub FindsWanted : Way → List Info → List Task → Seen → Seen → Type 0
+FindsWanted way p ts old new =
+    names_of p new ≡ add_in (wanted (order_of way) p ts) (names_of p old)
 
 -- The walks of these names.
 abbrev pub walks : Order → List Info → List Name → List Name

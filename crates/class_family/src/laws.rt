@@ -1,6 +1,7 @@
 //! Laws of searches: over each class once they find what they find over the whole walk.
 
-ghost use Rattle.class_family.specs.Laws.{NodesAreAlike, FieldsOnce, MethodsOnce, CandidatesOnce, BeginsOnce};
+ghost use Rattle.class_family.specs.Laws.{NodesAreAlike, FieldsOnce, MethodsOnce, CandidatesOnce};
+ghost use Rattle.class_family.specs.Laws.{BeginsOnce};
 
 /// A class has the same outline and the same classes above it in each walk.
 pub fn nodes_are_alike()

@@ -7,7 +7,7 @@ ghost use Rattle.program_rules.specs.Linked.{is_interface};
 ghost use Rattle.program_rules.specs.Programs.{Order};
 ghost use Rattle.class_link.specs.Info.{class_of};
 ghost use Rattle.class_table.specs.Table.{look, name_at};
-ghost use Rattle.class_family.specs.Walks.{order_of, AddsSteps};
+ghost use Rattle.class_family.specs.Walks.{AddsStepsOf};
 
 use crate::tasks::{Task, Way, push_steps};
 use class_model::{ClassId, Memory};
@@ -35,7 +35,7 @@ pub fn enter_steps(
     id: ClassId,
 ) -> Result<(), Memory>
     requires { id.0 < length program.now }
-    ensures { OnOk result (AddsSteps (order_of way) program.now id.0 tasks.old.items tasks.new.items) }
+    ensures { OnOk result (AddsStepsOf way program.now id.0 tasks.old.items tasks.new.items) }
 {
     let info = program.info(id);
     push_steps(

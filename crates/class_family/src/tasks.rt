@@ -1,8 +1,9 @@
 //! What a walk over a class and all above it has still to do: the last task is made first.
 
-ghost use Rattle.std.specs.Prelude.{◌≡◌, ◌<◌, [], ◌∷◌, ◌++◌, length, slice_get, take, drop, IfOk, OnOk, IfSome, IfNone};
+ghost use Rattle.std.specs.Prelude.{◌≡◌, [], ◌∷◌, ◌++◌, length, slice_get, OnOk, IfSome, IfNone};
 ghost use Rattle.class_order.specs.Graph.{supers_of};
-ghost use Rattle.class_family.specs.Walks.{enters_of, superclass_among, interfaces_among, steps_among, order_of};
+ghost use Rattle.class_family.specs.Walks.{PushesAt, PushesFrom, PushesSuperclass};
+ghost use Rattle.class_family.specs.Walks.{PushesInterfaces, GoesUp};
 
 use class_model::Memory;
 use class_order::Links;
@@ -58,7 +59,7 @@ fn count(links: &Links) -> usize
 }
 
 fn push_at(tasks: &mut Vec<Task>, links: &Links, at: usize) -> Result<(), Memory>
-    ensures { OnOk result (tasks.new.items ≡ tasks.old.items ++ enters_of (take 1 (drop at (supers_of links.now)))) }
+    ensures { OnOk result (PushesAt links.now at tasks.old.items tasks.new.items) }
 {
     if let Some(over) = super_at(links, at) {
         tasks.push(Task::Enter(over))?;
@@ -68,7 +69,7 @@ fn push_at(tasks: &mut Vec<Task>, links: &Links, at: usize) -> Result<(), Memory
 
 // The superclass is entered before all else, where the class names one: it is the first super.
 fn push_superclass(tasks: &mut Vec<Task>, links: &Links, named: bool) -> Result<(), Memory>
-    ensures { OnOk result (tasks.new.items ≡ tasks.old.items ++ enters_of (superclass_among named (supers_of links.now))) }
+    ensures { OnOk result (PushesSuperclass links.now named tasks.old.items tasks.new.items) }
 {
     if named {
         push_at(tasks, links, 0)?;
@@ -78,7 +79,7 @@ fn push_superclass(tasks: &mut Vec<Task>, links: &Links, named: bool) -> Result<
 
 // The supers from a place on are entered before all else, the first one first.
 fn push_from(tasks: &mut Vec<Task>, links: &Links, from: usize) -> Result<(), Memory>
-    ensures { OnOk result (tasks.new.items ≡ tasks.old.items ++ enters_of (drop from (supers_of links.now))) }
+    ensures { OnOk result (PushesFrom links.now from tasks.old.items tasks.new.items) }
 {
     let mut left = count(links);
     while left > from {
@@ -90,7 +91,7 @@ fn push_from(tasks: &mut Vec<Task>, links: &Links, from: usize) -> Result<(), Me
 
 // The interfaces are entered before all else, the first one first.
 fn push_interfaces(tasks: &mut Vec<Task>, links: &Links, named: bool) -> Result<(), Memory>
-    ensures { OnOk result (tasks.new.items ≡ tasks.old.items ++ enters_of (interfaces_among named (supers_of links.now))) }
+    ensures { OnOk result (PushesInterfaces links.now named tasks.old.items tasks.new.items) }
 {
     if named {
         push_from(tasks, links, 1)?;
@@ -109,7 +110,7 @@ pub fn push_steps(
     named: bool,
     interface: bool,
 ) -> Result<(), Memory>
-    ensures { OnOk result (tasks.new.items ≡ tasks.old.items ++ enters_of (steps_among (order_of way) named interface (supers_of links.now))) }
+    ensures { OnOk result (GoesUp links.now way named interface tasks.old.items tasks.new.items) }
 {
     match way {
         Way::Searching => {

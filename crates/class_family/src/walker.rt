@@ -1,13 +1,14 @@
 //! Walks over a class and all above it.
 
-ghost use Rattle.std.specs.Prelude.{◌≡◌, ◌<◌, ℕ, [], ◌∷◌, ◌++◌, length, slice_get, Some, IfOk, OnOk};
+ghost use Rattle.std.specs.Prelude.{◌≡◌, ◌<◌, [], ◌∷◌, ◌++◌, length, slice_get, Some, OnOk};
 ghost use Rattle.program_rules.specs.Programs.{Searching, Beginning};
 ghost use Rattle.jvm_marks.specs.Marks.{is_among, with_number};
-ghost use Rattle.class_table.specs.Table.{name_at};
 ghost use Rattle.class_family.specs.declared.tasks.Task.TheVariants.{Leave};
 ghost use Rattle.class_family.specs.Above.{AreWithin, AreAbove};
 ghost use Rattle.class_family.specs.Families.{AreClassesOf};
-ghost use Rattle.class_family.specs.Walks.{order_of, before, behind, add_in, names_of, wanted, IsTask, AreTasks, IsSeen, Enters, EntersAbove, Leaves, Makes, Finds};
+ghost use Rattle.class_family.specs.Walks.{order_of, IsSeen, CanMake, CanMakeAll, Enters, Leaves};
+ghost use Rattle.class_family.specs.Walks.{EntersAbove, Makes};
+ghost use Rattle.class_family.specs.Walks.{FindsBefore, FindsBehind, FindsWanted};
 
 use crate::seen::Seen;
 use crate::steps::enter_steps;
@@ -58,7 +59,7 @@ fn close(seen: &mut Seen, id: ClassId) -> Result<(), Memory>
 fn find_before(program: &Program, way: Way, seen: &mut Seen, id: ClassId) -> Result<(), Memory>
     requires class { id.0 < length program.now }
     requires seen { IsSeen (order_of way) program.now seen.old }
-    ensures { OnOk result (Finds (order_of way) program.now (before (order_of way) (name_at program.now id.0)) seen.old seen.new) }
+    ensures { OnOk result (FindsBefore way program.now id.0 seen.old seen.new) }
 {
     let _len = program.len();
     match way {
@@ -74,7 +75,7 @@ fn find_before(program: &Program, way: Way, seen: &mut Seen, id: ClassId) -> Res
 fn find_behind(program: &Program, way: Way, seen: &mut Seen, id: ClassId) -> Result<(), Memory>
     requires class { id.0 < length program.now }
     requires seen { IsSeen (order_of way) program.now seen.old }
-    ensures { OnOk result (Finds (order_of way) program.now (behind (order_of way) (name_at program.now id.0)) seen.old seen.new) }
+    ensures { OnOk result (FindsBehind way program.now id.0 seen.old seen.new) }
 {
     let _len = program.len();
     match way {
@@ -96,7 +97,8 @@ fn enter(
 ) -> Result<(), Memory>
     requires class { id.0 < length program.now }
     requires seen { IsSeen (order_of way) program.now seen.old }
-    ensures enters { OnOk result (Enters (order_of way) program.now id.0 seen.old tasks.old.items seen.new tasks.new.items) }
+    ensures enters { OnOk result (Enters (order_of way) program.now id.0
+        seen.old tasks.old.items seen.new tasks.new.items) }
     ensures kept { OnOk result (IsSeen (order_of way) program.now seen.new) }
 {
     if seen.closed.has(id.0) {
@@ -112,7 +114,7 @@ fn enter(
 fn leave(program: &Program, way: Way, seen: &mut Seen, id: ClassId) -> Result<(), Memory>
     requires class { id.0 < length program.now }
     requires seen { IsSeen (order_of way) program.now seen.old }
-    requires walked { IsTask (order_of way) program.now (names_of program.now seen.old) (Leave id.0) }
+    requires walked { CanMake way program.now seen.old (Leave id.0) }
     ensures leaves { OnOk result (Leaves (order_of way) program.now id.0 seen.old seen.new) }
     ensures kept { OnOk result (IsSeen (order_of way) program.now seen.new) }
 {
@@ -130,8 +132,9 @@ fn make(
     task: Task,
 ) -> Result<(), Memory>
     requires seen { IsSeen (order_of way) program.now seen.old }
-    requires tasks { AreTasks (order_of way) program.now (names_of program.now seen.old) (tasks.old.items ++ task ∷ []) }
-    ensures made { OnOk result (Makes (order_of way) program.now task seen.old tasks.old.items seen.new tasks.new.items) }
+    requires tasks { CanMakeAll way program.now seen.old (tasks.old.items ++ task ∷ []) }
+    ensures made { OnOk result (Makes (order_of way) program.now task
+        seen.old tasks.old.items seen.new tasks.new.items) }
     ensures kept { OnOk result (IsSeen (order_of way) program.now seen.new) }
 {
     let _len = program.len();
@@ -150,8 +153,8 @@ fn make(
 // Does all that is still to be done.
 fn run(program: &Program, way: Way, seen: &mut Seen, tasks: &mut Vec<Task>) -> Result<(), Memory>
     requires seen { IsSeen (order_of way) program.now seen.old }
-    requires tasks { AreTasks (order_of way) program.now (names_of program.now seen.old) tasks.old.items }
-    ensures names { OnOk result (names_of program.now seen.new ≡ add_in (wanted (order_of way) program.now tasks.old.items) (names_of program.now seen.old)) }
+    requires tasks { CanMakeAll way program.now seen.old tasks.old.items }
+    ensures names { OnOk result (FindsWanted way program.now tasks.old.items seen.old seen.new) }
     ensures kept { OnOk result (IsSeen (order_of way) program.now seen.new) }
 {
     while let Some(task) = next(tasks) {

@@ -1,5 +1,5 @@
 -- What searches find, class by class.
-use Rattle.std.proofs.Common.{◌≡◌, ◌∙◌, sym, refl, ap, ℕ, zero, suc, ◌+◌, ◌<◌, ◌≤◌, List, [], ◌∷◌, map, length, take, drop, Option, None, Some, slice_get, arith}
+use Rattle.std.proofs.Common.{◌≡◌, ◌∙◌, sym, refl, ap, subst, ℕ, zero, suc, ◌+◌, ◌<◌, ◌≤◌, List, [], ◌∷◌, map, length, take, drop, Option, None, Some, slice_get, arith}
 use Rattle.std.specs.Prelude.{if◌then◌else◌, IfSome, IfNone}
 use Rattle.program_rules.specs.Names.{Name}
 use Rattle.program_rules.specs.Faults.{Answer, Found, Fails}
@@ -83,12 +83,24 @@ module _ (p : List Info) (ok : IsProgram p) (a : ℕ) (name desc : Name) (ids : 
 
 -- ---- methods
 
-module _ (p : List Info) (name desc : Name) where
+module _ (p : List Info) where
+  -- in a loop over a class and its superclasses the class that is looked at is one of the program
+  pub class_within : (next : Option ClassId) (a : ClassId) → IfSome next (λ (b : ClassId). b.0 < length p) → next ≡ Some a → a.0 < length p
+  class_within next a within is = subst (λ o. IfSome o (λ (b : ClassId). b.0 < length p)) is within
+
   -- the walk upwards, with what a look at the next class says of it
   pub upwards : (a : ℕ) (up : Option ClassId) → IfSome up (λ u. GoesOn p a u.0) → IfNone up (EndsAt p a) → rising_at p a ≡ node_at p a ∷ rising_from p up
   upwards a None goes ends = ends
   upwards a (Some u) goes ends = goes
 
+  -- fewer classes are left
+  pub fewer_left : (next : Option ClassId) (a : ClassId) (up : Option ClassId) → next ≡ Some a → IfSome up (λ u. GoesOn p a.0 u.0) → IfNone up (EndsAt p a.0) → length (rising_from p up) < length (rising_from p next)
+  fewer_left next a up is goes ends =
+      let e = ap length (upwards a.0 up goes ends) in
+      let q = ap (λ o. length (rising_from p o)) is in
+      omega (arith, e, q)
+
+module _ (p : List Info) (name desc : Name) where
   pub method_passed : (a : ℕ) (up : Option ClassId) → rising_at p a ≡ node_at p a ∷ rising_from p up → head_in name desc (outline_at p a) ≡ None → first_declared name desc (rising_at p a) ≡ first_declared name desc (rising_from p up)
   method_passed a up e none =
       ap (first_declared name desc) e ∙ ap (λ o. or_else (with_node (node_at p a) o) (first_declared name desc (rising_from p up))) none

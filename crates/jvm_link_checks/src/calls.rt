@@ -4,7 +4,7 @@
 ghost use Rattle.std.specs.Prelude.{◌<◌, length, IfOk, IfSome};
 ghost use Rattle.jvm_link.specs.Answers.{named, HasCallee, ResolvesMethod, SelectsNamed, SelectsOf};
 
-use class_link::MethodRef;
+use class_link::{LinkedMethod, MethodRef};
 use class_model::{ClassId, Memory};
 use class_table::Program;
 use jvm_link::{Callee, Search, Site, first_declared};
@@ -58,16 +58,18 @@ pub fn select_virtual(
 
 // ---- what wrong bodies ask
 
+/// The method at a site, if there is one.
+pub fn method_at(program: &Program, site: Site) -> Option<&LinkedMethod> {
+    program.get(site.class)?.linked().methods.get(site.place)
+}
+
 /// The flags of a method; none for an array's `clone`.
 pub fn flags_of(program: &Program, callee: Callee) -> u16 {
     let Callee::Method(site) = callee else {
         return 0;
     };
-    match program.get(site.class) {
-        Some(info) => match info.linked().methods.get(site.place) {
-            Some(method) => method.flags,
-            None => 0,
-        },
+    match method_at(program, site) {
+        Some(method) => method.flags,
         None => 0,
     }
 }

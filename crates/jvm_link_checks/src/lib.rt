@@ -7,14 +7,12 @@
 
 pub mod calls;
 #[cfg(test)]
+mod classes;
+#[cfg(test)]
 mod links;
 #[cfg(test)]
 mod program;
 #[cfg(test)]
-mod row;
-#[cfg(test)]
 mod rows;
-#[cfg(test)]
-mod shapes;
 #[cfg(test)]
 mod uses;

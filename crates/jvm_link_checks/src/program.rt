@@ -1,16 +1,18 @@
-//! The program of the tables: a class file for each shape, one that names all members, and Object.
+//! The program of the tables: a class that uses the members of all rows, the classes, and Object.
 
-use crate::row::{How, INIT, Member as Shaped, OBJECT, Row, Shape, TEXT};
-use crate::rows::ROWS;
-use crate::shapes::SHAPES;
-use class_model::{
-    Arg, Attr, Body, Class, Code, Const, Insn, Member, Memory, Name, Seq, SharedBytes,
-};
+use crate::classes::CLASSES;
+use crate::rows::{ROWS, Row};
+use class_asm::assemble;
+use class_model::{Bytes, ClassId, Memory, Name, Seq, SharedBytes};
+use class_reader::read_class;
 use class_table::{LibBody, LibClass, LibMethod, Loaded, Program, TableFault};
 use std::alloc::Global;
 
-/// The name of the class whose constant pool names all members.
-pub const MAIN: &str = "Main";
+/// The class whose first method uses the members of all rows, an instruction each.
+pub const MAIN: ClassId = ClassId(0);
+
+const HEAD: &str =
+    "class Main super java/lang/Object flags 33 major 52|method 9 uses ()V stack 9 locals 0";
 
 /// A text of ASCII characters.
 pub fn name(alloc: Global, text: &str) -> Result<Name, Memory> {
@@ -21,159 +23,87 @@ pub fn name(alloc: Global, text: &str) -> Result<Name, Memory> {
     Ok(units)
 }
 
-// Adds an entry, and gives its index; 0, which names none, where the pool has no room for it.
-fn add(pool: &mut Seq<Const>, entry: Const) -> Result<u16, Memory> {
-    pool.push(entry)?;
-    match u16::try_from(pool.len()) {
-        Ok(index) => Ok(index),
-        Err(_) => Ok(0),
-    }
-}
-
-fn add_text(pool: &mut Seq<Const>, text: &str) -> Result<u16, Memory> {
-    let units = name(pool.allocator(), text)?;
-    add(pool, Const::Utf8(units))
-}
-
-fn add_class(pool: &mut Seq<Const>, text: &str) -> Result<u16, Memory> {
-    let at = add_text(pool, text)?;
-    add(pool, Const::Class(at))
-}
-
-fn add_pair(pool: &mut Seq<Const>, name: &str, desc: &str) -> Result<u16, Memory> {
-    let name = add_text(pool, name)?;
-    let desc = add_text(pool, desc)?;
-    add(pool, Const::Pair(name, desc))
-}
-
-// The entry that a row names its member by.
-fn add_reference(pool: &mut Seq<Const>, row: &Row) -> Result<u16, Memory> {
-    let class = add_class(pool, row.1)?;
-    let pair = add_pair(pool, row.2, row.3)?;
-    let entry = match row.0 {
-        How::Field => Const::Field(class, pair),
-        _ => {
-            if row.4 {
-                Const::IMethod(class, pair)
-            } else {
-                Const::Method(class, pair)
-            }
-        }
+// Adds the class that an assembler text states.
+fn add_class(classes: &mut Seq<Loaded>, text: &[u8]) -> bool {
+    let alloc = classes.allocator();
+    let Ok(bytes) = assemble(alloc, text) else {
+        return false;
     };
-    add(pool, entry)
-}
-
-// Code that gives null.
-fn null_code(alloc: Global) -> Result<Attr, Memory> {
-    let mut insns = Seq::new(alloc);
-    for op in [0x01, 0xb0] {
-        insns.push(Insn {
-            op,
-            wide: false,
-            arg: Arg::None,
-        })?;
-    }
-    Ok(Attr {
-        name: 0,
-        body: Body::Code(Code {
-            max_stack: 1,
-            max_locals: 1,
-            insns,
-            rows: Seq::new(alloc),
-            attrs: Seq::new(alloc),
-        }),
-    })
-}
-
-// A member by a shape; a method has code.
-fn member(pool: &mut Seq<Const>, shape: &Shaped, has_code: bool) -> Result<Member, Memory> {
-    let mut attrs = Seq::new(pool.allocator());
-    if has_code {
-        attrs.push(null_code(pool.allocator())?)?;
-    }
-    Ok(Member {
-        flags: shape.0,
-        name: add_text(pool, shape.1)?,
-        desc: add_text(pool, shape.2)?,
-        attrs,
-    })
-}
-
-fn loaded(alloc: Global, shape: &Shape) -> Result<Loaded, Memory> {
-    let mut pool = Seq::new(alloc);
-    let this = add_class(&mut pool, shape.0)?;
-    let parent = add_class(&mut pool, shape.2)?;
-    let mut interfaces = Seq::new(alloc);
-    for interface in shape.3 {
-        interfaces.push(add_class(&mut pool, interface)?)?;
-    }
-    let mut methods = Seq::new(alloc);
-    for method in shape.4 {
-        // bit 10 is ACC_ABSTRACT (JVMS 4.6)
-        let has_code = method.0 / 1024 % 2 == 0;
-        methods.push(member(&mut pool, method, has_code)?)?;
-    }
-    let mut fields = Seq::new(alloc);
-    for field in shape.5 {
-        fields.push(member(&mut pool, field, false)?)?;
-    }
-    Ok(Loaded {
-        bytes: SharedBytes::new(alloc, Seq::new(alloc))?,
-        class: Class {
-            minor: 0,
-            major: 52,
-            pool,
-            flags: shape.1,
-            this,
-            parent,
-            interfaces,
-            fields,
-            methods,
-            attrs: Seq::new(alloc),
-        },
-    })
-}
-
-// The class that names the members of all rows.
-fn main_class(alloc: Global) -> Result<Loaded, Memory> {
-    let shape: Shape = (MAIN, 33, OBJECT, &[], &[], &[]);
-    let mut main = loaded(alloc, &shape)?;
-    for row in &ROWS {
-        add_reference(&mut main.class.pool, row)?;
-    }
-    Ok(main)
-}
-
-/// The index of Main's constant pool at which the member of a row is named: four entries name Main
-/// and its superclass, and each row has six, of which the last names the member.
-pub fn index_of(row: usize) -> u32 {
-    match u32::try_from(row) {
-        Ok(row) => row.saturating_mul(6).saturating_add(10),
-        Err(_) => 0,
+    let Ok(bytes) = SharedBytes::new(alloc, bytes) else {
+        return false;
+    };
+    match read_class(alloc, bytes.as_slice()) {
+        Ok(class) => classes.push(Loaded { bytes, class }).is_ok(),
+        Err(_) => false,
     }
 }
 
-fn object_method(alloc: Global, method: &Shaped) -> Result<LibMethod, Memory> {
-    Ok(LibMethod {
-        name: name(alloc, method.1)?,
-        desc: name(alloc, method.2)?,
-        flags: method.0,
+// Lines of a text, in which a bar ends a line.
+fn push_line(text: &mut Bytes, line: &[u8]) -> Result<(), Memory> {
+    for byte in line {
+        text.push(if *byte == b'|' { b'\n' } else { *byte })?;
+    }
+    text.push(b'\n')
+}
+
+// The text of the class that uses the members of all rows.
+fn push_uses(text: &mut Bytes, rows: &[Row]) -> Result<(), Memory> {
+    push_line(text, HEAD.as_bytes())?;
+    for row in rows {
+        push_line(text, row.0.as_bytes())?;
+    }
+    push_line(text, "return|end".as_bytes())
+}
+
+fn add_line(classes: &mut Seq<Loaded>, line: &[u8]) -> bool {
+    let mut text = Bytes::new(classes.allocator());
+    push_line(&mut text, line).is_ok() && add_class(classes, text.as_slice())
+}
+
+fn add_main(classes: &mut Seq<Loaded>) -> bool {
+    let mut text = Bytes::new(classes.allocator());
+    push_uses(&mut text, &ROWS).is_ok() && add_class(classes, text.as_slice())
+}
+
+fn add_lines(classes: &mut Seq<Loaded>, lines: &[u8]) -> bool {
+    for line in lines.split(|byte| *byte == b'\n') {
+        if !line.is_empty() && !add_line(classes, line) {
+            return false;
+        }
+    }
+    true
+}
+
+fn push_method(
+    methods: &mut Seq<LibMethod>,
+    flags: u16,
+    text: &str,
+    desc: &str,
+) -> Result<(), Memory> {
+    let alloc = methods.allocator();
+    let name_units = name(alloc, text)?;
+    let desc = name(alloc, desc)?;
+    methods.push(LibMethod {
+        name: name_units,
+        desc,
+        flags,
         body: LibBody::Native(0),
     })
 }
 
-fn object(alloc: Global) -> Result<LibClass, Memory> {
-    let heads: [Shaped; 3] = [
-        INIT,
-        (1, "toString", TEXT),
-        (260, "clone", "()Ljava/lang/Object;"),
-    ];
+fn push_methods(methods: &mut Seq<LibMethod>) -> Result<(), Memory> {
+    push_method(methods, 1, "<init>", "()V")?;
+    push_method(methods, 1, "toString", "()Ljava/lang/String;")?;
+    push_method(methods, 260, "clone", "()Ljava/lang/Object;")
+}
+
+fn add_object(library: &mut Seq<LibClass>) -> Result<(), Memory> {
+    let alloc = library.allocator();
+    let name = name(alloc, "java/lang/Object")?;
     let mut methods = Seq::new(alloc);
-    for head in &heads {
-        methods.push(object_method(alloc, head)?)?;
-    }
-    Ok(LibClass {
-        name: name(alloc, OBJECT)?,
+    push_methods(&mut methods)?;
+    library.push(LibClass {
+        name,
         parent: None,
         interfaces: Seq::new(alloc),
         flags: 33,
@@ -182,14 +112,17 @@ fn object(alloc: Global) -> Result<LibClass, Memory> {
     })
 }
 
-/// The classes of the tables.
+// Adds the classes of the tables.
+fn add_all(classes: &mut Seq<Loaded>, library: &mut Seq<LibClass>) -> bool {
+    add_main(classes) && add_lines(classes, CLASSES.as_bytes()) && add_object(library).is_ok()
+}
+
+/// The program of the tables.
 pub fn program(alloc: Global) -> Result<Program, TableFault> {
     let mut classes = Seq::new(alloc);
-    for shape in &SHAPES {
-        classes.push(loaded(alloc, shape)?)?;
-    }
-    classes.push(main_class(alloc)?)?;
     let mut library = Seq::new(alloc);
-    library.push(object(alloc)?)?;
+    if !add_all(&mut classes, &mut library) {
+        return Err(TableFault::Memory);
+    }
     Program::build(alloc, classes, library)
 }

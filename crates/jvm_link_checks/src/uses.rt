@@ -1,69 +1,77 @@
 //! What a use of a member comes to: resolution, and selection.
 
-ghost use Rattle.std.specs.Prelude.{◌<◌, length};
+ghost use Rattle.std.specs.Prelude.{◌<◌, length, IfOk};
 
-use crate::program::name;
-use crate::row::{How, Row};
+use crate::calls::{flags_of, method_at};
+use crate::program::MAIN;
 use class_family::superclass;
-use class_link::{Entry, FieldRef, LinkedBody, MethodRef};
-use class_model::{ClassId, Memory};
+use class_link::{ClassInfo, Entry, FieldRef, Instruction, LinkedBody, MethodRef};
+use class_model::{ClassId, Memory, Name};
 use class_table::{Consulted, Program};
-use jvm_catch::{class_behind, is_array_name};
+use jvm_catch::is_array_name;
 use jvm_link::{
-    Callee, Search, Site, resolve_class, resolve_field, resolve_method, select_named,
-    select_virtual,
+    Callee, Search, resolve_class, resolve_field, resolve_method, select_named, select_virtual,
 };
 use program_rules::Fault;
-use std::alloc::Global;
 
-/// The member that is used, or what is thrown.
+/// What a use comes to: a member, where `Callee::Method` may be a field, or what is thrown.
+pub type Came = Result<Callee, Fault>;
+
+/// How a member is used.
 #[derive(Clone, Copy)]
-pub enum Came {
-    To(Site),
-    Clone,
-    Throws(Fault),
-    /// Nothing: the program lacks what the row asks for.
-    Unasked,
+enum How {
+    Field,
+    Static,
+    Special,
+    Virtual,
+    Interface,
+}
+
+// How an instruction uses a member, and the member's index.
+fn how_of(instruction: Instruction) -> Option<(How, u32)> {
+    match instruction {
+        Instruction::GetStatic(index) => Some((How::Field, index)),
+        Instruction::InvokeStatic(index) => Some((How::Static, index)),
+        Instruction::InvokeSpecial(index) => Some((How::Special, index)),
+        Instruction::InvokeVirtual(index) => Some((How::Virtual, index)),
+        Instruction::InvokeInterface(index) => Some((How::Interface, index)),
+        _ => None,
+    }
+}
+
+// The instruction of this number of the first method.
+fn instruction_of(info: &ClassInfo, number: usize) -> Option<Instruction> {
+    match &info.linked().methods.get(0)?.body {
+        LinkedBody::Code(code) => Some(*code.instructions.get(number)?),
+        _ => None,
+    }
+}
+
+// The class that a name stands for.
+fn class_of(program: &Program, name: &Name) -> Result<Result<ClassId, Fault>, Memory>
+    ensures { IfOk result (λ a. IfOk a (λ id. id.0 < length program.now)) }
+{
+    let alloc = name.allocator();
+    let mut seen = Consulted::new(alloc, program)?;
+    resolve_class(alloc, program, &mut seen, name)
 }
 
 // What a call of a method comes to: a method without a body is AbstractMethodError.
-fn call_end(program: &Program, answer: Result<Callee, Fault>) -> Came {
-    let callee = match answer {
-        Ok(callee) => callee,
-        Err(fault) => return Came::Throws(fault),
-    };
-    let site = match callee {
-        Callee::Method(site) => site,
-        Callee::ArrayClone => return Came::Clone,
-    };
-    let Some(info) = program.get(site.class) else {
-        return Came::Throws(Fault::AbstractMethodError);
-    };
-    match info.linked().methods.get(site.place) {
-        Some(method) => match method.body {
-            LinkedBody::Absent => Came::Throws(Fault::AbstractMethodError),
-            _ => Came::To(site),
-        },
-        None => Came::Throws(Fault::AbstractMethodError),
-    }
-}
-
-// Whether a method is static. Bit 3 is ACC_STATIC (JVMS 4.6).
-fn is_static(program: &Program, callee: Callee) -> bool {
+fn called(program: &Program, callee: Callee) -> Came {
     let Callee::Method(site) = callee else {
-        return false;
+        return Ok(callee);
     };
-    let Some(info) = program.get(site.class) else {
-        return false;
-    };
-    match info.linked().methods.get(site.place) {
-        Some(method) => method.flags / 8 % 2 == 1,
-        None => false,
+    match method_at(program, site) {
+        Some(method) => match method.body {
+            LinkedBody::Absent => Err(Fault::AbstractMethodError),
+            _ => Ok(callee),
+        },
+        None => Err(Fault::AbstractMethodError),
     }
 }
 
-// What an object of this class selects for `invokevirtual`.
-fn virtual_end(
+// What `invokevirtual` selects on an object of this class.
+fn by_object(
     program: &Program,
     searching: &mut Search,
     id: ClassId,
@@ -73,154 +81,154 @@ fn virtual_end(
 ) -> Result<Came, Memory>
     requires { id.0 < length program.now }
 {
-    let answer = match resolved {
-        Callee::ArrayClone => Ok(Callee::ArrayClone),
-        Callee::Method(site) => {
-            if site.class.0 as usize >= program.len() {
-                return Ok(Came::Unasked);
-            }
-            let found = Callee::Method(site);
-            select_virtual(program, searching, id, array, reference, found)?
-        }
+    let Callee::Method(site) = resolved else {
+        return Ok(Ok(resolved));
     };
-    Ok(call_end(program, answer))
+    if site.class.0 as usize >= program.len() {
+        return Ok(Err(Fault::NoClassDefFoundError));
+    }
+    let found = Callee::Method(site);
+    select_virtual(program, searching, id, array, reference, found)
 }
 
-// What an object selects by name, for `invokeinterface`, and from a superclass on.
-fn named_end(
-    program: &Program,
-    searching: &mut Search,
-    id: ClassId,
-    array: bool,
-    reference: &MethodRef,
-) -> Result<Came, Memory>
-    requires { id.0 < length program.now }
-{
-    let answer = select_named(program, searching, id, array, reference)?;
-    Ok(call_end(program, answer))
-}
-
-// What the superclass of a caller selects.
-fn super_end(
+// What `invokespecial` selects in a caller's class: an `<init>` and a method of an interface
+// themselves, and else what the superclass has.
+fn by_caller(
     program: &Program,
     searching: &mut Search,
     caller: ClassId,
     reference: &MethodRef,
+    resolved: Callee,
 ) -> Result<Came, Memory>
     requires { caller.0 < length program.now }
 {
+    if reference.interface || reference.name.get(0) == Some(&u16::from(b'<')) {
+        return Ok(Ok(resolved));
+    }
     match superclass(program, caller) {
-        Some(up) => named_end(program, searching, up, false, reference),
-        None => Ok(Came::Unasked),
+        Some(up) => select_named(program, searching, up, false, reference),
+        None => Ok(Err(Fault::NoClassDefFoundError)),
     }
 }
 
-// What a call on an object of this class comes to, or from this class.
-fn selected_end(
-    alloc: Global,
+fn selected(
     program: &Program,
     searching: &mut Search,
-    row: &Row,
+    how: How,
+    id: ClassId,
+    array: bool,
+    reference: &MethodRef,
+    resolved: Callee,
+) -> Result<Came, Memory>
+    requires { id.0 < length program.now }
+{
+    match how {
+        How::Virtual => by_object(program, searching, id, array, reference, resolved),
+        How::Interface => select_named(program, searching, id, array, reference),
+        How::Special => by_caller(program, searching, id, reference, resolved),
+        _ => Ok(Ok(resolved)),
+    }
+}
+
+// What is selected by the class of an object, or of a caller, with this name.
+fn selected_by(
+    program: &Program,
+    searching: &mut Search,
+    how: How,
+    object: &Name,
     reference: &MethodRef,
     resolved: Callee,
 ) -> Result<Came, Memory> {
-    let written = name(alloc, row.5)?;
-    let behind = class_behind(alloc, &written)?;
-    let array = row.5.starts_with("[");
-    let Some(id) = program.find(&behind) else {
-        return Ok(Came::Unasked);
-    };
-    match row.0 {
-        How::Virtual => virtual_end(program, searching, id, array, reference, resolved),
-        How::Interface => named_end(program, searching, id, array, reference),
-        How::Super => super_end(program, searching, id, reference),
-        How::Itself => Ok(call_end(program, Ok(resolved))),
-        How::Static => Ok(call_end(program, Ok(resolved))),
-        How::Field => Ok(Came::Unasked),
+    let array = is_array_name(object.as_slice());
+    match class_of(program, object)? {
+        Ok(id) => selected(program, searching, how, id, array, reference, resolved),
+        Err(fault) => Ok(Err(fault)),
     }
 }
 
 // What a method that was resolved comes to: `invokestatic` wants a static one, and all else none.
-fn method_end(
-    alloc: Global,
+// Bit 3 is ACC_STATIC (JVMS 4.6).
+fn used(
     program: &Program,
     searching: &mut Search,
-    row: &Row,
+    how: How,
+    object: &Name,
     reference: &MethodRef,
     resolved: Callee,
 ) -> Result<Came, Memory> {
-    let wants_static = matches!(row.0, How::Static);
-    if is_static(program, resolved) != wants_static {
-        return Ok(Came::Throws(Fault::IncompatibleClassChangeError));
+    let wants_static = matches!(how, How::Static);
+    if (flags_of(program, resolved) / 8 % 2 == 1) != wants_static {
+        return Ok(Err(Fault::IncompatibleClassChangeError));
     }
     if wants_static {
-        return Ok(call_end(program, Ok(resolved)));
+        return Ok(called(program, resolved));
     }
-    selected_end(alloc, program, searching, row, reference, resolved)
-}
-
-// What a use of a field comes to. An array has no fields.
-fn field_use(
-    program: &Program,
-    searching: &mut Search,
-    id: ClassId,
-    reference: &FieldRef,
-) -> Result<Came, Memory>
-    requires { id.0 < length program.now }
-{
-    if is_array_name(reference.class.as_slice()) {
-        return Ok(Came::Throws(Fault::NoSuchFieldError));
-    }
-    let walker = &mut searching.family;
-    match resolve_field(program, walker, id, &reference.name, &reference.desc)? {
-        Some(site) => Ok(Came::To(site)),
-        None => Ok(Came::Throws(Fault::NoSuchFieldError)),
+    match selected_by(program, searching, how, object, reference, resolved)? {
+        Ok(callee) => Ok(called(program, callee)),
+        Err(fault) => Ok(Err(fault)),
     }
 }
 
 // What a use of a method comes to.
-fn method_use(
-    alloc: Global,
+fn method_end(
     program: &Program,
     searching: &mut Search,
-    row: &Row,
-    id: ClassId,
+    how: How,
+    object: &Name,
     reference: &MethodRef,
-) -> Result<Came, Memory>
-    requires { id.0 < length program.now }
-{
+) -> Result<Came, Memory> {
+    let id = match class_of(program, &reference.class)? {
+        Ok(id) => id,
+        Err(fault) => return Ok(Err(fault)),
+    };
     match resolve_method(program, searching, id, reference)? {
-        Ok(resolved) => method_end(alloc, program, searching, row, reference, resolved),
-        Err(fault) => Ok(Came::Throws(fault)),
+        Ok(resolved) => used(program, searching, how, object, reference, resolved),
+        Err(fault) => Ok(Err(fault)),
     }
 }
 
-/// What the use comes to of a row whose member an index of this class names.
-pub fn end_of(
-    alloc: Global,
+// What a use of a field comes to. An array has no fields.
+fn field_end(
     program: &Program,
-    main: ClassId,
-    index: u32,
-    row: &Row,
+    searching: &mut Search,
+    reference: &FieldRef,
 ) -> Result<Came, Memory> {
-    let Some(info) = program.get(main) else {
-        return Ok(Came::Unasked);
-    };
-    let mut seen = Consulted::new(alloc, program)?;
-    let named = name(alloc, row.1)?;
-    let id = match resolve_class(alloc, program, &mut seen, &named)? {
+    let id = match class_of(program, &reference.class)? {
         Ok(id) => id,
-        Err(fault) => return Ok(Came::Throws(fault)),
+        Err(fault) => return Ok(Err(fault)),
     };
-    if id.0 as usize >= program.len() {
-        return Ok(Came::Unasked);
+    if is_array_name(reference.class.as_slice()) {
+        return Ok(Err(Fault::NoSuchFieldError));
     }
-    let mut searching = Search::new(alloc);
+    let walker = &mut searching.family;
+    match resolve_field(program, walker, id, &reference.name, &reference.desc)? {
+        Some(site) => Ok(Ok(Callee::Method(site))),
+        None => Ok(Err(Fault::NoSuchFieldError)),
+    }
+}
+
+/// What the instruction of this number comes to, on an object or in a caller of this class; none
+/// where it uses no member.
+pub fn end_of(
+    program: &Program,
+    searching: &mut Search,
+    number: usize,
+    object: &Name,
+) -> Result<Option<Came>, Memory> {
+    let Some(info) = program.get(MAIN) else {
+        return Ok(None);
+    };
+    let Some(instruction) = instruction_of(info, number) else {
+        return Ok(None);
+    };
+    let Some((how, index)) = how_of(instruction) else {
+        return Ok(None);
+    };
     match info.linked().entries.get(index as usize) {
-        Some(Entry::Field(reference)) => field_use(program, &mut searching, id, reference),
+        Some(Entry::Field(reference)) => Ok(Some(field_end(program, searching, reference)?)),
         Some(Entry::Method(reference)) => {
-            method_use(alloc, program, &mut searching, row, id, reference)
+            Ok(Some(method_end(program, searching, how, object, reference)?))
         }
-        _ => Ok(Came::Unasked),
+        _ => Ok(None),
     }
 }

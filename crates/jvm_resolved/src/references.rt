@@ -5,11 +5,10 @@ ghost use Rattle.class_link.specs.Info.{Info};
 ghost use Rattle.class_link.specs.declared.linked.Entry.TheVariants.{Class, Field, Method};
 ghost use Rattle.class_table.specs.Seen.{IsConsultedOf};
 ghost use Rattle.jvm_link.specs.Named.{Consults, ResolvesClass};
-ghost use Rattle.jvm_resolved.specs.Holding.{held};
-ghost use Rattle.jvm_resolved.specs.References.{IsEntry, IsRight, IsTableOf, KeepsClass, KeepsField, KeepsMethod, ResolvesFieldRef, ResolvesMethodRef};
+ghost use Rattle.jvm_resolved.specs.References.{IsEntry, IsTableOf, KeepsClass, KeepsField, KeepsMethod, ResolvesFieldRef, ResolvesMethodRef};
 
 use crate::rows::{Kept, Row, keep, kept_at};
-use crate::search::{class_of_field, class_of_method, consult, resolve_field, resolve_method};
+use crate::search::{class_of, consult, resolve_field, resolve_method};
 use class_link::{FieldRef, MethodRef};
 use class_model::{ClassId, Memory, Name};
 use class_table::{Consulted, Program};
@@ -47,36 +46,12 @@ impl References {
         }
     }
 
-    // What is kept for an index.
-    fn get(&self, class: ClassId, index: u32) -> Option<Kept>
-        ensures { result ≡ held class.0 index self.now }
-    {
-        kept_at(&self.rows, class.0 as usize, index as usize)
-    }
-
-    // Keeps this for an index.
-    #[tactic(auto, using(crate::proofs::Keeping::kept_more, crate::proofs::Keeping::kept_same))]
-    fn keep(
-        &mut self,
-        program: &Program,
-        class: ClassId,
-        index: u32,
-        kept: Kept,
-    ) -> Result<(), Memory>
-        requires table { IsTableOf program.now self.old }
-        requires right { IsRight program.now class.0 index kept }
-        ensures { IsTableOf program.now self.new }
-    {
-        keep(&mut self.rows, class.0 as usize, index as usize, kept)?;
-        Ok(())
-    }
-
     // The class that is kept for an index.
     #[tactic(auto, using(crate::proofs::Keeping::class_kept))]
     fn kept_class(&self, class: ClassId, index: u32) -> Option<ClassId>
         ensures { IfSome result (λ id. KeepsClass self.now class.0 index id) }
     {
-        match self.get(class, index) {
+        match kept_at(&self.rows, class, index) {
             Some(Kept::Class(id)) => Some(id),
             _ => None,
         }
@@ -87,7 +62,7 @@ impl References {
     fn kept_field(&self, class: ClassId, index: u32) -> Option<(ClassId, Result<Site, Fault>)>
         ensures { IfSome result (λ k. KeepsField self.now class.0 index k.0 k.1) }
     {
-        match self.get(class, index) {
+        match kept_at(&self.rows, class, index) {
             Some(Kept::Field(id, answer)) => Some((id, answer)),
             _ => None,
         }
@@ -98,7 +73,7 @@ impl References {
     fn kept_method(&self, class: ClassId, index: u32) -> Option<(ClassId, Result<Callee, Fault>)>
         ensures { IfSome result (λ k. KeepsMethod self.now class.0 index k.0 k.1) }
     {
-        match self.get(class, index) {
+        match kept_at(&self.rows, class, index) {
             Some(Kept::Method(id, answer)) => Some((id, answer)),
             _ => None,
         }
@@ -130,7 +105,7 @@ impl References {
         let named = resolve_class(*self.rows.allocator(), program, seen, name)?;
         match named {
             Ok(id) => {
-                self.keep(program, class, index, Kept::Class(id))?;
+                keep(&mut self.rows, program, class, index, Kept::Class(id))?;
                 Ok(Ok(id))
             }
             Err(fault) => Ok(Err(fault)),
@@ -162,11 +137,17 @@ impl References {
             consult(program, seen, kept.0)?;
             return Ok(kept.1);
         }
-        let named = class_of_field(*self.rows.allocator(), program, seen, reference)?;
+        let named = class_of(*self.rows.allocator(), program, seen, &reference.class)?;
         match named {
             Ok(id) => {
                 let answer = resolve_field(program, &mut self.searching, id, reference)?;
-                self.keep(program, class, index, Kept::Field(id, answer))?;
+                keep(
+                    &mut self.rows,
+                    program,
+                    class,
+                    index,
+                    Kept::Field(id, answer),
+                )?;
                 Ok(answer)
             }
             Err(fault) => Ok(Err(fault)),
@@ -198,11 +179,17 @@ impl References {
             consult(program, seen, kept.0)?;
             return Ok(kept.1);
         }
-        let named = class_of_method(*self.rows.allocator(), program, seen, reference)?;
+        let named = class_of(*self.rows.allocator(), program, seen, &reference.class)?;
         match named {
             Ok(id) => {
                 let answer = resolve_method(program, &mut self.searching, id, reference)?;
-                self.keep(program, class, index, Kept::Method(id, answer))?;
+                keep(
+                    &mut self.rows,
+                    program,
+                    class,
+                    index,
+                    Kept::Method(id, answer),
+                )?;
                 Ok(answer)
             }
             Err(fault) => Ok(Err(fault)),

@@ -3,8 +3,10 @@
 ghost use Rattle.std.specs.Prelude.{◌≡◌, ℕ, ◌<◌, if◌then◌else◌, nat_eq, [], Some, None, length, OnOk, OnErr};
 ghost use Rattle.std.proofs.Common.{get_or};
 ghost use Rattle.jvm_resolved.specs.Holding.{held, Holds, HoldSame};
+ghost use Rattle.jvm_resolved.specs.References.{IsRight, IsTableOf};
 
 use class_model::{ClassId, Memory};
+use class_table::Program;
 use jvm_link::{Callee, Site};
 use program_rules::Fault;
 use std::marker::Model;
@@ -97,24 +99,41 @@ fn put(rows: &mut [Row], class: usize, index: usize, kept: Kept)
 }
 
 /// What is kept for an index of a class.
-pub fn kept_at(rows: &[Row], class: usize, index: usize) -> Option<Kept>
-    ensures { result ≡ held class index rows.now }
+pub fn kept_at(rows: &[Row], class: ClassId, index: u32) -> Option<Kept>
+    ensures { result ≡ held class.0 index rows.now }
 {
-    let Some(row) = rows.get(class) else {
+    let Some(row) = rows.get(class.0 as usize) else {
         return None;
     };
-    let Some(kept) = row.kept.get(index) else {
+    let Some(kept) = row.kept.get(index as usize) else {
         return None;
     };
     *kept
 }
 
-/// Keeps this for an index of a class. Where memory runs out all is kept that was.
-pub fn keep(rows: &mut Vec<Row>, class: usize, index: usize, kept: Kept) -> Result<(), Memory>
+// Keeps this for an index of a class. Where memory runs out all is kept that was.
+fn store(rows: &mut Vec<Row>, class: usize, index: usize, kept: Kept) -> Result<(), Memory>
     ensures kept { OnOk result (Holds class index kept rows.old.items rows.new.items) }
     ensures err { OnErr result (HoldSame rows.old.items rows.new.items) }
 {
     make_place(rows, class, index)?;
     put(rows, class, index, kept);
+    Ok(())
+}
+
+/// Keeps what is right for an index of a class.
+#[tactic(auto, using(crate::proofs::Keeping::kept_more, crate::proofs::Keeping::kept_same))]
+pub fn keep(
+    rows: &mut Vec<Row>,
+    program: &Program,
+    class: ClassId,
+    index: u32,
+    kept: Kept,
+) -> Result<(), Memory>
+    requires table { IsTableOf program.now rows.old.items }
+    requires right { IsRight program.now class.0 index kept }
+    ensures { IsTableOf program.now rows.new.items }
+{
+    store(rows, class.0 as usize, index as usize, kept)?;
     Ok(())
 }

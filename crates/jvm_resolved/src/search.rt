@@ -6,8 +6,8 @@ ghost use Rattle.class_table.specs.Seen.{IsConsultedOf};
 ghost use Rattle.jvm_link.specs.Named.{Consults, IsClassNamed, ResolvesClass};
 ghost use Rattle.jvm_resolved.specs.References.{ResolvesFieldRef, ResolvesMethodRef};
 
-use class_link::{FieldRef, MethodRef};
-use class_model::{ClassId, Memory};
+use class_link::{FieldRef, MethodRef, Shared};
+use class_model::{ClassId, Memory, Name};
 use class_table::{Consulted, Program};
 use jvm_catch::is_array_name;
 use jvm_link::{Callee, Search, Site, resolve_class};
@@ -33,37 +33,19 @@ pub fn consult(program: &Program, seen: &mut Consulted, id: ClassId) -> Result<(
     Ok(())
 }
 
-/// The class that a reference to a field names, which is consulted.
+/// The class that a reference names, which is consulted.
 #[tactic(auto, using(crate::proofs::Finding::class_moved, crate::proofs::Finding::consults_moved))]
-pub fn class_of_field(
+pub fn class_of(
     alloc: Global,
     program: &Program,
     seen: &mut Consulted,
-    reference: &FieldRef,
+    name: &Shared<Name>,
 ) -> Result<Result<ClassId, Fault>, Memory>
     requires { IsConsultedOf program.now seen.old }
-    ensures class { IfOk result (λ a. ResolvesClass program.now reference.now.class a) }
-    ensures consults { OnOk result (
-        Consults program.now reference.now.class seen.old seen.new) }
+    ensures class { IfOk result (λ a. ResolvesClass program.now name.now a) }
+    ensures consults { OnOk result (Consults program.now name.now seen.old seen.new) }
 {
-    let answer = resolve_class(alloc, program, seen, &reference.class)?;
-    Ok(answer)
-}
-
-/// The class that a reference to a method names, which is consulted.
-#[tactic(auto, using(crate::proofs::Finding::class_moved, crate::proofs::Finding::consults_moved))]
-pub fn class_of_method(
-    alloc: Global,
-    program: &Program,
-    seen: &mut Consulted,
-    reference: &MethodRef,
-) -> Result<Result<ClassId, Fault>, Memory>
-    requires { IsConsultedOf program.now seen.old }
-    ensures class { IfOk result (λ a. ResolvesClass program.now reference.now.class a) }
-    ensures consults { OnOk result (
-        Consults program.now reference.now.class seen.old seen.new) }
-{
-    let answer = resolve_class(alloc, program, seen, &reference.class)?;
+    let answer = resolve_class(alloc, program, seen, name)?;
     Ok(answer)
 }
 

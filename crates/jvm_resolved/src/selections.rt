@@ -4,8 +4,7 @@ ghost use Rattle.std.specs.Prelude.{◌≡◌, ◌<◌, List, Ok, length, IfOk, 
 ghost use Rattle.class_link.specs.Info.{Info};
 ghost use Rattle.class_link.specs.declared.linked.Entry.TheVariants.{Method};
 ghost use Rattle.program_rules.specs.Resolution.{same_bool};
-ghost use Rattle.jvm_resolved.specs.Holding.{held};
-ghost use Rattle.jvm_resolved.specs.References.{IsEntry, IsRight, IsTableOf, KeepsNamed, KeepsVirtual, ResolvesMethodRef};
+ghost use Rattle.jvm_resolved.specs.References.{IsEntry, IsTableOf, KeepsNamed, KeepsVirtual, ResolvesMethodRef};
 ghost use Rattle.jvm_resolved.specs.Selecting.{SelectsByName, SelectsVirtual, same_receiver};
 
 use crate::rows::{Kept, Receiver, Row, keep, kept_at};
@@ -93,30 +92,6 @@ impl Selections {
         }
     }
 
-    // What is kept for an index.
-    fn get(&self, class: ClassId, index: u32) -> Option<Kept>
-        ensures { result ≡ held class.0 index self.now }
-    {
-        kept_at(&self.rows, class.0 as usize, index as usize)
-    }
-
-    // Keeps this for an index.
-    #[tactic(auto, using(crate::proofs::Keeping::kept_more, crate::proofs::Keeping::kept_same))]
-    fn keep(
-        &mut self,
-        program: &Program,
-        class: ClassId,
-        index: u32,
-        kept: Kept,
-    ) -> Result<(), Memory>
-        requires table { IsTableOf program.now self.old }
-        requires right { IsRight program.now class.0 index kept }
-        ensures { IsTableOf program.now self.new }
-    {
-        keep(&mut self.rows, class.0 as usize, index as usize, kept)?;
-        Ok(())
-    }
-
     // What is kept of such an object, of the resolved method.
     #[tactic(auto, using(crate::proofs::Selected::virtual_kept))]
     fn kept_virtual(
@@ -127,7 +102,7 @@ impl Selections {
     ) -> Option<Result<Callee, Fault>>
         ensures { IfSome result (λ a. KeepsVirtual self.now class.0 index to a) }
     {
-        match self.get(class, index) {
+        match kept_at(&self.rows, class, index) {
             Some(Kept::Virtual(of, answer)) => {
                 if are_alike(of, to) {
                     Some(answer)
@@ -144,7 +119,7 @@ impl Selections {
     fn kept_named(&self, class: ClassId, index: u32, to: Receiver) -> Option<Result<Callee, Fault>>
         ensures { IfSome result (λ a. KeepsNamed self.now class.0 index to a) }
     {
-        match self.get(class, index) {
+        match kept_at(&self.rows, class, index) {
             Some(Kept::Named(of, answer)) => {
                 if are_alike(of, to) {
                     Some(answer)
@@ -181,7 +156,13 @@ impl Selections {
             return Ok(answer);
         }
         let answer = find_virtual(program, &mut self.searching, to, reference, resolved)?;
-        self.keep(program, class, index, Kept::Virtual(to, answer))?;
+        keep(
+            &mut self.rows,
+            program,
+            class,
+            index,
+            Kept::Virtual(to, answer),
+        )?;
         Ok(answer)
     }
 
@@ -208,7 +189,13 @@ impl Selections {
             return Ok(answer);
         }
         let answer = find_named(program, &mut self.searching, to, reference)?;
-        self.keep(program, class, index, Kept::Named(to, answer))?;
+        keep(
+            &mut self.rows,
+            program,
+            class,
+            index,
+            Kept::Named(to, answer),
+        )?;
         Ok(answer)
     }
 }

@@ -1,23 +1,17 @@
-use Rattle.std.proofs.Common.{◌∙◌, ◌<◌, length, refl, ap, subst, arith}
-use Rattle.std.specs.Prelude.{IfSome}
+use Rattle.std.proofs.Common.{◌∙◌, refl, ap}
 use Rattle.program_rules.specs.Resolution.{first_declared}
-use Rattle.class_model.specs.declared.class.ClassId.{ClassId}
 use Rattle.jvm_link.specs.Sites.{rising_from}
-use Rattle.jvm_link.proofs.Found.{upwards, method_passed, method_here}
+use Rattle.jvm_link.proofs.Found.{class_within, fewer_left, upwards, method_passed, method_here}
 use Rattle.jvm_link.proofs.methods.first_declared.Goals as goal
 
 pub declared_method-requires : goal.declared_method-requires
-declared_method-requires c = subst (λ o. IfSome o (λ (a : ClassId). a.0 < length c.args.program.now)) c.in-Some.is c.loop-next.invariant.within
+declared_method-requires c = class_within c.args.program.now _ _ c.loop-next.invariant.within c.in-Some.is
 
 pub superclass-next-requires : goal.superclass-next-requires
-superclass-next-requires c = subst (λ o. IfSome o (λ (a : ClassId). a.0 < length c.args.program.now)) c.in-Some.is c.loop-next.invariant.within
+superclass-next-requires c = class_within c.args.program.now _ _ c.loop-next.invariant.within c.in-Some.is
 
 pub loop-next-smaller : goal.loop-next-smaller
-loop-next-smaller c =
-    let p = c.args.program.now in
-    let e = ap length (upwards p c.args.name.now c.args.desc.now c.in-Some.class.0 c.superclass-next.result c.superclass-next.ensures.goes_on c.superclass-next.ensures.ends) in
-    let q = ap (λ o. length (rising_from p o)) c.in-Some.is in
-    omega (arith, e, q)
+loop-next-smaller c = fewer_left c.args.program.now _ _ _ c.in-Some.is c.superclass-next.ensures.goes_on c.superclass-next.ensures.ends
 
 pub loop-next-preserved : goal.loop-next-preserved
 loop-next-preserved c =
@@ -28,13 +22,13 @@ loop-next-preserved c =
       within = c.superclass-next.ensures.within;
       rest =
           c.loop-next.invariant.rest ∙ ap (λ o. first_declared name desc (rising_from p o)) c.in-Some.is
-          ∙ method_passed p name desc c.in-Some.class.0 c.superclass-next.result (upwards p name desc c.in-Some.class.0 c.superclass-next.result c.superclass-next.ensures.goes_on c.superclass-next.ensures.ends) c.in_default-declared_method.ensures.none;
+          ∙ method_passed p name desc c.in-Some.class.0 c.superclass-next.result (upwards p c.in-Some.class.0 c.superclass-next.result c.superclass-next.ensures.goes_on c.superclass-next.ensures.ends) c.in_default-declared_method.ensures.none;
     }
 
 pub returns-in-Some-declared_method : goal.returns-in-Some-declared_method
 returns-in-Some-declared_method c =
     let p = c.args.program.now in
-    let within = subst (λ o. IfSome o (λ (a : ClassId). a.0 < length c.args.program.now)) c.in-Some.is c.loop-next.invariant.within in
+    let within = class_within c.args.program.now _ _ c.loop-next.invariant.within c.in-Some.is in
     method_here p c.args.name.now c.args.desc.now _ _ c.len-len.ensures.form within c.in-Some-declared_method.ensures.some
     (c.loop-next.invariant.rest ∙ ap (λ o. first_declared c.args.name.now c.args.desc.now (rising_from p o)) c.in-Some.is)
 

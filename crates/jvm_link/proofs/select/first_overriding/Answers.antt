@@ -1,31 +1,24 @@
-use Rattle.std.proofs.Common.{◌≡◌, ◌∙◌, ◌<◌, false, true, length, refl, ap, sym, subst, arith}
-use Rattle.std.specs.Prelude.{IfSome}
-use Rattle.class_model.specs.declared.class.ClassId.{ClassId}
+use Rattle.std.proofs.Common.{◌≡◌, ◌∙◌, false, true, refl, sym, subst}
 use Rattle.class_link.specs.View.{method_ref_of}
-use Rattle.jvm_link.specs.Sites.{rising_from}
 use Rattle.jvm_link.specs.Overriding.{Takes}
-use Rattle.jvm_link.proofs.Found.{upwards}
+use Rattle.jvm_link.proofs.Found.{class_within, fewer_left, upwards}
 use Rattle.jvm_link.proofs.Virtual.{StillFirst, ShutFrom, over_passed, over_here, shut_up}
 use Rattle.jvm_link.proofs.select.first_overriding.Goals as goal
 
 pub overriding_site-requires-clause-class : goal.overriding_site-requires-clause-class
-overriding_site-requires-clause-class c = subst (λ o. IfSome o (λ (a : ClassId). a.0 < length c.args.program.now)) c.in-Some.is c.loop-next.invariant.within
+overriding_site-requires-clause-class c = class_within c.args.program.now _ _ c.loop-next.invariant.within c.in-Some.is
 
 pub overriding_site-requires-clause-shut : goal.overriding_site-requires-clause-shut
 overriding_site-requires-clause-shut c = subst (ShutFrom c.args.program.now (method_ref_of c.args.reference.now) c.args.over.0 c.args.wide c.args.classes.now c.loop-next.shut) c.in-Some.is c.loop-next.invariant.shut
 
 pub superclass-next-requires : goal.superclass-next-requires
-superclass-next-requires c = subst (λ o. IfSome o (λ (a : ClassId). a.0 < length c.args.program.now)) c.in-Some.is c.loop-next.invariant.within
+superclass-next-requires c = class_within c.args.program.now _ _ c.loop-next.invariant.within c.in-Some.is
 
 pub loop-next-init : goal.loop-next-init
 loop-next-init c = record { within = c.requires.start; rest = λ m is. refl; shut = λ e. absurd cc }
 
 pub loop-next-smaller : goal.loop-next-smaller
-loop-next-smaller c =
-    let p = c.args.program.now in
-    let e = ap length (upwards p c.args.reference.now.name c.args.reference.now.desc c.in-Some.class.0 c.superclass-next.result c.superclass-next.ensures.goes_on c.superclass-next.ensures.ends) in
-    let q = ap (λ o. length (rising_from p o)) c.in-Some.is in
-    omega (arith, e, q)
+loop-next-smaller c = fewer_left c.args.program.now _ _ _ c.in-Some.is c.superclass-next.ensures.goes_on c.superclass-next.ensures.ends
 
 pub loop-next-preserved : goal.loop-next-preserved
 loop-next-preserved c =
@@ -40,7 +33,7 @@ loop-next-preserved c =
       within = c.superclass-next.ensures.within;
       rest =
           over_passed p r over c.args.wide ids c.args.start.0 a up
-          (upwards p r.name r.desc a up c.superclass-next.ensures.goes_on c.superclass-next.ensures.ends) none
+          (upwards p a up c.superclass-next.ensures.goes_on c.superclass-next.ensures.ends) none
           (subst (StillFirst p r over c.args.wide ids c.args.start.0) c.in-Some.is c.loop-next.invariant.rest);
       shut = shut_up p r over c.args.wide ids a up _ c.len-len.ensures.form c.superclass-next.ensures.goes_on c.overriding_site.ensures.shut;
     }

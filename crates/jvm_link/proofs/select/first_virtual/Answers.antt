@@ -1,26 +1,20 @@
-use Rattle.std.proofs.Common.{◌∙◌, ◌<◌, length, refl, ap, subst, arith}
-use Rattle.std.specs.Prelude.{IfSome}
+use Rattle.std.proofs.Common.{◌∙◌, refl, ap, subst}
 use Rattle.program_rules.specs.Selection.{first_through, if_virtual}
-use Rattle.class_model.specs.declared.class.ClassId.{ClassId}
 use Rattle.class_link.specs.View.{method_ref_of}
 use Rattle.jvm_link.specs.Sites.{rising_from}
 use Rattle.jvm_link.specs.Answers.{VirtualOf}
-use Rattle.jvm_link.proofs.Found.{upwards}
+use Rattle.jvm_link.proofs.Found.{class_within, fewer_left, upwards}
 use Rattle.jvm_link.proofs.Selecting.{through_passed, through_here}
 use Rattle.jvm_link.proofs.select.first_virtual.Goals as goal
 
 pub virtual_site-requires : goal.virtual_site-requires
-virtual_site-requires c = subst (λ o. IfSome o (λ (a : ClassId). a.0 < length c.args.program.now)) c.in-Some.is c.loop-next.invariant.within
+virtual_site-requires c = class_within c.args.program.now _ _ c.loop-next.invariant.within c.in-Some.is
 
 pub superclass-next-requires : goal.superclass-next-requires
-superclass-next-requires c = subst (λ o. IfSome o (λ (a : ClassId). a.0 < length c.args.program.now)) c.in-Some.is c.loop-next.invariant.within
+superclass-next-requires c = class_within c.args.program.now _ _ c.loop-next.invariant.within c.in-Some.is
 
 pub loop-next-smaller : goal.loop-next-smaller
-loop-next-smaller c =
-    let p = c.args.program.now in
-    let e = ap length (upwards p c.args.reference.now.name c.args.reference.now.desc c.in-Some.class.0 c.superclass-next.result c.superclass-next.ensures.goes_on c.superclass-next.ensures.ends) in
-    let q = ap (λ o. length (rising_from p o)) c.in-Some.is in
-    omega (arith, e, q)
+loop-next-smaller c = fewer_left c.args.program.now _ _ _ c.in-Some.is c.superclass-next.ensures.goes_on c.superclass-next.ensures.ends
 
 pub loop-next-preserved : goal.loop-next-preserved
 loop-next-preserved c =
@@ -31,7 +25,7 @@ loop-next-preserved c =
       within = c.superclass-next.ensures.within;
       rest =
           c.loop-next.invariant.rest ∙ ap (λ o. first_through if_virtual r (rising_from p o)) c.in-Some.is
-          ∙ through_passed p r if_virtual c.in-Some.class.0 c.superclass-next.result (upwards p r.name r.desc c.in-Some.class.0 c.superclass-next.result c.superclass-next.ensures.goes_on c.superclass-next.ensures.ends) none;
+          ∙ through_passed p r if_virtual c.in-Some.class.0 c.superclass-next.result (upwards p c.in-Some.class.0 c.superclass-next.result c.superclass-next.ensures.goes_on c.superclass-next.ensures.ends) none;
     }
 
 pub returns-in-Some-virtual_site : goal.returns-in-Some-virtual_site
