@@ -15,6 +15,7 @@ mod whole;
 
 pub use entries::index_of;
 pub use laws::{applied_is_made, edit_keeps_form, mutants_fit};
+pub use members::with_code;
 pub use parts::Parts;
 pub use place_map::{PlaceMap, moved_row};
 pub use refusal::Refusal;

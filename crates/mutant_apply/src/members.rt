@@ -27,8 +27,8 @@ pub fn named_code<'a>(edit: &Edit, class: &'a Class) -> Option<&'a Code>
     code_of(member.attrs.as_slice())
 }
 
-// The attributes of a method with another code in the place of the first one.
-fn with_code(new: &Code, attrs: &Seq<Attr>) -> Result<Seq<Attr>, Memory>
+/// The attributes of a method with another code in the place of the first one.
+pub fn with_code(new: &Code, attrs: &Seq<Attr>) -> Result<Seq<Attr>, Memory>
     ensures { IfOk result (λ edited. edited ≡ with_code new.now attrs.now) }
 {
     let mut edited = attrs.empty();

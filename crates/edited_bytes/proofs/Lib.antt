@@ -1,0 +1,4 @@
+pub mod Members
+pub mod Bounds
+pub mod Splices
+pub mod Applied
