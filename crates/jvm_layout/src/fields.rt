@@ -1,0 +1,77 @@
+//! The fields that a class declares for its instances (JVMS 2.4).
+
+ghost use Rattle.std.specs.Prelude.{◌≡◌, ◌++◌, ◌∷◌, [], map, reverse, OnOk};
+ghost use Rattle.program_rules.specs.Kinds.{default_of};
+ghost use Rattle.program_rules.specs.Linked.{is_static, is_interface, is_abstract};
+ghost use Rattle.class_link.specs.Symbols.{kind_of};
+ghost use Rattle.class_link.specs.View.{field_of};
+ghost use Rattle.jvm_layout.specs.Layouts.{own_values};
+
+use class_link::LinkedField;
+use class_model::{Kind, Memory};
+use program_rules::Value;
+
+fn is_static(flags: u16) -> bool
+    ensures { result ≡ is_static flags }
+{
+    flags / 8 % 2 == 1
+}
+
+/// Whether a class is an interface (JVMS 4.1).
+pub fn is_interface(flags: u16) -> bool
+    ensures { result ≡ is_interface flags }
+{
+    flags / 512 % 2 == 1
+}
+
+/// Whether a class is abstract (JVMS 4.1).
+pub fn is_abstract(flags: u16) -> bool
+    ensures { result ≡ is_abstract flags }
+{
+    flags / 1024 % 2 == 1
+}
+
+// What a field of a kind holds at first.
+fn default_of(kind: &Kind) -> Value
+    ensures { result ≡ default_of (kind_of kind.now) }
+{
+    match kind {
+        Kind::Long => Value::Long(0),
+        Kind::Ref(_) => Value::Null,
+        Kind::Boolean | Kind::Byte | Kind::Char | Kind::Short | Kind::Int => Value::Int(0),
+    }
+}
+
+/// Adds the defaults of the fields that aren't static, the last field's first.
+#[tactic(auto, using(crate::proofs::Climbing::own_front))]
+pub fn push_defaults(
+    fields: &[LinkedField],
+    all_static: bool,
+    values: &mut Vec<Value>,
+) -> Result<(), Memory>
+    ensures { OnOk result (values.new.items
+        ≡ values.old.items ++ reverse (own_values all_static (map field_of fields.now))) }
+{
+    let mut left = fields.len();
+    while left > 0 {
+        left -= 1;
+        push_default(&fields[left], all_static, values)?;
+    }
+    Ok(())
+}
+
+// Adds the default of a field that isn't static.
+fn push_default(
+    field: &LinkedField,
+    all_static: bool,
+    values: &mut Vec<Value>,
+) -> Result<(), Memory>
+    ensures { OnOk result (values.new.items
+        ≡ values.old.items ++ own_values all_static (field_of field.now ∷ [])) }
+{
+    if all_static || is_static(field.flags) {
+        return Ok(());
+    }
+    values.push(default_of(&field.kind))?;
+    Ok(())
+}

@@ -1,0 +1,8 @@
+//! What the instances of a class hold at first, and the words that they take.
+#![tactic(auto)]
+
+mod fields;
+mod layout;
+mod native;
+
+pub use layout::{Layout, layout_of};

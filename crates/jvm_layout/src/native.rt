@@ -1,0 +1,73 @@
+//! The words of library classes beside their fields (this project's own).
+
+ghost use Rattle.std.specs.Prelude.{◌≡◌};
+ghost use Rattle.program_rules.specs.Layout.{native_words, words_among};
+ghost use Rattle.program_rules.specs.Names.{same};
+ghost use Rattle.jvm_layout.specs.Layouts.{number_words};
+
+fn is_text(name: &[u16], text: &[u8]) -> bool
+    ensures { result ≡ same text.now name.now }
+{
+    match (name, text) {
+        ([], []) => true,
+        ([unit, units @ ..], [byte, bytes @ ..]) => *byte as u16 == *unit && is_text(units, bytes),
+        ([], [_, ..]) => false,
+        ([_, ..], []) => false,
+    }
+}
+
+/// The words that each object of a library class of this name takes beside its fields.
+pub fn native_words(name: &[u16]) -> u32
+    ensures { result ≡ words_among native_words name.now }
+{
+    if is_text(name, b"java/lang/String") {
+        return 1;
+    }
+    if is_text(name, b"java/lang/StringBuilder") {
+        return 1;
+    }
+    if is_text(name, b"java/util/ArrayList") {
+        return 1;
+    }
+    if is_text(name, b"mt/Hashed") {
+        return 1;
+    }
+    if is_text(name, b"java/util/Optional") {
+        return 1;
+    }
+    native_numbers(name)
+}
+
+// The same of the boxes and the rest.
+fn native_numbers(name: &[u16]) -> u32
+    ensures { result ≡ words_among number_words name.now }
+{
+    if is_text(name, b"java/lang/Integer") {
+        return 1;
+    }
+    if is_text(name, b"java/lang/Long") {
+        return 1;
+    }
+    if is_text(name, b"java/lang/Short") {
+        return 1;
+    }
+    if is_text(name, b"java/lang/Byte") {
+        return 1;
+    }
+    if is_text(name, b"java/lang/Character") {
+        return 1;
+    }
+    if is_text(name, b"java/lang/Boolean") {
+        return 1;
+    }
+    if is_text(name, b"java/lang/Class") {
+        return 2;
+    }
+    if is_text(name, b"java/lang/Enum") {
+        return 2;
+    }
+    if is_text(name, b"mt/Iter") {
+        return 2;
+    }
+    0
+}
