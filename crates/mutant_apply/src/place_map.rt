@@ -3,6 +3,7 @@
 ghost use Rattle.std.specs.Prelude.{◌≡◌, ◌<◌, ◌^◌, ◌++◌, map, false, All, IfOk, OnOk};
 ghost use Rattle.mutant_apply.specs.Moved.{moved_place, moved_arg, moved_insn, moved_row};
 ghost use Rattle.mutant_apply.specs.Room.{IsNear, LeadsNear, IsNearRow};
+ghost use Rattle.class_model.specs.declared.instruction.Arg.TheVariants as arg;
 
 use class_model::{Arg, Insn, Memory, Row, Seq};
 
@@ -49,6 +50,15 @@ fn moved_pairs(by: PlaceMap, pairs: &Seq<(i32, u32)>) -> Result<Seq<(i32, u32)>,
     Ok(moved)
 }
 
+fn moved_lookup(by: PlaceMap, default: u32, keys: &Seq<(i32, u32)>) -> Result<Arg, Memory>
+    requires default { IsNear default }
+    requires keys { All (λ key. IsNear key.1) keys.now }
+    ensures { IfOk result (λ m. m ≡ moved_arg (moved_place by.at by.more) (arg.Lookup default keys.now)) }
+{
+    let moved = moved_pairs(by, keys)?;
+    Arg::lookup(by.moved(default), moved)
+}
+
 fn moved_arg(by: PlaceMap, arg: &Arg) -> Result<Arg, Memory>
     requires { LeadsNear (record { op = 0; wide = false; arg = arg.now }) }
     ensures { IfOk result (λ moved. moved ≡ moved_arg (moved_place by.at by.more) arg.now) }
@@ -57,11 +67,10 @@ fn moved_arg(by: PlaceMap, arg: &Arg) -> Result<Arg, Memory>
         Arg::To(target) => Ok(Arg::To(by.moved(*target))),
         Arg::Table(default, table) => {
             let (low, targets) = table.get();
-            Arg::table(by.moved(*default), *low, moved_targets(by, targets)?)
+            let moved = moved_targets(by, targets)?;
+            Arg::table(by.moved(*default), *low, moved)
         }
-        Arg::Lookup(default, keys) => {
-            Arg::lookup(by.moved(*default), moved_pairs(by, keys.get())?)
-        }
+        Arg::Lookup(default, keys) => moved_lookup(by, *default, keys.get()),
         other => other.copy(),
     }
 }
