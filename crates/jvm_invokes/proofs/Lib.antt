@@ -1,0 +1,4 @@
+pub mod Outcomes
+pub mod Begun
+pub mod Resolved
+mod Lawful

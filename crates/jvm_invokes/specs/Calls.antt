@@ -1,0 +1,30 @@
+-- The calls of methods that were found.
+use Rattle.std.specs.Prelude.{ℕ, List, ◌∷◌, drop}
+use Rattle.program_rules.specs.declared.fault.Fault.{Fault}
+use Rattle.program_rules.specs.Kinds.{Kind}
+use Rattle.program_rules.specs.Resolution.{MethodAt}
+use Rattle.machine_rules.specs.declared.machine.Limits.{Limits}
+use Rattle.machine_rules.specs.Effects.{on_args, throws}
+use Rattle.machine_rules.specs.Calls.{calls_method}
+use Rattle.class_link.specs.Info.{Info}
+use Rattle.class_table.specs.Table.{look}
+use Rattle.jvm_state.specs.Rows.{Row}
+use Rattle.jvm_frames.specs.Frames.{args_on}
+use Rattle.jvm_heap_rows.specs.Effects.{RowOf}
+use Rattle.jvm_calls.specs.declared.calling.Callee as calls
+use Rattle.jvm_calls.specs.Calls.{enters_from}
+
+-- A method with code is called with the uppermost values of the stack, so many.
+abbrev pub entering : List Info → Limits → ℕ → calls.Callee → Row
+entering p q count m = λ w f fs.
+    enters_from p q m w f fs (args_on count f.stack) (drop count f.stack)
+
+-- An exception is thrown in the frame without so many values.
+abbrev pub throws_cut : ℕ → Fault → Limits → Row
+throws_cut count fault q = λ w f fs.
+    throws q w (record f { stack = drop count f.stack } ∷ fs) fault
+
+-- A method is called with arguments of these kinds, if they stand on the stack.
+abbrev pub calls_args : List Info → List Kind → MethodAt → RowOf
+calls_args p kinds m = λ q room w f fs.
+    on_args kinds f.stack (λ args rest. calls_method (look p) q w f fs room args rest m)

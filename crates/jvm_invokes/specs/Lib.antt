@@ -1,0 +1,4 @@
+pub mod Invoked
+pub mod Calls
+pub mod Rows
+pub mod Laws

@@ -1,0 +1,13 @@
+//! The instructions that call a method (JVMS 6.5): what a reference resolves to, and the call.
+#![tactic(auto)]
+
+mod calling;
+mod invoked;
+pub mod laws;
+mod ready;
+mod resolving;
+
+pub use calling::{enter_code, throw_without};
+pub use invoked::Invoked;
+pub use ready::is_ready;
+pub use resolving::{resolve, throw};
