@@ -123,6 +123,11 @@ suite_of classes_folder tests_folder files =
     and_then (both_listed classes_folder tests_folder files) (λ paths.
     both_read paths.0 paths.1 files)
 
+-- The code reads the suite at these paths.
+abbrev pub ReadsBoth : Option Files → List (String Global) → List (String Global) → Result LoadedSuite Halt → Type 0
+ReadsBoth held classes tests result =
+    IfSome held (λ files. Reads (both_read (map string_bytes classes) (map string_bytes tests) files) result)
+
 -- The code loads the suite of the files that a tree tells.
 abbrev pub LoadsHeld : Option Files → List ℕ → List ℕ → Result LoadedSuite Halt → Type 0
 LoadsHeld held classes tests result =

@@ -3,7 +3,7 @@
 ghost use Rattle.std.specs.Prelude.{◌≡◌, ◌+◌, ◌≤◌, length, map, string_bytes, All, IfSome, IfOk, IfErr};
 ghost use Rattle.mutest_engine.specs.Refusals.{IsOfSuite};
 ghost use Rattle.mutest_engine.specs.Steps.{Gives, ReadsBy, ReadsHeld, IsNoFault, Refuses, RefusesReading, FailsReading};
-ghost use Rattle.mutest_engine.specs.SuiteFiles.{texts, both_texts, some_of, both_of, Lists, ListsBoth, is_class_path, class_paths, few_classes, within_sum, read_one, FilesHeld, bytes_in, loaded, all_loaded, both_loaded, LoadsHeld, IsSpelled, IsFormed};
+ghost use Rattle.mutest_engine.specs.SuiteFiles.{texts, both_texts, some_of, both_of, Lists, ListsBoth, is_class_path, class_paths, few_classes, within_sum, read_one, FilesHeld, bytes_in, loaded, all_loaded, both_loaded, ReadsBoth, LoadsHeld, IsSpelled, IsFormed};
 
 use crate::files::{not_found, read_file, spelled_class};
 use crate::refusal::{Limit, Refusal};
@@ -195,8 +195,8 @@ fn load(alloc: Global, file: ClassFile) -> Result<Loaded, Stop>
     ensures form { IfOk result (λ l. IsSpelled l.class) }
     ensures refusal { IfErr result (Refuses IsOfSuite) }
 {
-    let class = spelled_class(alloc, file.path.as_slice(), file.bytes.as_slice())?;
     let bytes = SharedBytes::new(alloc, file.bytes)?;
+    let class = spelled_class(alloc, file.path.as_slice(), bytes.as_slice())?;
     Ok(Loaded { bytes, class })
 }
 
@@ -228,8 +228,28 @@ fn load_both(
     Ok(LoadedSuite { classes, tests })
 }
 
+// The classes of the class files at these paths. All files are read before one is looked into.
+fn read_suite<T: Tree>(
+    alloc: Global,
+    tree: &mut T,
+    classes: &[String],
+    tests: &[String],
+) -> Result<LoadedSuite, Halt>
+    ensures value { ReadsBoth (T.holds tree.old) classes.now tests.now result }
+    ensures form { IfOk result IsFormed }
+    ensures refusal { IfErr result (RefusesReading IsOfSuite) }
+    ensures faults { IfErr result (FailsReading (T.reading tree.old) (T.reading tree.new)) }
+    ensures later { T.reading tree.old ≤ T.reading tree.new }
+    ensures held { T.holds tree.new ≡ T.holds tree.old }
+    ensures unwritten { T.writing tree.new ≡ T.writing tree.old }
+{
+    let mut sum = 0u64;
+    let classes = read_files(alloc, tree, &mut sum, classes)?;
+    let tests = read_files(alloc, tree, &mut sum, tests)?;
+    Ok(load_both(alloc, classes, tests)?)
+}
+
 /// The classes of a folder of classes and of one of tests.
-#[tactic(auto, using(crate::proofs::FaultLaws::fails_since))]
 pub fn load_suite<T: Tree>(
     alloc: Global,
     tree: &mut T,
@@ -244,9 +264,8 @@ pub fn load_suite<T: Tree>(
     ensures held { T.holds tree.new ≡ T.holds tree.old }
     ensures unwritten { T.writing tree.new ≡ T.writing tree.old }
 {
-    let (classes, tests) = list_both(alloc, tree, classes_folder, tests_folder)?;
-    let mut sum = 0u64;
-    let classes = read_files(alloc, tree, &mut sum, classes.as_slice())?;
-    let tests = read_files(alloc, tree, &mut sum, tests.as_slice())?;
-    Ok(load_both(alloc, classes, tests)?)
+    match list_both(alloc, tree, classes_folder, tests_folder) {
+        Ok(paths) => read_suite(alloc, tree, paths.0.as_slice(), paths.1.as_slice()),
+        Err(halt) => Err(halt),
+    }
 }
