@@ -5,7 +5,7 @@ use Rattle.codec_rules.specs.Reading.{with_values}
 use Rattle.class_link.specs.declared.loaded.Loaded.{Loaded}
 use Rattle.mt_edge.specs.Files.{Files}
 use Rattle.mutest_engine.specs.Steps.{and_then, RefusesReading}
-use Rattle.mutest_engine.specs.SuiteFiles.{both_listed, read_from, bytes_in, loaded, all_loaded, both_loaded, both_read, suite_of}
+use Rattle.mutest_engine.specs.SuiteFiles.{read_from, bytes_in, loaded, all_loaded, both_loaded, both_read}
 use Rattle.mutest_engine.specs.declared.suite.ClassFile.{ClassFile}
 use Rattle.mutest_engine.specs.declared.refusal.Refusal.{Refusal}
 use Rattle.mutest_engine.specs.declared.stop.Halt.{Halt}
@@ -44,24 +44,19 @@ loads_end front file files r total so_far h =
 
 -- ---- both folders
 
-second_held : (held : Option Files) (one other : List ℕ) (a b : List (List ℕ)) (first : List ClassFile) (sum : ℕ) (h : Halt) → IfSome held (λ files. both_listed one other files ≡ Ok (a, b)) → IfSome held (λ files. read_from 0 a files ≡ Ok first)
-    → sum ≡ bytes_in first → IfSome held (λ files. RefusesReading (λ r. read_from sum b files ≡ Err r) h) → IfSome held (λ files. RefusesReading (λ r. suite_of one other files ≡ Err r) h)
-second_held None one other a b first sum h listed read e refused = tt
-second_held (Some files) one other a b first sum h listed read e refused = λ r is.
-    ap (λ x. and_then x (λ paths. both_read paths.0 paths.1 files)) listed
-    ∙ ap (λ x. and_then x (λ fs. and_then (read_from (bytes_in fs) b files) (λ gs. both_loaded fs gs))) read
+-- The second of two steps refuses.
+second_held : (held : Option Files) (a b : List (List ℕ)) (first : List ClassFile) (sum : ℕ) (h : Halt) → IfSome held (λ files. read_from 0 a files ≡ Ok first) → sum ≡ bytes_in first
+    → IfSome held (λ files. RefusesReading (λ r. read_from sum b files ≡ Err r) h) → IfSome held (λ files. RefusesReading (λ r. both_read a b files ≡ Err r) h)
+second_held None a b first sum h read e refused = tt
+second_held (Some files) a b first sum h read e refused = λ r is.
+    ap (λ x. and_then x (λ fs. and_then (read_from (bytes_in fs) b files) (λ gs. both_loaded fs gs))) read
     ∙ ap (λ x. and_then x (λ gs. both_loaded first gs)) (ap (λ n. read_from n b files) (sym e) ∙ refused r is)
 
 none_before : (sum n : ℕ) → sum ≡ 0 + n → sum ≡ n
 none_before sum n e = omega (arith, e)
 
 -- A file of the second folder is refused.
-pub second_refused : (held held1 held2 : Option Files) (one other : List ℕ) (a b a' b' : List (List ℕ)) (first : List ClassFile) (sum : ℕ) (h : Halt) → held1 ≡ held → held2 ≡ held1 → a' ≡ a → b' ≡ b
-    → IfSome held (λ files. both_listed one other files ≡ Ok (a, b)) → IfSome held1 (λ files. read_from 0 a' files ≡ Ok first) → sum ≡ 0 + bytes_in first → IfSome held2 (λ files. RefusesReading (λ r. read_from sum b' files ≡ Err r) h)
-    → IfSome held (λ files. RefusesReading (λ r. suite_of one other files ≡ Err r) h)
-second_refused held held1 held2 one other a b a' b' first sum h same same' is_a is_b listed read e refused =
-    let read_a : IfSome held (λ files. read_from 0 a files ≡ Ok first) =
-    subst (λ (x : Option Files). IfSome x (λ files. read_from 0 a files ≡ Ok first)) same (subst (λ (ps : List (List ℕ)). IfSome held1 (λ files. read_from 0 ps files ≡ Ok first)) is_a read) in
-    let refused_b : IfSome held (λ files. RefusesReading (λ r. read_from sum b files ≡ Err r) h) =
-    subst (λ (x : Option Files). IfSome x (λ files. RefusesReading (λ r. read_from sum b files ≡ Err r) h)) (same' ∙ same) (subst (λ (ps : List (List ℕ)). IfSome held2 (λ files. RefusesReading (λ r. read_from sum ps files ≡ Err r) h)) is_b refused) in
-    second_held held one other a b first sum h listed read_a (none_before sum (bytes_in first) e) refused_b
+pub second_refused : (held left : Option Files) (a b : List (List ℕ)) (first : List ClassFile) (sum : ℕ) (h : Halt) → left ≡ held → IfSome held (λ files. read_from 0 a files ≡ Ok first) → sum ≡ 0 + bytes_in first
+    → IfSome left (λ files. RefusesReading (λ r. read_from sum b files ≡ Err r) h) → IfSome held (λ files. RefusesReading (λ r. both_read a b files ≡ Err r) h)
+second_refused held left a b first sum h same read e refused =
+    second_held held a b first sum h read (none_before sum (bytes_in first) e) (subst (λ (x : Option Files). IfSome x (λ files. RefusesReading (λ r. read_from sum b files ≡ Err r) h)) same refused)

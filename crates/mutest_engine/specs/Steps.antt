@@ -38,6 +38,10 @@ IsHaltOf s h =
     ((r : Refusal) → h ≡ halt.Refused r → s ≡ stop.Refused r)
     × ((faults : ℕ) → h ≡ halt.ReadFault faults → ⊥)
 
+-- No call of the tree is told to have failed.
+abbrev pub IsNoFault : Halt → Type 0
+IsNoFault h = (faults : ℕ) → h ≡ halt.ReadFault faults → ⊥
+
 abbrev pub RefusesReading : (Refusal → Type 0) → Halt → Type 0
 RefusesReading P h = (r : Refusal) → h ≡ halt.Refused r → P r
 

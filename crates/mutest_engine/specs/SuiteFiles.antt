@@ -19,10 +19,12 @@ use Rattle.mutest_engine.specs.declared.refusal.Limit.TheVariants as limit
 
 -- ---- paths
 
--- the paths below a folder, which holds some
+-- paths below a folder, of which there have to be some
+abbrev pub some_of : List ℕ → List (List ℕ) → Result (List (List ℕ)) Refusal
+some_of folder paths = if length paths == 0 then Err (NotFound folder) else Ok paths
+
 abbrev pub some_listed : List ℕ → Files → Result (List (List ℕ)) Refusal
-some_listed folder files =
-    if length (listed folder files) == 0 then Err (NotFound folder) else Ok (listed folder files)
+some_listed folder files = some_of folder (listed folder files)
 
 abbrev pub is_class_path : List ℕ → Bool
 is_class_path path = ends_in path (codes ".class")
@@ -34,13 +36,17 @@ class_paths paths = filter is_class_path paths
 abbrev pub few_classes : ℕ → Result (Unit {0}) Refusal
 few_classes count = if nat_lt 20000 count then Err (TooMany limit.Classes 20001) else Ok tt
 
+-- the class files among the paths of both folders
+abbrev pub both_of : List (List ℕ) → List (List ℕ) → Result (List (List ℕ) × List (List ℕ)) Refusal
+both_of classes tests =
+    and_then (few_classes (length (class_paths classes) + length (class_paths tests))) (λ few.
+    Ok (class_paths classes, class_paths tests))
+
 -- the class files of both folders, each folder's in the order of their paths
 abbrev pub both_listed : List ℕ → List ℕ → Files → Result (List (List ℕ) × List (List ℕ)) Refusal
 both_listed classes_folder tests_folder files =
     and_then (some_listed classes_folder files) (λ classes.
-    and_then (some_listed tests_folder files) (λ tests.
-    and_then (few_classes (length (class_paths classes) + length (class_paths tests))) (λ few.
-    Ok (class_paths classes, class_paths tests))))
+    and_then (some_listed tests_folder files) (both_of classes))
 
 -- the paths that the code has
 abbrev pub texts : Vec (String Global) → List (List ℕ)
@@ -52,10 +58,13 @@ Lists folder result files = ReadsBy texts (some_listed folder files) result
 abbrev pub Found : Type 0
 Found = Vec (String Global) × Vec (String Global)
 
+abbrev pub both_texts : Found → List (List ℕ) × List (List ℕ)
+both_texts paths = (texts paths.0, texts paths.1)
+
 abbrev pub ListsBoth : Option Files → List ℕ → List ℕ → Result Found Halt → Type 0
 ListsBoth held classes tests result =
     IfSome held (λ files.
-    ReadsBy (λ paths. (texts paths.0, texts paths.1)) (both_listed classes tests files) result)
+    ReadsBy both_texts (both_listed classes tests files) result)
 
 -- ---- files
 
@@ -113,6 +122,11 @@ abbrev pub suite_of : List ℕ → List ℕ → Files → Result LoadedSuite Ref
 suite_of classes_folder tests_folder files =
     and_then (both_listed classes_folder tests_folder files) (λ paths.
     both_read paths.0 paths.1 files)
+
+-- The code reads the suite at these paths.
+abbrev pub ReadsBoth : Option Files → List (String Global) → List (String Global) → Result LoadedSuite Halt → Type 0
+ReadsBoth held classes tests result =
+    IfSome held (λ files. Reads (both_read (map string_bytes classes) (map string_bytes tests) files) result)
 
 -- The code loads the suite of the files that a tree tells.
 abbrev pub LoadsHeld : Option Files → List ℕ → List ℕ → Result LoadedSuite Halt → Type 0

@@ -37,8 +37,10 @@ fn within_limit(bytes: Bytes) -> Result<Bytes, Refusal>
     ensures value { result ≡ within bytes }
     ensures refusal { IfErr result (λ r. (path : List ℕ) → IsUnheld path r) }
 {
-    few_bytes(bytes.len() as u64)?;
-    Ok(bytes)
+    match few_bytes(bytes.len() as u64) {
+        Ok(()) => Ok(bytes),
+        Err(refusal) => Err(refusal),
+    }
 }
 
 /// Nothing is held at a path, or below it.
@@ -69,8 +71,24 @@ fn check_length<T: Tree>(alloc: Global, tree: &mut T, path: &str) -> Result<(), 
     }
 }
 
+// The bytes of a file, which are refused past the limit.
+fn read_whole<T: Tree>(alloc: Global, tree: &mut T, path: &str) -> Result<Bytes, Halt>
+    ensures value { ReadsHeld (T.holds tree.old) (file_of path.now) result }
+    ensures refusal { IfErr result (RefusesReading (IsUnheld path.now)) }
+    ensures faults { IfErr result (FailsReading (T.reading tree.old) (T.reading tree.new)) }
+    ensures later { T.reading tree.old ≤ T.reading tree.new }
+    ensures held { T.holds tree.new ≡ T.holds tree.old }
+    ensures unwritten { T.writing tree.new ≡ T.writing tree.old }
+{
+    match tree.read(path) {
+        Ok(Some(bytes)) => Ok(within_limit(bytes)?),
+        Ok(None) => Err(not_found(alloc, path)),
+        Err(EdgeFault::Failed) => Err(Halt::ReadFault { faults: 1 }),
+        Err(EdgeFault::Memory) => Err(Halt::WantOfMemory),
+    }
+}
+
 /// The bytes of a file. Its length is asked first, so that none is read whole that is past the limit.
-#[tactic(auto, using(crate::proofs::FaultLaws::fails_since))]
 pub fn read_file<T: Tree>(alloc: Global, tree: &mut T, path: &str) -> Result<Bytes, Halt>
     ensures value { ReadsHeld (T.holds tree.old) (file_of path.now) result }
     ensures refusal { IfErr result (RefusesReading (IsUnheld path.now)) }
@@ -79,12 +97,9 @@ pub fn read_file<T: Tree>(alloc: Global, tree: &mut T, path: &str) -> Result<Byt
     ensures held { T.holds tree.new ≡ T.holds tree.old }
     ensures unwritten { T.writing tree.new ≡ T.writing tree.old }
 {
-    check_length(alloc, tree, path)?;
-    match tree.read(path) {
-        Ok(Some(bytes)) => Ok(within_limit(bytes)?),
-        Ok(None) => Err(not_found(alloc, path)),
-        Err(EdgeFault::Failed) => Err(Halt::ReadFault { faults: 1 }),
-        Err(EdgeFault::Memory) => Err(Halt::WantOfMemory),
+    match check_length(alloc, tree, path) {
+        Ok(()) => read_whole(alloc, tree, path),
+        Err(halt) => Err(halt),
     }
 }
 

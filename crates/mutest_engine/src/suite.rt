@@ -2,8 +2,8 @@
 
 ghost use Rattle.std.specs.Prelude.{◌≡◌, ◌+◌, ◌≤◌, length, map, string_bytes, All, IfSome, IfOk, IfErr};
 ghost use Rattle.mutest_engine.specs.Refusals.{IsOfSuite};
-ghost use Rattle.mutest_engine.specs.Steps.{Gives, ReadsHeld, Refuses, RefusesReading, FailsReading};
-ghost use Rattle.mutest_engine.specs.SuiteFiles.{Lists, ListsBoth, is_class_path, class_paths, few_classes, within_sum, read_one, FilesHeld, bytes_in, loaded, all_loaded, both_loaded, LoadsHeld, IsSpelled, IsFormed};
+ghost use Rattle.mutest_engine.specs.Steps.{Gives, ReadsBy, ReadsHeld, IsNoFault, Refuses, RefusesReading, FailsReading};
+ghost use Rattle.mutest_engine.specs.SuiteFiles.{texts, both_texts, some_of, both_of, Lists, ListsBoth, is_class_path, class_paths, few_classes, within_sum, read_one, FilesHeld, bytes_in, loaded, all_loaded, both_loaded, ReadsBoth, LoadsHeld, IsSpelled, IsFormed};
 
 use crate::files::{not_found, read_file, spelled_class};
 use crate::refusal::{Limit, Refusal};
@@ -33,6 +33,19 @@ pub struct LoadedSuite {
 
 // ---- paths
 
+// Paths below a folder, of which there have to be some.
+fn some_paths(alloc: Global, folder: &str, paths: Vec<String>) -> Result<Vec<String>, Halt>
+    ensures value { ReadsBy texts (some_of folder.now (texts paths)) result }
+    ensures refusal { IfErr result (RefusesReading IsOfSuite) }
+    ensures unread { IfErr result IsNoFault }
+{
+    if paths.is_empty() {
+        Err(not_found(alloc, folder))
+    } else {
+        Ok(paths)
+    }
+}
+
 // The paths below a folder, which holds some.
 fn list_folder<T: Tree>(alloc: Global, tree: &mut T, folder: &str) -> Result<Vec<String>, Halt>
     ensures value { IfSome (T.holds tree.old) (Lists folder.now result) }
@@ -43,12 +56,7 @@ fn list_folder<T: Tree>(alloc: Global, tree: &mut T, folder: &str) -> Result<Vec
     ensures unwritten { T.writing tree.new ≡ T.writing tree.old }
 {
     match tree.list(folder) {
-        Ok(paths) => {
-            if paths.is_empty() {
-                return Err(not_found(alloc, folder));
-            }
-            Ok(paths)
-        }
+        Ok(paths) => some_paths(alloc, folder, paths),
         Err(EdgeFault::Failed) => Err(Halt::ReadFault { faults: 1 }),
         Err(EdgeFault::Memory) => Err(Halt::WantOfMemory),
     }
@@ -81,8 +89,21 @@ fn few_classes(count: usize) -> Result<(), Refusal>
     Ok(())
 }
 
+// The class files among the paths of both folders.
+fn both_paths(classes: Vec<String>, tests: Vec<String>) -> Result<(Vec<String>, Vec<String>), Halt>
+    ensures value { ReadsBy both_texts (both_of (texts classes) (texts tests)) result }
+    ensures refusal { IfErr result (RefusesReading IsOfSuite) }
+    ensures unread { IfErr result IsNoFault }
+{
+    let classes = class_paths(classes);
+    let tests = class_paths(tests);
+    match few_classes(classes.len().saturating_add(tests.len())) {
+        Ok(()) => Ok((classes, tests)),
+        Err(refusal) => Err(Halt::Refused(refusal)),
+    }
+}
+
 // The class files of both folders.
-#[tactic(auto, using(crate::proofs::FaultLaws::fails_since))]
 fn list_both<T: Tree>(
     alloc: Global,
     tree: &mut T,
@@ -98,10 +119,7 @@ fn list_both<T: Tree>(
 {
     let classes = list_folder(alloc, tree, classes_folder)?;
     let tests = list_folder(alloc, tree, tests_folder)?;
-    let classes = class_paths(classes);
-    let tests = class_paths(tests);
-    few_classes(classes.len().saturating_add(tests.len()))?;
-    Ok((classes, tests))
+    both_paths(classes, tests)
 }
 
 // ---- files
@@ -177,8 +195,8 @@ fn load(alloc: Global, file: ClassFile) -> Result<Loaded, Stop>
     ensures form { IfOk result (λ l. IsSpelled l.class) }
     ensures refusal { IfErr result (Refuses IsOfSuite) }
 {
-    let class = spelled_class(alloc, file.path.as_slice(), file.bytes.as_slice())?;
     let bytes = SharedBytes::new(alloc, file.bytes)?;
+    let class = spelled_class(alloc, file.path.as_slice(), bytes.as_slice())?;
     Ok(Loaded { bytes, class })
 }
 
@@ -210,8 +228,28 @@ fn load_both(
     Ok(LoadedSuite { classes, tests })
 }
 
+// The classes of the class files at these paths. All files are read before one is looked into.
+fn read_suite<T: Tree>(
+    alloc: Global,
+    tree: &mut T,
+    classes: &[String],
+    tests: &[String],
+) -> Result<LoadedSuite, Halt>
+    ensures value { ReadsBoth (T.holds tree.old) classes.now tests.now result }
+    ensures form { IfOk result IsFormed }
+    ensures refusal { IfErr result (RefusesReading IsOfSuite) }
+    ensures faults { IfErr result (FailsReading (T.reading tree.old) (T.reading tree.new)) }
+    ensures later { T.reading tree.old ≤ T.reading tree.new }
+    ensures held { T.holds tree.new ≡ T.holds tree.old }
+    ensures unwritten { T.writing tree.new ≡ T.writing tree.old }
+{
+    let mut sum = 0u64;
+    let classes = read_files(alloc, tree, &mut sum, classes)?;
+    let tests = read_files(alloc, tree, &mut sum, tests)?;
+    Ok(load_both(alloc, classes, tests)?)
+}
+
 /// The classes of a folder of classes and of one of tests.
-#[tactic(auto, using(crate::proofs::FaultLaws::fails_since))]
 pub fn load_suite<T: Tree>(
     alloc: Global,
     tree: &mut T,
@@ -226,9 +264,8 @@ pub fn load_suite<T: Tree>(
     ensures held { T.holds tree.new ≡ T.holds tree.old }
     ensures unwritten { T.writing tree.new ≡ T.writing tree.old }
 {
-    let (classes, tests) = list_both(alloc, tree, classes_folder, tests_folder)?;
-    let mut sum = 0u64;
-    let classes = read_files(alloc, tree, &mut sum, classes.as_slice())?;
-    let tests = read_files(alloc, tree, &mut sum, tests.as_slice())?;
-    Ok(load_both(alloc, classes, tests)?)
+    match list_both(alloc, tree, classes_folder, tests_folder) {
+        Ok(paths) => read_suite(alloc, tree, paths.0.as_slice(), paths.1.as_slice()),
+        Err(halt) => Err(halt),
+    }
 }

@@ -21,4 +21,4 @@ is_loaded file path bytes shared class is_path is_bytes is_shared spelled =
 
 pub returns-clause-value : goal.returns-clause-value
 returns-clause-value c =
-    is_loaded c.args.file c.as_slice.result.now c.as_slice-2.result.now c.in_ok-bytes.bytes c.in_ok-class.class c.as_slice.ensures c.as_slice-2.ensures c.in_ok-bytes.ensures c.in_ok-class.ensures.value
+    is_loaded c.args.file c.as_slice.result.now c.as_slice-2.result.now c.in_ok-bytes.bytes c.in_ok-class.class c.as_slice.ensures (c.as_slice-2.ensures ∙ c.in_ok-bytes.ensures) c.in_ok-bytes.ensures c.in_ok-class.ensures.value

@@ -1,0 +1,17 @@
+use Rattle.std.proofs.Common.{map}
+use Rattle.std.specs.Prelude.{string_bytes}
+use Rattle.std.proofs.lemmas.Result.{err_from_is_err_and}
+use Rattle.mutest_engine.proofs.FaultLaws.{fails_since}
+use Rattle.mutest_engine.proofs.SuiteLaws.{second_refused}
+use Rattle.mutest_engine.proofs.suite.read_suite.Goals as goal
+
+pub returns-in_err-tests-clause-value : goal.returns-in_err-tests-clause-value
+returns-in_err-tests-clause-value g c =
+    let p = err_from_is_err_and c.from_residual-in_err-tests.result c.from_residual-in_err-tests.ensures.1 in
+    let held = g.T.Tree.holds in
+    rw (p.1, p.2) (second_refused (held c.args.tree.now) (held c.read_files.new.tree) (map string_bytes c.args.classes.now) (map string_bytes c.args.tests.now) c.in_ok-classes.classes c.read_files.new.sum c.in_err-tests.field-0.0 c.in_ok-classes.ensures.held c.in_ok-classes.ensures.value c.in_ok-classes.ensures.sum c.in_err-tests.ensures.value)
+
+pub returns-in_err-tests-clause-faults : goal.returns-in_err-tests-clause-faults
+returns-in_err-tests-clause-faults g c =
+    let p = err_from_is_err_and c.from_residual-in_err-tests.result c.from_residual-in_err-tests.ensures.1 in
+    rw (p.1, p.2) (fails_since (g.T.Tree.reading c.args.tree.now) (g.T.Tree.reading c.read_files.new.tree) (g.T.Tree.reading c.read_files-2.new.tree) c.in_err-tests.field-0.0 c.in_ok-classes.ensures.later c.in_err-tests.ensures.faults)
