@@ -1,5 +1,5 @@
 -- A class that has begun is ready.
-use Rattle.std.proofs.Common.{◌≡◌, ◌∙◌, sym, refl, ap, ℕ, zero, suc, Bool, true, false, List, [], ◌∷◌, ◌++◌, Option, None, Some}
+use Rattle.std.proofs.Common.{◌≡◌, ◌∙◌, refl, ap, ℕ, zero, suc, Bool, true, false, List, [], ◌∷◌, ◌++◌, Some}
 use Rattle.std.specs.Prelude.{if◌then◌else◌, ◌||◌, ◌&&◌}
 use Rattle.std.specs.List.{list_any, filter}
 use Rattle.program_rules.specs.Names.{Name}
@@ -8,7 +8,7 @@ use Rattle.program_rules.specs.Programs.{Look, Node, Rising, Beginning, node, no
 use Rattle.machine_rules.specs.declared.machine.InitState.{InitState}
 use Rattle.machine_rules.specs.declared.machine.InitState.TheVariants.{Fresh, Running, Done, Failed}
 use Rattle.machine_rules.specs.State as def
-use Rattle.machine_rules.specs.Initialisation.{Need, Ready, init_in, state_of, is_begun, is_begun_class, behind_begun, need_with, first_need, first_of, is_initialised_before, need_of}
+use Rattle.machine_rules.specs.Initialisation.{Need, Ready, init_in, is_begun, is_begun_class, behind_begun, need_with, first_need, first_of, is_initialised_before, need_of}
 use Rattle.class_link.specs.declared.linked.LinkedClass.{LinkedClass}
 use Rattle.class_link.specs.View.{linked_of}
 use Rattle.class_link.specs.Info.{Info}

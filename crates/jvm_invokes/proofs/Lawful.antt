@@ -1,20 +1,13 @@
 -- What is left of a call, once its method is one with code.
-use Rattle.std.proofs.Common.{◌≡◌, ◌∙◌, ap, ℕ, List, ◌∷◌}
-use Rattle.program_rules.specs.declared.value.Value.{Value}
-use Rattle.program_rules.specs.Instructions.{MethodRef}
+use Rattle.std.proofs.Common.{◌≡◌, ◌∙◌, ap, ℕ, ◌∷◌}
 use Rattle.program_rules.specs.Outlines.{Callable}
 use Rattle.program_rules.specs.Names.{Name}
-use Rattle.program_rules.specs.Programs.{Family}
-use Rattle.program_rules.specs.Resolution.{MethodAt}
-use Rattle.machine_rules.specs.declared.machine.Limits.{Limits}
 use Rattle.machine_rules.specs.State as def
-use Rattle.machine_rules.specs.Effects.{Effect, enters, on_args}
+use Rattle.machine_rules.specs.Effects.{enters, on_args}
 use Rattle.machine_rules.specs.Calls.{calls}
-use Rattle.class_link.specs.Info.{Info}
 use Rattle.class_table.specs.Table.{look, name_at}
-use Rattle.jvm_calls.specs.declared.calling.Callee.{Callee}
 use Rattle.jvm_calls.specs.Calls.{enters_from}
-use Rattle.jvm_invokes.specs.Laws.{IsCalleeOf, CalleesAreCalled, StaticsAreCalled}
+use Rattle.jvm_invokes.specs.Laws.{CalleesAreCalled, StaticsAreCalled}
 
 pub callees_are_called : CalleesAreCalled
 callees_are_called p q room m c w f fs args rest is =

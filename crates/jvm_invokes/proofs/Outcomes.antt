@@ -1,5 +1,5 @@
 -- What rows that call a method come to.
-use Rattle.std.proofs.Common.{◌≡◌, ◌∙◌, sym, refl, subst, Option, None, Some, IfSome, List}
+use Rattle.std.proofs.Common.{◌≡◌, ◌∙◌, sym, subst, IfSome, List}
 use Rattle.program_rules.specs.Instructions.{MethodRef}
 use Rattle.machine_rules.specs.declared.machine.Limits.{Limits}
 use Rattle.machine_rules.specs.State as def
@@ -10,7 +10,7 @@ use Rattle.jvm_frames.specs.Frames.{NumberedFrame, NumberedFrames}
 use Rattle.jvm_world.specs.declared.world.World.{World}
 use Rattle.jvm_world.specs.View.{Means}
 use Rattle.jvm_heap_rows.specs.Effects.{RowOf}
-use Rattle.jvm_heap_rows.proofs.Ends.{if_both, each}
+use Rattle.jvm_heap_rows.proofs.Ends.{if_both}
 use Rattle.jvm_unwind.specs.declared.turn.Turn.{Turn}
 use Rattle.jvm_unwind.specs.declared.turn.Turn.TheVariants as turn
 use Rattle.jvm_unwind.specs.Turns.{row_at, TurnsTo, Turns}

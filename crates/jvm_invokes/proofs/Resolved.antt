@@ -7,14 +7,14 @@ use Rattle.program_rules.specs.Faults.{Answer, Found, Fails}
 use Rattle.program_rules.specs.Instructions.{MethodRef}
 use Rattle.program_rules.specs.Names.{Name, class_behind}
 use Rattle.program_rules.specs.Outlines.{is_present}
-use Rattle.program_rules.specs.Programs.{Look, family}
+use Rattle.program_rules.specs.Programs.{family}
 use Rattle.program_rules.specs.Resolution.{MethodAt, resolve_method}
 use Rattle.machine_rules.specs.declared.machine.Limits.{Limits}
 use Rattle.machine_rules.specs.State as def
 use Rattle.machine_rules.specs.Effects.{Effect, on_found, throws}
 use Rattle.machine_rules.specs.Lookups.{consult}
 use Rattle.class_link.specs.Info.{Info}
-use Rattle.class_table.specs.Seen.{Seen, IsConsultedOf}
+use Rattle.class_table.specs.Seen.{Seen}
 use Rattle.class_table.specs.Table.{look}
 use Rattle.jvm_frames.specs.Frames.{NumberedFrame, NumberedFrames}
 use Rattle.jvm_world.specs.declared.world.World.{World}
@@ -24,10 +24,10 @@ use Rattle.jvm_heap_rows.specs.Rows.{throwing}
 use Rattle.jvm_heap_rows.proofs.Ends.{each}
 use Rattle.jvm_unwind.specs.declared.turn.Turn.{Turn}
 use Rattle.jvm_unwind.specs.declared.turn.Turn.TheVariants as turn
-use Rattle.jvm_unwind.specs.Turns.{frame_of, frames_of, row_at}
+use Rattle.jvm_unwind.specs.Turns.{frame_of, row_at}
 use Rattle.jvm_link.specs.Named.{Consults, method_named}
 use Rattle.jvm_invokes.specs.declared.invoked.Invoked.TheVariants as invoked
-use Rattle.jvm_invokes.specs.Invoked.{Leaves, InvokedTo, Invokes}
+use Rattle.jvm_invokes.specs.Invoked.{Leaves, Invokes}
 use Rattle.jvm_invokes.specs.Rows.{naming}
 use Rattle.jvm_invokes.proofs.Outcomes.{LeftTo}
 

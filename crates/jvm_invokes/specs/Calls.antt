@@ -1,7 +1,8 @@
 -- The calls of methods that were found.
-use Rattle.std.specs.Prelude.{ℕ, List, ◌∷◌, drop}
+use Rattle.std.specs.Prelude.{◌<◌, ℕ, ⊤, List, ◌∷◌, drop, length}
 use Rattle.program_rules.specs.declared.fault.Fault.{Fault}
 use Rattle.program_rules.specs.Kinds.{Kind}
+use Rattle.program_rules.specs.Linked.{LinkedMethod}
 use Rattle.program_rules.specs.Resolution.{MethodAt}
 use Rattle.machine_rules.specs.declared.machine.Limits.{Limits}
 use Rattle.machine_rules.specs.Effects.{on_args, throws}
@@ -13,6 +14,21 @@ use Rattle.jvm_frames.specs.Frames.{args_on}
 use Rattle.jvm_heap_rows.specs.Effects.{RowOf}
 use Rattle.jvm_calls.specs.declared.calling.Callee as calls
 use Rattle.jvm_calls.specs.Calls.{enters_from}
+use Rattle.jvm_link.specs.declared.site.Site.{Site}
+use Rattle.jvm_link.specs.declared.site.Callee.{Callee}
+use Rattle.jvm_link.specs.declared.site.Callee.TheVariants as callee
+use Rattle.jvm_invokes.specs.Heads.{StandsAt}
+
+-- A method of the program stands here.
+pub record IsSite (p : List Info) (s : Site) : Type 0 where
+  pub class : s.class.0 < length p
+  pub method : LinkedMethod
+  pub there : StandsAt p s method
+
+-- What was found is a method of the program, or an array's `clone`.
+abbrev pub IsThere : List Info → Callee → Type 0
+IsThere p (callee.Method s) = IsSite p s
+IsThere p callee.ArrayClone = ⊤
 
 -- A method with code is called with the uppermost values of the stack, so many.
 abbrev pub entering : List Info → Limits → ℕ → calls.Callee → Row

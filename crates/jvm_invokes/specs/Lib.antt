@@ -1,3 +1,4 @@
+pub mod Heads
 pub mod Invoked
 pub mod Calls
 pub mod Rows

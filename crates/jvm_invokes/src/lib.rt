@@ -2,12 +2,15 @@
 #![tactic(auto)]
 
 mod calling;
+mod heads;
 mod invoked;
 pub mod laws;
 mod ready;
 mod resolving;
+mod statics;
 
-pub use calling::{enter_code, throw_without};
+pub use calling::{call_found, enter_code, throw_without};
 pub use invoked::Invoked;
 pub use ready::is_ready;
 pub use resolving::{resolve, throw};
+pub use statics::invoke_static;

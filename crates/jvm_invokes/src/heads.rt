@@ -1,0 +1,111 @@
+//! What a call asks of the method that it runs, by the class and the place of the method.
+
+ghost use Rattle.std.specs.Prelude.{◌≡◌, ◌<◌, ◌^◌, List, length, slice_get, Some};
+ghost use Rattle.std.specs.Option.{option_map};
+ghost use Rattle.program_rules.specs.Linked.{LinkedMethod as Method, is_static, is_abstract};
+ghost use Rattle.class_link.specs.declared.linked.Entry.{Entry};
+ghost use Rattle.class_link.specs.View.{method_of};
+ghost use Rattle.jvm_invokes.specs.Heads.{IsHead, IsBody, StandsAt};
+
+use class_link::{LinkedBody, LinkedMethod};
+use class_table::Program;
+use jvm_link::Site;
+
+/// What a call of a method runs.
+#[derive(Clone, Copy)]
+pub enum Body {
+    /// Code that takes so many locals, and so many words of a stack.
+    Code(u16, u16),
+    /// A native meaning.
+    Native,
+    /// Nothing: the method is abstract.
+    Empty,
+}
+
+/// What a call asks of a method.
+#[derive(Clone, Copy)]
+pub struct Head {
+    /// Its place among the methods of its class.
+    pub number: u32,
+    pub flags: u16,
+    pub body: Body,
+}
+
+/// Bit 3 is ACC_STATIC (JVMS 4.6).
+pub fn is_static(flags: u16) -> bool
+    ensures { result ≡ is_static flags }
+{
+    flags / 8 % 2 == 1
+}
+
+// Bit 10 is ACC_ABSTRACT (JVMS 4.6).
+fn is_abstract(flags: u16) -> bool
+    ensures { result ≡ is_abstract flags }
+{
+    flags / 1024 % 2 == 1
+}
+
+// What a call of a method runs. A method with ACC_ABSTRACT is abstract, whatever its body is.
+#[tactic(auto, using(crate::proofs::Bodies::is_empty, crate::proofs::Bodies::has_body))]
+fn body_of(method: &LinkedMethod) -> Body
+    ensures { (es : List Entry) → IsBody (method_of es method.now) result }
+{
+    if is_abstract(method.flags) {
+        return Body::Empty;
+    }
+    match &method.body {
+        LinkedBody::Code(code) => Body::Code(code.max_locals, code.max_stack),
+        LinkedBody::Native(_) => Body::Native,
+        LinkedBody::Absent => Body::Empty,
+    }
+}
+
+// The number of a place.
+fn number_of(place: usize) -> u32
+    ensures { place < 2 ^ 32 → result ≡ place }
+{
+    if place <= u32::MAX as usize {
+        return place as u32;
+    }
+    0
+}
+
+#[tactic(auto, using(crate::proofs::Bodies::body_some, crate::proofs::Bodies::body_none))]
+fn body_in(methods: &[LinkedMethod], place: usize) -> Body
+    ensures { (es : List Entry) (m : Method) →
+        option_map (method_of es) (slice_get methods.now place) ≡ Some m → IsBody m result }
+{
+    match methods.get(place) {
+        Some(method) => body_of(method),
+        None => Body::Empty,
+    }
+}
+
+fn flags_in(methods: &[LinkedMethod], place: usize) -> u16
+    ensures { (es : List Entry) (m : Method) →
+        option_map (method_of es) (slice_get methods.now place) ≡ Some m → result ≡ m.flags }
+{
+    match methods.get(place) {
+        Some(method) => method.flags,
+        None => 0,
+    }
+}
+
+/// What a call asks of the method that stands here.
+#[tactic(auto, using(crate::proofs::Bodies::head_is))]
+pub fn head_at(p: &Program, site: Site) -> Head
+    requires { site.class.0 < length p.now }
+    ensures { (m : Method) → StandsAt p.now site m → IsHead site m result }
+{
+    let info = p.info(site.class);
+    let linked = info.linked();
+    let methods = linked.methods.as_slice();
+    let flags = flags_in(methods, site.place);
+    let body = body_in(methods, site.place);
+    let number = number_of(site.place);
+    Head {
+        number,
+        flags,
+        body,
+    }
+}
