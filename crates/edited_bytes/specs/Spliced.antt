@@ -8,6 +8,7 @@ use Rattle.class_model.specs.declared.edit.Edit.{Edit}
 use Rattle.class_model.specs.declared.fault.Bound.TheVariants as bound
 use Rattle.class_model.specs.declared.fault.LayoutFault.{LayoutFault}
 use Rattle.class_model.specs.declared.fault.LayoutFault.TheVariants as layout_fault
+use Rattle.codec_rules.specs.Meets.{Gives}
 use Rattle.codec_rules.specs.Sequence.{◌>>=◌}
 use Rattle.mt_pool.specs.Whole.{layout as pool_layout}
 use Rattle.mt_attrs.specs.Layout.{attrs_layout}
@@ -15,6 +16,10 @@ use Rattle.class_writer.specs.Writing.{layout}
 use Rattle.mutant_apply.specs.Edited.{with_code, class_with, edited_parts}
 use Rattle.mutant_apply.specs.declared.parts.Parts.{Parts}
 use Rattle.edited_bytes.specs.declared.places.Place.{Place}
+
+-- The call gave these bytes, or told the bound that is passed first.
+abbrev pub GivesBytes : Result (List ℕ) LayoutFault → Result (List ℕ) LayoutFault → Type 0
+GivesBytes meant result = Gives layout_fault.Memory (λ bytes. bytes) meant result
 
 -- The bytes from one place up to another.
 abbrev pub between : ℕ → ℕ → List ℕ → List ℕ

@@ -10,7 +10,7 @@ ghost use Rattle.class_writer.specs.Writing.{HasClassForm, layout};
 ghost use Rattle.mutant_apply.specs.Edited.{with_code, class_with};
 ghost use Rattle.mutant_apply.specs.Fitting.{Fits};
 ghost use Rattle.edited_bytes.specs.Places.{places_of};
-ghost use Rattle.edited_bytes.specs.Spliced.{spliced, AreOrdered, pool_count, spliced_layout, parts_and_bytes};
+ghost use Rattle.edited_bytes.specs.Spliced.{GivesBytes, spliced, AreOrdered, pool_count, spliced_layout, parts_and_bytes};
 
 use crate::places::{Place, Places};
 use class_model::{Attr, Bound, Bytes, Class, Code, Const, Edit, LayoutFault, Member, Memory, Seq};
@@ -35,7 +35,7 @@ fn pool_count(old: usize, added: usize) -> Result<u16, LayoutFault>
 
 // The bytes of entries, behind their count.
 fn entry_bytes(alloc: Global, entries: &Seq<Const>) -> Result<Bytes, LayoutFault>
-    ensures { Gives layout_fault.Memory (λ bytes. bytes) (pool_layout entries.now) result }
+    ensures { GivesBytes (pool_layout entries.now) result }
 {
     let mut out = Bytes::new(alloc);
     write_pool(entries, &mut out)?;
@@ -45,7 +45,7 @@ fn entry_bytes(alloc: Global, entries: &Seq<Const>) -> Result<Bytes, LayoutFault
 // The bytes of the attributes of a method, with another code in the place of the first one.
 fn attrs_with(alloc: Global, code: &Code, attrs: &Seq<Attr>) -> Result<Bytes, LayoutFault>
     requires { All HasAttrForm (with_code code.now attrs.now) }
-    ensures { Gives layout_fault.Memory (λ bytes. bytes) (attrs_layout (with_code code.now attrs.now)) result }
+    ensures { GivesBytes (attrs_layout (with_code code.now attrs.now)) result }
 {
     let edited = with_code(code, attrs)?;
     let mut out = Bytes::new(alloc);
@@ -89,7 +89,7 @@ fn splice_parts(
 ) -> Result<Bytes, LayoutFault>
     requires places { AreOrdered pool_end place bytes.now }
     requires form { All HasAttrForm (with_code parts.now.code member.now.attrs) }
-    ensures { Gives layout_fault.Memory (λ bytes. bytes) (spliced_layout pool_end place bytes.now pool.now parts.now member.now) result }
+    ensures { GivesBytes (spliced_layout pool_end place bytes.now pool.now parts.now member.now) result }
 {
     let count = pool_count(pool.len(), parts.added.len())?;
     let added = entry_bytes(alloc, &parts.added)?;
@@ -121,7 +121,7 @@ fn edited_method(
     requires places { places.now ≡ places_of class.now }
     requires method { slice_get class.now.methods edit.now.method ≡ Some member.now }
     requires form { HasClassForm (class_with edit.now class.now parts.now) }
-    ensures { Gives layout_fault.Memory (λ bytes. bytes) (layout (class_with edit.now class.now parts.now)) result }
+    ensures { GivesBytes (layout (class_with edit.now class.now parts.now)) result }
 {
     let Some(place) = places.methods.get(edit.method as usize) else {
         return Err(LayoutFault::Memory);
@@ -150,7 +150,7 @@ pub fn edited_bytes(
     requires bytes { layout class.now ≡ Ok bytes.now }
     requires places { places.now ≡ places_of class.now }
     requires form { HasClassForm (class_with edit.now class.now parts.now) }
-    ensures { Gives layout_fault.Memory (λ bytes. bytes) (layout (class_with edit.now class.now parts.now)) result }
+    ensures { GivesBytes (layout (class_with edit.now class.now parts.now)) result }
 {
     let Some(member) = class.methods.get(edit.method as usize) else {
         return Err(LayoutFault::Memory);
