@@ -23,10 +23,15 @@ front_kept [] ys k x e = absurd cc
 front_kept (y ∷ xs) ys zero x e = e
 front_kept (y ∷ xs) ys (suc k) x e = front_kept xs ys k x e
 
-front_same : {A : Type 0} (xs ys : List A) (k : ℕ) → k < length xs → slice_get (xs ++ ys) k ≡ slice_get xs k
+pub front_same : {A : Type 0} (xs ys : List A) (k : ℕ) → k < length xs → slice_get (xs ++ ys) k ≡ slice_get xs k
 front_same [] ys k lt = absurd (omega (arith, lt))
 front_same (y ∷ xs) ys zero lt = refl
 front_same (y ∷ xs) ys (suc k) lt = front_same xs ys k (omega (arith, lt))
+
+pub behind_same : {A : Type 0} (xs ys : List A) (k : ℕ) → length xs ≤ k → slice_get (xs ++ ys) k ≡ slice_get ys (k - length xs)
+behind_same [] ys k le = ap (slice_get ys) (let e : k ≡ k - 0 = omega arith in e)
+behind_same (x ∷ xs) ys zero le = absurd (omega (arith, le))
+behind_same (x ∷ xs) ys (suc k) le = behind_same xs ys k (omega (arith, le)) ∙ ap (slice_get ys) (let e : k - length xs ≡ suc k - suc (length xs) = omega arith in e)
 
 some_of : {A : Type 0} (P : A → Type 0) (o : Option A) → IsSomeAnd o P → IsSome o
 some_of P None h = absurd h

@@ -1,21 +1,35 @@
--- A class file that is another one but for the attributes of one method means the other's class but for the body of that method.
-use Rattle.std.proofs.Common.{◌≡◌, ◌∙◌, sym, refl, ap, ℕ, zero, suc, List, [], ◌∷◌, map, length, Option, None, Some, slice_get, subst}
-use Rattle.std.specs.Prelude.{slice_set, MatchOption}
+-- A class file that an edit makes of another one means the other's class but for the body of the edited method.
+use Rattle.std.proofs.Common.{◌≡◌, ◌∙◌, sym, refl, ap, ℕ, zero, suc, ◌<◌, ◌^◌, Bool, true, false, List, [], ◌∷◌, ◌++◌, map, length, Option, None, Some, slice_get, subst, arith}
+use Rattle.std.specs.Prelude.{slice_set, nat_lt, ◌&&◌}
+use Rattle.std.specs.List.{list_all}
+use Rattle.std.proofs.lemmas.Bool.{ltb-true}
+use Rattle.std.proofs.lemmas.List.{append-nil, map-append, length-map}
 use Rattle.class_model.specs.declared.attribute.Attr.{Attr}
 use Rattle.class_model.specs.declared.class.Class.{Class}
 use Rattle.class_model.specs.declared.class.Member.{Member}
 use Rattle.class_model.specs.declared.constant.Const.{Const}
-use Rattle.program_rules.specs.Linked.{Linked, LinkedMethod, LinkedBody}
+use Rattle.program_rules.specs.Instructions as def
+use Rattle.program_rules.specs.Linked.{Linked, LinkedMethod, LinkedBody, HasCode}
+use Rattle.class_link.specs.declared.instruction.Instruction.{Instruction}
+use Rattle.class_link.specs.declared.instruction.Instruction.TheVariants as ins
 use Rattle.class_link.specs.declared.linked.Entry.{Entry}
 use Rattle.class_link.specs.declared.linked.LinkedClass as code
+use Rattle.class_link.specs.declared.linked.LinkedBody as code_body
+use Rattle.class_link.specs.declared.linked.LinkedBody.TheVariants as code_bodies
 use Rattle.class_link.specs.declared.linked.LinkedMethod as code_method
+use Rattle.class_link.specs.declared.linked.Switch.{Switch}
 use Rattle.class_link.specs.declared.loaded.ClassBody.{ClassBody}
 use Rattle.class_link.specs.declared.loaded.ClassBody.TheVariants as body
-use Rattle.class_link.specs.Edits.{with_attrs_at, with_attrs, IsEditOf, IsEditOfBody, head_of, HaveSameHeads, with_body_at, methods_edited}
-use Rattle.class_link.specs.Info.{Info, IsInfo, HasEntries, own_name, body_name, link_body}
-use Rattle.class_link.specs.Linking.{link, body_of, first_of, code_within, method_in}
+use Rattle.class_link.specs.declared.loaded.EditedFile.{EditedFile}
+use Rattle.class_link.specs.Edits.{with_attrs_at, with_attrs, class_added, class_edited, AddsAlone, body_by, with_body_at, KeepMethods, IsEdited}
+use Rattle.class_link.specs.Indices.{is_within, is_body_within, is_method_within}
+use Rattle.class_link.specs.Info.{Info, IsInfo, HasEntries, body_name, link_body}
+use Rattle.class_link.specs.Linking.{link, method_in}
+use Rattle.class_link.specs.Opcodes.{on_text, on_class, on_field, on_method}
 use Rattle.class_link.specs.Switches.{AreEntries}
-use Rattle.class_link.specs.View.{method_of, linked_of}
+use Rattle.class_link.specs.Symbols.{IsOther, symbol_in}
+use Rattle.class_link.specs.View.{symbol_of, entry_symbol, meaning_at, instruction_of, method_of, body_of, code_of, linked_of}
+use Rattle.class_link.proofs.AppendedLaws.{front_same}
 
 -- ---- linked methods
 
@@ -36,75 +50,133 @@ put_length k [] x = refl
 put_length zero (y ∷ xs) x = refl
 put_length (suc k) (y ∷ xs) x = ap suc (put_length k xs x)
 
-pub heads_put : (k : ℕ) (ms : List code_method.LinkedMethod) (old new : code_method.LinkedMethod) → slice_get ms k ≡ Some old → head_of new ≡ head_of old → HaveSameHeads ms (slice_set ms k new)
-heads_put k [] old new at is = refl
-heads_put zero (m ∷ ms) old new at is =
-    let same : m ≡ old = cc in
-    ap (λ x. x ∷ map head_of ms) (is ∙ ap head_of (sym same))
-heads_put (suc k) (m ∷ ms) old new at is = ap (λ rest. head_of m ∷ rest) (heads_put k ms old new at is)
+-- ---- attributes of a method
+
+pub attrs_past_the_end : (k : ℕ) (attrs : List Attr) (ms : List Member) → slice_get ms k ≡ None → ms ≡ with_attrs_at k attrs ms
+attrs_past_the_end k attrs [] h = refl
+attrs_past_the_end zero attrs (m ∷ ms) h = absurd cc
+attrs_past_the_end (suc k) attrs (m ∷ ms) h = ap (λ rest. m ∷ rest) (attrs_past_the_end k attrs ms h)
+
+pub attrs_put : (k : ℕ) (attrs : List Attr) (ms : List Member) (m : Member) → slice_get ms k ≡ Some m → slice_set ms k (record m { attrs = attrs }) ≡ with_attrs_at k attrs ms
+attrs_put k attrs [] m at = absurd cc
+attrs_put zero attrs (x ∷ ms) m at =
+    let same : x ≡ m = cc in
+    ap (λ (y : Member). record y { attrs = attrs } ∷ ms) (sym same)
+attrs_put (suc k) attrs (x ∷ ms) m at = ap (λ rest. x ∷ rest) (attrs_put k attrs ms m at)
+
+-- ---- entries behind others
+
+and_true : (a b : Bool) → (a && b) ≡ true → (a ≡ true) × (b ≡ true)
+and_true true b e = (refl, e)
+and_true false b e = absurd cc
+
+module _ (es more : List Entry) where
+  meaning_front : (k : ℕ) → nat_lt k (length es) ≡ true → meaning_at (es ++ more) k ≡ meaning_at es k
+  meaning_front k lt = ap entry_symbol (front_same es more k (ltb-true k (length es) lt))
+
+  instruction_front : (ss : List Switch) (i : Instruction) → is_within (length es) i ≡ true → instruction_of (es ++ more) ss i ≡ instruction_of es ss i
+  unfolding instruction_of
+  instruction_front ss (ins.TextConstant k) h = ap (on_text def.TextConstant) (meaning_front k h)
+  instruction_front ss (ins.ClassConstant k) h = ap (on_class def.ClassConstant) (meaning_front k h)
+  instruction_front ss (ins.GetStatic k) h = ap (on_field def.GetStatic) (meaning_front k h)
+  instruction_front ss (ins.PutStatic k) h = ap (on_field def.PutStatic) (meaning_front k h)
+  instruction_front ss (ins.GetField k) h = ap (on_field def.GetField) (meaning_front k h)
+  instruction_front ss (ins.PutField k) h = ap (on_field def.PutField) (meaning_front k h)
+  instruction_front ss (ins.InvokeVirtual k) h = ap (on_method def.InvokeVirtual) (meaning_front k h)
+  instruction_front ss (ins.InvokeInterface k) h = ap (on_method def.InvokeInterface) (meaning_front k h)
+  instruction_front ss (ins.InvokeSpecial k) h = ap (on_method def.InvokeSpecial) (meaning_front k h)
+  instruction_front ss (ins.InvokeStatic k) h = ap (on_method def.InvokeStatic) (meaning_front k h)
+  instruction_front ss (ins.New k) h = ap (on_class def.New) (meaning_front k h)
+  instruction_front ss (ins.NewReferenceArray k) h = ap (on_class def.NewReferenceArray) (meaning_front k h)
+  instruction_front ss (ins.CheckCast k) h = ap (on_class def.CheckCast) (meaning_front k h)
+  instruction_front ss (ins.InstanceOf k) h = ap (on_class def.InstanceOf) (meaning_front k h)
+  instruction_front ss (ins.NewMultiArray k n) h = ap (on_class (λ class. def.NewMultiArray class n)) (meaning_front k h)
+  instruction_front ss other h = refl
+
+  instructions_front : (ss : List Switch) (is : List Instruction) → list_all (is_within (length es)) is ≡ true → map (instruction_of (es ++ more) ss) is ≡ map (instruction_of es ss) is
+  instructions_front ss [] h = refl
+  instructions_front ss (i ∷ is) h =
+      let both = and_true (is_within (length es) i) (list_all (is_within (length es)) is) h in
+      ap (λ x. x ∷ map (instruction_of (es ++ more) ss) is) (instruction_front ss i both.0) ∙ ap (λ xs. instruction_of es ss i ∷ xs) (instructions_front ss is both.1)
+
+  body_front : (b : code_body.LinkedBody) → is_body_within (length es) b ≡ true → body_of (es ++ more) b ≡ body_of es b
+  body_front (code_bodies.Code c) h = ap (λ is. HasCode (record (code_of es c) { instructions = is })) (instructions_front c.switches c.instructions h)
+  body_front (code_bodies.Native n) h = refl
+  body_front code_bodies.Absent h = refl
+
+  methods_front : (ms : List code_method.LinkedMethod) → list_all (is_method_within (length es)) ms ≡ true → map (method_of (es ++ more)) ms ≡ map (method_of es) ms
+  methods_front [] h = refl
+  methods_front (m ∷ ms) h =
+      let both = and_true (is_method_within (length es) m) (list_all (is_method_within (length es)) ms) h in
+      ap (λ b. record (method_of es m) { body = b } ∷ map (method_of (es ++ more)) ms) (body_front m.body both.0) ∙ ap (λ xs. method_of es m ∷ xs) (methods_front ms both.1)
+
+  entries_behind : (pool added : List Const) → AreEntries es pool → map (symbol_in (pool ++ added)) pool ≡ map (symbol_in pool) pool → map symbol_of more ≡ map (symbol_in (pool ++ added)) added → AreEntries (es ++ more) (pool ++ added)
+  entries_behind pool added before alone behind =
+      map-append symbol_of es more
+      ∙ ap (λ xs. xs ++ map symbol_of more) (before ∙ ap (λ xs. IsOther ∷ xs) (sym alone))
+      ∙ ap (λ xs. IsOther ∷ (map (symbol_in (pool ++ added)) pool ++ xs)) behind
+      ∙ ap (λ xs. IsOther ∷ xs) (sym (map-append (symbol_in (pool ++ added)) pool added))
+
+pub some_added : (c : code.LinkedClass) (more : List Entry) (pool added : List Const) → AreEntries c.entries pool → map (symbol_in (pool ++ added)) pool ≡ map (symbol_in pool) pool
+    → list_all (is_method_within (length c.entries)) c.methods ≡ true → map symbol_of more ≡ map (symbol_in (pool ++ added)) added → KeepMethods c (pool ++ added) (c.entries ++ more)
+some_added c more pool added before alone within behind = record {
+  entries = entries_behind c.entries more pool added before alone behind;
+  methods = methods_front c.entries more c.methods within;
+}
+
+pub nothing_behind : (pool : List Const) → pool ++ [] ≡ pool
+nothing_behind pool = append-nil pool
+
+pub entries_alone : (es : List Entry) (pool : List Const) → AreEntries es pool → AreEntries es (pool ++ [])
+entries_alone es pool before = subst (AreEntries es) (sym (append-nil pool)) before
+
+pub none_added : (c : code.LinkedClass) (pool added : List Const) → added ≡ [] → AreEntries c.entries pool → KeepMethods c (pool ++ added) c.entries
+none_added c pool added none before = record {
+  entries = subst (AreEntries c.entries) (sym (ap (λ xs. pool ++ xs) none ∙ append-nil pool)) before;
+  methods = refl;
+}
 
 -- ---- class files
 
-methods_by : (pool : List Const) (k : ℕ) (attrs : List Attr) (ms : List Member) → map (method_in pool) (with_attrs_at k attrs ms) ≡ with_body_at k (body_of pool (first_of code_within attrs)) (map (method_in pool) ms)
+methods_by : (pool : List Const) (k : ℕ) (attrs : List Attr) (ms : List Member) → map (method_in pool) (with_attrs_at k attrs ms) ≡ with_body_at k (body_by pool attrs) (map (method_in pool) ms)
 methods_by pool k attrs [] = refl
 methods_by pool zero attrs (m ∷ ms) = refl
 methods_by pool (suc k) attrs (m ∷ ms) = ap (λ rest. method_in pool m ∷ rest) (methods_by pool k attrs ms)
 
-pool_case : (old new : Class) (k : ℕ) (o : Option Member) → MatchOption o (new ≡ old) (λ m. new ≡ with_attrs k m.attrs old) → new.pool ≡ old.pool
-pool_case old new k None is = ap (λ (c : Class). c.pool) is
-pool_case old new k (Some m) is = ap (λ (c : Class). c.pool) is
-
-pool_same : (old new : Class) (k : ℕ) → IsEditOf old k new → new.pool ≡ old.pool
-pool_same old new k is = pool_case old new k (slice_get new.methods k) is
-
-name_case : (old new : Class) (k : ℕ) (o : Option Member) → MatchOption o (new ≡ old) (λ m. new ≡ with_attrs k m.attrs old) → own_name new ≡ own_name old
-name_case old new k None is = ap own_name is
-name_case old new k (Some m) is = ap own_name is
-
-linked_case : (old new : Class) (k : ℕ) (o : Option Member) → MatchOption o (new ≡ old) (λ m. new ≡ with_attrs k m.attrs old) → link new ≡ record (link old) { methods = methods_edited new k o (link old).methods }
+link_with : (k : ℕ) (attrs : List Attr) (c : Class) → link (with_attrs k attrs c) ≡ record (link c) { methods = with_body_at k (body_by c.pool attrs) (link c).methods }
 unfolding link
-linked_case old new k None is = ap link is
-linked_case old new k (Some m) is =
-    ap link is
-    ∙ ap (λ ms. record (link old) { methods = ms }) (methods_by old.pool k m.attrs old.methods ∙ ap (λ pool. with_body_at k (body_of pool (first_of code_within m.attrs)) (map (method_in old.pool) old.methods)) (sym (ap (λ (c : Class). c.pool) is)))
+link_with k attrs c = ap (λ ms. record (link c) { methods = ms }) (methods_by c.pool k attrs c.methods)
 
 -- ---- linked classes
 
-methods_put : (c : code.LinkedClass) (ms : List code_method.LinkedMethod) → linked_of (record c { methods = ms }) ≡ record (linked_of c) { methods = map (method_of c.entries) ms }
+linked_parts : (c : code.LinkedClass) (es : List Entry) (ms : List code_method.LinkedMethod) → linked_of (record c { methods = ms; entries = es }) ≡ record (linked_of c) { methods = map (method_of es) ms }
 unfolding linked_of
-methods_put c ms = refl
+linked_parts c es ms = refl
 
 methods_are : (c : code.LinkedClass) → (linked_of c).methods ≡ map (method_of c.entries) c.methods
 unfolding linked_of
 methods_are c = refl
 
-pub class_edited : (c : code.LinkedClass) (ms : List code_method.LinkedMethod) (old new : Class) (k : ℕ) → linked_of c ≡ link old → IsEditOf old k new → map (method_of c.entries) ms ≡ methods_edited new k (slice_get new.methods k) (map (method_of c.entries) c.methods) → linked_of (record c { methods = ms }) ≡ link new
-class_edited c ms old new k linked is put =
-    let before : map (method_of c.entries) c.methods ≡ (link old).methods = sym (methods_are c) ∙ ap (λ (l : Linked). l.methods) linked in
-    methods_put c ms
-    ∙ ap (λ xs. record (linked_of c) { methods = xs }) (put ∙ ap (methods_edited new k (slice_get new.methods k)) before)
-    ∙ ap (λ (l : Linked). record l { methods = methods_edited new k (slice_get new.methods k) (link old).methods }) linked
-    ∙ sym (linked_case old new k (slice_get new.methods k) is)
+edited_means : (c new : code.LinkedClass) (e : EditedFile) → linked_of c ≡ link e.original.class → AddsAlone e → IsEdited c e new → linked_of new ≡ link (class_edited e)
+edited_means c new e linked alone is =
+    let b : LinkedBody = body_by (class_edited e).pool e.attrs in
+    let whole : linked_of c ≡ link (class_added e) = linked ∙ sym alone.rest in
+    let before : map (method_of new.entries) c.methods ≡ (link (class_added e)).methods = is.kept.methods ∙ sym (methods_are c) ∙ ap (λ (l : Linked). l.methods) whole in
+    ap linked_of is.is.rest
+    ∙ linked_parts c new.entries new.methods
+    ∙ ap (λ ms. record (linked_of c) { methods = ms }) (is.is.methods ∙ ap (with_body_at e.method b) before)
+    ∙ ap (λ (l : Linked). record l { methods = with_body_at e.method b (link (class_added e)).methods }) whole
+    ∙ sym (link_with e.method e.attrs (class_added e))
 
 -- ---- classes of a program
 
-pub entries_stay : (i : Info) (k : ℕ) (new : Class) → IsInfo i → IsEditOfBody i.body k new → AreEntries i.linked.entries new.pool
-entries_stay i k new info is = by_body i.body info.entries is
-  where
-    by_body : (b : ClassBody) → HasEntries b i.linked.entries → IsEditOfBody b k new → AreEntries i.linked.entries new.pool
-    by_body (body.File l) h is = subst (AreEntries i.linked.entries) (sym (pool_same l.class new k is)) h
-    by_body (body.Library c) h is = absurd is
+pub entries_of : (i : Info) (e : EditedFile) → IsInfo i → i.body ≡ body.File e.original → AreEntries i.linked.entries e.original.class.pool
+entries_of i e info of = subst (λ b. HasEntries b i.linked.entries) of info.entries
 
-pub name_stays : (i : Info) (k : ℕ) (new : Class) → IsInfo i → IsEditOfBody i.body k new → i.name ≡ own_name new
-name_stays i k new info is = info.name ∙ by_body i.body is
-  where
-    by_body : (b : ClassBody) → IsEditOfBody b k new → body_name b ≡ own_name new
-    by_body (body.File l) is = sym (name_case l.class new k (slice_get new.methods k) is)
-    by_body (body.Library c) is = absurd is
-
-pub means_edited : (i : Info) (k : ℕ) (new : Class) (ms : List code_method.LinkedMethod) → IsInfo i → IsEditOfBody i.body k new → map (method_of i.linked.entries) ms ≡ methods_edited new k (slice_get new.methods k) (map (method_of i.linked.entries) i.linked.methods) → linked_of (record i.linked { methods = ms }) ≡ link new
-means_edited i k new ms info is put = by_body i.body info.linked is
-  where
-    by_body : (b : ClassBody) → linked_of i.linked ≡ link_body b → IsEditOfBody b k new → linked_of (record i.linked { methods = ms }) ≡ link new
-    by_body (body.File l) linked is = class_edited i.linked ms l.class new k linked is put
-    by_body (body.Library c) linked is = absurd is
+pub edited_info : (i : Info) (e : EditedFile) (new : code.LinkedClass) → IsInfo i → i.body ≡ body.File e.original → AddsAlone e → IsEdited i.linked e new → IsInfo (record { name = i.name; body = body.Edited e; linked = new })
+edited_info i e new info of alone is = record {
+  name = info.name ∙ ap body_name of ∙ sym alone.name;
+  linked = edited_means i.linked new e (info.linked ∙ ap link_body of) alone is;
+  entries = is.kept.entries;
+  few = subst (λ n. n < 2 ^ 32) (sym is.is.count) info.few;
+}

@@ -26,6 +26,7 @@ use Rattle.class_link.specs.Symbols.{Symbol, IsOther, IsInteger, IsLong, IsText,
 use Rattle.class_link.specs.Opcodes as op
 use Rattle.class_link.specs.Linking as linking
 use Rattle.class_link.specs.Info.{link_body}
+use Rattle.class_link.specs.Edits.{class_edited}
 use Rattle.class_link.specs.Stated.{IsCallStated, IsUseStated, IsStated, HasStatedKinds, LinkedHaveStatedKinds, args_stated, result_stated, field_stated}
 
 -- ---- instructions
@@ -192,4 +193,5 @@ library_class_stated c = record {
 
 pub linked_have_stated_kinds : LinkedHaveStatedKinds
 linked_have_stated_kinds (body.File loaded) = file_stated loaded.class
+linked_have_stated_kinds (body.Edited e) = file_stated (class_edited e)
 linked_have_stated_kinds (body.Library c) = library_class_stated c

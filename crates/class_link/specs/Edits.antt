@@ -1,6 +1,6 @@
--- A class file that is another one but for the attributes of one method (JVMS 4.6): what an edit of
--- a method's code makes that adds nothing to the constant pool.
-use Rattle.std.specs.Prelude.{◌≡◌, ℕ, zero, suc, List, [], ◌∷◌, map, Option, Some, None, slice_get, MatchOption}
+-- A class file that an edit makes of another one (JVMS 4.1): entries stand behind those of the
+-- constant pool, and one method has other attributes. All else is the other's.
+use Rattle.std.specs.Prelude.{◌≡◌, ℕ, zero, suc, List, [], ◌∷◌, ◌++◌, map, length}
 use Rattle.class_model.specs.declared.attribute.Attr.{Attr}
 use Rattle.class_model.specs.declared.class.Class.{Class}
 use Rattle.class_model.specs.declared.class.Member.{Member}
@@ -8,11 +8,11 @@ use Rattle.class_model.specs.declared.constant.Const.{Const}
 use Rattle.program_rules.specs.Linked.{LinkedMethod, LinkedBody}
 use Rattle.class_link.specs.declared.linked.Entry.{Entry}
 use Rattle.class_link.specs.declared.linked.LinkedClass as code_class
-use Rattle.class_link.specs.declared.linked.LinkedBody.TheVariants as code_body
 use Rattle.class_link.specs.declared.linked.LinkedMethod as code
-use Rattle.class_link.specs.declared.loaded.ClassBody.{ClassBody}
-use Rattle.class_link.specs.declared.loaded.ClassBody.TheVariants as body
-use Rattle.class_link.specs.Linking.{body_of, first_of, code_within}
+use Rattle.class_link.specs.declared.loaded.EditedFile.{EditedFile}
+use Rattle.class_link.specs.Linking.{link, body_of, first_of, code_within}
+use Rattle.class_link.specs.Symbols.{symbol_in, class_named}
+use Rattle.class_link.specs.Switches.{AreEntries}
 use Rattle.class_link.specs.View.{method_of}
 
 -- The methods with these attributes at a place; a list that ends before it is as it was.
@@ -25,23 +25,29 @@ with_attrs_at (suc k) attrs (m ∷ ms) = m ∷ with_attrs_at k attrs ms
 abbrev pub with_attrs : ℕ → List Attr → Class → Class
 with_attrs k attrs c = record c { methods = with_attrs_at k attrs c.methods }
 
--- The second class file is the first but for the attributes of the method of this number.
-abbrev pub IsEditOf : Class → ℕ → Class → Type 0
-IsEditOf old k new =
-    MatchOption (slice_get new.methods k) (new ≡ old) (λ m. new ≡ with_attrs k m.attrs old)
+-- The class file with these entries behind those of its constant pool.
+abbrev pub with_added : List Const → Class → Class
+with_added more c = record c { pool = c.pool ++ more }
 
--- So is a class file to the one that a class comes from. A class of the library has none.
-abbrev pub IsEditOfBody : ClassBody → ℕ → Class → Type 0
-IsEditOfBody (body.File loaded) k new = IsEditOf loaded.class k new
-IsEditOfBody (body.Library c) k new = ⊥
+-- The class file without its edit but for the entries that are added.
+abbrev pub class_added : EditedFile → Class
+class_added e = with_added e.added e.original.class
 
--- All of a method of the code but its body.
-abbrev pub head_of : code.LinkedMethod → code.LinkedMethod
-head_of m = record m { body = code_body.Absent }
+-- What an edited class file says.
+abbrev pub class_edited : EditedFile → Class
+class_edited e = with_attrs e.method e.attrs (class_added e)
 
--- Methods of the code differ in their bodies alone.
-abbrev pub HaveSameHeads : List code.LinkedMethod → List code.LinkedMethod → Type 0
-HaveSameHeads old new = map head_of new ≡ map head_of old
+-- Where entries stand behind others, those mean what they did.
+abbrev pub MeanTheSame : List Const → List Const → Type 0
+MeanTheSame pool added = map (symbol_in (pool ++ added)) pool ≡ map (symbol_in pool) pool
+
+-- Nothing that the class file says means anything else where the entries are added.
+pub record AddsAlone (e : EditedFile) : Type 0 where
+  pub name :
+      class_named (class_added e).pool e.original.class.this
+      ≡ class_named e.original.class.pool e.original.class.this
+  pub entries : MeanTheSame e.original.class.pool e.added
+  pub rest : link (class_added e) ≡ link e.original.class
 
 -- ---- how the code links it. No public clause cites these.
 
@@ -55,25 +61,37 @@ with_body_at k b [] = []
 with_body_at zero b (m ∷ ms) = record m { body = b } ∷ ms
 with_body_at (suc k) b (m ∷ ms) = m ∷ with_body_at k b ms
 
--- What linked methods become where their class file is edited into this one, whose method of the
--- place this is.
-abbrev pub methods_edited : Class → ℕ → Option Member → List LinkedMethod → List LinkedMethod
-methods_edited new k None ms = ms
-methods_edited new k (Some m) ms = with_body_at k (body_by new.pool m.attrs) ms
-
 -- A method of the code is another one with this body.
 abbrev pub HasBody : List Entry → code.LinkedMethod → LinkedBody → code.LinkedMethod → Type 0
 HasBody es old b new = method_of es new ≡ record (method_of es old) { body = b }
 
 -- Methods of the code are others with this body at a place.
-abbrev pub HaveBodyAt : code_class.LinkedClass → ℕ → LinkedBody → List code.LinkedMethod → Type 0
-HaveBodyAt c k b new = map (method_of c.entries) new ≡ with_body_at k b (map (method_of c.entries) c.methods)
-
--- Methods of the code are those of a class where its class file is edited into this one.
-abbrev pub AreEdited : code_class.LinkedClass → Class → ℕ → List code.LinkedMethod → Type 0
-AreEdited c new k ms =
-    map (method_of c.entries) ms ≡ methods_edited new k (slice_get new.methods k) (map (method_of c.entries) c.methods)
+abbrev pub HaveBodyAt :
+    List Entry → List code.LinkedMethod → ℕ → LinkedBody → List code.LinkedMethod → Type 0
+HaveBodyAt es old k b new =
+    map (method_of es) new ≡ with_body_at k b (map (method_of es) old)
 
 -- What isn't edited: all but the methods and the entries is the first class's.
-abbrev pub SharesRest : code_class.LinkedClass → code_class.LinkedClass → code_class.LinkedClass → Type 0
+abbrev pub SharesRest :
+    code_class.LinkedClass → code_class.LinkedClass → code_class.LinkedClass → Type 0
 SharesRest c old new = new ≡ record c { methods = old.methods; entries = old.entries }
+
+-- A class of the code is another one with these entries of a pool, and with the body at a place
+-- that attributes give there.
+pub record IsRelinked (c : code_class.LinkedClass) (es : List Entry) (pool : List Const) (k : ℕ)
+    (attrs : List Attr) (new : code_class.LinkedClass) : Type 0 where
+  pub rest : new ≡ record c { methods = new.methods; entries = es }
+  pub methods : HaveBodyAt es c.methods k (body_by pool attrs) new.methods
+  pub count : length new.methods ≡ length c.methods
+
+-- In these entries each index means what it means in the pool, and methods mean what they did.
+pub record KeepMethods (c : code_class.LinkedClass) (pool : List Const) (es : List Entry) : Type 0
+  where
+    pub entries : AreEntries es pool
+    pub methods : map (method_of es) c.methods ≡ map (method_of c.entries) c.methods
+
+-- The class of an edit by the class that is edited.
+pub record IsEdited (c : code_class.LinkedClass) (e : EditedFile) (new : code_class.LinkedClass) :
+    Type 0 where
+  pub kept : KeepMethods c (class_edited e).pool new.entries
+  pub is : IsRelinked c new.entries (class_edited e).pool e.method e.attrs new

@@ -8,6 +8,7 @@ use Rattle.class_link.specs.declared.loaded.ClassBody.TheVariants as body
 use Rattle.class_link.specs.declared.linked.Entry.{Entry}
 use Rattle.class_link.specs.declared.linked.LinkedClass.{LinkedClass}
 use Rattle.class_link.specs.Symbols.{class_named}
+use Rattle.class_link.specs.Edits.{class_edited}
 use Rattle.class_link.specs.Linking.{link, link_library}
 use Rattle.class_link.specs.Switches.{AreEntries}
 use Rattle.class_link.specs.View.{linked_of}
@@ -18,17 +19,20 @@ own_name c = class_named c.pool c.this
 
 abbrev pub body_name : ClassBody → Name
 body_name (body.File loaded) = own_name loaded.class
+body_name (body.Edited e) = own_name (class_edited e)
 body_name (body.Library c) = c.name
 
 -- What a class means, by where it comes from.
 abbrev pub link_body : ClassBody → Linked
 link_body (body.File loaded) = link loaded.class
+link_body (body.Edited e) = link (class_edited e)
 link_body (body.Library c) = link_library c
 
 -- Each index means in these entries what it means in the constant pool of the class file. A class of
 -- the library has none.
 abbrev pub HasEntries : ClassBody → List Entry → Type 0
 HasEntries (body.File loaded) es = AreEntries es loaded.class.pool
+HasEntries (body.Edited e) es = AreEntries es (class_edited e).pool
 HasEntries (body.Library c) es = ⊤
 
 pub record Info : Type 0 where
@@ -47,10 +51,10 @@ pub record IsInfo (i : Info) : Type 0 where
 abbrev pub class_of : Info → Linked
 class_of i = linked_of i.linked
 
--- The class of a class file.
+-- The class of a class file that no edit made.
 abbrev pub file_in : Info → Option Class
 file_in i = file_of i.body
   where
     file_of : ClassBody → Option Class
     file_of (body.File loaded) = Some loaded.class
-    file_of (body.Library c) = None
+    file_of other = None

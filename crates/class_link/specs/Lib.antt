@@ -13,3 +13,5 @@ pub mod Lines
 pub mod Texts
 pub mod Bare
 pub mod Stated
+pub mod Indices
+pub mod Named

@@ -1,9 +1,10 @@
 //! The run-time constant pool of a class (JVMS 5.1).
 
-ghost use Rattle.std.specs.Prelude.{◌≡◌, ◌∷◌, map, IfOk};
-ghost use Rattle.class_model.specs.Pool.{pair_name_of, pair_desc_of};
-ghost use Rattle.class_link.specs.View.{symbol_of, method_ref_of, field_ref_of};
-ghost use Rattle.class_link.specs.Symbols.{IsOther, symbol_in, name_or_empty, class_named, method_ref, field_ref};
+ghost use Rattle.std.specs.Prelude.{◌≡◌, IfOk};
+ghost use Rattle.class_link.specs.Named.{NamesField, NamesMethod};
+ghost use Rattle.class_link.specs.Symbols.{symbol_in};
+ghost use Rattle.class_link.specs.Switches.{AreEntries};
+ghost use Rattle.class_link.specs.View.{symbol_of};
 
 use crate::linked::{Entry, FieldRef, MethodRef};
 use crate::texts::Texts;
@@ -11,7 +12,7 @@ use class_model::{Const, Memory, Seq};
 use std::alloc::Global;
 
 fn method_of(texts: &Texts, class: u16, pair: u16, interface: bool) -> Result<MethodRef, Memory>
-    ensures { IfOk result (λ r. method_ref_of r ≡ method_ref interface (class_named texts.now class) (name_or_empty (pair_name_of texts.now pair)) (name_or_empty (pair_desc_of texts.now pair))) }
+    ensures { IfOk result (NamesMethod texts.now class pair interface) }
 {
     let class = texts.class(class).name()?;
     let name = texts.pair_name(pair).name()?;
@@ -27,7 +28,7 @@ fn method_of(texts: &Texts, class: u16, pair: u16, interface: bool) -> Result<Me
 }
 
 fn field_of(texts: &Texts, class: u16, pair: u16) -> Result<FieldRef, Memory>
-    ensures { IfOk result (λ r. field_ref_of r ≡ field_ref (class_named texts.now class) (name_or_empty (pair_name_of texts.now pair)) (name_or_empty (pair_desc_of texts.now pair))) }
+    ensures { IfOk result (NamesField texts.now class pair) }
 {
     let class = texts.class(class).name()?;
     let name = texts.pair_name(pair).name()?;
@@ -65,7 +66,7 @@ fn entry_in(texts: &Texts, constant: &Const) -> Result<Entry, Memory>
 /// What the indices of a constant pool mean, from 0, which is no index.
 pub fn entries(alloc: Global, texts: &Texts, pool: &[Const]) -> Result<Seq<Entry>, Memory>
     requires { texts.now ≡ pool.now }
-    ensures { IfOk result (λ es. map symbol_of es ≡ IsOther ∷ map (symbol_in pool.now) pool.now) }
+    ensures { IfOk result (λ es. AreEntries es pool.now) }
 {
     let mut entries = vec![in alloc; Entry::Other]?;
     for constant in pool {

@@ -4,15 +4,16 @@ ghost use Rattle.std.specs.Prelude.{◌≡◌, ◌<◌, ◌^◌, length, IfOk};
 ghost use Rattle.std.specs.Option.{option_copied};
 ghost use Rattle.class_model.specs.Pool.{text_of, class_name_of};
 ghost use Rattle.class_link.specs.View.{linked_of};
-ghost use Rattle.class_link.specs.Edits.{IsEditOfBody, HaveSameHeads};
+ghost use Rattle.class_link.specs.Edits.{AddsAlone, class_edited};
 ghost use Rattle.class_link.specs.Info.{HasEntries, own_name, body_name, link_body, class_of};
 ghost use Rattle.class_link.specs.Linking as linking;
 ghost use Rattle.class_link.specs.declared.loaded.ClassBody.TheVariants as content;
 
+use crate::edited_class::edited_class;
 use crate::linked::LinkedClass;
 use crate::linking::{link, link_library};
-use crate::loaded::{ClassBody, Loaded};
-use crate::relinking::relink;
+use crate::loaded::{ClassBody, EditedFile};
+use crate::relinking::link_edit;
 use crate::texts::entry;
 use class_model::{Class, Const, Memory, Name, Seq};
 use std::alloc::Global;
@@ -52,22 +53,24 @@ impl ClassInfo {
         Ok(ClassInfo { name, body, linked })
     }
 
-    /// The class of a class file that is this one's but for the attributes of one method, by that
-    /// method's place. Its code alone is linked; what isn't edited is shared.
-    #[tactic(auto, using(crate::proofs::EditLaws::entries_stay, crate::proofs::EditLaws::name_stays, crate::proofs::EditLaws::means_edited))]
-    pub fn edited(&self, alloc: Global, loaded: Loaded, method: usize) -> Result<ClassInfo, Memory>
-        requires { IsEditOfBody self.now.body method loaded.class }
-        ensures body { IfOk result (λ info. info.body ≡ content.File loaded) }
-        ensures name { IfOk result (λ info. info.name ≡ own_name loaded.class) }
-        ensures class { IfOk result (λ info. class_of info ≡ linking.link loaded.class) }
-        ensures heads { IfOk result (λ info. HaveSameHeads self.now.linked.methods info.linked.methods) }
-        ensures entries { IfOk result (λ info. info.linked.entries ≡ self.now.linked.entries) }
+    /// The class of a class file that an edit makes of this one's. The code of the edited method
+    /// alone is linked; what isn't edited is shared. Entries that are added mean what they say, and
+    /// nothing else means anything else by them.
+    #[tactic(auto, using(crate::proofs::EditLaws::entries_of, crate::proofs::EditLaws::edited_info))]
+    pub fn edited(&self, alloc: Global, file: EditedFile) -> Result<ClassInfo, Memory>
+        requires of { self.now.body ≡ content.File file.original }
+        requires alone { AddsAlone file }
+        ensures body { IfOk result (λ info. info.body ≡ content.Edited file) }
+        ensures name { IfOk result (λ info. info.name ≡ own_name (class_edited file)) }
+        ensures class { IfOk result (λ info. class_of info ≡ linking.link (class_edited file)) }
     {
-        let linked = relink(alloc, &self.linked, &loaded.class, method)?;
+        let Some(linked) = link_edit(alloc, &self.linked, &file)? else {
+            return ClassInfo::new(alloc, ClassBody::Edited(file));
+        };
         let name = self.name.copy()?;
         Ok(ClassInfo {
             name,
-            body: ClassBody::File(loaded),
+            body: ClassBody::Edited(file),
             linked,
         })
     }
@@ -132,6 +135,7 @@ fn body_name(alloc: Global, body: &ClassBody) -> Result<Name, Memory>
 {
     match body {
         ClassBody::File(loaded) => Ok(own_name(alloc, &loaded.class)?),
+        ClassBody::Edited(file) => Ok(own_name(alloc, &edited_class(file)?)?),
         ClassBody::Library(class) => Ok(class.name.copy()?),
     }
 }
@@ -142,6 +146,7 @@ fn link_body(alloc: Global, body: &ClassBody) -> Result<LinkedClass, Memory>
 {
     match body {
         ClassBody::File(loaded) => Ok(link(alloc, &loaded.class)?),
+        ClassBody::Edited(file) => Ok(link(alloc, &edited_class(file)?)?),
         ClassBody::Library(class) => Ok(link_library(alloc, class)?),
     }
 }

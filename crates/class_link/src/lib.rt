@@ -2,7 +2,9 @@
 //! place of indices of the constant pool.
 #![tactic(auto)]
 
+mod added_entries;
 mod code_linking;
+mod edited_class;
 mod entries;
 mod frames;
 mod info;
@@ -12,7 +14,9 @@ mod line_table;
 mod linked;
 mod linking;
 mod loaded;
+mod long_pool;
 mod named_classes;
+mod named_indices;
 mod opcodes;
 mod relinking;
 mod shared;
@@ -27,6 +31,6 @@ pub use linked::{
     Entry, FieldConstant, FieldRef, LinkedBody, LinkedClass, LinkedCode, LinkedField, LinkedLine,
     LinkedMethod, LinkedRow, MethodRef, Native, Switch,
 };
-pub use loaded::{ClassBody, LibBody, LibClass, LibField, LibMethod, Loaded};
+pub use loaded::{ClassBody, EditedFile, LibBody, LibClass, LibField, LibMethod, Loaded};
 pub use program_rules::{CallKind, Comparison, Conversion, Element, Operation, ShiftKind};
 pub use shared::Shared;

@@ -6,6 +6,7 @@ ghost use Rattle.std.specs.Option.{option_copied, option_map};
 ghost use Rattle.class_model.specs.Pool.{entry_of};
 ghost use Rattle.class_link.specs.Symbols.{class_named};
 ghost use Rattle.class_link.specs.Linking as linking;
+ghost use Rattle.class_link.specs.Named.{IsConstantIn, IsConstantBy, IsBodyBy, IsMethodIn, AreMethodsIn, IsLibraryBody, IsLibraryMethod, AreLibraryMethods};
 ghost use Rattle.class_link.specs.Switches.{AreEntries};
 ghost use Rattle.class_link.specs.Bare.{bare_field, method_with};
 ghost use Rattle.class_link.specs.declared.linked.Entry as entry;
@@ -47,7 +48,7 @@ fn first_code(attrs: &[Attr]) -> Option<&Code>
 }
 
 fn constant_in(texts: &Texts, index: u16) -> Result<Option<FieldConstant>, Memory>
-    ensures { IfOk result (λ k. option_map constant_of k ≡ linking.constant_of texts.now (entry_of texts.now index)) }
+    ensures { IfOk result (IsConstantIn texts.now (entry_of texts.now index)) }
 {
     let Some(constant) = texts.entry(index) else {
         return Ok(None);
@@ -61,7 +62,7 @@ fn constant_in(texts: &Texts, index: u16) -> Result<Option<FieldConstant>, Memor
 }
 
 fn field_constant(texts: &Texts, attrs: &[Attr]) -> Result<Option<FieldConstant>, Memory>
-    ensures { IfOk result (λ k. option_map constant_of k ≡ option_and_then (λ index. linking.constant_of texts.now (entry_of texts.now index)) (linking.first_of linking.value_of attrs.now)) }
+    ensures { IfOk result (IsConstantBy texts.now attrs.now) }
 {
     match constant_index(attrs) {
         Some(index) => Ok(constant_in(texts, index)?),
@@ -110,7 +111,7 @@ pub fn link_body(
     attrs: &[Attr],
 ) -> Result<LinkedBody, Memory>
     requires { AreEntries entries.now classes.now }
-    ensures { IfOk result (λ b. body_of entries.now b ≡ linking.body_of classes.now (linking.first_of linking.code_within attrs.now)) }
+    ensures { IfOk result (IsBodyBy entries.now classes.now attrs.now) }
 {
     match first_code(attrs) {
         Some(code) => {
@@ -151,7 +152,7 @@ fn link_method(
 ) -> Result<LinkedMethod, Memory>
     requires entries { AreEntries entries.now texts.now }
     requires pool { classes.now ≡ texts.now }
-    ensures { IfOk result (λ m. method_of entries.now m ≡ linking.method_in texts.now method.now) }
+    ensures { IfOk result (IsMethodIn entries.now texts.now method.now) }
 {
     let body = link_body(alloc, entries, classes, method.attrs.as_slice())?;
     let name = texts.text(method.name);
@@ -168,7 +169,7 @@ fn link_methods(
 ) -> Result<Seq<LinkedMethod>, Memory>
     requires entries { AreEntries entries.now texts.now }
     requires pool { classes.now ≡ texts.now }
-    ensures { IfOk result (λ ms. map (method_of entries.now) ms ≡ map (linking.method_in texts.now) methods.now) }
+    ensures { IfOk result (AreMethodsIn entries.now texts.now methods.now) }
 {
     let mut linked = Vec::with_capacity(alloc, methods.len())?;
     for method in methods {
@@ -178,6 +179,7 @@ fn link_methods(
 }
 
 // The methods of a class file.
+#[tactic(auto, using(crate::proofs::EditLaws::nothing_behind, crate::proofs::EditLaws::entries_alone))]
 fn class_methods(
     alloc: Global,
     entries: &[Entry],
@@ -186,9 +188,9 @@ fn class_methods(
 ) -> Result<Seq<LinkedMethod>, Memory>
     requires pool { texts.now ≡ class.now.pool }
     requires entries { AreEntries entries.now class.now.pool }
-    ensures { IfOk result (λ ms. map (method_of entries.now) ms ≡ map (linking.method_in class.now.pool) class.now.methods) }
+    ensures { IfOk result (AreMethodsIn entries.now class.now.pool class.now.methods) }
 {
-    let classes = NamedClasses::new(alloc, class.pool.as_slice(), entries);
+    let classes = NamedClasses::new(alloc, class.pool.as_slice(), &[], entries);
     link_methods(alloc, entries, texts, &classes, class.methods.as_slice())
 }
 
@@ -276,7 +278,7 @@ fn native_body(number: u16) -> LinkedBody
 
 // Methods of the library that are written in code aren't linked yet: memory runs out.
 fn library_body(body: &LibBody) -> Result<LinkedBody, Memory>
-    ensures { IfOk result (λ b. (es : List entry.Entry) → body_of es b ≡ linking.library_body body.now) }
+    ensures { IfOk result (IsLibraryBody body.now) }
 {
     match body {
         LibBody::Native(number) => Ok(native_body(*number)),
@@ -295,14 +297,14 @@ fn library_text(alloc: Global, name: &Name) -> Result<Text, Memory>
 fn library_method_of(method: &LibMethod, name: &Text, desc: &Text) -> Result<LinkedMethod, Memory>
     requires name { name.now ≡ method.now.name }
     requires desc { desc.now ≡ method.now.desc }
-    ensures { IfOk result (λ m. (es : List entry.Entry) → method_of es m ≡ linking.library_method method.now) }
+    ensures { IfOk result (IsLibraryMethod method.now) }
 {
     let body = library_body(&method.body)?;
     method_with(method.flags, name, desc, body)
 }
 
 fn library_method(alloc: Global, method: &LibMethod) -> Result<LinkedMethod, Memory>
-    ensures { IfOk result (λ m. (es : List entry.Entry) → method_of es m ≡ linking.library_method method.now) }
+    ensures { IfOk result (IsLibraryMethod method.now) }
 {
     let name = library_text(alloc, &method.name)?;
     let desc = library_text(alloc, &method.desc)?;
@@ -310,7 +312,7 @@ fn library_method(alloc: Global, method: &LibMethod) -> Result<LinkedMethod, Mem
 }
 
 fn library_methods(alloc: Global, methods: &[LibMethod]) -> Result<Seq<LinkedMethod>, Memory>
-    ensures { IfOk result (λ ms. (es : List entry.Entry) → map (method_of es) ms ≡ map linking.library_method methods.now) }
+    ensures { IfOk result (AreLibraryMethods methods.now) }
 {
     let mut linked = Vec::with_capacity(alloc, methods.len())?;
     for method in methods {

@@ -1,12 +1,26 @@
 //! Where the classes of a program come from.
 
-use class_model::{Class, Code, Const, Name, Seq, SharedBytes};
+use crate::shared::Shared;
+use class_model::{Attr, Class, Code, Const, Name, Seq, SharedBytes};
 
 /// A class file and what it says.
 #[derive(Drop)]
 pub struct Loaded {
     pub bytes: SharedBytes,
     pub class: Class,
+}
+
+/// A class file that an edit makes of another one: what is made anew, and the bytes of the whole.
+/// All else is the other's.
+#[derive(Drop)]
+pub struct EditedFile {
+    pub original: Shared<Loaded>,
+    /// The place of the edited method among those of the class, and its attributes.
+    pub method: usize,
+    pub attrs: Seq<Attr>,
+    /// The entries that stand behind those of the constant pool.
+    pub added: Seq<Const>,
+    pub bytes: SharedBytes,
 }
 
 /// What stands behind the head of a method of the library.
@@ -48,6 +62,7 @@ pub struct LibClass {
 /// Where a class comes from.
 #[derive(Drop)]
 pub enum ClassBody {
-    File(Loaded),
+    File(Shared<Loaded>),
+    Edited(EditedFile),
     Library(LibClass),
 }

@@ -1,6 +1,6 @@
 //! The classes that the indices of a constant pool name, as its entries have them (JVMS 4.4.1).
 
-ghost use Rattle.std.specs.Prelude.{◌≡◌, [], slice_get, IfOk};
+ghost use Rattle.std.specs.Prelude.{◌≡◌, [], ◌++◌, slice_get, IfOk};
 ghost use Rattle.std.specs.Option.{option_copied};
 ghost use Rattle.class_link.specs.Linking.{class_or_none};
 ghost use Rattle.class_link.specs.Symbols.{class_named};
@@ -13,24 +13,26 @@ use class_model::{Const, Memory, Name, Seq};
 use std::alloc::Global;
 use std::marker::Model;
 
-/// A constant pool with its entries, which have the names of classes. Contracts see the pool.
+/// A constant pool, in two parts, with its entries, which have the names of classes. Contracts see
+/// the pool.
 #[derive(Drop)]
 pub struct NamedClasses<'a> {
     alloc: Global,
     pool: &'a [Const],
+    added: &'a [Const],
     entries: &'a [Entry],
 }
 
 impl<'a> Model for NamedClasses<'a> {
-    ghost use Rattle.std.specs.Prelude.{List};
+    ghost use Rattle.std.specs.Prelude.{List, ◌++◌};
     ghost use Rattle.class_model.specs.declared.constant.Const.{Const};
     ghost use Rattle.class_link.specs.Switches.{AreEntries};
 
     ghost Value = { List Const };
 
-    ghost view = { λ c. c.pool.now };
+    ghost view = { λ c. c.pool.now ++ c.added.now };
 
-    ghost invariant = { λ c. AreEntries c.entries.now c.pool.now };
+    ghost invariant = { λ c. AreEntries c.entries.now (c.pool.now ++ c.added.now) };
 }
 
 // The entry of an index, if there is one.
@@ -63,14 +65,20 @@ fn no_name(alloc: Global) -> Result<Shared<Name>, Memory>
 }
 
 impl<'a> NamedClasses<'a> {
-    /// The classes of a pool with these entries.
-    pub fn new(alloc: Global, pool: &'a [Const], entries: &'a [Entry]) -> NamedClasses<'a>
-        requires { AreEntries entries.now pool.now }
-        ensures { result ≡ pool.entry.now }
+    /// The classes of a pool with these entries. The pool is one with others behind it.
+    pub fn new(
+        alloc: Global,
+        pool: &'a [Const],
+        added: &'a [Const],
+        entries: &'a [Entry],
+    ) -> NamedClasses<'a>
+        requires { AreEntries entries.now (pool.now ++ added.now) }
+        ensures { result ≡ pool.entry.now ++ added.entry.now }
     {
         NamedClasses {
             alloc,
             pool,
+            added,
             entries,
         }
     }

@@ -1,15 +1,21 @@
 //! What the class of an edit means: the body of one method is linked, all else is shared with the
 //! class that is edited.
 
-ghost use Rattle.std.specs.Prelude.{◌≡◌, ◌<◌, length, slice_set, IfOk, OnOk};
-ghost use Rattle.class_link.specs.Edits.{head_of, HaveSameHeads, body_by, HasBody, HaveBodyAt, AreEdited, SharesRest};
+ghost use Rattle.std.specs.Prelude.{◌≡◌, ◌<◌, ◌++◌, map, length, slice_set, IfOk, OnOk, IfSome};
+ghost use Rattle.class_link.specs.Edits.{AddsAlone, MeanTheSame, body_by, HasBody, HaveBodyAt, SharesRest, IsRelinked, KeepMethods, IsEdited};
 ghost use Rattle.class_link.specs.Switches.{AreEntries};
 
-use crate::linked::{Entry, FieldConstant, LinkedBody, LinkedClass, LinkedField, LinkedMethod};
+use crate::added_entries::{added_entries, with_more};
+use crate::linked::{
+    Entry, FieldConstant, FieldRef, LinkedBody, LinkedClass, LinkedField, LinkedMethod, MethodRef,
+};
 use crate::linking::{empty_class, link_body};
+use crate::loaded::EditedFile;
+use crate::long_pool::LongPool;
 use crate::named_classes::NamedClasses;
+use crate::named_indices::are_within;
 use crate::shared::Shared;
-use class_model::{Attr, Class, Const, Copied, Memory, Name, Seq};
+use class_model::{Attr, Const, Copied, Memory, Name, Seq};
 use std::alloc::Global;
 
 impl Copied for LinkedBody {
@@ -81,6 +87,51 @@ impl Copied for LinkedField {
     }
 }
 
+impl Copied for FieldRef {
+    fn copied(&self) -> Result<FieldRef, Memory> {
+        let class = self.class.share()?;
+        let name = self.name.share()?;
+        let desc = self.desc.share()?;
+        Ok(FieldRef {
+            class,
+            name,
+            desc,
+            kind: self.kind.share()?,
+        })
+    }
+}
+
+impl Copied for MethodRef {
+    fn copied(&self) -> Result<MethodRef, Memory> {
+        let class = self.class.share()?;
+        let name = self.name.share()?;
+        let desc = self.desc.share()?;
+        let args = self.args.share()?;
+        Ok(MethodRef {
+            class,
+            name,
+            desc,
+            args,
+            result: self.result.share()?,
+            interface: self.interface,
+        })
+    }
+}
+
+impl Copied for Entry {
+    fn copied(&self) -> Result<Entry, Memory> {
+        match self {
+            Entry::Other => Ok(Entry::Other),
+            Entry::Integer(number) => Ok(Entry::Integer(*number)),
+            Entry::Long(number) => Ok(Entry::Long(*number)),
+            Entry::Text(text) => Ok(Entry::Text(text.share()?)),
+            Entry::Class(name) => Ok(Entry::Class(name.share()?)),
+            Entry::Field(field) => Ok(Entry::Field(field.copied()?)),
+            Entry::Method(method) => Ok(Entry::Method(method.copied()?)),
+        }
+    }
+}
+
 fn shared_name(name: &Option<Shared<Name>>) -> Result<Option<Shared<Name>>, Memory>
     ensures { IfOk result (λ n. n ≡ name.now) }
 {
@@ -108,57 +159,36 @@ fn with_method(
 fn relinked_method(
     alloc: Global,
     entries: &[Entry],
-    pool: &[Const],
+    classes: &NamedClasses,
     method: &LinkedMethod,
     attrs: &[Attr],
 ) -> Result<LinkedMethod, Memory>
-    requires { AreEntries entries.now pool.now }
-    ensures meant { IfOk result (λ m. HasBody entries.now method.now (body_by pool.now attrs.now) m) }
-    ensures head { IfOk result (λ m. head_of m ≡ head_of method.now) }
+    requires { AreEntries entries.now classes.now }
+    ensures { IfOk result (λ m. HasBody entries.now method.now (body_by classes.now attrs.now) m) }
 {
-    let classes = NamedClasses::new(alloc, pool, entries);
-    let body = link_body(alloc, entries, &classes, attrs)?;
+    let body = link_body(alloc, entries, classes, attrs)?;
     shared_method(method, body)
 }
 
-// The methods of a class with the body that these attributes give to one of them.
-#[tactic(auto, using(crate::proofs::EditLaws::past_the_end, crate::proofs::EditLaws::body_put, crate::proofs::EditLaws::put_length, crate::proofs::EditLaws::heads_put))]
+// Methods with the body that these attributes give to one of them.
+#[tactic(auto, using(crate::proofs::EditLaws::past_the_end, crate::proofs::EditLaws::body_put, crate::proofs::EditLaws::put_length))]
 fn relinked_methods(
     alloc: Global,
-    class: &LinkedClass,
-    pool: &[Const],
+    entries: &[Entry],
+    classes: &NamedClasses,
+    methods: &Seq<LinkedMethod>,
     place: usize,
     attrs: &[Attr],
 ) -> Result<Seq<LinkedMethod>, Memory>
-    requires { AreEntries class.now.entries pool.now }
-    ensures meant { IfOk result (λ ms. HaveBodyAt class.now place (body_by pool.now attrs.now) ms) }
-    ensures count { IfOk result (λ ms. length ms ≡ length class.now.methods) }
-    ensures heads { IfOk result (λ ms. HaveSameHeads class.now.methods ms) }
+    requires { AreEntries entries.now classes.now }
+    ensures meant { IfOk result (HaveBodyAt entries.now methods.now place (body_by classes.now attrs.now)) }
+    ensures count { IfOk result (λ ms. length ms ≡ length methods.now) }
 {
-    let Some(method) = class.methods.get(place) else {
-        return class.methods.copy();
+    let Some(method) = methods.get(place) else {
+        return methods.copy();
     };
-    let method = relinked_method(alloc, class.entries.as_slice(), pool, method, attrs)?;
-    with_method(&class.methods, place, method)
-}
-
-// The methods of a class where a class file is edited.
-fn edited_methods(
-    alloc: Global,
-    class: &LinkedClass,
-    edited: &Class,
-    place: usize,
-) -> Result<Seq<LinkedMethod>, Memory>
-    requires { AreEntries class.now.entries edited.now.pool }
-    ensures meant { IfOk result (λ ms. AreEdited class.now edited.now place ms) }
-    ensures count { IfOk result (λ ms. length ms ≡ length class.now.methods) }
-    ensures heads { IfOk result (λ ms. HaveSameHeads class.now.methods ms) }
-{
-    let pool = edited.pool.as_slice();
-    match edited.methods.get(place) {
-        Some(method) => relinked_methods(alloc, class, pool, place, method.attrs.as_slice()),
-        None => class.methods.copy(),
-    }
+    let method = relinked_method(alloc, entries, classes, method, attrs)?;
+    with_method(methods, place, method)
 }
 
 // Puts what isn't edited into a class.
@@ -173,22 +203,75 @@ fn share_into(class: &LinkedClass, linked: &mut LinkedClass) -> Result<(), Memor
     Ok(())
 }
 
-/// What the class of an edited class file means, by what the class means that is edited.
-pub fn relink(
+// A class with these entries, and with the body that attributes give to one of its methods.
+fn relink(
     alloc: Global,
     class: &LinkedClass,
-    edited: &Class,
+    entries: &Shared<Seq<Entry>>,
+    pool: &[Const],
+    added: &[Const],
     place: usize,
+    attrs: &[Attr],
 ) -> Result<LinkedClass, Memory>
-    requires { AreEntries class.now.entries edited.now.pool }
-    ensures rest { IfOk result (λ c. c ≡ record class.now { methods = c.methods }) }
-    ensures meant { IfOk result (λ c. AreEdited class.now edited.now place c.methods) }
-    ensures count { IfOk result (λ c. length c.methods ≡ length class.now.methods) }
-    ensures heads { IfOk result (λ c. HaveSameHeads class.now.methods c.methods) }
+    requires { AreEntries entries.now (pool.now ++ added.now) }
+    ensures { IfOk result (IsRelinked class.now entries.now (pool.now ++ added.now) place attrs.now) }
 {
-    let methods = edited_methods(alloc, class, edited, place)?;
-    let mut linked = empty_class(alloc, class.entries.share()?);
+    let classes = NamedClasses::new(alloc, pool, added, entries.as_slice());
+    let methods = relinked_methods(
+        alloc,
+        entries.as_slice(),
+        &classes,
+        &class.methods,
+        place,
+        attrs,
+    )?;
+    let mut linked = empty_class(alloc, entries.share()?);
     linked.methods = methods;
     share_into(class, &mut linked)?;
     Ok(linked)
+}
+
+// The entries of a class with those behind them that are added to its pool; none where an
+// instruction names an index past the pool.
+#[tactic(auto, using(crate::proofs::EditLaws::none_added, crate::proofs::EditLaws::some_added))]
+fn entries_with(
+    alloc: Global,
+    class: &LinkedClass,
+    pool: &[Const],
+    added: &[Const],
+) -> Result<Option<Shared<Seq<Entry>>>, Memory>
+    requires entries { AreEntries class.now.entries pool.now }
+    requires alone { MeanTheSame pool.now added.now }
+    ensures { IfOk result (λ es. IfSome es (KeepMethods class.now (pool.now ++ added.now))) }
+{
+    if added.is_empty() {
+        return Ok(Some(class.entries.share()?));
+    }
+    if !are_within(class.entries.len(), class.methods.as_slice()) {
+        return Ok(None);
+    }
+    let more = added_entries(alloc, &LongPool::new(pool, added), added)?;
+    let entries = with_more(&class.entries, &more)?;
+    Ok(Some(Shared::new(alloc, entries)?))
+}
+
+/// The class of an edit: the edited method's body is linked, and all else is shared with the class
+/// that is edited. None where an instruction of that class names an index past its pool.
+pub fn link_edit(
+    alloc: Global,
+    class: &LinkedClass,
+    file: &EditedFile,
+) -> Result<Option<LinkedClass>, Memory>
+    requires entries { AreEntries class.now.entries file.now.original.class.pool }
+    requires alone { AddsAlone file.now }
+    ensures { IfOk result (λ linked. IfSome linked (IsEdited class.now file.now)) }
+{
+    let pool = file.original.class.pool.as_slice();
+    let added = file.added.as_slice();
+    let Some(entries) = entries_with(alloc, class, pool, added)? else {
+        return Ok(None);
+    };
+    let attrs = file.attrs.as_slice();
+    let linked = relink(alloc, class, &entries, pool, added, file.method, attrs)?;
+    Ok(Some(linked))
 }

@@ -133,6 +133,7 @@ named_place p class index target = option_and_then (λ r. place_at p r target) (
 
 abbrev pub IsFile : ClassBody → Type 0
 IsFile (body.File loaded) = ⊤
+IsFile (body.Edited e) = ⊤
 IsFile (body.Library c) = ⊥
 
 -- Two classes of class files have one name, one superclass and the same interfaces.

@@ -14,10 +14,10 @@ mod upwards;
 mod words;
 
 pub use class_link::{
-    ClassBody, ClassInfo, Entry, FieldConstant, FieldRef, FrameShape, Instruction, LibBody,
-    LibClass, LibField, LibMethod, LineTable, LinkedBody, LinkedClass, LinkedCode, LinkedField,
-    LinkedLine, LinkedMethod, LinkedRow, Loaded, MethodRef, Native, Shared, StatedFrame, Switch,
-    VType,
+    ClassBody, ClassInfo, EditedFile, Entry, FieldConstant, FieldRef, FrameShape, Instruction,
+    LibBody, LibClass, LibField, LibMethod, LineTable, LinkedBody, LinkedClass, LinkedCode,
+    LinkedField, LinkedLine, LinkedMethod, LinkedRow, Loaded, MethodRef, Native, Shared,
+    StatedFrame, Switch, VType,
 };
 pub use consulted::Consulted;
 pub use fault::TableFault;

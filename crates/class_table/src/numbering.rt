@@ -10,7 +10,7 @@ ghost use Rattle.class_link.specs.declared.loaded.ClassBody.TheVariants.{File, L
 ghost use Rattle.class_table.specs.Adding.{shared, AreClassesOf, AddsClasses, KeepsMeant};
 ghost use Rattle.class_table.specs.Numbers.{IsNumbering, with_number, is_before, lesser, is_place, judged, IsTold, IsVerdict};
 
-use class_link::{ClassBody, ClassInfo, LibClass, Loaded};
+use class_link::{ClassBody, ClassInfo, LibClass, Loaded, Shared};
 use class_model::{Memory, Name, write_text};
 use std::alloc::Global;
 use std::collections::HashMap;
@@ -37,6 +37,7 @@ fn add_files(
     ensures classes { OnOk result (AddsClasses infos.old.items (map File classes.items) infos.new.items) }
 {
     for loaded in classes {
+        let loaded = Shared::new(alloc, loaded)?;
         infos.push(info(alloc, ClassBody::File(loaded))?)?;
     }
     Ok(())

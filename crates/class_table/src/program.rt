@@ -133,12 +133,14 @@ impl Program {
         &self.classes[id.0 as usize]
     }
 
-    /// The class of a class file by its number; none for one of the library.
+    /// The class of a class file by its number; none for one of the library, and none for one that
+    /// an edit made.
     pub fn file_class(&self, id: ClassId) -> Option<&Class>
         ensures { option_copied result ≡ option_and_then file_in (slice_get self.now id.0) }
     {
         match self.get(id)?.body() {
             ClassBody::File(loaded) => Some(&loaded.class),
+            ClassBody::Edited(_) => None,
             ClassBody::Library(_) => None,
         }
     }

@@ -1,0 +1,67 @@
+-- What the code makes of the indices of a constant pool, each by one name (this project's own). No
+-- public clause cites these.
+use Rattle.std.specs.Prelude.{◌≡◌, ℕ, Bool, List, map, Option, option_and_then}
+use Rattle.std.specs.Option.{option_map}
+use Rattle.class_model.specs.declared.attribute.Attr.{Attr}
+use Rattle.class_model.specs.declared.class.Member.{Member}
+use Rattle.class_model.specs.declared.constant.Const.{Const}
+use Rattle.class_model.specs.Pool.{entry_of, pair_name_of, pair_desc_of}
+use Rattle.class_link.specs.declared.linked.Entry.{Entry}
+use Rattle.class_link.specs.declared.linked.FieldConstant.{FieldConstant}
+use Rattle.class_link.specs.declared.linked.FieldRef.{FieldRef}
+use Rattle.class_link.specs.declared.linked.LinkedBody.{LinkedBody}
+use Rattle.class_link.specs.declared.linked.LinkedMethod.{LinkedMethod}
+use Rattle.class_link.specs.declared.linked.MethodRef.{MethodRef}
+use Rattle.class_link.specs.declared.loaded.LibBody.{LibBody}
+use Rattle.class_link.specs.declared.loaded.LibMethod.{LibMethod}
+use Rattle.class_link.specs.Linking as linking
+use Rattle.class_link.specs.Symbols.{name_or_empty, class_named, field_ref, method_ref}
+use Rattle.class_link.specs.View.{method_ref_of, field_ref_of, constant_of, body_of, method_of}
+
+-- ---- entries
+
+-- What the two indices of a field's entry name, and those of a method's.
+abbrev pub NamesField : List Const → ℕ → ℕ → FieldRef → Type 0
+NamesField pool class pair r =
+    field_ref_of r
+    ≡ field_ref (class_named pool class) (name_or_empty (pair_name_of pool pair)) (name_or_empty (pair_desc_of pool pair))
+
+abbrev pub NamesMethod : List Const → ℕ → ℕ → Bool → MethodRef → Type 0
+NamesMethod pool class pair interface r =
+    method_ref_of r
+    ≡ method_ref interface (class_named pool class) (name_or_empty (pair_name_of pool pair)) (name_or_empty (pair_desc_of pool pair))
+
+-- ---- fields
+
+-- The constant that an entry gives to a field.
+abbrev pub IsConstantIn : List Const → Option Const → Option FieldConstant → Type 0
+IsConstantIn pool entry k = option_map constant_of k ≡ linking.constant_of pool entry
+
+-- The constant that attributes give to a field.
+abbrev pub IsConstantBy : List Const → List Attr → Option FieldConstant → Type 0
+IsConstantBy pool attrs k =
+    option_map constant_of k ≡ option_and_then (λ index. linking.constant_of pool (entry_of pool index)) (linking.first_of linking.value_of attrs)
+
+-- ---- methods
+
+-- The body that attributes give to a method.
+abbrev pub IsBodyBy : List Entry → List Const → List Attr → LinkedBody → Type 0
+IsBodyBy es pool attrs b = body_of es b ≡ linking.body_of pool (linking.first_of linking.code_within attrs)
+
+abbrev pub IsMethodIn : List Entry → List Const → Member → LinkedMethod → Type 0
+IsMethodIn es pool member m = method_of es m ≡ linking.method_in pool member
+
+abbrev pub AreMethodsIn : List Entry → List Const → List Member → List LinkedMethod → Type 0
+AreMethodsIn es pool members ms = map (method_of es) ms ≡ map (linking.method_in pool) members
+
+-- ---- the library, whatever the entries are
+
+abbrev pub IsLibraryBody : LibBody → LinkedBody → Type 0
+IsLibraryBody written b = (es : List Entry) → body_of es b ≡ linking.library_body written
+
+abbrev pub IsLibraryMethod : LibMethod → LinkedMethod → Type 0
+IsLibraryMethod written m = (es : List Entry) → method_of es m ≡ linking.library_method written
+
+abbrev pub AreLibraryMethods : List LibMethod → List LinkedMethod → Type 0
+AreLibraryMethods written ms =
+    (es : List Entry) → map (method_of es) ms ≡ map linking.library_method written
