@@ -1,15 +1,15 @@
 -- A class file that an edit makes of another one means the other's class but for the body of the edited method.
-use Rattle.std.proofs.Common.{◌≡◌, ◌∙◌, sym, refl, ap, ℕ, zero, suc, ◌<◌, ◌^◌, Bool, true, false, List, [], ◌∷◌, ◌++◌, map, length, Option, None, Some, slice_get, subst, arith}
+use Rattle.std.proofs.Common.{◌≡◌, ◌∙◌, sym, refl, ap, ℕ, zero, suc, ◌<◌, ◌^◌, Bool, true, false, List, [], ◌∷◌, ◌++◌, map, length, None, Some, slice_get, subst}
 use Rattle.std.specs.Prelude.{slice_set, nat_lt, ◌&&◌}
 use Rattle.std.specs.List.{list_all}
 use Rattle.std.proofs.lemmas.Bool.{ltb-true}
-use Rattle.std.proofs.lemmas.List.{append-nil, map-append, length-map}
+use Rattle.std.proofs.lemmas.List.{append-nil, map-append}
 use Rattle.class_model.specs.declared.attribute.Attr.{Attr}
 use Rattle.class_model.specs.declared.class.Class.{Class}
 use Rattle.class_model.specs.declared.class.Member.{Member}
 use Rattle.class_model.specs.declared.constant.Const.{Const}
 use Rattle.program_rules.specs.Instructions as def
-use Rattle.program_rules.specs.Linked.{Linked, LinkedMethod, LinkedBody, HasCode}
+use Rattle.program_rules.specs.Linked.{Linked, LinkedBody, HasCode}
 use Rattle.class_link.specs.declared.instruction.Instruction.{Instruction}
 use Rattle.class_link.specs.declared.instruction.Instruction.TheVariants as ins
 use Rattle.class_link.specs.declared.linked.Entry.{Entry}
@@ -21,6 +21,7 @@ use Rattle.class_link.specs.declared.linked.Switch.{Switch}
 use Rattle.class_link.specs.declared.loaded.ClassBody.{ClassBody}
 use Rattle.class_link.specs.declared.loaded.ClassBody.TheVariants as body
 use Rattle.class_link.specs.declared.loaded.EditedFile.{EditedFile}
+use Rattle.class_link.specs.declared.loaded.Loaded.{Loaded}
 use Rattle.class_link.specs.Edits.{with_attrs_at, with_attrs, class_added, class_edited, AddsAlone, body_by, with_body_at, KeepMethods, IsEdited}
 use Rattle.class_link.specs.Indices.{is_within, is_body_within, is_method_within}
 use Rattle.class_link.specs.Info.{Info, IsInfo, HasEntries, body_name, link_body}
@@ -180,3 +181,9 @@ edited_info i e new info of alone is = record {
   entries = is.kept.entries;
   few = subst (λ n. n < 2 ^ 32) (sym is.is.count) info.few;
 }
+
+pub file_entries : (b : ClassBody) (l : Loaded) (es : List Entry) → b ≡ body.File l → AreEntries es l.class.pool → HasEntries b es
+file_entries b l es is h = subst (λ x. HasEntries x es) (sym is) h
+
+pub edited_entries : (b : ClassBody) (e : EditedFile) (c : Class) (es : List Entry) → b ≡ body.Edited e → c ≡ class_edited e → AreEntries es c.pool → HasEntries b es
+edited_entries b e c es is same h = subst (λ x. HasEntries x es) (sym is) (subst (λ (k : Class). AreEntries es k.pool) same h)

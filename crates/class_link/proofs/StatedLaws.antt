@@ -1,31 +1,24 @@
 -- The kinds of what is linked are those that descriptors state.
-use Rattle.std.proofs.Common.{◌≡◌, ◌∙◌, sym, refl, ap, ℕ, zero, suc, Bool, true, false, List, [], ◌∷◌, map, Option, None, Some, slice_get, subst, arith}
+use Rattle.std.proofs.Common.{◌≡◌, refl, ℕ, zero, suc, Bool, true, false, List, [], ◌∷◌, map, Option, None, Some, slice_get, subst, arith}
 use Rattle.std.specs.Prelude.{⊤, ℤ, ◌==◌, nat_lt, if◌then◌else◌}
-use Rattle.std.specs.Option.{option_map}
-use Rattle.std.proofs.lemmas.Option.{slice_get-map}
 use Rattle.class_model.specs.declared.attribute.Code.{Code, out-Code}
 use Rattle.class_model.specs.declared.class.Class.{Class}
-use Rattle.class_model.specs.declared.class.Member.{Member}
 use Rattle.class_model.specs.declared.constant.Const.{Const}
 use Rattle.class_model.specs.declared.constant.Const.TheVariants as const
 use Rattle.class_model.specs.declared.instruction.Insn.{Insn}
 use Rattle.class_model.specs.declared.instruction.Arg.{Arg}
 use Rattle.class_model.specs.declared.instruction.Arg.TheVariants as arg
 use Rattle.class_model.specs.Pool.{entry_of}
-use Rattle.program_rules.specs.Instructions.{Instruction, FieldRef, MethodRef, TableSwitch, LookupSwitch, Unlinked}
+use Rattle.program_rules.specs.Instructions.{Instruction, TableSwitch, LookupSwitch, Unlinked}
 use Rattle.program_rules.specs.Deeds.{Meaning}
-use Rattle.program_rules.specs.Linked.{Linked, LinkedMethod, LinkedField, LinkedCode, LinkedBody, HasCode, IsNative, NoBody}
-use Rattle.class_link.specs.declared.loaded.ClassBody.{ClassBody}
+use Rattle.program_rules.specs.Linked.{LinkedMethod, LinkedField, LinkedCode, LinkedBody, HasCode}
 use Rattle.class_link.specs.declared.loaded.ClassBody.TheVariants as body
 use Rattle.class_link.specs.declared.loaded.LibBody.{LibBody}
 use Rattle.class_link.specs.declared.loaded.LibBody.TheVariants as lib
 use Rattle.class_link.specs.declared.loaded.LibClass.{LibClass}
-use Rattle.class_link.specs.declared.loaded.LibMethod.{LibMethod}
-use Rattle.class_link.specs.declared.loaded.LibField.{LibField}
-use Rattle.class_link.specs.Symbols.{Symbol, IsOther, IsInteger, IsLong, IsText, IsClass, IsField, IsMethod, symbol_in, symbol_or_other, symbol_at}
+use Rattle.class_link.specs.Symbols.{Symbol, IsOther, IsInteger, IsLong, IsText, IsClass, IsField, IsMethod, symbol_or_other, symbol_at}
 use Rattle.class_link.specs.Opcodes as op
 use Rattle.class_link.specs.Linking as linking
-use Rattle.class_link.specs.Info.{link_body}
 use Rattle.class_link.specs.Edits.{class_edited}
 use Rattle.class_link.specs.Stated.{IsCallStated, IsUseStated, IsStated, HasStatedKinds, LinkedHaveStatedKinds, args_stated, result_stated, field_stated}
 

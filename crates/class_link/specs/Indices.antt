@@ -1,5 +1,5 @@
 -- The indices of a constant pool that instructions name (JVMS 6.5).
-use Rattle.std.specs.Prelude.{ℕ, nat_lt, Bool, true, List, Option, Some, None}
+use Rattle.std.specs.Prelude.{ℕ, nat_lt, Bool, true, Option, Some, None}
 use Rattle.std.specs.List.{list_all}
 use Rattle.class_link.specs.declared.instruction.Instruction.{Instruction}
 use Rattle.class_link.specs.declared.instruction.Instruction.TheVariants as code
