@@ -65,11 +65,12 @@ with_body_at (suc k) b (m ∷ ms) = m ∷ with_body_at k b ms
 abbrev pub HasBody : List Entry → code.LinkedMethod → LinkedBody → code.LinkedMethod → Type 0
 HasBody es old b new = method_of es new ≡ record (method_of es old) { body = b }
 
--- Methods of the code are others with this body at a place.
+-- Methods of the code, with these entries of a pool, are others with the body at a place that
+-- attributes give there.
 abbrev pub HaveBodyAt :
-    List Entry → List code.LinkedMethod → ℕ → LinkedBody → List code.LinkedMethod → Type 0
-HaveBodyAt es old k b new =
-    map (method_of es) new ≡ with_body_at k b (map (method_of es) old)
+    List Entry → List Const → List code.LinkedMethod → ℕ → List Attr → List code.LinkedMethod → Type 0
+HaveBodyAt es pool old k attrs new =
+    map (method_of es) new ≡ with_body_at k (body_by pool attrs) (map (method_of es) old)
 
 -- What isn't edited: all but the methods and the entries is the first class's.
 abbrev pub SharesRest :
@@ -81,7 +82,7 @@ SharesRest c old new = new ≡ record c { methods = old.methods; entries = old.e
 pub record IsRelinked (c : code_class.LinkedClass) (es : List Entry) (pool : List Const) (k : ℕ)
     (attrs : List Attr) (new : code_class.LinkedClass) : Type 0 where
   pub rest : new ≡ record c { methods = new.methods; entries = es }
-  pub methods : HaveBodyAt es c.methods k (body_by pool attrs) new.methods
+  pub methods : HaveBodyAt es pool c.methods k attrs new.methods
   pub count : length new.methods ≡ length c.methods
 
 -- In these entries each index means what it means in the pool, and methods mean what they did.

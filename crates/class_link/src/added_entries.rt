@@ -1,5 +1,5 @@
-//! The run-time constant pool of a class with entries behind those of its class file (JVMS 5.1). What
-//! they name is looked up in the pool; no other entry of it is resolved again.
+//! The run-time constant pool of a class with entries behind those of its class file (JVMS 5.1).
+//! What they name is looked up in the pool; no other entry of it is resolved again.
 
 ghost use Rattle.std.specs.Prelude.{◌≡◌, ◌++◌, map, IfOk, OnOk};
 ghost use Rattle.std.specs.Option.{option_copied};

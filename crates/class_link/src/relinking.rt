@@ -181,7 +181,7 @@ fn relinked_methods(
     attrs: &[Attr],
 ) -> Result<Seq<LinkedMethod>, Memory>
     requires { AreEntries entries.now classes.now }
-    ensures meant { IfOk result (HaveBodyAt entries.now methods.now place (body_by classes.now attrs.now)) }
+    ensures meant { IfOk result (HaveBodyAt entries.now classes.now methods.now place attrs.now) }
     ensures count { IfOk result (λ ms. length ms ≡ length methods.now) }
 {
     let Some(method) = methods.get(place) else {
@@ -210,11 +210,11 @@ fn relink(
     entries: &Shared<Seq<Entry>>,
     pool: &[Const],
     added: &[Const],
-    place: usize,
+    at: usize,
     attrs: &[Attr],
 ) -> Result<LinkedClass, Memory>
     requires { AreEntries entries.now (pool.now ++ added.now) }
-    ensures { IfOk result (IsRelinked class.now entries.now (pool.now ++ added.now) place attrs.now) }
+    ensures { IfOk result (IsRelinked class.now entries.now (pool.now ++ added.now) at attrs.now) }
 {
     let classes = NamedClasses::new(alloc, pool, added, entries.as_slice());
     let methods = relinked_methods(
@@ -222,7 +222,7 @@ fn relink(
         entries.as_slice(),
         &classes,
         &class.methods,
-        place,
+        at,
         attrs,
     )?;
     let mut linked = empty_class(alloc, entries.share()?);
