@@ -81,6 +81,7 @@ other_case n own x other false e ne = refl
 
 file_links : (i : Info) (b : ClassBody) (c : Class) → file_in (record i { body = b }) ≡ Some c → link_body b ≡ link c
 file_links i (body.File l) c h = let same : l.class ≡ c = cc in ap link same
+file_links i (body.Edited e) c h = absurd cc
 file_links i (body.Library k) c h = absurd cc
 
 place_case : (p : List Info) (id : ℕ) (c : Class) (o : Option Info) → slice_get p id ≡ o → All IsInfo p → option_and_then file_in o ≡ Some c → option_map class_of o ≡ Some (link c)

@@ -35,6 +35,7 @@ use Rattle.class_link.specs.declared.linked.LinkedMethod.{LinkedMethod}
 use Rattle.class_link.specs.declared.linked.Native.TheVariants.{InitObject}
 use Rattle.class_link.specs.declared.loaded.ClassBody.{ClassBody}
 use Rattle.class_link.specs.declared.loaded.ClassBody.TheVariants as body
+use Rattle.class_link.specs.Edits.{class_edited}
 use Rattle.class_link.specs.declared.loaded.LibBody.TheVariants as lib
 use Rattle.class_link.specs.Info.{Info}
 use Rattle.class_table.specs.declared.scripted.Test.{Test}
@@ -257,6 +258,7 @@ idle_test = sample_test (codes "idle")
 -- A class file is what its bytes spell.
 abbrev pub IsSpelled : ClassBody → Type 0
 IsSpelled (body.File loaded) = Spells loaded.bytes loaded.class
+IsSpelled (body.Edited e) = Spells e.bytes (class_edited e)
 IsSpelled (body.Library c) = ⊤
 
 -- All that the laws ask: of a program and a mutant of one of its class files; of a mutant of a jump on ints; and of tests, of which one reaches the mutant's line and one doesn't. Both pass.

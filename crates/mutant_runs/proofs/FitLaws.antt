@@ -23,6 +23,7 @@ use Rattle.mutant_runs.proofs.ProgramLaws.{number_at, file_at}
 
 file_named : (i : Info) (b : ClassBody) (c : Class) → file_in (record i { body = b }) ≡ Some c → body_name b ≡ own_name c
 file_named i (body.File l) c h = let e : l.class ≡ c = cc in ap own_name e
+file_named i (body.Edited e) c h = absurd cc
 file_named i (body.Library k) c h = absurd cc
 
 pub files_are_found : FilesAreFound

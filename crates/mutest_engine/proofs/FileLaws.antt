@@ -46,10 +46,11 @@ files_among p n = found_from (λ id. option_and_then file_in (slice_get p id)) 0
 
 abbrev file_of : ClassBody → Option Class
 file_of (body.File loaded) = Some loaded.class
-file_of (body.Library c) = None
+file_of other = None
 
 pub file_by : (i : Info) (b : ClassBody) → i.body ≡ b → file_in i ≡ file_of b
 file_by i (body.File loaded) e = rw e refl
+file_by i (body.Edited edit) e = rw e refl
 file_by i (body.Library c) e = rw e refl
 
 abbrev of_body : ClassBody → Named
