@@ -27,6 +27,15 @@ fn info(alloc: Global, body: ClassBody) -> Result<Arc<ClassInfo, Global>, Memory
     Ok(Arc::new(alloc, info)?)
 }
 
+fn file_info(alloc: Global, loaded: Loaded) -> Result<Arc<ClassInfo, Global>, Memory>
+    ensures body { IfOk result (λ i. (arc_value i).body ≡ File loaded) }
+    ensures name { IfOk result (λ i. (arc_value i).name ≡ body_name (File loaded)) }
+    ensures info { IfOk result (λ i. IsInfo (arc_value i)) }
+{
+    let loaded = Shared::new(alloc, loaded)?;
+    info(alloc, ClassBody::File(loaded))
+}
+
 #[tactic(auto, using(crate::proofs::Meant::meant_more))]
 fn add_files(
     alloc: Global,
@@ -37,8 +46,7 @@ fn add_files(
     ensures classes { OnOk result (AddsClasses infos.old.items (map File classes.items) infos.new.items) }
 {
     for loaded in classes {
-        let loaded = Shared::new(alloc, loaded)?;
-        infos.push(info(alloc, ClassBody::File(loaded))?)?;
+        infos.push(file_info(alloc, loaded)?)?;
     }
     Ok(())
 }
