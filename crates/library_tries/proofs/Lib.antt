@@ -1,1 +1,1 @@
-mod Meaning
+mod Telling

@@ -1,4 +1,3 @@
-pub mod Meant
 pub mod Programs
 pub mod Counted
 pub mod Words

@@ -1,6 +1,6 @@
 //! Runs of the written assertions of both classes.
 
-ghost use Rattle.library_tries.specs.Meant.{AsTold};
+ghost use Rattle.library_tries.specs.Programs.{AsTold};
 ghost use Rattle.library_tries.specs.AssertionTries.{of_4, of_5, equal_holds, equal_fails, equal_throws, equal_throws_of_null, equal_throws_to_null, unequal_holds, unequal_fails, unequal_throws, unequal_throws_of_nulls};
 
 /// The two of `org/junit/Assert`.

@@ -1,6 +1,6 @@
 //! Runs of the written methods of ArrayList.
 
-ghost use Rattle.library_tries.specs.Meant.{AsTold};
+ghost use Rattle.library_tries.specs.Programs.{AsTold};
 ghost use Rattle.library_tries.specs.ListTries.{index_of_first, index_of_second, index_of_none, index_in_nothing, index_of_null, index_past_null, index_of_equal, index_of_twice, contains_second, contains_none, contains_null, contains_no_null, removal_in_the_middle, removal_of_none, removal_of_null, removal_of_one_of_two, removal_of_an_object, removal_of_a_place, equal_lists, equal_empty_lists, equal_nulls_in_lists, longer_list, shorter_list, lists_that_differ, null_in_a_list, list_and_null, list_and_text, lists_of_lists};
 
 /// ArrayList.indexOf.

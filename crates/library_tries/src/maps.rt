@@ -1,6 +1,6 @@
 //! Runs of `find` of mt/Hashed, and the written methods of HashMap.
 
-ghost use Rattle.library_tries.specs.Meant.{AsTold};
+ghost use Rattle.library_tries.specs.Programs.{AsTold};
 ghost use Rattle.library_tries.specs.MapTries.{find_in_nothing, find_first, find_second, find_second_of_one_hash, find_none_of_the_hash, find_none, find_null, find_null_of_empty, find_equal, get_found, get_none, get_of_one_hash, get_none_of_the_hash, get_of_null, get_a_null, put_a_new_key, put_replaces, put_of_one_hash, put_null_twice, remove_in_the_middle, remove_none, remove_none_of_the_hash, remove_null, contains_second_key, contains_no_key, contains_key_null};
 
 /// `find` of mt/Hashed.

@@ -1,6 +1,6 @@
 //! Runs of Objects.equals, Objects.hashCode, String.valueOf, StringBuilder.append.
 
-ghost use Rattle.library_tries.specs.Meant.{AsTold};
+ghost use Rattle.library_tries.specs.Programs.{AsTold};
 ghost use Rattle.library_tries.specs.ObjectTries.{same_are_equal, nulls_are_equal, null_is_no_text, text_is_not_null, boxes_are_equal, texts_are_unequal, null_has_hash_0, hashes_are_equal, null_has_a_text, text_is_its_text, box_has_a_text, append_of_null, append_of_objects};
 
 /// Objects.equals.

@@ -1,6 +1,6 @@
 //! Runs of the written methods of HashSet.
 
-ghost use Rattle.library_tries.specs.Meant.{AsTold};
+ghost use Rattle.library_tries.specs.Programs.{AsTold};
 ghost use Rattle.library_tries.specs.SetTries.{add_twice, add_of_one_hash, add_null_twice, contains_an_element, contains_one_of_the_hash, contains_not_null, contains_a_null, taken_from_the_middle, none_is_taken, none_of_the_hash_is_taken, null_is_taken};
 
 /// HashSet.add.

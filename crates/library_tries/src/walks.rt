@@ -1,6 +1,6 @@
 //! Runs of walks over collections, and faults.
 
-ghost use Rattle.library_tries.specs.Meant.{AsTold};
+ghost use Rattle.library_tries.specs.Programs.{AsTold};
 ghost use Rattle.library_tries.specs.WalkTries.{walk_of_a_list, walk_of_a_set, walk_of_keys, walk_of_values, walk_behind_a_removal, change_in_a_walk, walk_past_the_end, place_outside, negative_capacity, list_as_a_key};
 
 /// Collections are walked in order of insertion, and as they now are.

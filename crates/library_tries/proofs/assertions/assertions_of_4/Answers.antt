@@ -15,7 +15,7 @@ use Rattle.lib_table.specs.LangClasses.{objects, texts, numbers}
 use Rattle.lib_table.specs.Exceptions.{throwables, errors, machine_exceptions, library_exceptions}
 use Rattle.lib_table.specs.Collected.{collections, assertions}
 use Rattle.library_tries.specs.AssertionTries.{of_4, equal_holds, equal_fails, equal_throws, equal_throws_of_null, equal_throws_to_null, unequal_holds, unequal_fails, unequal_throws, unequal_throws_of_nulls}
-use Rattle.library_tries.proofs.Meaning.{as_told}
+use Rattle.library_tries.proofs.Telling.{as_told}
 use Rattle.library_tries.proofs.assertions.assertions_of_4.Goals as goal
 
 pub returns : goal.returns

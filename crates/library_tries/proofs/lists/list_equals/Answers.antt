@@ -15,7 +15,7 @@ use Rattle.lib_table.specs.LangClasses.{objects, texts, numbers}
 use Rattle.lib_table.specs.Exceptions.{throwables, errors, machine_exceptions, library_exceptions}
 use Rattle.lib_table.specs.Collected.{collections, assertions}
 use Rattle.library_tries.specs.ListTries.{equal_lists, equal_empty_lists, equal_nulls_in_lists, longer_list, shorter_list, lists_that_differ, null_in_a_list, list_and_null, list_and_text, lists_of_lists}
-use Rattle.library_tries.proofs.Meaning.{as_told}
+use Rattle.library_tries.proofs.Telling.{as_told}
 use Rattle.library_tries.proofs.lists.list_equals.Goals as goal
 
 pub returns : goal.returns

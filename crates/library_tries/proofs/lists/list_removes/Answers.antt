@@ -15,7 +15,7 @@ use Rattle.lib_table.specs.LangClasses.{objects, texts, numbers}
 use Rattle.lib_table.specs.Exceptions.{throwables, errors, machine_exceptions, library_exceptions}
 use Rattle.lib_table.specs.Collected.{collections, assertions}
 use Rattle.library_tries.specs.ListTries.{removal_in_the_middle, removal_of_none, removal_of_null, removal_of_one_of_two, removal_of_an_object, removal_of_a_place}
-use Rattle.library_tries.proofs.Meaning.{as_told}
+use Rattle.library_tries.proofs.Telling.{as_told}
 use Rattle.library_tries.proofs.lists.list_removes.Goals as goal
 
 pub returns : goal.returns

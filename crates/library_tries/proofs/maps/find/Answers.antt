@@ -15,7 +15,7 @@ use Rattle.lib_table.specs.LangClasses.{objects, texts, numbers}
 use Rattle.lib_table.specs.Exceptions.{throwables, errors, machine_exceptions, library_exceptions}
 use Rattle.lib_table.specs.Collected.{collections, assertions}
 use Rattle.library_tries.specs.MapTries.{find_in_nothing, find_first, find_second, find_second_of_one_hash, find_none_of_the_hash, find_none, find_null, find_null_of_empty, find_equal}
-use Rattle.library_tries.proofs.Meaning.{as_told}
+use Rattle.library_tries.proofs.Telling.{as_told}
 use Rattle.library_tries.proofs.maps.find.Goals as goal
 
 pub returns : goal.returns

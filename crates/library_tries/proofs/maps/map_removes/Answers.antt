@@ -15,7 +15,7 @@ use Rattle.lib_table.specs.LangClasses.{objects, texts, numbers}
 use Rattle.lib_table.specs.Exceptions.{throwables, errors, machine_exceptions, library_exceptions}
 use Rattle.lib_table.specs.Collected.{collections, assertions}
 use Rattle.library_tries.specs.MapTries.{remove_in_the_middle, remove_none, remove_none_of_the_hash, remove_null}
-use Rattle.library_tries.proofs.Meaning.{as_told}
+use Rattle.library_tries.proofs.Telling.{as_told}
 use Rattle.library_tries.proofs.maps.map_removes.Goals as goal
 
 pub returns : goal.returns

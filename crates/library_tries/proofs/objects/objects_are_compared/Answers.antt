@@ -15,7 +15,7 @@ use Rattle.lib_table.specs.LangClasses.{objects, texts, numbers}
 use Rattle.lib_table.specs.Exceptions.{throwables, errors, machine_exceptions, library_exceptions}
 use Rattle.lib_table.specs.Collected.{collections, assertions}
 use Rattle.library_tries.specs.ObjectTries.{same_are_equal, nulls_are_equal, null_is_no_text, text_is_not_null, boxes_are_equal, texts_are_unequal}
-use Rattle.library_tries.proofs.Meaning.{as_told}
+use Rattle.library_tries.proofs.Telling.{as_told}
 use Rattle.library_tries.proofs.objects.objects_are_compared.Goals as goal
 
 pub returns : goal.returns

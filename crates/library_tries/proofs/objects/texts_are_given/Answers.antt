@@ -16,7 +16,7 @@ use Rattle.lib_table.specs.LangClasses.{objects, texts, numbers}
 use Rattle.lib_table.specs.Exceptions.{throwables, errors, machine_exceptions, library_exceptions}
 use Rattle.lib_table.specs.Collected.{collections, assertions}
 use Rattle.library_tries.specs.ObjectTries.{null_has_a_text, text_is_its_text, box_has_a_text, append_of_null, append_of_objects}
-use Rattle.library_tries.proofs.Meaning.{as_told}
+use Rattle.library_tries.proofs.Telling.{as_told}
 use Rattle.library_tries.proofs.objects.texts_are_given.Goals as goal
 
 pub returns : goal.returns

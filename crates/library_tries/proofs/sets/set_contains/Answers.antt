@@ -15,7 +15,7 @@ use Rattle.lib_table.specs.LangClasses.{objects, texts, numbers}
 use Rattle.lib_table.specs.Exceptions.{throwables, errors, machine_exceptions, library_exceptions}
 use Rattle.lib_table.specs.Collected.{collections, assertions}
 use Rattle.library_tries.specs.SetTries.{contains_an_element, contains_one_of_the_hash, contains_not_null, contains_a_null}
-use Rattle.library_tries.proofs.Meaning.{as_told}
+use Rattle.library_tries.proofs.Telling.{as_told}
 use Rattle.library_tries.proofs.sets.set_contains.Goals as goal
 
 pub returns : goal.returns

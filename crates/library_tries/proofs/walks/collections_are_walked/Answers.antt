@@ -15,7 +15,7 @@ use Rattle.lib_table.specs.LangClasses.{objects, texts, numbers}
 use Rattle.lib_table.specs.Exceptions.{throwables, errors, machine_exceptions, library_exceptions}
 use Rattle.lib_table.specs.Collected.{collections, assertions}
 use Rattle.library_tries.specs.WalkTries.{walk_of_a_list, walk_of_a_set, walk_of_keys, walk_of_values, walk_behind_a_removal, change_in_a_walk}
-use Rattle.library_tries.proofs.Meaning.{as_told}
+use Rattle.library_tries.proofs.Telling.{as_told}
 use Rattle.library_tries.proofs.walks.collections_are_walked.Goals as goal
 
 pub returns : goal.returns

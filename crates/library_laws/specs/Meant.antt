@@ -10,7 +10,6 @@ use Rattle.class_link.specs.declared.loaded.LibClass.{LibClass}
 use Rattle.class_link.specs.Linking.{code_in, method_with, library_field, native_or_none}
 use Rattle.library_rules.specs.Numbered.{meaning_numbered}
 use Rattle.lib_table.specs.Library.{library}
-use Rattle.library_tries.specs.Programs.{Try, RunsWith}
 
 abbrev pub body_meant : LibBody → LinkedBody
 body_meant (lib.Native n) = native_or_none (meaning_numbered n)
@@ -36,7 +35,3 @@ class_meant c = (
 -- The classes of the library, each with its name.
 unfoldable pub library_meant : List (Name × Linked)
 library_meant = map class_meant library
-
--- Beside the library a program runs as it was told.
-abbrev pub AsTold : Try → Type 0
-AsTold t = RunsWith library_meant t

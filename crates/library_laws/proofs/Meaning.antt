@@ -1,59 +1,109 @@
 -- The library as the machine sees it, in a form that computes: what `roll-Code` has rolled is no part of it.
 use Prim.Native.String.{String}
-use Rattle.std.proofs.Common.{◌≡◌, ◌∙◌, refl, sym, subst, ap, ℕ, List, [], ◌∷◌, ◌++◌, map, take, drop, codes}
+use Rattle.std.proofs.Common.{◌≡◌, ◌∙◌, refl, ap, append-nil, ℕ, ◌+◌, List, [], ◌∷◌, ◌++◌, map, length, take, drop, codes}
 use Rattle.std.specs.List.{flat_map}
 use Rattle.class_model.specs.DescriptorReading.{parameters_at}
 use Rattle.std.specs.Char.Utf16.{utf16_chars}
 use Rattle.class_model.specs.declared.constant.Const.{Const}
 use Rattle.class_model.specs.declared.instruction.Insn.{Insn}
-use Rattle.class_model.specs.declared.attribute.Attr.{Attr}
+use Rattle.class_model.specs.declared.attribute.Attr.{Attr, roll-Attr}
 use Rattle.class_model.specs.declared.attribute.Body.{Body}
-use Rattle.class_model.specs.declared.attribute.Body.TheOpen.{Code-F}
-use Rattle.class_model.specs.declared.attribute.Body.TheViews.{out-roll-Code}
+use Rattle.class_model.specs.declared.attribute.Body.TheVariants as body
+use Rattle.class_model.specs.declared.attribute.Body.TheOpen.{Body-F, Code-F}
+use Rattle.class_model.specs.declared.attribute.Body.TheViews.{the_lemmas, out-roll-Code}
 use Rattle.class_model.specs.declared.attribute.Code.{Code}
+use Rattle.class_model.specs.declared.frame.Frame.{Frame}
 use Rattle.program_rules.specs.Names.{Name}
-use Rattle.program_rules.specs.Linked.{Linked, LinkedCode, LinkedMethod, HasCode}
+use Rattle.program_rules.specs.Instructions.{Instruction}
+use Rattle.program_rules.specs.Types.{VType, IntType, Obj, FrameShape, SameLocals, Appended, StatedFrame}
+use Rattle.program_rules.specs.Linked.{Linked, LinkedCode, LinkedLine, LinkedMethod, HasCode}
 use Rattle.class_link.specs.declared.loaded.LibMethod.{LibMethod}
 use Rattle.class_link.specs.declared.loaded.LibClass.{LibClass}
-use Rattle.class_link.specs.Linking.{row_in, method_with, content_of, lines_of, frames_of}
+use Rattle.class_link.specs.Linking.{row_in, method_with, content_of, lines_of, frame_in, frames_of}
 use Rattle.class_link.specs.Opcodes.{instruction_in, instruction_by}
 use Rattle.lib_table.specs.Stated as stated
 use Rattle.lib_table.specs.Stated.{body_with}
-use Rattle.lib_table.specs.Steps.{Step, written_of, pool_from, code_from}
+use Rattle.lib_table.specs.Frames.{Local, AnInt, AnObject, FrameAt, with_name, pool_of_frames, frames_from, frame_table}
+use Rattle.lib_table.specs.Steps.{Method, written_of, pool_from, code_from}
 use Rattle.lib_table.specs.Typed.{meant}
 use Rattle.lib_table.specs.Interfaces.{basic_interfaces, collection_interfaces}
 use Rattle.lib_table.specs.LangClasses.{objects, texts, numbers, objects_methods, string_methods, string_builder_methods}
 use Rattle.lib_table.specs.Exceptions.{throwables, errors, machine_exceptions, library_exceptions}
 use Rattle.lib_table.specs.Collected.{collections, assertions, array_list_methods, hashed_methods, hash_map_methods, hash_set_methods, assert_methods, assertions_methods}
 use Rattle.lib_table.specs.Written.{equal_objects, hash_of_object, text_of_any, append_any, list_index_of, list_contains, list_remove, list_equals, find_entry, map_get, map_remove, map_put, map_contains_key, set_contains, set_add, set_remove, assert_equal_objects, assert_unequal_objects, assert_equal_objects_5, assert_unequal_objects_5}
-use Rattle.library_tries.specs.Programs.{Try, RunsWith}
-use Rattle.library_tries.specs.Meant.{AsTold, library_meant, class_meant, method_meant}
+use Rattle.library_laws.specs.Meant.{library_meant, class_meant, method_meant}
 
--- The code of these steps.
-abbrev code_by : List Step → LinkedCode
-code_by ss = record { max_stack = 5; max_locals = 4; instructions = map meant ss; rows = []; lines = []; frames = [] }
+-- A frame as the machine's rules have it.
+abbrev type_by : Local → VType
+type_by AnInt = IntType
+type_by (AnObject c) = Obj c
 
--- A written method of these steps, as a row of the table and as the machine sees it.
-abbrev row : ℕ → String → String → List Step → LibMethod
-row flags name desc ss = stated.method_with flags name desc (body_with (written_of ss))
+abbrev shape_by : List Local → FrameShape
+shape_by [] = SameLocals
+shape_by (l ∷ ls) = Appended (map type_by (l ∷ ls))
 
-abbrev coded : ℕ → String → String → List Step → LinkedMethod
-coded flags name desc ss = method_with flags (codes name) (codes desc) (HasCode (code_by ss))
+abbrev frame_by : FrameAt → StatedFrame
+frame_by f = record { at = f.at; shape = shape_by f.more }
+
+-- The code of a written method.
+abbrev code_by : Method → LinkedCode
+code_by m = record { max_stack = 5; max_locals = 4; instructions = map meant m.steps; rows = []; lines = []; frames = map frame_by m.frames }
+
+-- A written method, as a row of the table and as the machine sees it.
+abbrev row : ℕ → String → String → Method → LibMethod
+row flags name desc m = stated.method_with flags name desc (body_with (written_of m))
+
+abbrev coded : ℕ → String → String → Method → LinkedMethod
+coded flags name desc m = method_with flags (codes name) (codes desc) (HasCode (code_by m))
+
+-- ---- one method
 
 abbrev parts_meant : List Const → Code-F Body Attr Code → LinkedCode
 parts_meant pool c = record { max_stack = c.max_stack; max_locals = c.max_locals; instructions = map (instruction_in pool) c.insns; rows = map (row_in pool) c.rows; lines = flat_map (λ a. lines_of (content_of a)) c.attrs; frames = flat_map (λ a. frames_of pool (content_of a)) c.attrs }
 
-abbrev parts_of : List Insn → Code-F Body Attr Code
-parts_of insns = record { max_stack = 5; max_locals = 4; insns = insns; rows = []; attrs = [] }
+abbrev parts_of : List Insn → List Attr → Code-F Body Attr Code
+parts_of insns attrs = record { max_stack = 5; max_locals = 4; insns = insns; rows = []; attrs = attrs }
 
--- The steps mean the same by their pool.
-abbrev SameSteps : List Step → Type 0
-SameSteps ss = map (instruction_in (pool_from [] ss)) (code_from [] [] ss) ≡ map meant ss
+frames_out : (name : ℕ) (frames : List Frame) → content_of (roll-Attr (record { name = name; body = body.Frames frames })) ≡ Body-F.Frames frames
+frames_out name frames = search the_lemmas
 
-is_coded : (flags : ℕ) (name desc : String) (ss : List Step) → SameSteps ss → method_meant (row flags name desc ss) ≡ coded flags name desc ss
-is_coded flags name desc ss same =
-    ap (λ code. method_with flags (codes name) (codes desc) (HasCode (parts_meant (pool_from [] ss) code))) (out-roll-Code (parts_of (code_from [] [] ss)))
-    ∙ ap (λ is. method_with flags (codes name) (codes desc) (HasCode (record { max_stack = 5; max_locals = 4; instructions = is; rows = []; lines = []; frames = [] }))) same
+abbrev code_with : List Instruction → List LinkedLine → List StatedFrame → LinkedCode
+code_with is lines frames = record { max_stack = 5; max_locals = 4; instructions = is; rows = []; lines = lines; frames = frames }
+
+module _ (flags : ℕ) (name desc : String) (m : Method) where
+  abbrev first_pool : List Const
+  first_pool = with_name (pool_from [] m.steps)
+
+  abbrev pool : List Const
+  pool = pool_of_frames first_pool m.frames
+
+  abbrev insns : List Insn
+  insns = code_from [] [] m.steps
+
+  abbrev frames : List Frame
+  frames = frames_from first_pool m.frames
+
+  abbrev with_code : LinkedCode → LinkedMethod
+  with_code code = method_with flags (codes name) (codes desc) (HasCode code)
+
+  -- By their pool the instructions and the frames mean the same.
+  abbrev SameSteps : Type 0
+  SameSteps = map (instruction_in pool) insns ≡ map meant m.steps
+
+  abbrev SameFrames : Type 0
+  SameFrames = map (frame_in pool) frames ≡ map frame_by m.frames
+
+  is_coded : SameSteps → SameFrames → method_meant (row flags name desc m) ≡ coded flags name desc m
+  is_coded steps same =
+      let table = length (pool_from [] m.steps) + 1 in
+      let attrs = frame_table table frames in
+      let out = frames_out table frames in
+      ap (λ code. with_code (parts_meant pool code)) (out-roll-Code (parts_of insns attrs))
+      ∙ ap (λ b. with_code (code_with (map (instruction_in pool) insns) (lines_of b ++ []) (frames_of pool b ++ []))) out
+      ∙ ap (λ fs. with_code (code_with (map (instruction_in pool) insns) [] fs)) (append-nil (map (frame_in pool) frames) ∙ same)
+      ∙ ap (λ is. with_code (code_with is [] (map frame_by m.frames))) steps
+
+-- ---- the classes with written methods
 
 -- A class with these methods in the place of its own.
 abbrev with_methods : LibClass → List LinkedMethod → Name × Linked
@@ -67,11 +117,11 @@ objects_with a b = with_methods objects_class (a ∷ b ∷ [])
 
 equal_objects_is : method_meant (row 9 "equals" "(Ljava/lang/Object;Ljava/lang/Object;)Z" equal_objects) ≡ coded 9 "equals" "(Ljava/lang/Object;Ljava/lang/Object;)Z" equal_objects
 unfolding parameters_at instruction_by utf16_chars
-equal_objects_is = is_coded 9 "equals" "(Ljava/lang/Object;Ljava/lang/Object;)Z" equal_objects refl
+equal_objects_is = is_coded 9 "equals" "(Ljava/lang/Object;Ljava/lang/Object;)Z" equal_objects refl refl
 
 hash_of_object_is : method_meant (row 9 "hashCode" "(Ljava/lang/Object;)I" hash_of_object) ≡ coded 9 "hashCode" "(Ljava/lang/Object;)I" hash_of_object
 unfolding parameters_at instruction_by utf16_chars
-hash_of_object_is = is_coded 9 "hashCode" "(Ljava/lang/Object;)I" hash_of_object refl
+hash_of_object_is = is_coded 9 "hashCode" "(Ljava/lang/Object;)I" hash_of_object refl refl
 
 abbrev objects_by : Name × Linked
 objects_by = objects_with (coded 9 "equals" "(Ljava/lang/Object;Ljava/lang/Object;)Z" equal_objects) (coded 9 "hashCode" "(Ljava/lang/Object;)I" hash_of_object)
@@ -89,7 +139,7 @@ string_with a = with_methods string_class (map method_meant (take 20 string_meth
 
 text_of_any_is : method_meant (row 9 "valueOf" "(Ljava/lang/Object;)Ljava/lang/String;" text_of_any) ≡ coded 9 "valueOf" "(Ljava/lang/Object;)Ljava/lang/String;" text_of_any
 unfolding parameters_at instruction_by utf16_chars
-text_of_any_is = is_coded 9 "valueOf" "(Ljava/lang/Object;)Ljava/lang/String;" text_of_any refl
+text_of_any_is = is_coded 9 "valueOf" "(Ljava/lang/Object;)Ljava/lang/String;" text_of_any refl refl
 
 abbrev string_by : Name × Linked
 string_by = string_with (coded 9 "valueOf" "(Ljava/lang/Object;)Ljava/lang/String;" text_of_any)
@@ -106,7 +156,7 @@ builder_with a = with_methods builder_class (map method_meant (take 11 string_bu
 
 append_any_is : method_meant (row 1 "append" "(Ljava/lang/Object;)Ljava/lang/StringBuilder;" append_any) ≡ coded 1 "append" "(Ljava/lang/Object;)Ljava/lang/StringBuilder;" append_any
 unfolding parameters_at instruction_by utf16_chars
-append_any_is = is_coded 1 "append" "(Ljava/lang/Object;)Ljava/lang/StringBuilder;" append_any refl
+append_any_is = is_coded 1 "append" "(Ljava/lang/Object;)Ljava/lang/StringBuilder;" append_any refl refl
 
 abbrev builder_by : Name × Linked
 builder_by = builder_with (coded 1 "append" "(Ljava/lang/Object;)Ljava/lang/StringBuilder;" append_any)
@@ -123,19 +173,19 @@ list_with a b c d = with_methods list_class (map method_meant (take 13 array_lis
 
 list_index_of_is : method_meant (row 1 "indexOf" "(Ljava/lang/Object;)I" list_index_of) ≡ coded 1 "indexOf" "(Ljava/lang/Object;)I" list_index_of
 unfolding parameters_at instruction_by utf16_chars
-list_index_of_is = is_coded 1 "indexOf" "(Ljava/lang/Object;)I" list_index_of refl
+list_index_of_is = is_coded 1 "indexOf" "(Ljava/lang/Object;)I" list_index_of refl refl
 
 list_contains_is : method_meant (row 1 "contains" "(Ljava/lang/Object;)Z" list_contains) ≡ coded 1 "contains" "(Ljava/lang/Object;)Z" list_contains
 unfolding parameters_at instruction_by utf16_chars
-list_contains_is = is_coded 1 "contains" "(Ljava/lang/Object;)Z" list_contains refl
+list_contains_is = is_coded 1 "contains" "(Ljava/lang/Object;)Z" list_contains refl refl
 
 list_remove_is : method_meant (row 1 "remove" "(Ljava/lang/Object;)Z" list_remove) ≡ coded 1 "remove" "(Ljava/lang/Object;)Z" list_remove
 unfolding parameters_at instruction_by utf16_chars
-list_remove_is = is_coded 1 "remove" "(Ljava/lang/Object;)Z" list_remove refl
+list_remove_is = is_coded 1 "remove" "(Ljava/lang/Object;)Z" list_remove refl refl
 
 list_equals_is : method_meant (row 1 "equals" "(Ljava/lang/Object;)Z" list_equals) ≡ coded 1 "equals" "(Ljava/lang/Object;)Z" list_equals
 unfolding parameters_at instruction_by utf16_chars
-list_equals_is = is_coded 1 "equals" "(Ljava/lang/Object;)Z" list_equals refl
+list_equals_is = is_coded 1 "equals" "(Ljava/lang/Object;)Z" list_equals refl refl
 
 abbrev list_by : Name × Linked
 list_by = list_with (coded 1 "indexOf" "(Ljava/lang/Object;)I" list_index_of) (coded 1 "contains" "(Ljava/lang/Object;)Z" list_contains) (coded 1 "remove" "(Ljava/lang/Object;)Z" list_remove) (coded 1 "equals" "(Ljava/lang/Object;)Z" list_equals)
@@ -155,7 +205,7 @@ hashed_with a = with_methods hashed_class (map method_meant (take 7 hashed_metho
 
 find_entry_is : method_meant (row 1 "find" "(Ljava/lang/Object;)I" find_entry) ≡ coded 1 "find" "(Ljava/lang/Object;)I" find_entry
 unfolding parameters_at instruction_by utf16_chars
-find_entry_is = is_coded 1 "find" "(Ljava/lang/Object;)I" find_entry refl
+find_entry_is = is_coded 1 "find" "(Ljava/lang/Object;)I" find_entry refl refl
 
 abbrev hashed_by : Name × Linked
 hashed_by = hashed_with (coded 1 "find" "(Ljava/lang/Object;)I" find_entry)
@@ -172,19 +222,19 @@ map_with a b c d = with_methods map_class (map method_meant (take 9 hash_map_met
 
 map_get_is : method_meant (row 1 "get" "(Ljava/lang/Object;)Ljava/lang/Object;" map_get) ≡ coded 1 "get" "(Ljava/lang/Object;)Ljava/lang/Object;" map_get
 unfolding parameters_at instruction_by utf16_chars
-map_get_is = is_coded 1 "get" "(Ljava/lang/Object;)Ljava/lang/Object;" map_get refl
+map_get_is = is_coded 1 "get" "(Ljava/lang/Object;)Ljava/lang/Object;" map_get refl refl
 
 map_remove_is : method_meant (row 1 "remove" "(Ljava/lang/Object;)Ljava/lang/Object;" map_remove) ≡ coded 1 "remove" "(Ljava/lang/Object;)Ljava/lang/Object;" map_remove
 unfolding parameters_at instruction_by utf16_chars
-map_remove_is = is_coded 1 "remove" "(Ljava/lang/Object;)Ljava/lang/Object;" map_remove refl
+map_remove_is = is_coded 1 "remove" "(Ljava/lang/Object;)Ljava/lang/Object;" map_remove refl refl
 
 map_put_is : method_meant (row 1 "put" "(Ljava/lang/Object;Ljava/lang/Object;)Ljava/lang/Object;" map_put) ≡ coded 1 "put" "(Ljava/lang/Object;Ljava/lang/Object;)Ljava/lang/Object;" map_put
 unfolding parameters_at instruction_by utf16_chars
-map_put_is = is_coded 1 "put" "(Ljava/lang/Object;Ljava/lang/Object;)Ljava/lang/Object;" map_put refl
+map_put_is = is_coded 1 "put" "(Ljava/lang/Object;Ljava/lang/Object;)Ljava/lang/Object;" map_put refl refl
 
 map_contains_key_is : method_meant (row 1 "containsKey" "(Ljava/lang/Object;)Z" map_contains_key) ≡ coded 1 "containsKey" "(Ljava/lang/Object;)Z" map_contains_key
 unfolding parameters_at instruction_by utf16_chars
-map_contains_key_is = is_coded 1 "containsKey" "(Ljava/lang/Object;)Z" map_contains_key refl
+map_contains_key_is = is_coded 1 "containsKey" "(Ljava/lang/Object;)Z" map_contains_key refl refl
 
 abbrev map_by : Name × Linked
 map_by = map_with (coded 1 "get" "(Ljava/lang/Object;)Ljava/lang/Object;" map_get) (coded 1 "remove" "(Ljava/lang/Object;)Ljava/lang/Object;" map_remove) (coded 1 "put" "(Ljava/lang/Object;Ljava/lang/Object;)Ljava/lang/Object;" map_put) (coded 1 "containsKey" "(Ljava/lang/Object;)Z" map_contains_key)
@@ -204,15 +254,15 @@ set_with a b c = with_methods set_class (map method_meant (take 8 hash_set_metho
 
 set_contains_is : method_meant (row 1 "contains" "(Ljava/lang/Object;)Z" set_contains) ≡ coded 1 "contains" "(Ljava/lang/Object;)Z" set_contains
 unfolding parameters_at instruction_by utf16_chars
-set_contains_is = is_coded 1 "contains" "(Ljava/lang/Object;)Z" set_contains refl
+set_contains_is = is_coded 1 "contains" "(Ljava/lang/Object;)Z" set_contains refl refl
 
 set_add_is : method_meant (row 1 "add" "(Ljava/lang/Object;)Z" set_add) ≡ coded 1 "add" "(Ljava/lang/Object;)Z" set_add
 unfolding parameters_at instruction_by utf16_chars
-set_add_is = is_coded 1 "add" "(Ljava/lang/Object;)Z" set_add refl
+set_add_is = is_coded 1 "add" "(Ljava/lang/Object;)Z" set_add refl refl
 
 set_remove_is : method_meant (row 1 "remove" "(Ljava/lang/Object;)Z" set_remove) ≡ coded 1 "remove" "(Ljava/lang/Object;)Z" set_remove
 unfolding parameters_at instruction_by utf16_chars
-set_remove_is = is_coded 1 "remove" "(Ljava/lang/Object;)Z" set_remove refl
+set_remove_is = is_coded 1 "remove" "(Ljava/lang/Object;)Z" set_remove refl refl
 
 abbrev set_by : Name × Linked
 set_by = set_with (coded 1 "contains" "(Ljava/lang/Object;)Z" set_contains) (coded 1 "add" "(Ljava/lang/Object;)Z" set_add) (coded 1 "remove" "(Ljava/lang/Object;)Z" set_remove)
@@ -231,11 +281,11 @@ assert_with a b = with_methods assert_class (map method_meant (take 8 assert_met
 
 assert_equal_objects_is : method_meant (row 9 "assertEquals" "(Ljava/lang/Object;Ljava/lang/Object;)V" assert_equal_objects) ≡ coded 9 "assertEquals" "(Ljava/lang/Object;Ljava/lang/Object;)V" assert_equal_objects
 unfolding parameters_at instruction_by utf16_chars
-assert_equal_objects_is = is_coded 9 "assertEquals" "(Ljava/lang/Object;Ljava/lang/Object;)V" assert_equal_objects refl
+assert_equal_objects_is = is_coded 9 "assertEquals" "(Ljava/lang/Object;Ljava/lang/Object;)V" assert_equal_objects refl refl
 
 assert_unequal_objects_is : method_meant (row 9 "assertNotEquals" "(Ljava/lang/Object;Ljava/lang/Object;)V" assert_unequal_objects) ≡ coded 9 "assertNotEquals" "(Ljava/lang/Object;Ljava/lang/Object;)V" assert_unequal_objects
 unfolding parameters_at instruction_by utf16_chars
-assert_unequal_objects_is = is_coded 9 "assertNotEquals" "(Ljava/lang/Object;Ljava/lang/Object;)V" assert_unequal_objects refl
+assert_unequal_objects_is = is_coded 9 "assertNotEquals" "(Ljava/lang/Object;Ljava/lang/Object;)V" assert_unequal_objects refl refl
 
 abbrev assert_by : Name × Linked
 assert_by = assert_with (coded 9 "assertEquals" "(Ljava/lang/Object;Ljava/lang/Object;)V" assert_equal_objects) (coded 9 "assertNotEquals" "(Ljava/lang/Object;Ljava/lang/Object;)V" assert_unequal_objects)
@@ -253,11 +303,11 @@ assertions_with a b = with_methods assertions_class (map method_meant (take 8 as
 
 assert_equal_objects_5_is : method_meant (row 9 "assertEquals" "(Ljava/lang/Object;Ljava/lang/Object;)V" assert_equal_objects_5) ≡ coded 9 "assertEquals" "(Ljava/lang/Object;Ljava/lang/Object;)V" assert_equal_objects_5
 unfolding parameters_at instruction_by utf16_chars
-assert_equal_objects_5_is = is_coded 9 "assertEquals" "(Ljava/lang/Object;Ljava/lang/Object;)V" assert_equal_objects_5 refl
+assert_equal_objects_5_is = is_coded 9 "assertEquals" "(Ljava/lang/Object;Ljava/lang/Object;)V" assert_equal_objects_5 refl refl
 
 assert_unequal_objects_5_is : method_meant (row 9 "assertNotEquals" "(Ljava/lang/Object;Ljava/lang/Object;)V" assert_unequal_objects_5) ≡ coded 9 "assertNotEquals" "(Ljava/lang/Object;Ljava/lang/Object;)V" assert_unequal_objects_5
 unfolding parameters_at instruction_by utf16_chars
-assert_unequal_objects_5_is = is_coded 9 "assertNotEquals" "(Ljava/lang/Object;Ljava/lang/Object;)V" assert_unequal_objects_5 refl
+assert_unequal_objects_5_is = is_coded 9 "assertNotEquals" "(Ljava/lang/Object;Ljava/lang/Object;)V" assert_unequal_objects_5 refl refl
 
 abbrev assertions_by : Name × Linked
 assertions_by = assertions_with (coded 9 "assertEquals" "(Ljava/lang/Object;Ljava/lang/Object;)V" assert_equal_objects_5) (coded 9 "assertNotEquals" "(Ljava/lang/Object;Ljava/lang/Object;)V" assert_unequal_objects_5)
@@ -290,7 +340,3 @@ is_table =
     ∙ ap (λ c. library_with objects_by string_by builder_by list_by hashed_by map_by c (class_meant assert_class) (class_meant assertions_class)) set_is
     ∙ ap (λ c. library_with objects_by string_by builder_by list_by hashed_by map_by set_by c (class_meant assertions_class)) assert_is
     ∙ ap (λ c. library_with objects_by string_by builder_by list_by hashed_by map_by set_by assert_by c) assertions_is
-
--- What runs as it was told beside the table runs so beside the library.
-pub as_told : (t : Try) → RunsWith table t → AsTold t
-as_told t is = subst (λ l. RunsWith l t) (sym is_table) is
