@@ -4,6 +4,8 @@ use Rattle.class_model.specs.declared.constant.Const.{Const}
 use Rattle.class_model.specs.declared.constant.Const.TheVariants as const
 use Rattle.class_model.specs.declared.instruction.Insn.{Insn}
 use Rattle.class_model.specs.declared.instruction.Arg.TheVariants as arg
+use Rattle.class_model.specs.declared.frame.Frame.{Frame}
+use Rattle.class_model.specs.declared.frame.Shape.TheVariants as shape
 use Rattle.program_rules.specs.Names.{Name}
 use Rattle.class_link.specs.declared.loaded.LibBody.{LibBody}
 use Rattle.class_link.specs.declared.loaded.LibBody.TheVariants as lib
@@ -14,6 +16,8 @@ use Rattle.lib_table.specs.declared.rows.ConstRow.{ConstRow}
 use Rattle.lib_table.specs.declared.rows.ConstRow.TheVariants as const_row
 use Rattle.lib_table.specs.declared.rows.InsnRow.{InsnRow}
 use Rattle.lib_table.specs.declared.rows.InsnRow.TheVariants as insn_row
+use Rattle.lib_table.specs.declared.rows.FrameRow.{FrameRow}
+use Rattle.lib_table.specs.declared.rows.FrameRow.TheVariants as frame_row
 use Rattle.lib_table.specs.declared.rows.CodeRow.{CodeRow}
 use Rattle.lib_table.specs.declared.rows.MethodRow.{MethodRow}
 use Rattle.lib_table.specs.declared.rows.MethodRow.TheVariants as row
@@ -34,8 +38,14 @@ insn_of (insn_row.Jump op to) = record { op = op; wide = false; arg = arg.To to 
 insn_of (insn_row.Increment k z) = record { op = 0x84; wide = false; arg = arg.Inc k z }
 insn_of (insn_row.Pool op n) = record { op = op; wide = false; arg = arg.Pool n }
 
+abbrev pub frame_of : FrameRow → Frame
+frame_of (frame_row.Same at) = record { at = at; shape = shape.Same false }
+frame_of (frame_row.More at items) = record { at = at; shape = shape.Append items.now }
+
 abbrev pub body_of : CodeRow → LibBody
-body_of r = lib.Written (map const_of r.pool.now) (code_of (map insn_of r.insns.now))
+body_of r =
+    lib.Written (map const_of r.pool.now)
+    (code_of (map insn_of r.insns.now) r.table (map frame_of r.frames.now))
 
 abbrev pub method_with : ℕ → Name → Name → LibBody → LibMethod
 method_with flags name desc body =

@@ -9,7 +9,7 @@ use Rattle.class_link.specs.declared.loaded.LibField.{LibField}
 use Rattle.class_link.specs.declared.loaded.LibClass.{LibClass}
 use Rattle.library_rules.specs.declared.native.Native.{Native}
 use Rattle.library_rules.specs.Places.{number_of}
-use Rattle.lib_table.specs.Steps.{Step, Written, written_of}
+use Rattle.lib_table.specs.Steps.{Method, Written, written_of}
 
 abbrev pub method_with : ℕ → String → String → LibBody → LibMethod
 method_with flags name desc body =
@@ -30,11 +30,11 @@ abbrev pub body_with : Written → LibBody
 body_with w = lib.Written w.pool w.code
 
 -- A public method with code, and a public static one.
-abbrev pub written : String → String → List Step → LibMethod
-written name desc steps = method_with 1 name desc (body_with (written_of steps))
+abbrev pub written : String → String → Method → LibMethod
+written name desc m = method_with 1 name desc (body_with (written_of m))
 
-abbrev pub static_written : String → String → List Step → LibMethod
-static_written name desc steps = method_with 9 name desc (body_with (written_of steps))
+abbrev pub static_written : String → String → Method → LibMethod
+static_written name desc m = method_with 9 name desc (body_with (written_of m))
 
 -- A private field.
 abbrev pub field : String → String → LibField

@@ -1,5 +1,5 @@
--- The code of a written method: its instructions by names, and the constant pool that they need, in
--- which each has entries of its own (JVMS 4.4).
+-- The code of a written method: its instructions by names, its frames, and the constant pool that
+-- they need, in which each has entries of its own (JVMS 4.4).
 use Prim.Native.String.{String}
 use Rattle.std.specs.Prelude.{ℕ, ◌+◌, ℤ, false, List, [], ◌∷◌, ◌++◌, length, codes}
 use Rattle.class_model.specs.declared.constant.Const.{Const}
@@ -7,7 +7,9 @@ use Rattle.class_model.specs.declared.constant.Const.TheVariants as const
 use Rattle.class_model.specs.declared.instruction.Insn.{Insn}
 use Rattle.class_model.specs.declared.instruction.Arg.TheVariants as arg
 use Rattle.class_model.specs.declared.attribute.Code.{Code, roll-Code}
+use Rattle.class_model.specs.declared.frame.Frame.{Frame}
 use Rattle.program_rules.specs.Names.{Name}
+use Rattle.lib_table.specs.Frames.{FrameAt, frame_table, frames_from, pool_of_frames, with_name}
 
 -- An instruction by its opcode (JVMS 6.5).
 pub data Step : Type 0 where
@@ -72,10 +74,29 @@ pub record Written : Type 0 where
   pub pool : List Const
   pub code : Code
 
-abbrev pub code_of : List Insn → Code
-code_of insns =
-    roll-Code (record { max_stack = 5; max_locals = 4; insns = insns; rows = []; attrs = [] })
+abbrev pub code_of : List Insn → ℕ → List Frame → Code
+code_of insns table frames =
+    roll-Code (record {
+      max_stack = 5;
+      max_locals = 4;
+      insns = insns;
+      rows = [];
+      attrs = frame_table table frames;
+    })
 
-abbrev pub written_of : List Step → Written
-written_of steps =
-    record { pool = pool_from [] steps; code = code_of (code_from [] [] steps) }
+-- A written method: its frames and its instructions.
+pub record Method : Type 0 where
+  pub frames : List FrameAt
+  pub steps : List Step
+
+abbrev pub method : List FrameAt → List Step → Method
+method frames steps = record { frames = frames; steps = steps }
+
+-- What the frames need stands behind what the instructions need.
+abbrev pub written_of : Method → Written
+written_of m = record {
+  pool = pool_of_frames (with_name (pool_from [] m.steps)) m.frames;
+  code =
+      code_of (code_from [] [] m.steps) (length (pool_from [] m.steps) + 1)
+      (frames_from (with_name (pool_from [] m.steps)) m.frames);
+}

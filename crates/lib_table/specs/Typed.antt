@@ -8,7 +8,7 @@ use Rattle.program_rules.specs.Instructions.{Instruction, MethodRef, NullConstan
 use Rattle.class_model.specs.declared.instruction.Arg.TheVariants as arg
 use Rattle.class_link.specs.Symbols.{IsOther, IsClass, IsMethod, method_ref}
 use Rattle.class_link.specs.Opcodes.{instruction_by}
-use Rattle.lib_table.specs.Steps.{Step, Op, Jump, Text, Class, Call}
+use Rattle.lib_table.specs.Steps.{Method, Step, Op, Jump, Text, Class, Call}
 use Rattle.lib_table.specs.Steps as step
 
 pub data Slot : Type 0 where
@@ -132,5 +132,5 @@ meant (Call op c m d) = instruction_by (λ k. IsMethod (method_ref false c m d))
 abbrev pub is_typed : List Instruction → Bool
 is_typed is = is_typed_from (flat_map targets is) 0 (On []) is
 
-abbrev pub are_typed : List (List Step) → Bool
-are_typed codes = list_all (λ ss. is_typed (map meant ss)) codes
+abbrev pub are_typed : List Method → Bool
+are_typed ms = list_all (λ m. is_typed (map meant m.steps)) ms

@@ -4,7 +4,7 @@ use Rattle.std.specs.List.{list_any, list_all}
 use Rattle.program_rules.specs.Names.{Name, same}
 use Rattle.class_link.specs.declared.loaded.LibMethod.{LibMethod}
 use Rattle.class_link.specs.declared.loaded.LibClass.{LibClass}
-use Rattle.lib_table.specs.Steps.{Step, Op, Jump, Increment, Text, Class, Call}
+use Rattle.lib_table.specs.Steps.{Method, Step, Op, Jump, Increment, Text, Class, Call}
 
 abbrev pub is_named : List LibClass → Name → Bool
 is_named cs n = list_any (λ c. same c.name n) cs
@@ -51,5 +51,5 @@ is_found cs (Jump op to) = true
 is_found cs (Increment k z) = true
 is_found cs (Text t) = true
 
-abbrev pub are_found : List LibClass → List (List Step) → Bool
-are_found cs codes = list_all (list_all (is_found cs)) codes
+abbrev pub are_found : List LibClass → List Method → Bool
+are_found cs ms = list_all (λ m. list_all (is_found cs) m.steps) ms

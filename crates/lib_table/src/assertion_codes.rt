@@ -1,7 +1,7 @@
 //! Written methods, with their constant pools. An operand of a jump is the number of an instruction,
 //! counted from 0; the first entry of a pool is number 1.
 
-use crate::rows::{CodeRow, ConstRow, InsnRow};
+use crate::rows::{CodeRow, ConstRow, FrameRow, InsnRow};
 
 // Assert.assertEquals(Object Object)
 pub const ASSERT_EQUAL_OBJECTS: CodeRow = CodeRow {
@@ -18,6 +18,7 @@ pub const ASSERT_EQUAL_OBJECTS: CodeRow = CodeRow {
         ConstRow::Utf8("()V"),
         ConstRow::Pair(9, 10),
         ConstRow::Method(8, 11),
+        ConstRow::Utf8("StackMapTable"),
     ],
     insns: &[
         InsnRow::Op(0x2a),
@@ -27,6 +28,8 @@ pub const ASSERT_EQUAL_OBJECTS: CodeRow = CodeRow {
         InsnRow::Pool(0xb8, 12),
         InsnRow::Op(0xb1),
     ],
+    table: 13,
+    frames: &[FrameRow::Same(5)],
 };
 
 // Assert.assertNotEquals(Object Object)
@@ -44,6 +47,7 @@ pub const ASSERT_UNEQUAL_OBJECTS: CodeRow = CodeRow {
         ConstRow::Utf8("()V"),
         ConstRow::Pair(9, 10),
         ConstRow::Method(8, 11),
+        ConstRow::Utf8("StackMapTable"),
     ],
     insns: &[
         InsnRow::Op(0x2a),
@@ -53,6 +57,8 @@ pub const ASSERT_UNEQUAL_OBJECTS: CodeRow = CodeRow {
         InsnRow::Pool(0xb8, 12),
         InsnRow::Op(0xb1),
     ],
+    table: 13,
+    frames: &[FrameRow::Same(5)],
 };
 
 // Assertions.assertEquals(Object Object)
@@ -70,6 +76,7 @@ pub const ASSERT_EQUAL_OBJECTS_5: CodeRow = CodeRow {
         ConstRow::Utf8("()V"),
         ConstRow::Pair(9, 10),
         ConstRow::Method(8, 11),
+        ConstRow::Utf8("StackMapTable"),
     ],
     insns: &[
         InsnRow::Op(0x2a),
@@ -79,6 +86,8 @@ pub const ASSERT_EQUAL_OBJECTS_5: CodeRow = CodeRow {
         InsnRow::Pool(0xb8, 12),
         InsnRow::Op(0xb1),
     ],
+    table: 13,
+    frames: &[FrameRow::Same(5)],
 };
 
 // Assertions.assertNotEquals(Object Object)
@@ -96,6 +105,7 @@ pub const ASSERT_UNEQUAL_OBJECTS_5: CodeRow = CodeRow {
         ConstRow::Utf8("()V"),
         ConstRow::Pair(9, 10),
         ConstRow::Method(8, 11),
+        ConstRow::Utf8("StackMapTable"),
     ],
     insns: &[
         InsnRow::Op(0x2a),
@@ -105,4 +115,6 @@ pub const ASSERT_UNEQUAL_OBJECTS_5: CodeRow = CodeRow {
         InsnRow::Pool(0xb8, 12),
         InsnRow::Op(0xb1),
     ],
+    table: 13,
+    frames: &[FrameRow::Same(5)],
 };

@@ -1,11 +1,12 @@
 //! The table's rows are made classes.
 
 ghost use Rattle.std.specs.Prelude.{◌≡◌, false, List, [], Some, None, map, codes, IfOk};
-ghost use Rattle.lib_table.specs.Rows.{const_of, insn_of, body_of, method_with, method_of, field_with, class_with, class_of};
+ghost use Rattle.lib_table.specs.Frames.{frame_table};
+ghost use Rattle.lib_table.specs.Rows.{const_of, insn_of, frame_of, body_of, method_with, method_of, field_with, class_with, class_of};
 
-use crate::rows::{ClassRow, CodeRow, ConstRow, InsnRow, MethodRow};
+use crate::rows::{ClassRow, CodeRow, ConstRow, FrameRow, InsnRow, MethodRow};
 use class_link::{LibBody, LibClass, LibField, LibMethod};
-use class_model::{Arg, Code, Const, Insn, Memory, Name, Seq};
+use class_model::{Arg, Attr, Body, Code, Const, Frame, Insn, Memory, Name, Seq, Shape, VItem};
 use std::alloc::Global;
 
 // A text of ASCII.
@@ -84,11 +85,63 @@ fn insns(alloc: Global, rows: &[InsnRow]) -> Result<Seq<Insn>, Memory>
     Ok(Seq::from_vec(insns))
 }
 
+fn items(alloc: Global, types: &[VItem]) -> Result<Seq<VItem>, Memory>
+    ensures { IfOk result (λ items. items ≡ types.now) }
+{
+    let mut items = Vec::with_capacity(alloc, types.len())?;
+    for item in types {
+        items.push(*item)?;
+    }
+    Ok(Seq::from_vec(items))
+}
+
+fn frame(alloc: Global, row: &FrameRow) -> Result<Frame, Memory>
+    ensures { IfOk result (λ frame. frame ≡ frame_of row.now) }
+{
+    match row {
+        FrameRow::Same(at) => Ok(Frame {
+            at: *at,
+            shape: Shape::Same(false),
+        }),
+        FrameRow::More(at, types) => {
+            let more = items(alloc, types)?;
+            Ok(Frame {
+                at: *at,
+                shape: Shape::Append(more),
+            })
+        }
+    }
+}
+
+fn frames(alloc: Global, rows: &[FrameRow]) -> Result<Seq<Frame>, Memory>
+    ensures { IfOk result (λ frames. frames ≡ map frame_of rows.now) }
+{
+    let mut frames = Vec::with_capacity(alloc, rows.len())?;
+    for row in rows {
+        frames.push(frame(alloc, row)?)?;
+    }
+    Ok(Seq::from_vec(frames))
+}
+
+// The one attribute of the code.
+fn frame_table(alloc: Global, name: u16, rows: &[FrameRow]) -> Result<Seq<Attr>, Memory>
+    ensures { IfOk result (λ attrs. attrs ≡ frame_table name (map frame_of rows.now)) }
+{
+    let frames = frames(alloc, rows)?;
+    let mut attrs = Vec::with_capacity(alloc, 1)?;
+    attrs.push(Attr {
+        name,
+        body: Body::Frames(frames),
+    })?;
+    Ok(Seq::from_vec(attrs))
+}
+
 fn body(alloc: Global, row: &CodeRow) -> Result<LibBody, Memory>
     ensures { IfOk result (λ body. body ≡ body_of row.now) }
 {
     let pool = pool(alloc, row.pool)?;
     let insns = insns(alloc, row.insns)?;
+    let attrs = frame_table(alloc, row.table, row.frames)?;
     Ok(LibBody::Written(
         pool,
         Code {
@@ -96,7 +149,7 @@ fn body(alloc: Global, row: &CodeRow) -> Result<LibBody, Memory>
             max_locals: 4,
             insns,
             rows: Seq::new(alloc),
-            attrs: Seq::new(alloc),
+            attrs,
         },
     ))
 }

@@ -1,7 +1,7 @@
 //! Written methods, with their constant pools. An operand of a jump is the number of an instruction,
 //! counted from 0; the first entry of a pool is number 1.
 
-use crate::rows::{CodeRow, ConstRow, InsnRow};
+use crate::rows::{CodeRow, ConstRow, FrameRow, InsnRow};
 
 // Objects.equals(Object Object)
 pub const EQUAL_OBJECTS: CodeRow = CodeRow {
@@ -12,6 +12,7 @@ pub const EQUAL_OBJECTS: CodeRow = CodeRow {
         ConstRow::Utf8("(Ljava/lang/Object;)Z"),
         ConstRow::Pair(3, 4),
         ConstRow::Method(2, 5),
+        ConstRow::Utf8("StackMapTable"),
     ],
     insns: &[
         InsnRow::Op(0x2a),
@@ -28,6 +29,8 @@ pub const EQUAL_OBJECTS: CodeRow = CodeRow {
         InsnRow::Pool(0xb6, 6),
         InsnRow::Op(0xac),
     ],
+    table: 7,
+    frames: &[FrameRow::Same(5), FrameRow::Same(9)],
 };
 
 // Objects.hashCode(Object)
@@ -39,6 +42,7 @@ pub const HASH_OF_OBJECT: CodeRow = CodeRow {
         ConstRow::Utf8("()I"),
         ConstRow::Pair(3, 4),
         ConstRow::Method(2, 5),
+        ConstRow::Utf8("StackMapTable"),
     ],
     insns: &[
         InsnRow::Op(0x2a),
@@ -49,6 +53,8 @@ pub const HASH_OF_OBJECT: CodeRow = CodeRow {
         InsnRow::Pool(0xb6, 6),
         InsnRow::Op(0xac),
     ],
+    table: 7,
+    frames: &[FrameRow::Same(4)],
 };
 
 // String.valueOf(Object)
@@ -62,6 +68,7 @@ pub const TEXT_OF_ANY: CodeRow = CodeRow {
         ConstRow::Utf8("()Ljava/lang/String;"),
         ConstRow::Pair(5, 6),
         ConstRow::Method(4, 7),
+        ConstRow::Utf8("StackMapTable"),
     ],
     insns: &[
         InsnRow::Op(0x2a),
@@ -72,6 +79,8 @@ pub const TEXT_OF_ANY: CodeRow = CodeRow {
         InsnRow::Pool(0xb6, 8),
         InsnRow::Op(0xb0),
     ],
+    table: 9,
+    frames: &[FrameRow::Same(4)],
 };
 
 // StringBuilder.append(Object)
@@ -89,6 +98,7 @@ pub const APPEND_ANY: CodeRow = CodeRow {
         ConstRow::Utf8("(Ljava/lang/String;)Ljava/lang/StringBuilder;"),
         ConstRow::Pair(9, 10),
         ConstRow::Method(8, 11),
+        ConstRow::Utf8("StackMapTable"),
     ],
     insns: &[
         InsnRow::Op(0x2a),
@@ -97,4 +107,6 @@ pub const APPEND_ANY: CodeRow = CodeRow {
         InsnRow::Pool(0xb6, 12),
         InsnRow::Op(0xb0),
     ],
+    table: 13,
+    frames: &[],
 };

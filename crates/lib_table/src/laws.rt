@@ -4,7 +4,7 @@ ghost use Rattle.std.specs.Prelude.{◌≡◌, true, map};
 ghost use Rattle.library_rules.specs.declared.native.TheConstants.{NATIVES};
 ghost use Rattle.library_rules.specs.Places.{number_of};
 ghost use Rattle.lib_table.specs.Library.{library};
-ghost use Rattle.lib_table.specs.Written.{written_codes};
+ghost use Rattle.lib_table.specs.Written.{written_methods};
 ghost use Rattle.lib_table.specs.Whole.{is_whole, have_own_names, are_places, are_found};
 ghost use Rattle.lib_table.specs.Typed.{are_typed};
 
@@ -29,12 +29,12 @@ pub fn numbers_are_places()
 /// Each method that a written method calls stands in the class that it names.
 #[tactic(auto, using(crate::proofs::Tested::found))]
 pub fn written_calls_are_found()
-    ensures { are_found library written_codes ≡ true }
+    ensures { are_found library written_methods ≡ true }
 {}
 
 /// The stack of each written method has what each instruction needs, is within its limit, and is empty
 /// where a jump goes; and each local is one of those that the code has.
 #[tactic(auto, using(crate::proofs::Typing::typed))]
 pub fn written_methods_are_typed()
-    ensures { are_typed written_codes ≡ true }
+    ensures { are_typed written_methods ≡ true }
 {}

@@ -22,4 +22,4 @@ pub use laws::{
 };
 pub use list_codes::LIST_REMOVE;
 pub use map_codes::{FIND_ENTRY, MAP_PUT};
-pub use rows::{CodeRow, ConstRow, InsnRow};
+pub use rows::{CodeRow, ConstRow, FrameRow, InsnRow};

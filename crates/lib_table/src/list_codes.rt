@@ -1,7 +1,8 @@
 //! Written methods, with their constant pools. An operand of a jump is the number of an instruction,
 //! counted from 0; the first entry of a pool is number 1.
 
-use crate::rows::{CodeRow, ConstRow, InsnRow};
+use crate::rows::{CodeRow, ConstRow, FrameRow, InsnRow};
+use class_model::VItem;
 
 // ArrayList.indexOf(Object)
 pub const LIST_INDEX_OF: CodeRow = CodeRow {
@@ -24,6 +25,7 @@ pub const LIST_INDEX_OF: CodeRow = CodeRow {
         ConstRow::Utf8("(Ljava/lang/Object;Ljava/lang/Object;)Z"),
         ConstRow::Pair(15, 16),
         ConstRow::Method(14, 17),
+        ConstRow::Utf8("StackMapTable"),
     ],
     insns: &[
         InsnRow::Op(0x03),
@@ -45,6 +47,12 @@ pub const LIST_INDEX_OF: CodeRow = CodeRow {
         InsnRow::Op(0x02),
         InsnRow::Op(0xac),
     ],
+    table: 19,
+    frames: &[
+        FrameRow::More(2, &[VItem::Integer]),
+        FrameRow::Same(14),
+        FrameRow::Same(16),
+    ],
 };
 
 // ArrayList.contains(Object)
@@ -56,6 +64,7 @@ pub const LIST_CONTAINS: CodeRow = CodeRow {
         ConstRow::Utf8("(Ljava/lang/Object;)I"),
         ConstRow::Pair(3, 4),
         ConstRow::Method(2, 5),
+        ConstRow::Utf8("StackMapTable"),
     ],
     insns: &[
         InsnRow::Op(0x2a),
@@ -67,6 +76,8 @@ pub const LIST_CONTAINS: CodeRow = CodeRow {
         InsnRow::Op(0x03),
         InsnRow::Op(0xac),
     ],
+    table: 7,
+    frames: &[FrameRow::Same(6)],
 };
 
 // ArrayList.remove(Object)
@@ -84,6 +95,7 @@ pub const LIST_REMOVE: CodeRow = CodeRow {
         ConstRow::Utf8("(I)Ljava/lang/Object;"),
         ConstRow::Pair(9, 10),
         ConstRow::Method(8, 11),
+        ConstRow::Utf8("StackMapTable"),
     ],
     insns: &[
         InsnRow::Op(0x2a),
@@ -101,6 +113,8 @@ pub const LIST_REMOVE: CodeRow = CodeRow {
         InsnRow::Op(0x04),
         InsnRow::Op(0xac),
     ],
+    table: 13,
+    frames: &[FrameRow::More(8, &[VItem::Integer])],
 };
 
 // ArrayList.equals(Object)
@@ -146,6 +160,9 @@ pub const LIST_EQUALS: CodeRow = CodeRow {
         ConstRow::Utf8("(Ljava/lang/Object;Ljava/lang/Object;)Z"),
         ConstRow::Pair(37, 38),
         ConstRow::Method(36, 39),
+        ConstRow::Utf8("StackMapTable"),
+        ConstRow::Utf8("java/util/ArrayList"),
+        ConstRow::Class(42),
     ],
     insns: &[
         InsnRow::Op(0x2b),
@@ -183,5 +200,13 @@ pub const LIST_EQUALS: CodeRow = CodeRow {
         InsnRow::Jump(0xa7, 17),
         InsnRow::Op(0x04),
         InsnRow::Op(0xac),
+    ],
+    table: 41,
+    frames: &[
+        FrameRow::Same(5),
+        FrameRow::More(15, &[VItem::Object(43)]),
+        FrameRow::More(17, &[VItem::Integer]),
+        FrameRow::Same(31),
+        FrameRow::Same(33),
     ],
 };

@@ -1,7 +1,8 @@
 //! Written methods, with their constant pools. An operand of a jump is the number of an instruction,
 //! counted from 0; the first entry of a pool is number 1.
 
-use crate::rows::{CodeRow, ConstRow, InsnRow};
+use crate::rows::{CodeRow, ConstRow, FrameRow, InsnRow};
+use class_model::VItem;
 
 // mt/Hashed.find(Object): the place of the entry of a key, -1 where there is none
 pub const FIND_ENTRY: CodeRow = CodeRow {
@@ -36,6 +37,7 @@ pub const FIND_ENTRY: CodeRow = CodeRow {
         ConstRow::Utf8("(Ljava/lang/Object;Ljava/lang/Object;)Z"),
         ConstRow::Pair(27, 28),
         ConstRow::Method(26, 29),
+        ConstRow::Utf8("StackMapTable"),
     ],
     insns: &[
         InsnRow::Op(0x2b),
@@ -65,6 +67,13 @@ pub const FIND_ENTRY: CodeRow = CodeRow {
         InsnRow::Op(0x02),
         InsnRow::Op(0xac),
     ],
+    table: 31,
+    frames: &[
+        FrameRow::More(5, &[VItem::Integer, VItem::Integer]),
+        FrameRow::Same(20),
+        FrameRow::Same(22),
+        FrameRow::Same(24),
+    ],
 };
 
 // HashMap.get(Object)
@@ -82,6 +91,7 @@ pub const MAP_GET: CodeRow = CodeRow {
         ConstRow::Utf8("(I)Ljava/lang/Object;"),
         ConstRow::Pair(9, 10),
         ConstRow::Method(8, 11),
+        ConstRow::Utf8("StackMapTable"),
     ],
     insns: &[
         InsnRow::Op(0x2a),
@@ -97,6 +107,8 @@ pub const MAP_GET: CodeRow = CodeRow {
         InsnRow::Op(0x01),
         InsnRow::Op(0xb0),
     ],
+    table: 13,
+    frames: &[FrameRow::More(10, &[VItem::Integer])],
 };
 
 // HashMap.remove(Object)
@@ -114,6 +126,7 @@ pub const MAP_REMOVE: CodeRow = CodeRow {
         ConstRow::Utf8("(I)Ljava/lang/Object;"),
         ConstRow::Pair(9, 10),
         ConstRow::Method(8, 11),
+        ConstRow::Utf8("StackMapTable"),
     ],
     insns: &[
         InsnRow::Op(0x2a),
@@ -129,6 +142,8 @@ pub const MAP_REMOVE: CodeRow = CodeRow {
         InsnRow::Op(0x01),
         InsnRow::Op(0xb0),
     ],
+    table: 13,
+    frames: &[FrameRow::More(10, &[VItem::Integer])],
 };
 
 // HashMap.put(Object Object)
@@ -158,6 +173,7 @@ pub const MAP_PUT: CodeRow = CodeRow {
         ConstRow::Utf8("(ILjava/lang/Object;Ljava/lang/Object;)V"),
         ConstRow::Pair(21, 22),
         ConstRow::Method(20, 23),
+        ConstRow::Utf8("StackMapTable"),
     ],
     insns: &[
         InsnRow::Op(0x2a),
@@ -180,6 +196,8 @@ pub const MAP_PUT: CodeRow = CodeRow {
         InsnRow::Op(0x01),
         InsnRow::Op(0xb0),
     ],
+    table: 25,
+    frames: &[FrameRow::More(11, &[VItem::Integer])],
 };
 
 // HashMap.containsKey(Object)
@@ -191,6 +209,7 @@ pub const MAP_CONTAINS_KEY: CodeRow = CodeRow {
         ConstRow::Utf8("(Ljava/lang/Object;)I"),
         ConstRow::Pair(3, 4),
         ConstRow::Method(2, 5),
+        ConstRow::Utf8("StackMapTable"),
     ],
     insns: &[
         InsnRow::Op(0x2a),
@@ -202,6 +221,8 @@ pub const MAP_CONTAINS_KEY: CodeRow = CodeRow {
         InsnRow::Op(0x03),
         InsnRow::Op(0xac),
     ],
+    table: 7,
+    frames: &[FrameRow::Same(6)],
 };
 
 // HashSet.contains(Object)
@@ -213,6 +234,7 @@ pub const SET_CONTAINS: CodeRow = CodeRow {
         ConstRow::Utf8("(Ljava/lang/Object;)I"),
         ConstRow::Pair(3, 4),
         ConstRow::Method(2, 5),
+        ConstRow::Utf8("StackMapTable"),
     ],
     insns: &[
         InsnRow::Op(0x2a),
@@ -224,6 +246,8 @@ pub const SET_CONTAINS: CodeRow = CodeRow {
         InsnRow::Op(0x03),
         InsnRow::Op(0xac),
     ],
+    table: 7,
+    frames: &[FrameRow::Same(6)],
 };
 
 // HashSet.add(Object)
@@ -247,6 +271,7 @@ pub const SET_ADD: CodeRow = CodeRow {
         ConstRow::Utf8("(ILjava/lang/Object;Ljava/lang/Object;)V"),
         ConstRow::Pair(15, 16),
         ConstRow::Method(14, 17),
+        ConstRow::Utf8("StackMapTable"),
     ],
     insns: &[
         InsnRow::Op(0x2a),
@@ -264,6 +289,8 @@ pub const SET_ADD: CodeRow = CodeRow {
         InsnRow::Op(0x04),
         InsnRow::Op(0xac),
     ],
+    table: 19,
+    frames: &[FrameRow::Same(6)],
 };
 
 // HashSet.remove(Object)
@@ -281,6 +308,7 @@ pub const SET_REMOVE: CodeRow = CodeRow {
         ConstRow::Utf8("(I)Ljava/lang/Object;"),
         ConstRow::Pair(9, 10),
         ConstRow::Method(8, 11),
+        ConstRow::Utf8("StackMapTable"),
     ],
     insns: &[
         InsnRow::Op(0x2a),
@@ -298,4 +326,6 @@ pub const SET_REMOVE: CodeRow = CodeRow {
         InsnRow::Op(0x03),
         InsnRow::Op(0xac),
     ],
+    table: 13,
+    frames: &[FrameRow::More(12, &[VItem::Integer])],
 };

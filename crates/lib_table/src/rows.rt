@@ -1,5 +1,7 @@
 //! What a row of the table has. Each kind of row is a word of `specs/Stated.antt`.
 
+use class_model::VItem;
+
 /// An entry of the constant pool of a written method.
 #[derive(Clone, Copy)]
 pub enum ConstRow {
@@ -23,11 +25,22 @@ pub enum InsnRow {
     Pool(u8, u16),
 }
 
-/// A written method: its constant pool and its code.
+/// A frame without a stack, by its instruction: with the locals of the frame before it, and with
+/// these more.
+#[derive(Clone, Copy)]
+pub enum FrameRow {
+    Same(u32),
+    More(u32, &'static [VItem]),
+}
+
+/// A written method: its constant pool, its code, and its frames with the index of the name of
+/// their table.
 #[derive(Clone, Copy)]
 pub struct CodeRow {
     pub pool: &'static [ConstRow],
     pub insns: &'static [InsnRow],
+    pub table: u16,
+    pub frames: &'static [FrameRow],
 }
 
 /// A public method: a native one by its number, each with its name and its descriptor.

@@ -1,0 +1,16 @@
+//! The library's code is accepted.
+
+ghost use Rattle.std.specs.Prelude.{◌≡◌, true, Some};
+ghost use Rattle.program_rules.specs.Names.{Name};
+ghost use Rattle.program_rules.specs.Linked.{Linked};
+ghost use Rattle.program_rules.specs.Programs.{Look};
+ghost use Rattle.type_rules.specs.Rules.{ClassAccepted};
+ghost use Rattle.library_laws.specs.Beside.{AreOfFiles, beside_library};
+
+/// Beside any classes of class files each class of the library is accepted.
+#[tactic(auto, using(crate::proofs::Accepting::accepted))]
+pub fn library_is_accepted()
+    ensures { (other : Look) → AreOfFiles other → (n : Name) (c : Linked) →
+        beside_library other n ≡ Some c → c.library ≡ true →
+        ClassAccepted (beside_library other) n }
+{}

@@ -1,0 +1,6 @@
+//! Laws of the library's table: what its code owes to the rules of types.
+#![tactic(auto)]
+
+mod accepted;
+
+pub use accepted::library_is_accepted;

@@ -1,0 +1,23 @@
+use Rattle.std.proofs.Common.{refl}
+use Rattle.std.specs.Int.{int_wrap}
+use Rattle.std.specs.Char.Utf16.{utf16_chars}
+use Rattle.class_model.specs.DescriptorReading.{parameters_at}
+use Rattle.class_link.specs.Opcodes.{instruction_by}
+use Rattle.program_rules.specs.Programs.{supers, nodes, family}
+use Rattle.program_rules.specs.Resolution.{resolve_field, resolve_method}
+use Rattle.program_rules.specs.Selection.{select_virtual, select_named}
+use Rattle.machine_rules.specs.Initialisation.{need_of}
+use Rattle.machine_rules.specs.Lookups.{is_instance}
+use Rattle.machine_rules.specs.Steps.{act, step_of}
+use Rattle.library_rules.specs.Arguments.{on_receiver, on_receiver_int, on_receiver_value}
+use Rattle.lib_table.specs.Interfaces.{basic_interfaces, collection_interfaces}
+use Rattle.lib_table.specs.LangClasses.{objects, texts, numbers}
+use Rattle.lib_table.specs.Exceptions.{throwables, errors, machine_exceptions, library_exceptions}
+use Rattle.lib_table.specs.Collected.{collections, assertions}
+use Rattle.library_tries.specs.SetTries.{contains_an_element, contains_one_of_the_hash, contains_not_null, contains_a_null}
+use Rattle.library_tries.proofs.Telling.{as_told}
+use Rattle.library_tries.proofs.sets.set_contains.Goals as goal
+
+pub returns : goal.returns
+unfolding int_wrap supers nodes act step_of family resolve_field resolve_method select_virtual select_named need_of is_instance on_receiver on_receiver_int on_receiver_value utf16_chars parameters_at instruction_by basic_interfaces collection_interfaces objects texts numbers throwables errors machine_exceptions library_exceptions collections assertions
+returns c = record { contains_an_element = as_told contains_an_element refl; contains_one_of_the_hash = as_told contains_one_of_the_hash refl; contains_not_null = as_told contains_not_null refl; contains_a_null = as_told contains_a_null refl }

@@ -1,0 +1,9 @@
+pub mod Programs
+pub mod Counted
+pub mod Words
+pub mod ObjectTries
+pub mod ListTries
+pub mod MapTries
+pub mod SetTries
+pub mod WalkTries
+pub mod AssertionTries
