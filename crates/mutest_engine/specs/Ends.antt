@@ -134,6 +134,11 @@ abbrev pub HaltsUntold : Result Command Refusal → Halt → Type 0
 HaltsUntold (Ok command) h = RefusesReading (MayRefuse command) h
 HaltsUntold (Err r) h = (h ≡ halt.Refused r) ⊎ (h ≡ halt.WantOfMemory)
 
+-- The answer is one that the command can have, or the refusal is one that it may have.
+abbrev pub MayAnswer : Command → Result Answer Halt → Type 0
+MayAnswer command result =
+    MatchResult result (λ a. CanAnswer command (answered a)) (RefusesReading (MayRefuse command))
+
 abbrev pub AnswersUntold : Result Command Refusal → Result Answer Halt → Type 0
 AnswersUntold words result =
     MatchResult result (λ a. (command : Command) × (words ≡ Ok command) × CanAnswer command (answered a))
