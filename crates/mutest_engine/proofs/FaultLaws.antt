@@ -1,5 +1,5 @@
 -- What is read of a tree, one step after the other.
-use Rattle.std.proofs.Common.{◌≡◌, ◌∙◌, ℕ, ◌≤◌, arith, Option, Result, Ok, Err}
+use Rattle.std.proofs.Common.{◌∙◌, ℕ, ◌≤◌, arith, Option, Result, Ok, Err}
 use Rattle.mt_edge.specs.Files.{Files}
 use Rattle.mutest_engine.specs.Steps.{FailsReading, IsRead, Halts}
 use Rattle.mutest_engine.specs.declared.refusal.Refusal.{Refusal}

@@ -207,6 +207,10 @@ MetersRun held before after options result = MetersHeld held before after (steps
 abbrev pub MetersWords : Option Files → ℕ → ℕ → List (List ℕ) → Result Answer Halt → Type 0
 MetersWords held before after words result = MetersHeld held before after (steps_of words) result
 
+-- This answer is made, unless memory runs out.
+abbrev pub Makes : Answered → Result Answer Halt → Type 0
+Makes stated result = MatchResult result (λ a. answered a ≡ stated) (λ h. h ≡ halt.WantOfMemory)
+
 -- ---- a call, by its answer
 
 abbrev pub Finished : Result Answer Halt → Status → Type 0

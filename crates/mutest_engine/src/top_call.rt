@@ -2,10 +2,10 @@
 
 ghost use Rattle.std.specs.Prelude.{◌≡◌, ◌⊎◌, ◌<◌, ◌≤◌, ◌^◌, IfOk, IfErr, OnOk, Ok};
 ghost use Rattle.mutest_engine.specs.declared.status.Status.TheVariants.{WantOfMemory};
-ghost use Rattle.mutest_engine.specs.Ends.{line_of, status_of, unwritten_status, CarriedOut, TextEnds, AgreesUntold, MayAnswer, AnswersUntold, AnswersHeld, MetersRun, MetersWords, Finished, ReadsFailed, WritesFailed, PutsFailed, MeterStays, HaltStays, Wrote, WroteAll, LeavesOne, LeavesAll, FailsWriting, FilesAfter};
+ghost use Rattle.mutest_engine.specs.Ends.{line_of, status_of, unwritten_status, CarriedOut, TextEnds, AgreesUntold, MayAnswer, AnswersUntold, AnswersHeld, MetersRun, MetersWords, Makes, Finished, ReadsFailed, WritesFailed, PutsFailed, MeterStays, HaltStays, Wrote, WroteAll, LeavesOne, LeavesAll, FailsWriting, FilesAfter};
 ghost use Rattle.mutest_words.specs.Words.{list_class, run_asked, asm_asked, asked_run, asked_asm};
 ghost use Rattle.mutest_engine.specs.Words.{words_of};
-ghost use Rattle.mutest_engine.specs.Decided.{listing, list_answer, report_answer, run_answer, asm_answer, answer_of};
+ghost use Rattle.mutest_engine.specs.Decided.{listing, list_answer, report_answer, run_answer, written_class, asm_answer, answer_of};
 ghost use Rattle.mutest_engine.specs.Answers.{answered, one_write, writes_of, made, one};
 ghost use Rattle.mutest_engine.specs.SuiteFiles.{texts};
 ghost use Rattle.mutest_engine.specs.Steps.{OnlyReads};
@@ -29,8 +29,8 @@ use std::alloc::Global;
 // ---- answers
 
 // What `list` prints for a class.
-fn listing<'a>(alloc: Global, class: &Class) -> Result<Answer<'a>, Memory>
-    ensures { IfOk result (λ a. answered a ≡ listing class.now) }
+fn listing<'a>(alloc: Global, class: &Class) -> Result<Answer<'a>, Halt>
+    ensures { Makes (listing class.now) result }
 {
     let mutants = class_mutants(alloc, class)?;
     let text = id_lines(alloc, mutants.as_slice())?;
@@ -48,7 +48,7 @@ fn list_answer<'a, T: Tree>(alloc: Global, tree: &mut T, path: &'a str) -> Resul
 {
     let bytes = read_file(alloc, tree, path)?;
     let class = spelled_class(alloc, path.as_bytes(), bytes.as_slice())?;
-    Ok(listing(alloc, &class)?)
+    listing(alloc, &class)
 }
 
 // One file that is replaced.
@@ -70,12 +70,8 @@ fn one_write<'a>(
 }
 
 // The report at its path, and the summary.
-fn report_answer<'a>(
-    alloc: Global,
-    path: &'a str,
-    input: &ReportInput,
-) -> Result<Answer<'a>, Memory>
-    ensures { IfOk result (λ a. answered a ≡ report_answer path.now input.now) }
+fn report_answer<'a>(alloc: Global, path: &'a str, input: &ReportInput) -> Result<Answer<'a>, Halt>
+    ensures { Makes (report_answer path.now input.now) result }
 {
     let text = summary_text(alloc, &input.verdicts)?;
     let bytes = report_text(alloc, input)?;
@@ -101,7 +97,18 @@ fn run_answer<'a, T: Tree>(
 {
     let loaded = load_suite(alloc, tree, options.classes, options.tests)?;
     let input = judge(alloc, loaded, meter)?;
-    Ok(report_answer(alloc, options.report, &input)?)
+    report_answer(alloc, options.report, &input)
+}
+
+// A class file at its path, and no text.
+fn written_class<'a>(alloc: Global, path: &'a str, bytes: Bytes) -> Result<Answer<'a>, Halt>
+    ensures { Makes (written_class path.now bytes) result }
+{
+    let writes = one_write(alloc, Product::Assembled, path, bytes)?;
+    Ok(Answer {
+        writes,
+        text: Bytes::new(alloc),
+    })
 }
 
 // The class file of a text, at its path.
@@ -116,11 +123,7 @@ fn asm_answer<'a, T: Tree>(
 {
     let text = read_file(alloc, tree, options.text)?;
     let bytes = class_file_of(alloc, text.as_slice())?;
-    let writes = one_write(alloc, Product::Assembled, options.out, bytes)?;
-    Ok(Answer {
-        writes,
-        text: Bytes::new(alloc),
-    })
+    written_class(alloc, options.out, bytes)
 }
 
 // What the words ask for.
