@@ -19,7 +19,7 @@ use Rattle.mutest_engine.specs.declared.stop.Halt.TheVariants as halt
 use Rattle.mutest_engine.specs.declared.top_call.Unwritten.{Unwritten}
 use Rattle.mutest_engine.specs.declared.top_call.Unwritten.TheVariants as unwritten
 use Rattle.mutest_engine.specs.Refusals.{refusal_line, MayRefuse}
-use Rattle.mutest_engine.specs.Ends.{line_of, status_of, unwritten_status, IsToldAs, IsReplaced, IsSome, CarriedOut, TextEnds, Agrees, MayEnd, AgreesUntold, HaltsUntold, AnswersUntold, Finished, ReadsFailed, WritesFailed, PutsFailed, MeterRose, MeterStays, HaltRose, HaltStays, AnswerMeters, Got, Broken, BrokenOff, HalfTold, Interrupted, Prints, Allows, written, all_written, Stopped, Partly, LeavesWrites, FailsWriting, FilesAfter, writes_in}
+use Rattle.mutest_engine.specs.Ends.{line_of, status_of, unwritten_status, IsToldAs, IsReplaced, IsSome, CarriedOut, TextEnds, Agrees, MayEnd, AgreesUntold, MayAnswer, HaltsUntold, AnswersUntold, Finished, ReadsFailed, WritesFailed, PutsFailed, MeterRose, MeterStays, HaltRose, HaltStays, AnswerMeters, Got, Broken, BrokenOff, HalfTold, Interrupted, Prints, Allows, written, all_written, Stopped, Partly, LeavesWrites, FailsWriting, FilesAfter, writes_in}
 use Rattle.mutest_engine.specs.declared.stop.Stop.{Stop}
 use Rattle.mutest_engine.specs.Steps.{FailsReading, ReadsBy, Refuses, IsHaltOf}
 use Rattle.mutest_words.specs.Words.{Command, list_class, run_suite, assemble_class}
@@ -280,6 +280,11 @@ untold_halt (Err q) s (halt.Refused r) refuses is =
     inl (ap halt.Refused (same_refusal q r (Err q) refl (refuses r (is.0 r refl))))
 untold_halt (Err q) s (halt.ReadFault faults) refuses is = absurd (is.1 faults refl)
 untold_halt (Err q) s halt.WantOfMemory refuses is = inr refl
+
+-- A command's answer is one of its words.
+pub untold_answer : (words : Result Command Refusal) (command : Command) (r : Result Answer Halt) → words ≡ Ok command → MayAnswer command r → AnswersUntold words r
+untold_answer words command (Ok a) is may = (command, is, may)
+untold_answer words command (Err h) is may = subst (λ (w : Result Command Refusal). HaltsUntold w h) (sym is) may
 
 pub untold_by : (words : Result Command Refusal) (answer : Result Answer Halt) (end : Status) → AnswersUntold words answer → Finished answer end → AgreesUntold words end
 untold_by words (Ok a) end untold ended = subst (λ (w : Result Command Refusal). AgreesUntold w end) (sym untold.1) (may_end untold.0 (answered a) end untold.2 ended)

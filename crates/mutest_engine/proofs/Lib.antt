@@ -8,6 +8,7 @@ mod FaultLaws
 mod FileLaws
 mod FitLaws
 mod JudgeLaws
+mod MadeLaws
 mod NumberLaws
 mod OriginalLaws
 mod ProgramLaws

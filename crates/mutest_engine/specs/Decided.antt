@@ -56,12 +56,16 @@ or_refused (Err asm_fault.Memory) = Err (AsmRefused 0)
 abbrev pub stated_class : List ℕ → Result Class Refusal
 stated_class text = or_refused (AssembledClass text)
 
--- The spelling of the class is written, and nothing is put.
-abbrev pub assembly : List ℕ → Class → Answered
-assembly path class = record {
-  writes = record { product = Assembled; path = path; bytes = class_bytes class } ∷ [];
+-- The class file is written, and nothing is put.
+abbrev pub written_class : List ℕ → List ℕ → Answered
+written_class path bytes = record {
+  writes = record { product = Assembled; path = path; bytes = bytes } ∷ [];
   text = [];
 }
+
+-- It is the spelling of the class.
+abbrev pub assembly : List ℕ → Class → Answered
+assembly path class = written_class path (class_bytes class)
 
 abbrev pub asm_answer : AsmOptions → Files → Result Answered Refusal
 asm_answer options files =

@@ -134,6 +134,11 @@ abbrev pub HaltsUntold : Result Command Refusal → Halt → Type 0
 HaltsUntold (Ok command) h = RefusesReading (MayRefuse command) h
 HaltsUntold (Err r) h = (h ≡ halt.Refused r) ⊎ (h ≡ halt.WantOfMemory)
 
+-- The answer is one that the command can have, or the refusal is one that it may have.
+abbrev pub MayAnswer : Command → Result Answer Halt → Type 0
+MayAnswer command result =
+    MatchResult result (λ a. CanAnswer command (answered a)) (RefusesReading (MayRefuse command))
+
 abbrev pub AnswersUntold : Result Command Refusal → Result Answer Halt → Type 0
 AnswersUntold words result =
     MatchResult result (λ a. (command : Command) × (words ≡ Ok command) × CanAnswer command (answered a))
@@ -201,6 +206,10 @@ MetersRun held before after options result = MetersHeld held before after (steps
 
 abbrev pub MetersWords : Option Files → ℕ → ℕ → List (List ℕ) → Result Answer Halt → Type 0
 MetersWords held before after words result = MetersHeld held before after (steps_of words) result
+
+-- This answer is made, unless memory runs out.
+abbrev pub Makes : Answered → Result Answer Halt → Type 0
+Makes stated result = MatchResult result (λ a. answered a ≡ stated) (λ h. h ≡ halt.WantOfMemory)
 
 -- ---- a call, by its answer
 

@@ -1,5 +1,5 @@
 -- What the steps of a call answer: their result, or a refusal that the words and the files decide (this project's own).
-use Rattle.std.specs.Prelude.{◌≡◌, ℕ, ◌+◌, ◌-◌, ◌^◌, ◌<◌, ◌≤◌, min, Option, IfSome, Result, Ok, Err, MatchResult}
+use Rattle.std.specs.Prelude.{◌≡◌, ℕ, ◌+◌, ◌-◌, ◌^◌, ◌<◌, ◌≤◌, min, Option, IfSome, IfErr, Result, Ok, Err, MatchResult}
 use Rattle.mt_edge.specs.Files.{Files}
 use Rattle.mutest_engine.specs.declared.refusal.Refusal.{Refusal}
 use Rattle.mutest_engine.specs.declared.stop.Halt.{Halt}
@@ -68,3 +68,29 @@ Failed before now faults = (0 < faults) × (min (before + faults) (2 ^ 64 - 1) �
 -- Where calls of the tree are told to have failed, they did, by its count of faults before and after.
 abbrev pub FailsReading : ℕ → ℕ → Halt → Type 0
 FailsReading before now h = (faults : ℕ) → h ≡ halt.ReadFault faults → Failed before now faults
+
+-- ---- a tree that is only read
+
+-- By what is told of a tree before and after: it holds the same, and no count of faults fell.
+abbrev pub IsRead : Option Files → Option Files → ℕ → ℕ → ℕ → ℕ → Type 0
+IsRead held left writing written reading read =
+    (left ≡ held) × (written ≡ writing) × (reading ≤ read)
+
+-- A step that halts is refused so, and calls that are told to have failed did.
+abbrev pub Halts : (Refusal → Type 0) → ℕ → ℕ → Halt → Type 0
+Halts P reading read h = RefusesReading P h × FailsReading reading read h
+
+module _ {T : Type 0} (holds : T → Option Files) (writing reading : T → ℕ) where
+  abbrev pub IsOnlyRead : T → T → Type 0
+  IsOnlyRead old new =
+      IsRead (holds old) (holds new) (writing old) (writing new) (reading old) (reading new)
+
+  -- A step only reads a tree, and calls that it tells to have failed did.
+  abbrev pub OnlyReads : {X : Type 0} → T → T → Result X Halt → Type 0
+  OnlyReads old new result =
+      IsOnlyRead old new × IfErr result (FailsReading (reading old) (reading new))
+
+  -- The same, and its refusals are such.
+  abbrev pub Asks : {X : Type 0} → (Refusal → Type 0) → T → T → Result X Halt → Type 0
+  Asks P old new result =
+      IsOnlyRead old new × IfErr result (Halts P (reading old) (reading new))

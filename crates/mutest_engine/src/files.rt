@@ -1,10 +1,10 @@
 //! A class file that is held: its bytes within the limit, and the class that they spell.
 
-ghost use Rattle.std.specs.Prelude.{◌≡◌, ◌≤◌, ℕ, List, IfOk, IfErr};
+ghost use Rattle.std.specs.Prelude.{◌≡◌, ℕ, List, IfOk, IfErr};
 ghost use Rattle.mutest_engine.specs.Answers.{few_bytes, within_limit as within, file_of, spelled_class};
 ghost use Rattle.mutest_engine.specs.Refusals.{IsClassFault, IsOfFile, IsOfSuite, IsUnheld};
 ghost use Rattle.mutest_engine.specs.SuiteFiles.{IsSpelled};
-ghost use Rattle.mutest_engine.specs.Steps.{Gives, ReadsHeld, HaltsHeld, Refuses, RefusesReading, FailsReading};
+ghost use Rattle.mutest_engine.specs.Steps.{Asks, Gives, ReadsHeld, HaltsHeld, Refuses, RefusesReading};
 ghost use Rattle.mutest_engine.specs.declared.refusal.Refusal.TheVariants.{NotFound, BadClass};
 ghost use Rattle.mutest_engine.specs.declared.stop.Halt.TheVariants.{ReadFault};
 
@@ -57,11 +57,7 @@ pub fn not_found(alloc: Global, path: &str) -> Halt
 // A file that isn't held or is past the limit is refused by its length, and not read.
 fn check_length<T: Tree>(alloc: Global, tree: &mut T, path: &str) -> Result<(), Halt>
     ensures refused { IfErr result (HaltsHeld (T.holds tree.old) (file_of path.now)) }
-    ensures refusal { IfErr result (RefusesReading (IsUnheld path.now)) }
-    ensures faults { IfErr result (FailsReading (T.reading tree.old) (T.reading tree.new)) }
-    ensures later { T.reading tree.old ≤ T.reading tree.new }
-    ensures held { T.holds tree.new ≡ T.holds tree.old }
-    ensures unwritten { T.writing tree.new ≡ T.writing tree.old }
+    ensures tree { Asks T.holds T.writing T.reading (IsUnheld path.now) tree.old tree.new result }
 {
     match tree.length(path) {
         Ok(Some(length)) => Ok(few_bytes(length)?),
@@ -74,11 +70,7 @@ fn check_length<T: Tree>(alloc: Global, tree: &mut T, path: &str) -> Result<(), 
 // The bytes of a file, which are refused past the limit.
 fn read_whole<T: Tree>(alloc: Global, tree: &mut T, path: &str) -> Result<Bytes, Halt>
     ensures value { ReadsHeld (T.holds tree.old) (file_of path.now) result }
-    ensures refusal { IfErr result (RefusesReading (IsUnheld path.now)) }
-    ensures faults { IfErr result (FailsReading (T.reading tree.old) (T.reading tree.new)) }
-    ensures later { T.reading tree.old ≤ T.reading tree.new }
-    ensures held { T.holds tree.new ≡ T.holds tree.old }
-    ensures unwritten { T.writing tree.new ≡ T.writing tree.old }
+    ensures tree { Asks T.holds T.writing T.reading (IsUnheld path.now) tree.old tree.new result }
 {
     match tree.read(path) {
         Ok(Some(bytes)) => Ok(within_limit(bytes)?),
@@ -91,11 +83,7 @@ fn read_whole<T: Tree>(alloc: Global, tree: &mut T, path: &str) -> Result<Bytes,
 /// The bytes of a file. Its length is asked first, so that none is read whole that is past the limit.
 pub fn read_file<T: Tree>(alloc: Global, tree: &mut T, path: &str) -> Result<Bytes, Halt>
     ensures value { ReadsHeld (T.holds tree.old) (file_of path.now) result }
-    ensures refusal { IfErr result (RefusesReading (IsUnheld path.now)) }
-    ensures faults { IfErr result (FailsReading (T.reading tree.old) (T.reading tree.new)) }
-    ensures later { T.reading tree.old ≤ T.reading tree.new }
-    ensures held { T.holds tree.new ≡ T.holds tree.old }
-    ensures unwritten { T.writing tree.new ≡ T.writing tree.old }
+    ensures tree { Asks T.holds T.writing T.reading (IsUnheld path.now) tree.old tree.new result }
 {
     match check_length(alloc, tree, path) {
         Ok(()) => read_whole(alloc, tree, path),

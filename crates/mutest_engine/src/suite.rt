@@ -2,7 +2,7 @@
 
 ghost use Rattle.std.specs.Prelude.{◌≡◌, ◌+◌, ◌≤◌, length, map, string_bytes, All, IfSome, IfOk, IfErr};
 ghost use Rattle.mutest_engine.specs.Refusals.{IsOfSuite};
-ghost use Rattle.mutest_engine.specs.Steps.{Gives, ReadsBy, ReadsHeld, IsNoFault, Refuses, RefusesReading, FailsReading};
+ghost use Rattle.mutest_engine.specs.Steps.{Asks, Gives, ReadsBy, ReadsHeld, IsNoFault, Refuses, RefusesReading};
 ghost use Rattle.mutest_engine.specs.SuiteFiles.{texts, both_texts, some_of, both_of, Lists, ListsBoth, is_class_path, class_paths, few_classes, within_sum, read_one, FilesHeld, bytes_in, loaded, all_loaded, both_loaded, ReadsBoth, LoadsHeld, IsSpelled, IsFormed};
 
 use crate::files::{not_found, read_file, spelled_class};
@@ -49,11 +49,7 @@ fn some_paths(alloc: Global, folder: &str, paths: Vec<String>) -> Result<Vec<Str
 // The paths below a folder, which holds some.
 fn list_folder<T: Tree>(alloc: Global, tree: &mut T, folder: &str) -> Result<Vec<String>, Halt>
     ensures value { IfSome (T.holds tree.old) (Lists folder.now result) }
-    ensures refusal { IfErr result (RefusesReading IsOfSuite) }
-    ensures faults { IfErr result (FailsReading (T.reading tree.old) (T.reading tree.new)) }
-    ensures later { T.reading tree.old ≤ T.reading tree.new }
-    ensures held { T.holds tree.new ≡ T.holds tree.old }
-    ensures unwritten { T.writing tree.new ≡ T.writing tree.old }
+    ensures tree { Asks T.holds T.writing T.reading IsOfSuite tree.old tree.new result }
 {
     match tree.list(folder) {
         Ok(paths) => some_paths(alloc, folder, paths),
@@ -111,11 +107,7 @@ fn list_both<T: Tree>(
     tests_folder: &str,
 ) -> Result<(Vec<String>, Vec<String>), Halt>
     ensures value { ListsBoth (T.holds tree.old) classes_folder.now tests_folder.now result }
-    ensures refusal { IfErr result (RefusesReading IsOfSuite) }
-    ensures faults { IfErr result (FailsReading (T.reading tree.old) (T.reading tree.new)) }
-    ensures later { T.reading tree.old ≤ T.reading tree.new }
-    ensures held { T.holds tree.new ≡ T.holds tree.old }
-    ensures unwritten { T.writing tree.new ≡ T.writing tree.old }
+    ensures tree { Asks T.holds T.writing T.reading IsOfSuite tree.old tree.new result }
 {
     let classes = list_folder(alloc, tree, classes_folder)?;
     let tests = list_folder(alloc, tree, tests_folder)?;
@@ -149,11 +141,7 @@ fn read_one<T: Tree>(
     ensures value { ReadsHeld (T.holds tree.old) (read_one sum.old path.now) result }
     ensures sum { IfOk result (λ file. sum.new ≡ sum.old + length file.bytes) }
     ensures few { sum.new ≤ 67108864 }
-    ensures refusal { IfErr result (RefusesReading IsOfSuite) }
-    ensures faults { IfErr result (FailsReading (T.reading tree.old) (T.reading tree.new)) }
-    ensures later { T.reading tree.old ≤ T.reading tree.new }
-    ensures held { T.holds tree.new ≡ T.holds tree.old }
-    ensures unwritten { T.writing tree.new ≡ T.writing tree.old }
+    ensures tree { Asks T.holds T.writing T.reading IsOfSuite tree.old tree.new result }
 {
     let bytes = read_file(alloc, tree, path)?;
     let total = within_sum(*sum + bytes.len() as u64)?;
@@ -163,7 +151,6 @@ fn read_one<T: Tree>(
 }
 
 // The files of a folder, where so many bytes were read before.
-#[tactic(auto, using(crate::proofs::FaultLaws::fails_since))]
 fn read_files<T: Tree>(
     alloc: Global,
     tree: &mut T,
@@ -174,11 +161,7 @@ fn read_files<T: Tree>(
     ensures value { FilesHeld (T.holds tree.old) sum.old (map string_bytes paths.now) result }
     ensures sum { IfOk result (λ read. sum.new ≡ sum.old + bytes_in read) }
     ensures few { sum.new ≤ 67108864 }
-    ensures refusal { IfErr result (RefusesReading IsOfSuite) }
-    ensures faults { IfErr result (FailsReading (T.reading tree.old) (T.reading tree.new)) }
-    ensures later { T.reading tree.old ≤ T.reading tree.new }
-    ensures held { T.holds tree.new ≡ T.holds tree.old }
-    ensures unwritten { T.writing tree.new ≡ T.writing tree.old }
+    ensures tree { Asks T.holds T.writing T.reading IsOfSuite tree.old tree.new result }
 {
     let mut files = Seq::new(alloc);
     for path in paths {
@@ -237,11 +220,7 @@ fn read_suite<T: Tree>(
 ) -> Result<LoadedSuite, Halt>
     ensures value { ReadsBoth (T.holds tree.old) classes.now tests.now result }
     ensures form { IfOk result IsFormed }
-    ensures refusal { IfErr result (RefusesReading IsOfSuite) }
-    ensures faults { IfErr result (FailsReading (T.reading tree.old) (T.reading tree.new)) }
-    ensures later { T.reading tree.old ≤ T.reading tree.new }
-    ensures held { T.holds tree.new ≡ T.holds tree.old }
-    ensures unwritten { T.writing tree.new ≡ T.writing tree.old }
+    ensures tree { Asks T.holds T.writing T.reading IsOfSuite tree.old tree.new result }
 {
     let mut sum = 0u64;
     let classes = read_files(alloc, tree, &mut sum, classes)?;
@@ -258,11 +237,7 @@ pub fn load_suite<T: Tree>(
 ) -> Result<LoadedSuite, Halt>
     ensures value { LoadsHeld (T.holds tree.old) classes_folder.now tests_folder.now result }
     ensures form { IfOk result IsFormed }
-    ensures refusal { IfErr result (RefusesReading IsOfSuite) }
-    ensures faults { IfErr result (FailsReading (T.reading tree.old) (T.reading tree.new)) }
-    ensures later { T.reading tree.old ≤ T.reading tree.new }
-    ensures held { T.holds tree.new ≡ T.holds tree.old }
-    ensures unwritten { T.writing tree.new ≡ T.writing tree.old }
+    ensures tree { Asks T.holds T.writing T.reading IsOfSuite tree.old tree.new result }
 {
     match list_both(alloc, tree, classes_folder, tests_folder) {
         Ok(paths) => read_suite(alloc, tree, paths.0.as_slice(), paths.1.as_slice()),

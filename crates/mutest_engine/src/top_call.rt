@@ -2,14 +2,13 @@
 
 ghost use Rattle.std.specs.Prelude.{◌≡◌, ◌⊎◌, ◌<◌, ◌≤◌, ◌^◌, IfOk, IfErr, OnOk, Ok};
 ghost use Rattle.mutest_engine.specs.declared.status.Status.TheVariants.{WantOfMemory};
-ghost use Rattle.mutest_engine.specs.Ends.{line_of, status_of, unwritten_status, CarriedOut, TextEnds, AgreesUntold, AnswersUntold, AnswersHeld, MetersRun, MetersWords, Finished, ReadsFailed, WritesFailed, PutsFailed, MeterStays, HaltStays, Wrote, WroteAll, LeavesOne, LeavesAll, FailsWriting, FilesAfter};
+ghost use Rattle.mutest_engine.specs.Ends.{line_of, status_of, unwritten_status, CarriedOut, TextEnds, AgreesUntold, MayAnswer, AnswersUntold, AnswersHeld, MetersRun, MetersWords, Makes, Finished, ReadsFailed, WritesFailed, PutsFailed, MeterStays, HaltStays, Wrote, WroteAll, LeavesOne, LeavesAll, FailsWriting, FilesAfter};
 ghost use Rattle.mutest_words.specs.Words.{list_class, run_asked, asm_asked, asked_run, asked_asm};
 ghost use Rattle.mutest_engine.specs.Words.{words_of};
-ghost use Rattle.mutest_engine.specs.Decided.{CanAnswer, listing, list_answer, report_answer, run_answer, asm_answer, answer_of};
+ghost use Rattle.mutest_engine.specs.Decided.{listing, list_answer, report_answer, run_answer, written_class, asm_answer, answer_of};
 ghost use Rattle.mutest_engine.specs.Answers.{answered, one_write, writes_of, made, one};
-ghost use Rattle.mutest_engine.specs.Refusals.{MayRefuse};
 ghost use Rattle.mutest_engine.specs.SuiteFiles.{texts};
-ghost use Rattle.mutest_engine.specs.Steps.{RefusesReading, FailsReading};
+ghost use Rattle.mutest_engine.specs.Steps.{OnlyReads};
 ghost use Rattle.mutest_engine.specs.Promises.{Tells, PrintsMade, PrintsOf, Puts, PutsUntold, AgreesHeld, LeavesOf, LeavesHeld, WritesLast, MeterHeld};
 
 use crate::answer::{Answer, Product, Write};
@@ -30,8 +29,8 @@ use std::alloc::Global;
 // ---- answers
 
 // What `list` prints for a class.
-fn listing<'a>(alloc: Global, class: &Class) -> Result<Answer<'a>, Memory>
-    ensures { IfOk result (λ a. answered a ≡ listing class.now) }
+fn listing<'a>(alloc: Global, class: &Class) -> Result<Answer<'a>, Halt>
+    ensures { Makes (listing class.now) result }
 {
     let mutants = class_mutants(alloc, class)?;
     let text = id_lines(alloc, mutants.as_slice())?;
@@ -44,15 +43,12 @@ fn listing<'a>(alloc: Global, class: &Class) -> Result<Answer<'a>, Memory>
 // The text that `list` prints for a file.
 fn list_answer<'a, T: Tree>(alloc: Global, tree: &mut T, path: &'a str) -> Result<Answer<'a>, Halt>
     ensures value { AnswersHeld (T.holds tree.old) (list_answer path.now) result }
-    ensures answer { IfOk result (λ a. CanAnswer (list_class path.now) (answered a)) }
-    ensures refusal { IfErr result (RefusesReading (MayRefuse (list_class path.now))) }
-    ensures faults { IfErr result (FailsReading (T.reading tree.old) (T.reading tree.new)) }
-    ensures held { T.holds tree.new ≡ T.holds tree.old }
-    ensures unwritten { T.writing tree.new ≡ T.writing tree.old }
+    ensures answer { MayAnswer (list_class path.now) result }
+    ensures tree { OnlyReads T.holds T.writing T.reading tree.old tree.new result }
 {
     let bytes = read_file(alloc, tree, path)?;
     let class = spelled_class(alloc, path.as_bytes(), bytes.as_slice())?;
-    Ok(listing(alloc, &class)?)
+    listing(alloc, &class)
 }
 
 // One file that is replaced.
@@ -74,12 +70,8 @@ fn one_write<'a>(
 }
 
 // The report at its path, and the summary.
-fn report_answer<'a>(
-    alloc: Global,
-    path: &'a str,
-    input: &ReportInput,
-) -> Result<Answer<'a>, Memory>
-    ensures { IfOk result (λ a. answered a ≡ report_answer path.now input.now) }
+fn report_answer<'a>(alloc: Global, path: &'a str, input: &ReportInput) -> Result<Answer<'a>, Halt>
+    ensures { Makes (report_answer path.now input.now) result }
 {
     let text = summary_text(alloc, &input.verdicts)?;
     let bytes = report_text(alloc, input)?;
@@ -97,18 +89,26 @@ fn run_answer<'a, T: Tree>(
 ) -> Result<Answer<'a>, Halt>
     requires { meter.old < 2 ^ 63 }
     ensures value { AnswersHeld (T.holds tree.old) (run_answer (run_asked options.entry)) result }
-    ensures answer { IfOk result (λ a. CanAnswer (asked_run options.entry) (answered a)) }
-    ensures refusal { IfErr result (RefusesReading (MayRefuse (asked_run options.entry))) }
-    ensures faults { IfErr result (FailsReading (T.reading tree.old) (T.reading tree.new)) }
+    ensures answer { MayAnswer (asked_run options.entry) result }
     ensures meter { MetersRun (T.holds tree.old) meter.old meter.new options.entry result }
     ensures stays { IfErr result (HaltStays meter.old meter.new) }
     ensures later { meter.old ≤ meter.new }
-    ensures held { T.holds tree.new ≡ T.holds tree.old }
-    ensures unwritten { T.writing tree.new ≡ T.writing tree.old }
+    ensures tree { OnlyReads T.holds T.writing T.reading tree.old tree.new result }
 {
     let loaded = load_suite(alloc, tree, options.classes, options.tests)?;
     let input = judge(alloc, loaded, meter)?;
-    Ok(report_answer(alloc, options.report, &input)?)
+    report_answer(alloc, options.report, &input)
+}
+
+// A class file at its path, and no text.
+fn written_class<'a>(alloc: Global, path: &'a str, bytes: Bytes) -> Result<Answer<'a>, Halt>
+    ensures { Makes (written_class path.now bytes) result }
+{
+    let writes = one_write(alloc, Product::Assembled, path, bytes)?;
+    Ok(Answer {
+        writes,
+        text: Bytes::new(alloc),
+    })
 }
 
 // The class file of a text, at its path.
@@ -118,22 +118,16 @@ fn asm_answer<'a, T: Tree>(
     options: AsmOptions<'a>,
 ) -> Result<Answer<'a>, Halt>
     ensures value { AnswersHeld (T.holds tree.old) (asm_answer (asm_asked options.entry)) result }
-    ensures answer { IfOk result (λ a. CanAnswer (asked_asm options.entry) (answered a)) }
-    ensures refusal { IfErr result (RefusesReading (MayRefuse (asked_asm options.entry))) }
-    ensures faults { IfErr result (FailsReading (T.reading tree.old) (T.reading tree.new)) }
-    ensures held { T.holds tree.new ≡ T.holds tree.old }
-    ensures unwritten { T.writing tree.new ≡ T.writing tree.old }
+    ensures answer { MayAnswer (asked_asm options.entry) result }
+    ensures tree { OnlyReads T.holds T.writing T.reading tree.old tree.new result }
 {
     let text = read_file(alloc, tree, options.text)?;
     let bytes = class_file_of(alloc, text.as_slice())?;
-    let writes = one_write(alloc, Product::Assembled, options.out, bytes)?;
-    Ok(Answer {
-        writes,
-        text: Bytes::new(alloc),
-    })
+    written_class(alloc, options.out, bytes)
 }
 
 // What the words ask for.
+#[tactic(auto, using(crate::proofs::Ends::untold_answer))]
 fn answer_to<'a, T: Tree>(
     alloc: Global,
     words: &'a Vec<String>,
@@ -143,12 +137,10 @@ fn answer_to<'a, T: Tree>(
     requires { meter.old < 2 ^ 63 }
     ensures value { AnswersHeld (T.holds tree.old) (answer_of (texts words.now)) result }
     ensures untold { AnswersUntold (words_of (texts words.now)) result }
-    ensures faults { IfErr result (FailsReading (T.reading tree.old) (T.reading tree.new)) }
     ensures meter { MetersWords (T.holds tree.old) meter.old meter.new (texts words.now) result }
     ensures stays { IfErr result (HaltStays meter.old meter.new) }
     ensures later { meter.old ≤ meter.new }
-    ensures held { T.holds tree.new ≡ T.holds tree.old }
-    ensures unwritten { T.writing tree.new ≡ T.writing tree.old }
+    ensures tree { OnlyReads T.holds T.writing T.reading tree.old tree.new result }
 {
     match read_words(alloc, words)? {
         Command::List(file) => list_answer(alloc, tree, file),

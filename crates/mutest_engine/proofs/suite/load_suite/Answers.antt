@@ -1,5 +1,13 @@
-use Rattle.mutest_engine.proofs.FaultLaws.{fails_behind}
+use Rattle.mutest_engine.proofs.FaultLaws.{reads_on}
+use Rattle.mutest_engine.specs.Refusals.{IsOfSuite}
 use Rattle.mutest_engine.proofs.suite.load_suite.Goals as goal
 
-pub returns-in-Ok-clause-faults : goal.returns-in-Ok-clause-faults
-returns-in-Ok-clause-faults g c = fails_behind (g.T.Tree.reading c.args.tree.now) (g.T.Tree.reading c.list_both.new.tree) (g.T.Tree.reading c.read_suite.new.tree) c.read_suite.result c.in-Ok.ensures.later c.read_suite.ensures.faults
+pub returns-in-Ok-clause-tree : goal.returns-in-Ok-clause-tree
+returns-in-Ok-clause-tree g c =
+    let h = g.T.Tree.holds in
+    let w = g.T.Tree.writing in
+    let r = g.T.Tree.reading in
+    let t = c.args.tree.now in
+    let u = c.list_both.new.tree in
+    let v = c.read_suite.new.tree in
+    reads_on IsOfSuite (h t) (h u) (h v) (w t) (w u) (w v) (r t) (r u) (r v) c.read_suite.result c.in-Ok.ensures.tree.0 c.read_suite.ensures.tree

@@ -22,7 +22,7 @@ pub returns-clause-read_faults : goal.returns-clause-read_faults
 returns-clause-read_faults g c =
     let r = g.T.Tree.reading in
     subst (λ (n : ℕ). ReadsFailed (r c.args.tree.now) n c.finish.result) (sym c.finish.ensures.unread)
-    (reads_by (r c.args.tree.now) (r c.answer_to-answer.new.tree) c.answer_to-answer.result c.finish.result c.answer_to-answer.ensures.faults c.finish.ensures.status)
+    (reads_by (r c.args.tree.now) (r c.answer_to-answer.new.tree) c.answer_to-answer.result c.finish.result c.answer_to-answer.ensures.tree.1 c.finish.ensures.status)
 
 pub returns-clause-printed : goal.returns-clause-printed
 returns-clause-printed g c =
@@ -47,4 +47,4 @@ pub returns-clause-files : goal.returns-clause-files
 returns-clause-files g c =
     let h = g.T.Tree.holds in
     files_by (h c.args.tree.now) (h c.finish.new.tree) (λ (files : Files). answer_of (map string_bytes c.args.words.now.items) files) c.answer_to-answer.result c.finish.result c.answer_to-answer.ensures.value c.finish.ensures.status
-    (left_of (h c.args.tree.now) (h c.finish.new.tree) c.answer_to-answer.result c.finish.result (subst (λ (old : Option Files). LeavesOf old (h c.finish.new.tree) c.answer_to-answer.result c.finish.result) c.answer_to-answer.ensures.held c.finish.ensures.files))
+    (left_of (h c.args.tree.now) (h c.finish.new.tree) c.answer_to-answer.result c.finish.result (subst (λ (old : Option Files). LeavesOf old (h c.finish.new.tree) c.answer_to-answer.result c.finish.result) c.answer_to-answer.ensures.tree.0.0 c.finish.ensures.files))
