@@ -122,7 +122,8 @@ list_remove =
 -- ArrayList.equals(Object)
 abbrev pub list_equals : Method
 list_equals =
-    method (same_at 5 ∷ more_at 15 (AnObject (codes "java/util/ArrayList") ∷ []) ∷ more_at 17 (AnInt ∷ []) ∷ same_at 31 ∷ same_at 33 ∷ [])
+    method (same_at 5 ∷ more_at 15 (AnObject (codes "java/util/ArrayList") ∷ [])
+    ∷ more_at 17 (AnInt ∷ []) ∷ same_at 31 ∷ same_at 33 ∷ [])
     (Op 0x2b
     ∷ named 0xc1 "java/util/ArrayList"
     ∷ Jump 0x9a 5

@@ -40,13 +40,13 @@ appended t = 5 + t
 abbrev pub index_begun : ℕ
 index_begun = 2
 
--- An element that isn't it: iload_2 aload_0 size if_icmpge, aload_1 aload_0 iload_2 get equals ifne,
--- iinc goto
+-- An element that isn't it: iload_2 aload_0 size if_icmpge,
+-- aload_1 aload_0 iload_2 get equals ifne, iinc goto
 abbrev pub passed_by : ℕ → ℕ
 passed_by e = 4 + 6 + e + 2
 
--- The one that it is: iload_2 aload_0 size if_icmpge, aload_1 aload_0 iload_2 get equals ifne,
--- iload_2 ireturn
+-- The one that it is: iload_2 aload_0 size if_icmpge,
+-- aload_1 aload_0 iload_2 get equals ifne, iload_2 ireturn
 abbrev pub found_it : ℕ → ℕ
 found_it e = 4 + 6 + e + 2
 
