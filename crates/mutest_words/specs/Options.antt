@@ -21,6 +21,11 @@ pub record Given : Type 0 where
 
 -- ---- which word is which
 
+-- The word at the front, or an empty one.
+abbrev pub front_of : List (List ℕ) → List ℕ
+front_of [] = []
+front_of (word ∷ words) = word
+
 -- The words that are options, each with the word behind it, which is its value. Behind the last word stands an empty one.
 abbrev pub options_of : List (List ℕ) → List Pair
 options_of [] = []

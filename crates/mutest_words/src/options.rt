@@ -1,7 +1,7 @@
 //! What the words behind a command's name give: plain words, and options with their values.
 
-ghost use Rattle.std.specs.Prelude.{◌≡◌, map, string_bytes, option_map, IfOk};
-ghost use Rattle.mutest_words.specs.Options.{is_value, is_named, value_of, are_options, given_of, given_in, texts_in, pairs_in};
+ghost use Rattle.std.specs.Prelude.{◌≡◌, map, drop, string_bytes, option_map, IfOk};
+ghost use Rattle.mutest_words.specs.Options.{front_of, is_value, is_named, value_of, are_options, given_of, given_in, texts_in, pairs_in};
 
 use class_model::Memory;
 use std::alloc::Global;
@@ -66,6 +66,26 @@ fn are_options<'x>(names: &[&'x str], options: &[(&'x str, &'x str)]) -> bool
     true
 }
 
+// The word at the front, or an empty one.
+fn front_of(words: &[String]) -> &str
+    ensures { result.now ≡ front_of (map string_bytes words.now) }
+{
+    let [word, ..] = words else {
+        return "";
+    };
+    word.as_str()
+}
+
+// The words behind that at the front.
+fn behind_front(words: &[String]) -> &[String]
+    ensures { result.now ≡ drop 1 words.now }
+{
+    let [_, behind @ ..] = words else {
+        return words;
+    };
+    behind
+}
+
 impl<'a> Given<'a> {
     /// Reads words: one that begins with `-` is an option, and the next one its value.
     pub fn read(alloc: Global, words: &'a [String]) -> Result<Given<'a>, Memory>
@@ -74,23 +94,15 @@ impl<'a> Given<'a> {
         let mut plain = Vec::new(alloc);
         let mut options = Vec::new(alloc);
         let mut rest = words;
-        while let [word, next, behind @ ..] = rest {
+        while let [word, behind @ ..] = rest {
             if is_value(word.as_str()) {
                 plain.push(word.as_str())?;
-                rest = &rest[1..];
-            } else {
-                options.push((word.as_str(), next.as_str()))?;
                 rest = behind;
+            } else {
+                options.push((word.as_str(), front_of(behind)))?;
+                rest = behind_front(behind);
             }
         }
-        let [word, ..] = rest else {
-            return Ok(Given { plain, options });
-        };
-        if is_value(word.as_str()) {
-            plain.push(word.as_str())?;
-            return Ok(Given { plain, options });
-        }
-        options.push((word.as_str(), ""))?;
         Ok(Given { plain, options })
     }
 
