@@ -4,6 +4,9 @@
 //! the file `names` stands for, resolved one behind the other, and what they consult.
 #![tactic(auto)]
 
+ghost use Rattle.std.specs.Prelude.{OnOk};
+ghost use Rattle.class_table.specs.Seen.{IsConsultedOf};
+
 mod program;
 mod uses;
 
@@ -59,7 +62,10 @@ fn name_end(
     program: &Program,
     seen: &mut Consulted,
     line: &str,
-) -> anyhow::Result<String> {
+) -> anyhow::Result<String>
+    requires { IsConsultedOf program.now seen.old }
+    ensures { OnOk result (IsConsultedOf program.now seen.new) }
+{
     let name = read_text(alloc, line.as_bytes())?;
     match resolve_class(alloc, program, seen, &name)? {
         Ok(id) => class_text(alloc, program, id),
@@ -76,6 +82,14 @@ fn print_uses(rt: &impl Print, alloc: Global, program: &Program, uses: &str) -> 
     Ok(())
 }
 
+fn print_consulted(rt: &impl Print, alloc: Global, names: &[Name]) -> anyhow::Result<()> {
+    for name in names {
+        let name = text_of(alloc, name)?;
+        println!(rt; "consulted {name}")?;
+    }
+    Ok(())
+}
+
 // The names resolved one behind the other, and then what they consulted.
 fn print_names(
     rt: &impl Print,
@@ -88,11 +102,7 @@ fn print_names(
         let end = name_end(alloc, program, &mut seen, line)?;
         println!(rt; "{line} -> {end}")?;
     }
-    for name in seen.names().as_slice() {
-        let name = text_of(alloc, name)?;
-        println!(rt; "consulted {name}")?;
-    }
-    Ok(())
+    print_consulted(rt, alloc, seen.names().as_slice())
 }
 
 fn main(rt: HostRuntime) -> anyhow::Result<()> {

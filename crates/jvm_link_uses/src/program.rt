@@ -20,14 +20,24 @@ pub fn parts(line: &str) -> (&str, &str) {
     }
 }
 
+fn push_line(text: &mut String, line: &str) -> Result<(), Memory> {
+    text.push_str(line)?;
+    text.push_str("\n")?;
+    Ok(())
+}
+
+fn push_uses(text: &mut String, uses: &str) -> Result<(), Memory> {
+    for line in uses.lines() {
+        push_line(text, parts(line).0)?;
+    }
+    Ok(())
+}
+
 // The text of the class that uses the members of all lines.
 fn main_text(alloc: Global, uses: &str) -> Result<String, Memory> {
     let mut text = String::from_str(alloc, HEAD)?;
-    for line in uses.lines() {
-        text.push_str(parts(line).0)?;
-        text.push_str("\n")?;
-    }
-    text.push_str("return\nend\n")?;
+    push_uses(&mut text, uses)?;
+    push_line(&mut text, "return\nend")?;
     Ok(text)
 }
 
