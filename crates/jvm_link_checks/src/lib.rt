@@ -1,18 +1,7 @@
-//! What references resolve to and what is selected, as a Java runtime has it; and what the wrong
-//! bodies of `jvm_link` are tried on.
+//! What the wrong bodies of `jvm_link` are tried on.
 //!
 //! Each function of `calls` is a call of `jvm_link` with the same contract. A wrong body in its
 //! place that is refused would be refused there too.
 #![tactic(auto)]
 
 pub mod calls;
-#[cfg(test)]
-mod classes;
-#[cfg(test)]
-mod links;
-#[cfg(test)]
-mod program;
-#[cfg(test)]
-mod rows;
-#[cfg(test)]
-mod uses;
