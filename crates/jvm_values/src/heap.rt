@@ -141,6 +141,14 @@ impl Heap {
         self.objects.as_slice()
     }
 
+    /// How many objects there are.
+    pub fn count(&self) -> u32
+        ensures count { result ≡ length self.now.objects }
+        ensures few { result ≤ self.now.used }
+    {
+        count_within(self.objects.len(), self.words)
+    }
+
     /// The object of this number, if there is one.
     pub fn get(&self, at: u32) -> Option<&Object>
         ensures { option_copied result ≡ object_at self.now at }
@@ -196,6 +204,15 @@ fn words_with(used: u32, limit: u32, header: u32, units: usize) -> Result<u32, H
         return Err(HeapFault::Full);
     }
     Ok(used + header + units as u32)
+}
+
+// A count that is no more than the words.
+fn count_within(count: usize, words: u32) -> u32
+    requires { count ≤ words }
+    ensures { result ≡ count }
+{
+    let _ = words;
+    count as u32
 }
 
 // Adds an object, and gives its number.
