@@ -1,2 +1,9 @@
+pub mod Sums
 pub mod Rooms
 pub mod Worlds
+pub mod Growing
+pub mod Finishing
+pub mod Described
+pub mod Allocated
+pub mod Ways
+pub mod Counting

@@ -1,5 +1,5 @@
 -- What the definitions make of arrays of arrays is what the heap is built to, where there is room.
-use Rattle.std.proofs.Common.{◌≡◌, ◌∙◌, ◌⊎◌, inl, inr, sym, ap, refl, subst, arith, ℕ, zero, suc, ◌+◌, ◌*◌, ◌≤◌, ◌<◌, Bool, true, false, List, [], ◌∷◌, ◌++◌, map, length, replicate, Option, Some, None, slice_set}
+use Rattle.std.proofs.Common.{◌≡◌, ◌∙◌, ◌⊎◌, inl, inr, sym, ap, refl, arith, ℕ, zero, suc, ◌+◌, ◌*◌, ◌≤◌, ◌<◌, Bool, true, false, List, [], ◌∷◌, ◌++◌, map, length, replicate, Option, Some, None, slice_set}
 use Rattle.std.specs.Prelude.{nat_le, if◌then◌else◌}
 use Rattle.std.proofs.Math.Nat.{suc-mul}
 use Rattle.std.proofs.lemmas.Bool.Decides.{leb_tells}
@@ -11,7 +11,6 @@ use Rattle.program_rules.specs.Kinds as kinds
 use Rattle.program_rules.specs.Kinds.{component_kind}
 use Rattle.program_rules.specs.Objects as objects
 use Rattle.program_rules.specs.declared.value.Value.{Value}
-use Rattle.program_rules.specs.declared.value.Value.TheVariants.{Ref}
 use Rattle.machine_rules.specs.declared.machine.Limits.{Limits}
 use Rattle.machine_rules.specs.State as def
 use Rattle.machine_rules.specs.NewObjects.{array_of, new_array, new_arrays, components, next_component, with_component, fill_array, fill_array_with}

@@ -11,7 +11,7 @@ use Rattle.jvm_world.specs.View.{world_of, Means, TellsMade}
 use Rattle.jvm_array_rows.specs.Built.{words_for, making}
 use Rattle.jvm_array_rows.proofs.Rooms.{at, built_fits, built_full}
 
-world_at : (p : List Info) (w : World) (v : def.World) → Means p w v → v ≡ at p w.limits v w.heap
+pub world_at : (p : List Info) (w : World) (v : def.World) → Means p w v → v ≡ at p w.limits v w.heap
 unfolding world_of
 world_at p w v m =
     let heap = ap (λ (t : def.World). t.heap) m.world in

@@ -1,5 +1,5 @@
 -- Arrays of arrays in a heap (JVMS 6.5, `multianewarray`).
-use Rattle.std.specs.Prelude.{◌≡◌, ℕ, zero, suc, ◌+◌, ◌*◌, ◌<◌, ◌^◌, List, [], ◌∷◌, ◌++◌, Option}
+use Rattle.std.specs.Prelude.{◌≡◌, ℕ, zero, suc, ◌+◌, ◌*◌, ◌<◌, ◌≤◌, List, [], ◌∷◌, ◌++◌, Option, None, Some}
 use Rattle.class_model.specs.declared.kind.Kind.{Kind}
 use Rattle.class_model.specs.declared.kind.Kind.TheVariants as plain
 use Rattle.program_rules.specs.Names.{Name, without_first}
@@ -22,6 +22,11 @@ abbrev pub words_for : List ℕ → ℕ
 words_for [] = 0
 words_for (n ∷ []) = 2 + n
 words_for (n ∷ m ∷ ns) = (2 + n) + n * words_for (m ∷ ns)
+
+-- So many words, where they are within a limit; none where they are past it.
+abbrev pub WordsWithin : Option ℕ → ℕ → ℕ → Type 0
+WordsWithin None words limit = limit < words
+WordsWithin (Some w) words limit = (w ≡ words) × (w ≤ limit)
 
 -- A kind as the heap has it.
 abbrev pub plain_of : kinds.Kind → Kind
@@ -62,8 +67,8 @@ array_with k vs = record { kind = Array k; values = vs; text = []; items = [] }
 abbrev pub filled : Kind → ℕ → Contents × List Value → Contents × ℕ
 filled k x a = (with_object_at a.0 x (array_with k a.1), x)
 
--- The heap with an array of arrays of this name, by its counts, and its number: the outer one first,
--- then each component whole.
+-- The heap with an array of arrays of this name, by its counts, and its number: the outer one
+-- first, then each component whole.
 abbrev pub built : Name → List ℕ → Contents → Contents × ℕ
 built name [] h = (h, 0)
 built name (n ∷ []) h = (with_array (component_of name) n h, next_number h)

@@ -1,1 +1,4 @@
 pub mod Built
+pub mod Descriptors
+pub mod Grown
+pub mod Rows

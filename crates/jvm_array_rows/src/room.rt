@@ -1,9 +1,10 @@
-//! The words that arrays of arrays take, and whether a world has room for them (JVMS 6.5, `multianewarray`).
+//! The words that arrays of arrays take, and whether a world has room for them (JVMS 6.5,
+//! `multianewarray`).
 
-ghost use Rattle.std.specs.Prelude.{◌≡◌, ◌+◌, ◌*◌, ◌≤◌, ◌<◌, length, nat_le, if◌then◌else◌, Some, None, IfSome, IfNone};
+ghost use Rattle.std.specs.Prelude.{◌≡◌, ◌+◌, ◌*◌, ◌≤◌, ◌<◌, ℕ, length, nat_le, if◌then◌else◌, Some, None, IfSome, IfNone};
 ghost use Rattle.program_rules.specs.Names.{Name};
 ghost use Rattle.jvm_world.specs.View.{IsWorldOf, TellsMade};
-ghost use Rattle.jvm_array_rows.specs.Built.{words_for, making};
+ghost use Rattle.jvm_array_rows.specs.Built.{words_for, WordsWithin, making};
 
 use class_table::Program;
 use jvm_world::World;
@@ -30,26 +31,34 @@ fn words_with(count: u32, each: u32, limit: u32) -> Option<u32>
     within(words, limit)
 }
 
-// The words that arrays of arrays take, where they are within a limit.
-fn words_for(counts: &[u32], limit: u32) -> Option<u32>
-    ensures some { IfSome result (λ w. (w ≡ words_for counts.now) × (w ≤ limit)) }
-    ensures none { IfNone result (limit < words_for counts.now) }
+// The words of an outer array and of so many components, by those of a component.
+#[tactic(auto, using(crate::proofs::Sums::words_past))]
+fn words_around(count: u32, each: Option<u32>, limit: u32) -> Option<u32>
+    ensures { (words : ℕ) → WordsWithin each words limit →
+        WordsWithin result ((2 + count) + count * words) limit }
 {
-    let [count, inner @ ..] = counts else {
-        return Some(0);
-    };
-    if inner.len() == 0 {
-        return within(*count as u64 + 2, limit);
-    }
-    match words_for(inner, limit) {
-        Some(each) => words_with(*count, each, limit),
+    match each {
+        Some(each) => words_with(count, each, limit),
         None => {
-            if *count == 0 {
+            if count == 0 {
                 return within(2, limit);
             }
             None
         }
     }
+}
+
+// The words that arrays of arrays take, where they are within a limit.
+fn words_for(counts: &[u32], limit: u32) -> Option<u32>
+    ensures { WordsWithin result (words_for counts.now) limit }
+{
+    let mut words = Some(0);
+    let mut left = counts.len();
+    while left > 0 {
+        left -= 1;
+        words = words_around(counts[left], words, limit);
+    }
+    words
 }
 
 // Whether so many words more are within the limit of a heap.
@@ -59,8 +68,8 @@ fn fits(used: u32, words: u32, limit: u32) -> bool
     used <= limit && words <= limit - used
 }
 
-// Whether arrays of arrays are.
-fn has_room(used: u32, counts: &[u32], limit: u32) -> bool
+/// Whether the words of arrays of arrays more are within the limit of a heap.
+pub fn has_room(used: u32, counts: &[u32], limit: u32) -> bool
     ensures { result ≡ nat_le (used + words_for counts.now) limit }
 {
     match words_for(counts, limit) {

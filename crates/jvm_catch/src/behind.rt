@@ -17,8 +17,8 @@ pub fn is_array_name(name: &[u16]) -> bool
     }
 }
 
-// What stands behind the brackets of a name.
-fn element_of(name: &[u16]) -> &[u16]
+/// What stands behind the brackets of a name.
+pub fn element_of(name: &[u16]) -> &[u16]
     ensures { result.now ≡ element_of name.now }
 {
     let mut rest = name;
@@ -31,9 +31,9 @@ fn element_of(name: &[u16]) -> &[u16]
     rest
 }
 
-// A text without its last unit.
+/// A text without its last unit.
 #[tactic(auto, using(crate::proofs::Texts::without_last_take))]
-fn without_last(text: &[u16]) -> &[u16]
+pub fn without_last(text: &[u16]) -> &[u16]
     ensures { result.now ≡ without_last text.now }
 {
     match text {

@@ -10,5 +10,5 @@ mod statics;
 pub use arrays::{array_length, make_array, make_primitive_array};
 pub use constants::{load_class, load_text};
 pub use instances::make_instance;
-pub use made::put_within;
+pub use made::{push_made, put_within, without_room};
 pub use statics::{get_static, put_static};

@@ -71,8 +71,8 @@ fn without_last(text: &[u16]) -> &[u16]
     }
 }
 
-// A text without its first unit.
-fn without_first(text: &[u16]) -> &[u16]
+/// A text without its first unit.
+pub fn without_first(text: &[u16]) -> &[u16]
     ensures { result.now ≡ without_first text.now }
 {
     match text {
