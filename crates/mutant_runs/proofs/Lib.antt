@@ -4,3 +4,4 @@ pub mod VerdictLaws
 pub mod FitLaws
 pub mod MutantLaws
 pub mod EditLaws
+pub mod Adding
