@@ -10,10 +10,12 @@ ghost use Rattle.mutant_runs.specs.Verdicts.{verdict_of, steps_on};
 
 use crate::class_bytes::ClassBytes;
 use crate::edited_file::edited_file;
+use crate::laws::entries_add_alone;
 use crate::tally::not_viable;
 use crate::tests_run::run_tests;
 use class_model::{ClassId, Memory};
 use class_table::{ClassBody, ClassInfo, Program, Test};
+use edited_bytes::parts_are_of_applied;
 use jvm_run::Limits;
 use mt_edge::MeterPart;
 use mutator_ops::{Mutant, Verdict};
@@ -44,6 +46,8 @@ fn edited_class(
     let Some(file) = edited_file(alloc, id, loaded, &mutant.edit, kept)? else {
         return Ok(None);
     };
+    parts_are_of_applied();
+    entries_add_alone();
     let edited = original.edited(alloc, file)?;
     Ok(Some((id, Arc::new(alloc, edited)?)))
 }
