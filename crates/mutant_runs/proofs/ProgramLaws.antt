@@ -132,6 +132,9 @@ pub record IsAt (p : List Info) (n : Name) (id : ℕ) (i : Info) : Type 0 where
 pub file_at : (p : List Info) (n : Name) (id : ℕ) (i : Info) → number_of p n ≡ Some id → slice_get p id ≡ Some i → files_of p n ≡ file_in i
 file_at p n id i number place = ap (option_and_then (λ k. option_and_then file_in (slice_get p k))) number ∙ ap (option_and_then file_in) place
 
+pub file_found : (p : List Info) (n : Name) (id : ℕ) (i : Info) (l : Loaded) → number_of p n ≡ Some id → slice_get p id ≡ Some i → i.body ≡ body.File l → files_of p n ≡ Some l.class
+file_found p n id i l number place is = file_at p n id i number place ∙ ap (λ b. file_in (record i { body = b })) is
+
 pub no_class : (p : List Info) (m : Mutant) → number_of p m.class ≡ None → edited (files_of p) (look p) m ≡ None
 no_class p m h = ap (λ o. option_map (λ made. with_class made.0 (look p)) (option_and_then (λ c. applied c m.edit) (option_and_then (λ k. option_and_then file_in (slice_get p k)) o))) h
 

@@ -43,11 +43,11 @@ fn edited_class(
     let ClassBody::File(loaded) = original.body() else {
         return Ok(None);
     };
+    parts_are_of_applied();
+    entries_add_alone();
     let Some(file) = edited_file(alloc, id, loaded, &mutant.edit, kept)? else {
         return Ok(None);
     };
-    parts_are_of_applied();
-    entries_add_alone();
     let edited = original.edited(alloc, file)?;
     Ok(Some((id, Arc::new(alloc, edited)?)))
 }
