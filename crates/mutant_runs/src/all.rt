@@ -39,7 +39,9 @@ pub fn verdicts(
     let mut verdicts = Seq::new(alloc);
     let mut kept = None;
     for mutant in mutants {
-        let verdict = run_mutant(alloc, program, tests, steps, mutant, limits, part, &mut kept)?;
+        let verdict = run_mutant(
+            alloc, program, tests, steps, mutant, limits, part, &mut kept,
+        )?;
         verdicts.push(verdict)?;
     }
     Ok(verdicts)

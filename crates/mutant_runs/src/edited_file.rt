@@ -65,7 +65,13 @@ pub fn edited_file(
     ensures kept { OnOk result (IsKeptOf id.0 loaded.now.class kept.new) }
 {
     let known = bytes_of(alloc, id, &loaded.class, kept.take())?;
-    let made = parts_and_bytes(alloc, &loaded.class, known.bytes.as_slice(), &known.places, edit)?;
+    let made = parts_and_bytes(
+        alloc,
+        &loaded.class,
+        known.bytes.as_slice(),
+        &known.places,
+        edit,
+    )?;
     *kept = Some(known);
     match made {
         Some((parts, bytes)) => Ok(Some(with_parts(alloc, loaded, edit, parts, bytes)?)),
