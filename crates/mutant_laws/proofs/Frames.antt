@@ -1,6 +1,5 @@
 -- The stated frames of a code whose places stay.
 use Rattle.std.proofs.Common.{◌≡◌, ◌∙◌, refl, ap, ℕ, List, [], ◌∷◌, ◌++◌, map}
-use Rattle.std.specs.List.{flat_map}
 use Rattle.class_model.specs.declared.attribute.Attr.{Attr}
 use Rattle.class_model.specs.declared.attribute.Body.{Body}
 use Rattle.class_model.specs.declared.attribute.Body.TheVariants as body
@@ -13,15 +12,13 @@ use Rattle.class_model.specs.declared.frame.Shape.{Shape}
 use Rattle.class_model.specs.declared.frame.Shape.TheVariants as shape
 use Rattle.class_model.specs.declared.frame.VItem.{VItem}
 use Rattle.class_model.specs.declared.frame.VItem.TheVariants as vitem
-use Rattle.program_rules.specs.Types.{StatedFrame, OneItem, Appended, Whole}
+use Rattle.program_rules.specs.Types.{OneItem, Appended, Whole}
 use Rattle.edit_laws.proofs.Places.{map_id}
 use Rattle.class_link.specs.Linking.{content_of, frames_of, frame_in, shape_in, vtype_in}
 use Rattle.mt_attrs.specs.CodeParts.{attr_of, name_of, body_of}
 use Rattle.mt_attrs.specs.Frames.{next_behind, delta_of}
+use Rattle.mutant_runs.proofs.Longer.{linked_frames}
 use Rattle.mutant_apply.specs.Moved.{moved_item, with_items_moved, long_enough, placed_frame, moved_frames, moved_line, moved_table, moved_tables}
-
-abbrev pub linked_frames : List Const → List Attr → List StatedFrame
-linked_frames pool attrs = flat_map (λ a. frames_of pool (content_of a)) attrs
 
 item_id : (t : VItem) → moved_item (λ to. to) t ≡ t
 item_id (vitem.Uninitialized n) = refl

@@ -5,7 +5,6 @@ mod IntJumps
 mod Frames
 mod Lines
 mod Relocated
-mod Longer
 mod Linked
 mod Recoded
 mod Edits

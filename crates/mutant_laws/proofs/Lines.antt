@@ -1,19 +1,15 @@
 -- The rows of LineNumberTable of a code whose places stay.
 use Rattle.std.proofs.Common.{◌≡◌, ◌∙◌, refl, ap, ℕ, List, [], ◌∷◌, ◌++◌, map}
-use Rattle.std.specs.List.{flat_map}
 use Rattle.class_model.specs.declared.attribute.Attr.{Attr}
 use Rattle.class_model.specs.declared.attribute.Body.{Body}
 use Rattle.class_model.specs.declared.attribute.Body.TheOpen.{Body-F}
 use Rattle.class_model.specs.declared.attribute.Code.{Code}
-use Rattle.program_rules.specs.Linked.{LinkedLine}
 use Rattle.edit_laws.proofs.Places.{map_id}
 use Rattle.class_link.specs.Linking.{content_of, line_in, lines_of}
 use Rattle.mt_attrs.specs.CodeParts.{name_of, body_of}
 use Rattle.mutant_apply.specs.Moved.{moved_frames, moved_line, moved_table, moved_tables}
 use Rattle.mutant_laws.proofs.Frames.{lines_out, frames_out}
-
-abbrev pub linked_lines : List Attr → List LinkedLine
-linked_lines attrs = flat_map (λ a. lines_of (content_of a)) attrs
+use Rattle.mutant_runs.proofs.Longer.{linked_lines}
 
 module _ (starts : List ℕ) where
   table_lines : (name : ℕ) (b : Body-F Body Attr Code) (rest : List Attr) → linked_lines (moved_table (λ to. to) starts name b ++ rest) ≡ lines_of b ++ linked_lines rest

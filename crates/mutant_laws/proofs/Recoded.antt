@@ -46,10 +46,10 @@ use Rattle.mutant_apply.specs.Moved.{moved_insn, moved_row, moved_line, moved_it
 use Rattle.mutant_apply.proofs.Lists.{all_at}
 use Rattle.mutant_apply.proofs.NamesKept.{same_names}
 use Rattle.mutant_laws.proofs.Lists.{map_changed}
-use Rattle.mutant_laws.proofs.Lines.{linked_lines}
-use Rattle.mutant_laws.proofs.Frames.{linked_frames, lines_out, frames_out}
+use Rattle.mutant_laws.proofs.Frames.{lines_out, frames_out}
 use Rattle.mutant_laws.proofs.Linked.{with_first}
-use Rattle.mutant_laws.proofs.Longer.{each_same, code_same, field_by, method_by, name_same, desc_same}
+use Rattle.mutant_runs.proofs.Longer.{linked_lines, linked_frames, each_same, code_same, name_same, desc_same}
+use Rattle.mutant_runs.proofs.Adding.{parent_case, fields_same, methods_same}
 use Rattle.mutant_laws.proofs.Relocated.{insn_moves}
 
 -- ---- lists
@@ -196,10 +196,6 @@ module _ (class : Name) (by : Edit) (pool : List Const) (code : Code) (first : I
 
 -- ---- the class
 
-parent_case : (pool more : List Const) (i : ℕ) (b : Bool) → (b ≡ false → class_name_of (pool ++ more) i ≡ class_name_of pool i) → (if b then None else Some (class_named (pool ++ more) i)) ≡ (if b then None else Some (class_named pool i))
-parent_case pool more i true same = refl
-parent_case pool more i false same = ap (λ (o : Option Name). Some (name_or_empty o)) (same refl)
-
 -- What is known of a class whose instruction is edited.
 pub record IsRecoded (c : Class) (member : Member) (code : Code) (number : ℕ) : Type 0 where
   pub spelled : IsClass c
@@ -226,18 +222,6 @@ module _ (c : Class) (member : Member) (code : Code) (by : Edit) (more : List Co
   member_named : IsNamedMethod c.pool member
   member_named = all_at (IsNamedMethod c.pool) c.methods by.method member known.named.methods known.declares
 
-  fields_same : map (field_in longer) c.fields ≡ map (field_in c.pool) c.fields
-  fields_same = each_same (IsNamedField c.pool) (field_in longer) (field_in c.pool) (field_by c.pool more known.named.pool OfField is_field_name (λ desc. is_read (field_kind desc))) c.fields known.named.fields
-
-  both_by : (ms : List Member) → AllByRecursion (IsNamedMethod c.pool) ms → AllByRecursion HasMemberForm ms → AllByRecursion (λ m. IsNamedMethod c.pool m × HasMemberForm m) ms
-  both_by [] n f = tt
-  both_by (m ∷ ms) n f = ((n.0, f.0), both_by ms n.1 f.1)
-
-  methods_same : map (method_in longer) c.methods ≡ map (method_in c.pool) c.methods
-  methods_same =
-      each_same (λ m. IsNamedMethod c.pool m × HasMemberForm m) (method_in longer) (method_in c.pool) (λ m q. method_by c.pool more known.named.pool OfMethod is_method_name is_desc m q.0 q.1) c.methods
-      (both_by c.methods known.named.methods (recursion_from_All HasMemberForm c.methods known.form.methods))
-
   body_edited : linking.body_of longer (first_of code_within (member_with new_code member).attrs) ≡ HasCode (edit.edited_code edit_here (code_in c.pool code))
   body_edited =
       ap (linking.body_of longer) (with_first new_code member.attrs code known.coded)
@@ -263,8 +247,8 @@ module _ (c : Class) (member : Member) (code : Code) (by : Edit) (more : List Co
       ap (λ p. with_methods p interfaces (map (field_in longer) c.fields) ms) (parent_case c.pool more c.parent (c.parent == 0) same.parent)
       ∙ ap (λ is. with_methods (class_or_none c.pool c.parent) is (map (field_in longer) c.fields) ms)
       (each_same (λ i. class_name_of longer i ≡ class_name_of c.pool i) (class_named longer) (class_named c.pool) (λ i e. ap name_or_empty e) c.interfaces same.interfaces)
-      ∙ ap (λ fs. with_methods (class_or_none c.pool c.parent) (map (class_named c.pool) c.interfaces) fs ms) fields_same
+      ∙ ap (λ fs. with_methods (class_or_none c.pool c.parent) (map (class_named c.pool) c.interfaces) fs ms) (fields_same c more known.named)
       ∙ ap (with_methods (class_or_none c.pool c.parent) (map (class_named c.pool) c.interfaces) (map (field_in c.pool) c.fields))
       (map_changed (method_in longer) (member_with new_code) c.methods by.method member known.declares
-      ∙ ap (λ (xs : List LinkedMethod). slice_set xs by.method (method_in longer (member_with new_code member))) methods_same
+      ∙ ap (λ (xs : List LinkedMethod). slice_set xs by.method (method_in longer (member_with new_code member))) (methods_same c more known.named known.form)
       ∙ ap (slice_set (map (method_in c.pool) c.methods) by.method) method_edited)

@@ -4,3 +4,5 @@ pub mod VerdictLaws
 pub mod FitLaws
 pub mod MutantLaws
 pub mod EditLaws
+pub mod Longer
+pub mod Adding

@@ -106,14 +106,14 @@ unfolding link
 linked_interfaces edit c parts q = same_interfaces c parts.added q
 
 -- An edit leaves the name, the superclass and the interfaces.
-alike : (old new : Info) (l : Loaded) (edit : Edit) (parts : Parts) (made : Class) (bytes : List ℕ) → made ≡ class_with edit l.class parts → SameNames l.class parts.added → old.name ≡ body_name old.body → class_of old ≡ link_body old.body → old.body ≡ body.File l
-    → new.name ≡ body_name new.body → class_of new ≡ link_body new.body → new.body ≡ body.File (record { bytes = bytes; class = made }) → IsAlike old new
-alike old new l edit parts made bytes is same old-name old-class old-body new-name new-class new-body = record {
+alike : (old new : Info) (l : Loaded) (edit : Edit) (parts : Parts) (made : Class) → made ≡ class_with edit l.class parts → SameNames l.class parts.added → old.name ≡ body_name old.body → class_of old ≡ link_body old.body → old.body ≡ body.File l
+    → new.name ≡ own_name made → class_of new ≡ link made → IsFile new.body → IsAlike old new
+alike old new l edit parts made is same old-name old-class old-body new-name new-class new-file = record {
   old_file = subst IsFile (sym old-body) tt;
-  new_file = subst IsFile (sym new-body) tt;
-  name = new-name ∙ ap body_name new-body ∙ ap own_name is ∙ ap name_or_empty same.this ∙ sym (old-name ∙ ap body_name old-body);
-  parent = ap (λ (k : Linked). k.parent) (new-class ∙ ap link_body new-body ∙ ap link is) ∙ linked_parent edit l.class parts same ∙ sym (ap (λ (k : Linked). k.parent) (old-class ∙ ap link_body old-body));
-  interfaces = ap (λ (k : Linked). k.interfaces) (new-class ∙ ap link_body new-body ∙ ap link is) ∙ linked_interfaces edit l.class parts same ∙ sym (ap (λ (k : Linked). k.interfaces) (old-class ∙ ap link_body old-body));
+  new_file = new-file;
+  name = new-name ∙ ap own_name is ∙ ap name_or_empty same.this ∙ sym (old-name ∙ ap body_name old-body);
+  parent = ap (λ (k : Linked). k.parent) (new-class ∙ ap link is) ∙ linked_parent edit l.class parts same ∙ sym (ap (λ (k : Linked). k.parent) (old-class ∙ ap link_body old-body));
+  interfaces = ap (λ (k : Linked). k.interfaces) (new-class ∙ ap link is) ∙ linked_interfaces edit l.class parts same ∙ sym (ap (λ (k : Linked). k.interfaces) (old-class ∙ ap link_body old-body));
 }
 
 -- ---- which class file a mutant's class has
@@ -132,6 +132,9 @@ pub record IsAt (p : List Info) (n : Name) (id : ℕ) (i : Info) : Type 0 where
 pub file_at : (p : List Info) (n : Name) (id : ℕ) (i : Info) → number_of p n ≡ Some id → slice_get p id ≡ Some i → files_of p n ≡ file_in i
 file_at p n id i number place = ap (option_and_then (λ k. option_and_then file_in (slice_get p k))) number ∙ ap (option_and_then file_in) place
 
+pub file_found : (p : List Info) (n : Name) (id : ℕ) (i : Info) (l : Loaded) → number_of p n ≡ Some id → slice_get p id ≡ Some i → i.body ≡ body.File l → files_of p n ≡ Some l.class
+file_found p n id i l number place is = file_at p n id i number place ∙ ap (λ b. file_in (record i { body = b })) is
+
 pub no_class : (p : List Info) (m : Mutant) → number_of p m.class ≡ None → edited (files_of p) (look p) m ≡ None
 no_class p m h = ap (λ o. option_map (λ made. with_class made.0 (look p)) (option_and_then (λ c. applied c m.edit) (option_and_then (λ k. option_and_then file_in (slice_get p k)) o))) h
 
@@ -145,18 +148,18 @@ pub of_file : (p : List Info) (m : Mutant) (c : Class) → files_of p m.class �
 of_file p m c file h = let P : Option Class → Type 0 = λ o. IfSome o (λ c. HasClassForm c × Fits c m.edit × IsClass c) in subst P file h
 
 -- The class that is made takes the other's place.
-pub makes : (p : List Info) (m : Mutant) (id : ℕ) (old new : Info) (l : Loaded) (made : Class × List ℕ) (bytes : List ℕ) → IsAt p m.class id old → old.body ≡ body.File l → IsClass l.class → applied l.class m.edit ≡ Some made
-    → new.name ≡ body_name new.body → class_of new ≡ link_body new.body → new.body ≡ body.File (record { bytes = bytes; class = made.0 }) → Makes p m id new
-makes p m id old new l made bytes at file spelled is new-name new-class new-body =
+pub makes : (p : List Info) (m : Mutant) (id : ℕ) (old new : Info) (l : Loaded) (made : Class × List ℕ) → IsAt p m.class id old → old.body ≡ body.File l → IsClass l.class → applied l.class m.edit ≡ Some made
+    → new.name ≡ own_name made.0 → class_of new ≡ link made.0 → IsFile new.body → Makes p m id new
+makes p m id old new l made at file spelled is new-name new-class new-file =
     let made_by = applied_made l.class m.edit made is in
     let same = same_names l.class made_by.parts.added spelled in
-    let like : IsAlike old new = alike old new l m.edit made_by.parts made.0 bytes made_by.is same at.name at.class file new-name new-class new-body in
-    let own : own_name made.0 ≡ m.class = sym (new-name ∙ ap body_name new-body) ∙ like.name ∙ at.named in
+    let like : IsAlike old new = alike old new l m.edit made_by.parts made.0 made_by.is same at.name at.class file new-name new-class new-file in
+    let own : own_name made.0 ≡ m.class = sym new-name ∙ like.name ∙ at.named in
     let number : number_of p (own_name made.0) ≡ Some id = ap (number_of p) own ∙ at.number in
     let P : Option Info → Type 0 = λ o. IsSomeAnd o (λ x. IsAlike x new) in
     record {
       swaps = subst P (sym at.place) like;
-      program = edited_by p m l.class (Some made) (file_at p m.class id old at.number at.place ∙ ap (λ b. file_in (record old { body = b })) file) is ∙ ap Some (sym (look_with p id old new made.0 at.place number like.name (new-class ∙ ap link_body new-body)));
+      program = edited_by p m l.class (Some made) (file_at p m.class id old at.number at.place ∙ ap (λ b. file_in (record old { body = b })) file) is ∙ ap Some (sym (look_with p id old new made.0 at.place number like.name new-class));
     }
 
 -- ---- the way back

@@ -4,6 +4,8 @@ use Rattle.class_model.specs.declared.class.Class.{Class}
 use Rattle.class_reader.specs.Spells.{IsClass}
 use Rattle.class_writer.specs.Writing.{HasClassForm}
 use Rattle.class_link.specs.Info.{Info, own_name, body_name, file_in}
+use Rattle.class_link.specs.declared.loaded.EditedFile.{EditedFile}
+use Rattle.class_link.specs.Edits.{AddsAlone}
 use Rattle.class_table.specs.Table.{IsProgram}
 use Rattle.mutator_ops.specs.Mutants.{class_mutants}
 use Rattle.mutant_runs.specs.Programs.{files_of, IsMutantOf}
@@ -15,3 +17,9 @@ FilesAreFound = (p : List Info) (id : ℕ) (i : Info) (c : Class) → IsProgram 
 -- The mutants of a class file that is found by its name are of the program.
 abbrev pub MutantsAreOf : Type 0
 MutantsAreOf = (p : List Info) (c : Class) → HasClassForm c → IsClass c → files_of p (own_name c) ≡ Some c → All (IsMutantOf (files_of p)) (class_mutants c)
+
+-- Entries behind the pool of a class file that has a spelling mean what they say, and nothing else
+-- means anything else by them.
+abbrev pub EntriesAddAlone : Type 0
+EntriesAddAlone =
+    (e : EditedFile) → HasClassForm e.original.class → IsClass e.original.class → AddsAlone e

@@ -1,15 +1,11 @@
 -- The program that a mutant's edit makes (this project's own).
-use Rattle.std.specs.Prelude.{◌≡◌, ◌==◌, ℕ, Bool, false, if◌then◌else◌, List, length, Option, Some, IfSome, slice_get, slice_set, option_and_then}
+use Rattle.std.specs.Prelude.{◌≡◌, ℕ, if◌then◌else◌, List, Option, Some, IfSome, slice_get, slice_set, option_and_then}
 use Rattle.std.specs.Option.{option_map}
 use Rattle.class_model.specs.declared.class.Class.{Class}
-use Rattle.class_model.specs.declared.edit.Edit.{Edit}
 use Rattle.class_reader.specs.Spells.{IsClass}
 use Rattle.class_writer.specs.Writing.{HasClassForm}
 use Rattle.program_rules.specs.Names.{Name, same}
 use Rattle.program_rules.specs.Programs.{Look}
-use Rattle.class_link.specs.declared.loaded.Loaded.{Loaded}
-use Rattle.class_link.specs.declared.loaded.ClassBody.{ClassBody}
-use Rattle.class_link.specs.declared.loaded.ClassBody.TheVariants as body
 use Rattle.class_link.specs.Info.{Info, own_name, file_in}
 use Rattle.class_link.specs.Linking.{link}
 use Rattle.class_table.specs.Table.{number_of, look, CanSwap}
@@ -36,16 +32,6 @@ edited files p m = option_map (λ made. with_class made.0 p) (option_and_then (�
 -- The edit of a mutant is one that its class takes, and the class has a spelling.
 abbrev pub IsMutantOf : ClassFiles → Mutant → Type 0
 IsMutantOf files m = IfSome (files m.class) (λ c. HasClassForm c × Fits c m.edit × IsClass c)
-
--- A class file is the one that this edit makes of the file of a class, with the bytes that spell it.
-abbrev pub IsMadeBy : Info → Edit → Loaded → Type 0
-IsMadeBy i edit new =
-    option_and_then (λ c. applied c edit) (file_in i) ≡ Some (new.class, new.bytes)
-
--- As many entries stand in the constant pool of a class file as in that of the file of a class.
-abbrev pub is_pool_kept : ClassBody → Class → Bool
-is_pool_kept (body.File loaded) new = length loaded.class.pool == length new.pool
-is_pool_kept (body.Library c) new = false
 
 -- The class that a mutant's edit makes may stand in the place of the one of this number, and the program then is the one that the edit makes.
 pub record Makes (p : List Info) (m : Mutant) (id : ℕ) (class : Info) : Type 0 where

@@ -37,8 +37,11 @@ pub fn verdicts(
     ensures same { program.new ≡ program.old }
 {
     let mut verdicts = Seq::new(alloc);
+    let mut kept = None;
     for mutant in mutants {
-        let verdict = run_mutant(alloc, program, tests, steps, mutant, limits, part)?;
+        let verdict = run_mutant(
+            alloc, program, tests, steps, mutant, limits, part, &mut kept,
+        )?;
         verdicts.push(verdict)?;
     }
     Ok(verdicts)

@@ -2,6 +2,8 @@
 #![tactic(auto)]
 
 mod all;
+mod class_bytes;
+mod edited_file;
 mod laws;
 mod on_mutant;
 mod one_run;
@@ -9,5 +11,4 @@ mod tally;
 mod tests_run;
 
 pub use all::verdicts;
-pub use laws::{files_are_found, mutants_are_of};
-pub use on_mutant::link_edit;
+pub use laws::{entries_add_alone, files_are_found, mutants_are_of};

@@ -9,34 +9,34 @@ use Rattle.mutant_runs.proofs.on_mutant.run_mutant.Goals as goal
 
 pub returns-in_default-clause-told : goal.returns-in_default-clause-told
 returns-in_default-clause-told c =
-    let none : edited (files_of c.args.program.now) (look c.args.program.now) c.args.mutant.now ≡ None = rw c.in_default.is at c.in_ok-id.ensures in
+    let none : edited (files_of c.args.program.now) (look c.args.program.now) c.args.mutant.now ≡ None = rw c.in_default.is at c.in_ok-id.ensures.made in
     c.not_viable.ensures ∙ sym (verdict_none c.args.limits (files_of c.args.program.now) (look c.args.program.now) (timed c.args.tests.now c.args.steps.now) c.args.mutant.now none)
 
 pub returns-in_default-clause-steps : goal.returns-in_default-clause-steps
 returns-in_default-clause-steps c =
-    let none : edited (files_of c.args.program.now) (look c.args.program.now) c.args.mutant.now ≡ None = rw c.in_default.is at c.in_ok-id.ensures in
+    let none : edited (files_of c.args.program.now) (look c.args.program.now) c.args.mutant.now ≡ None = rw c.in_default.is at c.in_ok-id.ensures.made in
     let steps = steps_none c.args.limits (files_of c.args.program.now) (look c.args.program.now) (timed c.args.tests.now c.args.steps.now) c.args.mutant.now none in
     omega (arith, steps)
 
 pub swap-edited-requires : goal.swap-edited-requires
 swap-edited-requires c =
-    let made : Makes c.args.program.now c.args.mutant.now c.in-Some.id.0 (arc_value c.in-Some.edited) = rw c.in-Some.is at c.in_ok-id.ensures in
+    let made : Makes c.args.program.now c.args.mutant.now c.in-Some.id.0 (arc_value c.in-Some.edited) = rw c.in-Some.is at c.in_ok-id.ensures.made in
     rw c.swap-original.ensures.program (can_swap_back c.args.program.now c.in-Some.id.0 (arc_value c.swap-original.result) (arc_value c.in-Some.edited) c.swap-original.ensures.other made.swaps)
 
 pub returns-clause-told : goal.returns-clause-told
 returns-clause-told c =
-    let made : Makes c.args.program.now c.args.mutant.now c.in-Some.id.0 (arc_value c.in-Some.edited) = rw c.in-Some.is at c.in_ok-id.ensures in
+    let made : Makes c.args.program.now c.args.mutant.now c.in-Some.id.0 (arc_value c.in-Some.edited) = rw c.in-Some.is at c.in_ok-id.ensures.made in
     told_made c.args.limits c.args.program.now c.swap-original.new.self (timed c.args.tests.now c.args.steps.now) c.args.mutant.now c.in-Some.id.0 (arc_value c.in-Some.edited) c.run_tests-verdict.result made c.swap-original.ensures.program c.run_tests-verdict.ensures.told
 
 pub returns-clause-steps : goal.returns-clause-steps
 returns-clause-steps c =
-    let made : Makes c.args.program.now c.args.mutant.now c.in-Some.id.0 (arc_value c.in-Some.edited) = rw c.in-Some.is at c.in_ok-id.ensures in
+    let made : Makes c.args.program.now c.args.mutant.now c.in-Some.id.0 (arc_value c.in-Some.edited) = rw c.in-Some.is at c.in_ok-id.ensures.made in
     let P : ℕ → Type 0 = λ n. OnOk c.run_tests-verdict.result (c.run_tests-verdict.new.part ≡ c.args.part.now + n) in
     subst P (counted_made c.args.limits c.args.program.now c.swap-original.new.self (timed c.args.tests.now c.args.steps.now) c.args.mutant.now c.in-Some.id.0 (arc_value c.in-Some.edited) made c.swap-original.ensures.program) c.run_tests-verdict.ensures.steps
 
 pub returns-clause-most : goal.returns-clause-most
 returns-clause-most c =
-    let made : Makes c.args.program.now c.args.mutant.now c.in-Some.id.0 (arc_value c.in-Some.edited) = rw c.in-Some.is at c.in_ok-id.ensures in
+    let made : Makes c.args.program.now c.args.mutant.now c.in-Some.id.0 (arc_value c.in-Some.edited) = rw c.in-Some.is at c.in_ok-id.ensures.made in
     let P : ℕ → Type 0 = λ n. c.run_tests-verdict.new.part ≤ c.args.part.now + n in
     subst P (counted_made c.args.limits c.args.program.now c.swap-original.new.self (timed c.args.tests.now c.args.steps.now) c.args.mutant.now c.in-Some.id.0 (arc_value c.in-Some.edited) made c.swap-original.ensures.program) c.run_tests-verdict.ensures.most
 

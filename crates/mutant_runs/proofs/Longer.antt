@@ -1,7 +1,7 @@
 -- What a class that has a spelling means stays the same where entries are put behind its pool.
 use Rattle.std.proofs.Common.{◌≡◌, ◌∙◌, refl, sym, ap, subst, ℕ, ◌-◌, ◌≤◌, Bool, true, false, List, [], ◌∷◌, ◌++◌, map, length, Option, None, Some, arith}
 use Rattle.std.specs.Prelude.{◌==◌, ◌||◌, slice_get, IsSome, is_some, option_and_then, if◌then◌else◌}
-use Rattle.std.specs.List.{AllByRecursion}
+use Rattle.std.specs.List.{AllByRecursion, flat_map}
 use Rattle.std.proofs.lemmas.List.Elements.{recursion_from_All}
 use Rattle.std.proofs.lemmas.Option.{slice_get_within}
 use Rattle.class_model.specs.declared.attribute.Attr.{Attr}
@@ -22,7 +22,7 @@ use Rattle.class_model.specs.declared.instruction.Arg.TheVariants as arg
 use Rattle.class_model.specs.declared.instruction.Insn.{Insn}
 use Rattle.class_model.specs.Pool.{entry_of, class_in, text_of, IsEntry, IsPoolForm}
 use Rattle.program_rules.specs.Names.{Name}
-use Rattle.program_rules.specs.Linked.{LinkedCode, LinkedRow, HasCode, FieldConstant, TextField}
+use Rattle.program_rules.specs.Linked.{LinkedCode, LinkedRow, LinkedLine, HasCode, FieldConstant, TextField}
 use Rattle.program_rules.specs.Types.{Obj, OneItem, Appended, Whole, StatedFrame}
 use Rattle.program_rules.specs.Instructions.{Instruction}
 use Rattle.class_link.specs.Symbols.{name_or_empty, class_named, text_named}
@@ -56,8 +56,13 @@ use Rattle.class_reader.specs.Indices.{names_name}
 use Rattle.class_writer.specs.Writing.{HasMemberForm, IsNamedMember}
 use Rattle.mutant_apply.proofs.PoolLaws.{entry_kept, text_kept, class_kept}
 use Rattle.mutant_apply.proofs.NamesKept.{formed, class_named as has_name}
-use Rattle.mutant_laws.proofs.Lines.{linked_lines}
-use Rattle.mutant_laws.proofs.Frames.{linked_frames}
+
+-- The rows of LineNumberTable of a code, and its stated frames.
+abbrev pub linked_lines : List Attr → List LinkedLine
+linked_lines attrs = flat_map (λ a. lines_of (content_of a)) attrs
+
+abbrev pub linked_frames : List Const → List Attr → List StatedFrame
+linked_frames pool attrs = flat_map (λ a. frames_of pool (content_of a)) attrs
 
 pub each_same : {X Y : Type 0} (P : X → Type 0) (f g : X → Y) → ((x : X) → P x → f x ≡ g x) → (xs : List X) → AllByRecursion P xs → map f xs ≡ map g xs
 each_same P f g h [] q = refl
