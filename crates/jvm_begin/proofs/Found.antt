@@ -1,21 +1,18 @@
 -- The initializer of a class, found among its methods.
-use Rattle.std.proofs.Common.{◌≡◌, ◌∙◌, sym, ap, ℕ, zero, suc, List, [], ◌∷◌, map, drop, None, Some, slice_get}
+use Rattle.std.proofs.Common.{◌≡◌, ◌∙◌, sym, ap, ℕ, zero, suc, List, [], ◌∷◌, map, drop, Some, slice_get}
 use Rattle.std.specs.Prelude.{if◌then◌else◌}
 use Rattle.std.specs.Option.{option_map}
 use Rattle.std.proofs.lemmas.Option.{slice_get-map}
-use Rattle.program_rules.specs.Linked.{code_of, method_in}
-use Rattle.program_rules.specs.Outlines.{head_of, heads_in, outline_of}
+use Rattle.program_rules.specs.Linked.{code_of}
+use Rattle.program_rules.specs.Outlines.{head_of}
 use Rattle.machine_rules.specs.Calls.{room_in}
 use Rattle.machine_rules.specs.Initialisation as rules
 use Rattle.class_link.specs.declared.linked.Entry.{Entry}
-use Rattle.class_link.specs.declared.linked.LinkedClass.{LinkedClass}
 use Rattle.class_link.specs.declared.linked.LinkedMethod as linked
-use Rattle.class_link.specs.Info.{Info}
-use Rattle.class_link.specs.View.{linked_of, method_of}
-use Rattle.class_table.specs.Table.{look, name_at}
+use Rattle.class_link.specs.View.{method_of}
 use Rattle.jvm_begin.specs.declared.initializer.Code.{Code}
 use Rattle.jvm_begin.specs.declared.initializer.Initializer.{Initializer}
-use Rattle.jvm_begin.specs.Begins.{begin_at, initializer_of, IsInitializer, IsFirst, IsInitializerAt}
+use Rattle.jvm_begin.specs.Begins.{initializer_of, IsInitializer, IsFirst}
 
 pub dropped : {A : Type 0} (xs : List A) (k : ℕ) (x : A) → slice_get xs k ≡ Some x → drop k xs ≡ x ∷ drop (suc k) xs
 dropped [] zero x e = absurd cc
@@ -35,14 +32,3 @@ found es ms k m c i so-far there is same = record {
       ∙ ap (λ o. room_in (code_of o)) (slice_get-map (method_of es) ms k ∙ ap (option_map (method_of es)) there)
       ∙ is.room ∙ ap (λ (j : Initializer). Some j.max_stack) (sym same);
 }
-
-pub first_at : (p : List Info) (a : ℕ) (l : LinkedClass) (i : Initializer) → look p (name_at p a) ≡ Some (linked_of l) → IsFirst (map head_of (map (method_of l.entries) l.methods)) (slice_get (map (method_of l.entries) l.methods) i.place) i → IsInitializerAt p a i
-unfolding linked_of
-first_at p a l i e h = record {
-  initializer = ap (λ o. rules.initializer_from 0 (heads_in (outline_of o))) e ∙ h.first;
-  room = ap (λ o. room_in (code_of (method_in o i.place))) e ∙ h.room;
-}
-
-pub none_at : (p : List Info) (a : ℕ) (l : LinkedClass) → look p (name_at p a) ≡ Some (linked_of l) → rules.initializer_from 0 (map head_of (map (method_of l.entries) l.methods)) ≡ None → (begin_at p a).initializer ≡ None
-unfolding linked_of
-none_at p a l e h = ap (λ o. rules.initializer_from 0 (heads_in (outline_of o))) e ∙ h

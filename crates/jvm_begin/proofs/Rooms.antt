@@ -1,9 +1,8 @@
 -- Whether the heap has room for the constants of a class.
-use Rattle.std.proofs.Common.{◌≡◌, ◌∙◌, inl, inr, sym, refl, ap, arith, ℕ, suc, ◌+◌, ◌<◌, ◌≤◌, Bool, true, false, List, [], ◌∷◌, ◌++◌, map, drop, length, Option, None, Some, slice_get}
+use Rattle.std.proofs.Common.{◌≡◌, ◌∙◌, sym, refl, ap, arith, ℕ, suc, ◌+◌, Bool, true, false, List, [], ◌∷◌, ◌++◌, map, drop, length, Option, None, Some, slice_get}
 use Rattle.std.specs.Prelude.{nat_le, is_some, if◌then◌else◌}
 use Rattle.std.specs.HashMap.{get}
 use Rattle.std.specs.Cmp.Lexicographic.{same_text}
-use Rattle.std.proofs.lemmas.Bool.Decides.{leb_tells}
 use Rattle.program_rules.specs.declared.value.Value.TheVariants.{Int, Long, Ref}
 use Rattle.program_rules.specs.Names.{Name, same}
 use Rattle.program_rules.specs.Kinds.{Kind, narrow}
@@ -53,26 +52,6 @@ constants_of p a l fs all e same are =
     ∙ ap (λ b. constants_in b 0 (map field_of l.fields)) (sym same)
     ∙ ap (λ xs. constants_in all 0 (map field_of xs)) (sym are)
 
--- ---- the words of a text
-
-new_by : (limit used units : ℕ) → nat_le (used + (2 + units)) limit ≡ true → (t : Name) → length t ≡ units → words_with_text false limit used t ≡ Some (used + (2 + units))
-new_by limit used units e t same =
-    ap (λ n. if nat_le (used + (2 + n)) limit then Some (used + (2 + n)) else None) same
-    ∙ ap (λ b. if b then Some (used + (2 + units)) else None) e
-
-pub new_words : (limit used units u : ℕ) → used + (2 + units) ≤ limit → u ≡ used + (2 + units) → (t : Name) → length t ≡ units → words_with_text false limit used t ≡ Some u
-new_words limit used units u le is t same = elim (leb_tells (used + (2 + units)) limit) [
-  | inl h ↦ new_by limit used units h.0 t same ∙ ap (λ n. Some n) (sym is)
-  | inr h ↦ absurd (let lt = h.1 in omega (arith, lt, le))
-]
-
-pub no_words : (limit used units : ℕ) → limit < used + (2 + units) → (t : Name) → length t ≡ units → words_with_text false limit used t ≡ None
-no_words limit used units lt t same = elim (leb_tells (used + (2 + units)) limit) [
-  | inl h ↦ absurd (let le = h.1 in omega (arith, lt, le))
-  | inr h ↦ ap (λ n. if nat_le (used + (2 + n)) limit then Some (used + (2 + n)) else None) same
-      ∙ ap (λ b. if b then Some (used + (2 + units)) else None) h.0
-]
-
 -- ---- the texts that have their object
 
 pub stays : (has : Texts) (t : Name) → has t ≡ true → (n : Name) → has n ≡ texts_with has (TextField t) n
@@ -81,13 +60,6 @@ stays has t e n = by_test (same t n) refl
     by_test : (b : Bool) → same t n ≡ b → has n ≡ (if b then true else has n)
     by_test true h = ap has (sym (same_text t n (sym h))) ∙ e
     by_test false h = refl
-
-pub counts : (w : World) (old new : Made) (t : Name) (x : ℕ) → ((n : Name) → get same new.objects n ≡ (if same t n then Some x else get same old.objects n)) → (n : Name) → texts_in w new n ≡ texts_with (texts_in w old) (TextField t) n
-counts w old new t x set n = ap (λ o. if is_some o then true else is_some (get same w.literals.objects n)) (set n) ∙ by_test (same t n)
-  where
-    by_test : (b : Bool) → (if is_some (if b then Some x else get same old.objects n) then true else is_some (get same w.literals.objects n)) ≡ (if b then true else texts_in w old n)
-    by_test true = refl
-    by_test false = refl
 
 pub with_same : (f g : Texts) → ((n : Name) → f n ≡ g n) → (x : FieldConstant) (n : Name) → texts_with f x n ≡ texts_with g x n
 with_same f g h (IntField z) n = h n

@@ -1,36 +1,21 @@
 -- Constants are set in the worlds that a code's world means.
 use Rattle.std.proofs.Common.{◌≡◌, ◌∙◌, sym, refl, ap, subst, arith, ℕ, zero, suc, ◌+◌, ◌≤◌, Bool, true, false, List, [], ◌∷◌, map, drop, length, Option, None, Some, IsSomeAnd, slice_get}
 use Rattle.std.specs.Prelude.{is_some}
-use Rattle.program_rules.specs.declared.value.Value.TheVariants.{Ref}
 use Rattle.program_rules.specs.Names.{Name}
 use Rattle.program_rules.specs.Kinds.{Kind}
 use Rattle.program_rules.specs.Linked.{FieldConstant}
 use Rattle.machine_rules.specs.declared.machine.Limits.{Limits}
-use Rattle.machine_rules.specs.declared.machine.Outcome.TheVariants.{MemoryOut}
 use Rattle.machine_rules.specs.State as def
-use Rattle.machine_rules.specs.NewObjects.{literal}
-use Rattle.machine_rules.specs.Initialisation.{Constant, sets_constant, sets_constants, then_world, with_text, sets_static}
+use Rattle.machine_rules.specs.Initialisation.{Constant, sets_constant, sets_constants, then_world}
 use Rattle.class_link.specs.declared.linked.LinkedField as linked
 use Rattle.class_link.specs.Info.{Info}
 use Rattle.class_link.specs.View.{field_of}
-use Rattle.class_table.specs.Table.{name_at}
 use Rattle.jvm_world.specs.declared.world.World.{World}
-use Rattle.jvm_world.specs.View.{Means, Moves, Allocates}
-use Rattle.jvm_begin.specs.Constants.{static_constant, constant_at, constant_before, constants_in, sets_field, Setting, Sets, TellsSet, SetUpTo, SetsOrEnds}
+use Rattle.jvm_world.specs.View.{Means}
+use Rattle.jvm_begin.specs.Constants.{static_constant, constant_at, constant_before, constants_in, sets_field, Sets, TellsSet, SetUpTo}
 use Rattle.jvm_begin.proofs.Rooms.{from_place}
 
 -- ---- one constant
-
-pub set_there : (p : List Info) (w u : World) (set : Setting) (go : def.World → def.World) → ((v : def.World) → set v ≡ Some (go v)) → Moves p w u go → Sets p w u set true
-set_there p w u set go is moves v m = subst (λ o. IsSomeAnd o (Means p u)) (sym (is v)) (moves v m)
-
-pub text_set : (p : List Info) (w mid u : World) (q : Limits) (class place x : ℕ) (t : Name) → Allocates p w mid (λ v. literal q v t) (Some x) → Moves p mid u (sets_static (name_at p class) place (Ref x)) → Sets p w u (λ v. with_text (name_at p class) place (literal q v t)) true
-text_set p w mid u q class place x t made moves v m =
-    let g = made v m in
-    subst (λ o. IsSomeAnd (with_text (name_at p class) place o) (Means p u)) (sym g.given) (moves g.world g.means)
-
-pub text_full : (p : List Info) (w mid : World) (q : Limits) (class place : ℕ) (t : Name) → Allocates p w mid (λ v. literal q v t) None → Sets p w mid (λ v. with_text (name_at p class) place (literal q v t)) false
-text_full p w mid q class place t made v m = ap (with_text (name_at p class) place) (made v m).full
 
 pub set_at : (p : List Info) (w u : World) (q : Limits) (n : Name) (i number : ℕ) (k kind : Kind) (x : FieldConstant) (o : Option FieldConstant) (done : Bool) → number ≡ i → kind ≡ k → o ≡ Some x → Sets p w u (λ v. sets_constant q n (constant_at number kind x) v x) done → Sets p w u (sets_field q n i k o) done
 set_at p w u q n i number k kind x o done place same is h =
@@ -97,12 +82,3 @@ pub all_set : (p : List Info) (q : Limits) (n : Name) (all : List Constant) (k :
 all_set p q n all k every fs w u past h v m =
     let s = subst (λ l. SetUpTo p q n all (constants_in every k (map field_of l)) u v) (none_left fs k past) (h v m) in
     subst (λ o. IsSomeAnd o (Means p u)) (sym s.left) s.means
-
--- ---- all or nothing
-
-none_by : (o : Option def.World) → is_some o ≡ false → o ≡ None
-none_by None e = refl
-none_by (Some v) e = absurd cc
-
-pub nothing_set : (p : List Info) (w u : World) (set : Setting) → TellsSet p w set false → Moves p w u (λ v. record v { over = Some MemoryOut }) → SetsOrEnds p w u set false
-nothing_set p w u set tells moves v m = record { none = none_by (set v) (tells v m); means = moves v m }
