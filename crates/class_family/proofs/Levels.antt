@@ -1,5 +1,5 @@
 -- A walk with more levels than the rank of its first class is the same walk, and each class of it is as in any other.
-use Rattle.std.proofs.Common.{◌≡◌, ◌∙◌, sym, refl, ap, subst, ◌⊎◌, inl, inr, ℕ, zero, suc, ◌<◌, ◌≤◌, ◌^◌, Bool, true, false, List, [], ◌∷◌, ◌++◌, map, Option, None, Some, slice_get, arith, append_assoc}
+use Rattle.std.proofs.Common.{◌≡◌, ◌∙◌, sym, refl, ap, subst, ◌⊎◌, inl, inr, ℕ, zero, suc, ◌<◌, ◌≤◌, ◌^◌, Bool, true, false, List, [], ◌∷◌, ◌++◌, map, drop, Option, None, Some, slice_get, arith, append_assoc}
 use Rattle.std.specs.Prelude.{◌||◌, if◌then◌else◌, is_some}
 use Rattle.program_rules.specs.Names.{Name, same, is_listed}
 use Rattle.program_rules.specs.Linked.{Linked, parents_of, parents_with, is_interface}
@@ -91,6 +91,16 @@ pub steps_named : (f : ℕ → Name) (order : Order) (o : Option Linked) (c : Li
 steps_named f order o c over e named =
     map_steps f order (is_some c.parent) (is_interface c.flags) over ∙ ap (steps_among order (is_some c.parent) (is_interface c.flags)) (named ∙ ap parents_of e)
     ∙ steps_of_parents order c c.parent refl ∙ ap (λ x. steps order (outline_of x)) (sym e)
+
+interfaces_by : (f : ℕ → Name) (over : List ℕ) (q : Option Name) (ns : List Name) → map f over ≡ parents_with q ns → map f (interfaces_among (is_some q) over) ≡ ns
+interfaces_by f over None ns e = e
+interfaces_by f [] (Some n) ns e = absurd cc
+interfaces_by f (x ∷ over) (Some n) ns e = ap (drop 1) e
+
+-- the interfaces of a class by number
+pub interfaces_named : (f : ℕ → Name) (o : Option Linked) (c : Linked) (over : List ℕ) → o ≡ Some c → map f over ≡ parents_of o → map f (interfaces_among (is_some c.parent) over) ≡ interfaces_in (outline_of o)
+interfaces_named f o c over e named =
+    interfaces_by f over c.parent c.interfaces (named ∙ ap parents_of e) ∙ sym (ap (λ x. interfaces_in (outline_of x)) e)
 
 -- a part of a list keeps what each of its items has
 taken_of : (xs : List ℕ) (named : Bool) (k b : ℕ) → slice_get (superclass_among named xs) k ≡ Some b → (j : ℕ) × (slice_get xs j ≡ Some b)

@@ -4,7 +4,7 @@ use Rattle.std.specs.Prelude.{◌||◌, if◌then◌else◌}
 use Rattle.std.specs.List.{list_any}
 use Rattle.program_rules.specs.Names.{Name, same, is_listed}
 use Rattle.program_rules.specs.Outlines.{outline_of}
-use Rattle.program_rules.specs.Programs.{Look, Searching, nodes, concat_over}
+use Rattle.program_rules.specs.Programs.{Look, Searching, Beginning, nodes, concat_over}
 use Rattle.class_order.proofs.Within.{or_either, or_first, or_second, listed_left, listed_right, listed_either}
 use Rattle.class_link.specs.Info.{Info}
 use Rattle.class_table.specs.Table.{look, name_at, IsProgram}
@@ -13,8 +13,8 @@ use Rattle.class_family.specs.declared.seen.Seen.{Seen}
 use Rattle.class_family.specs.declared.tasks.Task.{Task}
 use Rattle.class_family.specs.Above.{is_above, is_above_any, AreWithin, AreAbove}
 use Rattle.class_family.specs.Once.{each_once}
-use Rattle.class_family.specs.Families.{names_in}
-use Rattle.class_family.specs.Walks.{walks, steps, enters_of, wanted, add_in, AreTasks, names_of, IsSeen, AddsSteps, EntersAbove}
+use Rattle.class_family.specs.Families.{names_in, AreAcross}
+use Rattle.class_family.specs.Walks.{walks, steps, enters_of, wanted, add_in, AreTasks, names_of, IsSeen, AddsSteps, AddsInterfaces, EntersAbove}
 use Rattle.class_family.proofs.Pushing.{append_nil, enters_both}
 use Rattle.class_family.proofs.Levels.{map_both}
 use Rattle.class_family.proofs.Onces.{add_all}
@@ -96,4 +96,22 @@ module _ (p : List Info) (ok : IsProgram p) where
         ∙ ap (is_listed (name_at p c)) (names ∙ ap (λ l. add_in (wanted Searching p ts) (map (name_at p) l)) none ∙ add_all (wanted Searching p ts) ∙ ap (λ l. each_once (wanted Searching p l)) h.tasks ∙ ap each_once (wanted_enters Searching p h.over))
         ∙ once_listed (name_at p c) (walks Searching p (map (name_at p) h.over))
         ∙ h.above (name_at p c);
+  }
+
+-- ---- the interfaces of a class
+
+module _ (p : List Info) where
+  entered_across : (a : ℕ) (old ts : List Task) (h : AddsInterfaces p a old ts) → old ≡ [] → ts ≡ enters_of h.over
+  entered_across a old ts h none = h.tasks ∙ ap (λ l. l ++ enters_of h.over) none
+
+  pub across_tasks : (a : ℕ) (old ts : List Task) (ns : List Name) → AddsInterfaces p a old ts → old ≡ [] → AreTasks Beginning p ns ts
+  across_tasks a old ts ns h none =
+      subst (AreTasks Beginning p ns) (sym (entered_across a old ts h none)) (enters_tasks Beginning p h.over ns h.within)
+
+  pub across_found : (a : ℕ) (before ts : List Task) (old new : Seen) → AddsInterfaces p a before ts → before ≡ [] → old.found ≡ [] → names_of p new ≡ add_in (wanted Beginning p ts) (names_of p old) → IsSeen Beginning p new → AreAcross p a new.found
+  across_found a before ts old new h none empty names seen = record {
+    named = names ∙ ap (λ l. add_in (wanted Beginning p ts) (map (name_at p) l)) empty ∙ add_all (wanted Beginning p ts)
+        ∙ ap (λ l. each_once (wanted Beginning p l)) (entered_across a before ts h none)
+        ∙ ap each_once (wanted_enters Beginning p h.over ∙ ap (walks Beginning p) h.named);
+    within = seen.within;
   }

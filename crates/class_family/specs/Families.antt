@@ -1,8 +1,8 @@
 -- What a search over a class and all above it goes over, each class once.
 use Rattle.std.specs.Prelude.{◌≡◌, ◌<◌, ℕ, List, [], ◌∷◌, map, Some, slice_get, length}
 use Rattle.program_rules.specs.Names.{Name}
-use Rattle.program_rules.specs.Outlines.{outline_of}
-use Rattle.program_rules.specs.Programs.{Look, Order, Node, node, nodes, supers, Rising}
+use Rattle.program_rules.specs.Outlines.{outline_of, interfaces_in}
+use Rattle.program_rules.specs.Programs.{Look, Order, Node, node, nodes, supers, Rising, Beginning, concat_over}
 use Rattle.class_link.specs.Info.{Info}
 use Rattle.class_table.specs.Table.{look, name_at}
 use Rattle.class_family.specs.Once.{each_once}
@@ -22,6 +22,17 @@ classes_of order p n = each_once (names_in (nodes order p n))
 -- The same by number.
 pub record AreClassesOf (order : Order) (p : List Info) (a : ℕ) (ids : List ℕ) : Type 0 where
   pub named : map (name_at p) ids ≡ classes_of order (look p) (name_at p a)
+  pub within : (k b : ℕ) → slice_get ids k ≡ Some b → b < length p
+
+-- What is initialised before a class, but for its superclass and what comes before that: its
+-- interfaces, each behind its own (JVMS 5.5, step 7).
+abbrev pub across : Look → Name → List Name
+across p n =
+    concat_over (λ m. names_in (nodes Beginning p m)) (interfaces_in (outline_of (p n)))
+
+-- These, each once, by number.
+pub record AreAcross (p : List Info) (a : ℕ) (ids : List ℕ) : Type 0 where
+  pub named : map (name_at p) ids ≡ each_once (across (look p) (name_at p a))
   pub within : (k b : ℕ) → slice_get ids k ≡ Some b → b < length p
 
 -- The classes from this one upwards.

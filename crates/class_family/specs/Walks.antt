@@ -170,6 +170,13 @@ pub record AddsSteps (order : Order) (p : List Info) (a : ℕ) (old new : List T
   pub within : (k b : ℕ) → slice_get over k ≡ Some b → b < length p
   pub tasks : new ≡ old ++ enters_of over
 
+-- The interfaces of a class are entered before all else.
+pub record AddsInterfaces (p : List Info) (a : ℕ) (old new : List Task) : Type 0 where
+  pub over : List ℕ
+  pub named : map (name_at p) over ≡ interfaces_in (outline_of (look p (name_at p a)))
+  pub within : (k b : ℕ) → slice_get over k ≡ Some b → b < length p
+  pub tasks : new ≡ old ++ enters_of over
+
 -- The same by the way of a walk.
 abbrev pub AddsStepsOf : Way → List Info → ℕ → List Task → List Task → Type 0
 AddsStepsOf way p a old new = AddsSteps (order_of way) p a old new

@@ -7,9 +7,9 @@ ghost use Rattle.program_rules.specs.Linked.{is_interface};
 ghost use Rattle.program_rules.specs.Programs.{Order};
 ghost use Rattle.class_link.specs.Info.{class_of};
 ghost use Rattle.class_table.specs.Table.{look, name_at};
-ghost use Rattle.class_family.specs.Walks.{AddsStepsOf};
+ghost use Rattle.class_family.specs.Walks.{AddsStepsOf, AddsInterfaces};
 
-use crate::tasks::{Task, Way, push_steps};
+use crate::tasks::{Task, Way, push_interfaces, push_steps};
 use class_model::{ClassId, Memory};
 use class_table::{ClassInfo, Program};
 
@@ -45,5 +45,15 @@ pub fn enter_steps(
         names_superclass(info),
         is_interface(info),
     )?;
+    Ok(())
+}
+
+/// The interfaces of a class are entered before all else.
+pub fn enter_interfaces(program: &Program, tasks: &mut Vec<Task>, id: ClassId) -> Result<(), Memory>
+    requires { id.0 < length program.now }
+    ensures { OnOk result (AddsInterfaces program.now id.0 tasks.old.items tasks.new.items) }
+{
+    let info = program.info(id);
+    push_interfaces(tasks, program.links(id), names_superclass(info))?;
     Ok(())
 }

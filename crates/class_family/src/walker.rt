@@ -5,13 +5,13 @@ ghost use Rattle.program_rules.specs.Programs.{Searching, Beginning};
 ghost use Rattle.jvm_marks.specs.Marks.{is_among, with_number};
 ghost use Rattle.class_family.specs.declared.tasks.Task.TheVariants.{Leave};
 ghost use Rattle.class_family.specs.Above.{AreWithin, AreAbove};
-ghost use Rattle.class_family.specs.Families.{AreClassesOf};
+ghost use Rattle.class_family.specs.Families.{AreClassesOf, AreAcross};
 ghost use Rattle.class_family.specs.Walks.{order_of, IsSeen, CanMake, CanMakeAll, Enters, Leaves};
 ghost use Rattle.class_family.specs.Walks.{EntersAbove, Makes};
 ghost use Rattle.class_family.specs.Walks.{FindsBefore, FindsBehind, FindsWanted};
 
 use crate::seen::Seen;
-use crate::steps::enter_steps;
+use crate::steps::{enter_interfaces, enter_steps};
 use crate::tasks::{Task, Way, next};
 use class_model::{ClassId, Memory};
 use class_table::Program;
@@ -225,6 +225,24 @@ fn find_above(
     Ok(())
 }
 
+// Finds what is initialised before a class but for its superclass, where nothing was found yet.
+fn find_across(
+    program: &Program,
+    seen: &mut Seen,
+    tasks: &mut Vec<Task>,
+    id: ClassId,
+) -> Result<(), Memory>
+    requires class { id.0 < length program.now }
+    requires found { seen.old.found ≡ [] }
+    requires closed { seen.old.closed ≡ [] }
+    requires tasks { tasks.old.items ≡ [] }
+    ensures { OnOk result (AreAcross program.now id.0 seen.new.found) }
+{
+    enter_interfaces(program, tasks, id)?;
+    run(program, Way::Beginning, seen, tasks)?;
+    Ok(())
+}
+
 impl Walker {
     /// Nothing was found yet.
     pub fn new(alloc: Global) -> Walker
@@ -283,6 +301,20 @@ impl Walker {
         ensures { OnOk result (AreClassesOf Beginning program.now id.0 self.new) }
     {
         self.walk(program, Way::Beginning, id)?;
+        Ok(())
+    }
+
+    /// Finds what is initialised before a class but for its superclass and what comes before that:
+    /// its interfaces, each behind its own (JVMS 5.5, step 7); each class once, where it is first
+    /// met.
+    pub fn across(&mut self, program: &Program, id: ClassId) -> Result<(), Memory>
+        requires { id.0 < length program.now }
+        ensures { OnOk result (AreAcross program.now id.0 self.new) }
+    {
+        self.seen.found.clear();
+        self.seen.closed.clear();
+        self.tasks.clear();
+        find_across(program, &mut self.seen, &mut self.tasks, id)?;
         Ok(())
     }
 
