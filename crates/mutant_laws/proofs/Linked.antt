@@ -34,8 +34,9 @@ use Rattle.mutant_apply.specs.Laws.{IsMade}
 use Rattle.mutant_apply.specs.Moved.{moved_arg, moved_insn, moved_row, moved_tables}
 use Rattle.mutant_apply.specs.declared.parts.Parts.{Parts}
 use Rattle.mutant_laws.proofs.Lists.{map_changed, map_spliced}
-use Rattle.mutant_laws.proofs.Frames.{linked_frames, frames_kept}
-use Rattle.mutant_laws.proofs.Lines.{linked_lines, lines_kept}
+use Rattle.mutant_laws.proofs.Frames.{frames_kept}
+use Rattle.mutant_laws.proofs.Lines.{lines_kept}
+use Rattle.mutant_runs.proofs.Longer.{linked_lines, linked_frames}
 
 -- ---- the map that moves nothing, over stated frames
 

@@ -1,5 +1,5 @@
 -- A class that has a spelling means the same where entries are put behind its constant pool.
-use Rattle.std.proofs.Common.{◌≡◌, ◌∙◌, sym, refl, ap, ℕ, zero, suc, ◌-◌, Bool, true, false, List, [], ◌∷◌, ◌++◌, map, length, Option, None, Some, arith}
+use Rattle.std.proofs.Common.{◌≡◌, ◌∙◌, sym, refl, ap, ℕ, zero, suc, ◌-◌, Bool, true, false, List, [], ◌∷◌, ◌++◌, map, Option, None, Some, arith}
 use Rattle.std.specs.Prelude.{◌==◌, if◌then◌else◌, slice_get}
 use Rattle.std.specs.List.{AllByRecursion}
 use Rattle.std.proofs.lemmas.Bool.{eqb-true}
@@ -14,7 +14,7 @@ use Rattle.class_model.specs.Pool.{entry_of, class_name_of, IsPoolForm}
 use Rattle.program_rules.specs.Names.{Name}
 use Rattle.program_rules.specs.Linked.{Linked, LinkedField, LinkedMethod}
 use Rattle.class_link.specs.declared.loaded.EditedFile.{EditedFile}
-use Rattle.class_link.specs.Edits.{class_added, MeanTheSame, AddsAlone}
+use Rattle.class_link.specs.Edits.{MeanTheSame, AddsAlone}
 use Rattle.class_link.specs.Linking.{link, class_or_none, field_in, method_in}
 use Rattle.class_link.specs.Symbols.{symbol_in, symbol_or_other, name_or_empty, class_named}
 use Rattle.class_link.proofs.AppendedLaws.{meaning_kept}

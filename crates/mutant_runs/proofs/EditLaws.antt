@@ -1,8 +1,7 @@
 -- The class file that an edit makes is that of the class with the parts that the edit makes anew.
 use Rattle.std.proofs.Common.{◌≡◌, ◌∙◌, sym, refl, ap, subst, ℕ, zero, suc, List, [], ◌∷◌, ◌++◌, Option, None, Some, slice_get, IfSome}
-use Rattle.std.specs.Prelude.{option_and_then, IsSomeAnd}
+use Rattle.std.specs.Prelude.{option_and_then}
 use Rattle.std.specs.Option.{option_map}
-use Rattle.class_model.specs.declared.attribute.Code.{Code}
 use Rattle.class_model.specs.declared.class.Class.{Class}
 use Rattle.class_model.specs.declared.class.Member.{Member}
 use Rattle.class_model.specs.declared.edit.Edit.{Edit}
@@ -14,7 +13,7 @@ use Rattle.mutant_apply.specs.Edited.{changed_at, member_with, class_with, appli
 use Rattle.mutant_apply.specs.declared.parts.Parts.{Parts}
 use Rattle.edited_bytes.specs.Laws.{PartsAreOfApplied}
 use Rattle.edited_bytes.specs.Spliced.{parts_and_bytes}
-use Rattle.mutant_runs.specs.Files.{attrs_in, edited_file, made_file, HasBytes, HasBytesAt, IsRightFor, IsKeptOf, IsKept}
+use Rattle.mutant_runs.specs.Files.{attrs_in, edited_file, made_file, HasBytes, IsRightFor, IsKeptOf, IsKept}
 use Rattle.mutant_runs.specs.declared.class_bytes.ClassBytes.{ClassBytes}
 
 -- ---- methods

@@ -1,5 +1,5 @@
 -- The mutants of a class file of a program are of the program.
-use Rattle.std.proofs.Common.{◌≡◌, ◌∙◌, sym, refl, ap, subst, ℕ, ◌+◌, Bool, true, false, List, [], ◌∷◌, map, All, Option, None, Some, IfSome, get_or, unwrap_or, if◌then◌else◌}
+use Rattle.std.proofs.Common.{◌≡◌, ◌∙◌, sym, ap, subst, Option, Some, IfSome, get_or}
 use Rattle.std.proofs.lemmas.List.Elements.{Contains-get_or}
 use Rattle.class_model.specs.declared.class.Class.{Class}
 use Rattle.class_reader.specs.Spells.{IsClass}
@@ -9,7 +9,6 @@ use Rattle.class_link.specs.declared.loaded.ClassBody.TheVariants as body
 use Rattle.class_link.specs.Info.{Info, own_name, body_name, file_in}
 use Rattle.class_table.specs.Table.{number_of, name_at}
 use Rattle.class_table.proofs.Places.{name_of_class}
-use Rattle.program_rules.specs.Names.{Name}
 use Rattle.mutator_ops.specs.Laws.{ListedExactly}
 use Rattle.mutator_ops.specs.Mutants.{class_mutants}
 use Rattle.mutator_ops.specs.declared.mutant.Mutant.{Mutant}

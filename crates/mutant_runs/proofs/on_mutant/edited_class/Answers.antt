@@ -1,4 +1,4 @@
-use Rattle.std.proofs.Common.{◌≡◌, ◌∙◌, sym, ap, subst, None}
+use Rattle.std.proofs.Common.{◌∙◌, sym, ap, subst, None}
 use Rattle.class_reader.specs.Spells.{IsClass}
 use Rattle.class_writer.specs.Writing.{HasClassForm}
 use Rattle.class_link.specs.declared.loaded.ClassBody.TheVariants as body
