@@ -1,18 +1,18 @@
 -- Whether what is of a kind is of a class, an interface or an array type, and the rows that ask it
 -- (JVMS 6.5, `checkcast` and `instanceof`).
-use Rattle.std.specs.Prelude.{◌≡◌, ℕ, ◌+◌, nat_eq, Bool, false, if◌then◌else◌, List, [], ◌∷◌, drop, Option, Some}
+use Rattle.std.specs.Prelude.{◌≡◌, ℕ, ◌+◌, nat_eq, Bool, false, if◌then◌else◌, List, [], ◌∷◌, Option}
 use Rattle.std.specs.Option.{option_map}
 use Rattle.program_rules.specs.declared.value.Value.{Value}
 use Rattle.program_rules.specs.declared.value.Value.TheVariants.{Int}
 use Rattle.program_rules.specs.declared.fault.Fault.TheVariants.{ClassCastException}
-use Rattle.program_rules.specs.Names.{Name, class_behind, is_array_name, descriptor_of, without_first, without_last}
+use Rattle.program_rules.specs.Names.{Name, is_array_name, descriptor_of, without_first, without_last}
 use Rattle.program_rules.specs.Objects.{Object, ObjectKind, class_of_object, descriptor_of_object, object_at}
 use Rattle.program_rules.specs.Programs.{Look, supers}
 use Rattle.program_rules.specs.Subtypes.{is_within}
 use Rattle.machine_rules.specs.State as def
 use Rattle.machine_rules.specs.Effects.{jumps, throws}
-use Rattle.machine_rules.specs.Lookups.{consult, known_of, is_instance}
-use Rattle.machine_rules.specs.TypeRows.{casts, casts_to, tests, tests_for, truth}
+use Rattle.machine_rules.specs.Lookups.{known_of, on_known, is_instance}
+use Rattle.machine_rules.specs.TypeRows.{truth}
 use Rattle.class_link.specs.Info.{Info}
 use Rattle.class_table.specs.Table.{look}
 use Rattle.jvm_world.specs.declared.world.World.{World}
@@ -43,39 +43,23 @@ abbrev pub TellsInstance : List Info → World → ℕ → Name → Option Bool 
 TellsInstance p w x n is =
     (v : def.World) → Means p w v → instance_in p n (object_at v.heap x) ≡ is
 
--- ---- the rows
+-- ---- the rows, once the class was resolved
 
--- The row of `checkcast`.
-abbrev pub cast_row : Look → Name → RowOf
-cast_row p n = λ q room w f fs. casts p q w f fs n
-
--- The same once an object was read.
-abbrev pub cast_of_row : Look → Name → ℕ → RowOf
-cast_of_row p n x = λ q room w f fs. casts_to p q w f fs n (Some x)
-
--- What is left of it once it is known whether the object is of the class.
+-- What `checkcast` ends with once it is known whether the object is of the class.
 abbrev pub cast_end_row : Bool → RowOf
 cast_end_row passes = λ q room w f fs.
     if passes then jumps w f fs (f.at + 1) f.stack else throws q w (f ∷ fs) ClassCastException
 
--- The same once it is known whether the object is of the class, which is consulted.
-abbrev pub cast_known_row : Look → Name → Bool → RowOf
-cast_known_row p n passes = λ q room w f fs.
-    cast_end_row passes q room (consult p (class_behind n) w) f fs
-
--- The row of `instanceof`.
-abbrev pub test_row : Look → Name → RowOf
-test_row p n = λ q room w f fs. tests p q w f fs room n
-
--- The same once an object was read.
-abbrev pub test_of_row : Look → Name → ℕ → RowOf
-test_of_row p n x = λ q room w f fs. tests_for p q w f fs room n (Some x) (drop 1 f.stack)
+-- `checkcast` of an object.
+abbrev pub cast_found_row : Look → Name → ℕ → RowOf
+cast_found_row p n x = λ q room w f fs.
+    on_known p w x (λ o. cast_end_row (is_instance o n) q room w f fs)
 
 -- 1 or 0.
 abbrev pub truth_value : Bool → Value
 truth_value b = Int (truth b)
 
--- The same once it is known whether the object is of the class, which is consulted.
-abbrev pub test_known_row : Look → Name → Bool → RowOf
-test_known_row p n b = λ q room w f fs.
-    putting 1 (truth_value b) q room (consult p (class_behind n) w) f fs
+-- `instanceof` of an object.
+abbrev pub test_found_row : Look → Name → ℕ → RowOf
+test_found_row p n x = λ q room w f fs.
+    on_known p w x (λ o. putting 1 (truth_value (is_instance o n)) q room w f fs)

@@ -8,7 +8,7 @@ mod storing;
 mod texts;
 mod within;
 
-pub use casting::{check_cast, is_instance, test_instance};
+pub use casting::{check_cast, is_instance, test_instance, truth};
 pub use instance::is_kind_within;
 pub use storing::store_reference;
 pub use texts::{is_text, without_first};

@@ -1,40 +1,29 @@
-use Rattle.std.proofs.Common.{subst, drop, false, Some, None}
+use Rattle.std.proofs.Common.{subst}
 use Rattle.class_table.specs.Table.{look}
-use Rattle.jvm_state.specs.Tops.{TakesReference}
-use Rattle.jvm_frames.specs.Frames.{stack_of}
 use Rattle.jvm_heap_rows.specs.Effects.{Runs}
 use Rattle.jvm_heap_rows.specs.Rows.{putting}
 use Rattle.jvm_heap_rows.proofs.Ends.{along, no_row}
-use Rattle.jvm_object_rows.proofs.Operands.{no_reference, a_reference}
-use Rattle.jvm_type_rows.specs.Instances.{test_row, test_of_row, truth_value}
-use Rattle.jvm_type_rows.proofs.Casts.{testing}
+use Rattle.jvm_type_rows.specs.Instances.{TellsInstance, test_found_row, truth_value}
+use Rattle.jvm_type_rows.proofs.Casts.{test_is, test_nothing}
 use Rattle.jvm_type_rows.proofs.casting.test_instance.Goals as goal
 
-pub returns-in_default-clause-row : goal.returns-in_default-clause-row
-returns-in_default-clause-row c =
-    let p = c.args.p.now in
-    let n = c.args.name.now in
-    no_row p (test_row (look p) n) c.args.frames.now c.args.world.now
-    (no_reference p c.args.frames.now c.args.world.now (testing (look p) n) c.in_default.ensures.none)
-
-pub returns-in_ok-done-in-Some-reference-clause-row : goal.returns-in_ok-done-in-Some-reference-clause-row
-returns-in_ok-done-in-Some-reference-clause-row c =
+pub returns-in-Some : goal.returns-in-Some
+returns-in-Some c =
     let p = c.args.p.now in
     let w = c.args.world.now in
     let old = c.args.frames.now in
     let n = c.args.name.now in
-    let x = c.in-Some-reference.object in
-    let there = subst (λ o. TakesReference (stack_of old.frame) o (drop 1 (stack_of old.frame))) c.in-Some-reference.is c.in-Some.ensures.some in
-    along p (test_row (look p) n) (test_of_row (look p) n x) c.in_ok-done-in-Some-reference.done old c.test_object.new.frames w c.test_object.new.world
-    (a_reference p old w (testing (look p) n) (Some x) there) c.in_ok-done-in-Some-reference.ensures.row
-
-pub returns-in-None-clause-row : goal.returns-in-None-clause-row
-returns-in-None-clause-row c =
-    let p = c.args.p.now in
-    let w = c.args.world.now in
-    let old = c.args.frames.now in
-    let n = c.args.name.now in
-    let there = subst (λ o. TakesReference (stack_of old.frame) o (drop 1 (stack_of old.frame))) c.in-None.is c.in-Some.ensures.some in
-    along p (test_row (look p) n) (putting 1 (truth_value false)) c.put_within.result old c.put_within.new.frames w w
-    (a_reference p old w (testing (look p) n) None there)
+    let x = c.args.object in
+    let b = c.in-Some.of in
+    along p (test_found_row (look p) n x) (putting 1 (truth_value b)) c.put_within.result old c.put_within.new.frames w w
+    (test_is p old w n x b (subst (TellsInstance p w x n) c.in-Some.is c.in_ok-answer.ensures))
     (subst (λ v. Runs p (putting 1 v) c.put_within.result old c.put_within.new.frames w w) c.truth-value.ensures (c.put_within.ensures p w))
+
+pub returns-in-None : goal.returns-in-None
+returns-in-None c =
+    let p = c.args.p.now in
+    let w = c.args.world.now in
+    let n = c.args.name.now in
+    let x = c.args.object in
+    no_row p (test_found_row (look p) n x) c.args.frames.now w
+    (test_nothing p c.args.frames.now w n x (subst (TellsInstance p w x n) c.in-None.is c.in_ok-answer.ensures))

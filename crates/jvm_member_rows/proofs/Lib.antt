@@ -1,0 +1,4 @@
+pub mod Wholes
+pub mod Resolved
+mod Classed
+mod Casted

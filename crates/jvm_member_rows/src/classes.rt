@@ -1,0 +1,116 @@
+//! `anewarray`, and `ldc` of a class (JVMS 6.5).
+
+ghost use Rattle.std.specs.Prelude.{◌≡◌, ◌+◌, ◌<◌, ◌^◌, IfOk, IfSome, OnOk};
+ghost use Rattle.program_rules.specs.Kinds.{OfReference};
+ghost use Rattle.class_link.specs.Symbols.{kind_of};
+ghost use Rattle.class_link.specs.declared.linked.Entry.TheVariants.{Class};
+ghost use Rattle.jvm_resolved.specs.References.{IsEntry, IsTableOf};
+ghost use Rattle.jvm_world.specs.View.{IsWorldOf, IsKept};
+ghost use Rattle.jvm_heap_rows.specs.Effects.{Runs};
+ghost use Rattle.jvm_object_rows.specs.Making.{array_row};
+ghost use Rattle.jvm_member_rows.specs.Whole.{RunsWhole};
+ghost use Rattle.jvm_member_rows.specs.Rows.{array_whole, class_whole};
+
+use crate::resolving::resolve_class;
+use class_model::{ClassId, Kind, Memory, Name};
+use class_table::Program;
+use jvm_frames::Frames;
+use jvm_heap_rows::{Effect, throw};
+use jvm_resolved::References;
+use jvm_world::World;
+use std::alloc::Global;
+
+// The kind of a reference.
+fn reference_kind(name: &Name) -> Result<Kind, Memory>
+    ensures { IfOk result (λ k. kind_of k ≡ OfReference name.now) }
+{
+    let copy = name.copy()?;
+    Ok(Kind::Ref(copy))
+}
+
+// An array of references is made.
+fn make_references(
+    frames: &mut Frames,
+    world: &mut World,
+    alloc: Global,
+    p: &Program,
+    name: &Name,
+) -> Result<Effect, Memory>
+    requires world { IsWorldOf p.now world.old }
+    requires next { IfSome frames.old.frame (λ f. f.at + 1 < 2 ^ 64) }
+    ensures row { IfOk result (λ e. Runs p.now (array_row (OfReference name.now)) e
+        frames.old frames.new world.old world.new) }
+    ensures kept { OnOk result (IsKept p.now world.old world.new) }
+{
+    let kind = reference_kind(name)?;
+    let done = jvm_object_rows::make_array(frames, world, alloc, p, kind)?;
+    Ok(done)
+}
+
+/// `anewarray` of the class at an index of a class's constant pool.
+#[tactic(auto, using(crate::proofs::Classed::array_made, crate::proofs::Classed::array_lost))]
+pub fn make_array(
+    frames: &mut Frames,
+    world: &mut World,
+    alloc: Global,
+    p: &Program,
+    references: &mut References,
+    class: ClassId,
+    index: u32,
+    name: &Name,
+) -> Result<Effect, Memory>
+    requires world { IsWorldOf p.now world.old }
+    requires table { IsTableOf p.now references.old }
+    requires entry { IsEntry p.now class.0 index (Class name.now) }
+    requires next { IfSome frames.old.frame (λ f. f.at + 1 < 2 ^ 64) }
+    ensures row { IfOk result (λ e. RunsWhole p.now (array_whole p.now name.now) e
+        frames.old frames.new world.old world.new) }
+    ensures kept { OnOk result (IsKept p.now world.old world.new) }
+    ensures table { IsTableOf p.now references.new }
+{
+    let found = resolve_class(world, p, references, class, index, name)?;
+    match found {
+        Ok(_) => {
+            let done = make_references(frames, world, alloc, p, name)?;
+            Ok(done)
+        }
+        Err(fault) => {
+            let thrown = throw(world, alloc, p, fault)?;
+            Ok(thrown)
+        }
+    }
+}
+
+/// `ldc` of the class or the array type at an index of a class's constant pool.
+#[tactic(auto, using(crate::proofs::Classed::class_loaded, crate::proofs::Classed::class_lost))]
+pub fn load_class(
+    frames: &mut Frames,
+    world: &mut World,
+    alloc: Global,
+    p: &Program,
+    references: &mut References,
+    class: ClassId,
+    index: u32,
+    name: &Name,
+) -> Result<Effect, Memory>
+    requires world { IsWorldOf p.now world.old }
+    requires table { IsTableOf p.now references.old }
+    requires entry { IsEntry p.now class.0 index (Class name.now) }
+    requires next { IfSome frames.old.frame (λ f. f.at + 1 < 2 ^ 64) }
+    ensures row { IfOk result (λ e. RunsWhole p.now (class_whole p.now name.now) e
+        frames.old frames.new world.old world.new) }
+    ensures kept { OnOk result (IsKept p.now world.old world.new) }
+    ensures table { IsTableOf p.now references.new }
+{
+    let found = resolve_class(world, p, references, class, index, name)?;
+    match found {
+        Ok(_) => {
+            let done = jvm_object_rows::load_class(frames, world, alloc, p, name)?;
+            Ok(done)
+        }
+        Err(fault) => {
+            let thrown = throw(world, alloc, p, fault)?;
+            Ok(thrown)
+        }
+    }
+}
