@@ -1,9 +1,10 @@
 //! Arrays of arrays in a heap that has room for them, each made with what it holds.
 
 ghost use Rattle.std.specs.Prelude.{◌≡◌, ◌+◌, ◌-◌, ◌*◌, ◌<◌, ◌≤◌, ◌^◌, ◌∷◌, ◌++◌, [], drop, length, IfOk, OnOk, IfSome, IfNone};
+ghost use Rattle.jvm_values.specs.Contents.{next_number};
 ghost use Rattle.jvm_world.specs.View.{AreShort};
-ghost use Rattle.jvm_array_rows.specs.Built.{words_for, with_array};
-ghost use Rattle.jvm_array_rows.specs.Grown.{IsTotal, AreSizes, references, with_whole, begun, grown, finished, inner_left, IsNext, IsBuilt};
+ghost use Rattle.jvm_array_rows.specs.Built.{words_for, component_of, with_array};
+ghost use Rattle.jvm_array_rows.specs.Grown.{total, IsTotal, AreSizes, references, with_whole, begun, grown, finished, inner_left, IsNext, IsBuilt};
 
 use crate::dimensions::{behind, component_of};
 use class_model::{Kind, Memory, Seq};
