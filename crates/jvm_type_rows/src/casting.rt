@@ -1,6 +1,6 @@
 //! `checkcast` and `instanceof` of an object, once the class was resolved (JVMS 6.5).
 
-ghost use Rattle.std.specs.Prelude.{◌≡◌, ◌+◌, ◌<◌, ◌≤◌, ◌^◌, length, true, IfOk, IfSome, OnOk};
+ghost use Rattle.std.specs.Prelude.{◌≡◌, ◌+◌, ◌<◌, ◌≤◌, ◌^◌, length, IfOk, IfSome, OnOk};
 ghost use Rattle.class_table.specs.Table.{look};
 ghost use Rattle.jvm_frames.specs.Frames.{stack_of};
 ghost use Rattle.jvm_world.specs.View.{IsWorldOf, IsKept};
