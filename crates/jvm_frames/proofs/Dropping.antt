@@ -5,15 +5,16 @@ use Rattle.std.specs.Option.{option_map}
 use Rattle.std.proofs.lemmas.List.{length-drop}
 use Rattle.std.proofs.lemmas.Option.{slice_get_past}
 use Rattle.program_rules.specs.declared.value.Value.{Value}
+use Rattle.program_rules.specs.declared.value.Value.TheVariants.{Int, Long, Ref, Null}
 use Rattle.program_rules.specs.Kinds.{width_of, height_of}
 use Rattle.machine_rules.specs.State.{World}
 use Rattle.machine_rules.specs.Effects.{Effect, Goes, NoRow}
 use Rattle.jvm_state.specs.declared.slot.Slot.{Slot}
 use Rattle.jvm_state.specs.declared.frame.Frame.{Frame}
-use Rattle.jvm_state.specs.Slots.{stack_in}
+use Rattle.jvm_state.specs.Slots.{stack_in, IsStack}
 use Rattle.jvm_state.specs.Stores.{IsFrame, AreBelow, StepsTo, StaysAt, operands_at}
-use Rattle.jvm_frames.specs.Frames.{NumberedFrame, NumberedFrames, numbered, frames_in, stack_of, AreArgs, Does, IsLeft, GoOn, pushing, replacing, has_room_for, advanced, gone_on}
-use Rattle.jvm_frames.proofs.Taking.{take_next, height_append, height_parts, words_of_args}
+use Rattle.jvm_frames.specs.Frames.{NumberedFrame, NumberedFrames, numbered, frames_in, stack_of, AreArgs, HasBelow, Does, IsLeft, GoOn, pushing, replacing, has_room_for, advanced, gone_on}
+use Rattle.jvm_frames.proofs.Taking.{take_next, drop_next, args_next, height_append, height_parts, words_of_args, height_within, cut_words, cut_stack}
 use Rattle.jvm_frames.proofs.Keeping.{are_same, at_end, acted, does, cut_frame, cut_numbers, cut_below}
 
 pub next_height : (stack rest below : List Value) (n : ℕ) (v : Value) → rest ≡ drop n stack → rest ≡ v ∷ below → height_of (take (n + 1) stack) ≡ height_of (take n stack) + width_of v
@@ -144,3 +145,61 @@ nothing_at (suc n) = refl
 pub no_value_running : (xs : List Slot) (o : Option Frame) (cs : List Frame) (s : NumberedFrames) (n : ℕ) → frames_in xs o cs ≡ s → o ≡ None → None ≡ slice_get (stack_of s.frame) n
 no_value_running xs o cs s n v e =
     subst (λ t. None ≡ slice_get (stack_of t.frame) n) v (subst (λ t. None ≡ slice_get (stack_of (option_map (numbered xs) t)) n) (sym e) (nothing_at n))
+
+-- ---- the value below others
+
+width_some : (v : Value) → 1 ≤ width_of v
+width_some (Int z) = omega arith
+width_some (Long z) = omega arith
+width_some (Ref x) = omega arith
+width_some Null = omega arith
+
+tall : (n : ℕ) (vs : List Value) → n ≤ length vs → n ≤ height_of (take n vs)
+tall zero vs le = omega arith
+tall (suc n) [] le = absurd (omega arith)
+tall (suc n) (v ∷ vs) le = omega (arith, tall n vs (omega arith), width_some v)
+
+module _ (xs : List Slot) (sp count words : ℕ) (is : IsStack xs sp) (args : AreArgs count words (stack_in xs sp)) where
+  abbrev stack : List Value
+  stack = stack_in xs sp
+
+  height_is : words ≡ height_of (take count stack)
+  height_is = args.words ∙ words_of_args count stack
+
+  pub words_below : words ≤ sp
+  words_below = omega (arith, height_is, height_within xs sp count is args.count)
+
+  rest_is : stack_in xs (sp - words) ≡ drop count stack
+  rest_is = ap (λ n. stack_in xs (sp - n)) height_is ∙ cut_words xs sp count is args.count
+
+  pub rest_stack : IsStack xs (sp - words)
+  rest_stack = subst (λ n. IsStack xs (sp - n)) (sym height_is) (cut_stack xs sp count is args.count)
+
+  pub nothing_below : stack_in xs (sp - words) ≡ [] → drop count stack ≡ []
+  nothing_below e = sym rest_is ∙ e
+
+  module _ (v : Value) (rest : ℕ) (top : stack_in xs (sp - words) ≡ v ∷ stack_in xs rest) (width : rest + width_of v ≡ sp - words) where
+    at : drop count stack ≡ v ∷ stack_in xs rest
+    at = sym rest_is ∙ top
+
+    more_words : sp - rest ≡ height_of (take count stack) + width_of v
+    more_words = omega (arith, height_is, words_below, width)
+
+    pub few_below : count + 1 ≤ sp - rest
+    few_below = omega (arith, more_words, tall count stack args.count, width_some v)
+
+    one_below : count + 1 ≤ length stack
+    one_below =
+        let up : length (drop count stack) ≡ suc (length (stack_in xs rest)) = ap length at in
+        omega (arith, up, length-drop count stack, args.count)
+
+    pub has_below : HasBelow count v (sp - rest) stack
+    has_below = record {
+      rest = at ∙ ap (λ t. v ∷ t) (sym (drop_next count stack (stack_in xs rest) v at));
+      args = args_next count stack (stack_in xs rest) v at;
+      are = record {
+        count = one_below;
+        words = more_words ∙ sym (next_height stack (drop count stack) (stack_in xs rest) count v refl at)
+            ∙ sym (words_of_args (count + 1) stack);
+      };
+    }

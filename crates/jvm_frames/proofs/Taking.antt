@@ -156,10 +156,10 @@ below_start ks stack left e =
 pub take_next : {A : Type 0} (m : ℕ) (xs ys : List A) (x : A) → drop m xs ≡ x ∷ ys → take (m + 1) xs ≡ take m xs ++ x ∷ []
 take_next m xs ys x e = take-add m 1 xs ∙ ap (λ t. take m xs ++ take 1 t) e
 
-drop_next : {A : Type 0} (m : ℕ) (xs ys : List A) (x : A) → drop m xs ≡ x ∷ ys → drop (m + 1) xs ≡ ys
+pub drop_next : {A : Type 0} (m : ℕ) (xs ys : List A) (x : A) → drop m xs ≡ x ∷ ys → drop (m + 1) xs ≡ ys
 drop_next m xs ys x e = sym (drop-drop 1 m xs) ∙ ap (drop 1) e
 
-args_next : (m : ℕ) (stack rest : List Value) (v : Value) → drop m stack ≡ v ∷ rest → args_on (m + 1) stack ≡ v ∷ args_on m stack
+pub args_next : (m : ℕ) (stack rest : List Value) (v : Value) → drop m stack ≡ v ∷ rest → args_on (m + 1) stack ≡ v ∷ args_on m stack
 args_next m stack rest v e = ap reverse (take_next m stack rest v e) ∙ reverse-append (take m stack) (v ∷ [])
 
 kinds_next : (ks : List Kind) (l : ℕ) (k : Kind) → slice_get ks l ≡ Some k → reversed_onto (take (l + 1) ks) [] ≡ k ∷ reversed_onto (take l ks) []

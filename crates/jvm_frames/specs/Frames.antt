@@ -204,6 +204,12 @@ NoArgs kinds stack = (go : List Value → List Value → Effect) → on_args kin
 abbrev pub HasWords : ℕ → ℕ → NumberedFrames → Type 0
 HasWords count words fs = IsSomeAnd fs.frame (λ f. AreArgs count words f.stack)
 
+-- A value stands below so many on a stack, and with it they are one more, and so many words.
+pub record HasBelow (count : ℕ) (v : Value) (size : ℕ) (stack : List Value) : Type 0 where
+  pub rest : drop count stack ≡ v ∷ drop (count + 1) stack
+  pub args : args_on (count + 1) stack ≡ v ∷ args_on count stack
+  pub are : AreArgs (count + 1) size stack
+
 -- A frame without the uppermost values of its stack.
 abbrev pub cut : ℕ → NumberedFrame → NumberedFrame
 cut count f = record f { stack = drop count f.stack }

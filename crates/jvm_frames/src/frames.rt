@@ -7,12 +7,12 @@ ghost use Rattle.jvm_state.specs.Slots.{locals_in};
 ghost use Rattle.jvm_state.specs.Stores.{IsFrame, operands_at};
 ghost use Rattle.jvm_state.specs.Ops.{is_alone};
 ghost use Rattle.jvm_frames.specs.Staying.{StayOn};
-ghost use Rattle.jvm_frames.specs.Frames.{ActsOn, HasArgs, NoArgs, HasWords, IsAt, IsCut, IsCalled, args_on, instance_args, instance_words, first_frame, left_behind, depth_of, stack_of, gone_on, has_room_for, IsPut, IsAdvanced, IsLanded};
+ghost use Rattle.jvm_frames.specs.Frames.{ActsOn, HasArgs, HasBelow, NoArgs, HasWords, IsAt, IsCut, IsCalled, args_on, instance_args, instance_words, first_frame, left_behind, depth_of, stack_of, gone_on, has_room_for, IsPut, IsAdvanced, IsLanded};
 
 use crate::landing::land_in;
 use crate::pushing::push_in;
 use crate::staying::stay_in;
-use crate::values::{below_args, top_value, top_values, value_at, width, words_of};
+use crate::values::{below_args, top_value, top_values, value_at, value_below, width, words_of};
 use class_model::{ClassId, Kind, Memory};
 use jvm_state::{Frame, Op, Slot, act_in, enter};
 use program_rules::Value;
@@ -173,6 +173,32 @@ impl Frames {
             count: kinds.len(),
             words: frame.sp - below,
         })
+    }
+
+    /// The value below arguments, and the arguments with it as the first one.
+    pub fn with_below(&self, args: Args) -> Option<(Value, Args)>
+        requires { HasWords args.count args.words self.now }
+        ensures some { IfSome result (λ r.
+            IsSomeAnd self.now.frame (λ f. HasBelow args.count r.0 r.1.words f.stack)) }
+        ensures count { IfSome result (λ r. r.1.count ≡ args.count + 1) }
+        ensures none { IfNone result (
+            IfSome self.now.frame (λ f. drop args.count f.stack ≡ [])) }
+    {
+        let frame = self.frame?;
+        let below = value_below(
+            operands_of(&self.slots, &frame),
+            frame.sp,
+            args.count,
+            args.words,
+        )?;
+        let count = args.count + 1;
+        Some((
+            below.0,
+            Args {
+                count,
+                words: below.1,
+            },
+        ))
     }
 
     /// The values of arguments.

@@ -4,7 +4,7 @@ ghost use Rattle.std.specs.Prelude.{◌≡◌, ◌+◌, ◌≤◌, ◌<◌, [], 
 ghost use Rattle.program_rules.specs.Kinds.{is_of_kind, width_of, height_of};
 ghost use Rattle.class_link.specs.Symbols.{kind_of};
 ghost use Rattle.jvm_state.specs.Slots.{stack_in, IsStack};
-ghost use Rattle.jvm_frames.specs.Frames.{args_on, TakesArgs, NoArgs, AreWordsAbove};
+ghost use Rattle.jvm_frames.specs.Frames.{args_on, AreArgs, HasBelow, TakesArgs, NoArgs, AreWordsAbove};
 
 use class_model::{Kind, Memory};
 use jvm_state::{Slot, word};
@@ -68,6 +68,26 @@ pub fn value_at(operands: &[Slot], sp: usize, place: usize) -> Option<Value>
     };
     match top_value(operands, rest) {
         Some((v, _)) => Some(v),
+        None => None,
+    }
+}
+
+/// The value below the uppermost ones, which are so many in so many words, and the words that they
+/// are with it.
+pub fn value_below(
+    operands: &[Slot],
+    sp: usize,
+    count: usize,
+    words: usize,
+) -> Option<(Value, usize)>
+    requires stack { IsStack operands.now sp }
+    requires args { AreArgs count words (stack_in operands.now sp) }
+    ensures some { IfSome result (λ r. HasBelow count r.0 r.1 (stack_in operands.now sp)) }
+    ensures few { IfSome result (λ r. count + 1 ≤ r.1) }
+    ensures none { IfNone result (drop count (stack_in operands.now sp) ≡ []) }
+{
+    match top_value(operands, sp - words) {
+        Some(top) => Some((top.0, sp - top.1)),
         None => None,
     }
 }
