@@ -1,7 +1,7 @@
 mod Bodies
 pub mod Outcomes
-mod Standing
+pub mod Standing
 pub mod Begun
 pub mod Resolved
-mod StaticCalls
+pub mod StaticCalls
 mod Lawful

@@ -2,7 +2,7 @@
 
 ghost use Rattle.std.specs.Prelude.{◌≡◌, ◌<◌, ◌^◌, List, length, slice_get, Some};
 ghost use Rattle.std.specs.Option.{option_map};
-ghost use Rattle.program_rules.specs.Linked.{LinkedMethod as Method, is_static, is_abstract};
+ghost use Rattle.program_rules.specs.Linked.{LinkedMethod as Method, is_private, is_static, is_abstract};
 ghost use Rattle.class_link.specs.declared.linked.Entry.{Entry};
 ghost use Rattle.class_link.specs.View.{method_of};
 ghost use Rattle.jvm_invokes.specs.Heads.{IsHead, IsBody, StandsAt};
@@ -29,6 +29,13 @@ pub struct Head {
     pub number: u32,
     pub flags: u16,
     pub body: Body,
+}
+
+/// Bit 1 is ACC_PRIVATE (JVMS 4.6).
+pub fn is_private(flags: u16) -> bool
+    ensures { result ≡ is_private flags }
+{
+    flags / 2 % 2 == 1
 }
 
 /// Bit 3 is ACC_STATIC (JVMS 4.6).

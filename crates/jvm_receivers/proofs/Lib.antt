@@ -1,0 +1,6 @@
+mod Operands
+mod Selecting
+mod SpecialCalls
+mod Finding
+mod Absent
+mod VirtualCalls

@@ -1,0 +1,4 @@
+pub mod Targets
+pub mod Objects
+pub mod Receivers
+pub mod Selected

@@ -1,0 +1,44 @@
+//! What the rows that call methods look up: what was resolved and selected before.
+
+ghost use Rattle.std.specs.Prelude.{IfOk};
+ghost use Rattle.jvm_receivers.specs.Objects.{AreLookups, FindsClass, text_name};
+
+use class_model::{ClassId, Memory};
+use class_table::Program;
+use jvm_catch::ascii;
+use jvm_resolved::{References, Selections};
+use std::alloc::Global;
+
+/// What references resolve to and what objects select, as far as it was asked, and the class of
+/// texts. It depends on the program alone, so it serves all runs of a program.
+#[derive(Drop)]
+pub struct Lookups {
+    pub references: References,
+    pub selections: Selections,
+    /// The class of `java/lang/String`, of which the heap keeps no number.
+    pub text: Option<ClassId>,
+}
+
+// The class of texts.
+#[tactic(auto, using(crate::proofs::Finding::class_is))]
+fn text_class(alloc: Global, p: &Program) -> Result<Option<ClassId>, Memory>
+    ensures { IfOk result (λ id. FindsClass p.now text_name id) }
+{
+    let name = ascii(alloc, "java/lang/String")?;
+    Ok(p.find(&name))
+}
+
+impl Lookups {
+    /// Nothing was asked yet.
+    #[tactic(auto, using(crate::proofs::Finding::lookups_of))]
+    pub fn new(alloc: Global, p: &Program) -> Result<Lookups, Memory>
+        ensures { IfOk result (λ l. AreLookups p.now l) }
+    {
+        let text = text_class(alloc, p)?;
+        Ok(Lookups {
+            references: References::new(alloc),
+            selections: Selections::new(alloc),
+            text,
+        })
+    }
+}

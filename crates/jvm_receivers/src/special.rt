@@ -1,0 +1,324 @@
+//! `invokespecial` (JVMS 6.5).
+
+ghost use Rattle.std.specs.Prelude.{◌≡◌, ℕ, ◌<◌, length, IfOk, OnOk};
+ghost use Rattle.program_rules.specs.Names.{is_listed, same};
+ghost use Rattle.program_rules.specs.Outlines.{interfaces_in};
+ghost use Rattle.program_rules.specs.Programs.{superclass_in};
+ghost use Rattle.program_rules.specs.Resolution.{MethodAt, is_initializer_name};
+ghost use Rattle.class_link.specs.View.{method_ref_of};
+ghost use Rattle.class_link.specs.declared.linked.Entry.TheVariants.{Method as MethodEntry};
+ghost use Rattle.class_table.specs.Table.{name_at};
+ghost use Rattle.jvm_frames.specs.Frames.{HasWords};
+ghost use Rattle.jvm_link.specs.Answers.{IsCallee};
+ghost use Rattle.jvm_link.specs.Sites.{outline_at};
+ghost use Rattle.jvm_resolved.specs.References.{IsEntry};
+ghost use Rattle.jvm_world.specs.View.{IsWorldOf, IsKept};
+ghost use Rattle.jvm_invokes.specs.Calls.{IsThere};
+ghost use Rattle.jvm_invokes.specs.Invoked.{Invokes, StaysOrEnters};
+ghost use Rattle.jvm_receivers.specs.Objects.{AreLookups};
+ghost use Rattle.jvm_receivers.specs.Receivers.{RunsIn, is_own, special_above, special_found, special_looking, special_on, special_row};
+ghost use Rattle.jvm_receivers.specs.Targets.{receiving, received};
+
+use crate::lookups::Lookups;
+use crate::selected::{call_selected, flags_of};
+use crate::targets::{Taken, take_target};
+use class_family::superclass;
+use class_link::{MethodRef, Shared};
+use class_model::{ClassId, Memory, Name};
+use class_table::Program;
+use jvm_frames::{Args, Frames};
+use jvm_invokes::{Invoked, call_found, is_static, resolve, throw};
+use jvm_link::Callee;
+use jvm_resolved::Receiver;
+use jvm_unwind::Turn;
+use jvm_world::World;
+use program_rules::Fault;
+use std::alloc::Global;
+
+// `<init>`, the name of instance initializers (JVMS 2.9.1).
+const INITIALIZER: [u16; 6] = [
+    b'<' as u16,
+    b'i' as u16,
+    b'n' as u16,
+    b'i' as u16,
+    b't' as u16,
+    b'>' as u16,
+];
+
+// Whether a method is an instance initializer by its name.
+fn is_initializer(name: &Name) -> bool
+    ensures { result ≡ is_initializer_name name.now }
+{
+    name.as_slice() == INITIALIZER.as_slice()
+}
+
+// Whether a name is among these.
+fn is_among(name: &Name, names: &[Shared<Name>]) -> bool
+    ensures { result ≡ is_listed name.now names.now }
+{
+    names.iter().any(|other| **other == *name)
+}
+
+// Whether a name is that of a class.
+fn is_named(p: &Program, class: ClassId, name: &Name) -> bool
+    requires { class.0 < length p.now }
+    ensures { result ≡ same name.now (name_at p.now class.0) }
+{
+    *name == *p.info(class).name()
+}
+
+// Whether a name is that of a direct superinterface of a class.
+fn is_interface_of(p: &Program, class: ClassId, name: &Name) -> bool
+    requires { class.0 < length p.now }
+    ensures { result ≡ is_listed name.now (interfaces_in (outline_at p.now class.0)) }
+{
+    let info = p.info(class);
+    let linked = info.linked();
+    is_among(name, linked.interfaces.as_slice())
+}
+
+// Whether a name is that of a class or of one of its direct superinterfaces.
+fn is_own(p: &Program, class: ClassId, name: &Name) -> bool
+    requires { class.0 < length p.now }
+    ensures { result ≡ is_own p.now class.0 name.now }
+{
+    is_named(p, class, name) || is_interface_of(p, class, name)
+}
+
+// A method is selected from the direct superclass of a class on, and called.
+#[tactic(auto, using(jvm_invokes::proofs::Standing::stays))]
+fn call_above(
+    frames: &mut Frames,
+    world: &mut World,
+    alloc: Global,
+    p: &Program,
+    lookups: &mut Lookups,
+    class: ClassId,
+    index: u32,
+    reference: &MethodRef,
+    args: Args,
+) -> Result<Invoked, Memory>
+    requires world { IsWorldOf p.now world.old }
+    requires lookups { AreLookups p.now lookups.old }
+    requires entry { IsEntry p.now class.0 index (MethodEntry reference.now) }
+    requires class { class.0 < length p.now }
+    requires args { HasWords args.count args.words frames.old }
+    ensures row { IfOk result (λ t. Invokes p.now (method_ref_of reference.now)
+        (special_above p.now (method_ref_of reference.now) args.count
+        (superclass_in (outline_at p.now class.0))) t
+        frames.old frames.new world.old world.new) }
+    ensures frames { OnOk result (StaysOrEnters p.now frames.old frames.new) }
+    ensures kept { OnOk result (IsKept p.now world.old world.new) }
+    ensures lookups { AreLookups p.now lookups.new }
+{
+    let Some(up) = superclass(p, class) else {
+        return Ok(Invoked::Turned(Turn::NoRow));
+    };
+    world.consult(p, up)?;
+    let from = Receiver {
+        class: up,
+        array: false,
+    };
+    let answer = lookups
+        .selections
+        .select_named(p, class, index, reference, from)?;
+    let done = call_selected(frames, world, alloc, p, answer, args)?;
+    Ok(done)
+}
+
+// A method other than `<init>` is called, once the class of the frame was consulted.
+#[tactic(auto, using(jvm_invokes::proofs::Standing::stays))]
+fn call_looked(
+    frames: &mut Frames,
+    world: &mut World,
+    alloc: Global,
+    p: &Program,
+    lookups: &mut Lookups,
+    class: ClassId,
+    index: u32,
+    reference: &MethodRef,
+    callee: Callee,
+    args: Args,
+) -> Result<Invoked, Memory>
+    requires world { IsWorldOf p.now world.old }
+    requires lookups { AreLookups p.now lookups.old }
+    requires entry { IsEntry p.now class.0 index (MethodEntry reference.now) }
+    requires class { class.0 < length p.now }
+    requires runs { RunsIn class.0 frames.old }
+    requires callee { IsThere p.now callee }
+    requires args { HasWords args.count args.words frames.old }
+    ensures row { IfOk result (λ t. (m : MethodAt) → IsCallee p.now m callee →
+        Invokes p.now (method_ref_of reference.now)
+        (special_looking p.now (method_ref_of reference.now) m args.count) t
+        frames.old frames.new world.old world.new) }
+    ensures frames { OnOk result (StaysOrEnters p.now frames.old frames.new) }
+    ensures kept { OnOk result (IsKept p.now world.old world.new) }
+    ensures lookups { AreLookups p.now lookups.new }
+{
+    world.consult(p, class)?;
+    if is_own(p, class, &reference.class) {
+        let done = call_found(frames, world, alloc, p, callee, args)?;
+        return Ok(done);
+    }
+    let done = call_above(
+        frames, world, alloc, p, lookups, class, index, reference, args,
+    )?;
+    Ok(done)
+}
+
+// A method that was found is called on an object.
+#[tactic(auto, using(jvm_invokes::proofs::Standing::stays))]
+fn call_on(
+    frames: &mut Frames,
+    world: &mut World,
+    alloc: Global,
+    p: &Program,
+    lookups: &mut Lookups,
+    class: ClassId,
+    index: u32,
+    reference: &MethodRef,
+    callee: Callee,
+    args: Args,
+) -> Result<Invoked, Memory>
+    requires world { IsWorldOf p.now world.old }
+    requires lookups { AreLookups p.now lookups.old }
+    requires entry { IsEntry p.now class.0 index (MethodEntry reference.now) }
+    requires class { class.0 < length p.now }
+    requires runs { RunsIn class.0 frames.old }
+    requires callee { IsThere p.now callee }
+    requires args { HasWords args.count args.words frames.old }
+    ensures row { IfOk result (λ t. (m : MethodAt) (x : ℕ) → IsCallee p.now m callee →
+        Invokes p.now (method_ref_of reference.now)
+        (received x args.count (special_on p.now (method_ref_of reference.now) m)) t
+        frames.old frames.new world.old world.new) }
+    ensures frames { OnOk result (StaysOrEnters p.now frames.old frames.new) }
+    ensures kept { OnOk result (IsKept p.now world.old world.new) }
+    ensures lookups { AreLookups p.now lookups.new }
+{
+    if is_initializer(&reference.name) {
+        let done = call_found(frames, world, alloc, p, callee, args)?;
+        return Ok(done);
+    }
+    let done = call_looked(
+        frames, world, alloc, p, lookups, class, index, reference, callee, args,
+    )?;
+    Ok(done)
+}
+
+// A method that isn't static is called on the object below the arguments.
+#[tactic(auto, using(jvm_invokes::proofs::Standing::stays))]
+fn call_target(
+    frames: &mut Frames,
+    world: &mut World,
+    alloc: Global,
+    p: &Program,
+    lookups: &mut Lookups,
+    class: ClassId,
+    index: u32,
+    reference: &MethodRef,
+    callee: Callee,
+) -> Result<Invoked, Memory>
+    requires world { IsWorldOf p.now world.old }
+    requires lookups { AreLookups p.now lookups.old }
+    requires entry { IsEntry p.now class.0 index (MethodEntry reference.now) }
+    requires class { class.0 < length p.now }
+    requires runs { RunsIn class.0 frames.old }
+    requires callee { IsThere p.now callee }
+    ensures row { IfOk result (λ t. (m : MethodAt) → IsCallee p.now m callee →
+        Invokes p.now (method_ref_of reference.now)
+        (receiving (method_ref_of reference.now)
+        (special_on p.now (method_ref_of reference.now) m)) t
+        frames.old frames.new world.old world.new) }
+    ensures frames { OnOk result (StaysOrEnters p.now frames.old frames.new) }
+    ensures kept { OnOk result (IsKept p.now world.old world.new) }
+    ensures lookups { AreLookups p.now lookups.new }
+{
+    let taken = take_target(frames, world, alloc, p, reference)?;
+    match taken {
+        Taken::Done(done) => Ok(done),
+        Taken::On(_, args) => {
+            let done = call_on(
+                frames, world, alloc, p, lookups, class, index, reference, callee, args,
+            )?;
+            Ok(done)
+        }
+    }
+}
+
+// A method that was found is called, if it isn't static.
+#[tactic(auto, using(jvm_invokes::proofs::Standing::stays))]
+fn call_special(
+    frames: &mut Frames,
+    world: &mut World,
+    alloc: Global,
+    p: &Program,
+    lookups: &mut Lookups,
+    class: ClassId,
+    index: u32,
+    reference: &MethodRef,
+    callee: Callee,
+) -> Result<Invoked, Memory>
+    requires world { IsWorldOf p.now world.old }
+    requires lookups { AreLookups p.now lookups.old }
+    requires entry { IsEntry p.now class.0 index (MethodEntry reference.now) }
+    requires class { class.0 < length p.now }
+    requires runs { RunsIn class.0 frames.old }
+    requires callee { IsThere p.now callee }
+    ensures row { IfOk result (λ t. (m : MethodAt) → IsCallee p.now m callee →
+        Invokes p.now (method_ref_of reference.now)
+        (special_found p.now (method_ref_of reference.now) m) t
+        frames.old frames.new world.old world.new) }
+    ensures frames { OnOk result (StaysOrEnters p.now frames.old frames.new) }
+    ensures kept { OnOk result (IsKept p.now world.old world.new) }
+    ensures lookups { AreLookups p.now lookups.new }
+{
+    let flags = flags_of(p, callee);
+    if is_static(flags) {
+        let thrown = throw(world, alloc, p, Fault::IncompatibleClassChangeError)?;
+        return Ok(thrown);
+    }
+    let done = call_target(
+        frames, world, alloc, p, lookups, class, index, reference, callee,
+    )?;
+    Ok(done)
+}
+
+/// `invokespecial` of the reference at an index of the constant pool of the class whose method
+/// runs.
+#[tactic(auto, using(jvm_invokes::proofs::StaticCalls::there_by, jvm_invokes::proofs::Standing::stays))]
+pub fn invoke_special(
+    frames: &mut Frames,
+    world: &mut World,
+    alloc: Global,
+    p: &Program,
+    lookups: &mut Lookups,
+    class: ClassId,
+    index: u32,
+    reference: &MethodRef,
+) -> Result<Invoked, Memory>
+    requires world { IsWorldOf p.now world.old }
+    requires lookups { AreLookups p.now lookups.old }
+    requires entry { IsEntry p.now class.0 index (MethodEntry reference.now) }
+    requires class { class.0 < length p.now }
+    requires runs { RunsIn class.0 frames.old }
+    ensures row { IfOk result (λ t. Invokes p.now (method_ref_of reference.now)
+        (special_row p.now (method_ref_of reference.now)) t
+        frames.old frames.new world.old world.new) }
+    ensures frames { OnOk result (StaysOrEnters p.now frames.old frames.new) }
+    ensures kept { OnOk result (IsKept p.now world.old world.new) }
+    ensures lookups { AreLookups p.now lookups.new }
+{
+    let found = resolve(world, p, &mut lookups.references, class, index, reference)?;
+    match found {
+        Ok(callee) => {
+            let done = call_special(
+                frames, world, alloc, p, lookups, class, index, reference, callee,
+            )?;
+            Ok(done)
+        }
+        Err(fault) => {
+            let thrown = throw(world, alloc, p, fault)?;
+            Ok(thrown)
+        }
+    }
+}
