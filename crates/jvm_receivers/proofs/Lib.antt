@@ -4,3 +4,4 @@ mod SpecialCalls
 mod Finding
 mod Absent
 mod VirtualCalls
+mod Instances

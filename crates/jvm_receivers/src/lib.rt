@@ -2,6 +2,7 @@
 //! it is of and selects, and the call.
 #![tactic(auto)]
 
+mod interfaces;
 mod lookups;
 mod receivers;
 mod selected;
@@ -9,6 +10,7 @@ mod special;
 mod targets;
 mod virtuals;
 
+pub use interfaces::invoke_interface;
 pub use lookups::Lookups;
 pub use special::invoke_special;
 pub use targets::{Taken, Target, take_target, target_at};
