@@ -1,5 +1,5 @@
 -- What the instances of a class hold at first, and the words that they take, by the class's number.
-use Rattle.std.specs.Prelude.{◌≡◌, ℕ, ◌+◌, Bool, ◌||◌, if◌then◌else◌, List, [], ◌∷◌, ◌++◌, reverse, drop, Option, Some, None}
+use Rattle.std.specs.Prelude.{◌≡◌, ℕ, ◌+◌, Bool, ◌||◌, if◌then◌else◌, List, [], ◌∷◌, ◌++◌, reverse, drop, take, Option, Some, None}
 use Rattle.class_model.specs.declared.class.ClassId.{ClassId}
 use Rattle.program_rules.specs.declared.value.Value.{Value}
 use Rattle.program_rules.specs.Names.{Name}
@@ -28,6 +28,11 @@ own_values all (f ∷ fs) =
 abbrev pub own_at : Option Outline → List Value
 own_at None = []
 own_at (Some c) = own_values (is_interface c.flags) c.fields
+
+-- The same of those before a place.
+abbrev pub own_before : ℕ → Option Outline → List Value
+own_before place None = []
+own_before place (Some c) = own_values (is_interface c.flags) (take place c.fields)
 
 -- The walk upwards from a class, if there is one.
 abbrev pub rising_from : List Info → Option ClassId → List Node

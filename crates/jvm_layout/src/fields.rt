@@ -1,6 +1,6 @@
 //! The fields that a class declares for its instances (JVMS 2.4).
 
-ghost use Rattle.std.specs.Prelude.{◌≡◌, ◌++◌, ◌∷◌, [], map, reverse, OnOk};
+ghost use Rattle.std.specs.Prelude.{◌≡◌, ◌≤◌, ◌++◌, ◌∷◌, [], length, map, reverse, OnOk};
 ghost use Rattle.program_rules.specs.Kinds.{default_of};
 ghost use Rattle.program_rules.specs.Linked.{is_static, is_interface, is_abstract};
 ghost use Rattle.class_link.specs.Symbols.{kind_of};
@@ -74,4 +74,30 @@ fn push_default(
     }
     values.push(default_of(&field.kind))?;
     Ok(())
+}
+
+// Whether a field is an instance's, as a number.
+fn count_one(field: &LinkedField, all_static: bool) -> usize
+    ensures count { result ≡ length (own_values all_static (field_of field.now ∷ [])) }
+    ensures few { result ≤ 1 }
+{
+    if all_static || is_static(field.flags) {
+        return 0;
+    }
+    1
+}
+
+/// How many of these fields aren't static.
+#[tactic(auto, using(crate::proofs::SlotCounts::count_front))]
+pub fn count_own(fields: &[LinkedField], all_static: bool) -> usize
+    ensures { result ≡ length (own_values all_static (map field_of fields.now)) }
+{
+    let mut count = 0;
+    let mut left = fields.len();
+    while left > 0 {
+        left -= 1;
+        let one = count_one(&fields[left], all_static);
+        count += one;
+    }
+    count
 }

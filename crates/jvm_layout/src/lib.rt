@@ -4,5 +4,7 @@
 mod fields;
 mod layout;
 mod native;
+mod slots;
 
 pub use layout::{Layout, layout_of};
+pub use slots::slot_of;
