@@ -22,7 +22,7 @@ use Rattle.program_rules.specs.Names.{Name}
 use Rattle.program_rules.specs.Linked.{Linked, LinkedMethod, LinkedField, LinkedCode, LinkedRow, LinkedLine, LinkedBody, HasCode, IsNative, NoBody, FieldConstant, IntField, LongField, TextField}
 use Rattle.program_rules.specs.Types.{VType, Top, IntType, LongType, NullType, UninitThis, Uninit, Obj, FrameShape, SameLocals, OneItem, Chopped, Appended, Whole, StatedFrame}
 use Rattle.program_rules.specs.Deeds.{Meaning}
-use Rattle.program_rules.specs.Natives.{assert_true, assert_false, do_nothing}
+use Rattle.library_rules.specs.Numbered.{meaning_numbered}
 use Rattle.class_link.specs.declared.loaded.LibBody.{LibBody}
 use Rattle.class_link.specs.declared.loaded.LibBody.TheVariants as lib
 use Rattle.class_link.specs.declared.loaded.LibMethod.{LibMethod}
@@ -155,29 +155,22 @@ link c = record {
 
 -- ---- classes of the library (this project's own)
 
--- What the native methods that have a row mean, by their numbers: the `<init>` of Object, and the
--- two plain assertions of JUnit 4.
-abbrev pub native : ℕ → Option Meaning
-native n =
-    if n == 0 then Some do_nothing
-    else if n == 2000 then Some assert_true
-    else if n == 2001 then Some assert_false
-    else None
-
 abbrev pub native_or_none : Option Meaning → LinkedBody
 native_or_none None = NoBody
 native_or_none (Some meaning) = IsNative meaning
 
+-- A native method by its number.
 abbrev pub native_body : ℕ → LinkedBody
-native_body n = native_or_none (native n)
+native_body n = native_or_none (meaning_numbered n)
 
-abbrev pub library_body : LibBody → LinkedBody
-library_body (lib.Native n) = native_body n
-library_body (lib.Written pool code) = HasCode (code_in pool code)
-library_body lib.Abstract = NoBody
+-- The indices of a code count in the constant pool of its class.
+abbrev pub library_body : List Const → LibBody → LinkedBody
+library_body pool (lib.Native n) = native_body n
+library_body pool (lib.Written code) = HasCode (code_in pool code)
+library_body pool lib.Abstract = NoBody
 
-abbrev pub library_method : LibMethod → LinkedMethod
-library_method m = method_with m.flags m.name m.desc (library_body m.body)
+abbrev pub library_method : List Const → LibMethod → LinkedMethod
+library_method pool m = method_with m.flags m.name m.desc (library_body pool m.body)
 
 abbrev pub library_field : LibField → LinkedField
 library_field f = field_with f.flags f.name f.desc None
@@ -189,5 +182,5 @@ link_library c = record {
   parent = c.parent;
   interfaces = c.interfaces;
   fields = map library_field c.fields;
-  methods = map library_method c.methods;
+  methods = map (library_method c.pool) c.methods;
 }

@@ -54,14 +54,14 @@ IsMethodIn es pool member m = method_of es m ≡ linking.method_in pool member
 abbrev pub AreMethodsIn : List Entry → List Const → List Member → List LinkedMethod → Type 0
 AreMethodsIn es pool members ms = map (method_of es) ms ≡ map (linking.method_in pool) members
 
--- ---- the library, whatever the entries are
+-- ---- the library
 
-abbrev pub IsLibraryBody : LibBody → LinkedBody → Type 0
-IsLibraryBody written b = (es : List Entry) → body_of es b ≡ linking.library_body written
+abbrev pub IsLibraryBody : List Entry → List Const → LibBody → LinkedBody → Type 0
+IsLibraryBody es pool written b = body_of es b ≡ linking.library_body pool written
 
-abbrev pub IsLibraryMethod : LibMethod → LinkedMethod → Type 0
-IsLibraryMethod written m = (es : List Entry) → method_of es m ≡ linking.library_method written
+abbrev pub IsLibraryMethod : List Entry → List Const → LibMethod → LinkedMethod → Type 0
+IsLibraryMethod es pool written m = method_of es m ≡ linking.library_method pool written
 
-abbrev pub AreLibraryMethods : List LibMethod → List LinkedMethod → Type 0
-AreLibraryMethods written ms =
-    (es : List Entry) → map (method_of es) ms ≡ map linking.library_method written
+abbrev pub AreLibraryMethods : List Entry → List Const → List LibMethod → List LinkedMethod → Type 0
+AreLibraryMethods es pool written ms =
+    map (method_of es) ms ≡ map (linking.library_method pool) written

@@ -6,8 +6,7 @@ use Rattle.program_rules.specs.Instructions as def
 use Rattle.program_rules.specs.Linked as def_linked
 use Rattle.program_rules.specs.Names.{Name}
 use Rattle.program_rules.specs.Types as def_types
-use Rattle.program_rules.specs.Deeds.{Meaning}
-use Rattle.program_rules.specs.Natives.{assert_true, assert_false, do_nothing}
+use Rattle.library_rules.specs.Numbered.{meaning_of}
 use Rattle.class_link.specs.declared.instruction.Instruction.{Instruction}
 use Rattle.class_link.specs.declared.instruction.Instruction.TheVariants as code
 use Rattle.class_link.specs.declared.frames.VType.{VType}
@@ -21,8 +20,6 @@ use Rattle.class_link.specs.declared.linked.Entry.{Entry}
 use Rattle.class_link.specs.declared.linked.Entry.TheVariants as entry
 use Rattle.class_link.specs.declared.linked.Switch.{Switch}
 use Rattle.class_link.specs.declared.linked.Switch.TheVariants as switch
-use Rattle.class_link.specs.declared.linked.Native.{Native}
-use Rattle.class_link.specs.declared.linked.Native.TheVariants as native
 use Rattle.class_link.specs.declared.linked.LinkedBody.{LinkedBody}
 use Rattle.class_link.specs.declared.linked.LinkedBody.TheVariants as body
 use Rattle.class_link.specs.declared.linked.FieldConstant.{FieldConstant}
@@ -179,12 +176,6 @@ shape_of (shape.Whole locals stack) =
 abbrev pub frame_of : StatedFrame → def_types.StatedFrame
 frame_of f = record { at = f.at; shape = shape_of f.shape }
 
--- What a native method means.
-abbrev pub native_meaning : Native → Meaning
-native_meaning native.InitObject = do_nothing
-native_meaning native.AssertTrue = assert_true
-native_meaning native.AssertFalse = assert_false
-
 abbrev pub code_of : List Entry → LinkedCode → def_linked.LinkedCode
 code_of es c = record {
   max_stack = c.max_stack;
@@ -197,7 +188,7 @@ code_of es c = record {
 
 abbrev pub body_of : List Entry → LinkedBody → def_linked.LinkedBody
 body_of es (body.Code c) = def_linked.HasCode (code_of es c)
-body_of es (body.Native n) = def_linked.IsNative (native_meaning n)
+body_of es (body.Native n) = def_linked.IsNative (meaning_of n)
 body_of es body.Absent = def_linked.NoBody
 
 abbrev pub method_of : List Entry → LinkedMethod → def_linked.LinkedMethod

@@ -12,6 +12,7 @@ use crate::instruction::Instruction;
 use crate::line_table::LineTable;
 use crate::shared::Shared;
 use class_model::{Kind, Name, Seq};
+use library_rules::Native;
 
 /// A method that is named, with what its descriptor states (JVMS 4.3.3, 4.4.2). A result of `None`
 /// is void. `interface` is set where the entry names a method of an interface.
@@ -86,17 +87,8 @@ pub struct LinkedCode {
     pub frames: Seq<StatedFrame>,
 }
 
-/// The native methods of the library that have a row (this project's own).
-#[derive(Clone, Copy)]
-pub enum Native {
-    /// The `<init>` of `java/lang/Object`, which does nothing.
-    InitObject,
-    AssertTrue,
-    AssertFalse,
-}
-
-/// What stands behind a method's head. An abstract method has no body, nor has a native one without
-/// a row.
+/// What stands behind a method's head. An abstract method has no body, nor has a native one of a
+/// number that no native method of the library has.
 #[derive(Drop)]
 pub enum LinkedBody {
     Code(Shared<LinkedCode>),

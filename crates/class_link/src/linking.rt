@@ -10,18 +10,19 @@ ghost use Rattle.class_link.specs.Named.{IsConstantIn, IsConstantBy, IsBodyBy, I
 ghost use Rattle.class_link.specs.Switches.{AreEntries};
 ghost use Rattle.class_link.specs.Bare.{bare_field, method_with};
 ghost use Rattle.class_link.specs.declared.linked.Entry as entry;
-ghost use Rattle.class_link.specs.View.{body_of, method_of, field_of, constant_of, linked_of, native_meaning};
+ghost use Rattle.class_link.specs.View.{body_of, method_of, field_of, constant_of, linked_of};
+ghost use Rattle.library_rules.specs.Numbered.{meaning_of, meaning_numbered};
+ghost use Rattle.program_rules.specs.Linked.{HasCode};
 
 use crate::code_linking::link_code;
 use crate::entries::entries;
-use crate::linked::{
-    Entry, FieldConstant, LinkedBody, LinkedClass, LinkedField, LinkedMethod, Native,
-};
+use crate::linked::{Entry, FieldConstant, LinkedBody, LinkedClass, LinkedField, LinkedMethod};
 use crate::loaded::{LibBody, LibClass, LibField, LibMethod};
 use crate::named_classes::NamedClasses;
 use crate::shared::Shared;
 use crate::texts::{Text, Texts};
 use class_model::{Attr, Body, Class, Code, Const, Member, Memory, Name, Seq};
+use library_rules::{NATIVES, Native};
 use std::alloc::Global;
 
 // The index in the first ConstantValue.
@@ -103,6 +104,20 @@ fn link_fields(alloc: Global, texts: &Texts, fields: &[Member]) -> Result<Seq<Li
     Ok(Seq::from_vec(linked))
 }
 
+// The body of a method that is written in code.
+fn code_body(
+    alloc: Global,
+    entries: &[Entry],
+    classes: &NamedClasses,
+    code: &Code,
+) -> Result<LinkedBody, Memory>
+    requires { AreEntries entries.now classes.now }
+    ensures { IfOk result (λ b. body_of entries.now b ≡ HasCode (linking.code_in classes.now code.now)) }
+{
+    let code = link_code(alloc, entries, classes, code)?;
+    Ok(LinkedBody::Code(Shared::new(alloc, code)?))
+}
+
 /// What the attributes of a method give it as its body.
 pub fn link_body(
     alloc: Global,
@@ -114,10 +129,7 @@ pub fn link_body(
     ensures { IfOk result (IsBodyBy entries.now classes.now attrs.now) }
 {
     match first_code(attrs) {
-        Some(code) => {
-            let code = link_code(alloc, entries, classes, code)?;
-            Ok(LinkedBody::Code(Shared::new(alloc, code)?))
-        }
+        Some(code) => code_body(alloc, entries, classes, code),
         None => Ok(LinkedBody::Absent),
     }
 }
@@ -255,16 +267,11 @@ pub fn link(alloc: Global, class: &Class) -> Result<LinkedClass, Memory>
 
 // ---- classes of the library
 
-// The native method of a number, if it has a row.
+// The native method of a number, if it is one's.
 fn native(number: u16) -> Option<Native>
-    ensures { option_map native_meaning result ≡ linking.native number }
+    ensures { option_map meaning_of result ≡ meaning_numbered number }
 {
-    match number {
-        0 => Some(Native::InitObject),
-        2000 => Some(Native::AssertTrue),
-        2001 => Some(Native::AssertFalse),
-        _ => None,
-    }
+    NATIVES.get(number as usize).copied()
 }
 
 fn native_body(number: u16) -> LinkedBody
@@ -276,13 +283,18 @@ fn native_body(number: u16) -> LinkedBody
     }
 }
 
-// Methods of the library that are written in code aren't linked yet: memory runs out.
-fn library_body(body: &LibBody) -> Result<LinkedBody, Memory>
-    ensures { IfOk result (IsLibraryBody body.now) }
+fn library_body(
+    alloc: Global,
+    entries: &[Entry],
+    classes: &NamedClasses,
+    body: &LibBody,
+) -> Result<LinkedBody, Memory>
+    requires { AreEntries entries.now classes.now }
+    ensures { IfOk result (IsLibraryBody entries.now classes.now body.now) }
 {
     match body {
         LibBody::Native(number) => Ok(native_body(*number)),
-        LibBody::Written(_, _) => Err(Memory),
+        LibBody::Written(code) => code_body(alloc, entries, classes, code),
         LibBody::Abstract => Ok(LinkedBody::Absent),
     }
 }
@@ -293,30 +305,44 @@ fn library_text(alloc: Global, name: &Name) -> Result<Text, Memory>
     Text::new(alloc, name.copy()?)
 }
 
-// A method of the library of this name and descriptor.
-fn library_method_of(method: &LibMethod, name: &Text, desc: &Text) -> Result<LinkedMethod, Memory>
-    requires name { name.now ≡ method.now.name }
-    requires desc { desc.now ≡ method.now.desc }
-    ensures { IfOk result (IsLibraryMethod method.now) }
-{
-    let body = library_body(&method.body)?;
-    method_with(method.flags, name, desc, body)
-}
-
-fn library_method(alloc: Global, method: &LibMethod) -> Result<LinkedMethod, Memory>
-    ensures { IfOk result (IsLibraryMethod method.now) }
+// The head of a method of the library before its body.
+fn library_method_with(
+    alloc: Global,
+    method: &LibMethod,
+    body: LinkedBody,
+) -> Result<LinkedMethod, Memory>
+    ensures { IfOk result (λ m. m ≡ method_with method.now.flags method.now.name method.now.desc body) }
 {
     let name = library_text(alloc, &method.name)?;
     let desc = library_text(alloc, &method.desc)?;
-    library_method_of(method, &name, &desc)
+    method_with(method.flags, &name, &desc, body)
 }
 
-fn library_methods(alloc: Global, methods: &[LibMethod]) -> Result<Seq<LinkedMethod>, Memory>
-    ensures { IfOk result (AreLibraryMethods methods.now) }
+fn library_method(
+    alloc: Global,
+    entries: &[Entry],
+    classes: &NamedClasses,
+    method: &LibMethod,
+) -> Result<LinkedMethod, Memory>
+    requires { AreEntries entries.now classes.now }
+    ensures { IfOk result (IsLibraryMethod entries.now classes.now method.now) }
+{
+    let body = library_body(alloc, entries, classes, &method.body)?;
+    library_method_with(alloc, method, body)
+}
+
+fn library_methods(
+    alloc: Global,
+    entries: &[Entry],
+    classes: &NamedClasses,
+    methods: &[LibMethod],
+) -> Result<Seq<LinkedMethod>, Memory>
+    requires { AreEntries entries.now classes.now }
+    ensures { IfOk result (AreLibraryMethods entries.now classes.now methods.now) }
 {
     let mut linked = Vec::with_capacity(alloc, methods.len())?;
     for method in methods {
-        linked.push(library_method(alloc, method)?)?;
+        linked.push(library_method(alloc, entries, classes, method)?)?;
     }
     Ok(Seq::from_vec(linked))
 }
@@ -358,6 +384,20 @@ fn share_names(alloc: Global, names: &[Name]) -> Result<Seq<Shared<Name>>, Memor
     Ok(Seq::from_vec(shared))
 }
 
+// The methods of a class of the library.
+#[tactic(auto, using(crate::proofs::EditLaws::nothing_behind, crate::proofs::EditLaws::entries_alone))]
+fn library_class_methods(
+    alloc: Global,
+    entries: &[Entry],
+    class: &LibClass,
+) -> Result<Seq<LinkedMethod>, Memory>
+    requires { AreEntries entries.now class.now.pool }
+    ensures { IfOk result (AreLibraryMethods entries.now class.now.pool class.now.methods) }
+{
+    let classes = NamedClasses::new(alloc, class.pool.as_slice(), &[], entries);
+    library_methods(alloc, entries, &classes, class.methods.as_slice())
+}
+
 // Puts what a class of the library says into a class.
 #[tactic(auto, unfolding(crate::specs::View::linked_of, crate::specs::Linking::link_library))]
 fn link_library_into(
@@ -365,22 +405,33 @@ fn link_library_into(
     class: &LibClass,
     linked: &mut LinkedClass,
 ) -> Result<(), Memory>
-    ensures { OnOk result (linked_of linked.new ≡ linking.link_library class.now) }
+    requires { AreEntries linked.old.entries class.now.pool }
+    ensures meant { OnOk result (linked_of linked.new ≡ linking.link_library class.now) }
+    ensures entries { linked.new.entries ≡ linked.old.entries }
 {
     linked.library = true;
     linked.flags = class.flags;
-    linked.methods = library_methods(alloc, class.methods.as_slice())?;
+    linked.methods = library_class_methods(alloc, linked.entries.as_slice(), class)?;
     linked.fields = library_fields(alloc, class.fields.as_slice())?;
     linked.interfaces = share_names(alloc, class.interfaces.as_slice())?;
     linked.parent = share_parent(alloc, &class.parent)?;
     Ok(())
 }
 
+// The run-time constant pool of a class of the library.
+fn library_entries(alloc: Global, pool: &[Const]) -> Result<Shared<Seq<Entry>>, Memory>
+    ensures { IfOk result (λ es. AreEntries es pool.now) }
+{
+    let texts = Texts::new(alloc, pool)?;
+    Shared::new(alloc, entries(alloc, &texts, pool)?)
+}
+
 /// What a class of the library means.
 pub fn link_library(alloc: Global, class: &LibClass) -> Result<LinkedClass, Memory>
-    ensures { IfOk result (λ c. linked_of c ≡ linking.link_library class.now) }
+    ensures meant { IfOk result (λ c. linked_of c ≡ linking.link_library class.now) }
+    ensures entries { IfOk result (λ c. AreEntries c.entries class.now.pool) }
 {
-    let mut linked = empty_class(alloc, Shared::new(alloc, Seq::new(alloc))?);
+    let mut linked = empty_class(alloc, library_entries(alloc, class.pool.as_slice())?);
     link_library_into(alloc, class, &mut linked)?;
     Ok(linked)
 }
