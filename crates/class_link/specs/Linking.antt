@@ -38,7 +38,12 @@ abbrev pub class_or_none : List Const → ℕ → Option Name
 class_or_none pool index = if index == 0 then None else Some (class_named pool index)
 
 abbrev pub row_in : List Const → Row → LinkedRow
-row_in pool r = record { start = r.start; end = r.end; handler = r.handler; catch = class_or_none pool r.catch }
+row_in pool r = record {
+  start = r.start;
+  end = r.end;
+  handler = r.handler;
+  catch = class_or_none pool r.catch;
+}
 
 abbrev pub line_in : ℕ × ℕ → LinkedLine
 line_in r = record { start = r.0; line = r.1 }
@@ -113,11 +118,22 @@ first_of given (a ∷ attrs) = given_or (given (content_of a)) (first_of given a
     given_or (Some x) other = Some x
 
 abbrev pub field_with : ℕ → Name → Name → Option FieldConstant → LinkedField
-field_with flags name desc constant = record { flags = flags; name = name; desc = desc; kind = kind_of (kind_stated desc); constant = constant }
+field_with flags name desc constant = record {
+  flags = flags;
+  name = name;
+  desc = desc;
+  kind = kind_of (kind_stated desc);
+  constant = constant;
+}
+
+-- What the first ConstantValue gives to a field.
+abbrev pub constant_by : List Const → List Attr → Option FieldConstant
+constant_by pool attrs =
+    option_and_then (λ index. constant_of pool (entry_of pool index)) (first_of value_of attrs)
 
 abbrev pub field_in : List Const → Member → LinkedField
 field_in pool m =
-    field_with m.flags (text_named pool m.name) (text_named pool m.desc) (option_and_then (λ index. constant_of pool (entry_of pool index)) (first_of value_of m.attrs))
+    field_with m.flags (text_named pool m.name) (text_named pool m.desc) (constant_by pool m.attrs)
 
 abbrev pub code_within : Body-F Body Attr Code → Option Code
 code_within (Body-F.Code code) = Some code
@@ -138,7 +154,9 @@ method_with flags name desc body = record {
 }
 
 abbrev pub method_in : List Const → Member → LinkedMethod
-method_in pool m = method_with m.flags (text_named pool m.name) (text_named pool m.desc) (body_of pool (first_of code_within m.attrs))
+method_in pool m =
+    method_with m.flags (text_named pool m.name) (text_named pool m.desc)
+    (body_of pool (first_of code_within m.attrs))
 
 -- ---- classes
 

@@ -36,7 +36,14 @@ use Rattle.class_link.specs.Opcodes.{on_text, on_class, on_field, on_method, arr
 -- ---- entries
 
 abbrev pub method_ref_of : MethodRef → def.MethodRef
-method_ref_of r = record { class = r.class; name = r.name; desc = r.desc; args = map kind_of r.args; result = option_map kind_of r.result; interface = r.interface }
+method_ref_of r = record {
+  class = r.class;
+  name = r.name;
+  desc = r.desc;
+  args = map kind_of r.args;
+  result = option_map kind_of r.result;
+  interface = r.interface;
+}
 
 abbrev pub field_ref_of : FieldRef → def.FieldRef
 field_ref_of r = record { class = r.class; name = r.name; desc = r.desc; kind = kind_of r.kind }
@@ -139,7 +146,8 @@ instruction_of es ss (code.InvokeStatic k) = on_method def.InvokeStatic (meaning
 instruction_of es ss (code.New k) = on_class def.New (meaning_at es k)
 instruction_of es ss (code.NewArray n) = array_of n
 instruction_of es ss (code.NewReferenceArray k) = on_class def.NewReferenceArray (meaning_at es k)
-instruction_of es ss (code.NewMultiArray k n) = on_class (λ class. def.NewMultiArray class n) (meaning_at es k)
+instruction_of es ss (code.NewMultiArray k n) =
+    on_class (λ class. def.NewMultiArray class n) (meaning_at es k)
 instruction_of es ss code.ArrayLength = def.ArrayLength
 instruction_of es ss code.Throw = def.Throw
 instruction_of es ss (code.CheckCast k) = on_class def.CheckCast (meaning_at es k)
@@ -192,7 +200,14 @@ body_of es (body.Native n) = def_linked.IsNative (meaning_of n)
 body_of es body.Absent = def_linked.NoBody
 
 abbrev pub method_of : List Entry → LinkedMethod → def_linked.LinkedMethod
-method_of es m = record { flags = m.flags; name = m.name; desc = m.desc; args = map kind_of m.args; result = option_map kind_of m.result; body = body_of es m.body }
+method_of es m = record {
+  flags = m.flags;
+  name = m.name;
+  desc = m.desc;
+  args = map kind_of m.args;
+  result = option_map kind_of m.result;
+  body = body_of es m.body;
+}
 
 abbrev pub constant_of : FieldConstant → def_linked.FieldConstant
 constant_of (constant.Int z) = def_linked.IntField z
@@ -200,7 +215,13 @@ constant_of (constant.Long z) = def_linked.LongField z
 constant_of (constant.Text t) = def_linked.TextField t
 
 abbrev pub field_of : LinkedField → def_linked.LinkedField
-field_of f = record { flags = f.flags; name = f.name; desc = f.desc; kind = kind_of f.kind; constant = option_map constant_of f.constant }
+field_of f = record {
+  flags = f.flags;
+  name = f.name;
+  desc = f.desc;
+  kind = kind_of f.kind;
+  constant = option_map constant_of f.constant;
+}
 
 -- The class as the definitions see it.
 unfoldable pub linked_of : LinkedClass → def_linked.Linked
@@ -212,3 +233,7 @@ linked_of c = record {
   fields = map field_of c.fields;
   methods = map (method_of c.entries) c.methods;
 }
+
+-- The place of the method of a name and a descriptor in the class as the definitions see it.
+abbrev pub method_place_in : LinkedClass → Name → Name → Option ℕ
+method_place_in c name desc = def_linked.method_place name desc (linked_of c).methods

@@ -6,13 +6,12 @@ ghost use Rattle.std.specs.Option.{option_copied, option_map};
 ghost use Rattle.class_model.specs.Pool.{entry_of};
 ghost use Rattle.class_link.specs.Symbols.{class_named};
 ghost use Rattle.class_link.specs.Linking as linking;
-ghost use Rattle.class_link.specs.Named.{IsConstantIn, IsConstantBy, IsBodyBy, IsMethodIn, AreMethodsIn, IsLibraryBody, IsLibraryMethod, AreLibraryMethods};
+ghost use Rattle.class_link.specs.Named.{IsConstantIn, IsConstantBy, IsCodeBody, IsBodyBy, IsMethodIn, AreMethodsIn, IsLibraryBody, IsLibraryMethod, AreLibraryMethods};
 ghost use Rattle.class_link.specs.Switches.{AreEntries};
 ghost use Rattle.class_link.specs.Bare.{bare_field, method_with};
 ghost use Rattle.class_link.specs.declared.linked.Entry as entry;
 ghost use Rattle.class_link.specs.View.{body_of, method_of, field_of, constant_of, linked_of};
 ghost use Rattle.library_rules.specs.Numbered.{meaning_of, meaning_numbered};
-ghost use Rattle.program_rules.specs.Linked.{HasCode};
 
 use crate::code_linking::link_code;
 use crate::entries::entries;
@@ -112,7 +111,7 @@ fn code_body(
     code: &Code,
 ) -> Result<LinkedBody, Memory>
     requires { AreEntries entries.now classes.now }
-    ensures { IfOk result (λ b. body_of entries.now b ≡ HasCode (linking.code_in classes.now code.now)) }
+    ensures { IfOk result (IsCodeBody entries.now classes.now code.now) }
 {
     let code = link_code(alloc, entries, classes, code)?;
     Ok(LinkedBody::Code(Shared::new(alloc, code)?))
@@ -305,17 +304,22 @@ fn library_text(alloc: Global, name: &Name) -> Result<Text, Memory>
     Text::new(alloc, name.copy()?)
 }
 
-// The head of a method of the library before its body.
-fn library_method_with(
+// A method of the library of this name and descriptor.
+fn library_method_of(
     alloc: Global,
+    entries: &[Entry],
+    classes: &NamedClasses,
     method: &LibMethod,
-    body: LinkedBody,
+    name: &Text,
+    desc: &Text,
 ) -> Result<LinkedMethod, Memory>
-    ensures { IfOk result (λ m. m ≡ method_with method.now.flags method.now.name method.now.desc body) }
+    requires entries { AreEntries entries.now classes.now }
+    requires name { name.now ≡ method.now.name }
+    requires desc { desc.now ≡ method.now.desc }
+    ensures { IfOk result (IsLibraryMethod entries.now classes.now method.now) }
 {
-    let name = library_text(alloc, &method.name)?;
-    let desc = library_text(alloc, &method.desc)?;
-    method_with(method.flags, &name, &desc, body)
+    let body = library_body(alloc, entries, classes, &method.body)?;
+    method_with(method.flags, name, desc, body)
 }
 
 fn library_method(
@@ -327,8 +331,9 @@ fn library_method(
     requires { AreEntries entries.now classes.now }
     ensures { IfOk result (IsLibraryMethod entries.now classes.now method.now) }
 {
-    let body = library_body(alloc, entries, classes, &method.body)?;
-    library_method_with(alloc, method, body)
+    let name = library_text(alloc, &method.name)?;
+    let desc = library_text(alloc, &method.desc)?;
+    library_method_of(alloc, entries, classes, method, &name, &desc)
 }
 
 fn library_methods(

@@ -156,7 +156,8 @@ fn call_native(
     let Some(frame) = &mut m.frame else {
         return Ok(false);
     };
-    let Some(outcome) = take_given(frame, kinds, method)? else {
+    let given = take_given(frame, kinds, method)?;
+    let Some(outcome) = given else {
         return Ok(false);
     };
     let goes = go_on_with(alloc, p, m, class, outcome)?;

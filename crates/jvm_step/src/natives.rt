@@ -1,14 +1,11 @@
 // The native methods of the library, one row for each (this project's own).
 
-ghost use Rattle.std.specs.Prelude.{◌≡◌, Bool, List, map, IfOk, IfSome, IfNone, OnOk};
+ghost use Rattle.std.specs.Prelude.{◌≡◌, Bool, List, IfOk, IfSome, IfNone, OnOk};
 ghost use Rattle.program_rules.specs.Deeds.{Deed, NoDeed};
 ghost use Rattle.program_rules.specs.Objects.{Object};
-ghost use Rattle.program_rules.specs.declared.value.Value.{Value};
-ghost use Rattle.machine_rules.specs.Effects.{Effect, NoRow, on_args};
 ghost use Rattle.program_rules.specs.Natives.{on_boolean, assert_true, assert_false};
-ghost use Rattle.class_link.specs.Symbols.{kind_of};
 ghost use Rattle.library_rules.specs.Numbered.{meaning_of};
-ghost use Rattle.jvm_step.specs.Natives.{deed_of, TakesGiven};
+ghost use Rattle.jvm_step.specs.Natives.{deed_of, GivesFor, TakesSome, TakesNone};
 
 use crate::frame::Frame;
 use crate::machine::{Exception, Given};
@@ -52,7 +49,7 @@ fn assert_false(args: &[Value]) -> Given
 // What a native method does with these arguments, whatever objects there are. None of the classes
 // in `classes` has another one, so nothing reaches the last arm.
 fn run_native(method: Native, args: &[Value]) -> Result<Given, Memory>
-    ensures { IfOk result (λ g. (heap : List Object) → meaning_of method heap args.now ≡ deed_of g) }
+    ensures { IfOk result (GivesFor (meaning_of method) args.now) }
 {
     match method {
         Native::Lang(LangNative::Object(ObjectNative::DoNothing)) => Ok(Given::Gives),
@@ -65,9 +62,9 @@ fn run_native(method: Native, args: &[Value]) -> Result<Given, Memory>
 /// What a native method does with arguments of these kinds, which are taken off the stack of a
 /// frame; none where the top of the stack is not of these kinds.
 pub fn take_given(f: &mut Frame, kinds: &[Kind], method: Native) -> Result<Option<Given>, Memory>
-    ensures some { IfOk result (λ o. IfSome o (λ g. TakesGiven (map kind_of kinds.now) f.old.stack (meaning_of method) g f.new.stack)) }
-    ensures none { IfOk result (λ o. IfNone o ((go : List Value → List Value → Effect) → on_args (map kind_of kinds.now) f.old.stack go ≡ NoRow)) }
-    ensures rest { f.new ≡ record f.old { stack = f.new.stack } }
+    ensures some { IfOk result (TakesSome kinds.now (meaning_of method) f.old.stack f.new.stack) }
+    ensures none { IfOk result (TakesNone kinds.now f.old.stack) }
+    ensures rest { OnOk result (f.new ≡ record f.old { stack = f.new.stack }) }
 {
     let Some(args) = f.stack.arguments(kinds) else {
         return Ok(None);
