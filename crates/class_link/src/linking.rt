@@ -1,7 +1,7 @@
 //! What a class means once indices of its constant pool are resolved to names (JVMS 4.1, 4.5 to
 //! 4.7).
 
-ghost use Rattle.std.specs.Prelude.{◌≡◌, List, map, IfOk, OnOk, option_and_then};
+ghost use Rattle.std.specs.Prelude.{◌≡◌, List, map, slice_get, IfOk, OnOk, option_and_then};
 ghost use Rattle.std.specs.Option.{option_copied, option_map};
 ghost use Rattle.class_model.specs.Pool.{entry_of};
 ghost use Rattle.class_link.specs.Symbols.{class_named};
@@ -266,11 +266,17 @@ pub fn link(alloc: Global, class: &Class) -> Result<LinkedClass, Memory>
 
 // ---- classes of the library
 
+fn native_in(natives: &[Native], number: u16) -> Option<Native>
+    ensures { result ≡ slice_get natives.now number }
+{
+    natives.get(number as usize).copied()
+}
+
 // The native method of a number, if it is one's.
 fn native(number: u16) -> Option<Native>
     ensures { option_map meaning_of result ≡ meaning_numbered number }
 {
-    NATIVES.get(number as usize).copied()
+    native_in(&NATIVES, number)
 }
 
 fn native_body(number: u16) -> LinkedBody
