@@ -11,15 +11,14 @@ use Rattle.program_rules.specs.Names.{Name}
 use Rattle.program_rules.specs.Linked.{HasCode, method_place}
 use Rattle.class_link.specs.declared.linked.Entry.{Entry}
 use Rattle.class_link.specs.declared.linked.FieldConstant.{FieldConstant}
-use Rattle.class_link.specs.declared.linked.FieldRef.{FieldRef}
 use Rattle.class_link.specs.declared.linked.LinkedBody.{LinkedBody}
+use Rattle.class_link.specs.declared.linked.LinkedCode.{LinkedCode}
 use Rattle.class_link.specs.declared.linked.LinkedMethod.{LinkedMethod}
-use Rattle.class_link.specs.declared.linked.MethodRef.{MethodRef}
 use Rattle.class_link.specs.declared.loaded.LibBody.{LibBody}
 use Rattle.class_link.specs.declared.loaded.LibMethod.{LibMethod}
 use Rattle.class_link.specs.Linking as linking
-use Rattle.class_link.specs.Symbols.{name_or_empty, class_named, field_ref, method_ref}
-use Rattle.class_link.specs.View.{method_ref_of, field_ref_of, constant_of, body_of, method_of}
+use Rattle.class_link.specs.Symbols.{IsField, IsMethod, name_or_empty, class_named, field_ref, method_ref}
+use Rattle.class_link.specs.View.{symbol_of, constant_of, code_of, body_of, method_of}
 
 -- ---- entries
 
@@ -31,16 +30,16 @@ abbrev pub desc_in_pair : List Const → ℕ → Name
 desc_in_pair pool pair = name_or_empty (pair_desc_of pool pair)
 
 -- What the two indices of a field's entry name, and those of a method's.
-abbrev pub NamesField : List Const → ℕ → ℕ → FieldRef → Type 0
-NamesField pool class pair r =
-    field_ref_of r
-    ≡ field_ref (class_named pool class) (name_in_pair pool pair) (desc_in_pair pool pair)
+abbrev pub NamesField : List Const → ℕ → ℕ → Entry → Type 0
+NamesField pool class pair e =
+    symbol_of e
+    ≡ IsField (field_ref (class_named pool class) (name_in_pair pool pair) (desc_in_pair pool pair))
 
-abbrev pub NamesMethod : List Const → ℕ → ℕ → Bool → MethodRef → Type 0
-NamesMethod pool class pair interface r =
-    method_ref_of r
-    ≡ method_ref interface (class_named pool class) (name_in_pair pool pair)
-    (desc_in_pair pool pair)
+abbrev pub NamesMethod : List Const → ℕ → ℕ → Bool → Entry → Type 0
+NamesMethod pool class pair interface e =
+    symbol_of e
+    ≡ IsMethod (method_ref interface (class_named pool class) (name_in_pair pool pair)
+    (desc_in_pair pool pair))
 
 -- ---- fields
 
@@ -58,6 +57,9 @@ IsConstantBy pool attrs k =
 -- The body that a Code attribute gives to a method.
 abbrev pub IsCodeBody : List Entry → List Const → Code → LinkedBody → Type 0
 IsCodeBody es pool code b = body_of es b ≡ HasCode (linking.code_in pool code)
+
+abbrev pub IsCodeIn : List Entry → List Const → Code → LinkedCode → Type 0
+IsCodeIn es pool code linked = code_of es linked ≡ linking.code_in pool code
 
 -- The body that attributes give to a method.
 abbrev pub IsBodyBy : List Entry → List Const → List Attr → LinkedBody → Type 0

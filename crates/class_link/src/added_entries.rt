@@ -37,42 +37,44 @@ fn text_found(alloc: Global, found: Option<&Name>) -> Result<Text, Memory>
     Text::new(alloc, name_found(alloc, found)?)
 }
 
-fn method_of(
+fn method_entry(
     alloc: Global,
     pool: &LongPool,
     class: u16,
     pair: u16,
     interface: bool,
-) -> Result<MethodRef, Memory>
+) -> Result<Entry, Memory>
     ensures { IfOk result (NamesMethod pool.now class pair interface) }
 {
+    let (name, desc) = pool.pair(pair);
     let class = shared_name(alloc, pool.class_name(class))?;
-    let name = shared_name(alloc, pool.pair_name(pair))?;
-    let text = text_found(alloc, pool.pair_desc(pair))?;
-    let (desc, args, result) = text.method()?;
-    Ok(MethodRef {
+    let name = shared_name(alloc, name)?;
+    let text = text_found(alloc, desc)?;
+    let (desc, args, result) = text.into_method();
+    Ok(Entry::Method(MethodRef {
         class,
         name,
         desc,
         args,
         result,
         interface,
-    })
+    }))
 }
 
-fn field_of(alloc: Global, pool: &LongPool, class: u16, pair: u16) -> Result<FieldRef, Memory>
+fn field_entry(alloc: Global, pool: &LongPool, class: u16, pair: u16) -> Result<Entry, Memory>
     ensures { IfOk result (NamesField pool.now class pair) }
 {
+    let (name, desc) = pool.pair(pair);
     let class = shared_name(alloc, pool.class_name(class))?;
-    let name = shared_name(alloc, pool.pair_name(pair))?;
-    let text = text_found(alloc, pool.pair_desc(pair))?;
-    let (desc, kind) = text.field()?;
-    Ok(FieldRef {
+    let name = shared_name(alloc, name)?;
+    let text = text_found(alloc, desc)?;
+    let (desc, kind) = text.into_field();
+    Ok(Entry::Field(FieldRef {
         class,
         name,
         desc,
         kind,
-    })
+    }))
 }
 
 fn entry_in(alloc: Global, pool: &LongPool, constant: &Const) -> Result<Entry, Memory>
@@ -83,21 +85,10 @@ fn entry_in(alloc: Global, pool: &LongPool, constant: &Const) -> Result<Entry, M
         Const::Long(number) => Ok(Entry::Long(*number)),
         Const::Text(text) => Ok(Entry::Text(shared_name(alloc, pool.text(*text))?)),
         Const::Class(name) => Ok(Entry::Class(shared_name(alloc, pool.text(*name))?)),
-        Const::Field(class, pair) => Ok(Entry::Field(field_of(alloc, pool, *class, *pair)?)),
-        Const::Method(class, pair) => {
-            Ok(Entry::Method(method_of(alloc, pool, *class, *pair, false)?))
-        }
-        Const::IMethod(class, pair) => {
-            Ok(Entry::Method(method_of(alloc, pool, *class, *pair, true)?))
-        }
-        Const::Utf8(_) => Ok(Entry::Other),
-        Const::Float(_) => Ok(Entry::Other),
-        Const::Double(_) => Ok(Entry::Other),
-        Const::Pair(_, _) => Ok(Entry::Other),
-        Const::Handle(_, _) => Ok(Entry::Other),
-        Const::MethodKind(_) => Ok(Entry::Other),
-        Const::Dynamic(_, _) => Ok(Entry::Other),
-        Const::Second => Ok(Entry::Other),
+        Const::Field(class, pair) => field_entry(alloc, pool, *class, *pair),
+        Const::Method(class, pair) => method_entry(alloc, pool, *class, *pair, false),
+        Const::IMethod(class, pair) => method_entry(alloc, pool, *class, *pair, true),
+        _ => Ok(Entry::Other),
     }
 }
 

@@ -1,13 +1,12 @@
 //! What the code of a method means once indices of its constant pool are resolved to names (JVMS
 //! 4.7.3, 4.7.12).
 
-ghost use Rattle.std.specs.Prelude.{◌≡◌, ◌+◌, List, ◌++◌, map, length, drop, IfOk, OnOk, if◌then◌else◌};
-ghost use Rattle.std.specs.List.{flat_map};
+ghost use Rattle.std.specs.Prelude.{◌≡◌, ◌+◌, ◌++◌, map, length, IfOk, OnOk, if◌then◌else◌};
 ghost use Rattle.class_link.specs.Linking as linking;
-ghost use Rattle.class_link.specs.Opcodes.{instruction_by};
-ghost use Rattle.class_link.specs.Switches.{switch_in, switches_in, AreEntries};
-ghost use Rattle.class_link.specs.declared.linked.Switch as switch;
-ghost use Rattle.class_link.specs.View.{meaning_at, instruction_of, row_of, line_of, code_of};
+ghost use Rattle.class_link.specs.Lines.{AddsLines, lines_at, lines_in};
+ghost use Rattle.class_link.specs.Named.{IsCodeIn};
+ghost use Rattle.class_link.specs.Switches.{switch_in, switches_in, AreEntries, IsLinkedAt, AreLinkedBy};
+ghost use Rattle.class_link.specs.View.{row_of, line_of};
 
 use crate::frames::link_frames;
 use crate::instruction::Instruction;
@@ -50,7 +49,7 @@ fn switches_in(alloc: Global, insns: &[Insn]) -> Result<Seq<Switch>, Memory>
 // What an instruction means, where the next switch has this number.
 #[tactic(auto, unfolding(crate::specs::Opcodes::instruction_by))]
 fn link_insn(entries: &[Entry], next: u32, insn: &Insn) -> Instruction
-    ensures { (ss more : List switch.Switch) → drop next ss ≡ switch_in insn.now ++ more → instruction_of entries.now ss result ≡ instruction_by (meaning_at entries.now) insn.now }
+    ensures { IsLinkedAt entries.now next insn.now result }
 {
     match &insn.arg {
         Arg::None => opcodes::plain(insn.op),
@@ -93,7 +92,7 @@ fn link_insns(
     insns: &[Insn],
 ) -> Result<Seq<Instruction>, Memory>
     requires { switches.now ≡ switches_in insns.now }
-    ensures { IfOk result (λ is. map (instruction_of entries.now switches.now) is ≡ map (instruction_by (meaning_at entries.now)) insns.now) }
+    ensures { IfOk result (AreLinkedBy entries.now switches.now insns.now) }
 {
     let mut instructions = Vec::with_capacity(alloc, insns.len())?;
     let mut next: u32 = 0;
@@ -126,7 +125,7 @@ fn link_rows(alloc: Global, classes: &NamedClasses, rows: &[Row]) -> Result<Seq<
 }
 
 fn add_rows(lines: &mut Vec<LinkedLine>, rows: &[(u32, u16)]) -> Result<(), Memory>
-    ensures { OnOk result (map line_of lines.new.items ≡ map line_of lines.old.items ++ map linking.line_in rows.now) }
+    ensures { OnOk result (AddsLines lines.old.items (map linking.line_in rows.now) lines.new.items) }
 {
     for (start, line) in rows {
         lines.push(LinkedLine {
@@ -139,7 +138,7 @@ fn add_rows(lines: &mut Vec<LinkedLine>, rows: &[(u32, u16)]) -> Result<(), Memo
 
 // Adds the rows of an attribute that is a LineNumberTable.
 fn add_lines(lines: &mut Vec<LinkedLine>, attr: &Attr) -> Result<(), Memory>
-    ensures { OnOk result (map line_of lines.new.items ≡ map line_of lines.old.items ++ linking.lines_of (linking.content_of attr.now)) }
+    ensures { OnOk result (AddsLines lines.old.items (lines_at attr.now) lines.new.items) }
 {
     match &attr.body {
         Body::Lines(rows) => {
@@ -152,7 +151,7 @@ fn add_lines(lines: &mut Vec<LinkedLine>, attr: &Attr) -> Result<(), Memory>
 
 // Adds the rows of all attributes that are LineNumberTables.
 fn add_all_lines(lines: &mut Vec<LinkedLine>, attrs: &[Attr]) -> Result<(), Memory>
-    ensures { OnOk result (map line_of lines.new.items ≡ map line_of lines.old.items ++ flat_map (λ a. linking.lines_of (linking.content_of a)) attrs.now) }
+    ensures { OnOk result (AddsLines lines.old.items (lines_in attrs.now) lines.new.items) }
 {
     for attr in attrs {
         add_lines(lines, attr)?;
@@ -161,7 +160,7 @@ fn add_all_lines(lines: &mut Vec<LinkedLine>, attrs: &[Attr]) -> Result<(), Memo
 }
 
 fn link_lines(alloc: Global, attrs: &[Attr], instructions: usize) -> Result<LineTable, Memory>
-    ensures { IfOk result (λ ls. map line_of ls ≡ flat_map (λ a. linking.lines_of (linking.content_of a)) attrs.now) }
+    ensures { IfOk result (λ ls. map line_of ls ≡ lines_in attrs.now) }
 {
     let mut rows = Vec::new(alloc);
     add_all_lines(&mut rows, attrs)?;
@@ -191,7 +190,7 @@ fn link_code_into(
     linked: &mut LinkedCode,
 ) -> Result<(), Memory>
     requires { AreEntries entries.now classes.now }
-    ensures { OnOk result (code_of entries.now linked.new ≡ linking.code_in classes.now code.now) }
+    ensures { OnOk result (IsCodeIn entries.now classes.now code.now linked.new) }
 {
     let insns = code.insns.as_slice();
     let attrs = code.attrs.as_slice();
@@ -213,7 +212,7 @@ pub fn link_code(
     code: &Code,
 ) -> Result<LinkedCode, Memory>
     requires { AreEntries entries.now classes.now }
-    ensures { IfOk result (λ c. code_of entries.now c ≡ linking.code_in classes.now code.now) }
+    ensures { IfOk result (IsCodeIn entries.now classes.now code.now) }
 {
     let mut linked = empty_code(alloc);
     link_code_into(alloc, entries, classes, code, &mut linked)?;

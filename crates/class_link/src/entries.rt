@@ -11,34 +11,36 @@ use crate::texts::Texts;
 use class_model::{Const, Memory, Seq};
 use std::alloc::Global;
 
-fn method_of(texts: &Texts, class: u16, pair: u16, interface: bool) -> Result<MethodRef, Memory>
+fn method_entry(texts: &Texts, class: u16, pair: u16, interface: bool) -> Result<Entry, Memory>
     ensures { IfOk result (NamesMethod texts.now class pair interface) }
 {
+    let (name, desc) = texts.pair(pair);
     let class = texts.class(class).name()?;
-    let name = texts.pair_name(pair).name()?;
-    let (desc, args, result) = texts.pair_desc(pair).method()?;
-    Ok(MethodRef {
+    let name = name.name()?;
+    let (desc, args, result) = desc.method()?;
+    Ok(Entry::Method(MethodRef {
         class,
         name,
         desc,
         args,
         result,
         interface,
-    })
+    }))
 }
 
-fn field_of(texts: &Texts, class: u16, pair: u16) -> Result<FieldRef, Memory>
+fn field_entry(texts: &Texts, class: u16, pair: u16) -> Result<Entry, Memory>
     ensures { IfOk result (NamesField texts.now class pair) }
 {
+    let (name, desc) = texts.pair(pair);
     let class = texts.class(class).name()?;
-    let name = texts.pair_name(pair).name()?;
-    let (desc, kind) = texts.pair_desc(pair).field()?;
-    Ok(FieldRef {
+    let name = name.name()?;
+    let (desc, kind) = desc.field()?;
+    Ok(Entry::Field(FieldRef {
         class,
         name,
         desc,
         kind,
-    })
+    }))
 }
 
 fn entry_in(texts: &Texts, constant: &Const) -> Result<Entry, Memory>
@@ -49,17 +51,10 @@ fn entry_in(texts: &Texts, constant: &Const) -> Result<Entry, Memory>
         Const::Long(number) => Ok(Entry::Long(*number)),
         Const::Text(text) => Ok(Entry::Text(texts.text(*text).name()?)),
         Const::Class(name) => Ok(Entry::Class(texts.text(*name).name()?)),
-        Const::Field(class, pair) => Ok(Entry::Field(field_of(texts, *class, *pair)?)),
-        Const::Method(class, pair) => Ok(Entry::Method(method_of(texts, *class, *pair, false)?)),
-        Const::IMethod(class, pair) => Ok(Entry::Method(method_of(texts, *class, *pair, true)?)),
-        Const::Utf8(_) => Ok(Entry::Other),
-        Const::Float(_) => Ok(Entry::Other),
-        Const::Double(_) => Ok(Entry::Other),
-        Const::Pair(_, _) => Ok(Entry::Other),
-        Const::Handle(_, _) => Ok(Entry::Other),
-        Const::MethodKind(_) => Ok(Entry::Other),
-        Const::Dynamic(_, _) => Ok(Entry::Other),
-        Const::Second => Ok(Entry::Other),
+        Const::Field(class, pair) => field_entry(texts, *class, *pair),
+        Const::Method(class, pair) => method_entry(texts, *class, *pair, false),
+        Const::IMethod(class, pair) => method_entry(texts, *class, *pair, true),
+        _ => Ok(Entry::Other),
     }
 }
 

@@ -1,8 +1,8 @@
 //! Stated frames with names in place of pool indices (JVMS 4.7.4).
 
 ghost use Rattle.std.specs.Prelude.{◌≡◌, map, IfOk, OnOk};
-ghost use Rattle.class_link.specs.Framed.{Adds, frames_at, frames_in};
-ghost use Rattle.class_link.specs.Linking.{vtype_in, shape_in, frame_in};
+ghost use Rattle.class_link.specs.Framed.{Adds, frames_by, frames_at, frames_in};
+ghost use Rattle.class_link.specs.Linking.{vtype_in, shape_in};
 ghost use Rattle.class_link.specs.View.{vtype_of, shape_of, frame_of};
 
 use crate::named_classes::NamedClasses;
@@ -93,7 +93,7 @@ fn add_all(
     out: &mut Vec<StatedFrame>,
     frames: &[Frame],
 ) -> Result<(), Memory>
-    ensures { OnOk result (Adds out.old.items (map (frame_in classes.now) frames.now) out.new.items) }
+    ensures { OnOk result (Adds out.old.items (frames_by classes.now frames.now) out.new.items) }
 {
     for frame in frames {
         out.push(StatedFrame {

@@ -1,11 +1,11 @@
 //! The line of each instruction of a code (JVMS 4.7.12; which of several rows counts is this
 //! project's own).
 
-ghost use Rattle.std.specs.Prelude.{◌≡◌, ◌&&◌, ◌∷◌, ◌++◌, [], nat_le, if◌then◌else◌, List, map, Some, IfOk};
+ghost use Rattle.std.specs.Prelude.{◌≡◌, [], map, IfOk};
 ghost use Rattle.std.specs.Option.{option_map};
-ghost use Rattle.program_rules.specs.Linked.{LinkedLine as Row, is_later, line_row, line_at};
+ghost use Rattle.program_rules.specs.Linked.{line_row, line_at};
 ghost use Rattle.class_link.specs.View.{line_of};
-ghost use Rattle.class_link.specs.Lines.{AreStartsOf, AreLinesOf};
+ghost use Rattle.class_link.specs.Lines.{AreStartsOf, NotesStart, AreLinesFrom, row_or};
 
 use crate::linked::LinkedLine;
 use class_model::{Memory, Seq};
@@ -99,7 +99,7 @@ fn note_starts(starts: &mut [Option<u16>], rows: &[LinkedLine])
 
 // One more row, which starts at one of these instructions or behind them.
 fn note_start(starts: &mut [Option<u16>], row: &LinkedLine)
-    ensures { (rows : List Row) → AreStartsOf starts.old rows → AreStartsOf starts.new (rows ++ line_of row.now ∷ []) }
+    ensures { NotesStart starts.old (line_of row.now) starts.new }
 {
     let start = row.start as usize;
     if start < starts.len() {
@@ -109,7 +109,7 @@ fn note_start(starts: &mut [Option<u16>], row: &LinkedLine)
 
 // The line of each instruction: that which starts there, else that of the one before it.
 fn lines(alloc: Global, starts: &[Option<u16>]) -> Result<Vec<u16>, Memory>
-    ensures { IfOk result (λ lines. (rows : List Row) → AreStartsOf starts.now rows → AreLinesOf lines.items rows) }
+    ensures { IfOk result (λ lines. AreLinesFrom starts.now lines.items) }
 {
     let mut lines = Vec::with_capacity(alloc, starts.len())?;
     let mut line = 0;
@@ -132,7 +132,7 @@ fn line_at(rows: &[LinkedLine], at: usize) -> u16
 
 // The row that counts, once one more row stands in front.
 fn later(row: LinkedLine, at: usize, found: Option<LinkedLine>) -> Option<LinkedLine>
-    ensures { option_map line_of result ≡ (if nat_le row.start at && is_later (line_of row) (option_map line_of found) then Some (line_of row) else option_map line_of found) }
+    ensures { option_map line_of result ≡ row_or at (line_of row) (option_map line_of found) }
 {
     let is_later = match found {
         Some(other) => other.start < row.start,

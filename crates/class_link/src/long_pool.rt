@@ -73,23 +73,14 @@ impl<'a> LongPool<'a> {
         }
     }
 
-    /// The name of the pair of an index, if there is one.
-    pub fn pair_name(&self, index: u16) -> Option<&Name>
-        ensures { option_copied result ≡ pair_name_of self.now index }
+    /// The name and the descriptor of the pair of an index, each if there is one.
+    pub fn pair(&self, index: u16) -> (Option<&Name>, Option<&Name>)
+        ensures name { option_copied result.0 ≡ pair_name_of self.now index }
+        ensures desc { option_copied result.1 ≡ pair_desc_of self.now index }
     {
-        match self.entry(index)? {
-            Const::Pair(name, _) => self.text(*name),
-            _ => None,
-        }
-    }
-
-    /// The descriptor of the pair of an index, if there is one.
-    pub fn pair_desc(&self, index: u16) -> Option<&Name>
-        ensures { option_copied result ≡ pair_desc_of self.now index }
-    {
-        match self.entry(index)? {
-            Const::Pair(_, desc) => self.text(*desc),
-            _ => None,
+        match self.entry(index) {
+            Some(Const::Pair(name, desc)) => (self.text(*name), self.text(*desc)),
+            _ => (None, None),
         }
     }
 }

@@ -56,15 +56,11 @@ fn is_body_within(count: usize, body: &LinkedBody) -> bool
     }
 }
 
-fn is_method_within(count: usize, method: &LinkedMethod) -> bool
-    ensures { result ≡ is_method_within count method.now }
-{
-    is_body_within(count, &method.body)
-}
-
 /// Whether the instructions of all methods name no place from this one on.
 pub fn are_within(count: usize, methods: &[LinkedMethod]) -> bool
     ensures { result ≡ list_all (is_method_within count) methods.now }
 {
-    methods.iter().all(|method| is_method_within(count, method))
+    methods
+        .iter()
+        .all(|method| is_body_within(count, &method.body))
 }

@@ -1,13 +1,9 @@
 //! Which instruction an opcode with its operand spells (JVMS 6.5, 7).
 #![tactic(auto, unfolding(crate::specs::View::instruction_of))]
 
-ghost use Rattle.std.specs.Prelude.{◌≡◌, ◌==◌, List, slice_get, if◌then◌else◌};
-ghost use Rattle.program_rules.specs.Instructions.{Unlinked};
-ghost use Rattle.class_link.specs.Spelled.{Means, MeansIn};
-ghost use Rattle.class_link.specs.View.{instruction_of, meaning_at, table_of, lookup_of};
+ghost use Rattle.class_link.specs.Spelled.{Means, MeansIn, MeansByEntries, MeansBySwitches, table_at, lookup_at};
+ghost use Rattle.class_link.specs.View.{meaning_at};
 ghost use Rattle.class_link.specs.Opcodes as opcodes;
-ghost use Rattle.class_link.specs.declared.linked.Entry as entry;
-ghost use Rattle.class_link.specs.declared.linked.Switch as switch;
 
 use crate::instruction::Instruction;
 use crate::linked::Entry;
@@ -217,17 +213,11 @@ pub fn with_target(op: u8, to: u32) -> Instruction
 fn constant(entries: &[Entry], index: u32) -> Instruction
     ensures { MeansIn entries.now result (opcodes.constant_of (meaning_at entries.now index)) }
 {
-    let Some(entry) = entries.get(index as usize) else {
-        return Instruction::Unlinked;
-    };
-    match entry {
-        Entry::Integer(number) => Instruction::IntConstant(*number),
-        Entry::Text(_) => Instruction::TextConstant(index),
-        Entry::Class(_) => Instruction::ClassConstant(index),
-        Entry::Other => Instruction::Unlinked,
-        Entry::Long(_) => Instruction::Unlinked,
-        Entry::Field(_) => Instruction::Unlinked,
-        Entry::Method(_) => Instruction::Unlinked,
+    match entries.get(index as usize) {
+        Some(Entry::Integer(number)) => Instruction::IntConstant(*number),
+        Some(Entry::Text(_)) => Instruction::TextConstant(index),
+        Some(Entry::Class(_)) => Instruction::ClassConstant(index),
+        _ => Instruction::Unlinked,
     }
 }
 
@@ -235,17 +225,9 @@ fn constant(entries: &[Entry], index: u32) -> Instruction
 fn long_constant(entries: &[Entry], index: u32) -> Instruction
     ensures { MeansIn entries.now result (opcodes.long_of (meaning_at entries.now index)) }
 {
-    let Some(entry) = entries.get(index as usize) else {
-        return Instruction::Unlinked;
-    };
-    match entry {
-        Entry::Long(number) => Instruction::LongConstant(*number),
-        Entry::Other => Instruction::Unlinked,
-        Entry::Integer(_) => Instruction::Unlinked,
-        Entry::Text(_) => Instruction::Unlinked,
-        Entry::Class(_) => Instruction::Unlinked,
-        Entry::Field(_) => Instruction::Unlinked,
-        Entry::Method(_) => Instruction::Unlinked,
+    match entries.get(index as usize) {
+        Some(Entry::Long(number)) => Instruction::LongConstant(*number),
+        _ => Instruction::Unlinked,
     }
 }
 
@@ -274,7 +256,7 @@ pub fn with_index(entries: &[Entry], op: u8, index: u16) -> Instruction
 
 /// An opcode with an index of the constant pool and a count.
 pub fn with_count(op: u8, index: u16, count: u8) -> Instruction
-    ensures { (es : List entry.Entry) (ss : List switch.Switch) → instruction_of es ss result ≡ opcodes.with_count op (meaning_at es index) count }
+    ensures { MeansByEntries result (λ es. opcodes.with_count op (meaning_at es index) count) }
 {
     match op {
         0xc5 => Instruction::NewMultiArray(index as u32, count),
@@ -295,7 +277,7 @@ pub fn with_elements(op: u8, elements: u8) -> Instruction
 
 /// A `tableswitch`, which is the switch of this number.
 pub fn table_switch(op: u8, number: u32) -> Instruction
-    ensures { (es : List entry.Entry) (ss : List switch.Switch) → instruction_of es ss result ≡ (if op == 0xaa then table_of (slice_get ss number) else Unlinked) }
+    ensures { MeansBySwitches result (table_at op number) }
 {
     match op {
         0xaa => Instruction::TableSwitch(number),
@@ -305,7 +287,7 @@ pub fn table_switch(op: u8, number: u32) -> Instruction
 
 /// A `lookupswitch`, which is the switch of this number.
 pub fn lookup_switch(op: u8, number: u32) -> Instruction
-    ensures { (es : List entry.Entry) (ss : List switch.Switch) → instruction_of es ss result ≡ (if op == 0xab then lookup_of (slice_get ss number) else Unlinked) }
+    ensures { MeansBySwitches result (lookup_at op number) }
 {
     match op {
         0xab => Instruction::LookupSwitch(number),

@@ -26,14 +26,14 @@ pub struct Text {
 }
 
 impl Model for Text {
-    ghost use Rattle.std.specs.Prelude.{◌≡◌, ℕ, List};
-    ghost use Rattle.class_link.specs.Symbols.{kind_stated, type_stated};
+    ghost use Rattle.std.specs.Prelude.{ℕ, List};
+    ghost use Rattle.class_link.specs.Texts.{States};
 
     ghost Value = { List ℕ };
 
     ghost view = { λ t. t.name };
 
-    ghost invariant = { λ t. (t.kind ≡ kind_stated t.name) × (t.args ≡ (type_stated t.name).args) × (t.result ≡ (type_stated t.name).ret) };
+    ghost invariant = { λ t. States t.name t.kind t.args t.result };
 }
 
 /// A constant pool and its texts. Contracts see the pool.
@@ -147,6 +147,23 @@ impl Text {
         let result = self.result.share()?;
         Ok((self.name.share()?, args, result))
     }
+
+    /// The text and its kind, kept nowhere else.
+    pub fn into_field(self) -> (Shared<Name>, Shared<Kind>)
+        ensures desc { result.0 ≡ self }
+        ensures kind { result.1 ≡ kind_stated self }
+    {
+        (self.name, self.kind)
+    }
+
+    /// The text and its arguments and result, kept nowhere else.
+    pub fn into_method(self) -> (Shared<Name>, Shared<Seq<Kind>>, Shared<Option<Kind>>)
+        ensures desc { result.0 ≡ self }
+        ensures args { result.1 ≡ (type_stated self).args }
+        ensures result { result.2 ≡ (type_stated self).ret }
+    {
+        (self.name, self.args, self.result)
+    }
 }
 
 fn text_in(alloc: Global, constant: &Const) -> Result<Option<Text>, Memory>
@@ -222,23 +239,14 @@ impl<'a> Texts<'a> {
         }
     }
 
-    /// The name of the pair of an index, empty where there is none.
-    pub fn pair_name(&self, index: u16) -> &Text
-        ensures { result.now ≡ name_or_empty (pair_name_of self.now index) }
+    /// The name and the descriptor of the pair of an index, empty where there are none.
+    pub fn pair(&self, index: u16) -> (&Text, &Text)
+        ensures name { result.0.now ≡ name_or_empty (pair_name_of self.now index) }
+        ensures desc { result.1.now ≡ name_or_empty (pair_desc_of self.now index) }
     {
         match self.entry(index) {
-            Some(Const::Pair(name, _)) => self.text(*name),
-            _ => &self.none,
-        }
-    }
-
-    /// The descriptor of the pair of an index, empty where there is none.
-    pub fn pair_desc(&self, index: u16) -> &Text
-        ensures { result.now ≡ name_or_empty (pair_desc_of self.now index) }
-    {
-        match self.entry(index) {
-            Some(Const::Pair(_, desc)) => self.text(*desc),
-            _ => &self.none,
+            Some(Const::Pair(name, desc)) => (self.text(*name), self.text(*desc)),
+            _ => (&self.none, &self.none),
         }
     }
 
