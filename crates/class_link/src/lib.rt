@@ -10,6 +10,7 @@ mod frames;
 mod info;
 mod instruction;
 mod laws;
+mod library_linking;
 mod line_table;
 mod linked;
 mod linking;
