@@ -1,17 +1,17 @@
 -- How the numbers of names are made, and how two classes of one name are found.
-use Rattle.std.proofs.Common.{◌≡◌, ◌∙◌, sym, refl, ap, ℕ, zero, suc, ◌+◌, ◌<◌, ◌≤◌, Bool, true, false, List, [], ◌∷◌, ◌++◌, length, Option, None, Some, slice_get, map, take, arith, subst}
-use Rattle.std.specs.Prelude.{nat_lt, if◌then◌else◌, cond, IsTrue}
+use Rattle.std.proofs.Common.{◌≡◌, ◌∙◌, sym, refl, ap, ℕ, zero, suc, ◌+◌, ◌<◌, ◌≤◌, Bool, true, false, List, [], ◌∷◌, ◌++◌, length, Option, None, Some, slice_get, map, take, arith}
+use Rattle.std.specs.Prelude.{not, if◌then◌else◌, cond, IsTrue}
 use Rattle.std.specs.Ordering.{nat_cmp, is_lt, is_le, ordering_reverse}
 use Rattle.std.specs.declared.cmp.Ordering.{Ordering}
 use Rattle.std.specs.declared.cmp.Ordering.TheVariants.{Less, Equal, Greater}
 use Rattle.std.specs.Cmp.Lexicographic.{slice_cmp, nat_list_cmp_total, bytes_decides}
-use Rattle.std.proofs.lemmas.List.{length-map}
-use Rattle.std.proofs.lemmas.Option.{slice_get_within}
 use Rattle.class_model.specs.Text.{text}
 use Rattle.program_rules.specs.Names.{Name, same}
 use Rattle.class_link.specs.Info.{Info}
-use Rattle.class_table.specs.Table.{names, number_of, place_from, place_in, name_or_none, IsDuplicate, IsLeastDuplicate}
-use Rattle.class_table.specs.Numbers.{with_number, is_before, lesser, is_place, judged, name_of, IsFirst, IsTold, IsVerdict}
+use Rattle.class_table.specs.Table.{names, number_of, place_from, place_in, name_or_none, AreDistinct, IsDuplicate, IsLeastDuplicate}
+use Rattle.class_table.specs.Numbers.{with_number, is_place}
+use Rattle.class_table.specs.Least.{IsMarked, IsLeastMarked}
+use Rattle.class_table.specs.Flaws.{repeated_from, repeated}
 use Rattle.class_table.proofs.Places.{name_at_place}
 
 -- ---- numbers
@@ -93,7 +93,7 @@ before_all xs ys zs lt le = third (slice_cmp nat_cmp ys zs) refl le
         less_is_le _ (there ∙ first)
     third Greater e h = absurd cc
 
--- ---- one name more is judged
+-- ---- a name that stands at a place
 
 placed_there : (place : Option ℕ) (i : ℕ) → is_place place i ≡ true → place ≡ Some i
 placed_there None i e = absurd cc
@@ -115,59 +115,57 @@ duplicate_at ns i m there other =
       two = there;
     }
 
--- A place below one more is below, or is that one.
-below_case : (P : ℕ → Type 0) (i k : ℕ) → k < i + 1 → (k < i → P k) → (k ≡ i → P k) → P k
-below_case P i k lt f g = below_with (nat_lt k i) refl
+-- ---- the names that are marked
+
+repeated_at : (ns : List Name) (i : ℕ) (ms : List Name) (k : ℕ) (m : Name) → slice_get ms k ≡ Some m → slice_get (repeated_from ns i ms) k ≡ Some (not (is_place (place_in ns m) (i + k)))
+repeated_at ns i [] k m h = absurd cc
+repeated_at ns i (x ∷ ms) zero m h = let e : x ≡ m = cc in let z : i ≡ i + 0 = omega arith in ap (λ y. Some (not (is_place (place_in ns y) i))) e ∙ ap (λ j. Some (not (is_place (place_in ns m) j))) z
+repeated_at ns i (x ∷ ms) (suc k) m h = let z : suc i + k ≡ i + suc k = omega arith in repeated_at ns (suc i) ms k m h ∙ ap (λ j. Some (not (is_place (place_in ns m) j))) z
+
+pub repeated_here : (ns : List Name) (k : ℕ) (m : Name) → slice_get ns k ≡ Some m → slice_get (repeated ns) k ≡ Some (not (is_place (place_in ns m) k))
+repeated_here ns k m h = repeated_at ns 0 ns k m h ∙ ap (λ j. Some (not (is_place (place_in ns m) j))) (let z : 0 + k ≡ k = omega arith in z)
+
+not_place : (b : Bool) → Some (not b) ≡ Some true → b ≡ false
+not_place true e = absurd cc
+not_place false e = refl
+
+first_place : (ns : List Name) (k : ℕ) (m : Name) → slice_get ns k ≡ Some m → (IsMarked (repeated ns) k → ⊥) → place_in ns m ≡ Some k
+first_place ns k m there unmarked = by_test (is_place (place_in ns m) k) refl
   where
-    below_with : (b : Bool) → nat_lt k i ≡ b → P k
-    below_with true e = f (let less : k < i = grind arith in less)
-    below_with false e = g (let same : k ≡ i = grind (arith, lt) in same)
+    by_test : (b : Bool) → is_place (place_in ns m) k ≡ b → place_in ns m ≡ Some k
+    by_test true e = placed_there (place_in ns m) k e
+    by_test false e = absurd (unmarked (repeated_here ns k m there ∙ ap (λ b. Some (not b)) e))
 
-told_first : (ns : List Name) (i : ℕ) (least : Option Name) → IsFirst ns i → IsTold ns i least → IsTold ns (i + 1) least
-told_first ns i None first h = λ k lt. below_case (IsFirst ns) i k lt (h k) (λ e. subst (IsFirst ns) (sym e) first)
-told_first ns i (Some n) first h =
-    (h.0, λ k lt other. below_case (λ k. (IsFirst ns k → ⊥) → IsTrue (is_le (cmp n (name_of ns k)))) i k lt (h.1 k) (λ e other. absurd (other (subst (IsFirst ns) (sym e) first))) other)
+-- No name is marked.
+pub are_distinct : (ns : List Name) → IsLeastMarked ns (repeated ns) None → AreDistinct ns
+are_distinct ns h i lt =
+    let there : slice_get ns i ≡ Some (name_or_none (slice_get ns i)) = there_at ns i lt in
+    first_place ns i (name_or_none (slice_get ns i)) there (h i (name_or_none (slice_get ns i)) there)
+  where
+    there_at : (ms : List Name) (k : ℕ) → k < length ms → slice_get ms k ≡ Some (name_or_none (slice_get ms k))
+    there_at [] k lt = absurd (omega (arith, lt))
+    there_at (x ∷ ms) zero lt = refl
+    there_at (x ∷ ms) (suc k) lt = there_at ms k (omega (arith, lt))
 
-told_lesser : (ns : List Name) (i : ℕ) (n m : Name) (b : Bool) → is_before m n ≡ b → name_of ns i ≡ m → IsDuplicate ns m → IsTold ns i (Some n) → IsTold ns (i + 1) (Some (if b then m else n))
-told_lesser ns i n m true lt at twice h =
-    (twice, λ k less other. below_case (λ k. (IsFirst ns k → ⊥) → IsTrue (is_le (cmp m (name_of ns k)))) i k less (λ below other. before_all (text m) (text n) (text (name_of ns k)) lt (h.1 k below other)) (λ e other. subst (λ x. IsTrue (is_le (cmp m x))) (sym (ap (name_of ns) e ∙ at)) (le_self (text m))) other)
-told_lesser ns i n m false lt at twice h =
-    (h.0, λ k less other. below_case (λ k. (IsFirst ns k → ⊥) → IsTrue (is_le (cmp n (name_of ns k)))) i k less (h.1 k) (λ e other. subst (λ x. IsTrue (is_le (cmp n x))) (sym (ap (name_of ns) e ∙ at)) (not_before (text n) (text m) lt)) other)
+-- The second of two places is marked.
+second_marked : (ns : List Name) (m : Name) (twice : IsDuplicate ns m) → IsMarked (repeated ns) twice.second
+second_marked ns m twice = by_test (is_place (place_in ns m) twice.second) refl
+  where
+    by_test : (b : Bool) → is_place (place_in ns m) twice.second ≡ b → IsMarked (repeated ns) twice.second
+    by_test false e = repeated_here ns twice.second m twice.two ∙ ap (λ b. Some (not b)) e
+    by_test true e =
+        let before = early m 0 twice.first ns twice.one in
+        let same : Some twice.second ≡ Some before.0 = sym (placed_there (place_in ns m) twice.second e) ∙ before.2 in
+        let one : twice.second ≡ before.0 = cc in
+        let le = before.1 in
+        let apart = twice.apart in
+        absurd (omega (arith, le, apart, one))
 
-told_second : (ns : List Name) (i : ℕ) (least : Option Name) (m : Name) → name_of ns i ≡ m → IsDuplicate ns m → IsTold ns i least → IsTold ns (i + 1) (Some (lesser least m))
-told_second ns i None m at twice h =
-    (twice, λ k less other. below_case (λ k. (IsFirst ns k → ⊥) → IsTrue (is_le (cmp m (name_of ns k)))) i k less (λ below other. absurd (other (h k below))) (λ e other. subst (λ x. IsTrue (is_le (cmp m x))) (sym (ap (name_of ns) e ∙ at)) (le_self (text m))) other)
-told_second ns i (Some n) m at twice h = told_lesser ns i n m (is_before m n) refl at twice h
-
-told_case : (ns : List Name) (i : ℕ) (least : Option Name) (m : Name) (b : Bool) → is_place (place_in ns m) i ≡ b → slice_get ns i ≡ Some m → IsTold ns i least → IsTold ns (i + 1) (if b then least else Some (lesser least m))
-told_case ns i least m true e there h =
-    told_first ns i least (ap (place_in ns) (ap name_or_none there) ∙ placed_there (place_in ns m) i e) h
-told_case ns i least m false e there h = told_second ns i least m (ap name_or_none there) (duplicate_at ns i m there e) h
-
-pub told_next : (ns : List Name) (i : ℕ) (least : Option Name) (m : Name) → slice_get ns i ≡ Some m → IsTold ns i least → IsTold ns (i + 1) (judged least (place_in ns m) i m)
-told_next ns i least m there h = told_case ns i least m (is_place (place_in ns m) i) refl there h
-
--- ---- what is told at the end
-
-pub told_least : (ns : List Name) (n : Name) → IsTold ns (length ns) (Some n) → IsLeastDuplicate ns n
-told_least ns n h = record {
-  duplicate = h.0;
-  least = λ m twice.
-      let within = slice_get_within ns twice.second m twice.two in
-      let at : name_of ns twice.second ≡ m = ap name_or_none twice.two in
-      let before = early m 0 twice.first ns twice.one in
-      let other : IsFirst ns twice.second → ⊥ = λ first.
-      let e : Some twice.second ≡ Some before.0 = sym first ∙ ap (place_in ns) at ∙ before.2 in
-      let le = before.1 in
-      let apart = twice.apart in
-      let same : twice.second ≡ before.0 = cc in
-      omega (arith, le, apart, same) in
-      subst (λ x. IsTrue (is_le (cmp n x))) at (h.1 twice.second within other);
+pub least_duplicate : (ns : List Name) (n : Name) → IsLeastMarked ns (repeated ns) (Some n) → IsLeastDuplicate ns n
+least_duplicate ns n h = record {
+  duplicate = duplicate_at ns h.place n h.there (not_place (is_place (place_in ns n) h.place) (sym (repeated_here ns h.place n h.there) ∙ h.marked));
+  least = λ m twice. h.least twice.second m twice.two (second_marked ns m twice);
 }
-
-verdict : (ns : List Name) (least : Option Name) → IsTold ns (length ns) least → IsVerdict ns least
-verdict ns None h = h
-verdict ns (Some n) h = told_least ns n h
 
 -- ---- one class more
 
@@ -191,13 +189,3 @@ module _ {A : Type 0} (f : A → Info) where
       let one : take (i + 1) xs ≡ take i xs ++ x ∷ [] = ap (λ k. take k xs) (let e : i + 1 ≡ suc i = omega arith in e) ∙ take_next xs i x h in
       ap (λ l. number_of (map f l) q) one ∙ ap (λ l. place_in l q) (names_append (take i xs) x) ∙ place_append q (f x).name (names (map f (take i xs)))
       ∙ ap (with_number (number_of (map f (take i xs)) q) (same (f x).name q)) (taken_long xs i x h)
-
-  pub name_there : (xs : List A) (i : ℕ) (x : A) → slice_get xs i ≡ Some x → slice_get (names (map f xs)) i ≡ Some (f x).name
-  name_there [] i x h = absurd cc
-  name_there (y ∷ xs) zero x h = let e : y ≡ x = cc in ap (λ z. Some (f z).name) e
-  name_there (y ∷ xs) (suc i) x h = name_there xs i x h
-
-  pub told_all : (xs : List A) (least : Option Name) → IsTold (names (map f xs)) (length xs) least → IsVerdict (names (map f xs)) least
-  told_all xs least h =
-      let long : length xs ≡ length (names (map f xs)) = sym (length-map (map f xs) (λ i. i.name) ∙ length-map xs f) in
-      verdict (names (map f xs)) least (subst (λ k. IsTold (names (map f xs)) k least) long h)

@@ -64,13 +64,9 @@ module _ (ns : List Name) (marks : List Bool) (i : ℕ) (n : Name) (there : slic
   }
   marked_next (Some l) mark h = marked_lesser l (is_lt (slice_cmp nat_cmp (text n) l.bytes)) refl mark h
 
-  pub least_next : (least : Option Least) → IsLeastSoFar ns marks i least → IsLeastSoFar ns marks (i + 1) (considered (slice_get marks i) least i n)
-  least_next least h = by_mark (slice_get marks i) refl
-    where
-      by_mark : (o : Option Bool) → slice_get marks i ≡ o → IsLeastSoFar ns marks (i + 1) (considered o least i n)
-      by_mark None e = not_marked least (λ m. let q : None ≡ Some true = sym e ∙ m in absurd cc) h
-      by_mark (Some false) e = not_marked least (λ m. let q : Some false ≡ Some true = sym e ∙ m in absurd cc) h
-      by_mark (Some true) e = marked_next least e h
+  pub least_next : (least : Option Least) (b : Bool) → slice_get marks i ≡ Some b → IsLeastSoFar ns marks i least → IsLeastSoFar ns marks (i + 1) (considered b least i n)
+  least_next least false e h = not_marked least (λ m. let q : Some false ≡ Some true = sym e ∙ m in absurd cc) h
+  least_next least true e h = marked_next least e h
 
 -- ---- the name at the end
 

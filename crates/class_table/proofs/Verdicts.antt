@@ -5,7 +5,7 @@ use Rattle.std.specs.List.{list_any}
 use Rattle.std.specs.Option.{option_map, option_to_list}
 use Rattle.std.specs.Cmp.Lexicographic.{same_text, bytes_decides}
 use Rattle.std.proofs.lemmas.List.{length-map}
-use Rattle.std.proofs.lemmas.Option.{slice_get-map, slice_get_within, slice_get-get_or}
+use Rattle.std.proofs.lemmas.Option.{slice_get-map, slice_get_within}
 use Rattle.program_rules.specs.Names.{Name, same, is_listed}
 use Rattle.program_rules.specs.Linked.{parents_of, parents_with}
 use Rattle.program_rules.specs.Programs.{Look}
@@ -81,6 +81,77 @@ each_false : (test : Name → Bool) (m : Name) (ns : List Name) → list_any tes
 each_false test m [] e k h = absurd cc
 each_false test m (x ∷ xs) e zero h = let q : x ≡ m = cc in subst (λ y. test y ≡ false) q (or_left (test x) (list_any test xs) e)
 each_false test m (x ∷ xs) e (suc k) h = each_false test m xs (or_right (test x) (list_any test xs) e) k h
+
+-- ---- supers by number
+
+module _ (p : List Info) where
+  known_named : (ns : List Name) (k b : ℕ) → slice_get (numbers_known p ns) k ≡ Some b → (is_listed (name_at p b) ns ≡ true) × (b < length p)
+  known_named [] k b h = absurd cc
+  known_named (n ∷ ns) k b h = by_number (number_of p n) refl k (subst (λ o. slice_get (option_to_list o ++ numbers_known p ns) k ≡ Some b) refl h) (λ j e. known_named ns j b e)
+    where
+      second : (is_listed (name_at p b) ns ≡ true) × (b < length p) → (is_listed (name_at p b) (n ∷ ns) ≡ true) × (b < length p)
+      second r = (or_second (same n (name_at p b)) (is_listed (name_at p b) ns) r.0, r.1)
+
+      by_number : (o : Option ℕ) → number_of p n ≡ o → (k : ℕ) → slice_get (option_to_list (number_of p n) ++ numbers_known p ns) k ≡ Some b → ((j : ℕ) → slice_get (numbers_known p ns) j ≡ Some b → (is_listed (name_at p b) ns ≡ true) × (b < length p)) → (is_listed (name_at p b) (n ∷ ns) ≡ true) × (b < length p)
+      by_number None e k h rest = second (rest k (subst (λ o. slice_get (option_to_list o ++ numbers_known p ns) k ≡ Some b) e h))
+      by_number (Some c) e zero h rest =
+          let q : slice_get (c ∷ numbers_known p ns) 0 ≡ Some b = subst (λ o. slice_get (option_to_list o ++ numbers_known p ns) 0 ≡ Some b) e h in
+          let one : c ≡ b = cc in
+          let number : number_of p n ≡ Some b = e ∙ ap Some one in
+          let name : name_at p b ≡ n = number_named p n b number in
+          (subst (λ x. (same n x || is_listed x ns) ≡ true) (sym name) (subst (λ t. (t || is_listed n ns) ≡ true) (sym (same_itself n)) refl), number_within p n b number)
+      by_number (Some c) e (suc j) h rest = second (rest j (subst (λ o. slice_get (option_to_list o ++ numbers_known p ns) (suc j) ≡ Some b) e h))
+
+  known_has : (m : Name) (b : ℕ) (ns : List Name) → is_listed m ns ≡ true → number_of p m ≡ Some b → (k : ℕ) × (slice_get (numbers_known p ns) k ≡ Some b)
+  known_has m b [] e number = absurd cc
+  known_has m b (n ∷ ns) e number = by_test (same n m) refl (λ h. known_has m b ns h number)
+    where
+      behind : (o : Option ℕ) → (k : ℕ) × (slice_get (numbers_known p ns) k ≡ Some b) → (k : ℕ) × (slice_get (option_to_list o ++ numbers_known p ns) k ≡ Some b)
+      behind None r = r
+      behind (Some c) r = (suc r.0, r.1)
+
+      by_test : (t : Bool) → same n m ≡ t → (is_listed m ns ≡ true → (k : ℕ) × (slice_get (numbers_known p ns) k ≡ Some b)) → (k : ℕ) × (slice_get (numbers_known p (n ∷ ns)) k ≡ Some b)
+      by_test true q rest = (0, subst (λ o. slice_get (option_to_list o ++ numbers_known p ns) 0 ≡ Some b) (sym (ap (number_of p) (same_text n m (sym q)) ∙ number)) refl)
+      by_test false q rest = behind (number_of p n) (rest (subst (λ t. (t || is_listed m ns) ≡ true) q e))
+
+  module _ (g : List Links) (links : AreLinks p g) where
+    parents_known : (o : Option Name) (is : List Name) → with_parent (option_and_then (number_of p) o) (numbers_known p is) ≡ numbers_known p (parents_with o is)
+    parents_known None is = refl
+    parents_known (Some n) is = by_number (number_of p n) refl
+      where
+        by_number : (o : Option ℕ) → number_of p n ≡ o → with_parent (number_of p n) (numbers_known p is) ≡ option_to_list (number_of p n) ++ numbers_known p is
+        by_number None e = subst (λ x. with_parent x (numbers_known p is) ≡ option_to_list x ++ numbers_known p is) (sym e) refl
+        by_number (Some k) e = subst (λ x. with_parent x (numbers_known p is) ≡ option_to_list x ++ numbers_known p is) (sym e) refl
+
+    pub supers_known : (a : ℕ) (i : Info) → slice_get p a ≡ Some i → supers_at g a ≡ numbers_known p (parents_of (Some (class_of i)))
+    supers_known a i h = by_links (slice_get g a) refl
+      where
+        by_links : (o : Option Links) → slice_get g a ≡ o → supers_at g a ≡ numbers_known p (parents_of (Some (class_of i)))
+        by_links None e =
+            let w = slice_get_within p a i h in
+            let each = links.each in
+            absurd (none_past g a e (omega (arith, w, each)))
+        by_links (Some l) e =
+            let fit = links.fit a i l h e in
+            ap supers_in e ∙ ap (λ o. with_parent o l.interfaces.items) fit.parent ∙ ap (with_parent (option_and_then (number_of p) (class_of i).parent)) fit.interfaces ∙ parents_known (class_of i).parent (class_of i).interfaces
+
+    pub links_within : AreWithin g (length g)
+    links_within a k b h = by_links (slice_get p a) refl
+      where
+        each : length g ≡ length p
+        each = links.each
+
+        by_links : (o : Option Info) → slice_get p a ≡ o → b < length g
+        by_links None e =
+            by_get (slice_get g a) refl
+          where
+            by_get : (o : Option Links) → slice_get g a ≡ o → b < length g
+            by_get None q = let z : slice_get {X = ℕ} [] k ≡ Some b = subst (λ x. slice_get (supers_in x) k ≡ Some b) q h in absurd cc
+            by_get (Some l) q = let w = slice_get_within g a l q in absurd (none_past p a e (omega (arith, w, each)))
+        by_links (Some i) e =
+            let r = known_named (parents_of (Some (class_of i))) k b (subst (λ l. slice_get l k ≡ Some b) (supers_known a i e) h) in
+            let lt = r.1 in
+            omega (arith, lt, each)
 
 module _ (p : List Info) (distinct : AreDistinct (names p)) where
   -- the class of a name that stands among the names
@@ -158,58 +229,9 @@ module _ (p : List Info) (distinct : AreDistinct (names p)) where
   pub none_wrong : IsLeastMarked (names p) (map (names_wrong p) p) None → (m : Name) → is_super_of_wrong_kind (look p) m ≡ false
   none_wrong h m = tested_none is_super_of_wrong_kind (names_wrong p) wrong_agrees wrong_none h m
 
-  -- ---- supers by number
-
-  known_named : (ns : List Name) (k b : ℕ) → slice_get (numbers_known p ns) k ≡ Some b → (is_listed (name_at p b) ns ≡ true) × (b < length p)
-  known_named [] k b h = absurd cc
-  known_named (n ∷ ns) k b h = by_number (number_of p n) refl k (subst (λ o. slice_get (option_to_list o ++ numbers_known p ns) k ≡ Some b) refl h) (λ j e. known_named ns j b e)
-    where
-      second : (is_listed (name_at p b) ns ≡ true) × (b < length p) → (is_listed (name_at p b) (n ∷ ns) ≡ true) × (b < length p)
-      second r = (or_second (same n (name_at p b)) (is_listed (name_at p b) ns) r.0, r.1)
-
-      by_number : (o : Option ℕ) → number_of p n ≡ o → (k : ℕ) → slice_get (option_to_list (number_of p n) ++ numbers_known p ns) k ≡ Some b → ((j : ℕ) → slice_get (numbers_known p ns) j ≡ Some b → (is_listed (name_at p b) ns ≡ true) × (b < length p)) → (is_listed (name_at p b) (n ∷ ns) ≡ true) × (b < length p)
-      by_number None e k h rest = second (rest k (subst (λ o. slice_get (option_to_list o ++ numbers_known p ns) k ≡ Some b) e h))
-      by_number (Some c) e zero h rest =
-          let q : slice_get (c ∷ numbers_known p ns) 0 ≡ Some b = subst (λ o. slice_get (option_to_list o ++ numbers_known p ns) 0 ≡ Some b) e h in
-          let one : c ≡ b = cc in
-          let number : number_of p n ≡ Some b = e ∙ ap Some one in
-          let name : name_at p b ≡ n = number_named p n b number in
-          (subst (λ x. (same n x || is_listed x ns) ≡ true) (sym name) (subst (λ t. (t || is_listed n ns) ≡ true) (sym (same_itself n)) refl), number_within p n b number)
-      by_number (Some c) e (suc j) h rest = second (rest j (subst (λ o. slice_get (option_to_list o ++ numbers_known p ns) (suc j) ≡ Some b) e h))
-
-  known_has : (m : Name) (b : ℕ) (ns : List Name) → is_listed m ns ≡ true → number_of p m ≡ Some b → (k : ℕ) × (slice_get (numbers_known p ns) k ≡ Some b)
-  known_has m b [] e number = absurd cc
-  known_has m b (n ∷ ns) e number = by_test (same n m) refl (λ h. known_has m b ns h number)
-    where
-      behind : (o : Option ℕ) → (k : ℕ) × (slice_get (numbers_known p ns) k ≡ Some b) → (k : ℕ) × (slice_get (option_to_list o ++ numbers_known p ns) k ≡ Some b)
-      behind None r = r
-      behind (Some c) r = (suc r.0, r.1)
-
-      by_test : (t : Bool) → same n m ≡ t → (is_listed m ns ≡ true → (k : ℕ) × (slice_get (numbers_known p ns) k ≡ Some b)) → (k : ℕ) × (slice_get (numbers_known p (n ∷ ns)) k ≡ Some b)
-      by_test true q rest = (0, subst (λ o. slice_get (option_to_list o ++ numbers_known p ns) 0 ≡ Some b) (sym (ap (number_of p) (same_text n m (sym q)) ∙ number)) refl)
-      by_test false q rest = behind (number_of p n) (rest (subst (λ t. (t || is_listed m ns) ≡ true) q e))
+  -- ---- supers by number, as they are by name
 
   module _ (g : List Links) (links : AreLinks p g) where
-    parents_known : (o : Option Name) (is : List Name) → with_parent (option_and_then (number_of p) o) (numbers_known p is) ≡ numbers_known p (parents_with o is)
-    parents_known None is = refl
-    parents_known (Some n) is = by_number (number_of p n) refl
-      where
-        by_number : (o : Option ℕ) → number_of p n ≡ o → with_parent (number_of p n) (numbers_known p is) ≡ option_to_list (number_of p n) ++ numbers_known p is
-        by_number None e = subst (λ x. with_parent x (numbers_known p is) ≡ option_to_list x ++ numbers_known p is) (sym e) refl
-        by_number (Some k) e = subst (λ x. with_parent x (numbers_known p is) ≡ option_to_list x ++ numbers_known p is) (sym e) refl
-
-    pub supers_known : (a : ℕ) (i : Info) → slice_get p a ≡ Some i → supers_at g a ≡ numbers_known p (parents_of (Some (class_of i)))
-    supers_known a i h = by_links (slice_get g a) refl
-      where
-        by_links : (o : Option Links) → slice_get g a ≡ o → supers_at g a ≡ numbers_known p (parents_of (Some (class_of i)))
-        by_links None e =
-            let w = slice_get_within p a i h in
-            let each = links.each in
-            absurd (none_past g a e (omega (arith, w, each)))
-        by_links (Some l) e =
-            let fit = links.fit a i l h e in
-            ap supers_in e ∙ ap (λ o. with_parent o l.interfaces.items) fit.parent ∙ ap (with_parent (option_and_then (number_of p) (class_of i).parent)) fit.interfaces ∙ parents_known (class_of i).parent (class_of i).interfaces
-
     -- a super by number is one by name
     pub step_named : (a k b : ℕ) → slice_get (supers_at g a) k ≡ Some b → a < length p → (is_listed (name_at p b) (parents_of (look p (name_at p a))) ≡ true) × (b < length p)
     step_named a k b h lt = by_class (slice_get p a) refl
@@ -217,7 +239,7 @@ module _ (p : List Info) (distinct : AreDistinct (names p)) where
         by_class : (o : Option Info) → slice_get p a ≡ o → (is_listed (name_at p b) (parents_of (look p (name_at p a))) ≡ true) × (b < length p)
         by_class None e = absurd (none_past p a e lt)
         by_class (Some i) e =
-            let r = known_named (parents_of (Some (class_of i))) k b (subst (λ l. slice_get l k ≡ Some b) (supers_known a i e) h) in
+            let r = known_named p (parents_of (Some (class_of i))) k b (subst (λ l. slice_get l k ≡ Some b) (supers_known p g links a i e) h) in
             (subst (λ o. is_listed (name_at p b) (parents_of o) ≡ true) (sym (look_at p a i distinct e)) r.0, r.1)
 
     pub leads_below : (b c : ℕ) → Leads g b c → (n : Name) → is_listed (name_at p b) (parents_of (look p n)) ≡ true → b < length p → IsBelow (look p) n (name_at p c)
@@ -230,24 +252,6 @@ module _ (p : List Info) (distinct : AreDistinct (names p)) where
     cyclic_named a lt h =
         let r = step_named a h.place h.over h.names lt in
         leads_below h.over a h.back (name_at p a) r.0 r.1
-
-    pub links_within : AreWithin g (length g)
-    links_within a k b h = by_links (slice_get p a) refl
-      where
-        each : length g ≡ length p
-        each = links.each
-
-        by_links : (o : Option Info) → slice_get p a ≡ o → b < length g
-        by_links None e =
-            by_get (slice_get g a) refl
-          where
-            by_get : (o : Option Links) → slice_get g a ≡ o → b < length g
-            by_get None q = let z : slice_get {X = ℕ} [] k ≡ Some b = subst (λ x. slice_get (supers_in x) k ≡ Some b) q h in absurd cc
-            by_get (Some l) q = let w = slice_get_within g a l q in absurd (none_past p a e (omega (arith, w, each)))
-        by_links (Some i) e =
-            let r = step_named a k b h (slice_get_within p a i e) in
-            let lt = r.1 in
-            omega (arith, lt, each)
 
     module _ (present : (n : Name) → is_super_missing (look p) n ≡ false) where
       -- a super that is named is there
@@ -276,8 +280,8 @@ module _ (p : List Info) (distinct : AreDistinct (names p)) where
           let c = class_number n m listed in
           let one : c.0 ≡ a = one_item (number_of p n) c.0 a c.1 na in
           let at : slice_get p a ≡ Some c.2 = subst (λ x. slice_get p x ≡ Some c.2) one c.3 in
-          let r = known_has m b (parents_of (Some (class_of c.2))) (subst (λ o. is_listed m (parents_of o) ≡ true) c.4 listed) nb in
-          (r.0, subst (λ l. slice_get l r.0 ≡ Some b) (sym (supers_known a c.2 at)) r.1)
+          let r = known_has p m b (parents_of (Some (class_of c.2))) (subst (λ o. is_listed m (parents_of o) ≡ true) c.4 listed) nb in
+          (r.0, subst (λ l. slice_get l r.0 ≡ Some b) (sym (supers_known p g links a c.2 at)) r.1)
 
       pub below_leads : (n m : Name) → IsBelow (look p) n m → (a b : ℕ) → number_of p n ≡ Some a → number_of p m ≡ Some b → (k : ℕ) × (over : ℕ) × (slice_get (supers_at g a) k ≡ Some over) × Leads g over b
       below_leads n m (next x y listed) a b na nb =
@@ -375,6 +379,10 @@ module _ (p : List Info) (distinct : AreDistinct (names p)) where
             let each = links.each in
             h c.0 m c.2 (own_marked c.0 (omega (arith, lt, each)) (own_number m c.0 has c.1))
 
+        -- where no class stands above itself, none is marked
+        pub none_marked : ((m : Name) → IsOwnSuper (look p) m → ⊥) → (k : ℕ) → IsMarked (map is_cyclic found) k → k < length p → ⊥
+        none_marked acyclic k mark lt = acyclic (name_at p k) (cyclic_named k lt (right.fit k Cyclic (marked_cyclic k mark)))
+
 -- ---- ranks
 
 module _ (p : List Info) (g : List Links) (links : AreLinks p g) (found : List Standing) (right : AreStandings g found) (none : (k : ℕ) → IsMarked (map is_cyclic found) k → k < length p → ⊥) where
@@ -420,13 +428,3 @@ module _ (p : List Info) (g : List Links) (links : AreLinks p g) (found : List S
 
   pub are_falling : AreRanked g found
   are_falling a b s = lower a s.place b s.there
-
--- ---- together
-
--- No mark means no mark at a place.
-pub unmarked : (p : List Info) (marks : List Bool) → IsLeastMarked (names p) marks None → (k : ℕ) → IsMarked marks k → k < length p → ⊥
-unmarked p marks h k mark lt = h k _ (slice_get-map (λ i. i.name) p k ∙ ap (option_map (λ i. i.name)) (slice_get-get_or p k (some_class p k lt) lt)) mark
-  where
-    some_class : (p : List Info) (k : ℕ) → k < length p → Info
-    some_class [] k lt = absurd (omega (arith, lt))
-    some_class (i ∷ is) k lt = i

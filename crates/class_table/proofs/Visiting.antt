@@ -175,7 +175,7 @@ module _ (p : List Info) where
         by_class None e = absurd (none_past p a e lt)
         by_class (Some i) e =
             let says : look p (name_at p a) ≡ Some (class_of i) = look_at p a i ok.distinct e in
-            ap (map (name_at p)) (sym own ∙ supers_known p ok.distinct s.links.items are.links a i e)
+            ap (map (name_at p)) (sym own ∙ supers_known p s.links.items are.links a i e)
             ∙ names_known (parents_of (Some (class_of i))) (λ m listed. super_number p ok.distinct s.links.items are.links ok.present (name_at p a) m (subst (λ o. is_listed m (parents_of o) ≡ true) (sym says) listed))
             ∙ ap parents_of (sym says)
 

@@ -1,14 +1,17 @@
 -- Whether given classes are a program, and which fault is told where they are none: two classes of
 -- one name, a super that is missing, a class above itself, a super of a wrong kind, each over all
 -- classes by name before the next (this project's own).
-use Rattle.std.specs.Prelude.{◌≡◌, false, List, map, Option, slice_get, option_and_then, IsTrue}
+use Rattle.std.specs.Prelude.{◌≡◌, false, ⊤, List, map, Option, slice_get, option_and_then, IsTrue, Result, Err}
 use Rattle.std.specs.Option.{option_map}
 use Rattle.program_rules.specs.Names.{Name}
 use Rattle.program_rules.specs.Programs.{Look}
 use Rattle.class_order.specs.Supers.{is_super_missing, IsOwnSuper, is_super_of_wrong_kind, IsLeastWith}
 use Rattle.class_link.specs.declared.loaded.ClassBody.{ClassBody}
 use Rattle.class_link.specs.Info.{body_name, link_body}
-use Rattle.class_table.specs.Table.{place_in, AreDistinct}
+use Rattle.class_table.specs.declared.fault.TableFault.{TableFault}
+use Rattle.class_table.specs.declared.fault.TableFault.TheVariants.{Duplicate, SuperMissing, SuperCycle, SuperKind}
+use Rattle.class_table.specs.declared.fault.TableFault.TheVariants as fault
+use Rattle.class_table.specs.Table.{place_in, AreDistinct, IsLeastDuplicate}
 
 -- The class that these have for a name: of several the first.
 abbrev pub body_named : List ClassBody → Name → Option ClassBody
@@ -54,6 +57,27 @@ pub record IsWrongFirst (ns : List Name) (p : Look) (n : Name) : Type 0 where
   pub present : HaveSupers p
   pub acyclic : IsAcyclic p
   pub least : IsLeastWith ns (λ m. IsTrue (is_super_of_wrong_kind p m)) n
+
+-- Their first fault is this one. Want of memory says nothing of them.
+abbrev pub IsFirstFault : List Name → Look → TableFault → Type 0
+IsFirstFault ns p (Duplicate n) = IsLeastDuplicate ns n
+IsFirstFault ns p (SuperMissing n) = MissesFirst ns p n
+IsFirstFault ns p (SuperCycle n) = CyclesFirst ns p n
+IsFirstFault ns p (SuperKind n) = IsWrongFirst ns p n
+IsFirstFault ns p fault.Memory = ⊤
+
+-- What is so where an answer is this fault of a class.
+abbrev pub IfDuplicate : {A : Type 0} → Result A TableFault → (Name → Type 0) → Type 0
+IfDuplicate result Says = (n : Name) → result ≡ Err (Duplicate n) → Says n
+
+abbrev pub IfSuperMissing : {A : Type 0} → Result A TableFault → (Name → Type 0) → Type 0
+IfSuperMissing result Says = (n : Name) → result ≡ Err (SuperMissing n) → Says n
+
+abbrev pub IfSuperCycle : {A : Type 0} → Result A TableFault → (Name → Type 0) → Type 0
+IfSuperCycle result Says = (n : Name) → result ≡ Err (SuperCycle n) → Says n
+
+abbrev pub IfSuperKind : {A : Type 0} → Result A TableFault → (Name → Type 0) → Type 0
+IfSuperKind result Says = (n : Name) → result ≡ Err (SuperKind n) → Says n
 
 -- ---- the same of given classes
 

@@ -34,10 +34,9 @@ lesser_at (Some l) at n =
     if is_lt (slice_cmp nat_cmp (text n) l.bytes) then record { at = at; bytes = text n } else l
 
 -- The lesser of a class and this one, if this one has a mark.
-abbrev pub considered : Option Bool → Option Least → ℕ → Name → Option Least
-considered None least at n = least
-considered (Some false) least at n = least
-considered (Some true) least at n = Some (lesser_at least at n)
+abbrev pub considered : Bool → Option Least → ℕ → Name → Option Least
+considered false least at n = least
+considered true least at n = Some (lesser_at least at n)
 
 -- This is the least name of a marked class.
 pub record IsLeastName (ns : List Name) (marks : List Bool) (n : Name) : Type 0 where

@@ -8,3 +8,4 @@ pub mod Words
 pub mod Least
 pub mod Supers
 pub mod Faults
+pub mod Flaws

@@ -1,13 +1,18 @@
-//! The class with the least name among those that are marked.
+//! The class with the least name among those that are what none may be.
 
-ghost use Rattle.std.specs.Prelude.{◌≡◌, ◌<◌, length, IfOk, slice_get, Some};
+ghost use Rattle.std.specs.Prelude.{◌≡◌, ◌<◌, ◌^◌, length, IfOk, slice_get, Some};
 ghost use Rattle.class_table.specs.Adding.{shared};
-ghost use Rattle.class_table.specs.Least.{IsLeastSoFar, lesser_at, considered, IsLeastMarked};
+ghost use Rattle.class_table.specs.Flaws.{IsLeastUpTo, IsLeastFlawed};
+ghost use Rattle.class_table.specs.Least.{lesser_at, considered};
+ghost use Rattle.class_table.specs.Numbers.{IsNumbering};
 ghost use Rattle.class_table.specs.Table.{names};
 
+use crate::flaws::{Flaw, has_flaw};
 use class_link::ClassInfo;
 use class_model::{Bytes, Memory, Name, write_text};
+use class_order::Standing;
 use std::alloc::Global;
+use std::collections::HashMap;
 use std::sync::Arc;
 
 /// A class by its place, and the bytes of its name.
@@ -34,44 +39,55 @@ fn lesser_at(alloc: Global, least: Option<Least>, at: usize, name: &Name) -> Res
 // The lesser of a class and this one, if this one is marked.
 fn consider(
     alloc: Global,
-    marks: &[bool],
+    is_marked: bool,
     least: Option<Least>,
     at: usize,
     name: &Name,
 ) -> Result<Option<Least>, Memory>
-    ensures { IfOk result (λ l. l ≡ considered (slice_get marks.now at) least at name.now) }
+    ensures { IfOk result (λ l. l ≡ considered is_marked least at name.now) }
 {
-    match marks.get(at) {
-        Some(true) => Ok(Some(lesser_at(alloc, least, at, name)?)),
-        _ => Ok(least),
-    }
-}
-
-// The least of the classes that are marked.
-fn least_at(
-    alloc: Global,
-    infos: &[Arc<ClassInfo, Global>],
-    marks: &[bool],
-) -> Result<Option<Least>, Memory>
-    ensures { IfOk result (λ l. IsLeastSoFar (names (shared infos.now)) marks.now (length infos.now) l) }
-{
-    let mut least = None;
-    for (i, info) in infos.iter().enumerate() {
-        least = consider(alloc, marks, least, i, info.name())?;
+    if is_marked {
+        return Ok(Some(lesser_at(alloc, least, at, name)?));
     }
     Ok(least)
 }
 
-/// The least name of the classes that are marked, in the order of their bytes. It takes time by the
-/// lengths of these names.
-pub fn least_marked(
+// The least of the classes that are what none may be.
+fn least_at(
     alloc: Global,
     infos: &[Arc<ClassInfo, Global>],
-    marks: &[bool],
-) -> Result<Option<Name>, Memory>
-    ensures { IfOk result (λ least. IsLeastMarked (names (shared infos.now)) marks.now least) }
+    numbers: &HashMap<Name, u32>,
+    found: &[Standing],
+    flaw: Flaw,
+) -> Result<Option<Least>, Memory>
+    requires numbers { IsNumbering numbers.now (shared infos.now) }
+    requires few { length infos.now < 2 ^ 32 }
+    requires found { length found.now ≡ length infos.now }
+    ensures { IfOk result (IsLeastUpTo flaw (shared infos.now) found.now (length infos.now)) }
 {
-    let Some(least) = least_at(alloc, infos, marks)? else {
+    let mut least = None;
+    for (i, info) in infos.iter().enumerate() {
+        let is_marked = has_flaw(infos, numbers, found, flaw, i, info);
+        least = consider(alloc, is_marked, least, i, info.name())?;
+    }
+    Ok(least)
+}
+
+/// The least name of the classes that are what none may be, in the order of their bytes. It takes
+/// time by the lengths of these names.
+pub fn least_with(
+    alloc: Global,
+    infos: &[Arc<ClassInfo, Global>],
+    numbers: &HashMap<Name, u32>,
+    found: &[Standing],
+    flaw: Flaw,
+) -> Result<Option<Name>, Memory>
+    requires numbers { IsNumbering numbers.now (shared infos.now) }
+    requires few { length infos.now < 2 ^ 32 }
+    requires found { length found.now ≡ length infos.now }
+    ensures { IfOk result (IsLeastFlawed flaw (shared infos.now) found.now) }
+{
+    let Some(least) = least_at(alloc, infos, numbers, found, flaw)? else {
         return Ok(None);
     };
     Ok(Some(name_at(infos, least.at)?))

@@ -4,6 +4,7 @@
 mod calls;
 mod consulted;
 mod fault;
+mod flaws;
 mod least;
 mod numbering;
 mod program;
@@ -11,6 +12,7 @@ mod scripted;
 mod supers;
 mod tasks;
 mod upwards;
+mod verdict;
 mod words;
 
 pub use class_link::{

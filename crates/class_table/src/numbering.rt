@@ -1,17 +1,17 @@
-//! The numbers of a program's classes by their names.
+//! The classes of a program with what they mean, and their numbers by their names.
 
 ghost use Rattle.std.specs.Prelude.{◌≡◌, ◌<◌, ◌^◌, ℕ, List, All, map, length, IfOk, OnOk};
 ghost use Rattle.std.specs.Arc.{arc_value};
 ghost use Rattle.class_link.specs.Info.{IsInfo, body_name};
-ghost use Rattle.class_table.specs.Table.{bodies_of, names};
+ghost use Rattle.class_table.specs.Table.{bodies_of};
 ghost use Rattle.std.specs.HashMap.{get};
 ghost use Rattle.program_rules.specs.Names.{same};
 ghost use Rattle.class_link.specs.declared.loaded.ClassBody.TheVariants.{File, Library};
 ghost use Rattle.class_table.specs.Adding.{shared, AreClassesOf, AddsClasses, KeepsMeant};
-ghost use Rattle.class_table.specs.Numbers.{IsNumbering, with_number, is_before, lesser, is_place, judged, IsTold, IsVerdict};
+ghost use Rattle.class_table.specs.Numbers.{IsNumbering, with_number};
 
 use class_link::{ClassBody, ClassInfo, LibClass, Loaded, Shared};
-use class_model::{Memory, Name, write_text};
+use class_model::{Memory, Name};
 use std::alloc::Global;
 use std::collections::HashMap;
 use std::sync::Arc;
@@ -105,81 +105,4 @@ pub fn numbers(
         add_name(&mut numbers, info.name(), i as u32)?;
     }
     Ok(numbers)
-}
-
-// Whether the bytes of a name come before those of another one.
-fn is_before(alloc: Global, name: &Name, other: &Name) -> Result<bool, Memory>
-    ensures { IfOk result (λ b. b ≡ is_before name.now other.now) }
-{
-    let bytes = write_text(alloc, name)?;
-    let other_bytes = write_text(alloc, other)?;
-    Ok(bytes.cmp(&other_bytes).is_lt())
-}
-
-// The lesser of two names.
-fn lesser(alloc: Global, least: Option<Name>, name: &Name) -> Result<Name, Memory>
-    ensures { IfOk result (λ n. n ≡ lesser least name.now) }
-{
-    let Some(least) = least else {
-        return Ok(name.copy()?);
-    };
-    if is_before(alloc, name, &least)? {
-        return Ok(name.copy()?);
-    }
-    Ok(least)
-}
-
-fn is_place(numbers: &HashMap<Name, u32>, name: &Name, i: u32) -> bool
-    ensures { result ≡ is_place (get same numbers.now name.now) i }
-{
-    match numbers.get(name) {
-        Some(number) => *number == i,
-        None => false,
-    }
-}
-
-// The least name that has a place before its own one.
-fn judge(
-    alloc: Global,
-    numbers: &HashMap<Name, u32>,
-    least: Option<Name>,
-    name: &Name,
-    i: u32,
-) -> Result<Option<Name>, Memory>
-    ensures { IfOk result (λ l. l ≡ judged least (get same numbers.now name.now) i name.now) }
-{
-    if is_place(numbers, name, i) {
-        return Ok(least);
-    }
-    Ok(Some(lesser(alloc, least, name)?))
-}
-
-fn judge_all(
-    alloc: Global,
-    infos: &[Arc<ClassInfo, Global>],
-    numbers: &HashMap<Name, u32>,
-) -> Result<Option<Name>, Memory>
-    requires few { length infos.now < 2 ^ 32 }
-    requires numbers { IsNumbering numbers.now (shared infos.now) }
-    ensures { IfOk result (λ least. IsTold (names (shared infos.now)) (length infos.now) least) }
-{
-    let mut least = None;
-    for (i, info) in infos.iter().enumerate() {
-        least = judge(alloc, numbers, least, info.name(), i as u32)?;
-    }
-    Ok(least)
-}
-
-/// The least name that two of the classes have, if there is one.
-#[tactic(auto, using(crate::proofs::Duplicates::told_all))]
-pub fn least_duplicate(
-    alloc: Global,
-    infos: &[Arc<ClassInfo, Global>],
-    numbers: &HashMap<Name, u32>,
-) -> Result<Option<Name>, Memory>
-    requires few { length infos.now < 2 ^ 32 }
-    requires numbers { IsNumbering numbers.now (shared infos.now) }
-    ensures { IfOk result (λ least. IsVerdict (names (shared infos.now)) least) }
-{
-    Ok(judge_all(alloc, infos, numbers)?)
 }

@@ -1,6 +1,6 @@
 //! The classes of a program by number and by name.
 
-ghost use Rattle.std.specs.Prelude.{◌≡◌, ◌<◌, ◌^◌, ℕ, List, All, map, length, slice_get, slice_set, Some, None, Err, IfOk, OnOk, IfSome, IfNone, IsSomeAnd, option_and_then};
+ghost use Rattle.std.specs.Prelude.{◌≡◌, ◌<◌, ◌^◌, All, map, length, slice_get, slice_set, Some, None, IfOk, IfErr, OnOk, IfSome, IfNone, IsSomeAnd, option_and_then};
 ghost use Rattle.std.specs.Option.{option_map, option_copied};
 ghost use Rattle.std.specs.Arc.{arc_value};
 ghost use Rattle.program_rules.specs.Linked.{method_in};
@@ -8,22 +8,21 @@ ghost use Rattle.program_rules.specs.Names.{is_listed};
 ghost use Rattle.program_rules.specs.Programs.{supers};
 ghost use Rattle.class_link.specs.View.{method_of};
 ghost use Rattle.class_link.specs.Info.{IsInfo, class_of, link_body, file_in};
-ghost use Rattle.class_table.specs.Table.{AreDistinct, IsLeastDuplicate, bodies_of, names_of, names, number_of, CanSwap, class_at, name_at, look, entries_at, methods_at, reference_at, named_number, named_place, IsProgram, AreLinksOf};
+ghost use Rattle.class_table.specs.Table.{AreDistinct, IsLeastDuplicate, bodies_of, names_of, number_of, CanSwap, class_at, name_at, look, entries_at, methods_at, reference_at, named_number, named_place, IsProgram, AreLinksOf};
 ghost use Rattle.class_order.specs.Ranks.{HasRanks};
 ghost use Rattle.class_table.specs.Calls.{IsTargetOf, AreTargets};
-ghost use Rattle.class_table.specs.Faults.{look_of, IsFaultless, MissesFirst, CyclesFirst, IsWrongFirst, AreProgram, IsFirstMissing, IsFirstCycle, IsFirstWrongKind};
+ghost use Rattle.class_table.specs.Faults.{look_of, AreProgram, IsFirstMissing, IsFirstCycle, IsFirstWrongKind};
+ghost use Rattle.class_table.specs.Faults.{IfDuplicate, IfSuperMissing, IfSuperCycle, IfSuperKind};
+ghost use Rattle.class_table.specs.Flaws.{IsFirstFaultOf, AreSoundSupers, IsTableOf};
 ghost use Rattle.class_order.specs.Graph.{supers_of};
-ghost use Rattle.class_table.specs.Supers.{AreSupers};
 ghost use Rattle.class_table.specs.Numbers.{IsNumbering};
 ghost use Rattle.class_table.specs.Adding.{shared};
-ghost use Rattle.class_table.specs.declared.fault.TableFault.TheVariants.{Duplicate, SuperMissing, SuperCycle, SuperKind};
 
 use crate::calls::{Target, Targets, copy_targets, forget_unless_right, target_at, targets};
 use crate::fault::TableFault;
-use crate::numbering::{infos, least_duplicate, numbers};
-use crate::supers::{
-    Supers, all_links, least_cyclic, least_missing, least_wrong, links_at, stands_below,
-};
+use crate::numbering::{infos, numbers};
+use crate::supers::{Supers, all_links, links_at, stands_below};
+use crate::verdict::first_fault;
 use class_link::{ClassBody, ClassInfo, LibClass, LinkedMethod, Loaded};
 use class_model::{Class, ClassId, Memory, Name, Seq};
 use class_order::{Links, all_above, standings};
@@ -83,10 +82,10 @@ impl Program {
         ensures distinct { OnOk result (AreDistinct (names_of classes library)) }
         ensures meant { IfOk result (λ p. All IsInfo p) }
         ensures looks { IfOk result (λ p. look p ≡ look_of (bodies_of classes library)) }
-        ensures duplicate { (name : List ℕ) → result ≡ Err (Duplicate name) → IsLeastDuplicate (names_of classes library) name }
-        ensures missing { (name : List ℕ) → result ≡ Err (SuperMissing name) → IsFirstMissing (bodies_of classes library) name }
-        ensures cycle { (name : List ℕ) → result ≡ Err (SuperCycle name) → IsFirstCycle (bodies_of classes library) name }
-        ensures kind { (name : List ℕ) → result ≡ Err (SuperKind name) → IsFirstWrongKind (bodies_of classes library) name }
+        ensures duplicate { IfDuplicate result (IsLeastDuplicate (names_of classes library)) }
+        ensures missing { IfSuperMissing result (IsFirstMissing (bodies_of classes library)) }
+        ensures cycle { IfSuperCycle result (IsFirstCycle (bodies_of classes library)) }
+        ensures kind { IfSuperKind result (IsFirstWrongKind (bodies_of classes library)) }
     {
         let infos = infos(alloc, classes.into_vec(), library.into_vec())?;
         match program_of(alloc, infos) {
@@ -310,8 +309,7 @@ fn meant(info: &ClassInfo)
     let _linked = info.linked();
 }
 
-// Tells the first fault that these classes have as a program, if there is one, and else what stands
-// above each.
+// What stands above each of these classes, or the first fault that they have as a program.
 fn supers_of(
     alloc: Global,
     infos: &[Arc<ClassInfo, Global>],
@@ -320,27 +318,13 @@ fn supers_of(
     requires few { length infos.now < 2 ^ 32 }
     requires meant { All IsInfo (shared infos.now) }
     requires numbers { IsNumbering numbers.now (shared infos.now) }
-    ensures faultless { OnOk result (IsFaultless (names (shared infos.now)) (look (shared infos.now))) }
-    ensures program { OnOk result (IsProgram (shared infos.now)) }
-    ensures supers { IfOk result (AreSupers (shared infos.now)) }
-    ensures duplicate { (name : List ℕ) → result ≡ Err (Duplicate name) → IsLeastDuplicate (names (shared infos.now)) name }
-    ensures missing { (name : List ℕ) → result ≡ Err (SuperMissing name) → MissesFirst (names (shared infos.now)) (look (shared infos.now)) name }
-    ensures cycle { (name : List ℕ) → result ≡ Err (SuperCycle name) → CyclesFirst (names (shared infos.now)) (look (shared infos.now)) name }
-    ensures kind { (name : List ℕ) → result ≡ Err (SuperKind name) → IsWrongFirst (names (shared infos.now)) (look (shared infos.now)) name }
+    ensures supers { IfOk result (AreSoundSupers (shared infos.now)) }
+    ensures fault { IfErr result (IsFirstFaultOf (shared infos.now)) }
 {
-    if let Some(name) = least_duplicate(alloc, infos, numbers)? {
-        return Err(TableFault::Duplicate { name });
-    }
-    if let Some(name) = least_missing(alloc, infos, numbers)? {
-        return Err(TableFault::SuperMissing { name });
-    }
     let links = all_links(alloc, infos, numbers)?;
     let found = standings(alloc, links.as_slice())?;
-    if let Some(name) = least_cyclic(alloc, infos, found.as_slice())? {
-        return Err(TableFault::SuperCycle { name });
-    }
-    if let Some(name) = least_wrong(alloc, infos, numbers)? {
-        return Err(TableFault::SuperKind { name });
+    if let Some(fault) = first_fault(alloc, infos, numbers, found.as_slice())? {
+        return Err(fault);
     }
     let above = all_above(alloc, links.as_slice(), found.as_slice())?;
     Ok(Supers { links, above })
@@ -360,15 +344,11 @@ fn number_all(
     Ok((Arc::new(alloc, numbers)?, Arc::new(alloc, targets)?))
 }
 
+// The program of these classes.
 fn program_of(alloc: Global, infos: Vec<Arc<ClassInfo, Global>>) -> Result<Program, TableFault>
     requires meant { All IsInfo (shared infos.items) }
-    ensures classes { IfOk result (λ p. p ≡ shared infos.items) }
-    ensures faultless { OnOk result (IsFaultless (names (shared infos.items)) (look (shared infos.items))) }
-    ensures ranks { OnOk result (HasRanks (look (shared infos.items))) }
-    ensures duplicate { (name : List ℕ) → result ≡ Err (Duplicate name) → IsLeastDuplicate (names (shared infos.items)) name }
-    ensures missing { (name : List ℕ) → result ≡ Err (SuperMissing name) → MissesFirst (names (shared infos.items)) (look (shared infos.items)) name }
-    ensures cycle { (name : List ℕ) → result ≡ Err (SuperCycle name) → CyclesFirst (names (shared infos.items)) (look (shared infos.items)) name }
-    ensures kind { (name : List ℕ) → result ≡ Err (SuperKind name) → IsWrongFirst (names (shared infos.items)) (look (shared infos.items)) name }
+    ensures program { IfOk result (IsTableOf (shared infos.items)) }
+    ensures fault { IfErr result (IsFirstFaultOf (shared infos.items)) }
 {
     if infos.len() > u32::MAX as usize {
         return Err(TableFault::Memory);

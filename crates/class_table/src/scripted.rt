@@ -41,21 +41,3 @@ impl Copied for Call {
         self.copy()
     }
 }
-
-impl Test {
-    /// An equal value.
-    pub fn copy(&self) -> Result<Test, Memory>
-        ensures { IfOk result (λ t. t ≡ self.now) }
-    {
-        let expected = match &self.expected {
-            Some(name) => Some(name.copy()?),
-            None => None,
-        };
-        Ok(Test {
-            class: self.class.copy()?,
-            method: self.method.copy()?,
-            script: self.script.copy()?,
-            expected,
-        })
-    }
-}

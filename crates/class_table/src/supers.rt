@@ -10,15 +10,13 @@ ghost use Rattle.class_link.specs.Info.{class_of};
 ghost use Rattle.class_order.specs.Above.{AreFalling, IsOver};
 ghost use Rattle.class_order.specs.Supers.{is_final, is_no_superclass, is_no_interface, is_wrong_superclass};
 ghost use Rattle.class_table.specs.Adding.{shared};
-ghost use Rattle.class_table.specs.Least.{IsLeastMarked};
 ghost use Rattle.class_table.specs.Numbers.{IsNumbering};
-ghost use Rattle.class_table.specs.Supers.{misses, names_wrong, numbers_known, IsLinked, AreLinks, is_cyclic};
-ghost use Rattle.class_table.specs.Table.{names, number_of, look};
+ghost use Rattle.class_table.specs.Supers.{misses, names_wrong, numbers_known, IsLinked, AreLinks};
+ghost use Rattle.class_table.specs.Table.{number_of, look};
 
-use crate::least::least_marked;
 use class_link::{ClassInfo, Shared};
 use class_model::{Memory, Name};
-use class_order::{Above, Links, Standing, is_over};
+use class_order::{Above, Links, is_over};
 use std::alloc::Global;
 use std::collections::HashMap;
 use std::sync::Arc;
@@ -114,8 +112,12 @@ fn is_any_absent(
     false
 }
 
-// Whether a class misses its superclass or an interface.
-fn misses(infos: &[Arc<ClassInfo, Global>], numbers: &HashMap<Name, u32>, info: &ClassInfo) -> bool
+/// Whether a class misses its superclass or an interface.
+pub fn misses(
+    infos: &[Arc<ClassInfo, Global>],
+    numbers: &HashMap<Name, u32>,
+    info: &ClassInfo,
+) -> bool
     requires { IsNumbering numbers.now (shared infos.now) }
     ensures { result ≡ misses (shared infos.now) info.now }
 {
@@ -129,34 +131,6 @@ fn misses(infos: &[Arc<ClassInfo, Global>], numbers: &HashMap<Name, u32>, info: 
             !is_object(info.name()) || is_any_absent(infos, numbers, linked.interfaces.as_slice())
         }
     }
-}
-
-/// The least name of a class that misses a super.
-pub fn least_missing(
-    alloc: Global,
-    infos: &[Arc<ClassInfo, Global>],
-    numbers: &HashMap<Name, u32>,
-) -> Result<Option<Name>, Memory>
-    requires { IsNumbering numbers.now (shared infos.now) }
-    ensures { IfOk result (λ n. IsLeastMarked (names (shared infos.now)) (map (misses (shared infos.now)) (shared infos.now)) n) }
-{
-    let marks = missing_marks(alloc, infos, numbers)?;
-    Ok(least_marked(alloc, infos, marks.as_slice())?)
-}
-
-fn missing_marks(
-    alloc: Global,
-    infos: &[Arc<ClassInfo, Global>],
-    numbers: &HashMap<Name, u32>,
-) -> Result<Vec<bool, Global>, Memory>
-    requires { IsNumbering numbers.now (shared infos.now) }
-    ensures { IfOk result (λ marks. marks.items ≡ map (misses (shared infos.now)) (shared infos.now)) }
-{
-    let mut marks = Vec::with_capacity(alloc, infos.len())?;
-    for info in infos {
-        marks.push(misses(infos, numbers, info))?;
-    }
-    Ok(marks)
 }
 
 // ---- supers by number
@@ -230,39 +204,6 @@ pub fn all_links(
         all.push(links_of(alloc, infos, numbers, info)?)?;
     }
     Ok(all)
-}
-
-// ---- a class above itself
-
-fn is_cyclic(standing: &Standing) -> bool
-    ensures { result ≡ is_cyclic standing.now }
-{
-    match standing {
-        Standing::Cyclic => true,
-        _ => false,
-    }
-}
-
-fn cyclic_marks(alloc: Global, found: &[Standing]) -> Result<Vec<bool, Global>, Memory>
-    ensures { IfOk result (λ marks. marks.items ≡ map is_cyclic found.now) }
-{
-    let mut marks = Vec::with_capacity(alloc, found.len())?;
-    for standing in found {
-        marks.push(is_cyclic(standing))?;
-    }
-    Ok(marks)
-}
-
-/// The least name of a class above itself.
-pub fn least_cyclic(
-    alloc: Global,
-    infos: &[Arc<ClassInfo, Global>],
-    found: &[Standing],
-) -> Result<Option<Name>, Memory>
-    ensures { IfOk result (λ n. IsLeastMarked (names (shared infos.now)) (map is_cyclic found.now) n) }
-{
-    let marks = cyclic_marks(alloc, found)?;
-    Ok(least_marked(alloc, infos, marks.as_slice())?)
 }
 
 // ---- a super of a wrong kind
@@ -342,8 +283,8 @@ fn is_wrong_superclass(
         || (is_interface(info.linked().flags) && !is_object(name))
 }
 
-// Whether a class names a super of a wrong kind.
-fn names_wrong(
+/// Whether a class names a super of a wrong kind.
+pub fn names_wrong(
     infos: &[Arc<ClassInfo, Global>],
     numbers: &HashMap<Name, u32>,
     info: &ClassInfo,
@@ -359,32 +300,4 @@ fn names_wrong(
         }
         None => is_any_no_interface(infos, numbers, linked.interfaces.as_slice()),
     }
-}
-
-fn wrong_marks(
-    alloc: Global,
-    infos: &[Arc<ClassInfo, Global>],
-    numbers: &HashMap<Name, u32>,
-) -> Result<Vec<bool, Global>, Memory>
-    requires { IsNumbering numbers.now (shared infos.now) }
-    ensures { IfOk result (λ marks. marks.items ≡ map (names_wrong (shared infos.now)) (shared infos.now)) }
-{
-    let mut marks = Vec::with_capacity(alloc, infos.len())?;
-    for info in infos {
-        marks.push(names_wrong(infos, numbers, info))?;
-    }
-    Ok(marks)
-}
-
-/// The least name of a class that names a super of a wrong kind.
-pub fn least_wrong(
-    alloc: Global,
-    infos: &[Arc<ClassInfo, Global>],
-    numbers: &HashMap<Name, u32>,
-) -> Result<Option<Name>, Memory>
-    requires { IsNumbering numbers.now (shared infos.now) }
-    ensures { IfOk result (λ n. IsLeastMarked (names (shared infos.now)) (map (names_wrong (shared infos.now)) (shared infos.now)) n) }
-{
-    let marks = wrong_marks(alloc, infos, numbers)?;
-    Ok(least_marked(alloc, infos, marks.as_slice())?)
 }
