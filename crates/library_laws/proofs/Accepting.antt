@@ -5,6 +5,7 @@ use Rattle.std.specs.List.{list_all}
 use Rattle.std.specs.Char.Utf16.{utf16_chars}
 use Rattle.std.proofs.lemmas.Bool.{and_parts, eqb-true, true≢false}
 use Rattle.class_model.specs.DescriptorReading.{parameters_at}
+use Rattle.class_link.specs.Linking.{link_library}
 use Rattle.class_link.specs.Opcodes.{instruction_by}
 use Rattle.program_rules.specs.Names.{Name, same}
 use Rattle.program_rules.specs.Linked.{Linked, LinkedMethod, code_in}
@@ -67,7 +68,7 @@ module _ (other : Look) (files : AreOfFiles other) where
   program = with_others table other
 
   rights : list_all (is_right program) table ≡ true
-  unfolding supers row utf16_chars parameters_at instruction_by basic_interfaces collection_interfaces objects texts numbers throwables errors machine_exceptions library_exceptions collections assertions
+  unfolding link_library supers row utf16_chars parameters_at instruction_by basic_interfaces collection_interfaces objects texts numbers throwables errors machine_exceptions library_exceptions collections assertions
   rights = refl
 
   among_case : (n : Name) (c : Linked) (o : Option Linked) → class_among table n ≡ o → first_of o (other n) ≡ Some c → c.library ≡ true → class_among table n ≡ Some c

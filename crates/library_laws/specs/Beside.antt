@@ -4,7 +4,7 @@ use Rattle.program_rules.specs.Names.{Name}
 use Rattle.program_rules.specs.Linked.{Linked}
 use Rattle.program_rules.specs.Programs.{Look}
 use Rattle.program_rules.specs.Library.{class_among, first_of}
-use Rattle.library_laws.specs.Meant.{library_meant}
+use Rattle.lib_table.specs.Library.{library_meant}
 
 -- A name means one of these classes, else one of the others.
 abbrev pub with_others : List (Name × Linked) → Look → Look
