@@ -21,6 +21,7 @@ use Rattle.class_link.specs.declared.linked.Switch.{Switch}
 use Rattle.class_link.specs.declared.loaded.ClassBody.{ClassBody}
 use Rattle.class_link.specs.declared.loaded.ClassBody.TheVariants as body
 use Rattle.class_link.specs.declared.loaded.EditedFile.{EditedFile}
+use Rattle.class_link.specs.declared.loaded.LibClass.{LibClass}
 use Rattle.class_link.specs.declared.loaded.Loaded.{Loaded}
 use Rattle.class_link.specs.Edits.{with_attrs_at, with_attrs, class_added, class_edited, AddsAlone, body_by, with_body_at, KeepMethods, IsEdited}
 use Rattle.class_link.specs.Indices.{is_within, is_body_within, is_method_within}
@@ -184,6 +185,9 @@ edited_info i e new info of alone is = record {
 
 pub file_entries : (b : ClassBody) (l : Loaded) (es : List Entry) → b ≡ body.File l → AreEntries es l.class.pool → HasEntries b es
 file_entries b l es is h = subst (λ x. HasEntries x es) (sym is) h
+
+pub library_entries : (b : ClassBody) (l : LibClass) (es : List Entry) → b ≡ body.Library l → AreEntries es l.pool → HasEntries b es
+library_entries b l es is h = subst (λ x. HasEntries x es) (sym is) h
 
 pub edited_entries : (b : ClassBody) (e : EditedFile) (c : Class) (es : List Entry) → b ≡ body.Edited e → c ≡ class_edited e → AreEntries es c.pool → HasEntries b es
 edited_entries b e c es is same h = subst (λ x. HasEntries x es) (sym is) (subst (λ (k : Class). AreEntries es k.pool) same h)

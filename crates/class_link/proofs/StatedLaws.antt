@@ -13,6 +13,7 @@ use Rattle.program_rules.specs.Instructions.{Instruction, TableSwitch, LookupSwi
 use Rattle.program_rules.specs.Deeds.{Meaning}
 use Rattle.program_rules.specs.Linked.{LinkedMethod, LinkedField, LinkedCode, LinkedBody, HasCode}
 use Rattle.class_link.specs.declared.loaded.ClassBody.TheVariants as body
+use Rattle.library_rules.specs.Numbered.{meaning_numbered}
 use Rattle.class_link.specs.declared.loaded.LibBody.{LibBody}
 use Rattle.class_link.specs.declared.loaded.LibBody.TheVariants as lib
 use Rattle.class_link.specs.declared.loaded.LibClass.{LibClass}
@@ -154,10 +155,10 @@ native_stated : (o : Option Meaning) → IsBodyStated (linking.native_or_none o)
 native_stated None code e = absurd cc
 native_stated (Some m) code e = absurd cc
 
-library_stated : (b : LibBody) → IsBodyStated (linking.library_body b)
-library_stated (lib.Native n) code e = native_stated (linking.native n) code e
-library_stated (lib.Written pool c) code e = has_code (linking.code_in pool c) code e (code_stated pool c)
-library_stated lib.Abstract code e = absurd cc
+library_stated : (pool : List Const) (b : LibBody) → IsBodyStated (linking.library_body pool b)
+library_stated pool (lib.Native n) code e = native_stated (meaning_numbered n) code e
+library_stated pool (lib.Written c) code e = has_code (linking.code_in pool c) code e (code_stated pool c)
+library_stated pool lib.Abstract code e = absurd cc
 
 abbrev IsMethodStated : LinkedMethod → Type 0
 IsMethodStated m = (m.args ≡ args_stated m.desc) × (m.result ≡ result_stated m.desc)
@@ -179,9 +180,9 @@ file_stated c = record {
 library_class_stated : (c : LibClass) → HasStatedKinds (linking.link_library c)
 unfolding linking.link_library
 library_class_stated c = record {
-  method = made_of linking.library_method IsMethodStated (λ m. (refl, refl)) c.methods;
+  method = made_of (linking.library_method c.pool) IsMethodStated (λ m. (refl, refl)) c.methods;
   field = made_of linking.library_field IsFieldStated (λ f. refl) c.fields;
-  instruction = λ k m code at i e b s. made_of linking.library_method HasBodyStated (λ m. library_stated m.body) c.methods k m e code b at i s;
+  instruction = λ k m code at i e b s. made_of (linking.library_method c.pool) HasBodyStated (λ m. library_stated c.pool m.body) c.methods k m e code b at i s;
 }
 
 pub linked_have_stated_kinds : LinkedHaveStatedKinds

@@ -1,5 +1,5 @@
 -- A class of a program: its name, where it comes from, and what it means.
-use Rattle.std.specs.Prelude.{◌≡◌, ◌<◌, ◌^◌, ⊤, List, length, Option, Some, None}
+use Rattle.std.specs.Prelude.{◌≡◌, ◌<◌, ◌^◌, List, length, Option, Some, None}
 use Rattle.class_model.specs.declared.class.Class.{Class}
 use Rattle.program_rules.specs.Names.{Name}
 use Rattle.program_rules.specs.Linked.{Linked}
@@ -28,12 +28,12 @@ link_body (body.File loaded) = link loaded.class
 link_body (body.Edited e) = link (class_edited e)
 link_body (body.Library c) = link_library c
 
--- Each index means in these entries what it means in the constant pool of the class file. A class of
--- the library has none.
+-- Each index means in these entries what it means in the constant pool of the class file, or of the
+-- class of the library.
 abbrev pub HasEntries : ClassBody → List Entry → Type 0
 HasEntries (body.File loaded) es = AreEntries es loaded.class.pool
 HasEntries (body.Edited e) es = AreEntries es (class_edited e).pool
-HasEntries (body.Library c) es = ⊤
+HasEntries (body.Library c) es = AreEntries es c.pool
 
 pub record Info : Type 0 where
   pub name : Name

@@ -22,7 +22,7 @@ use Rattle.program_rules.specs.Names.{Name}
 use Rattle.program_rules.specs.Linked.{Linked, LinkedMethod, LinkedField, LinkedCode, LinkedRow, LinkedLine, LinkedBody, HasCode, IsNative, NoBody, FieldConstant, IntField, LongField, TextField}
 use Rattle.program_rules.specs.Types.{VType, Top, IntType, LongType, NullType, UninitThis, Uninit, Obj, FrameShape, SameLocals, OneItem, Chopped, Appended, Whole, StatedFrame}
 use Rattle.program_rules.specs.Deeds.{Meaning}
-use Rattle.program_rules.specs.Natives.{assert_true, assert_false, do_nothing}
+use Rattle.library_rules.specs.Numbered.{meaning_numbered}
 use Rattle.class_link.specs.declared.loaded.LibBody.{LibBody}
 use Rattle.class_link.specs.declared.loaded.LibBody.TheVariants as lib
 use Rattle.class_link.specs.declared.loaded.LibMethod.{LibMethod}
@@ -38,7 +38,12 @@ abbrev pub class_or_none : List Const → ℕ → Option Name
 class_or_none pool index = if index == 0 then None else Some (class_named pool index)
 
 abbrev pub row_in : List Const → Row → LinkedRow
-row_in pool r = record { start = r.start; end = r.end; handler = r.handler; catch = class_or_none pool r.catch }
+row_in pool r = record {
+  start = r.start;
+  end = r.end;
+  handler = r.handler;
+  catch = class_or_none pool r.catch;
+}
 
 abbrev pub line_in : ℕ × ℕ → LinkedLine
 line_in r = record { start = r.0; line = r.1 }
@@ -113,11 +118,22 @@ first_of given (a ∷ attrs) = given_or (given (content_of a)) (first_of given a
     given_or (Some x) other = Some x
 
 abbrev pub field_with : ℕ → Name → Name → Option FieldConstant → LinkedField
-field_with flags name desc constant = record { flags = flags; name = name; desc = desc; kind = kind_of (kind_stated desc); constant = constant }
+field_with flags name desc constant = record {
+  flags = flags;
+  name = name;
+  desc = desc;
+  kind = kind_of (kind_stated desc);
+  constant = constant;
+}
+
+-- What the first ConstantValue gives to a field.
+abbrev pub constant_by : List Const → List Attr → Option FieldConstant
+constant_by pool attrs =
+    option_and_then (λ index. constant_of pool (entry_of pool index)) (first_of value_of attrs)
 
 abbrev pub field_in : List Const → Member → LinkedField
 field_in pool m =
-    field_with m.flags (text_named pool m.name) (text_named pool m.desc) (option_and_then (λ index. constant_of pool (entry_of pool index)) (first_of value_of m.attrs))
+    field_with m.flags (text_named pool m.name) (text_named pool m.desc) (constant_by pool m.attrs)
 
 abbrev pub code_within : Body-F Body Attr Code → Option Code
 code_within (Body-F.Code code) = Some code
@@ -138,7 +154,9 @@ method_with flags name desc body = record {
 }
 
 abbrev pub method_in : List Const → Member → LinkedMethod
-method_in pool m = method_with m.flags (text_named pool m.name) (text_named pool m.desc) (body_of pool (first_of code_within m.attrs))
+method_in pool m =
+    method_with m.flags (text_named pool m.name) (text_named pool m.desc)
+    (body_of pool (first_of code_within m.attrs))
 
 -- ---- classes
 
@@ -155,29 +173,22 @@ link c = record {
 
 -- ---- classes of the library (this project's own)
 
--- What the native methods that have a row mean, by their numbers: the `<init>` of Object, and the
--- two plain assertions of JUnit 4.
-abbrev pub native : ℕ → Option Meaning
-native n =
-    if n == 0 then Some do_nothing
-    else if n == 2000 then Some assert_true
-    else if n == 2001 then Some assert_false
-    else None
-
 abbrev pub native_or_none : Option Meaning → LinkedBody
 native_or_none None = NoBody
 native_or_none (Some meaning) = IsNative meaning
 
+-- A native method by its number.
 abbrev pub native_body : ℕ → LinkedBody
-native_body n = native_or_none (native n)
+native_body n = native_or_none (meaning_numbered n)
 
-abbrev pub library_body : LibBody → LinkedBody
-library_body (lib.Native n) = native_body n
-library_body (lib.Written pool code) = HasCode (code_in pool code)
-library_body lib.Abstract = NoBody
+-- The indices of a code count in the constant pool of its class.
+abbrev pub library_body : List Const → LibBody → LinkedBody
+library_body pool (lib.Native n) = native_body n
+library_body pool (lib.Written code) = HasCode (code_in pool code)
+library_body pool lib.Abstract = NoBody
 
-abbrev pub library_method : LibMethod → LinkedMethod
-library_method m = method_with m.flags m.name m.desc (library_body m.body)
+abbrev pub library_method : List Const → LibMethod → LinkedMethod
+library_method pool m = method_with m.flags m.name m.desc (library_body pool m.body)
 
 abbrev pub library_field : LibField → LinkedField
 library_field f = field_with f.flags f.name f.desc None
@@ -189,5 +200,5 @@ link_library c = record {
   parent = c.parent;
   interfaces = c.interfaces;
   fields = map library_field c.fields;
-  methods = map library_method c.methods;
+  methods = map (library_method c.pool) c.methods;
 }

@@ -6,8 +6,7 @@ use Rattle.program_rules.specs.Instructions as def
 use Rattle.program_rules.specs.Linked as def_linked
 use Rattle.program_rules.specs.Names.{Name}
 use Rattle.program_rules.specs.Types as def_types
-use Rattle.program_rules.specs.Deeds.{Meaning}
-use Rattle.program_rules.specs.Natives.{assert_true, assert_false, do_nothing}
+use Rattle.library_rules.specs.Numbered.{meaning_of}
 use Rattle.class_link.specs.declared.instruction.Instruction.{Instruction}
 use Rattle.class_link.specs.declared.instruction.Instruction.TheVariants as code
 use Rattle.class_link.specs.declared.frames.VType.{VType}
@@ -21,8 +20,6 @@ use Rattle.class_link.specs.declared.linked.Entry.{Entry}
 use Rattle.class_link.specs.declared.linked.Entry.TheVariants as entry
 use Rattle.class_link.specs.declared.linked.Switch.{Switch}
 use Rattle.class_link.specs.declared.linked.Switch.TheVariants as switch
-use Rattle.class_link.specs.declared.linked.Native.{Native}
-use Rattle.class_link.specs.declared.linked.Native.TheVariants as native
 use Rattle.class_link.specs.declared.linked.LinkedBody.{LinkedBody}
 use Rattle.class_link.specs.declared.linked.LinkedBody.TheVariants as body
 use Rattle.class_link.specs.declared.linked.FieldConstant.{FieldConstant}
@@ -39,7 +36,14 @@ use Rattle.class_link.specs.Opcodes.{on_text, on_class, on_field, on_method, arr
 -- ---- entries
 
 abbrev pub method_ref_of : MethodRef → def.MethodRef
-method_ref_of r = record { class = r.class; name = r.name; desc = r.desc; args = map kind_of r.args; result = option_map kind_of r.result; interface = r.interface }
+method_ref_of r = record {
+  class = r.class;
+  name = r.name;
+  desc = r.desc;
+  args = map kind_of r.args;
+  result = option_map kind_of r.result;
+  interface = r.interface;
+}
 
 abbrev pub field_ref_of : FieldRef → def.FieldRef
 field_ref_of r = record { class = r.class; name = r.name; desc = r.desc; kind = kind_of r.kind }
@@ -142,7 +146,8 @@ instruction_of es ss (code.InvokeStatic k) = on_method def.InvokeStatic (meaning
 instruction_of es ss (code.New k) = on_class def.New (meaning_at es k)
 instruction_of es ss (code.NewArray n) = array_of n
 instruction_of es ss (code.NewReferenceArray k) = on_class def.NewReferenceArray (meaning_at es k)
-instruction_of es ss (code.NewMultiArray k n) = on_class (λ class. def.NewMultiArray class n) (meaning_at es k)
+instruction_of es ss (code.NewMultiArray k n) =
+    on_class (λ class. def.NewMultiArray class n) (meaning_at es k)
 instruction_of es ss code.ArrayLength = def.ArrayLength
 instruction_of es ss code.Throw = def.Throw
 instruction_of es ss (code.CheckCast k) = on_class def.CheckCast (meaning_at es k)
@@ -179,12 +184,6 @@ shape_of (shape.Whole locals stack) =
 abbrev pub frame_of : StatedFrame → def_types.StatedFrame
 frame_of f = record { at = f.at; shape = shape_of f.shape }
 
--- What a native method means.
-abbrev pub native_meaning : Native → Meaning
-native_meaning native.InitObject = do_nothing
-native_meaning native.AssertTrue = assert_true
-native_meaning native.AssertFalse = assert_false
-
 abbrev pub code_of : List Entry → LinkedCode → def_linked.LinkedCode
 code_of es c = record {
   max_stack = c.max_stack;
@@ -197,11 +196,18 @@ code_of es c = record {
 
 abbrev pub body_of : List Entry → LinkedBody → def_linked.LinkedBody
 body_of es (body.Code c) = def_linked.HasCode (code_of es c)
-body_of es (body.Native n) = def_linked.IsNative (native_meaning n)
+body_of es (body.Native n) = def_linked.IsNative (meaning_of n)
 body_of es body.Absent = def_linked.NoBody
 
 abbrev pub method_of : List Entry → LinkedMethod → def_linked.LinkedMethod
-method_of es m = record { flags = m.flags; name = m.name; desc = m.desc; args = map kind_of m.args; result = option_map kind_of m.result; body = body_of es m.body }
+method_of es m = record {
+  flags = m.flags;
+  name = m.name;
+  desc = m.desc;
+  args = map kind_of m.args;
+  result = option_map kind_of m.result;
+  body = body_of es m.body;
+}
 
 abbrev pub constant_of : FieldConstant → def_linked.FieldConstant
 constant_of (constant.Int z) = def_linked.IntField z
@@ -209,7 +215,13 @@ constant_of (constant.Long z) = def_linked.LongField z
 constant_of (constant.Text t) = def_linked.TextField t
 
 abbrev pub field_of : LinkedField → def_linked.LinkedField
-field_of f = record { flags = f.flags; name = f.name; desc = f.desc; kind = kind_of f.kind; constant = option_map constant_of f.constant }
+field_of f = record {
+  flags = f.flags;
+  name = f.name;
+  desc = f.desc;
+  kind = kind_of f.kind;
+  constant = option_map constant_of f.constant;
+}
 
 -- The class as the definitions see it.
 unfoldable pub linked_of : LinkedClass → def_linked.Linked
@@ -221,3 +233,7 @@ linked_of c = record {
   fields = map field_of c.fields;
   methods = map (method_of c.entries) c.methods;
 }
+
+-- The place of the method of a name and a descriptor in the class as the definitions see it.
+abbrev pub method_place_in : LinkedClass → Name → Name → Option ℕ
+method_place_in c name desc = def_linked.method_place name desc (linked_of c).methods

@@ -10,8 +10,9 @@ ghost use Rattle.class_link.specs.Linking as linking;
 ghost use Rattle.class_link.specs.declared.loaded.ClassBody.TheVariants as content;
 
 use crate::edited_class::edited_class;
+use crate::library_linking::link_library;
 use crate::linked::LinkedClass;
-use crate::linking::{link, link_library};
+use crate::linking::link;
 use crate::loaded::{ClassBody, EditedFile};
 use crate::relinking::link_edit;
 use crate::texts::entry;

@@ -10,6 +10,7 @@ mod frames;
 mod info;
 mod instruction;
 mod laws;
+mod library_linking;
 mod line_table;
 mod linked;
 mod linking;
@@ -29,7 +30,7 @@ pub use laws::{appended_mean_the_same, forms_mean_the_same, linked_have_stated_k
 pub use line_table::LineTable;
 pub use linked::{
     Entry, FieldConstant, FieldRef, LinkedBody, LinkedClass, LinkedCode, LinkedField, LinkedLine,
-    LinkedMethod, LinkedRow, MethodRef, Native, Switch,
+    LinkedMethod, LinkedRow, MethodRef, Switch,
 };
 pub use loaded::{ClassBody, EditedFile, LibBody, LibClass, LibField, LibMethod, Loaded};
 pub use program_rules::{CallKind, Comparison, Conversion, Element, Operation, ShiftKind};

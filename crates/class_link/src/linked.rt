@@ -1,17 +1,17 @@
 //! A class with names in place of indices of its constant pool (JVMS 4.1, 4.5 to 4.7). Each text is
 //! kept once, and so is what it states as a descriptor.
 
-ghost use Rattle.std.specs.Prelude.{◌≡◌, ◌<◌, List, map, length, Some, None, IfSome, IfNone};
+ghost use Rattle.std.specs.Prelude.{◌≡◌, ◌<◌, length, Some, None, IfSome, IfNone};
 ghost use Rattle.std.specs.Option.{option_copied};
-ghost use Rattle.program_rules.specs.Linked.{method_place};
-ghost use Rattle.class_link.specs.View.{method_ref_at, method_of, linked_of};
-ghost use Rattle.class_link.specs.declared.linked.Entry as entry;
+ghost use Rattle.class_link.specs.Named.{IsPlaceIn};
+ghost use Rattle.class_link.specs.View.{method_ref_at, method_place_in};
 
 use crate::frames::StatedFrame;
 use crate::instruction::Instruction;
 use crate::line_table::LineTable;
 use crate::shared::Shared;
 use class_model::{Kind, Name, Seq};
+use library_rules::Native;
 
 /// A method that is named, with what its descriptor states (JVMS 4.3.3, 4.4.2). A result of `None`
 /// is void. `interface` is set where the entry names a method of an interface.
@@ -86,17 +86,8 @@ pub struct LinkedCode {
     pub frames: Seq<StatedFrame>,
 }
 
-/// The native methods of the library that have a row (this project's own).
-#[derive(Clone, Copy)]
-pub enum Native {
-    /// The `<init>` of `java/lang/Object`, which does nothing.
-    InitObject,
-    AssertTrue,
-    AssertFalse,
-}
-
-/// What stands behind a method's head. An abstract method has no body, nor has a native one without
-/// a row.
+/// What stands behind a method's head. An abstract method has no body, nor has a native one of a
+/// number that no native method of the library has.
 #[derive(Drop)]
 pub enum LinkedBody {
     Code(Shared<LinkedCode>),
@@ -161,9 +152,9 @@ impl LinkedClass {
     /// The place of the method of this name and descriptor, of two the first.
     #[tactic(auto, unfolding(crate::specs::View::linked_of))]
     pub fn method_place(&self, name: &Name, desc: &Name) -> Option<usize>
-        ensures found { IfSome result (λ place. method_place name.now desc.now (linked_of self.now).methods ≡ Some place) }
+        ensures found { IfSome result (λ place. method_place_in self.now name.now desc.now ≡ Some place) }
         ensures within { IfSome result (λ place. place < length self.now.methods) }
-        ensures absent { IfNone result (method_place name.now desc.now (linked_of self.now).methods ≡ None) }
+        ensures absent { IfNone result (method_place_in self.now name.now desc.now ≡ None) }
     {
         place_of(self.methods.as_slice(), name, desc)
     }
@@ -171,8 +162,8 @@ impl LinkedClass {
 
 fn place_of(methods: &[LinkedMethod], name: &Name, desc: &Name) -> Option<usize>
     ensures within { IfSome result (λ place. place < length methods.now) }
-    ensures found { IfSome result (λ place. (es : List entry.Entry) → method_place name.now desc.now (map (method_of es) methods.now) ≡ Some place) }
-    ensures absent { IfNone result ((es : List entry.Entry) → method_place name.now desc.now (map (method_of es) methods.now) ≡ None) }
+    ensures found { IfSome result (λ place. IsPlaceIn methods.now name.now desc.now (Some place)) }
+    ensures absent { IfNone result (IsPlaceIn methods.now name.now desc.now None) }
 {
     for (place, method) in methods.iter().enumerate() {
         if *method.name == *name && *method.desc == *desc {

@@ -1,23 +1,19 @@
-//! What a class means once indices of its constant pool are resolved to names (JVMS 4.1, 4.5 to
-//! 4.7).
+//! What the class of a class file means once indices of its constant pool are resolved to names
+//! (JVMS 4.1, 4.5 to 4.7).
 
-ghost use Rattle.std.specs.Prelude.{◌≡◌, List, map, IfOk, OnOk, option_and_then};
-ghost use Rattle.std.specs.Option.{option_copied, option_map};
+ghost use Rattle.std.specs.Prelude.{◌≡◌, map, IfOk, OnOk};
+ghost use Rattle.std.specs.Option.{option_copied};
 ghost use Rattle.class_model.specs.Pool.{entry_of};
 ghost use Rattle.class_link.specs.Symbols.{class_named};
 ghost use Rattle.class_link.specs.Linking as linking;
-ghost use Rattle.class_link.specs.Named.{IsConstantIn, IsConstantBy, IsBodyBy, IsMethodIn, AreMethodsIn, IsLibraryBody, IsLibraryMethod, AreLibraryMethods};
+ghost use Rattle.class_link.specs.Named.{IsConstantIn, IsConstantBy, IsCodeBody, IsBodyBy, IsMethodIn, AreMethodsIn};
 ghost use Rattle.class_link.specs.Switches.{AreEntries};
 ghost use Rattle.class_link.specs.Bare.{bare_field, method_with};
-ghost use Rattle.class_link.specs.declared.linked.Entry as entry;
-ghost use Rattle.class_link.specs.View.{body_of, method_of, field_of, constant_of, linked_of, native_meaning};
+ghost use Rattle.class_link.specs.View.{field_of, linked_of};
 
 use crate::code_linking::link_code;
 use crate::entries::entries;
-use crate::linked::{
-    Entry, FieldConstant, LinkedBody, LinkedClass, LinkedField, LinkedMethod, Native,
-};
-use crate::loaded::{LibBody, LibClass, LibField, LibMethod};
+use crate::linked::{Entry, FieldConstant, LinkedBody, LinkedClass, LinkedField, LinkedMethod};
 use crate::named_classes::NamedClasses;
 use crate::shared::Shared;
 use crate::texts::{Text, Texts};
@@ -70,8 +66,8 @@ fn field_constant(texts: &Texts, attrs: &[Attr]) -> Result<Option<FieldConstant>
     }
 }
 
-// A field without a constant.
-fn bare_field(flags: u16, name: &Text, desc: &Text) -> Result<LinkedField, Memory>
+/// A field without a constant.
+pub fn bare_field(flags: u16, name: &Text, desc: &Text) -> Result<LinkedField, Memory>
     ensures { IfOk result (λ f. f ≡ bare_field flags name.now desc.now) }
 {
     let name = name.name()?;
@@ -103,6 +99,20 @@ fn link_fields(alloc: Global, texts: &Texts, fields: &[Member]) -> Result<Seq<Li
     Ok(Seq::from_vec(linked))
 }
 
+/// The body of a method that is written in code.
+pub fn code_body(
+    alloc: Global,
+    entries: &[Entry],
+    classes: &NamedClasses,
+    code: &Code,
+) -> Result<LinkedBody, Memory>
+    requires { AreEntries entries.now classes.now }
+    ensures { IfOk result (IsCodeBody entries.now classes.now code.now) }
+{
+    let code = link_code(alloc, entries, classes, code)?;
+    Ok(LinkedBody::Code(Shared::new(alloc, code)?))
+}
+
 /// What the attributes of a method give it as its body.
 pub fn link_body(
     alloc: Global,
@@ -114,16 +124,13 @@ pub fn link_body(
     ensures { IfOk result (IsBodyBy entries.now classes.now attrs.now) }
 {
     match first_code(attrs) {
-        Some(code) => {
-            let code = link_code(alloc, entries, classes, code)?;
-            Ok(LinkedBody::Code(Shared::new(alloc, code)?))
-        }
+        Some(code) => code_body(alloc, entries, classes, code),
         None => Ok(LinkedBody::Absent),
     }
 }
 
-// A method of this head and body.
-fn method_with(
+/// A method of this head and body.
+pub fn method_with(
     flags: u16,
     name: &Text,
     desc: &Text,
@@ -250,137 +257,5 @@ pub fn link(alloc: Global, class: &Class) -> Result<LinkedClass, Memory>
     let entries = entries(alloc, &texts, class.pool.as_slice())?;
     let mut linked = empty_class(alloc, Shared::new(alloc, entries)?);
     link_into(alloc, &texts, class, &mut linked)?;
-    Ok(linked)
-}
-
-// ---- classes of the library
-
-// The native method of a number, if it has a row.
-fn native(number: u16) -> Option<Native>
-    ensures { option_map native_meaning result ≡ linking.native number }
-{
-    match number {
-        0 => Some(Native::InitObject),
-        2000 => Some(Native::AssertTrue),
-        2001 => Some(Native::AssertFalse),
-        _ => None,
-    }
-}
-
-fn native_body(number: u16) -> LinkedBody
-    ensures { (es : List entry.Entry) → body_of es result ≡ linking.native_body number }
-{
-    match native(number) {
-        Some(native) => LinkedBody::Native(native),
-        None => LinkedBody::Absent,
-    }
-}
-
-// Methods of the library that are written in code aren't linked yet: memory runs out.
-fn library_body(body: &LibBody) -> Result<LinkedBody, Memory>
-    ensures { IfOk result (IsLibraryBody body.now) }
-{
-    match body {
-        LibBody::Native(number) => Ok(native_body(*number)),
-        LibBody::Written(_, _) => Err(Memory),
-        LibBody::Abstract => Ok(LinkedBody::Absent),
-    }
-}
-
-fn library_text(alloc: Global, name: &Name) -> Result<Text, Memory>
-    ensures { IfOk result (λ t. t ≡ name.now) }
-{
-    Text::new(alloc, name.copy()?)
-}
-
-// A method of the library of this name and descriptor.
-fn library_method_of(method: &LibMethod, name: &Text, desc: &Text) -> Result<LinkedMethod, Memory>
-    requires name { name.now ≡ method.now.name }
-    requires desc { desc.now ≡ method.now.desc }
-    ensures { IfOk result (IsLibraryMethod method.now) }
-{
-    let body = library_body(&method.body)?;
-    method_with(method.flags, name, desc, body)
-}
-
-fn library_method(alloc: Global, method: &LibMethod) -> Result<LinkedMethod, Memory>
-    ensures { IfOk result (IsLibraryMethod method.now) }
-{
-    let name = library_text(alloc, &method.name)?;
-    let desc = library_text(alloc, &method.desc)?;
-    library_method_of(method, &name, &desc)
-}
-
-fn library_methods(alloc: Global, methods: &[LibMethod]) -> Result<Seq<LinkedMethod>, Memory>
-    ensures { IfOk result (AreLibraryMethods methods.now) }
-{
-    let mut linked = Vec::with_capacity(alloc, methods.len())?;
-    for method in methods {
-        linked.push(library_method(alloc, method)?)?;
-    }
-    Ok(Seq::from_vec(linked))
-}
-
-fn library_field(alloc: Global, field: &LibField) -> Result<LinkedField, Memory>
-    ensures { IfOk result (λ f. field_of f ≡ linking.library_field field.now) }
-{
-    let name = library_text(alloc, &field.name)?;
-    let desc = library_text(alloc, &field.desc)?;
-    bare_field(field.flags, &name, &desc)
-}
-
-fn library_fields(alloc: Global, fields: &[LibField]) -> Result<Seq<LinkedField>, Memory>
-    ensures { IfOk result (λ fs. map field_of fs ≡ map linking.library_field fields.now) }
-{
-    let mut linked = Vec::with_capacity(alloc, fields.len())?;
-    for field in fields {
-        linked.push(library_field(alloc, field)?)?;
-    }
-    Ok(Seq::from_vec(linked))
-}
-
-fn share_parent(alloc: Global, parent: &Option<Name>) -> Result<Option<Shared<Name>>, Memory>
-    ensures { IfOk result (λ p. p ≡ parent.now) }
-{
-    match parent {
-        Some(name) => Ok(Some(Shared::new(alloc, name.copy()?)?)),
-        None => Ok(None),
-    }
-}
-
-fn share_names(alloc: Global, names: &[Name]) -> Result<Seq<Shared<Name>>, Memory>
-    ensures { IfOk result (λ ns. ns ≡ names.now) }
-{
-    let mut shared = Vec::with_capacity(alloc, names.len())?;
-    for name in names {
-        shared.push(Shared::new(alloc, name.copy()?)?)?;
-    }
-    Ok(Seq::from_vec(shared))
-}
-
-// Puts what a class of the library says into a class.
-#[tactic(auto, unfolding(crate::specs::View::linked_of, crate::specs::Linking::link_library))]
-fn link_library_into(
-    alloc: Global,
-    class: &LibClass,
-    linked: &mut LinkedClass,
-) -> Result<(), Memory>
-    ensures { OnOk result (linked_of linked.new ≡ linking.link_library class.now) }
-{
-    linked.library = true;
-    linked.flags = class.flags;
-    linked.methods = library_methods(alloc, class.methods.as_slice())?;
-    linked.fields = library_fields(alloc, class.fields.as_slice())?;
-    linked.interfaces = share_names(alloc, class.interfaces.as_slice())?;
-    linked.parent = share_parent(alloc, &class.parent)?;
-    Ok(())
-}
-
-/// What a class of the library means.
-pub fn link_library(alloc: Global, class: &LibClass) -> Result<LinkedClass, Memory>
-    ensures { IfOk result (λ c. linked_of c ≡ linking.link_library class.now) }
-{
-    let mut linked = empty_class(alloc, Shared::new(alloc, Seq::new(alloc))?);
-    link_library_into(alloc, class, &mut linked)?;
     Ok(linked)
 }

@@ -28,8 +28,8 @@ pub struct EditedFile {
 pub enum LibBody {
     /// A native method by its number.
     Native(u16),
-    /// Code, and the constant pool that its indices count in, from 1.
-    Written(Seq<Const>, Code),
+    /// Code, whose indices count in the constant pool of its class.
+    Written(Code),
     Abstract,
 }
 
@@ -55,6 +55,8 @@ pub struct LibClass {
     pub parent: Option<Name>,
     pub interfaces: Seq<Name>,
     pub flags: u16,
+    /// What the indices in the codes of its methods count in, from 1.
+    pub pool: Seq<Const>,
     pub fields: Seq<LibField>,
     pub methods: Seq<LibMethod>,
 }

@@ -16,8 +16,8 @@ mod words;
 pub use class_link::{
     ClassBody, ClassInfo, EditedFile, Entry, FieldConstant, FieldRef, FrameShape, Instruction,
     LibBody, LibClass, LibField, LibMethod, LineTable, LinkedBody, LinkedClass, LinkedCode,
-    LinkedField, LinkedLine, LinkedMethod, LinkedRow, Loaded, MethodRef, Native, Shared,
-    StatedFrame, Switch, VType,
+    LinkedField, LinkedLine, LinkedMethod, LinkedRow, Loaded, MethodRef, Shared, StatedFrame,
+    Switch, VType,
 };
 pub use consulted::Consulted;
 pub use fault::TableFault;

@@ -41,6 +41,7 @@ pub fn object_alone(alloc: Global) -> Result<Seq<LibClass>, Fail> {
         parent: None,
         interfaces: Seq::new(alloc),
         flags: 33,
+        pool: Seq::new(alloc),
         fields: Seq::new(alloc),
         methods: Seq::new(alloc),
     })?;

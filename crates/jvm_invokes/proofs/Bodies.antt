@@ -6,8 +6,9 @@ use Rattle.std.proofs.lemmas.Option.{slice_get-map, slice_get_within}
 use Rattle.program_rules.specs.Linked.{LinkedMethod, is_abstract, method_in}
 use Rattle.program_rules.specs.Outlines.{Abstractly, callable_of}
 use Rattle.class_link.specs.declared.linked.LinkedClass.{LinkedClass}
-use Rattle.class_link.specs.View.{linked_of, method_of, body_of, native_meaning}
-use Rattle.class_link.specs.declared.linked.Native.{Native}
+use Rattle.class_link.specs.View.{linked_of, method_of, body_of}
+use Rattle.library_rules.specs.Numbered.{meaning_of}
+use Rattle.library_rules.specs.declared.native.Native.{Native}
 use Rattle.class_link.specs.declared.linked.LinkedBody.TheVariants as linked_body
 use Rattle.jvm_invokes.specs.declared.heads.Body.{Body}
 use Rattle.class_link.specs.Info.{Info, class_of}
@@ -46,7 +47,7 @@ head_is p s i h ms same few class number flags bodies m there =
 
 pub native_is : (m : linked.LinkedMethod) (n : Native) → is_abstract m.flags ≡ false → m.body ≡ linked_body.Native n → (es : List Entry) → IsBody (method_of es m) body.Native
 native_is m n e is es =
-    (native_meaning n, has_body (method_of es m) e ∙ ap callable_of (ap (body_of es) is))
+    (meaning_of n, has_body (method_of es m) e ∙ ap callable_of (ap (body_of es) is))
 
 same_some : (x y : LinkedMethod) → Some x ≡ Some y → x ≡ y
 same_some x y e = cc

@@ -76,6 +76,7 @@ fn object(alloc: Global) -> anyhow::Result<LibClass> {
         parent: None,
         interfaces: Seq::new(alloc),
         flags: 33,
+        pool: Seq::new(alloc),
         fields: Seq::new(alloc),
         methods,
     })

@@ -1,5 +1,5 @@
 -- What native methods do, by what the code says that they give.
-use Rattle.std.specs.Prelude.{◌≡◌, ℕ, Bool, List, map, None, IfSome}
+use Rattle.std.specs.Prelude.{◌≡◌, ℕ, Bool, List, map, Option, None, IfSome, IfNone}
 use Rattle.class_model.specs.declared.kind.Kind as plain
 use Rattle.program_rules.specs.declared.value.Value.{Value}
 use Rattle.program_rules.specs.Names.{Name}
@@ -8,7 +8,7 @@ use Rattle.program_rules.specs.Objects.{Object}
 use Rattle.program_rules.specs.Deeds.{Deed, Gives, Throws, NoDeed, Meaning}
 use Rattle.machine_rules.specs.declared.machine.Limits.{Limits}
 use Rattle.machine_rules.specs.State as def
-use Rattle.machine_rules.specs.Effects.{Effect, on_args}
+use Rattle.machine_rules.specs.Effects.{Effect, NoRow, on_args}
 use Rattle.machine_rules.specs.Lookups.{consult}
 use Rattle.machine_rules.specs.Performing.{performs}
 use Rattle.machine_so_far.specs.Calls.{ends_native}
@@ -30,6 +30,22 @@ abbrev pub TakesGiven : List Kind → List Value → Meaning → Given → List 
 TakesGiven kinds stack meaning g rest =
     (heap : List Object) (go : Deed → List Value → Effect)
     → on_args kinds stack (λ args below. go (meaning heap args) below) ≡ go (deed_of g) rest
+
+-- A native method of this meaning gives this for these arguments, whatever objects there are.
+abbrev pub GivesFor : Meaning → List Value → Given → Type 0
+GivesFor meaning args g = (heap : List Object) → meaning heap args ≡ deed_of g
+
+-- The arguments of these kinds are taken off the stack.
+abbrev pub TakesSome :
+    List plain.Kind → Meaning → List Value → List Value → Option Given → Type 0
+TakesSome kinds meaning stack rest o =
+    IfSome o (λ g. TakesGiven (map kind_of kinds) stack meaning g rest)
+
+-- Where the top of the stack isn't of these kinds, nothing is given.
+abbrev pub TakesNone : List plain.Kind → List Value → Option Given → Type 0
+TakesNone kinds stack o =
+    IfNone o
+    ((go : List Value → List Value → Effect) → on_args (map kind_of kinds) stack go ≡ NoRow)
 
 -- A deed is performed for the frame that its arguments were taken of.
 abbrev pub ends_with : Limits → def.World → def.Frame → List def.Frame → ℕ → Deed → Effect

@@ -7,7 +7,8 @@ ghost use Rattle.machine_rules.specs.Effects as rule;
 ghost use Rattle.machine_rules.specs.Lookups.{consult};
 ghost use Rattle.machine_so_far.specs.Calls.{runs, invokes_static, invokes_special, is_object_initializer};
 ghost use Rattle.class_link.specs.Info.{Info};
-ghost use Rattle.class_link.specs.View.{method_ref_of, method_of, body_of, native_meaning, meaning_at};
+ghost use Rattle.class_link.specs.View.{method_ref_of, method_of, body_of, meaning_at};
+ghost use Rattle.library_rules.specs.Numbered.{meaning_of};
 ghost use Rattle.class_link.specs.Opcodes.{on_method};
 ghost use Rattle.class_link.specs.Symbols.{kind_of};
 ghost use Rattle.program_rules.specs.Instructions.{MethodRef as DefReference, Instruction, Unlinked};
@@ -27,7 +28,8 @@ use crate::stack::Stack;
 use crate::text::is_text;
 use crate::throwing::throw;
 use class_model::{ClassId, Kind, Memory};
-use class_table::{LinkedBody, LinkedCode, LinkedMethod, MethodRef, Native, Program};
+use class_table::{LinkedBody, LinkedCode, LinkedMethod, MethodRef, Program};
+use library_rules::Native;
 use std::alloc::Global;
 
 // Whether one more frame may stand on these.
@@ -148,13 +150,14 @@ fn call_native(
     requires quiet { m.old.thrown ≡ None }
     requires next { IfSome m.old.frame (λ f. f.at + 1 < 2 ^ 64) }
     requires class { class.0 < length p.now }
-    ensures row { IfOk result (λ b. CallsNative p.now (name_at p.now class.0) (native_meaning method) kinds.now b m.old m.new) }
+    ensures row { IfOk result (λ b. CallsNative p.now (name_at p.now class.0) (meaning_of method) kinds.now b m.old m.new) }
     ensures kept { OnOk result (IsKept p.now m.old m.new) }
 {
     let Some(frame) = &mut m.frame else {
         return Ok(false);
     };
-    let Some(outcome) = take_given(frame, kinds, method) else {
+    let given = take_given(frame, kinds, method)?;
+    let Some(outcome) = given else {
         return Ok(false);
     };
     let goes = go_on_with(alloc, p, m, class, outcome)?;

@@ -1,7 +1,7 @@
 // The classes that come with the machine, as far as its rows need them (this project's own).
 #![tactic(auto, unfolding(class_link::specs::Linking::link_library))]
 
-ghost use Rattle.std.specs.Prelude.{◌≡◌, map, IfOk};
+ghost use Rattle.std.specs.Prelude.{◌≡◌, [], map, IfOk};
 ghost use Rattle.machine_so_far.specs.Library.{library_so_far};
 ghost use Rattle.class_link.specs.Linking.{link_library, library_field, library_method};
 ghost use Rattle.jvm_step.specs.Library.{parent_of, field_in, method_in, class_in};
@@ -116,13 +116,13 @@ const CLASSES: [ClassRow<'static>; 9] = [
                 flags: 265,
                 name: "assertTrue",
                 desc: "(Z)V",
-                number: 2000,
+                number: 114,
             },
             MethodRow {
                 flags: 265,
                 name: "assertFalse",
                 desc: "(Z)V",
-                number: 2001,
+                number: 115,
             },
         ],
     },
@@ -145,7 +145,7 @@ fn fields(alloc: Global, rows: &[FieldRow<'_>]) -> Result<Seq<LibField>, Memory>
 }
 
 fn methods(alloc: Global, rows: &[MethodRow<'_>]) -> Result<Seq<LibMethod>, Memory>
-    ensures { IfOk result (λ methods. map library_method methods ≡ map method_in rows.now) }
+    ensures { IfOk result (λ methods. map (library_method []) methods ≡ map method_in rows.now) }
 {
     let mut methods = Vec::with_capacity(alloc, rows.len())?;
     for row in rows {
@@ -178,6 +178,7 @@ fn class(alloc: Global, row: &ClassRow<'_>) -> Result<LibClass, Memory>
         parent: parent(alloc, row.parent)?,
         interfaces: Seq::new(alloc),
         flags: row.flags,
+        pool: Seq::new(alloc),
         fields: fields(alloc, row.fields)?,
         methods: methods(alloc, row.methods)?,
     })

@@ -1,19 +1,16 @@
 // The native methods of the library, one row for each (this project's own).
 
-ghost use Rattle.std.specs.Prelude.{◌≡◌, Bool, List, map, IfSome, IfNone};
+ghost use Rattle.std.specs.Prelude.{◌≡◌, Bool, List, IfOk, IfSome, IfNone, OnOk};
 ghost use Rattle.program_rules.specs.Deeds.{Deed, NoDeed};
 ghost use Rattle.program_rules.specs.Objects.{Object};
-ghost use Rattle.program_rules.specs.declared.value.Value.{Value};
-ghost use Rattle.machine_rules.specs.Effects.{Effect, NoRow, on_args};
 ghost use Rattle.program_rules.specs.Natives.{on_boolean, assert_true, assert_false};
-ghost use Rattle.class_link.specs.Symbols.{kind_of};
-ghost use Rattle.class_link.specs.View.{native_meaning};
-ghost use Rattle.jvm_step.specs.Natives.{deed_of, TakesGiven};
+ghost use Rattle.library_rules.specs.Numbered.{meaning_of};
+ghost use Rattle.jvm_step.specs.Natives.{deed_of, GivesFor, TakesSome, TakesNone};
 
 use crate::frame::Frame;
 use crate::machine::{Exception, Given};
-use class_model::Kind;
-use class_table::Native;
+use class_model::{Kind, Memory};
+use library_rules::{AssertionNative, LangNative, Native, ObjectNative};
 use program_rules::Value;
 
 // The only argument, a boolean.
@@ -49,26 +46,31 @@ fn assert_false(args: &[Value]) -> Given
     }
 }
 
-// What a native method does with these arguments, whatever objects there are.
-fn run_native(method: Native, args: &[Value]) -> Given
-    ensures { (heap : List Object) → native_meaning method heap args.now ≡ deed_of result }
+// What a native method does with these arguments, whatever objects there are. None of the classes
+// in `classes` has another one, so nothing reaches the last arm.
+fn run_native(method: Native, args: &[Value]) -> Result<Given, Memory>
+    ensures { IfOk result (GivesFor (meaning_of method) args.now) }
 {
     match method {
-        Native::InitObject => Given::Gives,
-        Native::AssertTrue => assert_true(args),
-        Native::AssertFalse => assert_false(args),
+        Native::Lang(LangNative::Object(ObjectNative::DoNothing)) => Ok(Given::Gives),
+        Native::Junit(AssertionNative::True) => Ok(assert_true(args)),
+        Native::Junit(AssertionNative::False) => Ok(assert_false(args)),
+        _ => Err(Memory),
     }
 }
 
-/// What a native method does with arguments of these kinds, which are taken off the stack of a frame; none where the top of the stack is not of these kinds.
-pub fn take_given(f: &mut Frame, kinds: &[Kind], method: Native) -> Option<Given>
-    ensures some { IfSome result (λ g. TakesGiven (map kind_of kinds.now) f.old.stack (native_meaning method) g f.new.stack) }
-    ensures none { IfNone result ((go : List Value → List Value → Effect) → on_args (map kind_of kinds.now) f.old.stack go ≡ NoRow) }
-    ensures rest { f.new ≡ record f.old { stack = f.new.stack } }
+/// What a native method does with arguments of these kinds, which are taken off the stack of a
+/// frame; none where the top of the stack is not of these kinds.
+pub fn take_given(f: &mut Frame, kinds: &[Kind], method: Native) -> Result<Option<Given>, Memory>
+    ensures some { IfOk result (TakesSome kinds.now (meaning_of method) f.old.stack f.new.stack) }
+    ensures none { IfOk result (TakesNone kinds.now f.old.stack) }
+    ensures rest { OnOk result (f.new ≡ record f.old { stack = f.new.stack }) }
 {
-    let args = f.stack.arguments(kinds)?;
+    let Some(args) = f.stack.arguments(kinds) else {
+        return Ok(None);
+    };
     let count = args.len();
-    let given = run_native(method, args);
+    let given = run_native(method, args)?;
     f.stack.cut(count);
-    Some(given)
+    Ok(Some(given))
 }

@@ -293,6 +293,7 @@ fn library(alloc: Global) -> Result<Seq<LibClass>, Fail> {
             parent: None,
             interfaces: Seq::new(alloc),
             flags: 33,
+            pool: Seq::new(alloc),
             fields: Seq::new(alloc),
             methods: Seq::new(alloc),
         },

@@ -97,7 +97,7 @@ t_is = record { name = refl; linked = refl; entries = refl; few = lit< tt }
 
 object_is : IsInfo object_info
 unfolding linked_of link_library parameters_at
-object_is = record { name = refl; linked = refl; entries = tt; few = lit< tt }
+object_is = record { name = refl; linked = refl; entries = refl; few = lit< tt }
 
 -- ---- the program
 

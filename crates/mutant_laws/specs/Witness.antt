@@ -32,7 +32,8 @@ use Rattle.class_link.specs.declared.linked.Entry.TheVariants as entry
 use Rattle.class_link.specs.declared.linked.LinkedBody.TheVariants as linked_body
 use Rattle.class_link.specs.declared.linked.LinkedClass.{LinkedClass}
 use Rattle.class_link.specs.declared.linked.LinkedMethod.{LinkedMethod}
-use Rattle.class_link.specs.declared.linked.Native.TheVariants.{InitObject}
+use Rattle.library_rules.specs.declared.native.ObjectNative.TheVariants.{DoNothing}
+use Rattle.library_rules.specs.Places.{as_object}
 use Rattle.class_link.specs.declared.loaded.ClassBody.{ClassBody}
 use Rattle.class_link.specs.declared.loaded.ClassBody.TheVariants as body
 use Rattle.class_link.specs.Edits.{class_edited}
@@ -204,6 +205,7 @@ object_info = record {
         parent = None;
         interfaces = [];
         flags = 33;
+        pool = [];
         fields = [];
         methods = record { name = instance_initializer; desc = plain_descriptor; flags = 1; body = lib.Native 0 } ∷ [];
       });
@@ -213,8 +215,8 @@ object_info = record {
     parent = None;
     interfaces = [];
     fields = [];
-    methods = record { flags = 1; name = instance_initializer; desc = plain_descriptor; args = []; result = None; body = linked_body.Native InitObject } ∷ [];
-    entries = [];
+    methods = record { flags = 1; name = instance_initializer; desc = plain_descriptor; args = []; result = None; body = linked_body.Native (as_object DoNothing) } ∷ [];
+    entries = entry.Other ∷ [];
   };
 }
 

@@ -24,6 +24,7 @@ fn class_of(alloc: Global, line: &str) -> anyhow::Result<LibClass> {
         parent,
         interfaces,
         flags: flags.parse::<u16>()?,
+        pool: Seq::new(alloc),
         fields: Seq::new(alloc),
         methods: Seq::new(alloc),
     })

@@ -28,6 +28,7 @@ fn class(
         parent,
         interfaces,
         flags,
+        pool: Seq::new(alloc),
         fields: Seq::new(alloc),
         methods: Seq::new(alloc),
     })

@@ -2,7 +2,7 @@ use Rattle.std.proofs.Common.{List, refl, subst}
 use Rattle.program_rules.specs.declared.value.Value.{Value}
 use Rattle.program_rules.specs.Deeds.{Deed}
 use Rattle.class_table.specs.Table.{name_at}
-use Rattle.class_link.specs.View.{native_meaning}
+use Rattle.library_rules.specs.Numbered.{meaning_of}
 use Rattle.jvm_step.specs.Natives.{deed_of, ends_with, consulted_in}
 use Rattle.jvm_step.specs.View.{frame_of, callers_of, world_of, state_of, Comes}
 use Rattle.jvm_step.proofs.Calls.{if_some_at, some_of, none_of, comes_as}
@@ -17,7 +17,7 @@ returns-in_default-take_given-clause-row c =
     let w = consulted_in p (name_at p c.args.class.0) m in
     if_some_at _ m.frame f c.in-Some.is
     (λ room.
-    let go = λ (args : List Value) (rest : List Value). ends_with m.limits w (record (frame_of p f) { stack = rest }) (callers_of p m.callers) room (native_meaning c.args.method w.heap args) in
+    let go = λ (args : List Value) (rest : List Value). ends_with m.limits w (record (frame_of p f) { stack = rest }) (callers_of p m.callers) room (meaning_of c.args.method w.heap args) in
     (none_of _ c.take_given.result c.in_default-take_given.is c.take_given.ensures.none go, (refl, refl)))
 
 pub returns-clause-row : goal.returns-clause-row

@@ -1,5 +1,5 @@
 use Rattle.std.proofs.Common.{◌≡◌, take}
-use Rattle.class_link.proofs.linking.share_names.Given as goal
+use Rattle.class_link.proofs.library_linking.share_names.Given as goal
 
 abbrev pub invariant-loop-name : goal.invariant-loop-name
 invariant-loop-name l = l.shared.items ≡ take l.name-index l.names
