@@ -1,8 +1,7 @@
 -- The collections and the assertions.
 use Rattle.std.specs.Prelude.{List, [], ◌∷◌}
-use Rattle.class_link.specs.declared.loaded.LibMethod.{LibMethod}
 use Rattle.class_link.specs.declared.loaded.LibClass.{LibClass}
-use Rattle.lib_table.specs.Stated.{abstract_class, class, final_class, native, static_native, static_written, written}
+use Rattle.lib_table.specs.Stated.{Row, abstract_class, class, final_class, native, static_native, static_written, written}
 use Rattle.lib_table.specs.Written.{list_index_of, list_contains, list_remove, list_equals, find_entry, map_get, map_remove, map_put, map_contains_key, set_contains, set_add, set_remove, assert_equal_objects, assert_unequal_objects, assert_equal_objects_5, assert_unequal_objects_5}
 use Rattle.library_rules.specs.declared.native.ObjectNative.TheVariants as object
 use Rattle.library_rules.specs.declared.native.ListNative.TheVariants as list
@@ -12,7 +11,7 @@ use Rattle.library_rules.specs.declared.native.AssertionNative.TheVariants as as
 use Rattle.library_rules.specs.Places.{as_object, as_list, as_entry, as_iterator, as_assertion}
 
 -- java/util/ArrayList
-abbrev pub array_list_methods : List LibMethod
+abbrev pub array_list_methods : List Row
 array_list_methods =
     native (as_object object.DoNothing) "<init>" "()V"
     ∷ native (as_list list.OfCapacity) "<init>" "(I)V"
@@ -34,7 +33,7 @@ array_list_methods =
     ∷ []
 
 -- mt/Hashed
-abbrev pub hashed_methods : List LibMethod
+abbrev pub hashed_methods : List Row
 hashed_methods =
     native (as_entry entry.Count) "$size" "()I"
     ∷ native (as_entry entry.Hash) "$hash" "(I)I"
@@ -47,7 +46,7 @@ hashed_methods =
     ∷ []
 
 -- java/util/HashMap
-abbrev pub hash_map_methods : List LibMethod
+abbrev pub hash_map_methods : List Row
 hash_map_methods =
     native (as_object object.DoNothing) "<init>" "()V"
     ∷ native (as_entry entry.Count) "size" "()I"
@@ -65,7 +64,7 @@ hash_map_methods =
     ∷ []
 
 -- java/util/HashSet
-abbrev pub hash_set_methods : List LibMethod
+abbrev pub hash_set_methods : List Row
 hash_set_methods =
     native (as_object object.DoNothing) "<init>" "()V"
     ∷ native (as_entry entry.Count) "size" "()I"
@@ -81,21 +80,21 @@ hash_set_methods =
     ∷ []
 
 -- mt/Iter
-abbrev pub iter_methods : List LibMethod
+abbrev pub iter_methods : List Row
 iter_methods =
     native (as_iterator iterator.HasNext) "hasNext" "()Z"
     ∷ native (as_iterator iterator.Next) "next" "()Ljava/lang/Object;"
     ∷ []
 
 -- java/util/Collections
-abbrev pub collections_methods : List LibMethod
+abbrev pub collections_methods : List Row
 collections_methods =
     static_native (as_iterator iterator.EmptyList) "emptyList" "()Ljava/util/List;"
     ∷ static_native (as_iterator iterator.EmptySet) "emptySet" "()Ljava/util/Set;"
     ∷ []
 
 -- java/util/Arrays
-abbrev pub arrays_methods : List LibMethod
+abbrev pub arrays_methods : List Row
 arrays_methods =
     static_native (as_iterator iterator.AsList) "asList" "([Ljava/lang/Object;)Ljava/util/List;"
     ∷ []
@@ -112,7 +111,7 @@ collections =
     ∷ []
 
 -- org/junit/Assert
-abbrev pub assert_methods : List LibMethod
+abbrev pub assert_methods : List Row
 assert_methods =
     static_native (as_assertion assertion.EqualLongs) "assertEquals" "(JJ)V"
     ∷ static_native (as_assertion assertion.EqualInts) "assertEquals" "(II)V"
@@ -130,7 +129,7 @@ assert_methods =
     ∷ []
 
 -- org/junit/jupiter/api/Assertions
-abbrev pub assertions_methods : List LibMethod
+abbrev pub assertions_methods : List Row
 assertions_methods =
     static_native (as_assertion assertion.EqualLongs) "assertEquals" "(JJ)V"
     ∷ static_native (as_assertion assertion.EqualInts) "assertEquals" "(II)V"

@@ -1,14 +1,13 @@
 -- Throwable and the classes below it.
 use Rattle.std.specs.Prelude.{List, [], ◌∷◌, Some, codes}
-use Rattle.class_link.specs.declared.loaded.LibMethod.{LibMethod}
 use Rattle.class_link.specs.declared.loaded.LibClass.{LibClass}
-use Rattle.lib_table.specs.Stated.{abstract_class, class, class_with, field, native}
+use Rattle.lib_table.specs.Stated.{Row, abstract_class, class, class_with, field, native}
 use Rattle.library_rules.specs.declared.native.ObjectNative.TheVariants as object
 use Rattle.library_rules.specs.declared.native.ThrowableNative.TheVariants as throwable
 use Rattle.library_rules.specs.Places.{as_object, as_throwable}
 
 -- java/lang/Throwable
-abbrev pub throwable_methods : List LibMethod
+abbrev pub throwable_methods : List Row
 throwable_methods =
     native (as_object object.DoNothing) "<init>" "()V"
     ∷ native (as_throwable throwable.SetMessage) "<init>" "(Ljava/lang/String;)V"
@@ -20,7 +19,7 @@ throwable_methods =
     ∷ []
 
 -- The four `<init>` of Throwable and of each class below it.
-abbrev pub initializers : List LibMethod
+abbrev pub initializers : List Row
 initializers =
     native (as_object object.DoNothing) "<init>" "()V"
     ∷ native (as_throwable throwable.SetMessage) "<init>" "(Ljava/lang/String;)V"

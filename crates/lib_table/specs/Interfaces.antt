@@ -1,36 +1,35 @@
 -- The interfaces of the library.
 use Rattle.std.specs.Prelude.{List, [], ◌∷◌}
-use Rattle.class_link.specs.declared.loaded.LibMethod.{LibMethod}
 use Rattle.class_link.specs.declared.loaded.LibClass.{LibClass}
-use Rattle.lib_table.specs.Stated.{abstract, interface}
+use Rattle.lib_table.specs.Stated.{Row, abstract, interface}
 
 -- java/lang/CharSequence
-abbrev pub char_sequence_methods : List LibMethod
+abbrev pub char_sequence_methods : List Row
 char_sequence_methods =
     abstract "length" "()I"
     ∷ abstract "charAt" "(I)C"
     ∷ []
 
 -- java/lang/Comparable
-abbrev pub comparable_methods : List LibMethod
+abbrev pub comparable_methods : List Row
 comparable_methods =
     abstract "compareTo" "(Ljava/lang/Object;)I"
     ∷ []
 
 -- java/lang/Iterable
-abbrev pub iterable_methods : List LibMethod
+abbrev pub iterable_methods : List Row
 iterable_methods =
     abstract "iterator" "()Ljava/util/Iterator;"
     ∷ []
 
 -- java/lang/Runnable
-abbrev pub runnable_methods : List LibMethod
+abbrev pub runnable_methods : List Row
 runnable_methods =
     abstract "run" "()V"
     ∷ []
 
 -- java/lang/AutoCloseable
-abbrev pub auto_closeable_methods : List LibMethod
+abbrev pub auto_closeable_methods : List Row
 auto_closeable_methods =
     abstract "close" "()V"
     ∷ []
@@ -47,14 +46,14 @@ basic_interfaces =
     ∷ []
 
 -- java/util/Iterator
-abbrev pub iterator_methods : List LibMethod
+abbrev pub iterator_methods : List Row
 iterator_methods =
     abstract "hasNext" "()Z"
     ∷ abstract "next" "()Ljava/lang/Object;"
     ∷ []
 
 -- java/util/Collection
-abbrev pub collection_methods : List LibMethod
+abbrev pub collection_methods : List Row
 collection_methods =
     abstract "size" "()I"
     ∷ abstract "isEmpty" "()Z"
@@ -65,7 +64,7 @@ collection_methods =
     ∷ []
 
 -- java/util/List
-abbrev pub list_methods : List LibMethod
+abbrev pub list_methods : List Row
 list_methods =
     abstract "get" "(I)Ljava/lang/Object;"
     ∷ abstract "set" "(ILjava/lang/Object;)Ljava/lang/Object;"
@@ -75,7 +74,7 @@ list_methods =
     ∷ []
 
 -- java/util/Map
-abbrev pub map_methods : List LibMethod
+abbrev pub map_methods : List Row
 map_methods =
     abstract "size" "()I"
     ∷ abstract "isEmpty" "()Z"

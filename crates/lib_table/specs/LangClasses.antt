@@ -1,8 +1,7 @@
 -- The classes of `java/lang`, with Optional and Objects.
 use Rattle.std.specs.Prelude.{List, [], ◌∷◌, None}
-use Rattle.class_link.specs.declared.loaded.LibMethod.{LibMethod}
 use Rattle.class_link.specs.declared.loaded.LibClass.{LibClass}
-use Rattle.lib_table.specs.Stated.{abstract_class, class_with, final_class, native, static_native, static_written, written}
+use Rattle.lib_table.specs.Stated.{Row, abstract_class, class_with, final_class, native, static_native, static_written, written}
 use Rattle.lib_table.specs.Written.{equal_objects, hash_of_object, text_of_any, append_any}
 use Rattle.library_rules.specs.declared.native.ObjectNative.TheVariants as object
 use Rattle.library_rules.specs.declared.native.OptionalNative.TheVariants as optional
@@ -14,7 +13,7 @@ use Rattle.library_rules.specs.declared.native.NumberNative.TheVariants as numbe
 use Rattle.library_rules.specs.Places.{as_object, as_optional, as_text, as_builder, as_box, as_order, as_number}
 
 -- java/lang/Object
-abbrev pub object_methods : List LibMethod
+abbrev pub object_methods : List Row
 object_methods =
     native (as_object object.DoNothing) "<init>" "()V"
     ∷ native (as_object object.SameObject) "equals" "(Ljava/lang/Object;)Z"
@@ -24,14 +23,14 @@ object_methods =
     ∷ []
 
 -- java/lang/Class
-abbrev pub class_methods : List LibMethod
+abbrev pub class_methods : List Row
 class_methods =
     native (as_object object.NameOfClass) "getName" "()Ljava/lang/String;"
     ∷ native (as_object object.AssertionStatus) "desiredAssertionStatus" "()Z"
     ∷ []
 
 -- java/lang/Enum
-abbrev pub enum_methods : List LibMethod
+abbrev pub enum_methods : List Row
 enum_methods =
     native (as_object object.EnumInit) "<init>" "(Ljava/lang/String;I)V"
     ∷ native (as_object object.EnumName) "name" "()Ljava/lang/String;"
@@ -44,7 +43,7 @@ enum_methods =
     ∷ []
 
 -- java/util/Optional
-abbrev pub optional_methods : List LibMethod
+abbrev pub optional_methods : List Row
 optional_methods =
     static_native (as_optional optional.Empty) "empty" "()Ljava/util/Optional;"
     ∷ static_native (as_optional optional.Of) "of" "(Ljava/lang/Object;)Ljava/util/Optional;"
@@ -55,7 +54,7 @@ optional_methods =
     ∷ []
 
 -- java/util/Objects
-abbrev pub objects_methods : List LibMethod
+abbrev pub objects_methods : List Row
 objects_methods =
     static_written "equals" "(Ljava/lang/Object;Ljava/lang/Object;)Z" equal_objects
     ∷ static_written "hashCode" "(Ljava/lang/Object;)I" hash_of_object
@@ -71,7 +70,7 @@ objects =
     ∷ []
 
 -- java/lang/String
-abbrev pub string_methods : List LibMethod
+abbrev pub string_methods : List Row
 string_methods =
     native (as_text text.Length) "length" "()I"
     ∷ native (as_text text.CharAt) "charAt" "(I)C"
@@ -97,7 +96,7 @@ string_methods =
     ∷ []
 
 -- java/lang/StringBuilder
-abbrev pub string_builder_methods : List LibMethod
+abbrev pub string_builder_methods : List Row
 string_builder_methods =
     native (as_object object.DoNothing) "<init>" "()V"
     ∷ native (as_builder builder.OfCapacity) "<init>" "(I)V"
@@ -114,7 +113,7 @@ string_builder_methods =
     ∷ []
 
 -- java/lang/Character
-abbrev pub character_methods : List LibMethod
+abbrev pub character_methods : List Row
 character_methods =
     static_native (as_box box.OfChar) "valueOf" "(C)Ljava/lang/Character;"
     ∷ native (as_order order.CharEquals) "equals" "(Ljava/lang/Object;)Z"
@@ -126,7 +125,7 @@ character_methods =
     ∷ []
 
 -- java/lang/Boolean
-abbrev pub boolean_methods : List LibMethod
+abbrev pub boolean_methods : List Row
 boolean_methods =
     static_native (as_box box.OfBool) "valueOf" "(Z)Ljava/lang/Boolean;"
     ∷ native (as_order order.BoolEquals) "equals" "(Ljava/lang/Object;)Z"
@@ -144,7 +143,7 @@ texts =
     ∷ []
 
 -- java/lang/Integer
-abbrev pub integer_methods : List LibMethod
+abbrev pub integer_methods : List Row
 integer_methods =
     static_native (as_box box.OfInt) "valueOf" "(I)Ljava/lang/Integer;"
     ∷ native (as_order order.IntEquals) "equals" "(Ljava/lang/Object;)Z"
@@ -159,7 +158,7 @@ integer_methods =
     ∷ []
 
 -- java/lang/Long
-abbrev pub long_methods : List LibMethod
+abbrev pub long_methods : List Row
 long_methods =
     static_native (as_box box.OfLong) "valueOf" "(J)Ljava/lang/Long;"
     ∷ native (as_order order.LongEquals) "equals" "(Ljava/lang/Object;)Z"
@@ -172,7 +171,7 @@ long_methods =
     ∷ []
 
 -- java/lang/Short
-abbrev pub short_methods : List LibMethod
+abbrev pub short_methods : List Row
 short_methods =
     static_native (as_box box.OfShort) "valueOf" "(S)Ljava/lang/Short;"
     ∷ native (as_order order.ShortEquals) "equals" "(Ljava/lang/Object;)Z"
@@ -183,7 +182,7 @@ short_methods =
     ∷ []
 
 -- java/lang/Byte
-abbrev pub byte_methods : List LibMethod
+abbrev pub byte_methods : List Row
 byte_methods =
     static_native (as_box box.OfByte) "valueOf" "(B)Ljava/lang/Byte;"
     ∷ native (as_order order.ByteEquals) "equals" "(Ljava/lang/Object;)Z"
@@ -194,7 +193,7 @@ byte_methods =
     ∷ []
 
 -- java/lang/Math
-abbrev pub math_methods : List LibMethod
+abbrev pub math_methods : List Row
 math_methods =
     static_native (as_number number.AbsInt) "abs" "(I)I"
     ∷ static_native (as_number number.AbsLong) "abs" "(J)J"

@@ -1,5 +1,5 @@
--- The code of a written method: its instructions by names, its frames, and the constant pool that
--- they need, in which each has entries of its own (JVMS 4.4).
+-- The code of a written method: its instructions by names, its frames, and the entries that they
+-- need in the constant pool of their class, in which each has entries of its own (JVMS 4.4).
 use Prim.Native.String.{String}
 use Rattle.std.specs.Prelude.{ℕ, ◌+◌, ℤ, false, List, [], ◌∷◌, ◌++◌, length, codes}
 use Rattle.class_model.specs.declared.constant.Const.{Const}
@@ -92,11 +92,12 @@ pub record Method : Type 0 where
 abbrev pub method : List FrameAt → List Step → Method
 method frames steps = record { frames = frames; steps = steps }
 
--- What the frames need stands behind what the instructions need.
-abbrev pub written_of : Method → Written
-written_of m = record {
-  pool = pool_of_frames (with_name (pool_from [] m.steps)) m.frames;
+-- A method written behind a pool: the pool with what its instructions need and then what its frames
+-- need, and its code.
+abbrev pub written_behind : List Const → Method → Written
+written_behind pool m = record {
+  pool = pool_of_frames (with_name (pool_from pool m.steps)) m.frames;
   code =
-      code_of (code_from [] [] m.steps) (length (pool_from [] m.steps) + 1)
-      (frames_from (with_name (pool_from [] m.steps)) m.frames);
+      code_of (code_from [] pool m.steps) (length (pool_from pool m.steps) + 1)
+      (frames_from (with_name (pool_from pool m.steps)) m.frames);
 }

@@ -1,8 +1,9 @@
 //! The table's rows are made classes.
 
-ghost use Rattle.std.specs.Prelude.{◌≡◌, false, List, [], Some, None, map, codes, IfOk};
+ghost use Rattle.std.specs.Prelude.{◌≡◌, ◌++◌, false, List, [], Some, None, map, codes, IfOk, OnOk};
+ghost use Rattle.std.specs.List.{flat_map};
 ghost use Rattle.lib_table.specs.Frames.{frame_table};
-ghost use Rattle.lib_table.specs.Rows.{const_of, insn_of, frame_of, body_of, method_with, method_of, field_with, class_with, class_of};
+ghost use Rattle.lib_table.specs.Rows.{const_of, insn_of, frame_of, row_code, method_with, method_of, entries_of, field_with, class_with, class_of};
 
 use crate::rows::{ClassRow, CodeRow, ConstRow, FrameRow, InsnRow, MethodRow};
 use class_link::{LibBody, LibClass, LibField, LibMethod};
@@ -44,14 +45,13 @@ fn entry(alloc: Global, row: &ConstRow) -> Result<Const, Memory>
     }
 }
 
-fn pool(alloc: Global, rows: &[ConstRow]) -> Result<Seq<Const>, Memory>
-    ensures { IfOk result (λ entries. entries ≡ map const_of rows.now) }
+fn add_entries(alloc: Global, pool: &mut Vec<Const>, rows: &[ConstRow]) -> Result<(), Memory>
+    ensures { OnOk result (pool.new.items ≡ pool.old.items ++ map const_of rows.now) }
 {
-    let mut entries = Vec::with_capacity(alloc, rows.len())?;
     for row in rows {
-        entries.push(entry(alloc, row)?)?;
+        pool.push(entry(alloc, row)?)?;
     }
-    Ok(Seq::from_vec(entries))
+    Ok(())
 }
 
 fn insn_with(op: u8, arg: Arg) -> Insn
@@ -136,22 +136,18 @@ fn frame_table(alloc: Global, name: u16, rows: &[FrameRow]) -> Result<Seq<Attr>,
     Ok(Seq::from_vec(attrs))
 }
 
-fn body(alloc: Global, row: &CodeRow) -> Result<LibBody, Memory>
-    ensures { IfOk result (λ body. body ≡ body_of row.now) }
+fn code(alloc: Global, row: &CodeRow) -> Result<Code, Memory>
+    ensures { IfOk result (λ code. code ≡ row_code row.now) }
 {
-    let pool = pool(alloc, row.pool)?;
     let insns = insns(alloc, row.insns)?;
     let attrs = frame_table(alloc, row.table, row.frames)?;
-    Ok(LibBody::Written(
-        pool,
-        Code {
-            max_stack: 5,
-            max_locals: 4,
-            insns,
-            rows: Seq::new(alloc),
-            attrs,
-        },
-    ))
+    Ok(Code {
+        max_stack: 5,
+        max_locals: 4,
+        insns,
+        rows: Seq::new(alloc),
+        attrs,
+    })
 }
 
 // ---- methods and fields
@@ -196,13 +192,13 @@ fn method(alloc: Global, row: &MethodRow) -> Result<LibMethod, Memory>
         MethodRow::Abstract(name, desc) => {
             Ok(method_with(alloc, 1025, name, desc, LibBody::Abstract)?)
         }
-        MethodRow::Written(name, desc, code) => {
-            let body = body(alloc, code)?;
-            Ok(method_with(alloc, 1, name, desc, body)?)
+        MethodRow::Written(name, desc, row) => {
+            let code = code(alloc, row)?;
+            Ok(method_with(alloc, 1, name, desc, LibBody::Written(code))?)
         }
-        MethodRow::StaticWritten(name, desc, code) => {
-            let body = body(alloc, code)?;
-            Ok(method_with(alloc, 9, name, desc, body)?)
+        MethodRow::StaticWritten(name, desc, row) => {
+            let code = code(alloc, row)?;
+            Ok(method_with(alloc, 9, name, desc, LibBody::Written(code))?)
         }
     }
 }
@@ -215,6 +211,27 @@ fn methods(alloc: Global, rows: &[MethodRow]) -> Result<Seq<LibMethod>, Memory>
         methods.push(method(alloc, row)?)?;
     }
     Ok(Seq::from_vec(methods))
+}
+
+fn add_entries_of(alloc: Global, pool: &mut Vec<Const>, row: &MethodRow) -> Result<(), Memory>
+    ensures { OnOk result (pool.new.items ≡ pool.old.items ++ entries_of row.now) }
+{
+    match row {
+        MethodRow::Written(_, _, code) => add_entries(alloc, pool, code.pool),
+        MethodRow::StaticWritten(_, _, code) => add_entries(alloc, pool, code.pool),
+        _ => Ok(()),
+    }
+}
+
+// The constant pool of a class with these methods.
+fn pool(alloc: Global, rows: &[MethodRow]) -> Result<Seq<Const>, Memory>
+    ensures { IfOk result (λ pool. pool ≡ flat_map entries_of rows.now) }
+{
+    let mut pool = Vec::new(alloc);
+    for row in rows {
+        add_entries_of(alloc, &mut pool, row)?;
+    }
+    Ok(Seq::from_vec(pool))
 }
 
 fn fields(alloc: Global, rows: &[(&'static str, &'static str)]) -> Result<Seq<LibField>, Memory>
@@ -241,32 +258,38 @@ fn class_with(
     text: &str,
     parent: &str,
     interfaces: Seq<Name>,
-    methods: Seq<LibMethod>,
+    rows: &[MethodRow],
 ) -> Result<LibClass, Memory>
     ensures { IfOk result (λ c.
-        c ≡ class_with flags text.now (Some parent.now) interfaces [] methods) }
+        c ≡ class_with flags text.now (Some parent.now) interfaces [] rows.now) }
 {
     let named = name(alloc, text)?;
     let parent = name(alloc, parent)?;
+    let pool = pool(alloc, rows)?;
+    let methods = methods(alloc, rows)?;
     Ok(LibClass {
         name: named,
         parent: Some(parent),
         interfaces,
         flags,
+        pool,
         fields: Seq::new(alloc),
         methods,
     })
 }
 
-fn root(alloc: Global, text: &str, methods: Seq<LibMethod>) -> Result<LibClass, Memory>
-    ensures { IfOk result (λ c. c ≡ class_with 33 text.now None [] [] methods) }
+fn root(alloc: Global, text: &str, rows: &[MethodRow]) -> Result<LibClass, Memory>
+    ensures { IfOk result (λ c. c ≡ class_with 33 text.now None [] [] rows.now) }
 {
     let named = name(alloc, text)?;
+    let pool = pool(alloc, rows)?;
+    let methods = methods(alloc, rows)?;
     Ok(LibClass {
         name: named,
         parent: None,
         interfaces: Seq::new(alloc),
         flags: 33,
+        pool,
         fields: Seq::new(alloc),
         methods,
     })
@@ -277,17 +300,20 @@ fn with_fields(
     text: &str,
     parent: &str,
     fields: Seq<LibField>,
-    methods: Seq<LibMethod>,
+    rows: &[MethodRow],
 ) -> Result<LibClass, Memory>
-    ensures { IfOk result (λ c. c ≡ class_with 33 text.now (Some parent.now) [] fields methods) }
+    ensures { IfOk result (λ c. c ≡ class_with 33 text.now (Some parent.now) [] fields rows.now) }
 {
     let named = name(alloc, text)?;
     let parent = name(alloc, parent)?;
+    let pool = pool(alloc, rows)?;
+    let methods = methods(alloc, rows)?;
     Ok(LibClass {
         name: named,
         parent: Some(parent),
         interfaces: Seq::new(alloc),
         flags: 33,
+        pool,
         fields,
         methods,
     })
@@ -299,32 +325,24 @@ fn class(alloc: Global, row: &ClassRow) -> Result<LibClass, Memory>
     match row {
         ClassRow::Class(name, parent, interfaces, rows) => {
             let interfaces = names(alloc, interfaces)?;
-            let methods = methods(alloc, rows)?;
-            Ok(class_with(alloc, 33, name, parent, interfaces, methods)?)
+            Ok(class_with(alloc, 33, name, parent, interfaces, rows)?)
         }
         ClassRow::FinalClass(name, parent, interfaces, rows) => {
             let interfaces = names(alloc, interfaces)?;
-            let methods = methods(alloc, rows)?;
-            Ok(class_with(alloc, 49, name, parent, interfaces, methods)?)
+            Ok(class_with(alloc, 49, name, parent, interfaces, rows)?)
         }
         ClassRow::AbstractClass(name, parent, interfaces, rows) => {
             let interfaces = names(alloc, interfaces)?;
-            let methods = methods(alloc, rows)?;
-            Ok(class_with(alloc, 1057, name, parent, interfaces, methods)?)
+            Ok(class_with(alloc, 1057, name, parent, interfaces, rows)?)
         }
         ClassRow::Interface(name, interfaces, rows) => {
             let interfaces = names(alloc, interfaces)?;
-            let methods = methods(alloc, rows)?;
-            Ok(class_with(alloc, 1537, name, "java/lang/Object", interfaces, methods)?)
+            Ok(class_with(alloc, 1537, name, "java/lang/Object", interfaces, rows)?)
         }
-        ClassRow::Root(name, rows) => {
-            let methods = methods(alloc, rows)?;
-            Ok(root(alloc, name, methods)?)
-        }
+        ClassRow::Root(name, rows) => Ok(root(alloc, name, rows)?),
         ClassRow::WithFields(name, parent, field_rows, rows) => {
             let fields = fields(alloc, field_rows)?;
-            let methods = methods(alloc, rows)?;
-            Ok(with_fields(alloc, name, parent, fields, methods)?)
+            Ok(with_fields(alloc, name, parent, fields, rows)?)
         }
     }
 }

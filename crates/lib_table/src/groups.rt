@@ -1,11 +1,11 @@
 //! The library by groups of classes, and whole.
 
-ghost use Rattle.std.specs.Prelude.{◌≡◌, ◌++◌, IfOk};
+ghost use Rattle.std.specs.Prelude.{◌≡◌, ◌++◌, map, IfOk};
 ghost use Rattle.lib_table.specs.Interfaces as interface_def;
 ghost use Rattle.lib_table.specs.LangClasses as lang_def;
 ghost use Rattle.lib_table.specs.Exceptions as exception_def;
 ghost use Rattle.lib_table.specs.Collected as util_def;
-ghost use Rattle.lib_table.specs.Library.{interfaces, lang_classes, exceptions, library};
+ghost use Rattle.lib_table.specs.Library.{interfaces, lang_classes, exceptions, library, class_meant, library_meant};
 
 use crate::building::classes_of;
 use crate::exception_rows::{ERRORS, LIBRARY_EXCEPTIONS, MACHINE_EXCEPTIONS, THROWABLES};
@@ -123,8 +123,8 @@ fn exceptions(alloc: Global) -> Result<Seq<LibClass>, Memory>
     Ok(joined(front, back)?)
 }
 
-/// The classes of the library.
-pub fn classes(alloc: Global) -> Result<Seq<LibClass>, Memory>
+// The classes of the library, group by group.
+fn joined_groups(alloc: Global) -> Result<Seq<LibClass>, Memory>
     ensures { IfOk result (λ cs. cs ≡ library) }
 {
     let interfaces = interfaces(alloc)?;
@@ -136,4 +136,14 @@ pub fn classes(alloc: Global) -> Result<Seq<LibClass>, Memory>
     let collected = joined(collections, assertions)?;
     let back = joined(exceptions, collected)?;
     Ok(joined(front, back)?)
+}
+
+/// The classes of the library, for `Program::build`.
+#[tactic(auto, unfolding(crate::specs::Library::library_meant))]
+pub fn classes(alloc: Global) -> Result<Seq<LibClass>, Memory>
+    ensures table { IfOk result (λ cs. cs ≡ library) }
+    ensures meant { IfOk result (λ cs. map class_meant cs ≡ library_meant) }
+{
+    let classes = joined_groups(alloc)?;
+    Ok(classes)
 }

@@ -1,5 +1,6 @@
-//! Written methods, with their constant pools. An operand of a jump is the number of an instruction,
-//! counted from 0; the first entry of a pool is number 1.
+//! Written methods, each with its entries in the constant pool of its class, behind those of the
+//! methods before it. An operand of a jump is the number of an instruction, counted from 0; the first
+//! entry of a pool is number 1.
 
 use crate::rows::{CodeRow, ConstRow, FrameRow, InsnRow};
 
@@ -37,11 +38,11 @@ pub const EQUAL_OBJECTS: CodeRow = CodeRow {
 pub const HASH_OF_OBJECT: CodeRow = CodeRow {
     pool: &[
         ConstRow::Utf8("java/lang/Object"),
-        ConstRow::Class(1),
+        ConstRow::Class(8),
         ConstRow::Utf8("hashCode"),
         ConstRow::Utf8("()I"),
-        ConstRow::Pair(3, 4),
-        ConstRow::Method(2, 5),
+        ConstRow::Pair(10, 11),
+        ConstRow::Method(9, 12),
         ConstRow::Utf8("StackMapTable"),
     ],
     insns: &[
@@ -50,10 +51,10 @@ pub const HASH_OF_OBJECT: CodeRow = CodeRow {
         InsnRow::Op(0x03),
         InsnRow::Op(0xac),
         InsnRow::Op(0x2a),
-        InsnRow::Pool(0xb6, 6),
+        InsnRow::Pool(0xb6, 13),
         InsnRow::Op(0xac),
     ],
-    table: 7,
+    table: 14,
     frames: &[FrameRow::Same(4)],
 };
 

@@ -14,7 +14,7 @@ mod map_codes;
 mod rows;
 mod util_rows;
 
-pub use assertion_codes::{ASSERT_EQUAL_OBJECTS, ASSERT_UNEQUAL_OBJECTS};
+pub use assertion_codes::ASSERT_UNEQUAL_OBJECTS;
 pub use groups::classes;
 pub use laws::{
     classes_have_supers, names_differ, numbers_are_places, written_calls_are_found,

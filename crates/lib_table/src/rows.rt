@@ -2,7 +2,7 @@
 
 use class_model::VItem;
 
-/// An entry of the constant pool of a written method.
+/// An entry of a constant pool.
 #[derive(Clone, Copy)]
 pub enum ConstRow {
     Utf8(&'static str),
@@ -33,8 +33,8 @@ pub enum FrameRow {
     More(u32, &'static [VItem]),
 }
 
-/// A written method: its constant pool, its code, and its frames with the index of the name of
-/// their table.
+/// A written method: its entries in the constant pool of its class, its code, and its frames with the
+/// index of the name of their table. Indices count in the pool of the class.
 #[derive(Clone, Copy)]
 pub struct CodeRow {
     pub pool: &'static [ConstRow],

@@ -5,6 +5,7 @@ use Rattle.std.specs.List.{list_all}
 use Rattle.std.specs.Char.Utf16.{utf16_chars}
 use Rattle.std.proofs.lemmas.Bool.{and_parts, eqb-true, true≢false}
 use Rattle.class_model.specs.DescriptorReading.{parameters_at}
+use Rattle.class_link.specs.Linking.{link_library}
 use Rattle.class_link.specs.Opcodes.{instruction_by}
 use Rattle.program_rules.specs.Names.{Name, same}
 use Rattle.program_rules.specs.Linked.{Linked, LinkedMethod, code_in}
@@ -17,7 +18,8 @@ use Rattle.lib_table.specs.Interfaces.{basic_interfaces, collection_interfaces}
 use Rattle.lib_table.specs.LangClasses.{objects, texts, numbers}
 use Rattle.lib_table.specs.Exceptions.{throwables, errors, machine_exceptions, library_exceptions}
 use Rattle.lib_table.specs.Collected.{collections, assertions}
-use Rattle.library_laws.specs.Beside.{AreOfFiles, with_others, beside_library}
+use Rattle.lib_table.specs.Library.{library_meant}
+use Rattle.library_laws.specs.Beside.{AreOfFiles, AreApart, with_others, beside_library, behind_others}
 use Rattle.library_laws.proofs.Meaning.{is_table, table}
 
 none_of : {A : Type 0} (o : Option A) → is_none o ≡ true → o ≡ None
@@ -67,7 +69,7 @@ module _ (other : Look) (files : AreOfFiles other) where
   program = with_others table other
 
   rights : list_all (is_right program) table ≡ true
-  unfolding supers row utf16_chars parameters_at instruction_by basic_interfaces collection_interfaces objects texts numbers throwables errors machine_exceptions library_exceptions collections assertions
+  unfolding link_library supers row utf16_chars parameters_at instruction_by basic_interfaces collection_interfaces objects texts numbers throwables errors machine_exceptions library_exceptions collections assertions
   rights = refl
 
   among_case : (n : Name) (c : Linked) (o : Option Linked) → class_among table n ≡ o → first_of o (other n) ≡ Some c → c.library ≡ true → class_among table n ≡ Some c
@@ -91,3 +93,16 @@ AreAccepted classes = (other : Look) → AreOfFiles other → (n : Name) (c : Li
 
 pub accepted : (other : Look) → AreOfFiles other → (n : Name) (c : Linked) → beside_library other n ≡ Some c → c.library ≡ true → ClassAccepted (beside_library other) n
 accepted = subst AreAccepted (sym is_table) (λ other files n c e l. accepted_over other files n c e l)
+
+-- ---- the other way round
+
+in_either_order : (a b : Option Linked) → ((c : Linked) → a ≡ Some c → b ≡ None) → first_of b a ≡ first_of a b
+in_either_order None None apart = refl
+in_either_order None (Some d) apart = refl
+in_either_order (Some c) None apart = refl
+in_either_order (Some c) (Some d) apart = let no : Some d ≡ None = apart c refl in absurd cc
+
+pub accepted_behind : (other : Look) → AreOfFiles other → AreApart other → (n : Name) (c : Linked) → behind_others other n ≡ Some c → c.library ≡ true → ClassAccepted (behind_others other) n
+accepted_behind other files apart =
+    let same_program : beside_library other ≡ behind_others other = λ i n. in_either_order (other n) (class_among library_meant n) (apart.each n) i in
+    subst (λ p. (n : Name) (c : Linked) → p n ≡ Some c → c.library ≡ true → ClassAccepted p n) same_program (accepted other files)

@@ -5,7 +5,7 @@ ghost use Rattle.program_rules.specs.Names.{Name};
 ghost use Rattle.program_rules.specs.Linked.{Linked};
 ghost use Rattle.program_rules.specs.Programs.{Look};
 ghost use Rattle.type_rules.specs.Rules.{ClassAccepted};
-ghost use Rattle.library_laws.specs.Beside.{AreOfFiles, beside_library};
+ghost use Rattle.library_laws.specs.Beside.{AreOfFiles, AreApart, beside_library, behind_others};
 
 /// Beside any classes of class files each class of the library is accepted.
 #[tactic(auto, using(crate::proofs::Accepting::accepted))]
@@ -13,4 +13,12 @@ pub fn library_is_accepted()
     ensures { (other : Look) → AreOfFiles other → (n : Name) (c : Linked) →
         beside_library other n ≡ Some c → c.library ≡ true →
         ClassAccepted (beside_library other) n }
+{}
+
+/// The same where a name means one of the others first, if none of them has a name of the library.
+#[tactic(auto, using(crate::proofs::Accepting::accepted_behind))]
+pub fn library_is_accepted_behind()
+    ensures { (other : Look) → AreOfFiles other → AreApart other → (n : Name) (c : Linked) →
+        behind_others other n ≡ Some c → c.library ≡ true →
+        ClassAccepted (behind_others other) n }
 {}

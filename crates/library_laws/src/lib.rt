@@ -3,4 +3,4 @@
 
 mod accepted;
 
-pub use accepted::library_is_accepted;
+pub use accepted::{library_is_accepted, library_is_accepted_behind};

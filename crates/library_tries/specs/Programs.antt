@@ -12,7 +12,7 @@ use Rattle.program_rules.specs.Library.{class_among, first_of}
 use Rattle.machine_rules.specs.declared.machine.Outcome.{Outcome}
 use Rattle.machine_rules.specs.declared.machine.Outcome.TheVariants.{Passed, Failed}
 use Rattle.machine_rules.specs.Runs.{With, Ran, run_of}
-use Rattle.library_laws.specs.Meant.{library_meant}
+use Rattle.lib_table.specs.Library.{library_meant}
 use Rattle.machine_tries.specs.Tries.{a_call, a_class, a_code, a_member, a_row, only_t, told}
 
 -- A part of a program: code that gives nothing; code that has to give this int; code that has to

@@ -1,6 +1,7 @@
-use Rattle.std.proofs.Common.{◌≡◌, take, map}
-use Rattle.lib_table.specs.Rows.{const_of}
+use Rattle.std.proofs.Common.{◌≡◌, take}
+use Rattle.std.specs.List.{flat_map}
+use Rattle.lib_table.specs.Rows.{entries_of}
 use Rattle.lib_table.proofs.building.pool.Given as goal
 
 abbrev pub invariant-loop-row : goal.invariant-loop-row
-invariant-loop-row l = l.entries.items ≡ map const_of (take l.row-index l.rows)
+invariant-loop-row l = l.pool.items ≡ flat_map entries_of (take l.row-index l.rows)

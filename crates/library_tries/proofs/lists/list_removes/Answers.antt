@@ -2,6 +2,7 @@ use Rattle.std.proofs.Common.{refl}
 use Rattle.std.specs.Int.{int_wrap}
 use Rattle.std.specs.Char.Utf16.{utf16_chars}
 use Rattle.class_model.specs.DescriptorReading.{parameters_at}
+use Rattle.class_link.specs.Linking.{link_library}
 use Rattle.class_link.specs.Opcodes.{instruction_by}
 use Rattle.program_rules.specs.Programs.{supers, nodes, family}
 use Rattle.program_rules.specs.Resolution.{resolve_field, resolve_method}
@@ -19,5 +20,5 @@ use Rattle.library_tries.proofs.Telling.{as_told}
 use Rattle.library_tries.proofs.lists.list_removes.Goals as goal
 
 pub returns : goal.returns
-unfolding int_wrap supers nodes act step_of family resolve_field resolve_method select_virtual select_named need_of is_instance on_receiver on_receiver_int on_receiver_value utf16_chars parameters_at instruction_by basic_interfaces collection_interfaces objects texts numbers throwables errors machine_exceptions library_exceptions collections assertions
+unfolding link_library int_wrap supers nodes act step_of family resolve_field resolve_method select_virtual select_named need_of is_instance on_receiver on_receiver_int on_receiver_value utf16_chars parameters_at instruction_by basic_interfaces collection_interfaces objects texts numbers throwables errors machine_exceptions library_exceptions collections assertions
 returns c = record { removal_in_the_middle = as_told removal_in_the_middle refl; removal_of_none = as_told removal_of_none refl; removal_of_null = as_told removal_of_null refl; removal_of_one_of_two = as_told removal_of_one_of_two refl; removal_of_an_object = as_told removal_of_an_object refl; removal_of_a_place = as_told removal_of_a_place refl }

@@ -3,6 +3,7 @@ use Rattle.std.specs.Fmt.{digits}
 use Rattle.std.specs.Int.{int_wrap}
 use Rattle.std.specs.Char.Utf16.{utf16_chars}
 use Rattle.class_model.specs.DescriptorReading.{parameters_at}
+use Rattle.class_link.specs.Linking.{link_library}
 use Rattle.class_link.specs.Opcodes.{instruction_by}
 use Rattle.program_rules.specs.Programs.{supers, nodes, family}
 use Rattle.program_rules.specs.Resolution.{resolve_field, resolve_method}
@@ -20,5 +21,5 @@ use Rattle.library_tries.proofs.Telling.{as_told}
 use Rattle.library_tries.proofs.objects.texts_are_given.Goals as goal
 
 pub returns : goal.returns
-unfolding digits int_wrap supers nodes act step_of family resolve_field resolve_method select_virtual select_named need_of is_instance on_receiver on_receiver_int on_receiver_value utf16_chars parameters_at instruction_by basic_interfaces collection_interfaces objects texts numbers throwables errors machine_exceptions library_exceptions collections assertions
+unfolding link_library digits int_wrap supers nodes act step_of family resolve_field resolve_method select_virtual select_named need_of is_instance on_receiver on_receiver_int on_receiver_value utf16_chars parameters_at instruction_by basic_interfaces collection_interfaces objects texts numbers throwables errors machine_exceptions library_exceptions collections assertions
 returns c = record { null_has_a_text = as_told null_has_a_text refl; text_is_its_text = as_told text_is_its_text refl; box_has_a_text = as_told box_has_a_text refl; append_of_null = as_told append_of_null refl; append_of_objects = as_told append_of_objects refl }
