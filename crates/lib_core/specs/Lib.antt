@@ -3,3 +3,4 @@ pub mod Known
 pub mod Performed
 pub mod Answers
 pub mod Forms
+pub mod Slots

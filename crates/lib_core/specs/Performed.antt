@@ -14,6 +14,7 @@ use Rattle.jvm_values.specs.declared.fault.HeapFault.TheVariants.{Full}
 use Rattle.lib_core.specs.declared.deed.Change.{Change}
 use Rattle.lib_core.specs.declared.known.Known.{Known}
 use Rattle.lib_core.specs.declared.performing.NativeEnd.{NativeEnd}
+use Rattle.lib_core.specs.declared.performing.NativeEnd.TheVariants as end
 use Rattle.lib_core.specs.View.{object_of, change_of, with_store, result_of}
 use Rattle.lib_core.specs.Known.{IsKnown}
 
@@ -73,6 +74,15 @@ Does known d heap kept new_heap new_kept e =
     (ns : List Name) (w : World) → IsKnown ns known →
     performs heap.limit (with_store ns heap kept w) d
     ≡ result_of heap.limit (with_store ns new_heap new_kept w) e
+
+-- Where it gives no result yet, heap and kept boxes are as before.
+abbrev pub StaysFor : NativeEnd → Contents → Kept → Contents → Kept → Type 0
+StaysFor (end.Returns v) heap kept new_heap new_kept = Unit {0}
+StaysFor (end.Raises x) heap kept new_heap new_kept = (new_heap ≡ heap) × (new_kept ≡ kept)
+StaysFor (end.ReturnsClass n) heap kept new_heap new_kept = (new_heap ≡ heap) × (new_kept ≡ kept)
+StaysFor (end.ReturnsWithin x n v fault) heap kept new_heap new_kept =
+    (new_heap ≡ heap) × (new_kept ≡ kept)
+StaysFor end.NoResult heap kept new_heap new_kept = (new_heap ≡ heap) × (new_kept ≡ kept)
 
 -- In every world the heap's limit would be passed.
 abbrev pub Passes : Known → deeds.Deed → Contents → Kept → Type 0

@@ -1,11 +1,13 @@
 //! What is to be done for a native method is done to the heap and to the boxes that are kept.
 
-ghost use Rattle.std.specs.Prelude.{◌≡◌, ◌+◌, ◌++◌, ◌∷◌, [], List, Some, None, map, true, IfOk, OnOk, IsSome};
+ghost use Rattle.std.specs.Prelude.{◌≡◌, ◌+◌, ◌++◌, ◌∷◌, [], List, Some, None, map, length, true, IfOk, OnOk, IsSome};
 ghost use Rattle.program_rules.specs.Deeds as deeds;
 ghost use Rattle.program_rules.specs.Names.{Name as Text};
 ghost use Rattle.machine_rules.specs.Performing.{object_with, box_among, number_of, char_value, char_array};
 ghost use Rattle.jvm_values.specs.Contents.{object_at, fits_with, with_object_at};
-ghost use Rattle.lib_core.specs.Performed.{OnFull, IsPassed, IsChanged, IsObject, IsAdded, DoesAlone, IsRefusedAlone, Does, IsRefused};
+ghost use Rattle.lib_core.specs.Performed.{OnFull, IsPassed, IsChanged, IsObject, IsAdded, DoesAlone, IsRefusedAlone, Does, IsRefused, StaysFor};
+ghost use Rattle.jvm_values.specs.declared.kept.Kept.{Kept as StoredBoxes};
+ghost use Rattle.lib_core.specs.Slots.{HasMore, ChangesFew, AddsFew, DoesFew};
 ghost use Rattle.lib_core.specs.View.{object_of, change_of, deed_of, box_of};
 
 use crate::changing::change_object;
@@ -74,6 +76,7 @@ fn change_at(
     Ok(())
 }
 
+#[tactic(auto, using(crate::proofs::Fewer::changed_few, crate::proofs::Fewer::unchanged_few))]
 fn change(
     alloc: Global,
     heap: &mut Heap,
@@ -84,6 +87,9 @@ fn change(
 ) -> Result<NativeEnd, HeapFault>
     ensures done { IfOk result (λ e.
         DoesAlone (deeds.Changes at (change_of change) words v) heap.old heap.new e) }
+    ensures few { OnOk result (ChangesFew change heap.old heap.new) }
+    ensures stays { IfOk result (λ e. (kept : StoredBoxes) →
+        StaysFor e heap.old kept heap.new kept) }
     ensures full { OnFull result (
         IsRefusedAlone (deeds.Changes at (change_of change) words v) heap.old heap.new) }
 {
@@ -100,7 +106,8 @@ fn change(
 // ---- an object is made
 
 fn new_object(known: &Known, making: Making, text: Name, items: Seq<Value>) -> Object
-    ensures { IsObject known.now result (object_with making text items) }
+    ensures empty { result.values ≡ [] }
+    ensures of { IsObject known.now result (object_with making text items) }
 {
     let values = items.empty();
     Object {
@@ -122,6 +129,7 @@ fn make(
     ensures made { IfOk result (λ x.
         IsAdded known.now (object_with making text items) (1 + words) heap.old heap.new x) }
     ensures fits { OnOk result (fits_with heap.old (1 + words) ≡ true) }
+    ensures few { OnOk result (AddsFew heap.old heap.new) }
     ensures full { OnFull result (IsPassed (1 + words) heap.old heap.new) }
 {
     let object = new_object(known, making, text, items);
@@ -191,6 +199,7 @@ fn add_box(boxes: &mut Seq<KeptBox>, class: Making, v: Value, object: u32) -> Re
     Ok(())
 }
 
+#[tactic(auto, using(crate::proofs::Fewer::same_few))]
 fn give_box(
     alloc: Global,
     known: &Known,
@@ -201,6 +210,7 @@ fn give_box(
 ) -> Result<u32, HeapFault>
     ensures done { IfOk result (λ x. Does known.now (deeds.Boxes making v)
         heap.old kept.old heap.new kept.new (NativeEnd.Returns (Some (Value.Ref x)))) }
+    ensures few { OnOk result (AddsFew heap.old heap.new) }
     ensures full { OnFull result (
         IsRefused known.now (deeds.Boxes making v) heap.old kept.old heap.new kept.new) }
 {
@@ -233,7 +243,8 @@ fn char_values(alloc: Global, units: &[u16]) -> Result<Seq<Value>, Memory>
 }
 
 fn char_array(alloc: Global, units: &[u16]) -> Result<Object, Memory>
-    ensures { IfOk result (λ o. (ns : List Text) → object_of ns o ≡ char_array units.now) }
+    ensures of { IfOk result (λ o. (ns : List Text) → object_of ns o ≡ char_array units.now) }
+    ensures slots { IfOk result (λ o. length o.values ≡ length units.now) }
 {
     let values = char_values(alloc, units)?;
     Ok(Object {
@@ -247,6 +258,7 @@ fn char_array(alloc: Global, units: &[u16]) -> Result<Object, Memory>
 fn make_chars(alloc: Global, heap: &mut Heap, units: &[u16]) -> Result<u32, HeapFault>
     ensures made { IfOk result (λ x. DoesAlone (deeds.MakesChars units.now)
         heap.old heap.new (NativeEnd.Returns (Some (Value.Ref x)))) }
+    ensures few { OnOk result (AddsFew heap.old heap.new) }
     ensures full { OnFull result (
         IsRefusedAlone (deeds.MakesChars units.now) heap.old heap.new) }
 {
@@ -270,6 +282,8 @@ pub fn perform(
 ) -> Result<NativeEnd, HeapFault>
     ensures done { IfOk result (λ e.
         Does known.now (deed_of deed) heap.old kept.old heap.new kept.new e) }
+    ensures few { OnOk result (DoesFew deed heap.old heap.new) }
+    ensures stays { IfOk result (λ e. StaysFor e heap.old kept.old heap.new kept.new) }
     ensures full { OnFull result (
         IsRefused known.now (deed_of deed) heap.old kept.old heap.new kept.new) }
 {
