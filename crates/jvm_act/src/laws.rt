@@ -1,0 +1,45 @@
+//! What rows come to, said in one way, and what becomes of frames.
+
+ghost use Rattle.jvm_act.specs.Laws.{RunsAreTurned, WholesAreTurned, TurnsAreTurned, InvokedAreTurned, WholesKeepFrames, CallsKeepFrames, BeginsKeepFrames};
+
+/// A row by which the running frame stays.
+#[tactic(auto, using(crate::proofs::Turns::runs_are_turned))]
+pub fn runs_are_turned()
+    ensures { RunsAreTurned }
+{}
+
+/// One that resolves what its instruction names.
+#[tactic(auto, using(crate::proofs::Turns::wholes_are_turned))]
+pub fn wholes_are_turned()
+    ensures { WholesAreTurned }
+{}
+
+/// One that may change which frames there are.
+#[tactic(auto, using(crate::proofs::Turns::turns_are_turned))]
+pub fn turns_are_turned()
+    ensures { TurnsAreTurned }
+{}
+
+/// One that calls a method, once nothing is left of it.
+#[tactic(auto, using(crate::proofs::Turns::invoked_are_turned))]
+pub fn invoked_are_turned()
+    ensures { InvokedAreTurned }
+{}
+
+/// Frames are as the next step needs them behind a row by which the running frame stays.
+#[tactic(auto, using(crate::proofs::Framed::wholes_keep_frames))]
+pub fn wholes_keep_frames()
+    ensures { WholesKeepFrames }
+{}
+
+/// So they are behind a call.
+#[tactic(auto, using(crate::proofs::Framed::calls_keep_frames))]
+pub fn calls_keep_frames()
+    ensures { CallsKeepFrames }
+{}
+
+/// So they are behind the begin of a class.
+#[tactic(auto, using(crate::proofs::Framed::begins_keep_frames))]
+pub fn begins_keep_frames()
+    ensures { BeginsKeepFrames }
+{}
