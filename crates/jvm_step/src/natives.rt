@@ -4,7 +4,7 @@ ghost use Rattle.std.specs.Prelude.{◌≡◌, Bool, List, IfOk, IfSome, IfNone,
 ghost use Rattle.program_rules.specs.Deeds.{Deed, NoDeed};
 ghost use Rattle.program_rules.specs.Objects.{Object};
 ghost use Rattle.program_rules.specs.Natives.{on_boolean, assert_true, assert_false};
-ghost use Rattle.library_rules.specs.Numbered.{meaning_of};
+ghost use Rattle.library_rules.specs.Numbered.{assertion_meaning, meaning_of};
 ghost use Rattle.jvm_step.specs.Natives.{deed_of, GivesFor, TakesSome, TakesNone};
 
 use crate::frame::Frame;
@@ -46,6 +46,18 @@ fn assert_false(args: &[Value]) -> Given
     }
 }
 
+// What an assertion does with these arguments, whatever objects there are. None of the classes in
+// `classes` has another one, so nothing reaches the last arm.
+fn run_assertion(method: AssertionNative, args: &[Value]) -> Result<Given, Memory>
+    ensures { IfOk result (GivesFor (assertion_meaning method) args.now) }
+{
+    match method {
+        AssertionNative::True => Ok(assert_true(args)),
+        AssertionNative::False => Ok(assert_false(args)),
+        _ => Err(Memory),
+    }
+}
+
 // What a native method does with these arguments, whatever objects there are. None of the classes
 // in `classes` has another one, so nothing reaches the last arm.
 fn run_native(method: Native, args: &[Value]) -> Result<Given, Memory>
@@ -53,8 +65,7 @@ fn run_native(method: Native, args: &[Value]) -> Result<Given, Memory>
 {
     match method {
         Native::Lang(LangNative::Object(ObjectNative::DoNothing)) => Ok(Given::Gives),
-        Native::Junit(AssertionNative::True) => Ok(assert_true(args)),
-        Native::Junit(AssertionNative::False) => Ok(assert_false(args)),
+        Native::Junit(assertion) => run_assertion(assertion, args),
         _ => Err(Memory),
     }
 }
