@@ -40,11 +40,11 @@ or_false b = refl
 
 -- each field of an interface is static
 pub static_interface : (p : List Info) (s : Site) (i : Bool) → i ≡ is_interface_class (outline_at p s.class.0) → i ≡ true → (f : LinkedField) → Declares p s f → true ≡ is_static_field (outline_at p s.class.0) f
-static_interface p s i told yes f there = sym (ap (λ b. b || is_static f.flags) (sym told ∙ yes) ∙ or_true (is_static f.flags))
+static_interface p s i told holds_so f there = sym (ap (λ b. b || is_static f.flags) (sym told ∙ holds_so) ∙ or_true (is_static f.flags))
 
 pub static_flag : (p : List Info) (s : Site) (i b : Bool) (g : LinkedField) → i ≡ is_interface_class (outline_at p s.class.0) → i ≡ false → Declares p s g → b ≡ is_static g.flags → (f : LinkedField) → Declares p s f → b ≡ is_static_field (outline_at p s.class.0) f
-static_flag p s i b g told no here flag f there =
+static_flag p s i b g told fails_so here flag f there =
     let both : Some g ≡ Some f = sym here ∙ there in
     let one : g ≡ f = cc in
     flag ∙ ap (λ (h : LinkedField). is_static h.flags) one
-    ∙ sym (ap (λ k. k || is_static f.flags) (sym told ∙ no) ∙ or_false (is_static f.flags))
+    ∙ sym (ap (λ k. k || is_static f.flags) (sym told ∙ fails_so) ∙ or_false (is_static f.flags))

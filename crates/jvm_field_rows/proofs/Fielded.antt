@@ -4,7 +4,6 @@ use Rattle.std.specs.Prelude.{if◌then◌else◌}
 use Rattle.std.proofs.lemmas.Option.{slice_get_within}
 use Rattle.program_rules.specs.declared.fault.Fault.{Fault}
 use Rattle.program_rules.specs.declared.fault.Fault.TheVariants.{IncompatibleClassChangeError}
-use Rattle.program_rules.specs.Kinds.{Kind}
 use Rattle.program_rules.specs.Linked.{LinkedField}
 use Rattle.program_rules.specs.Names.{class_behind}
 use Rattle.program_rules.specs.Outlines.{fields_in, is_static_field}
@@ -13,6 +12,7 @@ use Rattle.program_rules.specs.Resolution.{FieldAt, field_at}
 use Rattle.machine_rules.specs.Effects.{throws}
 use Rattle.machine_rules.specs.Fields.{reads_field, writes_field}
 use Rattle.machine_rules.specs.Lookups.{consult}
+use Rattle.class_model.specs.declared.kind.Kind as plain
 use Rattle.class_link.specs.declared.linked.FieldRef.{FieldRef}
 use Rattle.class_link.specs.declared.linked.LinkedField as code_field
 use Rattle.class_link.specs.Symbols.{kind_of}
@@ -82,14 +82,14 @@ get_cases p x b old w e =
     ap (λ t. if t then throws w.limits v (framed class f ∷ fs) IncompatibleClassChangeError else reads_field w.limits v (framed class f) fs f.room x) e)
 
 pub get_static_one : (p : List Info) (r : FieldRef) (s : Site) (x : FieldAt) (b : Bool) (e : code.Effect) (old new : NumberedFrames) (w u : World) → IsFieldNamed p r s → ResolvesTo p r x → TellsStatic p s b → b ≡ true → Runs p (throwing IncompatibleClassChangeError) e old new w u → Runs p (get_found x) e old new w u
-get_static_one p r s x b e old new w u is to told yes h =
+get_static_one p r s x b e old new w u is to told holds_so h =
     along p (get_found x) (throwing IncompatibleClassChangeError) e old new w u
-    (get_cases p x true old w (static_of p r s x b is to told ∙ yes)) h
+    (get_cases p x true old w (static_of p r s x b is to told ∙ holds_so)) h
 
 pub get_instance : (p : List Info) (r : FieldRef) (s : Site) (x : FieldAt) (b : Bool) (slot : ℕ) (e : code.Effect) (old new : NumberedFrames) (w u : World) → IsWorldOf p w → IsFieldNamed p r s → ResolvesTo p r x → TellsStatic p s b → b ≡ false → ServesFor p r slot → ((y : FieldAt) → y.slot ≡ slot → Runs p (getting y) e old new w u) → Runs p (get_found x) e old new w u
-get_instance p r s x b slot e old new w u here is to told no serves h =
+get_instance p r s x b slot e old new w u here is to told fails_so serves h =
     along p (get_found x) (getting x) e old new w u
-    (get_cases p x false old w (static_of p r s x b is to told ∙ no))
+    (get_cases p x false old w (static_of p r s x b is to told ∙ fails_so))
     (elim (serves x to) [
       | inl same ↦ h x same
       | inr past ↦ along p (getting x) (getting (at_slot slot x)) e old new w u
@@ -119,15 +119,15 @@ put_cases p x b old w e =
     ap (λ t. if t then throws w.limits v (framed class f ∷ fs) IncompatibleClassChangeError else writes_field w.limits v (framed class f) fs x) e)
 
 pub put_static_one : (p : List Info) (r : FieldRef) (s : Site) (x : FieldAt) (b : Bool) (e : code.Effect) (old new : NumberedFrames) (w u : World) → IsFieldNamed p r s → ResolvesTo p r x → TellsStatic p s b → b ≡ true → Runs p (throwing IncompatibleClassChangeError) e old new w u → Runs p (put_found x) e old new w u
-put_static_one p r s x b e old new w u is to told yes h =
+put_static_one p r s x b e old new w u is to told holds_so h =
     along p (put_found x) (throwing IncompatibleClassChangeError) e old new w u
-    (put_cases p x true old w (static_of p r s x b is to told ∙ yes)) h
+    (put_cases p x true old w (static_of p r s x b is to told ∙ holds_so)) h
 
-pub put_instance : (p : List Info) (r : FieldRef) (s : Site) (x : FieldAt) (b : Bool) (slot : ℕ) (l : code_field.LinkedField) (e : code.Effect) (old new : NumberedFrames) (w u : World) → IsWorldOf p w → IsFieldNamed p r s → ResolvesTo p r x → TellsStatic p s b → b ≡ false → ServesFor p r slot → Declares p s (field_of l) → ((y : FieldAt) → y.slot ≡ slot → y.kind ≡ kind_of l.kind → Runs p (storing y) e old new w u) → Runs p (put_found x) e old new w u
-put_instance p r s x b slot l e old new w u here is to told no serves there h =
-    let kind = kind_of_field p r s x l is to there in
+pub put_instance : (p : List Info) (r : FieldRef) (s : Site) (x : FieldAt) (b : Bool) (slot : ℕ) (l : code_field.LinkedField) (k : plain.Kind) (e : code.Effect) (old new : NumberedFrames) (w u : World) → k ≡ l.kind → IsWorldOf p w → IsFieldNamed p r s → ResolvesTo p r x → TellsStatic p s b → b ≡ false → ServesFor p r slot → Declares p s (field_of l) → ((y : FieldAt) → y.slot ≡ slot → y.kind ≡ kind_of k → Runs p (storing y) e old new w u) → Runs p (put_found x) e old new w u
+put_instance p r s x b slot l k e old new w u of here is to told fails_so serves there h =
+    let kind : x.kind ≡ kind_of k = kind_of_field p r s x l is to there ∙ ap kind_of (sym of) in
     along p (put_found x) (storing x) e old new w u
-    (put_cases p x false old w (static_of p r s x b is to told ∙ no))
+    (put_cases p x false old w (static_of p r s x b is to told ∙ fails_so))
     (elim (serves x to) [
       | inl same ↦ h x same kind
       | inr past ↦ along p (storing x) (storing (at_slot slot x)) e old new w u

@@ -19,14 +19,14 @@ module _ (p : List Info) (old : List (Option Layout)) where
   pub laid_same : (new : List (Option Layout)) → AreLayouts p old → ((i : ℕ) → get_or new i None ≡ get_or old i None) → AreLayouts p new
   laid_same new layouts same class l is = layouts class l (sym (same class) ∙ is)
 
-  pub laid_more : (mid new : List (Option Layout)) (class : ℕ) (kept : Layout) → AreLayouts p old → IsLaidOut p class kept → ((i : ℕ) → get_or mid i None ≡ get_or old i None) → ((i : ℕ) → get_or new i None ≡ (if nat_eq class i then Some kept else get_or mid i None)) → AreLayouts p new
-  laid_more mid new class kept layouts right same holds i l is = by_case (nat_eq class i) refl
+  pub laid_more : (new : List (Option Layout)) (class : ℕ) (kept : Layout) → AreLayouts p old → IsLaidOut p class kept → ((i : ℕ) → get_or new i None ≡ (if nat_eq class i then Some kept else get_or old i None)) → AreLayouts p new
+  laid_more new class kept layouts right holds i l is = by_case (nat_eq class i) refl
     where
       by_case : (b : Bool) → nat_eq class i ≡ b → IsLaidOut p i l
       by_case true e =
           let ei : class ≡ i = grind (arith, e) in
-          let stored : Some kept ≡ Some l = sym (holds i ∙ ap (λ b. if b then Some kept else get_or mid i None) e) ∙ is in
+          let stored : Some kept ≡ Some l = sym (holds i ∙ ap (λ b. if b then Some kept else get_or old i None) e) ∙ is in
           let ek : kept ≡ l = cc in
           subst (λ (z : Layout). IsLaidOut p i z) ek (subst (λ z. IsLaidOut p z kept) ei right)
       by_case false e =
-          layouts i l (sym (same i) ∙ sym (holds i ∙ ap (λ b. if b then Some kept else get_or mid i None) e) ∙ is)
+          layouts i l (sym (holds i ∙ ap (λ b. if b then Some kept else get_or old i None) e) ∙ is)

@@ -43,10 +43,10 @@ pub class_by : (p : List Info) (n : Name) (id : ClassId) → ResolvesClass p n (
 class_by p n id h = h
 
 behind_is : (n : Name) → is_array_name n ≡ false → class_behind n ≡ n
-behind_is n no = ap (λ b. if b then element_class (element_of n) else n) no
+behind_is n fails_so = ap (λ b. if b then element_class (element_of n) else n) fails_so
 
 name_is : (p : List Info) (n : Name) (id : ClassId) → IsClassNamed p n id → is_array_name n ≡ false → name_at p id.0 ≡ n
-name_is p n id is no = is.named ∙ behind_is n no
+name_is p n id is fails_so = is.named ∙ behind_is n fails_so
 
 abbrev found_by : List Info → Name → Bool → RowOf
 found_by p n b = λ q room w f fs.
@@ -58,8 +58,8 @@ found_cases p n b old w e =
     (λ f class v fs m. ap (λ t. found_by p n t w.limits f.room v (framed class f) fs) e)
 
 pub no_array : (p : List Info) (n : Name) (b : Bool) (old : NumberedFrames) (w : World) → b ≡ is_array_name n → b ≡ true → TurnsWhole p (new_found p n) turn.NoRow old old w w
-no_array p n b old w told yes =
-    turn_along p (new_found p n) nothing turn.NoRow old old w w (found_cases p n true old w (sym told ∙ yes))
+no_array p n b old w told holds_so =
+    turn_along p (new_found p n) nothing turn.NoRow old old w w (found_cases p n true old w (sym told ∙ holds_so))
     (whole_turn p nothing effect.NoRow turn.NoRow old old w w refl
     (whole p nothing effect.NoRow old old w w
     (no_row p nothing old w (each old.frame (λ f. AreSame p (nothing w.limits f.room) (nothing w.limits f.room) f w) (λ f class v fs m. refl)))))
@@ -69,18 +69,18 @@ abbrev making : Name → Family → RowOf
 making n c = instance_row n c
 
 left_ready : (p : List Info) (n : Name) (id : ClassId) (b : Bool) (t : Turn) (old new : NumberedFrames) (w u : World) → IsClassNamed p n id → b ≡ is_array_name n → b ≡ false → TurnsWhole p (readying p (name_at p id.0) (making (name_at p id.0))) t old new w u → TurnsWhole p (new_found p n) t old new w u
-left_ready p n id b t old new w u is told no h =
-    let none = sym told ∙ no in
+left_ready p n id b t old new w u is told fails_so h =
+    let none = sym told ∙ fails_so in
     turn_along p (new_found p n) (readying p n (making n)) t old new w u (found_cases p n false old w none)
     (subst (λ (k : Name). TurnsWhole p (readying p k (making k)) t old new w u) (name_is p n id is none) h)
 
 pub made_turned : (p : List Info) (n : Name) (id : ClassId) (b : Bool) (t : Turn) (old new : NumberedFrames) (w u : World) → IsClassNamed p n id → b ≡ is_array_name n → b ≡ false → ReadyFor p id.0 (readied.Turned t) old new w u → TurnsWhole p (new_found p n) t old new w u
-made_turned p n id b t old new w u is told no h =
-    left_ready p n id b t old new w u is told no (ready_turned p id.0 (making (name_at p id.0)) t old new w u h)
+made_turned p n id b t old new w u is told fails_so h =
+    left_ready p n id b t old new w u is told fails_so (ready_turned p id.0 (making (name_at p id.0)) t old new w u h)
 
 pub made_used : (p : List Info) (n : Name) (id : ClassId) (b : Bool) (e : code.Effect) (t : Turn) (old mid new : NumberedFrames) (w m u : World) → IsClassNamed p n id → b ≡ is_array_name n → b ≡ false → ReadyFor p id.0 readied.Ready old mid w m → m.limits ≡ w.limits → t ≡ turn_of e → Runs p (instance_row (name_at p id.0) (family (look p) (name_at p id.0))) e mid new m u → TurnsWhole p (new_found p n) t old new w u
-made_used p n id b e t old mid new w m u is told no ready limits same h =
-    left_ready p n id b t old new w u is told no
+made_used p n id b e t old mid new w m u is told fails_so ready limits same h =
+    left_ready p n id b t old new w u is told fails_so
     (ready_runs p id.0 (making (name_at p id.0)) e t old mid new w m u ready limits same h)
 
 pub made_frames : (p : List Info) (a : ℕ) (e : code.Effect) (old mid new : NumberedFrames) (w m u : World) → ReadyFor p a readied.Ready old mid w m → Runs p (instance_row (name_at p a) (family (look p) (name_at p a))) e mid new m u → StaysBeginsOrGoes p old new

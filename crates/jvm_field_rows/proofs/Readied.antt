@@ -9,6 +9,7 @@ use Rattle.program_rules.specs.Resolution.{FieldAt}
 use Rattle.machine_rules.specs.Effects.{throws}
 use Rattle.machine_rules.specs.Initialisation.{when_ready}
 use Rattle.machine_rules.specs.Lookups.{consult}
+use Rattle.class_model.specs.declared.kind.Kind as plain
 use Rattle.class_link.specs.declared.linked.FieldRef.{FieldRef}
 use Rattle.class_link.specs.declared.linked.LinkedField as code_field
 use Rattle.class_link.specs.Symbols.{kind_of}
@@ -47,11 +48,11 @@ begun p old new h = begun_frames p old new h
 
 -- ---- the field by number
 
-static_at_is : (p : List Info) (r : FieldRef) (s : Site) (x : FieldAt) (place : ℕ) (l : code_field.LinkedField) → IsFieldNamed p r s → ResolvesTo p r x → place ≡ s.place → Declares p s (field_of l) → IsStaticAt p s.class.0 place (kind_of l.kind) x
-static_at_is p r s x place l is to at there = record {
+static_at_is : (p : List Info) (r : FieldRef) (s : Site) (x : FieldAt) (place : ℕ) (l : code_field.LinkedField) (k : plain.Kind) → k ≡ l.kind → IsFieldNamed p r s → ResolvesTo p r x → place ≡ s.place → Declares p s (field_of l) → IsStaticAt p s.class.0 place (kind_of k) x
+static_at_is p r s x place l k of is to at there = record {
   class = sym (ap (λ (y : FieldAt). y.class) (found_is p r s x is to));
   place = sym (ap (λ (y : FieldAt). y.place) (found_is p r s x is to)) ∙ sym at;
-  kind = kind_of_field p r s x l is to there;
+  kind = kind_of_field p r s x l is to there ∙ ap kind_of (sym of);
 }
 
 module _ (p : List Info) (r : FieldRef) (reads : FieldAt → Family → RowOf) where
@@ -86,34 +87,34 @@ module _ (p : List Info) (r : FieldRef) (reads : FieldAt → Family → RowOf) w
 
   module _ (s : Site) (x : FieldAt) (b : Bool) (is : IsFieldNamed p r s) (to : ResolvesTo p r x) (told : TellsStatic p s b) where
     pub changed : (e : code.Effect) (t : Turn) (old new : NumberedFrames) (w u : World) → b ≡ false → t ≡ turn_of e → Runs p (throwing IncompatibleClassChangeError) e old new w u → TurnsWhole p (found_row x) t old new w u
-    changed e t old new w u no same h =
+    changed e t old new w u fails_so same h =
         turn_along p (found_row x) (throwing IncompatibleClassChangeError) t old new w u
-        (found_cases x x.class false old w (static_of p r s x b is to told ∙ no) refl)
+        (found_cases x x.class false old w (static_of p r s x b is to told ∙ fails_so) refl)
         (whole_turn p (throwing IncompatibleClassChangeError) e t old new w u same
         (whole p (throwing IncompatibleClassChangeError) e old new w u h))
 
     left_ready : (t : Turn) (old new : NumberedFrames) (w u : World) → b ≡ true → TurnsWhole p (readying p (name_at p s.class.0) (reads x)) t old new w u → TurnsWhole p (found_row x) t old new w u
-    left_ready t old new w u yes h =
+    left_ready t old new w u holds_so h =
         turn_along p (found_row x) (readying p (name_at p s.class.0) (reads x)) t old new w u
-        (found_cases x (name_at p s.class.0) true old w (static_of p r s x b is to told ∙ yes)
+        (found_cases x (name_at p s.class.0) true old w (static_of p r s x b is to told ∙ holds_so)
         (sym (ap (λ (y : FieldAt). y.class) (found_is p r s x is to)))) h
 
     pub turned : (t : Turn) (old new : NumberedFrames) (w u : World) → b ≡ true → ReadyFor p s.class.0 (readied.Turned t) old new w u → TurnsWhole p (found_row x) t old new w u
-    turned t old new w u yes h =
-        left_ready t old new w u yes (ready_turned p s.class.0 (reads x) t old new w u h)
+    turned t old new w u holds_so h =
+        left_ready t old new w u holds_so (ready_turned p s.class.0 (reads x) t old new w u h)
 
-    pub used : (place : ℕ) (l : code_field.LinkedField) (e : code.Effect) (t : Turn) (old mid new : NumberedFrames) (w m u : World) → b ≡ true → place ≡ s.place → Declares p s (field_of l) → ReadyFor p s.class.0 readied.Ready old mid w m → m.limits ≡ w.limits → t ≡ turn_of e → ((y : FieldAt) (c : Family) → IsStaticAt p s.class.0 place (kind_of l.kind) y → Runs p (reads y c) e mid new m u) → TurnsWhole p (found_row x) t old new w u
-    used place l e t old mid new w m u yes at there ready limits same h =
+    pub used : (place : ℕ) (l : code_field.LinkedField) (k : plain.Kind) (e : code.Effect) (t : Turn) (old mid new : NumberedFrames) (w m u : World) → k ≡ l.kind → b ≡ true → place ≡ s.place → Declares p s (field_of l) → ReadyFor p s.class.0 readied.Ready old mid w m → m.limits ≡ w.limits → t ≡ turn_of e → ((y : FieldAt) (c : Family) → IsStaticAt p s.class.0 place (kind_of k) y → Runs p (reads y c) e mid new m u) → TurnsWhole p (found_row x) t old new w u
+    used place l k e t old mid new w m u of holds_so at there ready limits same h =
         let c = family (look p) (name_at p s.class.0) in
-        left_ready t old new w u yes
-        (ready_runs p s.class.0 (reads x) e t old mid new w m u ready limits same (h x c (static_at_is p r s x place l is to at there)))
+        left_ready t old new w u holds_so
+        (ready_runs p s.class.0 (reads x) e t old mid new w m u ready limits same (h x c (static_at_is p r s x place l k of is to at there)))
 
   -- what becomes of the frames where the class was ready
-  pub used_frames : (s : Site) (place : ℕ) (l : code_field.LinkedField) (e : code.Effect) (old mid new : NumberedFrames) (w m u : World) → IsFieldNamed p r s → place ≡ s.place → Declares p s (field_of l) → ReadyFor p s.class.0 readied.Ready old mid w m → ((y : FieldAt) (c : Family) → IsStaticAt p s.class.0 place (kind_of l.kind) y → Runs p (reads y c) e mid new m u) → StaysBeginsOrGoes p old new
-  used_frames s place l e old mid new w m u is at there ready h =
+  pub used_frames : (s : Site) (place : ℕ) (l : code_field.LinkedField) (k : plain.Kind) (e : code.Effect) (old mid new : NumberedFrames) (w m u : World) → k ≡ l.kind → IsFieldNamed p r s → place ≡ s.place → Declares p s (field_of l) → ReadyFor p s.class.0 readied.Ready old mid w m → ((y : FieldAt) (c : Family) → IsStaticAt p s.class.0 place (kind_of k) y → Runs p (reads y c) e mid new m u) → StaysBeginsOrGoes p old new
+  used_frames s place l k e old mid new w m u of is at there ready h =
       let x = field_here p r s is in
       let c = family (look p) (name_at p s.class.0) in
-      ready_frames p s.class.0 (reads x) e old mid new w m u ready (h x c (static_at_is p r s x place l is is.found at there))
+      ready_frames p s.class.0 (reads x) e old mid new w m u ready (h x c (static_at_is p r s x place l k of is is.found at there))
 
 -- ---- getstatic
 
@@ -124,14 +125,14 @@ pub get_lost : (p : List Info) (r : FieldRef) (fault : Fault) (e : code.Effect) 
 get_lost p r fault e t old new w m u is moves limits same h = row_lost p r reading_row fault e t old new w m u is moves limits same h
 
 pub get_changed : (p : List Info) (r : FieldRef) (s : Site) (x : FieldAt) (b : Bool) (e : code.Effect) (t : Turn) (old new : NumberedFrames) (w u : World) → IsFieldNamed p r s → ResolvesTo p r x → TellsStatic p s b → b ≡ false → t ≡ turn_of e → Runs p (throwing IncompatibleClassChangeError) e old new w u → TurnsWhole p (get_static_found p x) t old new w u
-get_changed p r s x b e t old new w u is to told no same h = changed p r reading_row s x b is to told e t old new w u no same h
+get_changed p r s x b e t old new w u is to told fails_so same h = changed p r reading_row s x b is to told e t old new w u fails_so same h
 
 pub get_turned : (p : List Info) (r : FieldRef) (s : Site) (x : FieldAt) (b : Bool) (t : Turn) (old new : NumberedFrames) (w u : World) → IsFieldNamed p r s → ResolvesTo p r x → TellsStatic p s b → b ≡ true → ReadyFor p s.class.0 (readied.Turned t) old new w u → TurnsWhole p (get_static_found p x) t old new w u
-get_turned p r s x b t old new w u is to told yes h = turned p r reading_row s x b is to told t old new w u yes h
+get_turned p r s x b t old new w u is to told holds_so h = turned p r reading_row s x b is to told t old new w u holds_so h
 
-pub get_used : (p : List Info) (r : FieldRef) (s : Site) (x : FieldAt) (b : Bool) (place : ℕ) (l : code_field.LinkedField) (e : code.Effect) (t : Turn) (old mid new : NumberedFrames) (w m u : World) → IsFieldNamed p r s → ResolvesTo p r x → TellsStatic p s b → b ≡ true → place ≡ s.place → Declares p s (field_of l) → ReadyFor p s.class.0 readied.Ready old mid w m → m.limits ≡ w.limits → t ≡ turn_of e → ((y : FieldAt) (c : Family) → IsStaticAt p s.class.0 place (kind_of l.kind) y → Runs p (reading_row y c) e mid new m u) → TurnsWhole p (get_static_found p x) t old new w u
-get_used p r s x b place l e t old mid new w m u is to told yes at there ready limits same h =
-    used p r reading_row s x b is to told place l e t old mid new w m u yes at there ready limits same h
+pub get_used : (p : List Info) (r : FieldRef) (s : Site) (x : FieldAt) (b : Bool) (place : ℕ) (l : code_field.LinkedField) (k : plain.Kind) (e : code.Effect) (t : Turn) (old mid new : NumberedFrames) (w m u : World) → k ≡ l.kind → IsFieldNamed p r s → ResolvesTo p r x → TellsStatic p s b → b ≡ true → place ≡ s.place → Declares p s (field_of l) → ReadyFor p s.class.0 readied.Ready old mid w m → m.limits ≡ w.limits → t ≡ turn_of e → ((y : FieldAt) (c : Family) → IsStaticAt p s.class.0 place (kind_of k) y → Runs p (reading_row y c) e mid new m u) → TurnsWhole p (get_static_found p x) t old new w u
+get_used p r s x b place l k e t old mid new w m u of is to told holds_so at there ready limits same h =
+    used p r reading_row s x b is to told place l k e t old mid new w m u of holds_so at there ready limits same h
 
 -- ---- putstatic
 
@@ -142,11 +143,11 @@ pub put_lost : (p : List Info) (r : FieldRef) (fault : Fault) (e : code.Effect) 
 put_lost p r fault e t old new w m u is moves limits same h = row_lost p r writing_row fault e t old new w m u is moves limits same h
 
 pub put_changed : (p : List Info) (r : FieldRef) (s : Site) (x : FieldAt) (b : Bool) (e : code.Effect) (t : Turn) (old new : NumberedFrames) (w u : World) → IsFieldNamed p r s → ResolvesTo p r x → TellsStatic p s b → b ≡ false → t ≡ turn_of e → Runs p (throwing IncompatibleClassChangeError) e old new w u → TurnsWhole p (put_static_found p x) t old new w u
-put_changed p r s x b e t old new w u is to told no same h = changed p r writing_row s x b is to told e t old new w u no same h
+put_changed p r s x b e t old new w u is to told fails_so same h = changed p r writing_row s x b is to told e t old new w u fails_so same h
 
 pub put_turned : (p : List Info) (r : FieldRef) (s : Site) (x : FieldAt) (b : Bool) (t : Turn) (old new : NumberedFrames) (w u : World) → IsFieldNamed p r s → ResolvesTo p r x → TellsStatic p s b → b ≡ true → ReadyFor p s.class.0 (readied.Turned t) old new w u → TurnsWhole p (put_static_found p x) t old new w u
-put_turned p r s x b t old new w u is to told yes h = turned p r writing_row s x b is to told t old new w u yes h
+put_turned p r s x b t old new w u is to told holds_so h = turned p r writing_row s x b is to told t old new w u holds_so h
 
-pub put_used : (p : List Info) (r : FieldRef) (s : Site) (x : FieldAt) (b : Bool) (place : ℕ) (l : code_field.LinkedField) (e : code.Effect) (t : Turn) (old mid new : NumberedFrames) (w m u : World) → IsFieldNamed p r s → ResolvesTo p r x → TellsStatic p s b → b ≡ true → place ≡ s.place → Declares p s (field_of l) → ReadyFor p s.class.0 readied.Ready old mid w m → m.limits ≡ w.limits → t ≡ turn_of e → ((y : FieldAt) (c : Family) → IsStaticAt p s.class.0 place (kind_of l.kind) y → Runs p (writing_row y c) e mid new m u) → TurnsWhole p (put_static_found p x) t old new w u
-put_used p r s x b place l e t old mid new w m u is to told yes at there ready limits same h =
-    used p r writing_row s x b is to told place l e t old mid new w m u yes at there ready limits same h
+pub put_used : (p : List Info) (r : FieldRef) (s : Site) (x : FieldAt) (b : Bool) (place : ℕ) (l : code_field.LinkedField) (k : plain.Kind) (e : code.Effect) (t : Turn) (old mid new : NumberedFrames) (w m u : World) → k ≡ l.kind → IsFieldNamed p r s → ResolvesTo p r x → TellsStatic p s b → b ≡ true → place ≡ s.place → Declares p s (field_of l) → ReadyFor p s.class.0 readied.Ready old mid w m → m.limits ≡ w.limits → t ≡ turn_of e → ((y : FieldAt) (c : Family) → IsStaticAt p s.class.0 place (kind_of k) y → Runs p (writing_row y c) e mid new m u) → TurnsWhole p (put_static_found p x) t old new w u
+put_used p r s x b place l k e t old mid new w m u of is to told holds_so at there ready limits same h =
+    used p r writing_row s x b is to told place l k e t old mid new w m u of holds_so at there ready limits same h

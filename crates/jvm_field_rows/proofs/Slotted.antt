@@ -41,8 +41,8 @@ slot_found p r s root name number is behind named serves x to =
     subst (λ (y : FieldAt). Serves number y.slot) (found_is p r s x is to) here
 
 no_answer : (b : Bool) (a : Answer FieldAt) (x : FieldAt) (P : Type 0) → b ≡ false → (if b then a else Fails NoClassDefFoundError) ≡ Found x → P
-no_answer true a x P no e = absurd cc
-no_answer false a x P no e = absurd cc
+no_answer true a x P lacks e = absurd cc
+no_answer false a x P lacks e = absurd cc
 
 absent : (p : Look) (n : Name) → p n ≡ None → is_present (family p n).class ≡ false
 unfolding family

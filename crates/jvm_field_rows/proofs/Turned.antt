@@ -1,5 +1,5 @@
 -- Whole rows as turns, and what is left of a row once the world has moved.
-use Rattle.std.proofs.Common.{◌≡◌, ◌⊎◌, inl, inr, sym, subst, ℕ, List, ◌∷◌, map, Option, None, Some, IfSome, IsSomeAnd}
+use Rattle.std.proofs.Common.{◌≡◌, ◌⊎◌, inl, inr, sym, subst, ℕ, ◌+◌, ◌<◌, ◌^◌, List, ◌∷◌, map, Option, None, Some, IfSome, IsSomeAnd}
 use Rattle.program_rules.specs.Instructions.{MethodRef}
 use Rattle.program_rules.specs.Programs.{Family, family}
 use Rattle.machine_rules.specs.declared.machine.Limits.{Limits}
@@ -151,6 +151,10 @@ ReadyFor p a r old mid w m = (go : Use) → ReadiesTo p w.limits a r old mid w m
 
 same_frames : (p : List Info) (a : ℕ) (old mid : NumberedFrames) (w m : World) → ReadyFor p a readied.Ready old mid w m → mid ≡ old
 same_frames p a old mid w m h = (h (λ v c. NoRow)).1
+
+pub next_kept : (p : List Info) (a : ℕ) (old mid : NumberedFrames) (w m : World) → ReadyFor p a readied.Ready old mid w m → IfSome old.frame (λ f. f.at + 1 < 2 ^ 64) → IfSome mid.frame (λ f. f.at + 1 < 2 ^ 64)
+next_kept p a old mid w m ready h =
+    subst (λ (k : NumberedFrames). IfSome k.frame (λ f. f.at + 1 < 2 ^ 64)) (sym (same_frames p a old mid w m ready)) h
 
 -- it is used by a row that keeps the frame
 pub ready_runs : (p : List Info) (a : ℕ) (uses : Family → RowOf) (e : code.Effect) (t : Turn) (old mid new : NumberedFrames) (w m u : World) → ReadyFor p a readied.Ready old mid w m → m.limits ≡ w.limits → t ≡ turn_of e → Runs p (uses (family (look p) (name_at p a))) e mid new m u → TurnsWhole p (readying p (name_at p a) uses) t old new w u

@@ -1,6 +1,6 @@
 //! The layouts of classes, made once for each.
 
-ghost use Rattle.std.specs.Prelude.{◌≡◌, ◌<◌, ℕ, List, None, Some, length, IfOk, IfSome, OnOk, if◌then◌else◌, nat_eq};
+ghost use Rattle.std.specs.Prelude.{◌≡◌, ◌<◌, ℕ, List, None, Some, length, IfOk, IfSome, OnOk, OnErr, if◌then◌else◌, nat_eq};
 ghost use Rattle.std.proofs.Common.{get_or};
 ghost use Rattle.class_link.specs.Info.{Info};
 ghost use Rattle.jvm_field_rows.specs.Layouts.{AreLayouts, IsLaidOut, layout_at};
@@ -69,6 +69,18 @@ fn put(rows: &mut [Option<Layout>], at: usize, layout: Layout)
     rows[at] = Some(layout);
 }
 
+// Keeps a layout at a place. Where memory runs out all is kept that was.
+fn store(rows: &mut Vec<Option<Layout>>, at: usize, layout: Layout) -> Result<(), Memory>
+    ensures kept { OnOk result ((i : ℕ) → get_or rows.new.items i None
+        ≡ (if nat_eq at i then Some layout else get_or rows.old.items i None)) }
+    ensures err { OnErr result ((i : ℕ) →
+        get_or rows.new.items i None ≡ get_or rows.old.items i None) }
+{
+    make_place(rows, at)?;
+    put(rows, at, layout);
+    Ok(())
+}
+
 // A copy of what is kept for a class, if anything is.
 fn copy_at(alloc: Global, rows: &[Option<Layout>], at: usize) -> Result<Option<Layout>, Memory>
     ensures { IfOk result (λ o. o ≡ layout_at at rows.now) }
@@ -122,9 +134,7 @@ impl Layouts {
         requires right { IsLaidOut p.now class.0 layout }
         ensures { AreLayouts p.now self.new }
     {
-        let at = class.0 as usize;
-        make_place(&mut self.rows, at)?;
-        put(&mut self.rows, at, layout);
+        store(&mut self.rows, class.0 as usize, layout)?;
         Ok(())
     }
 

@@ -9,5 +9,5 @@ returns-then-is_static-clause-row c = λ x to.
 
 pub returns-clause-row : goal.returns-clause-row
 returns-clause-row c = λ x to.
-    put_instance c.args.p.now c.args.reference.now c.args.site x c.is_static.result c.in_ok-slot.slot c.field_at-field.result.now c.in_ok-done.done c.args.frames.now c.put_field.new.frames c.args.world.now c.put_field.new.world
-    c.requires.world c.requires.site to c.is_static.ensures c.if-is_static.false c.in_ok-slot.ensures.slot c.field_at-field.ensures c.in_ok-done.ensures.row
+    put_instance c.args.p.now c.args.reference.now c.args.site x c.is_static.result c.in_ok-slot.slot c.field_at-field.result.now c.deref.result.now c.in_ok-done.done c.args.frames.now c.put_field.new.frames c.args.world.now c.put_field.new.world
+    c.deref.ensures c.requires.world c.requires.site to c.is_static.ensures c.if-is_static.false c.in_ok-slot.ensures.slot c.field_at-field.ensures c.in_ok-done.ensures.row

@@ -1,6 +1,6 @@
 use Rattle.std.proofs.Common.{subst}
 use Rattle.jvm_begin.specs.declared.ready.Readied.{Readied}
-use Rattle.jvm_field_rows.proofs.Turned.{ReadyFor}
+use Rattle.jvm_field_rows.proofs.Turned.{ReadyFor, next_kept}
 use Rattle.jvm_field_rows.proofs.Made.{no_array, made_turned, made_used, made_frames}
 use Rattle.jvm_field_rows.proofs.instances.make_found.Goals as goal
 
@@ -41,3 +41,13 @@ returns-in-Turned-clause-row c =
     made_turned p c.args.name.now c.args.class c.names_array.result c.in-Turned.turn old new w u
     c.requires.named c.names_array.ensures c.if-names_array.false
     (subst (λ (r : Readied). ReadyFor p c.args.class.0 r old new w u) c.in-Turned.is c.in_ok-readied.ensures.ready)
+
+pub make_one-requires-clause-next : goal.make_one-requires-clause-next
+make_one-requires-clause-next c =
+    let p = c.args.p.now in
+    let old = c.args.frames.now in
+    let mid = c.make_ready.new.frames in
+    let w = c.args.world.now in
+    let m = c.make_ready.new.world in
+    next_kept p c.args.class.0 old mid w m
+    (subst (λ (r : Readied). ReadyFor p c.args.class.0 r old mid w m) c.in-Ready.is c.in_ok-readied.ensures.ready) c.requires.next

@@ -1,7 +1,7 @@
 use Rattle.std.proofs.Common.{subst}
 use Rattle.jvm_object_rows.specs.Statics.{writing_row}
 use Rattle.jvm_begin.specs.declared.ready.Readied.{Readied}
-use Rattle.jvm_field_rows.proofs.Turned.{ReadyFor}
+use Rattle.jvm_field_rows.proofs.Turned.{ReadyFor, next_kept}
 use Rattle.jvm_field_rows.proofs.Readied.{put_changed, put_turned, put_used, used_frames}
 use Rattle.jvm_field_rows.proofs.statics.put_found.Goals as goal
 
@@ -18,8 +18,8 @@ returns-in_ok-done-in-Ready-clause-row c = λ x to.
     let mid = c.make_ready.new.frames in
     let w = c.args.world.now in
     let m = c.make_ready.new.world in
-    put_used p c.args.reference.now c.args.site x c.is_static.result c.in_ok-place.place c.field_at-field.result.now c.in_ok-done-in-Ready.done c.turn_of-turn-in-Ready.result old mid c.put_static.new.frames w m c.put_static.new.world
-    c.requires.site to c.is_static.ensures c.if-not-is_static.false c.in_ok-place.ensures c.field_at-field.ensures
+    put_used p c.args.reference.now c.args.site x c.is_static.result c.in_ok-place.place c.field_at-field.result.now c.deref.result.now c.in_ok-done-in-Ready.done c.turn_of-turn-in-Ready.result old mid c.put_static.new.frames w m c.put_static.new.world
+    c.deref.ensures c.requires.site to c.is_static.ensures c.if-not-is_static.false c.in_ok-place.ensures c.field_at-field.ensures
     (subst (λ (r : Readied). ReadyFor p c.args.site.class.0 r old mid w m) c.in-Ready.is c.in_ok-readied.ensures.ready)
     c.in_ok-readied.ensures.kept.limits c.turn_of-turn-in-Ready.ensures.turn c.in_ok-done-in-Ready.ensures.row
 
@@ -30,8 +30,8 @@ returns-in_ok-done-in-Ready-clause-frames c =
     let mid = c.make_ready.new.frames in
     let w = c.args.world.now in
     let m = c.make_ready.new.world in
-    used_frames p c.args.reference.now writing_row c.args.site c.in_ok-place.place c.field_at-field.result.now c.in_ok-done-in-Ready.done old mid c.put_static.new.frames w m c.put_static.new.world
-    c.requires.site c.in_ok-place.ensures c.field_at-field.ensures
+    used_frames p c.args.reference.now writing_row c.args.site c.in_ok-place.place c.field_at-field.result.now c.deref.result.now c.in_ok-done-in-Ready.done old mid c.put_static.new.frames w m c.put_static.new.world
+    c.deref.ensures c.requires.site c.in_ok-place.ensures c.field_at-field.ensures
     (subst (λ (r : Readied). ReadyFor p c.args.site.class.0 r old mid w m) c.in-Ready.is c.in_ok-readied.ensures.ready)
     c.in_ok-done-in-Ready.ensures.row
 
@@ -45,3 +45,13 @@ returns-in-Turned-clause-row c = λ x to.
     put_turned p c.args.reference.now c.args.site x c.is_static.result c.in-Turned.turn old new w u
     c.requires.site to c.is_static.ensures c.if-not-is_static.false
     (subst (λ (r : Readied). ReadyFor p c.args.site.class.0 r old new w u) c.in-Turned.is c.in_ok-readied.ensures.ready)
+
+pub put_static-requires-clause-next : goal.put_static-requires-clause-next
+put_static-requires-clause-next c =
+    let p = c.args.p.now in
+    let old = c.args.frames.now in
+    let mid = c.make_ready.new.frames in
+    let w = c.args.world.now in
+    let m = c.make_ready.new.world in
+    next_kept p c.args.site.class.0 old mid w m
+    (subst (λ (r : Readied). ReadyFor p c.args.site.class.0 r old mid w m) c.in-Ready.is c.in_ok-readied.ensures.ready) c.requires.next
