@@ -1,0 +1,153 @@
+-- `getstatic` and `putstatic`, once the field was resolved.
+use Rattle.std.proofs.Common.{◌≡◌, ◌∙◌, sym, ap, inl, refl, ℕ, Bool, true, false, List, ◌∷◌, Ok, Err}
+use Rattle.std.specs.Prelude.{if◌then◌else◌}
+use Rattle.program_rules.specs.declared.fault.Fault.{Fault}
+use Rattle.program_rules.specs.declared.fault.Fault.TheVariants.{IncompatibleClassChangeError}
+use Rattle.program_rules.specs.Names.{Name, class_behind}
+use Rattle.program_rules.specs.Programs.{Family, family}
+use Rattle.program_rules.specs.Resolution.{FieldAt}
+use Rattle.machine_rules.specs.Effects.{throws}
+use Rattle.machine_rules.specs.Initialisation.{when_ready}
+use Rattle.machine_rules.specs.Lookups.{consult}
+use Rattle.class_model.specs.declared.kind.Kind as plain
+use Rattle.class_link.specs.declared.linked.FieldRef.{FieldRef}
+use Rattle.class_link.specs.declared.linked.LinkedField as code_field
+use Rattle.class_link.specs.Symbols.{kind_of}
+use Rattle.class_link.specs.View.{field_of, field_ref_of}
+use Rattle.class_link.specs.Info.{Info}
+use Rattle.class_table.specs.Table.{look, name_at}
+use Rattle.jvm_frames.specs.Frames.{NumberedFrames, framed}
+use Rattle.jvm_world.specs.declared.world.World.{World}
+use Rattle.jvm_world.specs.View.{Moves}
+use Rattle.jvm_heap_rows.specs.declared.effect.Effect as code
+use Rattle.jvm_heap_rows.specs.Effects.{RowOf, Runs}
+use Rattle.jvm_heap_rows.specs.Rows.{throwing}
+use Rattle.jvm_heap_rows.proofs.Ends.{AreSame, SameAt, each}
+use Rattle.jvm_object_rows.specs.Statics.{IsStaticAt, reading_row, writing_row}
+use Rattle.jvm_unwind.specs.declared.turn.Turn.{Turn}
+use Rattle.jvm_begin.specs.declared.ready.Readied.TheVariants as readied
+use Rattle.jvm_begin.specs.Begins.{StaysOrBegins}
+use Rattle.jvm_link.specs.declared.site.Site.{Site}
+use Rattle.jvm_resolved.specs.References.{IsFieldNamed, ResolvesFieldRef}
+use Rattle.jvm_member_rows.proofs.Wholes.{whole}
+use Rattle.jvm_member_rows.proofs.Resolved.{fielding, field_left, lost_field}
+use Rattle.jvm_field_rows.specs.Rows.{get_static_row, get_static_found, put_static_row, put_static_found, readying}
+use Rattle.jvm_field_rows.specs.Sites.{Declares, ResolvesTo}
+use Rattle.jvm_field_rows.specs.Turned.{StaysBeginsOrGoes, TurnsWhole, turn_of}
+use Rattle.jvm_field_rows.proofs.Fielded.{TellsStatic, field_here, kind_of_field, static_of}
+use Rattle.jvm_field_rows.proofs.Slotted.{found_is}
+use Rattle.jvm_field_rows.proofs.Turned.{ReadyFor, ready_runs, ready_frames, ready_turned, turn_along, turn_behind, whole_turn, begun_frames}
+
+-- ---- frames
+
+pub stays : (p : List Info) (s : NumberedFrames) → StaysBeginsOrGoes p s s
+stays p s = begun_frames p s s (inl refl)
+
+pub begun : (p : List Info) (old new : NumberedFrames) → StaysOrBegins p old new → StaysBeginsOrGoes p old new
+begun p old new h = begun_frames p old new h
+
+-- ---- the field by number
+
+static_at_is : (p : List Info) (r : FieldRef) (s : Site) (x : FieldAt) (place : ℕ) (l : code_field.LinkedField) (k : plain.Kind) → k ≡ l.kind → IsFieldNamed p r s → ResolvesTo p r x → place ≡ s.place → Declares p s (field_of l) → IsStaticAt p s.class.0 place (kind_of k) x
+static_at_is p r s x place l k of is to at there = record {
+  class = sym (ap (λ (y : FieldAt). y.class) (found_is p r s x is to));
+  place = sym (ap (λ (y : FieldAt). y.place) (found_is p r s x is to)) ∙ sym at;
+  kind = kind_of_field p r s x l is to there ∙ ap kind_of (sym of);
+}
+
+module _ (p : List Info) (r : FieldRef) (reads : FieldAt → Family → RowOf) where
+  -- what is left of the row once its field was found
+  abbrev pub found_row : FieldAt → RowOf
+  found_row x = λ q room w f fs.
+      if x.static then when_ready (look p) q w (f ∷ fs) x.class (λ u c. reads x c q room u f fs)
+      else throws q w (f ∷ fs) IncompatibleClassChangeError
+
+  abbrev row_by : FieldAt → Name → Bool → RowOf
+  row_by x n b = λ q room w f fs.
+      if b then when_ready (look p) q w (f ∷ fs) n (λ u c. reads x c q room u f fs)
+      else throws q w (f ∷ fs) IncompatibleClassChangeError
+
+  found_cases : (x : FieldAt) (n : Name) (b : Bool) (old : NumberedFrames) (w : World) → x.static ≡ b → x.class ≡ n → SameAt p (found_row x) (row_by x n b) old w
+  found_cases x n b old w e k =
+      each old.frame (λ f. AreSame p (found_row x w.limits f.room) (row_by x n b w.limits f.room) f w)
+      (λ f class v fs m.
+      ap (λ t. row_by x x.class t w.limits f.room v (framed class f) fs) e
+      ∙ ap (λ (a : Name). row_by x a b w.limits f.room v (framed class f) fs) k)
+
+  pub row_got : (s : Site) (t : Turn) (old new : NumberedFrames) (w m u : World) → ResolvesFieldRef p r (Ok s) → Moves p w m (consult (look p) (class_behind r.class)) → m.limits ≡ w.limits → ((x : FieldAt) → ResolvesTo p r x → TurnsWhole p (found_row x) t old new m u) → TurnsWhole p (fielding p (field_ref_of r) found_row) t old new w u
+  row_got s t old new w m u is moves limits h =
+      let x = field_here p r s is in
+      turn_behind p (fielding p (field_ref_of r) found_row) (found_row x) (consult (look p) (class_behind r.class)) t old new w m u
+      (field_left p (field_ref_of r) x found_row old w is.found) moves limits (h x is.found)
+
+  pub row_lost : (fault : Fault) (e : code.Effect) (t : Turn) (old new : NumberedFrames) (w m u : World) → ResolvesFieldRef p r (Err fault) → Moves p w m (consult (look p) (class_behind r.class)) → m.limits ≡ w.limits → t ≡ turn_of e → Runs p (throwing fault) e old new m u → TurnsWhole p (fielding p (field_ref_of r) found_row) t old new w u
+  row_lost fault e t old new w m u is moves limits same h =
+      whole_turn p (fielding p (field_ref_of r) found_row) e t old new w u same
+      (lost_field p (field_ref_of r) fault found_row e old new w m u is moves limits h)
+
+  module _ (s : Site) (x : FieldAt) (b : Bool) (is : IsFieldNamed p r s) (to : ResolvesTo p r x) (told : TellsStatic p s b) where
+    pub changed : (e : code.Effect) (t : Turn) (old new : NumberedFrames) (w u : World) → b ≡ false → t ≡ turn_of e → Runs p (throwing IncompatibleClassChangeError) e old new w u → TurnsWhole p (found_row x) t old new w u
+    changed e t old new w u fails_so same h =
+        turn_along p (found_row x) (throwing IncompatibleClassChangeError) t old new w u
+        (found_cases x x.class false old w (static_of p r s x b is to told ∙ fails_so) refl)
+        (whole_turn p (throwing IncompatibleClassChangeError) e t old new w u same
+        (whole p (throwing IncompatibleClassChangeError) e old new w u h))
+
+    left_ready : (t : Turn) (old new : NumberedFrames) (w u : World) → b ≡ true → TurnsWhole p (readying p (name_at p s.class.0) (reads x)) t old new w u → TurnsWhole p (found_row x) t old new w u
+    left_ready t old new w u holds_so h =
+        turn_along p (found_row x) (readying p (name_at p s.class.0) (reads x)) t old new w u
+        (found_cases x (name_at p s.class.0) true old w (static_of p r s x b is to told ∙ holds_so)
+        (sym (ap (λ (y : FieldAt). y.class) (found_is p r s x is to)))) h
+
+    pub turned : (t : Turn) (old new : NumberedFrames) (w u : World) → b ≡ true → ReadyFor p s.class.0 (readied.Turned t) old new w u → TurnsWhole p (found_row x) t old new w u
+    turned t old new w u holds_so h =
+        left_ready t old new w u holds_so (ready_turned p s.class.0 (reads x) t old new w u h)
+
+    pub used : (place : ℕ) (l : code_field.LinkedField) (k : plain.Kind) (e : code.Effect) (t : Turn) (old mid new : NumberedFrames) (w m u : World) → k ≡ l.kind → b ≡ true → place ≡ s.place → Declares p s (field_of l) → ReadyFor p s.class.0 readied.Ready old mid w m → m.limits ≡ w.limits → t ≡ turn_of e → ((y : FieldAt) (c : Family) → IsStaticAt p s.class.0 place (kind_of k) y → Runs p (reads y c) e mid new m u) → TurnsWhole p (found_row x) t old new w u
+    used place l k e t old mid new w m u of holds_so at there ready limits same h =
+        let c = family (look p) (name_at p s.class.0) in
+        left_ready t old new w u holds_so
+        (ready_runs p s.class.0 (reads x) e t old mid new w m u ready limits same (h x c (static_at_is p r s x place l k of is to at there)))
+
+  -- what becomes of the frames where the class was ready
+  pub used_frames : (s : Site) (place : ℕ) (l : code_field.LinkedField) (k : plain.Kind) (e : code.Effect) (old mid new : NumberedFrames) (w m u : World) → k ≡ l.kind → IsFieldNamed p r s → place ≡ s.place → Declares p s (field_of l) → ReadyFor p s.class.0 readied.Ready old mid w m → ((y : FieldAt) (c : Family) → IsStaticAt p s.class.0 place (kind_of k) y → Runs p (reads y c) e mid new m u) → StaysBeginsOrGoes p old new
+  used_frames s place l k e old mid new w m u of is at there ready h =
+      let x = field_here p r s is in
+      let c = family (look p) (name_at p s.class.0) in
+      ready_frames p s.class.0 (reads x) e old mid new w m u ready (h x c (static_at_is p r s x place l k of is is.found at there))
+
+-- ---- getstatic
+
+pub static_got : (p : List Info) (r : FieldRef) (s : Site) (t : Turn) (old new : NumberedFrames) (w m u : World) → ResolvesFieldRef p r (Ok s) → Moves p w m (consult (look p) (class_behind r.class)) → m.limits ≡ w.limits → ((x : FieldAt) → ResolvesTo p r x → TurnsWhole p (get_static_found p x) t old new m u) → TurnsWhole p (get_static_row p (field_ref_of r)) t old new w u
+static_got p r s t old new w m u is moves limits h = row_got p r reading_row s t old new w m u is moves limits h
+
+pub get_lost : (p : List Info) (r : FieldRef) (fault : Fault) (e : code.Effect) (t : Turn) (old new : NumberedFrames) (w m u : World) → ResolvesFieldRef p r (Err fault) → Moves p w m (consult (look p) (class_behind r.class)) → m.limits ≡ w.limits → t ≡ turn_of e → Runs p (throwing fault) e old new m u → TurnsWhole p (get_static_row p (field_ref_of r)) t old new w u
+get_lost p r fault e t old new w m u is moves limits same h = row_lost p r reading_row fault e t old new w m u is moves limits same h
+
+pub get_changed : (p : List Info) (r : FieldRef) (s : Site) (x : FieldAt) (b : Bool) (e : code.Effect) (t : Turn) (old new : NumberedFrames) (w u : World) → IsFieldNamed p r s → ResolvesTo p r x → TellsStatic p s b → b ≡ false → t ≡ turn_of e → Runs p (throwing IncompatibleClassChangeError) e old new w u → TurnsWhole p (get_static_found p x) t old new w u
+get_changed p r s x b e t old new w u is to told fails_so same h = changed p r reading_row s x b is to told e t old new w u fails_so same h
+
+pub get_turned : (p : List Info) (r : FieldRef) (s : Site) (x : FieldAt) (b : Bool) (t : Turn) (old new : NumberedFrames) (w u : World) → IsFieldNamed p r s → ResolvesTo p r x → TellsStatic p s b → b ≡ true → ReadyFor p s.class.0 (readied.Turned t) old new w u → TurnsWhole p (get_static_found p x) t old new w u
+get_turned p r s x b t old new w u is to told holds_so h = turned p r reading_row s x b is to told t old new w u holds_so h
+
+pub get_used : (p : List Info) (r : FieldRef) (s : Site) (x : FieldAt) (b : Bool) (place : ℕ) (l : code_field.LinkedField) (k : plain.Kind) (e : code.Effect) (t : Turn) (old mid new : NumberedFrames) (w m u : World) → k ≡ l.kind → IsFieldNamed p r s → ResolvesTo p r x → TellsStatic p s b → b ≡ true → place ≡ s.place → Declares p s (field_of l) → ReadyFor p s.class.0 readied.Ready old mid w m → m.limits ≡ w.limits → t ≡ turn_of e → ((y : FieldAt) (c : Family) → IsStaticAt p s.class.0 place (kind_of k) y → Runs p (reading_row y c) e mid new m u) → TurnsWhole p (get_static_found p x) t old new w u
+get_used p r s x b place l k e t old mid new w m u of is to told holds_so at there ready limits same h =
+    used p r reading_row s x b is to told place l k e t old mid new w m u of holds_so at there ready limits same h
+
+-- ---- putstatic
+
+pub put_got : (p : List Info) (r : FieldRef) (s : Site) (t : Turn) (old new : NumberedFrames) (w m u : World) → ResolvesFieldRef p r (Ok s) → Moves p w m (consult (look p) (class_behind r.class)) → m.limits ≡ w.limits → ((x : FieldAt) → ResolvesTo p r x → TurnsWhole p (put_static_found p x) t old new m u) → TurnsWhole p (put_static_row p (field_ref_of r)) t old new w u
+put_got p r s t old new w m u is moves limits h = row_got p r writing_row s t old new w m u is moves limits h
+
+pub put_lost : (p : List Info) (r : FieldRef) (fault : Fault) (e : code.Effect) (t : Turn) (old new : NumberedFrames) (w m u : World) → ResolvesFieldRef p r (Err fault) → Moves p w m (consult (look p) (class_behind r.class)) → m.limits ≡ w.limits → t ≡ turn_of e → Runs p (throwing fault) e old new m u → TurnsWhole p (put_static_row p (field_ref_of r)) t old new w u
+put_lost p r fault e t old new w m u is moves limits same h = row_lost p r writing_row fault e t old new w m u is moves limits same h
+
+pub put_changed : (p : List Info) (r : FieldRef) (s : Site) (x : FieldAt) (b : Bool) (e : code.Effect) (t : Turn) (old new : NumberedFrames) (w u : World) → IsFieldNamed p r s → ResolvesTo p r x → TellsStatic p s b → b ≡ false → t ≡ turn_of e → Runs p (throwing IncompatibleClassChangeError) e old new w u → TurnsWhole p (put_static_found p x) t old new w u
+put_changed p r s x b e t old new w u is to told fails_so same h = changed p r writing_row s x b is to told e t old new w u fails_so same h
+
+pub put_turned : (p : List Info) (r : FieldRef) (s : Site) (x : FieldAt) (b : Bool) (t : Turn) (old new : NumberedFrames) (w u : World) → IsFieldNamed p r s → ResolvesTo p r x → TellsStatic p s b → b ≡ true → ReadyFor p s.class.0 (readied.Turned t) old new w u → TurnsWhole p (put_static_found p x) t old new w u
+put_turned p r s x b t old new w u is to told holds_so h = turned p r writing_row s x b is to told t old new w u holds_so h
+
+pub put_used : (p : List Info) (r : FieldRef) (s : Site) (x : FieldAt) (b : Bool) (place : ℕ) (l : code_field.LinkedField) (k : plain.Kind) (e : code.Effect) (t : Turn) (old mid new : NumberedFrames) (w m u : World) → k ≡ l.kind → IsFieldNamed p r s → ResolvesTo p r x → TellsStatic p s b → b ≡ true → place ≡ s.place → Declares p s (field_of l) → ReadyFor p s.class.0 readied.Ready old mid w m → m.limits ≡ w.limits → t ≡ turn_of e → ((y : FieldAt) (c : Family) → IsStaticAt p s.class.0 place (kind_of k) y → Runs p (writing_row y c) e mid new m u) → TurnsWhole p (put_static_found p x) t old new w u
+put_used p r s x b place l k e t old mid new w m u of is to told holds_so at there ready limits same h =
+    used p r writing_row s x b is to told place l k e t old mid new w m u of holds_so at there ready limits same h

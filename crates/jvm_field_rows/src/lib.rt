@@ -1,0 +1,19 @@
+//! The whole rows of `getfield`, `putfield`, `getstatic`, `putstatic` and `new` (JVMS 6.5), from
+//! the index in the constant pool on.
+#![tactic(auto)]
+
+mod fields;
+mod held;
+mod instances;
+mod layouts;
+mod sites;
+mod slots;
+mod statics;
+mod turning;
+
+pub use fields::{get_field, put_field};
+pub use instances::make_object;
+pub use layouts::Layouts;
+pub use slots::Slots;
+pub use statics::{get_static, put_static};
+pub use turning::turn_of;

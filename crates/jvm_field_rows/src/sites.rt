@@ -1,0 +1,74 @@
+//! What is asked of a field by its place.
+
+ghost use Rattle.std.specs.Prelude.{◌≡◌, ◌<◌, length, IfOk};
+ghost use Rattle.program_rules.specs.Linked.{LinkedField as Field, is_static, is_interface};
+ghost use Rattle.program_rules.specs.Outlines.{fields_in, is_interface_class, is_static_field};
+ghost use Rattle.class_link.specs.View.{field_of};
+ghost use Rattle.jvm_link.specs.Sites.{outline_at};
+ghost use Rattle.jvm_field_rows.specs.Sites.{Declares};
+
+use class_link::LinkedField;
+use class_model::{ClassId, Memory};
+use class_table::Program;
+use jvm_link::Site;
+
+/// The field that a class declares at a place.
+#[tactic(auto, unfolding(class_link::specs::View::linked_of), using(crate::proofs::Declared::field_within, crate::proofs::Declared::field_there))]
+pub fn field_at(p: &Program, site: Site) -> &LinkedField
+    requires class { site.class.0 < length p.now }
+    requires place { site.place < length (fields_in (outline_at p.now site.class.0)) }
+    ensures { Declares p.now site (field_of result.now) }
+{
+    let _len = p.len();
+    let fields = p.info(site.class).linked().fields.as_slice();
+    &fields[site.place]
+}
+
+// Whether a flag says that a field is static.
+fn has_static(flags: u16) -> bool
+    ensures { result ≡ is_static flags }
+{
+    flags / 8 % 2 == 1
+}
+
+fn has_interface(flags: u16) -> bool
+    ensures { result ≡ is_interface flags }
+{
+    flags / 512 % 2 == 1
+}
+
+// Whether a class is an interface.
+#[tactic(auto, unfolding(class_link::specs::View::linked_of))]
+fn is_interface(p: &Program, class: ClassId) -> bool
+    requires { class.0 < length p.now }
+    ensures { result ≡ is_interface_class (outline_at p.now class.0) }
+{
+    let _len = p.len();
+    let flags = p.info(class).linked().flags;
+    has_interface(flags)
+}
+
+/// Whether a field is static: each one of an interface is.
+#[tactic(auto, using(crate::proofs::Declared::static_interface, crate::proofs::Declared::static_flag))]
+pub fn is_static(p: &Program, site: Site) -> bool
+    requires class { site.class.0 < length p.now }
+    requires place { site.place < length (fields_in (outline_at p.now site.class.0)) }
+    ensures { (f : Field) → Declares p.now site f →
+        result ≡ is_static_field (outline_at p.now site.class.0) f }
+{
+    if is_interface(p, site.class) {
+        return true;
+    }
+    let field = field_at(p, site);
+    has_static(field.flags)
+}
+
+/// The number of a place. A class with 2^32 fields or more wants more memory than there is.
+pub fn number_of(place: usize) -> Result<u32, Memory>
+    ensures { IfOk result (λ n. n ≡ place) }
+{
+    if place > u32::MAX as usize {
+        return Err(Memory);
+    }
+    Ok(place as u32)
+}
