@@ -1,5 +1,5 @@
 -- The collections and the assertions.
-use Rattle.std.specs.Prelude.{List, [], ◌∷◌}
+use Rattle.std.specs.Prelude.{List, [], ◌∷◌, ◌++◌}
 use Rattle.class_link.specs.declared.loaded.LibClass.{LibClass}
 use Rattle.lib_table.specs.Stated.{Row, abstract_class, class, final_class, native, static_native, static_written, written}
 use Rattle.lib_table.specs.Written.{list_index_of, list_contains, list_remove, list_equals, find_entry, map_get, map_remove, map_put, map_contains_key, set_contains, set_add, set_remove, assert_equal_objects, assert_unequal_objects, assert_equal_objects_5, assert_unequal_objects_5}
@@ -99,16 +99,30 @@ arrays_methods =
     static_native (as_iterator iterator.AsList) "asList" "([Ljava/lang/Object;)Ljava/util/List;"
     ∷ []
 
-unfoldable pub collections : List LibClass
-collections =
+-- ArrayList.
+unfoldable pub list_classes : List LibClass
+list_classes =
     class "java/util/ArrayList" "java/lang/Object" ("java/util/List" ∷ []) array_list_methods
-    ∷ abstract_class "mt/Hashed" "java/lang/Object" [] hashed_methods
+    ∷ []
+
+-- The maps and sets, and what stands above them.
+unfoldable pub hash_classes : List LibClass
+hash_classes =
+    abstract_class "mt/Hashed" "java/lang/Object" [] hashed_methods
     ∷ class "java/util/HashMap" "mt/Hashed" ("java/util/Map" ∷ []) hash_map_methods
     ∷ class "java/util/HashSet" "mt/Hashed" ("java/util/Set" ∷ []) hash_set_methods
-    ∷ final_class "mt/Iter" "java/lang/Object" ("java/util/Iterator" ∷ []) iter_methods
+    ∷ []
+
+-- Iterators, and what makes collections.
+unfoldable pub utility_classes : List LibClass
+utility_classes =
+    final_class "mt/Iter" "java/lang/Object" ("java/util/Iterator" ∷ []) iter_methods
     ∷ class "java/util/Collections" "java/lang/Object" [] collections_methods
     ∷ class "java/util/Arrays" "java/lang/Object" [] arrays_methods
     ∷ []
+
+unfoldable pub collections : List LibClass
+collections = list_classes ++ (hash_classes ++ utility_classes)
 
 -- org/junit/Assert
 abbrev pub assert_methods : List Row

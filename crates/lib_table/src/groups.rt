@@ -11,7 +11,7 @@ use crate::building::classes_of;
 use crate::exception_rows::{ERRORS, LIBRARY_EXCEPTIONS, MACHINE_EXCEPTIONS, THROWABLES};
 use crate::interface_rows::{BASIC_INTERFACES, COLLECTION_INTERFACES};
 use crate::lang_rows::{NUMBERS, OBJECTS, TEXTS};
-use crate::util_rows::{ASSERTIONS, COLLECTIONS};
+use crate::util_rows::{ASSERTIONS, HASHES, LISTS, UTILITIES};
 use class_link::LibClass;
 use class_model::{Memory, Seq};
 use std::alloc::Global;
@@ -70,10 +70,22 @@ fn library_exceptions(alloc: Global) -> Result<Seq<LibClass>, Memory>
     Ok(classes_of(alloc, &LIBRARY_EXCEPTIONS)?)
 }
 
-fn collections(alloc: Global) -> Result<Seq<LibClass>, Memory>
-    ensures { IfOk result (λ cs. cs ≡ util_def.collections) }
+fn lists(alloc: Global) -> Result<Seq<LibClass>, Memory>
+    ensures { IfOk result (λ cs. cs ≡ util_def.list_classes) }
 {
-    Ok(classes_of(alloc, &COLLECTIONS)?)
+    Ok(classes_of(alloc, &LISTS)?)
+}
+
+fn hashes(alloc: Global) -> Result<Seq<LibClass>, Memory>
+    ensures { IfOk result (λ cs. cs ≡ util_def.hash_classes) }
+{
+    Ok(classes_of(alloc, &HASHES)?)
+}
+
+fn utilities(alloc: Global) -> Result<Seq<LibClass>, Memory>
+    ensures { IfOk result (λ cs. cs ≡ util_def.utility_classes) }
+{
+    Ok(classes_of(alloc, &UTILITIES)?)
 }
 
 fn assertions(alloc: Global) -> Result<Seq<LibClass>, Memory>
@@ -121,6 +133,17 @@ fn exceptions(alloc: Global) -> Result<Seq<LibClass>, Memory>
     let of_library = library_exceptions(alloc)?;
     let back = joined(of_machine, of_library)?;
     Ok(joined(front, back)?)
+}
+
+#[tactic(auto, unfolding(crate::specs::Collected::collections))]
+fn collections(alloc: Global) -> Result<Seq<LibClass>, Memory>
+    ensures { IfOk result (λ cs. cs ≡ util_def.collections) }
+{
+    let lists = lists(alloc)?;
+    let hashes = hashes(alloc)?;
+    let utilities = utilities(alloc)?;
+    let back = joined(hashes, utilities)?;
+    Ok(joined(lists, back)?)
 }
 
 // The classes of the library, group by group.

@@ -94,13 +94,14 @@ const ARRAYS_METHODS: [MethodRow; 1] = [MethodRow::StaticNative(
     "([Ljava/lang/Object;)Ljava/util/List;",
 )];
 
-pub static COLLECTIONS: [ClassRow; 7] = [
-    ClassRow::Class(
-        "java/util/ArrayList",
-        "java/lang/Object",
-        &["java/util/List"],
-        &ARRAY_LIST_METHODS,
-    ),
+pub static LISTS: [ClassRow; 1] = [ClassRow::Class(
+    "java/util/ArrayList",
+    "java/lang/Object",
+    &["java/util/List"],
+    &ARRAY_LIST_METHODS,
+)];
+
+pub static HASHES: [ClassRow; 3] = [
     ClassRow::AbstractClass("mt/Hashed", "java/lang/Object", &[], &HASHED_METHODS),
     ClassRow::Class(
         "java/util/HashMap",
@@ -114,6 +115,9 @@ pub static COLLECTIONS: [ClassRow; 7] = [
         &["java/util/Set"],
         &HASH_SET_METHODS,
     ),
+];
+
+pub static UTILITIES: [ClassRow; 3] = [
     ClassRow::FinalClass(
         "mt/Iter",
         "java/lang/Object",

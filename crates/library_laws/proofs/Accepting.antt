@@ -17,7 +17,7 @@ use Rattle.type_rules.specs.Rules.{body_fault, ClassAccepted}
 use Rattle.lib_table.specs.Interfaces.{basic_interfaces, collection_interfaces}
 use Rattle.lib_table.specs.LangClasses.{objects, texts, numbers}
 use Rattle.lib_table.specs.Exceptions.{throwables, errors, machine_exceptions, library_exceptions}
-use Rattle.lib_table.specs.Collected.{collections, assertions}
+use Rattle.lib_table.specs.Collected.{collections, list_classes, hash_classes, utility_classes, assertions}
 use Rattle.lib_table.specs.Library.{library_meant}
 use Rattle.library_laws.specs.Beside.{AreOfFiles, AreApart, with_others, beside_library, behind_others}
 use Rattle.library_laws.proofs.Meaning.{is_table, table}
@@ -69,7 +69,7 @@ module _ (other : Look) (files : AreOfFiles other) where
   program = with_others table other
 
   rights : list_all (is_right program) table ≡ true
-  unfolding link_library supers row utf16_chars parameters_at instruction_by basic_interfaces collection_interfaces objects texts numbers throwables errors machine_exceptions library_exceptions collections assertions
+  unfolding link_library supers row utf16_chars parameters_at instruction_by basic_interfaces collection_interfaces objects texts numbers throwables errors machine_exceptions library_exceptions collections list_classes hash_classes utility_classes assertions
   rights = refl
 
   among_case : (n : Name) (c : Linked) (o : Option Linked) → class_among table n ≡ o → first_of o (other n) ≡ Some c → c.library ≡ true → class_among table n ≡ Some c

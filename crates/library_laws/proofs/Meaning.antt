@@ -28,7 +28,7 @@ use Rattle.lib_table.specs.Typed.{meant}
 use Rattle.lib_table.specs.Interfaces.{basic_interfaces, collection_interfaces}
 use Rattle.lib_table.specs.LangClasses.{objects, texts, numbers, objects_methods, string_methods, string_builder_methods}
 use Rattle.lib_table.specs.Exceptions.{throwables, errors, machine_exceptions, library_exceptions}
-use Rattle.lib_table.specs.Collected.{collections, assertions, array_list_methods, hashed_methods, hash_map_methods, hash_set_methods, assert_methods, assertions_methods}
+use Rattle.lib_table.specs.Collected.{collections, list_classes, hash_classes, utility_classes, assertions, array_list_methods, hashed_methods, hash_map_methods, hash_set_methods, assert_methods, assertions_methods}
 use Rattle.lib_table.specs.Library.{library_meant, class_meant}
 
 -- A frame as the machine's rules have it.
@@ -211,7 +211,7 @@ all_nine : {A B : Type 0} (f : (o s b l h m t a e : A) → B) (o o1 s s1 b b1 l 
 all_nine f o o1 s s1 b b1 l l1 h h1 m m1 t t1 a a1 e e1 e1s e2s e3s e4s e5s e6s e7s e8s e9s = cc
 
 pub is_table : library_meant ≡ table
-unfolding library_meant link_library basic_interfaces collection_interfaces objects texts numbers throwables errors machine_exceptions library_exceptions collections assertions
+unfolding library_meant link_library basic_interfaces collection_interfaces objects texts numbers throwables errors machine_exceptions library_exceptions collections list_classes hash_classes utility_classes assertions
 is_table =
     all_nine library_with _ _ _ _ _ _ _ _ _ _ _ _ _ _ _ _ _ _
     (are_by_rows objects_methods objects_same)

@@ -14,11 +14,11 @@ use Rattle.library_rules.specs.Arguments.{on_receiver, on_receiver_int, on_recei
 use Rattle.lib_table.specs.Interfaces.{basic_interfaces, collection_interfaces}
 use Rattle.lib_table.specs.LangClasses.{objects, texts, numbers}
 use Rattle.lib_table.specs.Exceptions.{throwables, errors, machine_exceptions, library_exceptions}
-use Rattle.lib_table.specs.Collected.{collections, assertions}
+use Rattle.lib_table.specs.Collected.{collections, list_classes, hash_classes, utility_classes, assertions}
 use Rattle.library_tries.specs.ListTries.{index_of_first, index_of_second, index_of_none, index_in_nothing, index_of_null, index_past_null, index_of_equal, index_of_twice}
 use Rattle.library_tries.proofs.Telling.{as_told}
 use Rattle.library_tries.proofs.lists.index_of.Goals as goal
 
 pub returns : goal.returns
-unfolding link_library int_wrap supers nodes act step_of family resolve_field resolve_method select_virtual select_named need_of is_instance on_receiver on_receiver_int on_receiver_value utf16_chars parameters_at instruction_by basic_interfaces collection_interfaces objects texts numbers throwables errors machine_exceptions library_exceptions collections assertions
+unfolding link_library int_wrap supers nodes act step_of family resolve_field resolve_method select_virtual select_named need_of is_instance on_receiver on_receiver_int on_receiver_value utf16_chars parameters_at instruction_by basic_interfaces collection_interfaces objects texts numbers throwables errors machine_exceptions library_exceptions collections list_classes hash_classes utility_classes assertions
 returns c = record { index_of_first = as_told index_of_first refl; index_of_second = as_told index_of_second refl; index_of_none = as_told index_of_none refl; index_in_nothing = as_told index_in_nothing refl; index_of_null = as_told index_of_null refl; index_past_null = as_told index_past_null refl; index_of_equal = as_told index_of_equal refl; index_of_twice = as_told index_of_twice refl }

@@ -14,11 +14,11 @@ use Rattle.library_rules.specs.Arguments.{on_receiver, on_receiver_int, on_recei
 use Rattle.lib_table.specs.Interfaces.{basic_interfaces, collection_interfaces}
 use Rattle.lib_table.specs.LangClasses.{objects, texts, numbers}
 use Rattle.lib_table.specs.Exceptions.{throwables, errors, machine_exceptions, library_exceptions}
-use Rattle.lib_table.specs.Collected.{collections, assertions}
+use Rattle.lib_table.specs.Collected.{collections, list_classes, hash_classes, utility_classes, assertions}
 use Rattle.library_tries.specs.MapTries.{find_in_nothing, find_first, find_second, find_second_of_one_hash, find_none_of_the_hash, find_none, find_null, find_null_of_empty, find_equal}
 use Rattle.library_tries.proofs.Telling.{as_told}
 use Rattle.library_tries.proofs.maps.find.Goals as goal
 
 pub returns : goal.returns
-unfolding link_library int_wrap supers nodes act step_of family resolve_field resolve_method select_virtual select_named need_of is_instance on_receiver on_receiver_int on_receiver_value utf16_chars parameters_at instruction_by basic_interfaces collection_interfaces objects texts numbers throwables errors machine_exceptions library_exceptions collections assertions
+unfolding link_library int_wrap supers nodes act step_of family resolve_field resolve_method select_virtual select_named need_of is_instance on_receiver on_receiver_int on_receiver_value utf16_chars parameters_at instruction_by basic_interfaces collection_interfaces objects texts numbers throwables errors machine_exceptions library_exceptions collections list_classes hash_classes utility_classes assertions
 returns c = record { find_in_nothing = as_told find_in_nothing refl; find_first = as_told find_first refl; find_second = as_told find_second refl; find_second_of_one_hash = as_told find_second_of_one_hash refl; find_none_of_the_hash = as_told find_none_of_the_hash refl; find_none = as_told find_none refl; find_null = as_told find_null refl; find_null_of_empty = as_told find_null_of_empty refl; find_equal = as_told find_equal refl }

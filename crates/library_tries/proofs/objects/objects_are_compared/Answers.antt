@@ -14,11 +14,11 @@ use Rattle.library_rules.specs.Arguments.{on_receiver, on_receiver_int, on_recei
 use Rattle.lib_table.specs.Interfaces.{basic_interfaces, collection_interfaces}
 use Rattle.lib_table.specs.LangClasses.{objects, texts, numbers}
 use Rattle.lib_table.specs.Exceptions.{throwables, errors, machine_exceptions, library_exceptions}
-use Rattle.lib_table.specs.Collected.{collections, assertions}
+use Rattle.lib_table.specs.Collected.{collections, list_classes, hash_classes, utility_classes, assertions}
 use Rattle.library_tries.specs.ObjectTries.{same_are_equal, nulls_are_equal, null_is_no_text, text_is_not_null, boxes_are_equal, texts_are_unequal}
 use Rattle.library_tries.proofs.Telling.{as_told}
 use Rattle.library_tries.proofs.objects.objects_are_compared.Goals as goal
 
 pub returns : goal.returns
-unfolding link_library int_wrap supers nodes act step_of family resolve_field resolve_method select_virtual select_named need_of is_instance on_receiver on_receiver_int on_receiver_value utf16_chars parameters_at instruction_by basic_interfaces collection_interfaces objects texts numbers throwables errors machine_exceptions library_exceptions collections assertions
+unfolding link_library int_wrap supers nodes act step_of family resolve_field resolve_method select_virtual select_named need_of is_instance on_receiver on_receiver_int on_receiver_value utf16_chars parameters_at instruction_by basic_interfaces collection_interfaces objects texts numbers throwables errors machine_exceptions library_exceptions collections list_classes hash_classes utility_classes assertions
 returns c = record { same_are_equal = as_told same_are_equal refl; nulls_are_equal = as_told nulls_are_equal refl; null_is_no_text = as_told null_is_no_text refl; text_is_not_null = as_told text_is_not_null refl; boxes_are_equal = as_told boxes_are_equal refl; texts_are_unequal = as_told texts_are_unequal refl }

@@ -15,11 +15,11 @@ use Rattle.library_rules.specs.Arguments.{on_receiver, on_receiver_int, on_recei
 use Rattle.lib_table.specs.Interfaces.{basic_interfaces, collection_interfaces}
 use Rattle.lib_table.specs.LangClasses.{objects, texts, numbers}
 use Rattle.lib_table.specs.Exceptions.{throwables, errors, machine_exceptions, library_exceptions}
-use Rattle.lib_table.specs.Collected.{collections, assertions}
+use Rattle.lib_table.specs.Collected.{collections, list_classes, hash_classes, utility_classes, assertions}
 use Rattle.library_tries.specs.ObjectTries.{null_has_a_text, text_is_its_text, box_has_a_text, append_of_null, append_of_objects}
 use Rattle.library_tries.proofs.Telling.{as_told}
 use Rattle.library_tries.proofs.objects.texts_are_given.Goals as goal
 
 pub returns : goal.returns
-unfolding link_library digits int_wrap supers nodes act step_of family resolve_field resolve_method select_virtual select_named need_of is_instance on_receiver on_receiver_int on_receiver_value utf16_chars parameters_at instruction_by basic_interfaces collection_interfaces objects texts numbers throwables errors machine_exceptions library_exceptions collections assertions
+unfolding link_library digits int_wrap supers nodes act step_of family resolve_field resolve_method select_virtual select_named need_of is_instance on_receiver on_receiver_int on_receiver_value utf16_chars parameters_at instruction_by basic_interfaces collection_interfaces objects texts numbers throwables errors machine_exceptions library_exceptions collections list_classes hash_classes utility_classes assertions
 returns c = record { null_has_a_text = as_told null_has_a_text refl; text_is_its_text = as_told text_is_its_text refl; box_has_a_text = as_told box_has_a_text refl; append_of_null = as_told append_of_null refl; append_of_objects = as_told append_of_objects refl }

@@ -14,11 +14,11 @@ use Rattle.library_rules.specs.Arguments.{on_receiver, on_receiver_int, on_recei
 use Rattle.lib_table.specs.Interfaces.{basic_interfaces, collection_interfaces}
 use Rattle.lib_table.specs.LangClasses.{objects, texts, numbers}
 use Rattle.lib_table.specs.Exceptions.{throwables, errors, machine_exceptions, library_exceptions}
-use Rattle.lib_table.specs.Collected.{collections, assertions}
+use Rattle.lib_table.specs.Collected.{collections, list_classes, hash_classes, utility_classes, assertions}
 use Rattle.library_tries.specs.SetTries.{taken_from_the_middle, none_is_taken, none_of_the_hash_is_taken, null_is_taken}
 use Rattle.library_tries.proofs.Telling.{as_told}
 use Rattle.library_tries.proofs.sets.set_removes.Goals as goal
 
 pub returns : goal.returns
-unfolding link_library int_wrap supers nodes act step_of family resolve_field resolve_method select_virtual select_named need_of is_instance on_receiver on_receiver_int on_receiver_value utf16_chars parameters_at instruction_by basic_interfaces collection_interfaces objects texts numbers throwables errors machine_exceptions library_exceptions collections assertions
+unfolding link_library int_wrap supers nodes act step_of family resolve_field resolve_method select_virtual select_named need_of is_instance on_receiver on_receiver_int on_receiver_value utf16_chars parameters_at instruction_by basic_interfaces collection_interfaces objects texts numbers throwables errors machine_exceptions library_exceptions collections list_classes hash_classes utility_classes assertions
 returns c = record { taken_from_the_middle = as_told taken_from_the_middle refl; none_is_taken = as_told none_is_taken refl; none_of_the_hash_is_taken = as_told none_of_the_hash_is_taken refl; null_is_taken = as_told null_is_taken refl }
