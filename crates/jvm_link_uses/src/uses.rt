@@ -15,42 +15,36 @@ use jvm_link::{
 };
 use program_rules::Fault;
 
-/// What a use comes to: a member of this class, or an array's own `clone`.
+/// What a use comes to: a member of this class, an array's own `clone`, or what is thrown. Nothing,
+/// where the instruction uses no member.
 #[derive(Clone, Copy)]
 pub enum End {
     Member(ClassId),
     Clone,
-}
-
-/// Why a use comes to neither.
-#[derive(Clone, Copy)]
-pub enum Halt {
     Thrown(Fault),
-    /// The instruction uses no member.
-    NoUse,
-    NoMemory,
+    Nothing,
 }
 
-impl From<Fault> for Halt {
-    fn from(fault: Fault) -> Halt {
-        Halt::Thrown(fault)
-    }
+/// How a method is called.
+#[derive(Clone, Copy)]
+enum Call {
+    Static,
+    Special,
+    Virtual,
+    Interface,
 }
 
-impl From<Memory> for Halt {
-    fn from(_: Memory) -> Halt {
-        Halt::NoMemory
-    }
-}
+// What is selected of a method, or thrown.
+type Selected = Result<Result<Callee, Fault>, Memory>;
 
 // The class that a name stands for.
-fn class_of(program: &Program, name: &Name) -> Result<ClassId, Halt>
-    ensures { IfOk result (λ id. id.0 < length program.now) }
+fn class_of(program: &Program, name: &Name) -> Result<Result<ClassId, Fault>, Memory>
+    ensures { IfOk result (λ a. IfOk a (λ id. id.0 < length program.now)) }
 {
     let alloc = name.allocator();
     let mut seen = Consulted::new(alloc, program)?;
-    let id = resolve_class(alloc, program, &mut seen, name)??;
-    Ok(id)
+    let answer = resolve_class(alloc, program, &mut seen, name)?;
+    Ok(answer)
 }
 
 fn method_at(program: &Program, site: Site) -> Option<&LinkedMethod> {
@@ -58,138 +52,178 @@ fn method_at(program: &Program, site: Site) -> Option<&LinkedMethod> {
 }
 
 // Bit 3 is ACC_STATIC (JVMS 4.6).
-fn is_static(program: &Program, callee: Callee) -> bool {
-    let Callee::Method(site) = callee else {
-        return false;
-    };
+fn is_static(program: &Program, site: Site) -> bool {
     match method_at(program, site) {
         Some(method) => method.flags / 8 % 2 == 1,
         None => false,
     }
 }
 
-// What a reference to a method is resolved to: a static one, or none.
-fn resolved(
-    program: &Program,
-    searching: &mut Search,
-    reference: &MethodRef,
-    wants_static: bool,
-) -> Result<Callee, Halt> {
-    let id = class_of(program, &reference.class)?;
-    let callee = resolve_method(program, searching, id, reference)??;
-    if is_static(program, callee) != wants_static {
-        return Err(Halt::Thrown(Fault::IncompatibleClassChangeError));
-    }
-    Ok(callee)
-}
-
-// What a call of a method comes to: one without a body is AbstractMethodError.
-fn called(program: &Program, callee: Callee) -> Result<End, Halt> {
-    let Callee::Method(site) = callee else {
-        return Ok(End::Clone);
-    };
-    let Some(method) = method_at(program, site) else {
-        return Err(Halt::NoUse);
-    };
-    match method.body {
-        LinkedBody::Absent => Err(Halt::Thrown(Fault::AbstractMethodError)),
-        _ => Ok(End::Member(site.class)),
-    }
-}
-
-fn has_callee(program: &Program, callee: Callee) -> bool
+// Whether a method is static where it has to be, and isn't where not.
+fn fits(program: &Program, callee: Callee, wants_static: bool) -> bool
     ensures { result ≡ true → HasCallee program.now callee }
 {
     match callee {
-        Callee::Method(site) => (site.class.0 as usize) < program.len(),
-        Callee::ArrayClone => true,
+        Callee::Method(site) => {
+            (site.class.0 as usize) < program.len() && is_static(program, site) == wants_static
+        }
+        Callee::ArrayClone => !wants_static,
     }
 }
 
-// What `invokevirtual` selects on an object of this class.
-fn virtual_end(
+// What a call of a method comes to: one without a body is AbstractMethodError.
+fn body_end(program: &Program, site: Site) -> End {
+    match method_at(program, site) {
+        Some(method) => match method.body {
+            LinkedBody::Absent => End::Thrown(Fault::AbstractMethodError),
+            _ => End::Member(site.class),
+        },
+        None => End::Nothing,
+    }
+}
+
+fn selected_end(program: &Program, selected: Result<Callee, Fault>) -> End {
+    match selected {
+        Ok(Callee::Method(site)) => body_end(program, site),
+        Ok(Callee::ArrayClone) => End::Clone,
+        Err(fault) => End::Thrown(fault),
+    }
+}
+
+// Whether `invokespecial` calls the method itself: an `<init>`, or a method of an interface.
+fn is_itself(reference: &MethodRef) -> bool {
+    match reference.name.as_slice() {
+        [unit, ..] => reference.interface || *unit == b'<' as u16,
+        [] => false,
+    }
+}
+
+// What `invokespecial` selects in a caller's class: the method itself, or what the superclass has.
+fn select_special(
     program: &Program,
     searching: &mut Search,
     reference: &MethodRef,
+    callee: Callee,
+    caller: ClassId,
+) -> Selected
+    requires { caller.0 < length program.now }
+{
+    if is_itself(reference) {
+        return Ok(Ok(callee));
+    }
+    match superclass(program, caller) {
+        Some(up) => select_named(program, searching, up, false, reference),
+        None => Ok(Ok(callee)),
+    }
+}
+
+// What is selected on an object of this class, or an array of it, or in a caller of this class.
+fn select(
+    program: &Program,
+    searching: &mut Search,
+    call: Call,
+    reference: &MethodRef,
+    callee: Callee,
+    id: ClassId,
+    array: bool,
+) -> Selected
+    requires callee { HasCallee program.now callee }
+    requires class { id.0 < length program.now }
+{
+    match call {
+        Call::Static => Ok(Ok(callee)),
+        Call::Special => select_special(program, searching, reference, callee, id),
+        Call::Virtual => select_virtual(program, searching, id, array, reference, callee),
+        Call::Interface => select_named(program, searching, id, array, reference),
+    }
+}
+
+// What a call of a resolved method comes to.
+fn callee_end(
+    program: &Program,
+    searching: &mut Search,
+    call: Call,
+    reference: &MethodRef,
+    callee: Callee,
     object: &Name,
-) -> Result<End, Halt> {
-    let callee = resolved(program, searching, reference, false)?;
-    let id = class_of(program, object)?;
-    let array = is_array_name(object.as_slice());
-    if !has_callee(program, callee) {
-        return Err(Halt::NoUse);
+) -> Result<End, Memory> {
+    if !fits(program, callee, matches!(call, Call::Static)) {
+        return Ok(End::Thrown(Fault::IncompatibleClassChangeError));
     }
-    let found = select_virtual(program, searching, id, array, reference, callee)??;
-    called(program, found)
-}
-
-// What `invokeinterface` selects on an object of this class.
-fn interface_end(
-    program: &Program,
-    searching: &mut Search,
-    reference: &MethodRef,
-    object: &Name,
-) -> Result<End, Halt> {
-    resolved(program, searching, reference, false)?;
-    let id = class_of(program, object)?;
-    let array = is_array_name(object.as_slice());
-    let found = select_named(program, searching, id, array, reference)??;
-    called(program, found)
-}
-
-// What `invokespecial` selects in a caller's class: an `<init>` and a method of an interface
-// themselves, and else what the superclass has.
-fn special_end(
-    program: &Program,
-    searching: &mut Search,
-    reference: &MethodRef,
-    caller: &Name,
-) -> Result<End, Halt> {
-    let callee = resolved(program, searching, reference, false)?;
-    if reference.interface || reference.name.get(0) == Some(&u16::from(b'<')) {
-        return called(program, callee);
-    }
-    let id = class_of(program, caller)?;
-    let Some(up) = superclass(program, id) else {
-        return Err(Halt::NoUse);
+    let Ok(id) = class_of(program, object)? else {
+        return Ok(End::Nothing);
     };
-    let found = select_named(program, searching, up, false, reference)??;
-    called(program, found)
+    let array = is_array_name(object.as_slice());
+    let selected = select(program, searching, call, reference, callee, id, array)?;
+    Ok(selected_end(program, selected))
 }
 
-fn static_end(
+// What a call comes to.
+fn call_end(
     program: &Program,
     searching: &mut Search,
+    call: Call,
     reference: &MethodRef,
-) -> Result<End, Halt> {
-    let callee = resolved(program, searching, reference, true)?;
-    called(program, callee)
+    object: &Name,
+) -> Result<End, Memory> {
+    let id = match class_of(program, &reference.class)? {
+        Ok(id) => id,
+        Err(fault) => return Ok(End::Thrown(fault)),
+    };
+    match resolve_method(program, searching, id, reference)? {
+        Ok(callee) => callee_end(program, searching, call, reference, callee, object),
+        Err(fault) => Ok(End::Thrown(fault)),
+    }
 }
 
 // What a use of a field comes to. An array has no fields.
-fn field_end(program: &Program, searching: &mut Search, reference: &FieldRef) -> Result<End, Halt> {
-    let id = class_of(program, &reference.class)?;
+fn field_end(
+    program: &Program,
+    searching: &mut Search,
+    reference: &FieldRef,
+) -> Result<End, Memory> {
     if is_array_name(reference.class.as_slice()) {
-        return Err(Halt::Thrown(Fault::NoSuchFieldError));
+        return Ok(End::Thrown(Fault::NoSuchFieldError));
     }
-    let walker = &mut searching.family;
-    match resolve_field(program, walker, id, &reference.name, &reference.desc)? {
+    let id = match class_of(program, &reference.class)? {
+        Ok(id) => id,
+        Err(fault) => return Ok(End::Thrown(fault)),
+    };
+    match resolve_field(
+        program,
+        &mut searching.family,
+        id,
+        &reference.name,
+        &reference.desc,
+    )? {
         Some(site) => Ok(End::Member(site.class)),
-        None => Err(Halt::Thrown(Fault::NoSuchFieldError)),
+        None => Ok(End::Thrown(Fault::NoSuchFieldError)),
     }
 }
 
-fn method_of(linked: &LinkedClass, index: u32) -> Result<&MethodRef, Halt> {
+fn call_at(
+    program: &Program,
+    searching: &mut Search,
+    call: Call,
+    linked: &LinkedClass,
+    index: u32,
+    object: &Name,
+) -> Result<End, Memory> {
     match linked.method_ref(index) {
-        Some(reference) => Ok(reference),
-        None => Err(Halt::NoUse),
+        Some(reference) => call_end(program, searching, call, reference, object),
+        None => Ok(End::Nothing),
     }
 }
 
-fn field_of(linked: &LinkedClass, index: u32) -> Result<&FieldRef, Halt> {
+fn field_at(
+    program: &Program,
+    searching: &mut Search,
+    linked: &LinkedClass,
+    index: u32,
+) -> Result<End, Memory> {
     match linked.entries.get(index as usize) {
-        Some(Entry::Field(reference)) => Ok(reference),
-        _ => Err(Halt::NoUse),
+        Some(Entry::Field(reference)) => field_end(program, searching, reference),
+        _ => Ok(End::Nothing),
     }
 }
 
@@ -200,36 +234,30 @@ fn use_end(
     linked: &LinkedClass,
     instruction: Instruction,
     object: &Name,
-) -> Result<End, Halt> {
+) -> Result<End, Memory> {
     match instruction {
-        Instruction::GetStatic(index) => { field_end(program, searching, field_of(linked, index)?) }
+        Instruction::GetStatic(index) => field_at(program, searching, linked, index),
         Instruction::InvokeStatic(index) => {
-            static_end(program, searching, method_of(linked, index)?)
+            call_at(program, searching, Call::Static, linked, index, object)
         }
         Instruction::InvokeSpecial(index) => {
-            special_end(program, searching, method_of(linked, index)?, object)
+            call_at(program, searching, Call::Special, linked, index, object)
         }
         Instruction::InvokeVirtual(index) => {
-            virtual_end(program, searching, method_of(linked, index)?, object)
+            call_at(program, searching, Call::Virtual, linked, index, object)
         }
         Instruction::InvokeInterface(index) => {
-            interface_end(program, searching, method_of(linked, index)?, object)
+            call_at(program, searching, Call::Interface, linked, index, object)
         }
-        _ => Err(Halt::NoUse),
+        _ => Ok(End::Nothing),
     }
 }
 
 // The instruction of this number of the first method.
-fn instruction_of(linked: &LinkedClass, number: usize) -> Result<Instruction, Halt> {
-    let Some(method) = linked.methods.get(0) else {
-        return Err(Halt::NoUse);
-    };
-    let LinkedBody::Code(code) = &method.body else {
-        return Err(Halt::NoUse);
-    };
-    match code.instructions.get(number) {
-        Some(instruction) => Ok(*instruction),
-        None => Err(Halt::NoUse),
+fn instruction_of(linked: &LinkedClass, number: usize) -> Option<Instruction> {
+    match linked.methods.get(0)?.body {
+        LinkedBody::Code(ref code) => code.instructions.get(number).copied(),
+        _ => None,
     }
 }
 
@@ -239,11 +267,13 @@ pub fn end_of(
     searching: &mut Search,
     number: usize,
     object: &Name,
-) -> Result<End, Halt> {
+) -> Result<End, Memory> {
     let Some(info) = program.get(MAIN) else {
-        return Err(Halt::NoUse);
+        return Ok(End::Nothing);
     };
     let linked = info.linked();
-    let instruction = instruction_of(linked, number)?;
-    use_end(program, searching, linked, instruction, object)
+    match instruction_of(linked, number) {
+        Some(instruction) => use_end(program, searching, linked, instruction, object),
+        None => Ok(End::Nothing),
+    }
 }
