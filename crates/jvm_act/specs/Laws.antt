@@ -1,20 +1,22 @@
 -- What rows come to, said in one way; and what becomes of frames.
-use Rattle.std.specs.Prelude.{List, IfSome, IsSomeAnd}
+use Rattle.std.specs.Prelude.{◌≡◌, ◌⊎◌, ◌<◌, ◌≤◌, ◌^◌, List, [], IfSome, IsSomeAnd}
 use Rattle.program_rules.specs.Instructions.{MethodRef}
 use Rattle.class_link.specs.Info.{Info}
 use Rattle.jvm_state.specs.Rows.{Row}
-use Rattle.jvm_frames.specs.Frames.{NumberedFrames}
+use Rattle.jvm_frames.specs.Frames.{NumberedFrame, NumberedFrames}
 use Rattle.jvm_world.specs.declared.world.World.{World}
 use Rattle.jvm_heap_rows.specs.declared.effect.Effect.{Effect}
 use Rattle.jvm_heap_rows.specs.Effects.{RowOf, Runs}
 use Rattle.jvm_member_rows.specs.Whole.{RunsWhole}
 use Rattle.jvm_unwind.specs.declared.turn.Turn.{Turn}
 use Rattle.jvm_unwind.specs.Turns.{Turns}
-use Rattle.jvm_unwind.specs.Unwinding.{IsLeftOrOn}
+use Rattle.jvm_unwind.specs.Unwinding.{IsHandled, IsLeftOrOn}
 use Rattle.jvm_calls.specs.Returns.{StaysOrBack}
 use Rattle.jvm_begin.specs.Begins.{StaysOrBegins}
 use Rattle.jvm_invokes.specs.declared.invoked.Invoked.TheVariants as invoked
 use Rattle.jvm_invokes.specs.Invoked.{Invokes, IsOfMethod, StaysOrEnters}
+use Rattle.jvm_act.specs.declared.methods.MethodCode.{MethodCode}
+use Rattle.jvm_act.specs.Methods.{IsCodeOf}
 use Rattle.jvm_act.specs.Turned.{Turned, turn_of, always}
 use Rattle.jvm_act.specs.Standing.{HasNext, AreFramesOf}
 
@@ -77,3 +79,17 @@ abbrev pub ThrowsKeepFrames : Type 0
 ThrowsKeepFrames =
     (p : List Info) (old new : NumberedFrames) → IsSomeAnd old.frame (IsOfMethod p) →
     IsLeftOrOn old new → AreFramesOf p old → AreFramesOf p new
+
+-- ---- what is asked where an object is thrown
+
+-- A method that has rows has room for an object on its stack, as all code has that is accepted (JVMS
+-- 4.10.1.6).
+abbrev pub HasRoomToLand : MethodCode → Type 0
+HasRoomToLand m = (m.linked.rows ≡ []) ⊎ (1 ≤ m.linked.max_stack)
+
+-- A frame of a method with such code is one in which an object may be thrown, at an instruction
+-- whose number is one of 32 bits.
+abbrev pub FramesAreHandled : Type 0
+FramesAreHandled =
+    (p : List Info) (m : MethodCode) (f : NumberedFrame) → IsCodeOf p f.class f.method m →
+    IsOfMethod p f → HasRoomToLand m → f.at < 2 ^ 32 → IsHandled p m.handlers f

@@ -1,3 +1,5 @@
 pub mod Turned
 pub mod Standing
+pub mod Methods
+pub mod Groups
 pub mod Laws

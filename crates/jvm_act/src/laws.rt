@@ -1,6 +1,6 @@
 //! What rows come to, said in one way, and what becomes of frames.
 
-ghost use Rattle.jvm_act.specs.Laws.{RunsAreTurned, WholesAreTurned, TurnsAreTurned, InvokedAreTurned, WholesKeepFrames, CallsKeepFrames, BeginsKeepFrames};
+ghost use Rattle.jvm_act.specs.Laws.{RunsAreTurned, WholesAreTurned, TurnsAreTurned, InvokedAreTurned, WholesKeepFrames, CallsKeepFrames, BeginsKeepFrames, ReturnsKeepFrames, ThrowsKeepFrames, FramesAreHandled};
 
 /// A row by which the running frame stays.
 #[tactic(auto, using(crate::proofs::Turns::runs_are_turned))]
@@ -42,4 +42,22 @@ pub fn calls_keep_frames()
 #[tactic(auto, using(crate::proofs::Framed::begins_keep_frames))]
 pub fn begins_keep_frames()
     ensures { BeginsKeepFrames }
+{}
+
+/// So they are behind a return.
+#[tactic(auto, using(crate::proofs::Framed::returns_keep_frames))]
+pub fn returns_keep_frames()
+    ensures { ReturnsKeepFrames }
+{}
+
+/// So they are behind a step of an object that is thrown.
+#[tactic(auto, using(crate::proofs::Framed::throws_keep_frames))]
+pub fn throws_keep_frames()
+    ensures { ThrowsKeepFrames }
+{}
+
+/// What `unwind` of `jvm_unwind` asks of the running frame.
+#[tactic(auto, using(crate::proofs::Coded::frames_are_handled))]
+pub fn frames_are_handled()
+    ensures { FramesAreHandled }
 {}
