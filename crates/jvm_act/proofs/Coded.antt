@@ -51,6 +51,18 @@ handlers_of p class place m c h there is rows right initializes = record {
   initializes = initializes (entries_at p class) ∙ sym (ap is_initializer_method there);
 }
 
+-- ---- the code of a method
+
+pub code_is : (p : List Info) (class place : ℕ) (m : LinkedMethod) (linked : LinkedCode) (code : MethodCode) → rules.method_in (look p (name_at p class)) place ≡ Some (method_of (entries_at p class) m) → m.body ≡ body.Code linked → code.linked ≡ linked → code.result ≡ m.result → AreDecoded linked.instructions code.code.ops.items code.code.longs.items → AreHandlersOf p class place code.handlers → IsCodeOf p class place code
+code_is p class place m linked code there is same result ops handlers = record {
+  method = m;
+  there = there;
+  body = is ∙ ap body.Code (sym same);
+  result = sym result;
+  ops = subst (λ l. AreDecoded l.instructions code.code.ops.items code.code.longs.items) (sym same) ops;
+  handlers = handlers;
+}
+
 -- ---- methods without code
 
 code_by : List Entry → Option LinkedMethod → Option rules.LinkedCode

@@ -1,3 +1,7 @@
 pub mod Turns
 pub mod Framed
 pub mod Coded
+mod Unnamed
+pub mod Rows
+mod Returned
+pub mod Executed

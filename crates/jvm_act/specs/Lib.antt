@@ -2,4 +2,5 @@ pub mod Turned
 pub mod Standing
 pub mod Methods
 pub mod Groups
+pub mod Acts
 pub mod Laws

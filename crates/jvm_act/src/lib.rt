@@ -1,14 +1,21 @@
-//! What the rows of the machine come to, said in one way, and whose row an instruction has (JVMS 6.5).
+//! One instruction of the machine, whatever it is, by its row (JVMS 6.5).
 #![tactic(auto)]
 
+mod acting;
+mod arrays;
+mod classes;
+mod elements;
 mod groups;
+mod inside;
 pub mod laws;
 mod methods;
+mod objects;
+mod returns;
+mod symbols;
 mod turning;
 
-pub use groups::{
-    CallUse, ClassOp, ClassUse, ElementOp, FrameOp, Group, MemberOp, ObjectOp, ReturnOp, SwitchOp,
-    group_of,
-};
-pub use methods::MethodCode;
+pub use acting::{Acted, act};
+pub use groups::{CallUse, FrameOp, Group, MemberOp, ReturnOp, SwitchOp, group_of};
+pub use methods::{MethodCode, handlers_of};
+pub use returns::take_return;
 pub use turning::turn_of;

@@ -11,5 +11,6 @@ mod states;
 mod text;
 
 pub use beginning::begin;
+pub use members::is_initializer;
 pub use need::{Need, need_for};
 pub use ready::{Readied, make_ready};
