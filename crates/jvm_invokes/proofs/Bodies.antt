@@ -7,7 +7,6 @@ use Rattle.program_rules.specs.Linked.{LinkedMethod, is_abstract, method_in}
 use Rattle.program_rules.specs.Outlines.{Abstractly, callable_of}
 use Rattle.class_link.specs.declared.linked.LinkedClass.{LinkedClass}
 use Rattle.class_link.specs.View.{linked_of, method_of, body_of}
-use Rattle.library_rules.specs.Numbered.{meaning_of}
 use Rattle.library_rules.specs.declared.native.Native.{Native}
 use Rattle.class_link.specs.declared.linked.LinkedBody.TheVariants as linked_body
 use Rattle.jvm_invokes.specs.declared.heads.Body.{Body}
@@ -45,9 +44,8 @@ head_is p s i h ms same few class number flags bodies m there =
       body = bodies i.linked.entries m (ap (λ xs. option_map (method_of i.linked.entries) (slice_get xs s.place)) same ∙ e);
     }
 
-pub native_is : (m : linked.LinkedMethod) (n : Native) → is_abstract m.flags ≡ false → m.body ≡ linked_body.Native n → (es : List Entry) → IsBody (method_of es m) body.Native
-native_is m n e is es =
-    (meaning_of n, has_body (method_of es m) e ∙ ap callable_of (ap (body_of es) is))
+pub native_is : (m : linked.LinkedMethod) (n : Native) → is_abstract m.flags ≡ false → m.body ≡ linked_body.Native n → (es : List Entry) → IsBody (method_of es m) (body.Native n)
+native_is m n e is es = has_body (method_of es m) e ∙ ap callable_of (ap (body_of es) is)
 
 same_some : (x y : LinkedMethod) → Some x ≡ Some y → x ≡ y
 same_some x y e = cc

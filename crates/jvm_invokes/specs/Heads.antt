@@ -1,9 +1,9 @@
 -- What a call asks of the method that it runs.
 use Rattle.std.specs.Prelude.{◌≡◌, List, Some}
-use Rattle.program_rules.specs.Deeds.{Meaning}
 use Rattle.program_rules.specs.Linked.{LinkedMethod, method_in, code_of}
 use Rattle.program_rules.specs.Outlines.{Written, Natively, Abstractly, head_of}
 use Rattle.machine_rules.specs.Calls.{room_in}
+use Rattle.library_rules.specs.Numbered.{meaning_of}
 use Rattle.class_link.specs.Info.{Info}
 use Rattle.class_table.specs.Table.{look, name_at}
 use Rattle.jvm_link.specs.declared.site.Site.{Site}
@@ -15,7 +15,7 @@ use Rattle.jvm_invokes.specs.declared.heads.Head.{Head}
 abbrev pub IsBody : LinkedMethod → Body → Type 0
 IsBody m (body.Code locals stack) =
     ((head_of m).callable ≡ Written locals) × (room_in (code_of (Some m)) ≡ Some stack)
-IsBody m body.Native = (meaning : Meaning) × ((head_of m).callable ≡ Natively meaning)
+IsBody m (body.Native n) = (head_of m).callable ≡ Natively (meaning_of n)
 IsBody m body.Empty = (head_of m).callable ≡ Abstractly
 
 -- What a call asks of the method at a place.

@@ -126,7 +126,7 @@ pub fn call_site(
             let turn = enter_code(frames, world, alloc, p, code, args)?;
             Ok(Invoked::Turned(turn))
         }
-        Body::Native => Ok(Invoked::Native(site, args)),
+        Body::Native(_) => Ok(Invoked::Native(site, args)),
         Body::Empty => {
             let turn = throw_without(frames, world, alloc, p, Fault::AbstractMethodError, args)?;
             Ok(Invoked::Turned(turn))

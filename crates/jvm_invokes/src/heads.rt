@@ -10,14 +10,15 @@ ghost use Rattle.jvm_invokes.specs.Heads.{IsHead, IsBody, StandsAt};
 use class_link::{LinkedBody, LinkedMethod};
 use class_table::Program;
 use jvm_link::Site;
+use library_rules::Native;
 
 /// What a call of a method runs.
 #[derive(Clone, Copy)]
 pub enum Body {
     /// Code that takes so many locals, and so many words of a stack.
     Code(u16, u16),
-    /// A native meaning.
-    Native,
+    /// What this native method means.
+    Native(Native),
     /// Nothing: the method is abstract.
     Empty,
 }
@@ -62,7 +63,7 @@ fn body_of(method: &LinkedMethod) -> Body
     }
     match &method.body {
         LinkedBody::Code(code) => Body::Code(code.max_locals, code.max_stack),
-        LinkedBody::Native(_) => Body::Native,
+        LinkedBody::Native(native) => Body::Native(*native),
         LinkedBody::Absent => Body::Empty,
     }
 }
