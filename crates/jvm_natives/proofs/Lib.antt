@@ -1,0 +1,11 @@
+mod Given
+mod Stores
+mod Wanted
+mod Counted
+mod Ended
+mod Called
+mod Copied
+mod Placed
+mod Readied
+mod Found
+mod Left

@@ -1,0 +1,4 @@
+pub mod Natives
+pub mod Ends
+pub mod Copies
+pub mod Completed
