@@ -17,7 +17,6 @@ use Rattle.class_link.specs.declared.linked.LinkedBody.{LinkedBody}
 use Rattle.class_link.specs.declared.linked.LinkedBody.TheVariants as body
 use Rattle.class_link.specs.declared.linked.LinkedCode.{LinkedCode}
 use Rattle.class_link.specs.declared.linked.LinkedMethod.{LinkedMethod}
-use Rattle.class_link.specs.declared.linked.Native.{Native}
 use Rattle.class_link.specs.Info.{Info}
 use Rattle.class_link.specs.Symbols.{kind_of}
 use Rattle.class_link.specs.View.{method_of, body_of, code_of, row_of}
