@@ -14,7 +14,9 @@ use Rattle.machine_rules.specs.Performing.{performs}
 use Rattle.machine_so_far.specs.Calls.{ends_native}
 use Rattle.class_link.specs.Info.{Info}
 use Rattle.class_link.specs.Symbols.{kind_of}
-use Rattle.class_table.specs.Table.{look}
+use Rattle.class_table.specs.Table.{look, name_at}
+use Rattle.library_rules.specs.declared.native.Native.{Native}
+use Rattle.library_rules.specs.Numbered.{meaning_of}
 use Rattle.jvm_step.specs.declared.machine.Given.{Given}
 use Rattle.jvm_step.specs.declared.machine.Given.TheVariants as given
 use Rattle.jvm_step.specs.declared.machine.Machine.{Machine}
@@ -63,12 +65,14 @@ EndsWith p class g b old new =
     (ends_with old.limits (consulted_in p class old) (frame_of p f) (callers_of p old.callers) room
     (deed_of g)) b (world_of p old.world) (state_of p new))
 
--- A native method of this class is called with arguments of these kinds of the running frame.
+-- A native method of the class of this number is called with arguments of these kinds of the running
+-- frame.
 abbrev pub CallsNative :
-    List Info → Name → Meaning → List plain.Kind → Bool → Machine → Machine → Type 0
-CallsNative p class meaning kinds b old new =
+    List Info → ℕ → Native → List plain.Kind → Bool → Machine → Machine → Type 0
+CallsNative p class method kinds b old new =
     IfSome old.frame (λ f. (room : ℕ) → Comes
     (on_args (map kind_of kinds) f.stack (λ args rest.
-    ends_with old.limits (consulted_in p class old) (record (frame_of p f) { stack = rest })
-    (callers_of p old.callers) room (meaning (consulted_in p class old).heap args))) b
+    ends_with old.limits (consulted_in p (name_at p class) old) (record (frame_of p f) { stack = rest })
+    (callers_of p old.callers) room
+    (meaning_of method (consulted_in p (name_at p class) old).heap args))) b
     (world_of p old.world) (state_of p new))

@@ -8,7 +8,6 @@ ghost use Rattle.machine_rules.specs.Lookups.{consult};
 ghost use Rattle.machine_so_far.specs.Calls.{runs, invokes_static, invokes_special, is_object_initializer};
 ghost use Rattle.class_link.specs.Info.{Info};
 ghost use Rattle.class_link.specs.View.{method_ref_of, method_of, body_of, meaning_at};
-ghost use Rattle.library_rules.specs.Numbered.{meaning_of};
 ghost use Rattle.class_link.specs.Opcodes.{on_method};
 ghost use Rattle.class_link.specs.Symbols.{kind_of};
 ghost use Rattle.program_rules.specs.Instructions.{MethodRef as DefReference, Instruction, Unlinked};
@@ -150,7 +149,7 @@ fn call_native(
     requires quiet { m.old.thrown ≡ None }
     requires next { IfSome m.old.frame (λ f. f.at + 1 < 2 ^ 64) }
     requires class { class.0 < length p.now }
-    ensures row { IfOk result (λ b. CallsNative p.now (name_at p.now class.0) (meaning_of method) kinds.now b m.old m.new) }
+    ensures row { IfOk result (λ b. CallsNative p.now class.0 method kinds.now b m.old m.new) }
     ensures kept { OnOk result (IsKept p.now m.old m.new) }
 {
     let Some(frame) = &mut m.frame else {

@@ -1,7 +1,10 @@
 -- The program that a mutant's edit makes (this project's own).
-use Rattle.std.specs.Prelude.{◌≡◌, ℕ, if◌then◌else◌, List, Option, Some, IfSome, slice_get, slice_set, option_and_then}
+use Rattle.std.specs.Prelude.{◌≡◌, ◌×◌, ℕ, if◌then◌else◌, List, Option, Some, None, IfSome, MatchOption, slice_get, slice_set, option_and_then}
 use Rattle.std.specs.Option.{option_map}
+use Rattle.std.specs.Arc.{arc_value}
+use Rattle.std.specs.declared.sync.Arc.{Arc}
 use Rattle.class_model.specs.declared.class.Class.{Class}
+use Rattle.class_model.specs.declared.class.ClassId.{ClassId}
 use Rattle.class_reader.specs.Spells.{IsClass}
 use Rattle.class_writer.specs.Writing.{HasClassForm}
 use Rattle.program_rules.specs.Names.{Name, same}
@@ -37,3 +40,9 @@ IsMutantOf files m = IfSome (files m.class) (λ c. HasClassForm c × Fits c m.ed
 pub record Makes (p : List Info) (m : Mutant) (id : ℕ) (class : Info) : Type 0 where
   pub swaps : CanSwap p id class
   pub program : edited (files_of p) (look p) m ≡ Some (look (slice_set p id class))
+
+-- What is made of a mutant's edit: the number and the class that it makes, or none where the edited
+-- class has no layout.
+abbrev pub ComesOf : {Z : Type 0} → List Info → Mutant → Option (ClassId × Arc Info Z) → Type 0
+ComesOf p m made =
+    MatchOption made (edited (files_of p) (look p) m ≡ None) (λ a. Makes p m a.0.0 (arc_value a.1))

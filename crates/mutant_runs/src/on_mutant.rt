@@ -1,9 +1,8 @@
 //! The program with a mutant's edit in it.
 
-ghost use Rattle.std.specs.Prelude.{◌≡◌, ◌+◌, ◌≤◌, ◌<◌, ◌^◌, All, length, IfOk, OnOk, MatchOption, None};
-ghost use Rattle.std.specs.Arc.{arc_value};
+ghost use Rattle.std.specs.Prelude.{◌≡◌, ◌+◌, ◌≤◌, ◌<◌, ◌^◌, All, length, IfOk, OnOk};
 ghost use Rattle.class_table.specs.Table.{look};
-ghost use Rattle.mutant_runs.specs.Programs.{files_of, edited, IsMutantOf, Makes};
+ghost use Rattle.mutant_runs.specs.Programs.{files_of, IsMutantOf, ComesOf};
 ghost use Rattle.mutant_runs.specs.Files.{IsKept};
 ghost use Rattle.mutant_runs.specs.Runs.{timed, most_steps};
 ghost use Rattle.mutant_runs.specs.Verdicts.{verdict_of, steps_on};
@@ -32,7 +31,7 @@ fn edited_class(
 ) -> Result<Option<(ClassId, Arc<ClassInfo, Global>)>, Memory>
     requires fit { IsMutantOf (files_of program.now) mutant.now }
     requires kept { IsKept program.now kept.old }
-    ensures made { IfOk result (λ made. MatchOption made (edited (files_of program.now) (look program.now) mutant.now ≡ None) (λ m. Makes program.now mutant.now m.0.0 (arc_value m.1))) }
+    ensures made { IfOk result (ComesOf program.now mutant.now) }
     ensures kept { OnOk result (IsKept program.now kept.new) }
 {
     let Some(id) = program.find(&mutant.class) else {
