@@ -131,9 +131,8 @@ room_to_land p m f is of (inr room) =
     inr (subst (λ n. 1 ≤ n) e room)
 
 pub frames_are_handled : FramesAreHandled
-frames_are_handled p m f is of room at = record {
+frames_are_handled p m f is of room = record {
   class = of.class;
-  at = at;
   handlers = is.handlers;
   room = room_to_land p m f is of room;
 }

@@ -1,5 +1,5 @@
 -- What rows come to, said in one way; and what becomes of frames.
-use Rattle.std.specs.Prelude.{◌≡◌, ◌⊎◌, ◌<◌, ◌≤◌, ◌^◌, List, [], IfSome, IsSomeAnd}
+use Rattle.std.specs.Prelude.{◌≡◌, ◌⊎◌, ◌≤◌, List, [], IfSome, IsSomeAnd}
 use Rattle.program_rules.specs.Instructions.{MethodRef}
 use Rattle.class_link.specs.Info.{Info}
 use Rattle.jvm_state.specs.Rows.{Row}
@@ -87,9 +87,8 @@ ThrowsKeepFrames =
 abbrev pub HasRoomToLand : MethodCode → Type 0
 HasRoomToLand m = (m.linked.rows ≡ []) ⊎ (1 ≤ m.linked.max_stack)
 
--- A frame of a method with such code is one in which an object may be thrown, at an instruction
--- whose number is one of 32 bits.
+-- A frame of a method with such code is one in which an object may be thrown.
 abbrev pub FramesAreHandled : Type 0
 FramesAreHandled =
     (p : List Info) (m : MethodCode) (f : NumberedFrame) → IsCodeOf p f.class f.method m →
-    IsOfMethod p f → HasRoomToLand m → f.at < 2 ^ 32 → IsHandled p m.handlers f
+    IsOfMethod p f → HasRoomToLand m → IsHandled p m.handlers f

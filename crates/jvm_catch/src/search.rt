@@ -68,10 +68,10 @@ impl Catch {
 
 impl CatchRow {
     // Whether the row covers an instruction.
-    fn covers(&self, at: u32) -> bool
+    fn covers(&self, at: usize) -> bool
         ensures { (p : List Info) → result ≡ covers at (catch_row_of p self.now) }
     {
-        self.start <= at && at < self.end
+        self.start as usize <= at && at < self.end as usize
     }
 
     // Whether the row covers an instruction and catches an object of this class. The class that it
@@ -80,7 +80,7 @@ impl CatchRow {
         &self,
         program: &Program,
         seen: &mut Consulted,
-        at: u32,
+        at: usize,
         thrown: Option<ClassId>,
     ) -> Result<bool, Memory>
         requires row { IsCatchRow program.now self.now }
@@ -104,7 +104,7 @@ pub fn find_handler(
     program: &Program,
     seen: &mut Consulted,
     rows: &[CatchRow],
-    at: u32,
+    at: usize,
     thrown: Option<ClassId>,
 ) -> Result<Option<u32>, Memory>
     requires rows { All (IsCatchRow program.now) rows.now }

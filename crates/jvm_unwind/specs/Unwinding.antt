@@ -1,5 +1,5 @@
 -- An object is thrown in the frame that runs (JVMS 2.10).
-use Rattle.std.specs.Prelude.{◌≡◌, ◌⊎◌, ℕ, ◌<◌, ◌≤◌, ◌^◌, Bool, true, false, if◌then◌else◌, All, List, [], map, length, Option, None, Some, IfSome, IsSomeAnd}
+use Rattle.std.specs.Prelude.{◌≡◌, ◌⊎◌, ℕ, ◌<◌, ◌≤◌, Bool, true, false, if◌then◌else◌, All, List, [], map, length, Option, None, Some, IfSome, IsSomeAnd}
 use Rattle.class_model.specs.declared.class.ClassId.{ClassId}
 use Rattle.program_rules.specs.Linked.{method_in}
 use Rattle.machine_rules.specs.declared.machine.Limits.{Limits}
@@ -38,7 +38,6 @@ pub record AreHandlersOf (p : List Info) (class method : ℕ) (h : Handlers) : T
 -- has that is accepted (JVMS 4.10.1.6).
 pub record IsHandled (p : List Info) (h : Handlers) (f : NumberedFrame) : Type 0 where
   pub class : f.class < length p
-  pub at : f.at < 2 ^ 32
   pub handlers : AreHandlersOf p f.class f.method h
   pub room : (h.rows.items ≡ []) ⊎ (1 ≤ f.room)
 

@@ -18,7 +18,7 @@ pub fn handler(
     world: &mut World,
     p: &Program,
     rows: &[CatchRow],
-    at: u32,
+    at: usize,
     thrown: &Thrown,
 ) -> Result<Option<u32>, Memory>
     requires world { IsWorldOf p.now world.old }

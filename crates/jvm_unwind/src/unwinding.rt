@@ -115,8 +115,7 @@ pub fn unwind(
     let Some(thrown) = thrown_at(alloc, p, world, object)? else {
         return Ok(Turn::NoRow);
     };
-    let at = place.at as u32;
-    let to = handler(world, p, handlers.rows.as_slice(), at, &thrown)?;
+    let to = handler(world, p, handlers.rows.as_slice(), place.at, &thrown)?;
     match to {
         Some(to) => {
             frames.land(object, to as usize);

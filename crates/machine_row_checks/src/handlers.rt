@@ -14,7 +14,7 @@ pub fn find_handler(
     program: &Program,
     seen: &mut Consulted,
     rows: &[CatchRow],
-    at: u32,
+    at: usize,
     thrown: Option<ClassId>,
 ) -> Result<Option<u32>, Memory>
     requires rows { All (IsCatchRow program.now) rows.now }
