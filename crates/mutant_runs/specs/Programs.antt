@@ -1,5 +1,5 @@
 -- The program that a mutant's edit makes (this project's own).
-use Rattle.std.specs.Prelude.{◌≡◌, ◌×◌, ℕ, if◌then◌else◌, List, Option, Some, None, IfSome, MatchOption, slice_get, slice_set, option_and_then}
+use Rattle.std.specs.Prelude.{◌≡◌, ℕ, if◌then◌else◌, List, Option, Some, None, IfSome, MatchOption, slice_get, slice_set, option_and_then}
 use Rattle.std.specs.Option.{option_map}
 use Rattle.std.specs.Arc.{arc_value}
 use Rattle.std.specs.declared.sync.Arc.{Arc}
