@@ -1,2 +1,3 @@
 pub mod Meaning
 mod Accepting
+mod Testing

@@ -2,5 +2,7 @@
 #![tactic(auto)]
 
 mod accepted;
+mod bounded;
 
 pub use accepted::{library_is_accepted, library_is_accepted_behind};
+pub use bounded::library_is_bounded;
