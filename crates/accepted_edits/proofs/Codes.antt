@@ -1,6 +1,8 @@
 -- Codes within the bounds of a class file, in a program.
-use Rattle.std.proofs.Common.{◌≡◌, ◌∙◌, sym, refl, ap, subst, inl, inr, ℕ, zero, suc, ◌⊎◌, ◌≤◌, List, [], ◌∷◌, map, Some, slice_get, All, arith}
+use Rattle.std.proofs.Common.{◌≡◌, ◌∙◌, sym, refl, ap, subst, inl, inr, ℕ, zero, suc, ◌⊎◌, ◌≤◌, List, [], ◌∷◌, map, Option, None, Some, IfSome, slice_get, All, arith}
+use Rattle.std.specs.Prelude.{option_and_then}
 use Rattle.std.specs.Option.{option_map}
+use Rattle.program_rules.specs.Linked.{Linked, method_in}
 use Rattle.std.proofs.lemmas.List.{length-map}
 use Rattle.std.proofs.lemmas.List.Elements.{All-set}
 use Rattle.std.proofs.lemmas.Option.{slice_get-map}
@@ -14,14 +16,14 @@ use Rattle.class_link.specs.declared.loaded.ClassBody.TheVariants as from
 use Rattle.class_link.specs.Edits.{class_edited}
 use Rattle.class_link.specs.Info.{Info, IsInfo, class_of}
 use Rattle.class_link.specs.View.{row_of, code_of, body_of, method_of, instruction_of, linked_of}
-use Rattle.class_table.specs.Table.{look}
+use Rattle.class_table.specs.Table.{number_of, class_at, look}
 use Rattle.class_table.proofs.Places.{name_of_class, look_at}
 use Rattle.linked_files.proofs.Codes.{linked_bounded}
 use Rattle.type_laws.specs.Landing.{HasCodeAt}
 use Rattle.type_laws.specs.Bounds.{IsBounded, HasBoundedCodes}
 use Rattle.type_laws.proofs.Landing.{bounded_have_room}
 use Rattle.program_verifier.specs.Tables.{HasShortBody, HasShortCode}
-use Rattle.accepted_edits.specs.Codes.{IsBoundedBody, SpelledAreBounded, BoundedAreNumbered, PutStayNumbered, HasRoom, AcceptedHaveRoom}
+use Rattle.accepted_edits.specs.Codes.{IsBoundedBody, SpelledAreBounded, BoundedAreNumbered, PutStayNumbered, HasRoom, AcceptedHaveRoom, BoundedByName, SeenHaveRoom}
 use Rattle.accepted_edits.proofs.Putting.{all_at}
 
 pub spelled_bounded : SpelledAreBounded
@@ -74,6 +76,11 @@ none_left : (rs : List LinkedRow) → map row_of rs ≡ [] → rs ≡ []
 none_left [] e = refl
 none_left (r ∷ rs) e = cc
 
+-- The room of a code is that of what it means.
+room_left : (c : LinkedCode) → (map row_of c.rows ≡ []) ⊎ (1 ≤ c.max_stack) → HasRoom c
+room_left c (inl e) = inl (none_left c.rows e)
+room_left c (inr l) = inr l
+
 pub accepted_room : AcceptedHaveRoom
 accepted_room p id k i m c ok there bounded accepted at is =
     let meant : IsInfo i = all_at IsInfo p id i ok.meant there in
@@ -86,8 +93,26 @@ accepted_room p id k i m c ok there bounded accepted at is =
       has_method = method_seen i.linked k m at;
       has_code = ap (body_of i.linked.entries) is;
     } in
-    by_room (bounded_have_room (look p) i.name k (code_of i.linked.entries c) accepted here (code_bounded i meant bounded k m c at is))
+    room_left c (bounded_have_room (look p) i.name k (code_of i.linked.entries c) accepted here (code_bounded i meant bounded k m c at is))
+
+-- ---- by name
+
+pub bounded_named : BoundedByName
+bounded_named p n meant bounded = by_number (number_of p n)
   where
-    by_room : (map row_of c.rows ≡ []) ⊎ (1 ≤ c.max_stack) → HasRoom c
-    by_room (inl e) = inl (none_left c.rows e)
-    by_room (inr l) = inr l
+    by_class : (o : Option Info) → ((i : Info) → o ≡ Some i → HasBoundedCodes (class_of i)) → IfSome (option_map class_of o) HasBoundedCodes
+    by_class None h = tt
+    by_class (Some i) h = h i refl
+
+    by_number : (o : Option ℕ) → IfSome (option_and_then (class_at p) o) HasBoundedCodes
+    by_number None = tt
+    by_number (Some k) = by_class (slice_get p k) (λ i at. subst HasBoundedCodes (sym (all_at IsInfo p k i meant at).linked) (all_at (λ x. IsBoundedBody x.body) p k i bounded at))
+
+pub seen_room : SeenHaveRoom
+seen_room p n k es m c bounded accepted at is = by_class (p n) refl bounded at
+  where
+    by_class : (o : Option Linked) → p n ≡ o → IfSome o HasBoundedCodes → method_in o k ≡ Some (method_of es m) → HasRoom c
+    by_class None e b h = cc
+    by_class (Some l) e b h =
+        let here : HasCodeAt p n k (code_of es c) = record { class = l; method = method_of es m; has_class = e; has_method = h; has_code = ap (body_of es) is } in
+        room_left c (bounded_have_room p n k (code_of es c) accepted here (b k (method_of es m) (code_of es c) h (ap (body_of es) is)))

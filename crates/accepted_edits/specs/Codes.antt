@@ -1,5 +1,9 @@
 -- Codes of the classes of a program, as the code has them linked.
-use Rattle.std.specs.Prelude.{◌≡◌, ◌⊎◌, ◌≤◌, ℕ, All, List, [], Some, slice_get, slice_set}
+use Rattle.std.specs.Prelude.{◌≡◌, ◌⊎◌, ◌≤◌, ℕ, All, List, [], Some, IfSome, slice_get, slice_set}
+use Rattle.program_rules.specs.Names.{Name}
+use Rattle.program_rules.specs.Linked.{method_in}
+use Rattle.program_rules.specs.Programs.{Look}
+use Rattle.class_link.specs.declared.linked.Entry.{Entry}
 use Rattle.class_link.specs.declared.linked.LinkedBody.TheVariants as body
 use Rattle.class_link.specs.declared.linked.LinkedCode.{LinkedCode}
 use Rattle.class_link.specs.declared.linked.LinkedMethod.{LinkedMethod}
@@ -8,6 +12,7 @@ use Rattle.class_link.specs.declared.loaded.ClassBody.TheVariants as from
 use Rattle.class_link.specs.Edits.{class_edited}
 use Rattle.class_link.specs.Info.{Info, IsInfo, link_body}
 use Rattle.class_link.specs.Linking.{link_library}
+use Rattle.class_link.specs.View.{method_of}
 use Rattle.class_reader.specs.Spells.{IsClass}
 use Rattle.class_table.specs.Table.{look, IsProgram}
 use Rattle.type_laws.specs.Bounds.{HasBoundedCodes}
@@ -56,3 +61,19 @@ AcceptedHaveRoom =
     (p : List Info) (id k : ℕ) (i : Info) (m : LinkedMethod) (c : LinkedCode) → IsProgram p →
     slice_get p id ≡ Some i → IsBoundedBody i.body → ClassAccepted (look p) i.name →
     slice_get i.linked.methods k ≡ Some m → m.body ≡ body.Code c → HasRoom c
+
+-- ---- the same by name
+
+-- Each class that a name means in a program of such classes has codes within these bounds.
+abbrev pub BoundedByName : Type 0
+BoundedByName =
+    (p : List Info) (n : Name) → All IsInfo p → All (λ i. IsBoundedBody i.body) p →
+    IfSome (look p n) HasBoundedCodes
+
+-- A code has room by what the definitions see of its method, whatever the entries: so the machine
+-- knows it (`IsCodeOf` of `jvm_act`).
+abbrev pub SeenHaveRoom : Type 0
+SeenHaveRoom =
+    (p : Look) (n : Name) (k : ℕ) (es : List Entry) (m : LinkedMethod) (c : LinkedCode) →
+    IfSome (p n) HasBoundedCodes → ClassAccepted p n → method_in (p n) k ≡ Some (method_of es m) →
+    m.body ≡ body.Code c → HasRoom c

@@ -3,7 +3,7 @@
 
 ghost use Rattle.accepted_edits.specs.Put.{EditsArePut, PutStayAlike};
 ghost use Rattle.accepted_edits.specs.Kept.{KindsStayRight, PutKeepKinds, PutStayAccepted, PutKeepLibrary};
-ghost use Rattle.accepted_edits.specs.Codes.{SpelledAreBounded, BoundedAreNumbered, PutStayNumbered, AcceptedHaveRoom};
+ghost use Rattle.accepted_edits.specs.Codes.{SpelledAreBounded, BoundedAreNumbered, PutStayNumbered, AcceptedHaveRoom, BoundedByName, SeenHaveRoom};
 
 /// The class of an edit takes the place of the class that is edited: it has its name, flags,
 /// superclass and interfaces.
@@ -40,5 +40,7 @@ pub fn instructions_have_numbers()
 
 /// Each code of an accepted class has room for what it catches, or no exception rows.
 pub fn accepted_classes_have_room()
-    ensures { AcceptedHaveRoom }
+    ensures classes { AcceptedHaveRoom }
+    ensures named { BoundedByName }
+    ensures seen { SeenHaveRoom }
 {}
