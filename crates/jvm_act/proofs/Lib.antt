@@ -5,3 +5,4 @@ mod Unnamed
 pub mod Rows
 mod Returned
 pub mod Executed
+mod Called

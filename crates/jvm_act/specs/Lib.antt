@@ -4,3 +4,4 @@ pub mod Methods
 pub mod Groups
 pub mod Acts
 pub mod Laws
+pub mod Calls

@@ -3,6 +3,7 @@
 
 mod acting;
 mod arrays;
+mod calls;
 mod classes;
 mod elements;
 mod groups;
@@ -15,6 +16,7 @@ mod symbols;
 mod turning;
 
 pub use acting::{Acted, act};
+pub use calls::take_call;
 pub use groups::{CallUse, FrameOp, Group, MemberOp, ReturnOp, SwitchOp, group_of};
 pub use methods::{MethodCode, handlers_of};
 pub use returns::take_return;
