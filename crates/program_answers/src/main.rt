@@ -44,43 +44,90 @@ fn bytes_of<T: Tree>(alloc: Global, tree: &mut T, folder: &str) -> anyhow::Resul
     Ok(files)
 }
 
-fn main(rt: HostRuntime) -> anyhow::Result<()> {
+// How many class files there were, and how long it took to read and to link them.
+#[derive(Clone, Copy)]
+struct Counts {
+    inside: usize,
+    outside: u64,
+    wrong: u64,
+    reading: u128,
+    linking: u128,
+}
+
+// The program of the class files below a folder, and of the classes of a text on which they stand.
+fn program_of(
+    rt: &HostRuntime,
+    folder: &str,
+    supers: &str,
+    counts: &mut Counts,
+) -> anyhow::Result<Program> {
     let alloc = rt.alloc();
+    let files = bytes_of(alloc, &mut HostTree::new(rt), folder)?;
+    let start = Instant::now(rt)?;
+    let read = read_all(alloc, files)?;
+    counts.reading = start.elapsed(rt)?.as_millis();
+    counts.inside = read.names.len();
+    counts.outside = read.outside;
+    counts.wrong = read.wrong;
+    let library = library_of(alloc, supers, &read.names)?;
+    let start = Instant::now(rt)?;
+    let program = Program::build(alloc, read.classes, library)?;
+    counts.linking = start.elapsed(rt)?.as_millis();
+    Ok(program)
+}
+
+// Prints what the verifier answers of each class, and gives how long that took.
+fn print_verdicts(rt: &HostRuntime, program: &Program, counts: Counts) -> anyhow::Result<u128> {
+    let alloc = rt.alloc();
+    let start = Instant::now(rt)?;
+    let verdicts = verdicts_of(alloc, program)?;
+    let verifying = start.elapsed(rt)?.as_millis();
+    for fault in &verdicts.refused {
+        let line = refusal(alloc, program, fault)?;
+        println!(rt; "{line}")?;
+    }
+    println!(rt;
+        "{} class files in the profile, {} outside of it, {} not read; {} accepted, {} refused",
+        counts.inside,
+        counts.outside,
+        counts.wrong,
+        verdicts.accepted,
+        verdicts.refused.len()
+    )?;
+    Ok(verifying)
+}
+
+// Prints what each use comes to.
+fn print_uses(rt: &HostRuntime, program: &Program, uses: &str) -> anyhow::Result<()> {
+    let mut out = String::new(rt.alloc());
+    push_lines(program, uses, &mut out)?;
+    print!(rt; "{out}")?;
+    Ok(())
+}
+
+fn main(rt: HostRuntime) -> anyhow::Result<()> {
     let mut words = env::args(&rt)?.skip(1);
     let (Some(folder), Some(supers), Some(uses)) = (words.next(), words.next(), words.next()) else {
         anyhow::bail!("a folder, a file of supers and a file of uses");
     };
     let timed = words.next().is_some();
-    let files = bytes_of(alloc, &mut HostTree::new(&rt), folder.as_str())?;
     let supers = fs::read_to_string(&rt, supers.as_str())?;
     let uses = fs::read_to_string(&rt, uses.as_str())?;
-    let start = Instant::now(&rt)?;
-    let read = read_all(alloc, files)?;
-    let reading = start.elapsed(&rt)?.as_millis();
-    let library = library_of(alloc, supers.as_str(), &read.names)?;
-    let start = Instant::now(&rt)?;
-    let program = Program::build(alloc, read.classes, library)?;
-    let building = start.elapsed(&rt)?.as_millis();
-    let start = Instant::now(&rt)?;
-    let verdicts = verdicts_of(alloc, &program)?;
-    let verifying = start.elapsed(&rt)?.as_millis();
-    for fault in &verdicts.refused {
-        let line = refusal(alloc, &program, fault)?;
-        println!(rt; "{line}")?;
-    }
-    println!(rt;
-        "{} class files in the profile, {} outside of it, {} not read; {} accepted, {} refused",
-        read.names.len(),
-        read.outside,
-        read.wrong,
-        verdicts.accepted,
-        verdicts.refused.len()
-    )?;
+    let mut counts = Counts {
+        inside: 0,
+        outside: 0,
+        wrong: 0,
+        reading: 0,
+        linking: 0,
+    };
+    let program = program_of(&rt, folder.as_str(), supers.as_str(), &mut counts)?;
+    let verifying = print_verdicts(&rt, &program, counts)?;
+    print_uses(&rt, &program, uses.as_str())?;
     if timed {
-        println!(rt; "reading {reading} ms, linking {building} ms, verifying {verifying} ms")?;
+        println!(rt;
+            "reading {} ms, linking {} ms, verifying {verifying} ms",
+            counts.reading, counts.linking
+        )?;
     }
-    let mut out = String::new(alloc);
-    push_lines(&program, uses.as_str(), &mut out)?;
-    print!(rt; "{out}")?;
     Ok(())
 }
