@@ -1,4 +1,0 @@
-//! Functions over which wrong bodies of `class_family` are tried.
-#![tactic(auto)]
-
-pub mod calls;

@@ -1,5 +1,0 @@
-use Rattle.class_table.specs.Seen.{IsConsultedOf}
-use Rattle.jvm_link_uses.proofs.told.tell_all.Given as goal
-
-abbrev pub invariant-loop-number : goal.invariant-loop-number
-invariant-loop-number l = IsConsultedOf l.program l.seen
