@@ -1,0 +1,4 @@
+mod Worlds
+mod Entered
+mod Readied
+mod Scripted
