@@ -31,12 +31,14 @@ use Rattle.jvm_act.specs.Standing.{HasNext, AreFramesOf}
 use Rattle.jvm_act.specs.Methods.{IsCodeOf, meaning, current_of, fetched}
 use Rattle.jvm_act.specs.declared.acting.Acted.TheVariants as answer
 use Rattle.jvm_act.specs.declared.groups.SwitchOp.{SwitchOp}
+use Rattle.jvm_act.specs.declared.groups.FieldUse.TheVariants as field
 use Rattle.jvm_act.specs.declared.groups.MemberOp.{MemberOp}
+use Rattle.jvm_act.specs.declared.groups.MemberOp.TheVariants as member
 use Rattle.jvm_act.specs.declared.groups.CallUse.{CallUse}
 use Rattle.jvm_act.specs.declared.groups.CallUse.TheVariants as call
 use Rattle.jvm_act.specs.declared.groups.ReturnOp.{ReturnOp}
 use Rattle.jvm_act.specs.Groups.{Names, MeansIn, switch_in, member_in, call_of, return_in}
-use Rattle.jvm_act.specs.Acts.{RunsWholeAs, TurnsIn, ActsTo, RunsCode, StandsAtOp, IsLeft, Leaves, acting, call_named, switch_at, member_at, symbol_at}
+use Rattle.jvm_act.specs.Acts.{RunsWholeAs, TurnsAs, TurnsIn, ActsTo, RunsCode, StandsAtOp, IsLeft, Leaves, acting, call_named, switch_at, member_at, symbol_at}
 use Rattle.jvm_act.proofs.Coded.{fetched_at, room_at}
 use Rattle.jvm_act.proofs.Turns.{if_known, wholes_are_turned}
 use Rattle.jvm_act.proofs.Framed.{wholes_keep_frames}
@@ -142,8 +144,18 @@ module _ (p : List Info) (m : MethodCode) (class : ℕ) (op : Op) (old : Numbere
   pub left_switch : (s : SwitchOp) (w : World) → AreFramesOf p old → MeansIn op (λ named. switch_in named s) → Leaves p m class (switch_at p class m s) old old w w
   left_switch s w are is = left (switch_at p class m s) w are (is m.code.longs.items names)
 
-  pub left_member : (member : MemberOp) (w : World) → AreFramesOf p old → MeansIn op (λ named. member_in named member) → Leaves p m class (member_at p class m member) old old w w
-  left_member member w are is = left (member_at p class m member) w are (is m.code.longs.items names)
+  -- What uses a field or makes an object names it so.
+  member_names : (o : MemberOp) → member_in names o ≡ member_at p class o
+  member_names (member.Field field.GetStatic n) = refl
+  member_names (member.Field field.PutStatic n) = refl
+  member_names (member.Field field.Get n) = refl
+  member_names (member.Field field.Put n) = refl
+  member_names (member.New n) = refl
+
+  pub op_member : (o : MemberOp) (t : Turn) (new : NumberedFrames) (w u : World) → MeansIn op (λ named. member_in named o) → TurnsAs p (member_at p class o) t old new w u → TurnsIn p m (meaning p class m op) t old new w u
+  op_member o t new w u is h =
+      subst (λ i. TurnsIn p m i t old new w u) (sym (is m.code.longs.items names ∙ member_names o))
+      (h (option_map kind_of m.result) m.handlers.initializes)
 
   -- What calls a method names it so.
   call_names : (how : CallUse) (n : ℕ) → names (call_of how) n ≡ on_method (call_named how) (symbol_at p class n)

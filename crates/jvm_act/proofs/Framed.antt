@@ -21,8 +21,9 @@ use Rattle.jvm_calls.specs.Returns.{GoesBack, StaysOrBack}
 use Rattle.jvm_begin.specs.Begins as begins
 use Rattle.jvm_begin.specs.Begins.{AreWhole, HasBegun, StaysOrBegins, all_on}
 use Rattle.jvm_invokes.specs.Invoked.{IsOfMethod, HasEntered, HasCut, StaysOrEnters}
+use Rattle.jvm_field_rows.specs.Turned.{HasGoneOn, StaysBeginsOrGoes}
 use Rattle.jvm_act.specs.Standing.{HasNext, Waits, AreFramesOf}
-use Rattle.jvm_act.specs.Laws.{WholesKeepFrames, CallsKeepFrames, BeginsKeepFrames, ReturnsKeepFrames, ThrowsKeepFrames}
+use Rattle.jvm_act.specs.Laws.{WholesKeepFrames, CallsKeepFrames, BeginsKeepFrames, FieldsKeepFrames, ReturnsKeepFrames, ThrowsKeepFrames}
 
 -- ---- a frame of the same method
 
@@ -134,6 +135,25 @@ begins_keep_frames p old new next (inr h) are =
     stands_on p new (all_on old.frame old.callers)
     (some_of new.frame (begins.IsOfMethod p) (IsOfMethod p) (begun_of p) h.frame)
     h.callers (all_wait p old.frame old.callers next are.running are.below)
+
+-- ---- behind an instruction that uses a field or makes an object
+
+goes_on : (p : List Info) (f : NumberedFrame) (old new : NumberedFrames) → old.frame ≡ Some f → HasGoneOn f old new → AreFramesOf p old → AreFramesOf p new
+goes_on p f old new is h are =
+    stands_on p new old.callers
+    (some_of new.frame (IsOf f) (IsOfMethod p)
+    (λ g on. of_method p f g on.class on.method on.room (of_some old.frame f (IsOfMethod p) is are.running)) h.0)
+    h.1 are.below
+
+field_at : (p : List Info) (old new : NumberedFrames) (f : NumberedFrame) → old.frame ≡ Some f → HasNext f → ((new ≡ old) ⊎ HasBegun p old new ⊎ HasGoneOn f old new) → AreFramesOf p old → AreFramesOf p new
+field_at p old new f is next (inl e) are = subst (AreFramesOf p) (sym e) are
+field_at p old new f is next (inr (inl h)) are = begins_keep_frames p old new (subst (λ o. IfSome o HasNext) (sym is) next) (inr h) are
+field_at p old new f is next (inr (inr h)) are = goes_on p f old new is h are
+
+pub fields_keep_frames : FieldsKeepFrames
+fields_keep_frames p old new runs h are =
+    let f = with_some old.frame HasNext runs in
+    field_at p old new f.0 f.1 f.2 (of_some old.frame f.0 (λ g. (new ≡ old) ⊎ HasBegun p old new ⊎ HasGoneOn g old new) f.1 h) are
 
 -- ---- behind a return, and a step of an object that is thrown
 

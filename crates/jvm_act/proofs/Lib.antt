@@ -6,3 +6,6 @@ pub mod Rows
 mod Returned
 pub mod Executed
 mod Called
+mod Fielded
+mod Held
+mod Handled

@@ -21,8 +21,10 @@ use Rattle.jvm_unwind.specs.Turns.{frame_of, frames_on, frames_of, row_at, Turns
 use Rattle.jvm_unwind.proofs.Left.{with_some}
 use Rattle.jvm_invokes.specs.declared.invoked.Invoked.TheVariants as invoked
 use Rattle.jvm_invokes.specs.Invoked.{InvokedTo, Invokes}
+use Rattle.jvm_field_rows.specs.Turned as fields
+use Rattle.jvm_field_rows.specs.Turned.{TurnsWhole}
 use Rattle.jvm_act.specs.Turned.{TurnedTo, Turned, turn_of, always}
-use Rattle.jvm_act.specs.Laws.{RunsAreTurned, WholesAreTurned, TurnsAreTurned, InvokedAreTurned}
+use Rattle.jvm_act.specs.Laws.{RunsAreTurned, WholesAreTurned, TurnsAreTurned, InvokedAreTurned, FieldsAreTurned}
 
 pub if_known : {A : Type 0} (o : Option A) (P Q : A → Type 0) → ((x : A) → o ≡ Some x → P x → Q x) → IfSome o P → IfSome o Q
 if_known None P Q f h = tt
@@ -88,3 +90,17 @@ invoked_are_turned p r row t old new w u h =
     (λ f. (v : def.World) → Means p w v → InvokedTo p w.limits r (invoked.Turned t) f old new u (row_at p (row w.limits f.room) f old v))
     (λ f. TurnedTo p (row_at p (row w.limits f.room) f old) t new w u)
     (λ f is k. invoked_at p w.limits r (row_at p (row w.limits f.room) f old) t f old new w u k) h
+
+-- ---- rows that use a field, or make an object
+
+field_at : (p : List Info) (go : def.World → Effect) (t : Turn) (old new : NumberedFrames) (w u : World) → ((v : def.World) → Means p w v → fields.TurnedTo p t old new u (go v)) → TurnedTo p go t new w u
+field_at p go turn.NoRow old new w u h = λ v m. (h v m).0
+field_at p go turn.Goes old new w u h = h
+field_at p go (turn.Throws x) old new w u h = h
+
+pub fields_are_turned : FieldsAreTurned
+fields_are_turned p row t old new w u h =
+    if_known old.frame
+    (λ f. (v : def.World) → Means p w v → fields.TurnedTo p t old new u (row_at p (row w.limits f.room) f old v))
+    (λ f. TurnedTo p (row_at p (row w.limits f.room) f old) t new w u)
+    (λ f is k. field_at p (row_at p (row w.limits f.room) f old) t old new w u k) h

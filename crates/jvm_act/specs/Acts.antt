@@ -10,7 +10,7 @@ use Rattle.machine_rules.specs.Arrays.{makes_arrays}
 use Rattle.machine_rules.specs.Effects.{on_some}
 use Rattle.machine_rules.specs.Steps.{act, fetch}
 use Rattle.class_link.specs.Info.{Info}
-use Rattle.class_link.specs.Opcodes.{on_text, on_class, on_method}
+use Rattle.class_link.specs.Opcodes.{on_text, on_class, on_field, on_method}
 use Rattle.class_link.specs.Symbols.{Symbol, kind_of}
 use Rattle.class_table.specs.Table.{look, entries_at}
 use Rattle.class_link.specs.View.{meaning_at}
@@ -24,16 +24,20 @@ use Rattle.jvm_plain_rows.specs.Plain.{means_row}
 use Rattle.jvm_member_rows.specs.Whole.{RunsWhole}
 use Rattle.jvm_unwind.specs.declared.turn.Turn.{Turn}
 use Rattle.jvm_unwind.specs.Turns.{row_at}
+use Rattle.jvm_unwind.specs.Unwinding.{unwinding}
 use Rattle.jvm_invokes.specs.Rows.{static_row}
 use Rattle.jvm_receivers.specs.Receivers.{special_row, virtual_row, interface_row}
 use Rattle.jvm_act.specs.declared.methods.MethodCode.{MethodCode}
 use Rattle.jvm_act.specs.declared.acting.Acted.{Acted}
 use Rattle.jvm_act.specs.declared.acting.Acted.TheVariants as acted
+use Rattle.jvm_act.specs.declared.groups.FieldUse.{FieldUse}
+use Rattle.jvm_act.specs.declared.groups.FieldUse.TheVariants as field
 use Rattle.jvm_act.specs.declared.groups.MemberOp.{MemberOp}
+use Rattle.jvm_act.specs.declared.groups.MemberOp.TheVariants as member
 use Rattle.jvm_act.specs.declared.groups.CallUse.{CallUse}
 use Rattle.jvm_act.specs.declared.groups.CallUse.TheVariants as call
 use Rattle.jvm_act.specs.declared.groups.SwitchOp.{SwitchOp}
-use Rattle.jvm_act.specs.Groups.{switch_in, member_in}
+use Rattle.jvm_act.specs.Groups.{switch_in}
 use Rattle.jvm_act.specs.Methods.{IsCodeOf}
 use Rattle.jvm_act.specs.Standing.{HasNext}
 use Rattle.jvm_act.specs.Turned.{Turned}
@@ -44,7 +48,7 @@ use Rattle.jvm_act.specs.declared.groups.ClassUse.TheVariants as using
 abbrev pub symbol_at : List Info → ℕ → ℕ → Symbol
 symbol_at p class index = meaning_at (entries_at p class) index
 
--- No text stands there, whatever would be done with it; no class; no method.
+-- No text stands there, whatever would be done with it; no class; no field; no method.
 abbrev pub NamesNoText : List Info → ℕ → ℕ → Type 0
 NamesNoText p class index =
     (make : Name → def.Instruction) → on_text make (symbol_at p class index) ≡ def.Unlinked
@@ -52,6 +56,11 @@ NamesNoText p class index =
 abbrev pub NamesNoClass : List Info → ℕ → ℕ → Type 0
 NamesNoClass p class index =
     (make : Name → def.Instruction) → on_class make (symbol_at p class index) ≡ def.Unlinked
+
+abbrev pub NamesNoField : List Info → ℕ → ℕ → Type 0
+NamesNoField p class index =
+    (make : def.FieldRef → def.Instruction) →
+    on_field make (symbol_at p class index) ≡ def.Unlinked
 
 abbrev pub NamesNoMethod : List Info → ℕ → ℕ → Type 0
 NamesNoMethod p class index =
@@ -65,6 +74,13 @@ use_named using.MakeArray n = def.NewReferenceArray n
 use_named (using.MakeArrays k) n = def.NewMultiArray n k
 use_named using.Cast n = def.CheckCast n
 use_named using.Test n = def.InstanceOf n
+
+-- A field that is named is used.
+abbrev pub field_named : FieldUse → def.FieldRef → def.Instruction
+field_named field.GetStatic r = def.GetStatic r
+field_named field.PutStatic r = def.PutStatic r
+field_named field.Get r = def.GetField r
+field_named field.Put r = def.PutField r
 
 -- A method that is named is called, as an instruction and as a row.
 abbrev pub call_named : CallUse → def.MethodRef → def.Instruction
@@ -108,6 +124,10 @@ abbrev pub acting : List Info → RowOf
 acting p = λ q room w f fs.
     on_some (fetch (look p) f) (λ i. act (look p) q i.here i.instruction w f fs)
 
+-- An object is thrown in the running frame (JVMS 2.10).
+abbrev pub throwing_row : List Info → ℕ → RowOf
+throwing_row p x = λ q room. unwinding p q x
+
 -- ---- what an instruction comes to
 
 -- The frame that runs is of a method with this code.
@@ -144,14 +164,14 @@ abbrev pub switch_at : List Info → ℕ → MethodCode → SwitchOp → def.Ins
 switch_at p class m op = switch_in (named_by (entries_at p class) m.linked.switches) op
 
 -- What a class names at an index, as an instruction that may begin a class.
-abbrev pub member_at : List Info → ℕ → MethodCode → MemberOp → def.Instruction
-member_at p class m op = member_in (named_by (entries_at p class) m.linked.switches) op
+abbrev pub member_at : List Info → ℕ → MemberOp → def.Instruction
+member_at p class (member.Field how n) = on_field (field_named how) (symbol_at p class n)
+member_at p class (member.New n) = on_class def.New (symbol_at p class n)
 
 -- By what the code answers.
 abbrev pub ActsTo :
     List Info → MethodCode → Acted → NumberedFrames → NumberedFrames → World → World → Type 0
 ActsTo p m (acted.Turned t) old new w u = Turned p (acting p) t old new w u
 ActsTo p m (acted.Switch c op) old new w u = Leaves p m c.0 (switch_at p c.0 m op) old new w u
-ActsTo p m (acted.Member c op) old new w u = Leaves p m c.0 (member_at p c.0 m op) old new w u
 ActsTo p m (acted.Call c how n) old new w u =
     Leaves p m c.0 (on_method (call_named how) (symbol_at p c.0 n)) old new w u

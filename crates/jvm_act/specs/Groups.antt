@@ -16,6 +16,8 @@ use Rattle.jvm_act.specs.declared.groups.ClassOp.{ClassOp}
 use Rattle.jvm_act.specs.declared.groups.ClassOp.TheVariants as class
 use Rattle.jvm_act.specs.declared.groups.FrameOp.{FrameOp}
 use Rattle.jvm_act.specs.declared.groups.FrameOp.TheVariants as frame
+use Rattle.jvm_act.specs.declared.groups.FieldUse.{FieldUse}
+use Rattle.jvm_act.specs.declared.groups.FieldUse.TheVariants as field
 use Rattle.jvm_act.specs.declared.groups.MemberOp.{MemberOp}
 use Rattle.jvm_act.specs.declared.groups.MemberOp.TheVariants as member
 use Rattle.jvm_act.specs.declared.groups.CallUse.{CallUse}
@@ -57,11 +59,14 @@ class_in named (class.Text n) = named naming.TextConstant n
 class_in named (class.Primitives n) = named naming.NewArray n
 class_in named (class.Use how n) = named (use_of how) n
 
+abbrev pub field_of : FieldUse → Naming
+field_of field.GetStatic = naming.GetStatic
+field_of field.PutStatic = naming.PutStatic
+field_of field.Get = naming.GetField
+field_of field.Put = naming.PutField
+
 abbrev pub member_in : Names → MemberOp → def.Instruction
-member_in named (member.GetStatic n) = named naming.GetStatic n
-member_in named (member.PutStatic n) = named naming.PutStatic n
-member_in named (member.GetField n) = named naming.GetField n
-member_in named (member.PutField n) = named naming.PutField n
+member_in named (member.Field how n) = named (field_of how) n
 member_in named (member.New n) = named naming.New n
 
 abbrev pub call_of : CallUse → Naming

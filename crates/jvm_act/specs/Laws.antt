@@ -13,6 +13,7 @@ use Rattle.jvm_unwind.specs.Turns.{Turns}
 use Rattle.jvm_unwind.specs.Unwinding.{IsHandled, IsLeftOrOn}
 use Rattle.jvm_calls.specs.Returns.{StaysOrBack}
 use Rattle.jvm_begin.specs.Begins.{StaysOrBegins}
+use Rattle.jvm_field_rows.specs.Turned.{TurnsWhole, StaysBeginsOrGoes}
 use Rattle.jvm_invokes.specs.declared.invoked.Invoked.TheVariants as invoked
 use Rattle.jvm_invokes.specs.Invoked.{Invokes, IsOfMethod, StaysOrEnters}
 use Rattle.jvm_act.specs.declared.methods.MethodCode.{MethodCode}
@@ -47,6 +48,12 @@ InvokedAreTurned =
     (w u : World) →
     Invokes p r row (invoked.Turned t) old new w u → Turned p row t old new w u
 
+-- One that uses a field, or makes an object.
+abbrev pub FieldsAreTurned : Type 0
+FieldsAreTurned =
+    (p : List Info) (row : RowOf) (t : Turn) (old new : NumberedFrames) (w u : World) →
+    TurnsWhole p row t old new w u → Turned p row t old new w u
+
 -- ---- what becomes of frames
 
 -- Behind a row by which the running frame stays.
@@ -67,6 +74,12 @@ abbrev pub BeginsKeepFrames : Type 0
 BeginsKeepFrames =
     (p : List Info) (old new : NumberedFrames) → IfSome old.frame HasNext →
     StaysOrBegins p old new → AreFramesOf p old → AreFramesOf p new
+
+-- Behind an instruction that uses a field or makes an object.
+abbrev pub FieldsKeepFrames : Type 0
+FieldsKeepFrames =
+    (p : List Info) (old new : NumberedFrames) → IsSomeAnd old.frame HasNext →
+    StaysBeginsOrGoes p old new → AreFramesOf p old → AreFramesOf p new
 
 -- Behind a return.
 abbrev pub ReturnsKeepFrames : Type 0

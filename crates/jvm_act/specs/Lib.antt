@@ -1,6 +1,7 @@
 pub mod Turned
 pub mod Standing
 pub mod Methods
+pub mod Codes
 pub mod Groups
 pub mod Acts
 pub mod Laws

@@ -1,6 +1,10 @@
 //! The instruction at which the running frame stands, by its row.
 
 ghost use Rattle.std.specs.Prelude.{◌≡◌, ℕ, ◌+◌, ◌<◌, ◌^◌, Some, None, slice_get, IfOk, OnOk, IfSome, IfNone, IsSomeAnd};
+ghost use Rattle.class_table.specs.Faults.{HasRightKinds};
+ghost use Rattle.class_table.specs.Table.{look};
+ghost use Rattle.jvm_field_rows.specs.Layouts.{AreLayouts};
+ghost use Rattle.jvm_field_rows.specs.Slots.{AreSlots};
 ghost use Rattle.jvm_resolved.specs.References.{IsTableOf};
 ghost use Rattle.jvm_world.specs.Holding.{opened};
 ghost use Rattle.jvm_world.specs.View.{IsWorldOf, IsKept};
@@ -9,13 +13,16 @@ ghost use Rattle.jvm_act.specs.Groups.{IsFrameOf};
 ghost use Rattle.jvm_act.specs.Methods.{meaning};
 ghost use Rattle.jvm_act.specs.Standing.{HasNext, AreFramesOf};
 
-use crate::groups::{CallUse, FrameOp, Group, MemberOp, SwitchOp, group_of};
+use crate::groups::{CallUse, FrameOp, Group, SwitchOp, group_of};
 use crate::inside::act_inside;
+use crate::members::take_member;
 use crate::methods::MethodCode;
 use crate::returns::take_return;
 use crate::turning::turn_of;
+use class_family::Walker;
 use class_model::{ClassId, Memory};
 use class_table::Program;
+use jvm_field_rows::{Layouts, Slots};
 use jvm_frames::Frames;
 use jvm_resolved::References;
 use jvm_state::Op;
@@ -30,8 +37,6 @@ pub enum Acted {
     Turned(Turn),
     /// This switch of the method's code is left.
     Switch(ClassId, SwitchOp),
-    /// This is left, of a class or a field that the frame's class names.
-    Member(ClassId, MemberOp),
     /// This call is left, of the method that the frame's class names at an index.
     Call(ClassId, CallUse, u32),
 }
@@ -81,19 +86,25 @@ pub fn turn_inside(
 }
 
 // The instruction of a method at which the running frame stands.
-#[tactic(auto, using(crate::proofs::Executed::done, crate::proofs::Executed::left_switch, crate::proofs::Executed::left_member, crate::proofs::Executed::left_call, crate::proofs::Executed::op_next, crate::proofs::Executed::op_returns))]
+#[tactic(auto, using(crate::proofs::Executed::done, crate::proofs::Executed::left_switch, crate::proofs::Executed::left_call, crate::proofs::Executed::op_next, crate::proofs::Executed::op_returns))]
 fn act_op(
     frames: &mut Frames,
     world: &mut World,
     alloc: Global,
     p: &Program,
     references: &mut References,
+    slots: &mut Slots,
+    layouts: &mut Layouts,
+    walker: &mut Walker,
     class: ClassId,
     method: &MethodCode,
     op: Op,
 ) -> Result<Acted, Memory>
     requires world { IsWorldOf p.now world.old }
+    requires kinds { HasRightKinds (look p.now) }
     requires table { IsTableOf p.now references.old }
+    requires slots { AreSlots p.now slots.old }
+    requires layouts { AreLayouts p.now layouts.old }
     requires frames { AreFramesOf p.now frames.old }
     requires stands { IsSomeAnd frames.old.frame (StandsAtOp p.now class.0 method.now op) }
     requires few { (x : ℕ) → opened x world.old.monitors + 1 < 2 ^ 64 }
@@ -102,6 +113,8 @@ fn act_op(
     ensures frames { OnOk result (AreFramesOf p.now frames.new) }
     ensures kept { OnOk result (IsKept p.now world.old world.new) }
     ensures table { IsTableOf p.now references.new }
+    ensures slots { AreSlots p.now slots.new }
+    ensures layouts { AreLayouts p.now layouts.new }
 {
     let group = group_of(op);
     match group {
@@ -116,13 +129,18 @@ fn act_op(
             Ok(Acted::Turned(turn))
         }
         Group::Switch(switch) => Ok(Acted::Switch(class, switch)),
-        Group::Member(member) => Ok(Acted::Member(class, member)),
+        Group::Member(member) => {
+            let turn = take_member(
+                frames, world, alloc, p, references, slots, layouts, walker, class, member,
+            )?;
+            Ok(Acted::Turned(turn))
+        }
         Group::Call(how, index) => Ok(Acted::Call(class, how, index)),
     }
 }
 
-/// Executes the instruction at which the running frame stands, whose method has this code. What may
-/// begin a class or call a method is left.
+/// Executes the instruction at which the running frame stands, whose method has this code. A switch
+/// and a call of a method are left.
 #[tactic(auto, using(crate::proofs::Executed::past_end, crate::proofs::Executed::stands_at, crate::proofs::Executed::kept_same))]
 pub fn act(
     frames: &mut Frames,
@@ -130,10 +148,16 @@ pub fn act(
     alloc: Global,
     p: &Program,
     references: &mut References,
+    slots: &mut Slots,
+    layouts: &mut Layouts,
+    walker: &mut Walker,
     method: &MethodCode,
 ) -> Result<Acted, Memory>
     requires world { IsWorldOf p.now world.old }
+    requires kinds { HasRightKinds (look p.now) }
     requires table { IsTableOf p.now references.old }
+    requires slots { AreSlots p.now slots.old }
+    requires layouts { AreLayouts p.now layouts.old }
     requires frames { AreFramesOf p.now frames.old }
     requires runs { RunsCode p.now method.now frames.old }
     requires few { (x : ℕ) → opened x world.old.monitors + 1 < 2 ^ 64 }
@@ -142,6 +166,8 @@ pub fn act(
     ensures frames { OnOk result (AreFramesOf p.now frames.new) }
     ensures kept { OnOk result (IsKept p.now world.old world.new) }
     ensures table { IsTableOf p.now references.new }
+    ensures slots { AreSlots p.now slots.new }
+    ensures layouts { AreLayouts p.now layouts.new }
 {
     let Some(place) = frames.place() else {
         return Ok(Acted::Turned(Turn::NoRow));
@@ -149,6 +175,18 @@ pub fn act(
     let Some(op) = op_at(method.code.ops.as_slice(), place.at) else {
         return Ok(Acted::Turned(Turn::NoRow));
     };
-    let acted = act_op(frames, world, alloc, p, references, place.class, method, op)?;
+    let acted = act_op(
+        frames,
+        world,
+        alloc,
+        p,
+        references,
+        slots,
+        layouts,
+        walker,
+        place.class,
+        method,
+        op,
+    )?;
     Ok(acted)
 }

@@ -6,6 +6,7 @@ ghost use Rattle.jvm_act.specs.declared.groups.ClassOp.TheVariants as class;
 ghost use Rattle.jvm_act.specs.declared.groups.ElementOp.TheVariants as taking;
 ghost use Rattle.jvm_act.specs.declared.groups.FrameOp.TheVariants as frame;
 ghost use Rattle.jvm_act.specs.declared.groups.Group.TheVariants as group;
+ghost use Rattle.jvm_act.specs.declared.groups.MemberOp.TheVariants as member;
 
 use jvm_state::Op;
 use program_rules::Element;
@@ -67,13 +68,19 @@ pub enum FrameOp {
     Unlinked,
 }
 
-/// Fields, and `new`: what may begin a class.
+/// What an instruction does with the field that it names.
+#[derive(Clone, Copy)]
+pub enum FieldUse {
+    GetStatic,
+    PutStatic,
+    Get,
+    Put,
+}
+
+/// The use of the field at an index; `new` of the class at an index.
 #[derive(Clone, Copy)]
 pub enum MemberOp {
-    GetStatic(u32),
-    PutStatic(u32),
-    GetField(u32),
-    PutField(u32),
+    Field(FieldUse, u32),
     New(u32),
 }
 
@@ -136,6 +143,12 @@ fn class(op: ClassOp) -> Group
     Group::Frame(FrameOp::Class(op))
 }
 
+fn field(how: FieldUse, index: u32) -> Group
+    ensures { result ≡ group.Member (member.Field how index) }
+{
+    Group::Member(MemberOp::Field(how, index))
+}
+
 fn class_use(how: ClassUse, index: u32) -> Group
     ensures { result ≡ group.Frame (frame.Class (class.Use how index)) }
 {
@@ -168,10 +181,10 @@ pub fn group_of(op: Op) -> Group
         Op::LongReturn => Group::Return(ReturnOp::Long),
         Op::ReferenceReturn => Group::Return(ReturnOp::Reference),
         Op::PlainReturn => Group::Return(ReturnOp::Plain),
-        Op::GetStatic(n) => Group::Member(MemberOp::GetStatic(n)),
-        Op::PutStatic(n) => Group::Member(MemberOp::PutStatic(n)),
-        Op::GetField(n) => Group::Member(MemberOp::GetField(n)),
-        Op::PutField(n) => Group::Member(MemberOp::PutField(n)),
+        Op::GetStatic(n) => field(FieldUse::GetStatic, n),
+        Op::PutStatic(n) => field(FieldUse::PutStatic, n),
+        Op::GetField(n) => field(FieldUse::Get, n),
+        Op::PutField(n) => field(FieldUse::Put, n),
         Op::InvokeVirtual(n) => Group::Call(CallUse::Virtual, n),
         Op::InvokeInterface(n) => Group::Call(CallUse::Interface, n),
         Op::InvokeSpecial(n) => Group::Call(CallUse::Special, n),

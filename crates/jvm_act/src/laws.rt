@@ -1,6 +1,6 @@
 //! What rows come to, said in one way, and what becomes of frames.
 
-ghost use Rattle.jvm_act.specs.Laws.{RunsAreTurned, WholesAreTurned, TurnsAreTurned, InvokedAreTurned, WholesKeepFrames, CallsKeepFrames, BeginsKeepFrames, ReturnsKeepFrames, ThrowsKeepFrames, FramesAreHandled};
+ghost use Rattle.jvm_act.specs.Laws.{RunsAreTurned, WholesAreTurned, TurnsAreTurned, InvokedAreTurned, FieldsAreTurned, WholesKeepFrames, CallsKeepFrames, BeginsKeepFrames, FieldsKeepFrames, ReturnsKeepFrames, ThrowsKeepFrames, FramesAreHandled};
 
 /// A row by which the running frame stays.
 #[tactic(auto, using(crate::proofs::Turns::runs_are_turned))]
@@ -26,6 +26,12 @@ pub fn invoked_are_turned()
     ensures { InvokedAreTurned }
 {}
 
+/// One that uses a field, or makes an object.
+#[tactic(auto, using(crate::proofs::Turns::fields_are_turned))]
+pub fn fields_are_turned()
+    ensures { FieldsAreTurned }
+{}
+
 /// Frames are as the next step needs them behind a row by which the running frame stays.
 #[tactic(auto, using(crate::proofs::Framed::wholes_keep_frames))]
 pub fn wholes_keep_frames()
@@ -42,6 +48,12 @@ pub fn calls_keep_frames()
 #[tactic(auto, using(crate::proofs::Framed::begins_keep_frames))]
 pub fn begins_keep_frames()
     ensures { BeginsKeepFrames }
+{}
+
+/// So they are behind an instruction that uses a field or makes an object.
+#[tactic(auto, using(crate::proofs::Framed::fields_keep_frames))]
+pub fn fields_keep_frames()
+    ensures { FieldsKeepFrames }
 {}
 
 /// So they are behind a return.

@@ -1,0 +1,210 @@
+//! Fields and new objects (JVMS 6.5), by the entry at an index of the constant pool.
+
+ghost use Rattle.std.specs.Prelude.{IfOk, IsSomeAnd, OnOk};
+ghost use Rattle.program_rules.specs.Instructions as def;
+ghost use Rattle.class_link.specs.Opcodes.{on_class, on_field};
+ghost use Rattle.class_link.specs.View.{field_ref_of};
+ghost use Rattle.class_link.specs.declared.linked.Entry.TheVariants as entry;
+ghost use Rattle.class_table.specs.Faults.{HasRightKinds};
+ghost use Rattle.class_table.specs.Table.{look};
+ghost use Rattle.jvm_field_rows.specs.Layouts.{AreLayouts};
+ghost use Rattle.jvm_field_rows.specs.Slots.{AreSlots};
+ghost use Rattle.jvm_resolved.specs.References.{IsEntry, IsTableOf};
+ghost use Rattle.jvm_world.specs.View.{IsWorldOf, IsKept};
+ghost use Rattle.jvm_act.specs.Acts.{TurnsAs, field_named, member_at, symbol_at};
+ghost use Rattle.jvm_act.specs.Standing.{HasNext, AreFramesOf};
+
+use crate::groups::{FieldUse, MemberOp};
+use crate::symbols::{class_at, field_at};
+use crate::turning::turn_of;
+use class_family::Walker;
+use class_link::FieldRef;
+use class_model::{ClassId, Memory};
+use class_table::Program;
+use jvm_field_rows::{Layouts, Slots, get_field, get_static, make_object, put_field, put_static};
+use jvm_frames::Frames;
+use jvm_resolved::References;
+use jvm_unwind::Turn;
+use jvm_world::World;
+use std::alloc::Global;
+
+// The field of a reference at an index is used.
+#[tactic(auto, using(crate::proofs::Executed::has_next, crate::proofs::Fielded::whole_of, crate::proofs::Fielded::gets, crate::proofs::Fielded::puts, crate::proofs::Fielded::gets_static, crate::proofs::Fielded::puts_static))]
+fn use_named(
+    frames: &mut Frames,
+    world: &mut World,
+    alloc: Global,
+    p: &Program,
+    references: &mut References,
+    slots: &mut Slots,
+    walker: &mut Walker,
+    class: ClassId,
+    index: u32,
+    reference: &FieldRef,
+    how: FieldUse,
+) -> Result<Turn, Memory>
+    requires world { IsWorldOf p.now world.old }
+    requires kinds { HasRightKinds (look p.now) }
+    requires table { IsTableOf p.now references.old }
+    requires slots { AreSlots p.now slots.old }
+    requires entry { IsEntry p.now class.0 index (entry.Field reference.now) }
+    requires frames { AreFramesOf p.now frames.old }
+    requires runs { IsSomeAnd frames.old.frame HasNext }
+    ensures row { IfOk result (λ t. TurnsAs p.now (field_named how (field_ref_of reference.now)) t
+        frames.old frames.new world.old world.new) }
+    ensures frames { OnOk result (AreFramesOf p.now frames.new) }
+    ensures kept { OnOk result (IsKept p.now world.old world.new) }
+    ensures table { IsTableOf p.now references.new }
+    ensures slots { AreSlots p.now slots.new }
+{
+    match how {
+        FieldUse::GetStatic => {
+            let turn = get_static(
+                frames, world, alloc, p, references, walker, class, index, reference,
+            )?;
+            Ok(turn)
+        }
+        FieldUse::PutStatic => {
+            let turn = put_static(
+                frames, world, alloc, p, references, walker, class, index, reference,
+            )?;
+            Ok(turn)
+        }
+        FieldUse::Get => {
+            let done = get_field(
+                frames, world, alloc, p, references, slots, class, index, reference,
+            )?;
+            let turn = turn_of(done);
+            Ok(turn)
+        }
+        FieldUse::Put => {
+            let done = put_field(
+                frames, world, alloc, p, references, slots, class, index, reference,
+            )?;
+            let turn = turn_of(done);
+            Ok(turn)
+        }
+    }
+}
+
+// The field at an index is used.
+#[tactic(auto, using(crate::proofs::Executed::kept_same, crate::proofs::Fielded::used, crate::proofs::Fielded::no_field))]
+fn use_field(
+    frames: &mut Frames,
+    world: &mut World,
+    alloc: Global,
+    p: &Program,
+    references: &mut References,
+    slots: &mut Slots,
+    walker: &mut Walker,
+    class: ClassId,
+    index: u32,
+    how: FieldUse,
+) -> Result<Turn, Memory>
+    requires world { IsWorldOf p.now world.old }
+    requires kinds { HasRightKinds (look p.now) }
+    requires table { IsTableOf p.now references.old }
+    requires slots { AreSlots p.now slots.old }
+    requires frames { AreFramesOf p.now frames.old }
+    requires runs { IsSomeAnd frames.old.frame HasNext }
+    ensures row { IfOk result (λ t.
+        TurnsAs p.now (on_field (field_named how) (symbol_at p.now class.0 index)) t
+        frames.old frames.new world.old world.new) }
+    ensures frames { OnOk result (AreFramesOf p.now frames.new) }
+    ensures kept { OnOk result (IsKept p.now world.old world.new) }
+    ensures table { IsTableOf p.now references.new }
+    ensures slots { AreSlots p.now slots.new }
+{
+    match field_at(p, class, index) {
+        Some(field) => {
+            let turn = use_named(
+                frames, world, alloc, p, references, slots, walker, class, index, field, how,
+            )?;
+            Ok(turn)
+        }
+        None => Ok(Turn::NoRow),
+    }
+}
+
+// `new` of the class at an index.
+#[tactic(auto, using(crate::proofs::Executed::has_next, crate::proofs::Fielded::whole_of, crate::proofs::Executed::kept_same, crate::proofs::Fielded::made, crate::proofs::Fielded::no_object))]
+fn make_at(
+    frames: &mut Frames,
+    world: &mut World,
+    alloc: Global,
+    p: &Program,
+    references: &mut References,
+    layouts: &mut Layouts,
+    walker: &mut Walker,
+    class: ClassId,
+    index: u32,
+) -> Result<Turn, Memory>
+    requires world { IsWorldOf p.now world.old }
+    requires kinds { HasRightKinds (look p.now) }
+    requires table { IsTableOf p.now references.old }
+    requires layouts { AreLayouts p.now layouts.old }
+    requires frames { AreFramesOf p.now frames.old }
+    requires runs { IsSomeAnd frames.old.frame HasNext }
+    ensures row { IfOk result (λ t.
+        TurnsAs p.now (on_class def.New (symbol_at p.now class.0 index)) t
+        frames.old frames.new world.old world.new) }
+    ensures frames { OnOk result (AreFramesOf p.now frames.new) }
+    ensures kept { OnOk result (IsKept p.now world.old world.new) }
+    ensures table { IsTableOf p.now references.new }
+    ensures layouts { AreLayouts p.now layouts.new }
+{
+    match class_at(p, class, index) {
+        Some(name) => {
+            let turn = make_object(
+                frames, world, alloc, p, references, walker, layouts, class, index, name,
+            )?;
+            Ok(turn)
+        }
+        None => Ok(Turn::NoRow),
+    }
+}
+
+/// Uses a field, or makes an object. Where a class has to begin first, that is the turn, and the
+/// instruction stays.
+pub fn take_member(
+    frames: &mut Frames,
+    world: &mut World,
+    alloc: Global,
+    p: &Program,
+    references: &mut References,
+    slots: &mut Slots,
+    layouts: &mut Layouts,
+    walker: &mut Walker,
+    class: ClassId,
+    op: MemberOp,
+) -> Result<Turn, Memory>
+    requires world { IsWorldOf p.now world.old }
+    requires kinds { HasRightKinds (look p.now) }
+    requires table { IsTableOf p.now references.old }
+    requires slots { AreSlots p.now slots.old }
+    requires layouts { AreLayouts p.now layouts.old }
+    requires frames { AreFramesOf p.now frames.old }
+    requires runs { IsSomeAnd frames.old.frame HasNext }
+    ensures row { IfOk result (λ t. TurnsAs p.now (member_at p.now class.0 op) t
+        frames.old frames.new world.old world.new) }
+    ensures frames { OnOk result (AreFramesOf p.now frames.new) }
+    ensures kept { OnOk result (IsKept p.now world.old world.new) }
+    ensures table { IsTableOf p.now references.new }
+    ensures slots { AreSlots p.now slots.new }
+    ensures layouts { AreLayouts p.now layouts.new }
+{
+    match op {
+        MemberOp::Field(how, index) => {
+            let turn = use_field(
+                frames, world, alloc, p, references, slots, walker, class, index, how,
+            )?;
+            Ok(turn)
+        }
+        MemberOp::New(index) => {
+            let turn = make_at(
+                frames, world, alloc, p, references, layouts, walker, class, index,
+            )?;
+            Ok(turn)
+        }
+    }
+}
