@@ -30,15 +30,14 @@ use Rattle.jvm_act.specs.Turned.{TurnedTo, Turned, turn_of}
 use Rattle.jvm_act.specs.Standing.{HasNext, AreFramesOf}
 use Rattle.jvm_act.specs.Methods.{IsCodeOf, meaning, current_of, fetched}
 use Rattle.jvm_act.specs.declared.acting.Acted.TheVariants as answer
-use Rattle.jvm_act.specs.declared.groups.SwitchOp.{SwitchOp}
 use Rattle.jvm_act.specs.declared.groups.FieldUse.TheVariants as field
 use Rattle.jvm_act.specs.declared.groups.MemberOp.{MemberOp}
 use Rattle.jvm_act.specs.declared.groups.MemberOp.TheVariants as member
 use Rattle.jvm_act.specs.declared.groups.CallUse.{CallUse}
 use Rattle.jvm_act.specs.declared.groups.CallUse.TheVariants as call
 use Rattle.jvm_act.specs.declared.groups.ReturnOp.{ReturnOp}
-use Rattle.jvm_act.specs.Groups.{Names, MeansIn, switch_in, member_in, call_of, return_in}
-use Rattle.jvm_act.specs.Acts.{RunsWholeAs, TurnsAs, TurnsIn, ActsTo, RunsCode, StandsAtOp, IsLeft, Leaves, acting, call_named, switch_at, member_at, symbol_at}
+use Rattle.jvm_act.specs.Groups.{Names, MeansIn, member_in, call_of, return_in}
+use Rattle.jvm_act.specs.Acts.{RunsWholeAs, TurnsAs, TurnsIn, ActsTo, RunsCode, StandsAtOp, IsLeft, Leaves, acting, call_named, member_at, symbol_at}
 use Rattle.jvm_act.proofs.Coded.{fetched_at, room_at}
 use Rattle.jvm_act.proofs.Turns.{if_known, wholes_are_turned}
 use Rattle.jvm_act.proofs.Framed.{wholes_keep_frames}
@@ -140,9 +139,6 @@ module _ (p : List Info) (m : MethodCode) (class : ℕ) (op : Op) (old : Numbere
 
   abbrev names : Names
   names = named_by (entries_at p class) m.linked.switches
-
-  pub left_switch : (s : SwitchOp) (w : World) → AreFramesOf p old → MeansIn op (λ named. switch_in named s) → Leaves p m class (switch_at p class m s) old old w w
-  left_switch s w are is = left (switch_at p class m s) w are (is m.code.longs.items names)
 
   -- What uses a field or makes an object names it so.
   member_names : (o : MemberOp) → member_in names o ≡ member_at p class o

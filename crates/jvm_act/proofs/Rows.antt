@@ -1,5 +1,6 @@
 -- The rows of instructions, by what these mean.
 use Rattle.std.proofs.Common.{◌≡◌, ◌∙◌, sym, refl, ap, subst, ℕ, ℤ, Bool, List, Option, None, Some, Ok, Err}
+use Rattle.std.specs.Prelude.{slice_get}
 use Rattle.program_rules.specs.declared.fault.Fault.{Fault}
 use Rattle.program_rules.specs.declared.operation.Element.{Element}
 use Rattle.program_rules.specs.Instructions as def
@@ -14,7 +15,7 @@ use Rattle.class_link.specs.declared.linked.Entry.TheVariants as entry
 use Rattle.class_link.specs.declared.linked.Switch.{Switch}
 use Rattle.class_link.specs.Info.{Info}
 use Rattle.class_link.specs.Opcodes.{on_text, on_class, array_of}
-use Rattle.class_link.specs.View.{entry_symbol}
+use Rattle.class_link.specs.View.{entry_symbol, table_of, lookup_of}
 use Rattle.class_table.specs.Table.{look, entries_at}
 use Rattle.jvm_state.specs.declared.op.Op.{Op}
 use Rattle.jvm_state.specs.Ops.{instruction_of}
@@ -53,6 +54,12 @@ unlinked_row p old w = λ kind starts.
 
 pub unlinked : (p : List Info) (i : def.Instruction) (old : NumberedFrames) (w : World) → i ≡ def.Unlinked → RunsAs p i effect.NoRow old old w w
 unlinked p i old w e = subst (λ k. RunsAs p k effect.NoRow old old w w) (sym e) (unlinked_row p old w)
+
+pub no_table : (p : List Info) (ss : List Switch) (k : ℕ) (o : Option Switch) (old : NumberedFrames) (w : World) → o ≡ slice_get ss k → table_of o ≡ def.Unlinked → RunsAs p (table_of (slice_get ss k)) effect.NoRow old old w w
+no_table p ss k o old w is none = unlinked p (table_of (slice_get ss k)) old w (ap table_of (sym is) ∙ none)
+
+pub no_keys : (p : List Info) (ss : List Switch) (k : ℕ) (o : Option Switch) (old : NumberedFrames) (w : World) → o ≡ slice_get ss k → lookup_of o ≡ def.Unlinked → RunsAs p (lookup_of (slice_get ss k)) effect.NoRow old old w w
+no_keys p ss k o old w is none = unlinked p (lookup_of (slice_get ss k)) old w (ap lookup_of (sym is) ∙ none)
 
 pub as_whole : (p : List Info) (i : def.Instruction) (e : Effect) (old new : NumberedFrames) (w u : World) → RunsAs p i e old new w u → RunsWholeAs p i e old new w u
 as_whole p i e old new w u h = λ kind starts. whole p (means_row p kind starts i) e old new w u (h kind starts)

@@ -15,7 +15,6 @@ use Rattle.class_link.specs.Symbols.{Symbol, kind_of}
 use Rattle.class_table.specs.Table.{look, entries_at}
 use Rattle.class_link.specs.View.{meaning_at}
 use Rattle.jvm_state.specs.declared.op.Op.{Op}
-use Rattle.jvm_code.specs.Decoded.{named_by}
 use Rattle.jvm_frames.specs.Frames.{NumberedFrame, NumberedFrames}
 use Rattle.jvm_world.specs.declared.world.World.{World}
 use Rattle.jvm_heap_rows.specs.declared.effect.Effect.{Effect}
@@ -36,8 +35,6 @@ use Rattle.jvm_act.specs.declared.groups.MemberOp.{MemberOp}
 use Rattle.jvm_act.specs.declared.groups.MemberOp.TheVariants as member
 use Rattle.jvm_act.specs.declared.groups.CallUse.{CallUse}
 use Rattle.jvm_act.specs.declared.groups.CallUse.TheVariants as call
-use Rattle.jvm_act.specs.declared.groups.SwitchOp.{SwitchOp}
-use Rattle.jvm_act.specs.Groups.{switch_in}
 use Rattle.jvm_act.specs.Methods.{IsCodeOf}
 use Rattle.jvm_act.specs.Standing.{HasNext}
 use Rattle.jvm_act.specs.Turned.{Turned}
@@ -159,10 +156,6 @@ pub record Leaves
   pub frames : new ≡ old
   pub world : u ≡ w
 
--- A switch of a code.
-abbrev pub switch_at : List Info → ℕ → MethodCode → SwitchOp → def.Instruction
-switch_at p class m op = switch_in (named_by (entries_at p class) m.linked.switches) op
-
 -- What a class names at an index, as an instruction that may begin a class.
 abbrev pub member_at : List Info → ℕ → MemberOp → def.Instruction
 member_at p class (member.Field how n) = on_field (field_named how) (symbol_at p class n)
@@ -172,6 +165,5 @@ member_at p class (member.New n) = on_class def.New (symbol_at p class n)
 abbrev pub ActsTo :
     List Info → MethodCode → Acted → NumberedFrames → NumberedFrames → World → World → Type 0
 ActsTo p m (acted.Turned t) old new w u = Turned p (acting p) t old new w u
-ActsTo p m (acted.Switch c op) old new w u = Leaves p m c.0 (switch_at p c.0 m op) old new w u
 ActsTo p m (acted.Call c how n) old new w u =
     Leaves p m c.0 (on_method (call_named how) (symbol_at p c.0 n)) old new w u

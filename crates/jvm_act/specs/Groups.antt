@@ -90,6 +90,7 @@ MeansIn op means =
 
 abbrev pub IsFrameOf : Op → FrameOp → Type 0
 IsFrameOf op frame.Alone = is_alone op ≡ true
+IsFrameOf op (frame.Switch s) = MeansIn op (λ named. switch_in named s)
 IsFrameOf op (frame.Element e) = MeansIn op (λ named. element_in e)
 IsFrameOf op (frame.Object o) = MeansIn op (λ named. object_in o)
 IsFrameOf op (frame.Class c) = MeansIn op (λ named. class_in named c)
@@ -97,7 +98,6 @@ IsFrameOf op frame.Unlinked = MeansIn op (λ named. def.Unlinked)
 
 abbrev pub IsGroupOf : Op → Group → Type 0
 IsGroupOf op (group.Frame f) = IsFrameOf op f
-IsGroupOf op (group.Switch s) = MeansIn op (λ named. switch_in named s)
 IsGroupOf op (group.Member m) = MeansIn op (λ named. member_in named m)
 IsGroupOf op (group.Call how n) = MeansIn op (λ named. named (call_of how) n)
 IsGroupOf op (group.Return r) = MeansIn op (λ named. return_in r)

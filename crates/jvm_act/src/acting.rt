@@ -13,7 +13,7 @@ ghost use Rattle.jvm_act.specs.Groups.{IsFrameOf};
 ghost use Rattle.jvm_act.specs.Methods.{meaning};
 ghost use Rattle.jvm_act.specs.Standing.{HasNext, AreFramesOf};
 
-use crate::groups::{CallUse, FrameOp, Group, SwitchOp, group_of};
+use crate::groups::{CallUse, FrameOp, Group, group_of};
 use crate::inside::act_inside;
 use crate::members::take_member;
 use crate::methods::MethodCode;
@@ -35,8 +35,6 @@ use std::alloc::Global;
 pub enum Acted {
     /// It is done.
     Turned(Turn),
-    /// This switch of the method's code is left.
-    Switch(ClassId, SwitchOp),
     /// This call is left, of the method that the frame's class names at an index.
     Call(ClassId, CallUse, u32),
 }
@@ -86,7 +84,7 @@ pub fn turn_inside(
 }
 
 // The instruction of a method at which the running frame stands.
-#[tactic(auto, using(crate::proofs::Executed::done, crate::proofs::Executed::left_switch, crate::proofs::Executed::left_call, crate::proofs::Executed::op_next, crate::proofs::Executed::op_returns))]
+#[tactic(auto, using(crate::proofs::Executed::done, crate::proofs::Executed::left_call, crate::proofs::Executed::op_next, crate::proofs::Executed::op_returns))]
 fn act_op(
     frames: &mut Frames,
     world: &mut World,
@@ -128,7 +126,6 @@ fn act_op(
             let turn = take_return(frames, world, p, method, kind)?;
             Ok(Acted::Turned(turn))
         }
-        Group::Switch(switch) => Ok(Acted::Switch(class, switch)),
         Group::Member(member) => {
             let turn = take_member(
                 frames, world, alloc, p, references, slots, layouts, walker, class, member,
@@ -139,8 +136,8 @@ fn act_op(
     }
 }
 
-/// Executes the instruction at which the running frame stands, whose method has this code. A switch
-/// and a call of a method are left.
+/// Executes the instruction at which the running frame stands, whose method has this code. A call
+/// of a method is left.
 #[tactic(auto, using(crate::proofs::Executed::past_end, crate::proofs::Executed::stands_at, crate::proofs::Executed::kept_same))]
 pub fn act(
     frames: &mut Frames,

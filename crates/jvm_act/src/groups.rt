@@ -62,6 +62,7 @@ pub enum ClassOp {
 #[derive(Clone, Copy)]
 pub enum FrameOp {
     Alone,
+    Switch(SwitchOp),
     Element(ElementOp),
     Object(ObjectOp),
     Class(ClassOp),
@@ -106,7 +107,6 @@ pub enum ReturnOp {
 #[derive(Clone, Copy)]
 pub enum Group {
     Frame(FrameOp),
-    Switch(SwitchOp),
     Member(MemberOp),
     /// The method at an index is called.
     Call(CallUse, u32),
@@ -114,9 +114,9 @@ pub enum Group {
 }
 
 fn switch(op: SwitchOp) -> Group
-    ensures { result ≡ group.Switch op }
+    ensures { result ≡ group.Frame (frame.Switch op) }
 {
-    Group::Switch(op)
+    Group::Frame(FrameOp::Switch(op))
 }
 
 fn load(element: Element) -> Group

@@ -14,6 +14,7 @@ use crate::elements::take_element;
 use crate::groups::FrameOp;
 use crate::methods::MethodCode;
 use crate::objects::take_object;
+use crate::switches::take_switch;
 use class_model::{ClassId, Memory};
 use class_table::Program;
 use jvm_frames::Frames;
@@ -51,6 +52,10 @@ pub fn act_inside(
     match group {
         FrameOp::Alone => {
             let done = act_alone(frames, world, alloc, p, op, method.code.longs.as_slice())?;
+            Ok(done)
+        }
+        FrameOp::Switch(switch) => {
+            let done = take_switch(frames, method, switch);
             Ok(done)
         }
         FrameOp::Element(element) => {

@@ -14,6 +14,7 @@ mod members;
 mod methods;
 mod objects;
 mod returns;
+mod switches;
 mod symbols;
 mod turning;
 mod unwinding;

@@ -1,10 +1,5 @@
-use Rattle.jvm_act.proofs.Executed.{done, left_switch, op_member}
+use Rattle.jvm_act.proofs.Executed.{done, op_member}
 use Rattle.jvm_act.proofs.acting.act_op.Goals as goal
-
-pub returns-in-Switch-clause-acts : goal.returns-in-Switch-clause-acts
-returns-in-Switch-clause-acts c =
-    left_switch c.args.p.now c.args.method.now c.args.class.0 c.args.op c.args.frames.now c.requires.stands
-    c.in-Switch.switch c.args.world.now c.requires.frames c.in-Switch.ensures
 
 pub returns-in_ok-turn-in-Member-clause-acts : goal.returns-in_ok-turn-in-Member-clause-acts
 returns-in_ok-turn-in-Member-clause-acts c =
