@@ -31,8 +31,8 @@ use Rattle.mutest_engine.specs.Steps.{and_then}
 use Rattle.mutest_engine.specs.Supers.{unless_found, right_supers}
 use Rattle.mutest_engine.specs.Duplicates.{again, least, duplicate_in}
 use Rattle.mutest_engine.specs.SuiteFiles.{IsSpelled, IsFormed}
-use Rattle.mutest_engine.specs.Originals.{all_classes, classes_in, names_in, program_of, accepted}
-use Rattle.mutest_engine.specs.Mutation.{mutants_of, class_file, suite_files, linked}
+use Rattle.mutest_engine.specs.Originals.{all_classes, classes_in, class_file, names_in, program_of, accepted}
+use Rattle.mutest_engine.specs.Mutation.{mutants_of, suite_files, linked}
 use Rattle.mutest_engine.specs.declared.refusal.ProgramFault.TheVariants.{Duplicate}
 use Rattle.mutest_engine.specs.declared.refusal.Refusal.{Refusal}
 use Rattle.mutest_engine.specs.declared.suite.LoadedSuite.{LoadedSuite}

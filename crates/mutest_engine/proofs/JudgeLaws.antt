@@ -14,13 +14,14 @@ use Rattle.mutant_runs.specs.Programs.{ClassFiles, IsMutantOf}
 use Rattle.report_schema.specs.declared.input.ReportInput.{ReportInput}
 use Rattle.mutest_engine.specs.SuiteFiles.{IsFormed}
 use Rattle.mutest_engine.specs.Steps.{and_then}
-use Rattle.mutest_engine.specs.Originals.{all_classes, classes_in, program_of, accepted, tests_of, tests_among, few_tests, few_of, green}
-use Rattle.mutest_engine.specs.Mutation.{class_file, suite_files, program, mutants_of, numbers_from, AreNumbered, AreFirstMutants, linked, judged, suite_steps, few_mutants, HasTooMany, few, verdicts_by, green_verdicts, input_of, if_so, all_steps, tested, tested_steps, Stays}
+use Rattle.mutest_engine.specs.Originals.{all_classes, classes_in, class_file, program_of, accepted, green}
+use Rattle.mutest_engine.specs.Numbers.{numbers_from, AreNumbered}
+use Rattle.mutest_engine.specs.Discovered.{tests_of}
+use Rattle.mutest_engine.specs.Mutation.{suite_files, program, mutants_of, AreFirstMutants, linked, judged, if_found, suite_steps, few_mutants, HasTooMany, verdicts_by, green_verdicts, input_of, if_so, all_steps, tested, tested_steps, Stays}
 use Rattle.mutest_engine.specs.declared.suite.LoadedSuite.{LoadedSuite}
 use Rattle.mutest_engine.specs.declared.refusal.Limit.TheVariants as limit
 use Rattle.mutest_engine.specs.declared.refusal.Refusal.{Refusal}
 use Rattle.mutest_engine.specs.declared.refusal.Refusal.TheVariants.{TooMany}
-use Rattle.mutest_engine.specs.declared.stop.Stop.TheVariants as stop
 use Rattle.mutest_engine.proofs.FitLaws.{all_fit, classes_both}
 use Rattle.mutest_engine.proofs.NumberLaws.{first_mutants}
 use Rattle.mutest_engine.proofs.RefusalLaws.{of_green}
@@ -32,31 +33,20 @@ bounded : (limit n : ℕ) (r : Refusal) (t : Bool) → ltb limit n ≡ t → wit
 bounded limit n r true e h = absurd cc
 bounded limit n r false e h = ltb-false limit n e
 
--- Tests and mutants are few enough.
-pub few_is : (ts : List Test) (ms : List Mutant) → length ts ≤ 65535 → length ms ≤ 262144 → few ts ms ≡ Ok tt
-few_is ts ms tests mutants =
-    ap (λ t. and_then (within (TooMany limit.Tests 65536) t) (λ ok. few_mutants (length ms))) (le-ltb 65535 (length ts) tests)
-    ∙ ap (within (TooMany limit.Mutants 262145)) (le-ltb 262144 (length ms) mutants)
+-- Mutants are few enough.
+pub few_is : (ms : List Mutant) → length ms ≤ 262144 → few_mutants (length ms) ≡ Ok tt
+few_is ms mutants = ap (within (TooMany limit.Mutants 262145)) (le-ltb 262144 (length ms) mutants)
 
--- What the code found of tests: they are few enough, or they are refused.
-few_found : (ts found : List Test) (x : Result (Unit {0}) Refusal) → Ok found ≡ and_then x (λ ok. Ok ts) → (x ≡ Ok tt) × (found ≡ ts)
-few_found ts found (Ok u) is = (refl, cc)
-few_found ts found (Err r) is = absurd cc
-
-many_found : (ts : List Test) (r : Refusal) (x : Result (Unit {0}) Refusal) → Err r ≡ and_then x (λ ok. Ok ts) → x ≡ Err r
-many_found ts r (Ok u) is = absurd cc
-many_found ts r (Err q) is = cc
-
-tested_is : (files : ClassFiles) (p : Look) (ts : List Test) (ms : List Mutant) → few ts ms ≡ Ok tt → tested files p ts ms ≡ and_then (green p ts) (λ ok. Ok (input_of ts ms (verdicts_by files p ts ms)))
+tested_is : (files : ClassFiles) (p : Look) (ts : List Test) (ms : List Mutant) → few_mutants (length ms) ≡ Ok tt → tested files p ts ms ≡ and_then (green p ts) (λ ok. Ok (input_of ts ms (verdicts_by files p ts ms)))
 unfolding tested
 tested_is files p ts ms ready = ap (λ x. and_then x (λ ok. and_then (green p ts) (λ ok. Ok (input_of ts ms (verdicts_by files p ts ms))))) ready
 
-steps_are : (files : ClassFiles) (p : Look) (ts : List Test) (ms : List Mutant) → few ts ms ≡ Ok tt → tested_steps files p ts ms ≡ all_steps files p ts ms
+steps_are : (files : ClassFiles) (p : Look) (ts : List Test) (ms : List Mutant) → few_mutants (length ms) ≡ Ok tt → tested_steps files p ts ms ≡ all_steps files p ts ms
 unfolding tested_steps
 steps_are files p ts ms ready = ap (λ x. if_so x (all_steps files p ts ms)) ready
 
 -- the same, with the tests and the mutants as slices
-pub counted_steps : (files : ClassFiles) (p : Look) (ts : List Test) (ms : List Mutant) (ts' : List Test) (ms' : List Mutant) → few ts ms ≡ Ok tt → ts' ≡ ts → ms' ≡ ms → all_steps files p ts' ms' ≡ tested_steps files p ts ms
+pub counted_steps : (files : ClassFiles) (p : Look) (ts : List Test) (ms : List Mutant) (ts' : List Test) (ms' : List Mutant) → few_mutants (length ms) ≡ Ok tt → ts' ≡ ts → ms' ≡ ms → all_steps files p ts' ms' ≡ tested_steps files p ts ms
 counted_steps files p ts ms ts' ms' ready t m = ap (λ l. all_steps files p l ms') t ∙ ap (λ l. all_steps files p ts l) m ∙ sym (steps_are files p ts ms ready)
 
 abbrev pub all_inputs : ReportInput → Result ReportInput Refusal
@@ -66,7 +56,7 @@ refused_by : {X Y : Type 0} (g : Result (Unit {0}) Refusal) (x : X) (y : Y) (r :
 refused_by (Ok ok) x y r h = absurd cc
 refused_by (Err q) x y r h = (cc, cc)
 
-pub tested_refused : (files : ClassFiles) (p : Look) (ts : List Test) (ms : List Mutant) (r : Refusal) → few ts ms ≡ Ok tt → green_verdicts files p ts ms ≡ Err r → tested files p ts ms ≡ Err r
+pub tested_refused : (files : ClassFiles) (p : Look) (ts : List Test) (ms : List Mutant) (r : Refusal) → few_mutants (length ms) ≡ Ok tt → green_verdicts files p ts ms ≡ Err r → tested files p ts ms ≡ Err r
 tested_refused files p ts ms r ready is =
     tested_is files p ts ms ready ∙ (refused_by (green p ts) (verdicts_by files p ts ms) (input_of ts ms (verdicts_by files p ts ms)) r is).1
 
@@ -82,7 +72,7 @@ passed_by : {X Y : Type 0} (g : Result (Unit {0}) Refusal) (x y : X) (f : X → 
 passed_by (Ok ok) x y f h = let e : x ≡ y = cc in (λ i. Ok (f (e i)))
 passed_by (Err q) x y f h = absurd cc
 
-pub tested_ok : (files : ClassFiles) (p : Look) (ts : List Test) (ms : List Mutant) (vs : List Verdict) → few ts ms ≡ Ok tt → green_verdicts files p ts ms ≡ Ok vs → tested files p ts ms ≡ Ok (input_of ts ms vs)
+pub tested_ok : (files : ClassFiles) (p : Look) (ts : List Test) (ms : List Mutant) (vs : List Verdict) → few_mutants (length ms) ≡ Ok tt → green_verdicts files p ts ms ≡ Ok vs → tested files p ts ms ≡ Ok (input_of ts ms vs)
 tested_ok files p ts ms vs ready is = tested_is files p ts ms ready ∙ passed_by (green p ts) (verdicts_by files p ts ms) vs (input_of ts ms) is
 
 -- ---- a suite
@@ -92,7 +82,7 @@ pub record IsLinked (s : LoadedSuite) (files : ClassFiles) (p : Look) (ts : List
   pub asked : linked s ≡ Ok tt
   pub by_file : files ≡ suite_files s
   pub by_name : p ≡ program s
-  pub of_tests : ts ≡ tests_of s
+  pub of_tests : tests_of s ≡ Ok ts
   pub of_mutants : ms ≡ mutants_of s
 
 -- The mutants that the code asks of the program are those of the suite.
@@ -115,7 +105,7 @@ enough s p all count is len many =
 
 -- What the code found, piece by piece.
 pub is_linked : (s : LoadedSuite) (files : ClassFiles) (p : Look) (all : List Loaded) (ts : List Test) (ms : List Mutant) → accepted (classes_in all) ≡ Ok tt → files ≡ class_file (classes_in all)
-    → p ≡ program_of (classes_in all) → all ≡ all_classes s → ts ≡ tests_of s → ms ≡ mutants_of s → IsLinked s files p ts ms
+    → p ≡ program_of (classes_in all) → all ≡ all_classes s → tests_of s ≡ Ok ts → ms ≡ mutants_of s → IsLinked s files p ts ms
 is_linked s files p all ts ms acc fs look is t m = record {
   asked = ap (λ l. accepted (classes_in l)) (sym is) ∙ acc;
   by_file = fs ∙ ap (λ l. class_file (classes_in l)) is;
@@ -124,39 +114,34 @@ is_linked s files p all ts ms acc fs look is t m = record {
   of_mutants = m;
 }
 
--- The tests of the tests folder are those that were found, and few.
-pub tests_are : (s : LoadedSuite) (tests : List Loaded) (ts : List Test) → tests ≡ s.tests → Ok ts ≡ few_of (tests_among (classes_in tests)) → (ts ≡ tests_of s) × (length ts ≤ 65535)
-tests_are s tests ts is found =
-    let parts = few_found (tests_among (classes_in tests)) ts (few_tests (length (tests_among (classes_in tests)))) found in (
-      parts.1 ∙ ap (λ l. tests_among (classes_in l)) is,
-      subst (λ (l : List Test). length l ≤ 65535) (sym parts.1) (bounded 65535 (length (tests_among (classes_in tests))) (TooMany limit.Tests 65536) (ltb 65535 (length (tests_among (classes_in tests)))) refl parts.0),
-    )
-
 pub mutants_few : (ms : List Mutant) → few_mutants (length ms) ≡ Ok tt → length ms ≤ 262144
 mutants_few ms few = bounded 262144 (length ms) (TooMany limit.Mutants 262145) (ltb 262144 (length ms)) refl few
 
--- Too many tests or mutants are told before a run.
+-- A fault of tests, and too many tests or mutants, are told before a run.
 pub record IsRefused (s : LoadedSuite) (r : Refusal) : Type 0 where
   pub stated : judged s ≡ Err r
   pub unrun : suite_steps s ≡ 0
 
-tested_refused_by : (files : ClassFiles) (p : Look) (ts : List Test) (ms : List Mutant) (r : Refusal) → few ts ms ≡ Err r → tested files p ts ms ≡ Err r
+tested_refused_by : (files : ClassFiles) (p : Look) (ts : List Test) (ms : List Mutant) (r : Refusal) → few_mutants (length ms) ≡ Err r → tested files p ts ms ≡ Err r
 unfolding tested
 tested_refused_by files p ts ms r h = ap (λ x. and_then x (λ ok. and_then (green p ts) (λ ok. Ok (input_of ts ms (verdicts_by files p ts ms))))) h
 
-none_run : (files : ClassFiles) (p : Look) (ts : List Test) (ms : List Mutant) (r : Refusal) → few ts ms ≡ Err r → tested_steps files p ts ms ≡ 0
+none_run : (files : ClassFiles) (p : Look) (ts : List Test) (ms : List Mutant) (r : Refusal) → few_mutants (length ms) ≡ Err r → tested_steps files p ts ms ≡ 0
 unfolding tested_steps
 none_run files p ts ms r h = ap (λ x. if_so x (all_steps files p ts ms)) h
 
-few_refused : (s : LoadedSuite) (r : Refusal) → linked s ≡ Ok tt → few (tests_of s) (mutants_of s) ≡ Err r → IsRefused s r
-few_refused s r ok h = record {
-  stated = ap (λ x. and_then x (λ ok. tested (suite_files s) (program s) (tests_of s) (mutants_of s))) ok ∙ tested_refused_by (suite_files s) (program s) (tests_of s) (mutants_of s) r h;
-  unrun = ap (λ x. if_so x (tested_steps (suite_files s) (program s) (tests_of s) (mutants_of s))) ok ∙ none_run (suite_files s) (program s) (tests_of s) (mutants_of s) r h;
-}
+-- What is reported, and the steps of the runs, by the tests that were found.
+abbrev judged_by : LoadedSuite → Result (List Test) Refusal → Result ReportInput Refusal
+judged_by s found = and_then found (λ ts. tested (suite_files s) (program s) ts (mutants_of s))
 
--- the same by the refusal that the code has
-pub stated_as : (s : LoadedSuite) (r told : Refusal) → IsRefused s r → stop.Refused r ≡ stop.Refused told → judged s ≡ Err told
-stated_as s r told h is = let same : r ≡ told = cc in h.stated ∙ ap (λ x. Err x) same
+abbrev steps_by : LoadedSuite → Result (List Test) Refusal → ℕ
+steps_by s found = if_found found (λ ts. tested_steps (suite_files s) (program s) ts (mutants_of s))
+
+by_found : (s : LoadedSuite) (found : Result (List Test) Refusal) → linked s ≡ Ok tt → tests_of s ≡ found → (judged s ≡ judged_by s found) × (suite_steps s ≡ steps_by s found)
+by_found s found ok is = (
+  ap (λ x. and_then x (λ ok. judged_by s (tests_of s))) ok ∙ ap (judged_by s) is,
+  ap (λ x. if_so x (steps_by s (tests_of s))) ok ∙ ap (steps_by s) is,
+)
 
 pub counts_none : (s : LoadedSuite) (r : Refusal) (n : ℕ) → IsRefused s r → n ≡ n + suite_steps s
 counts_none s r n h = let none = h.unrun in omega (arith, none)
@@ -164,35 +149,36 @@ counts_none s r n h = let none = h.unrun in omega (arith, none)
 is_program : (s : LoadedSuite) (all : List Loaded) → accepted (classes_in all) ≡ Ok tt → all ≡ all_classes s → linked s ≡ Ok tt
 is_program s all acc is = ap (λ l. accepted (classes_in l)) (sym is) ∙ acc
 
-pub tests_refused : (s : LoadedSuite) (all tests : List Loaded) (r : Refusal) → accepted (classes_in all) ≡ Ok tt → all ≡ all_classes s → tests ≡ s.tests → Err r ≡ few_of (tests_among (classes_in tests)) → IsRefused s r
-tests_refused s all tests r acc is is_tests found =
-    let many = many_found (tests_among (classes_in tests)) r (few_tests (length (tests_among (classes_in tests)))) found in
-    let own : few_tests (length (tests_of s)) ≡ Err r = ap (λ l. few_tests (length (tests_among (classes_in l)))) (sym is_tests) ∙ many in
-    few_refused s r (is_program s all acc is) (ap (λ x. and_then x (λ ok. few_mutants (length (mutants_of s)))) own)
+-- The tests are refused.
+pub tests_refused : (s : LoadedSuite) (all : List Loaded) (r : Refusal) → accepted (classes_in all) ≡ Ok tt → all ≡ all_classes s → tests_of s ≡ Err r → IsRefused s r
+tests_refused s all r acc is refused =
+    let by = by_found s (Err r) (is_program s all acc is) refused in
+    record { stated = by.0; unrun = by.1 }
 
-pub mutants_refused : (s : LoadedSuite) (p : List Info) (all tests : List Loaded) (ts : List Test) (count : ℕ) (r : Refusal) → accepted (classes_in all) ≡ Ok tt → all ≡ all_classes s → tests ≡ s.tests
-    → Ok ts ≡ few_of (tests_among (classes_in tests)) → AreNumbered p (classes_in all) → count ≡ length s.classes → HasTooMany p count r → IsRefused s r
-mutants_refused s p all tests ts count r acc is is_tests found numbered len many =
-    let parts = few_found (tests_among (classes_in tests)) ts (few_tests (length (tests_among (classes_in tests)))) found in
-    let own : few_tests (length (tests_of s)) ≡ Ok tt = ap (λ l. few_tests (length (tests_among (classes_in l)))) (sym is_tests) ∙ parts.0 in
+-- The mutants are refused.
+pub mutants_refused : (s : LoadedSuite) (p : List Info) (all : List Loaded) (ts : List Test) (count : ℕ) (r : Refusal) → accepted (classes_in all) ≡ Ok tt → all ≡ all_classes s → tests_of s ≡ Ok ts
+    → AreNumbered p (classes_in all) → count ≡ length s.classes → HasTooMany p count r → IsRefused s r
+mutants_refused s p all ts count r acc is found numbered len many =
     let ms : many.0 ≡ mutants_of s = mutants_are s p all count many.0 numbered is len many.1 in
-    few_refused s r (is_program s all acc is) (ap (λ x. and_then x (λ ok. few_mutants (length (mutants_of s)))) own ∙ ap (λ l. few_mutants (length l)) (sym ms) ∙ many.2)
+    let own : few_mutants (length (mutants_of s)) ≡ Err r = ap (λ l. few_mutants (length l)) (sym ms) ∙ many.2 in
+    let by = by_found s (Ok ts) (is_program s all acc is) found in
+    record {
+      stated = by.0 ∙ tested_refused_by (suite_files s) (program s) ts (mutants_of s) r own;
+      unrun = by.1 ∙ none_run (suite_files s) (program s) ts (mutants_of s) r own;
+    }
 
 pub fit_of : MutantsFit → (s : LoadedSuite) (files : ClassFiles) (p : Look) (ts : List Test) (ms : List Mutant) → IsFormed s → IsLinked s files p ts ms → All (IsMutantOf files) ms
 fit_of fit s files p ts ms formed h =
     subst (λ (f : ClassFiles). All (IsMutantOf f) ms) (sym h.by_file) (subst (All (IsMutantOf (suite_files s))) (sym h.of_mutants) (all_fit fit s formed h.asked))
 
-all_tested : (s : LoadedSuite) (files : ClassFiles) (p : Look) (ts : List Test) (ms : List Mutant) → IsLinked s files p ts ms → tested files p ts ms ≡ tested (suite_files s) (program s) (tests_of s) (mutants_of s)
+all_tested : (s : LoadedSuite) (files : ClassFiles) (p : Look) (ts : List Test) (ms : List Mutant) → IsLinked s files p ts ms → tested files p ts ms ≡ tested (suite_files s) (program s) ts (mutants_of s)
 all_tested s files p ts ms h =
-    ap (λ f. tested f p ts ms) h.by_file ∙ ap (λ q. tested (suite_files s) q ts ms) h.by_name ∙ ap (λ l. tested (suite_files s) (program s) l ms) h.of_tests
-    ∙ ap (λ l. tested (suite_files s) (program s) (tests_of s) l) h.of_mutants
+    ap (λ f. tested f p ts ms) h.by_file ∙ ap (λ q. tested (suite_files s) q ts ms) h.by_name ∙ ap (λ l. tested (suite_files s) (program s) ts l) h.of_mutants
 
 pub judged_is : (s : LoadedSuite) (files : ClassFiles) (p : Look) (ts : List Test) (ms : List Mutant) → IsLinked s files p ts ms → tested files p ts ms ≡ judged s
-judged_is s files p ts ms h =
-    all_tested s files p ts ms h ∙ ap (λ x. and_then x (λ ok. tested (suite_files s) (program s) (tests_of s) (mutants_of s))) (sym h.asked)
+judged_is s files p ts ms h = all_tested s files p ts ms h ∙ sym (by_found s (Ok ts) h.asked h.of_tests).0
 
 pub suite_steps_are : (s : LoadedSuite) (files : ClassFiles) (p : Look) (ts : List Test) (ms : List Mutant) → IsLinked s files p ts ms → tested_steps files p ts ms ≡ suite_steps s
 suite_steps_are s files p ts ms h =
-    ap (λ f. tested_steps f p ts ms) h.by_file ∙ ap (λ q. tested_steps (suite_files s) q ts ms) h.by_name ∙ ap (λ l. tested_steps (suite_files s) (program s) l ms) h.of_tests
-    ∙ ap (λ l. tested_steps (suite_files s) (program s) (tests_of s) l) h.of_mutants
-    ∙ ap (λ x. if_so x (tested_steps (suite_files s) (program s) (tests_of s) (mutants_of s))) (sym h.asked)
+    ap (λ f. tested_steps f p ts ms) h.by_file ∙ ap (λ q. tested_steps (suite_files s) q ts ms) h.by_name ∙ ap (λ l. tested_steps (suite_files s) (program s) ts l) h.of_mutants
+    ∙ sym (by_found s (Ok ts) h.asked h.of_tests).1

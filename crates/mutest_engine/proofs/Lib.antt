@@ -1,6 +1,5 @@
 mod AcceptedLaws
 mod AsmLaws
-mod ClassLaws
 mod CountLaws
 mod DuplicateLaws
 mod Ends
@@ -16,3 +15,4 @@ mod RefusalLaws
 mod StepLaws
 mod SuiteLaws
 mod SuperLaws
+mod TestLaws

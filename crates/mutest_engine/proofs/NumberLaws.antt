@@ -11,7 +11,7 @@ use Rattle.class_link.specs.Info.{Info, file_in}
 use Rattle.class_table.specs.Table.{bodies_of}
 use Rattle.mutator_ops.specs.Programs.{file_at, files_among, mutants_among, mutants}
 use Rattle.mutest_engine.specs.Originals.{classes_in}
-use Rattle.mutest_engine.specs.Mutation.{numbers_from, numbers_of, AreNumbered}
+use Rattle.mutest_engine.specs.Numbers.{numbers_from, numbers_of, AreNumbered}
 use Rattle.mutest_engine.proofs.FileLaws.{file_by}
 
 -- ---- numbers
@@ -25,11 +25,10 @@ one_behind [] id = refl
 one_behind (x ∷ xs) id = ap (λ l. x.0 ∷ l) (one_behind xs id)
 
 -- one more number was put
-pub pushed : (old new : List ClassId) (id : ClassId) (n : ℕ) → new ≡ old ++ id ∷ [] → id.0 ≡ n → numbers_of old ≡ numbers_from 0 n → numbers_of new ≡ numbers_from 0 (n + 1)
-pushed old new id n e at h =
+pub pushed : (old new : List ClassId) (id : ClassId) (first n : ℕ) → new ≡ old ++ id ∷ [] → id.0 ≡ first + n → numbers_of old ≡ numbers_from first n → numbers_of new ≡ numbers_from first (n + 1)
+pushed old new id first n e at h =
     let up : n + 1 ≡ suc n = omega arith in
-    let here : 0 + n ≡ n = omega arith in
-    ap numbers_of e ∙ one_behind old id ∙ ap (λ l. l ++ id.0 ∷ []) h ∙ ap (λ j. numbers_from 0 n ++ j ∷ []) (at ∙ sym here) ∙ sym (one_more 0 n) ∙ sym (ap (numbers_from 0) up)
+    ap numbers_of e ∙ one_behind old id ∙ ap (λ l. l ++ id.0 ∷ []) h ∙ ap (λ j. numbers_from first n ++ j ∷ []) at ∙ sym (one_more first n) ∙ sym (ap (numbers_from first) up)
 
 -- ---- a program's class files
 

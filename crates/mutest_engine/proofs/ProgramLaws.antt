@@ -1,6 +1,8 @@
 -- A program that was built is the program of its classes by name.
 use Rattle.std.proofs.Common.{◌≡◌, ◌∙◌, refl, ap, ℕ, suc, ◌+◌, Bool, true, false, List, [], ◌∷◌, ◌++◌, map, Option, Some, None, slice_get, arith}
-use Rattle.std.specs.Prelude.{if◌then◌else◌, option_and_then}
+use Rattle.std.specs.Prelude.{All, if◌then◌else◌, option_and_then}
+use Rattle.std.specs.List.{AllByRecursion}
+use Rattle.std.proofs.lemmas.List.Elements.{recursion_from_All}
 use Rattle.std.specs.Option.{option_map}
 use Rattle.program_rules.specs.Names.{Name, same}
 use Rattle.program_rules.specs.Linked.{Linked}
@@ -10,10 +12,10 @@ use Rattle.class_link.specs.declared.loaded.Loaded.{Loaded}
 use Rattle.class_link.specs.declared.loaded.LibClass.{LibClass}
 use Rattle.class_link.specs.declared.loaded.ClassBody.{ClassBody}
 use Rattle.class_link.specs.declared.loaded.ClassBody.TheVariants as body
-use Rattle.class_link.specs.Info.{Info, body_name, link_body, own_name}
+use Rattle.class_link.specs.Info.{Info, IsInfo, body_name, link_body, own_name}
 use Rattle.class_link.specs.Linking.{link_library}
 use Rattle.class_table.specs.Faults.{look_of}
-use Rattle.class_table.specs.Table.{place_from, place_in, look, bodies_of, names_of}
+use Rattle.class_table.specs.Table.{place_from, place_in, look, bodies_of, names, names_of}
 use Rattle.mutest_engine.specs.Originals.{classes_in, named, program_of, names_in}
 
 -- ---- by name
@@ -85,3 +87,11 @@ names_with (c ∷ classes) library = ap (λ z. own_name c.class ∷ z) (names_wi
 
 pub names_are : (classes : List Loaded) (library : List LibClass) → map (λ c. (c.name, link_library c)) library ≡ library_so_far → names_of classes library ≡ names_in (classes_in classes)
 names_are classes library lib = names_with classes library ∙ ap (λ z. map own_name (classes_in classes) ++ map (λ (c : Name × Linked). c.0) z) lib
+
+named_by : (p : List Info) → AllByRecursion IsInfo p → names p ≡ map body_name (map (λ i. i.body) p)
+named_by [] h = refl
+named_by (x ∷ p) h = let first = h.0.name in let rest = named_by p h.1 in (λ i. first i ∷ rest i)
+
+-- A program that was built has the names of its classes and of the library's, by number.
+pub all_named : (p : List Info) (classes : List Loaded) (library : List LibClass) → All IsInfo p → map (λ i. i.body) p ≡ bodies_of classes library → map (λ c. (c.name, link_library c)) library ≡ library_so_far → names p ≡ names_in (classes_in classes)
+all_named p classes library ok made lib = named_by p (recursion_from_All IsInfo p ok) ∙ ap (map body_name) made ∙ names_are classes library lib

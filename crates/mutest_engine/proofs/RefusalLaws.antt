@@ -1,6 +1,7 @@
 -- How a suite is refused once it is loaded.
 use Rattle.std.proofs.Common.{◌≡◌, ℕ, Bool, true, false, List, [], ◌∷◌, length, Option, None, Some, Result, Ok, Err, refl, subst}
-use Rattle.std.specs.Prelude.{nat_lt, if◌then◌else◌}
+use Rattle.std.specs.Prelude.{IfSome, map, nat_lt, if◌then◌else◌}
+use Rattle.std.specs.List.{flat_map}
 use Rattle.machine_rules.specs.declared.machine.Outcome.{Outcome}
 use Rattle.machine_rules.specs.declared.machine.Outcome.TheVariants as outcome
 use Rattle.machine_rules.specs.Runs.{Ending, With, StuckAt}
@@ -9,20 +10,30 @@ use Rattle.program_rules.specs.Programs.{Look}
 use Rattle.class_table.specs.declared.scripted.Test.{Test}
 use Rattle.mutator_ops.specs.declared.mutant.Mutant.{Mutant}
 use Rattle.mutant_runs.specs.Programs.{ClassFiles}
-use Rattle.mutest_engine.specs.Refusals.{IsOfSuite, IsBeforeRuns}
+use Rattle.mutest_engine.specs.Refusals.{IsOfSuite, IsBeforeRuns, IsTestFault}
 use Rattle.mutest_engine.specs.Steps.{and_then}
 use Rattle.mutest_engine.specs.Duplicates.{duplicate_in}
 use Rattle.mutest_engine.specs.Supers.{is_own_super, least_with, unless_found}
-use Rattle.mutest_engine.specs.Originals.{test_text, all_classes, classes_in, names_in, program_of, accepted, tests_of, few_tests, settled, run_ending, run_settled, all_settled, all_passed, green}
-use Rattle.mutest_engine.specs.Mutation.{few_mutants, few, tested, judged, linked, suite_files, program, mutants_of}
+use Rattle.mutest_engine.specs.Originals.{test_text, all_classes, classes_in, class_file, names_in, program_of, accepted, settled, run_ending, run_settled, all_settled, all_passed, green}
+use Rattle.mutest_engine.specs.Discovered.{or_bad_test, few_of, few_tests, few_found, tests_named, tests_of}
+use Rattle.mutest_engine.specs.Mutation.{few_mutants, tested, judged, linked, suite_files, program, mutants_of}
 use Rattle.class_model.specs.declared.class.Class.{Class}
+use Rattle.class_link.specs.Info.{own_name}
+use Rattle.test_discovery.specs.declared.fault.Rule.{Rule}
+use Rattle.test_discovery.specs.declared.fault.TestFault.{TestFault}
+use Rattle.test_discovery.specs.declared.fault.TestFault.TheVariants.{RunnerUsed}
+use Rattle.test_discovery.specs.declared.listed.Listed.{Listed}
+use Rattle.test_discovery.specs.Listed.{Files, listed_of, downwards}
+use Rattle.test_discovery.specs.Rules.{rules, first_broken, makes_instances, uses_runner, is_test_class, told, method_fault, or_else, first_fault, methods_fault, listed_fault, class_fault}
+use Rattle.test_discovery.specs.Scripts.{tests_of as tests_in_class}
+use Rattle.test_discovery.specs.Discovery.{in_order, risings, unless_refused, tests_among}
 use Rattle.class_order.specs.Supers.{is_super_missing, is_super_of_wrong_kind}
 use Rattle.mutest_engine.specs.declared.refusal.ProgramFault.{ProgramFault}
 use Rattle.mutest_engine.specs.declared.refusal.Limit.{Limit}
 use Rattle.mutest_engine.specs.declared.refusal.Limit.TheVariants as limit
 use Rattle.mutest_engine.specs.declared.refusal.ProgramFault.TheVariants.{Duplicate, SuperMissing, SuperCycle, SuperKind}
 use Rattle.mutest_engine.specs.declared.refusal.Refusal.{Refusal}
-use Rattle.mutest_engine.specs.declared.refusal.Refusal.TheVariants.{BadProgram, NotGreen, TooMany, MachineCheck}
+use Rattle.mutest_engine.specs.declared.refusal.Refusal.TheVariants.{BadProgram, BadTest, NotGreen, TooMany, MachineCheck}
 use Rattle.mutest_engine.specs.declared.suite.LoadedSuite.{LoadedSuite}
 
 -- one of two steps refuses
@@ -65,15 +76,51 @@ over : {X : Type 0} (b : Bool) (what : Limit) (n : ℕ) (x : X) (r : Refusal) �
 over true what n x r is h = let e : TooMany what n ≡ r = cc in subst IsOfSuite e is
 over false what n x r is h = absurd cc
 
-of_few : (ts : List Test) (ms : List Mutant) (r : Refusal) → few ts ms ≡ Err r → IsOfSuite r
-of_few ts ms r h =
-    and_err (few_tests (length ts)) (λ ok. few_mutants (length ms)) r IsOfSuite (over (nat_lt 65535 (length ts)) limit.Tests 65536 tt r refl)
-    (λ ok. over (nat_lt 262144 (length ms)) limit.Mutants 262145 tt r refl) h
+-- A fault that the search tells is none of memory.
+abbrev IsTold : Option TestFault → Type 0
+IsTold fault = IfSome fault IsTestFault
+
+method_told : (class : Name) (l : Listed) (o : Option Rule) → IsTold (told class l o)
+method_told class l None = tt
+method_told class l (Some rule) = tt
+
+or_told : (o rest : Option TestFault) → IsTold o → IsTold rest → IsTold (or_else o rest)
+or_told None rest one other = other
+or_told (Some f) rest one other = one
+
+first_told : {X : Type 0} (f : X → Option TestFault) (xs : List X) → ((x : X) → IsTold (f x)) → IsTold (first_fault f xs)
+first_told f [] h = tt
+first_told f (x ∷ xs) h = or_told (f x) (first_fault f xs) (h x) (first_told f xs h)
+
+if_told : (b : Bool) (one other : Option TestFault) → IsTold one → IsTold other → IsTold (if b then one else other)
+if_told true one other p q = p
+if_told false one other p q = q
+
+class_told : (classes : List Class) → IsTold (class_fault classes)
+class_told [] = tt
+class_told (c ∷ above) =
+    let ls = downwards (listed_of (c ∷ above)) in
+    if_told (uses_runner c) (Some (RunnerUsed (own_name c))) (listed_fault c ls) tt
+    (if_told (is_test_class c ls) (methods_fault c ls) None
+    (first_told (method_fault (own_name c) (makes_instances c)) ls (λ l. method_told (own_name c) l (first_broken (makes_instances c) rules l))) tt)
+
+of_fault : (o : Option TestFault) (ts : List Test) (r : Refusal) → IsTold o → or_bad_test (unless_refused o ts) ≡ Err r → IsOfSuite r
+of_fault None ts r told h = no_ok ts r (IsOfSuite r) h
+of_fault (Some f) ts r told h = let e : BadTest f ≡ r = cc in subst IsOfSuite e told
+
+of_found_tests : (found : List (List Class)) (r : Refusal) → few_found (tests_among found) ≡ Err r → IsOfSuite r
+of_found_tests found r h =
+    and_err (or_bad_test (tests_among found)) few_of r IsOfSuite (of_fault (first_fault class_fault found) (flat_map tests_in_class found) r (first_told class_fault found class_told))
+    (λ ts. and_err (few_tests (length ts)) _ r IsOfSuite (over (nat_lt 65535 (length ts)) limit.Tests 65536 tt r refl) (λ ok none. no_ok _ r (IsOfSuite r) none)) h
+
+of_tests : (most : ℕ) (files : Files) (ns : List Name) (r : Refusal) → tests_named most files ns ≡ Err r → IsOfSuite r
+unfolding tests_named
+of_tests most files ns r h = of_found_tests (risings most files (in_order ns)) r h
 
 of_tested : (files : ClassFiles) (p : Look) (ts : List Test) (ms : List Mutant) (r : Refusal) → tested files p ts ms ≡ Err r → IsOfSuite r
 unfolding tested
 of_tested files p ts ms r h =
-    and_err (few ts ms) _ r IsOfSuite (of_few ts ms r)
+    and_err (few_mutants (length ms)) _ r IsOfSuite (over (nat_lt 262144 (length ms)) limit.Mutants 262145 tt r refl)
     (λ ok rest. and_err (green p ts) _ r IsOfSuite (λ is. (of_green p ts r is).0) (λ ok none. no_ok _ r (IsOfSuite r) none) rest) h
 
 of_found : (fault : Name → ProgramFault) (o : Option Name) (r : Refusal) → unless_found fault o ≡ Err r → IsOfSuite r
@@ -92,4 +139,5 @@ of_accepted classes r h =
 pub of_judged : (s : LoadedSuite) (r : Refusal) → judged s ≡ Err r → IsOfSuite r
 of_judged s r h =
     and_err (linked s) _ r IsOfSuite (of_accepted (classes_in (all_classes s)) r)
-    (λ ok. of_tested (suite_files s) (program s) (tests_of s) (mutants_of s) r) h
+    (λ ok. and_err (tests_of s) _ r IsOfSuite (of_tests (length (names_in (classes_in (all_classes s)))) (class_file (classes_in (all_classes s))) (map own_name (classes_in s.tests)) r)
+    (λ ts. of_tested (suite_files s) (program s) ts (mutants_of s) r)) h

@@ -7,6 +7,8 @@ pub mod SuiteFiles
 pub mod Supers
 pub mod Duplicates
 pub mod Originals
+pub mod Numbers
+pub mod Discovered
 pub mod Mutation
 pub mod Decided
 pub mod Ends

@@ -1,10 +1,8 @@
 -- The mutants of a suite, every test on every mutant, and what is written of them (this project's own).
-use Rattle.std.specs.Prelude.{◌≡◌, ℕ, zero, suc, ◌+◌, ◌<◌, ◌≤◌, nat_lt, slice_get, option_and_then, List, [], ◌∷◌, map, length, Some, None, Result, Ok, Err, if◌then◌else◌}
-use Rattle.class_model.specs.declared.class.Class.{Class}
+use Rattle.std.specs.Prelude.{◌≡◌, ℕ, ◌+◌, ◌≤◌, nat_lt, List, [], map, length, Result, Ok, Err, if◌then◌else◌}
 use Rattle.class_model.specs.declared.class.ClassId.{ClassId}
-use Rattle.program_rules.specs.Names.{same}
 use Rattle.program_rules.specs.Programs.{Look}
-use Rattle.class_link.specs.Info.{Info, own_name, file_in}
+use Rattle.class_link.specs.Info.{Info}
 use Rattle.class_table.specs.Table.{look}
 use Rattle.class_table.specs.declared.scripted.Test.{Test}
 use Rattle.mutator_ops.specs.Programs.{mutants_among, mutants}
@@ -17,7 +15,9 @@ use Rattle.report_schema.specs.FileKey.{file_key}
 use Rattle.report_schema.specs.declared.input.ReportInput.{ReportInput}
 use Rattle.mutest_engine.specs.Refusals.{IsBeforeRuns}
 use Rattle.mutest_engine.specs.Steps.{and_then, Counts}
-use Rattle.mutest_engine.specs.Originals.{all_classes, classes_in, program_of, accepted, tests_of, few_tests, usual, green, original_steps, steps_made}
+use Rattle.mutest_engine.specs.Numbers.{numbers_from, numbers_of}
+use Rattle.mutest_engine.specs.Originals.{all_classes, classes_in, class_file, program_of, accepted, usual, green, original_steps, steps_made}
+use Rattle.mutest_engine.specs.Discovered.{tests_of}
 use Rattle.mutest_engine.specs.declared.suite.LoadedSuite.{LoadedSuite}
 use Rattle.mutest_engine.specs.declared.refusal.Refusal.{Refusal}
 use Rattle.mutest_engine.specs.declared.stop.Stop.{Stop}
@@ -25,19 +25,6 @@ use Rattle.mutest_engine.specs.declared.refusal.Refusal.TheVariants.{TooMany}
 use Rattle.mutest_engine.specs.declared.refusal.Limit.TheVariants as limit
 
 -- ---- the mutants
-
--- The numbers of so many classes, from this one on.
-abbrev pub numbers_from : ℕ → ℕ → List ℕ
-numbers_from k zero = []
-numbers_from k (suc n) = k ∷ numbers_from (suc k) n
-
-abbrev pub numbers_of : List ClassId → List ℕ
-numbers_of ids = map (λ id. id.0) ids
-
--- The class files of a program have the first numbers, in order.
-abbrev pub AreNumbered : List Info → List Class → Type 0
-AreNumbered p classes =
-    (k : ℕ) → k < length classes → option_and_then file_in (slice_get p k) ≡ slice_get classes k
 
 -- The mutants of so many class files of a program, from the first on.
 abbrev pub AreFirstMutants : List Info → ℕ → List Mutant → Type 0
@@ -59,11 +46,7 @@ HasTooMany p count r =
 
 -- ---- every test on every mutant
 
--- The class file of each name: the first of these classes that has it.
-abbrev pub class_file : List Class → ClassFiles
-class_file [] n = None
-class_file (c ∷ cs) n = if same (own_name c) n then Some c else class_file cs n
-
+-- The class file of each name of a suite.
 abbrev pub suite_files : LoadedSuite → ClassFiles
 suite_files s = class_file (classes_in (all_classes s))
 
@@ -93,9 +76,6 @@ all_steps files p ts ms =
 
 -- ---- the tests and mutants of a program
 
-abbrev pub few : List Test → List Mutant → Result (Unit {0}) Refusal
-few ts ms = and_then (few_tests (length ts)) (λ ok. few_mutants (length ms))
-
 -- What the report is made of. Each mutant has a key, by its class; no test has one, and no source is read yet.
 abbrev pub input_of : List Test → List Mutant → List Verdict → ReportInput
 input_of ts ms verdicts = record {
@@ -107,15 +87,15 @@ input_of ts ms verdicts = record {
   sources = [];
 }
 
--- What is reported, unless there are too many tests or mutants, or a test doesn't pass on the program as it is.
+-- What is reported, unless there are too many mutants, or a test doesn't pass on the program as it is.
 unfoldable pub tested : ClassFiles → Look → List Test → List Mutant → Result ReportInput Refusal
 tested files p ts ms =
-    and_then (few ts ms) (λ ok.
+    and_then (few_mutants (length ms)) (λ ok.
     and_then (green p ts) (λ ok. Ok (input_of ts ms (verdicts_by files p ts ms))))
 
 -- The steps of all runs that are made.
 unfoldable pub tested_steps : ClassFiles → Look → List Test → List Mutant → ℕ
-tested_steps files p ts ms = if_so (few ts ms) (all_steps files p ts ms)
+tested_steps files p ts ms = if_so (few_mutants (length ms)) (all_steps files p ts ms)
 
 -- ---- a suite
 
@@ -123,15 +103,22 @@ tested_steps files p ts ms = if_so (few ts ms) (all_steps files p ts ms)
 abbrev pub linked : LoadedSuite → Result (Unit {0}) Refusal
 linked s = accepted (classes_in (all_classes s))
 
--- What is reported of a suite.
+-- What is reported of a suite. Its tests are looked for once its classes are a program.
 abbrev pub judged : LoadedSuite → Result ReportInput Refusal
 judged s =
-    and_then (linked s) (λ ok. tested (suite_files s) (program s) (tests_of s) (mutants_of s))
+    and_then (linked s) (λ ok.
+    and_then (tests_of s) (λ ts. tested (suite_files s) (program s) ts (mutants_of s)))
+
+-- the steps of tests that are found
+abbrev pub if_found : Result (List Test) Refusal → (List Test → ℕ) → ℕ
+if_found (Ok ts) steps = steps ts
+if_found (Err refusal) steps = 0
 
 -- The steps of all runs that are made for a suite.
 abbrev pub suite_steps : LoadedSuite → ℕ
 suite_steps s =
-    if_so (linked s) (tested_steps (suite_files s) (program s) (tests_of s) (mutants_of s))
+    if_so (linked s)
+    (if_found (tests_of s) (λ ts. tested_steps (suite_files s) (program s) ts (mutants_of s)))
 
 -- ---- of a program by its classes' numbers
 

@@ -1,14 +1,10 @@
--- The program of a suite, its tests, and their runs on the program as it is (this project's own).
-use Rattle.std.specs.Prelude.{◌≡◌, ℕ, ◌+◌, nat_lt, MatchOption, List, [], ◌∷◌, ◌++◌, codes, map, length, Option, Some, None, Result, Ok, Err, if◌then◌else◌}
-use Rattle.std.specs.List.{flat_map}
-use Rattle.std.specs.Borrow.{Bor}
-use Rattle.name_order.specs.Ordered.{ordered, seen}
-use Rattle.class_model.specs.Text.{text}
+-- The program of a suite, and the runs of tests on the program as it is (this project's own).
+use Rattle.std.specs.Prelude.{◌≡◌, ℕ, ◌+◌, MatchOption, List, [], ◌∷◌, ◌++◌, codes, map, Option, Some, None, Result, Ok, Err, if◌then◌else◌}
 use Rattle.class_model.specs.declared.class.Class.{Class}
 use Rattle.machine_rules.specs.declared.machine.Limits.{Limits}
 use Rattle.machine_rules.specs.declared.machine.Outcome.{Outcome}
 use Rattle.machine_rules.specs.declared.machine.Outcome.TheVariants as outcome
-use Rattle.program_rules.specs.Names.{Name}
+use Rattle.program_rules.specs.Names.{Name, same}
 use Rattle.program_rules.specs.Linked.{Linked}
 use Rattle.program_rules.specs.Programs.{Look}
 use Rattle.program_rules.specs.Library.{class_among, first_of}
@@ -20,8 +16,8 @@ use Rattle.class_table.specs.declared.scripted.Test.{Test}
 use Rattle.class_link.specs.Info.{own_name}
 use Rattle.class_link.specs.Linking.{link}
 use Rattle.jvm_step.specs.View.{test_of}
-use Rattle.test_discovery.specs.Tests.{class_tests}
 use Rattle.mutator_ops.specs.Printing.{printed}
+use Rattle.mutant_runs.specs.Programs.{ClassFiles}
 use Rattle.mutest_engine.specs.Steps.{and_then}
 use Rattle.mutest_engine.specs.Duplicates.{duplicate_in}
 use Rattle.mutest_engine.specs.Supers.{unless_found, right_supers}
@@ -33,8 +29,7 @@ use Rattle.mutest_engine.specs.declared.refusal.ProgramFault.TheVariants.{Duplic
 use Rattle.mutest_engine.specs.declared.stop.Stop.{Stop}
 use Rattle.mutest_engine.specs.declared.stop.Stop.TheVariants as stop
 use Rattle.mutest_engine.specs.declared.refusal.Refusal.{Refusal}
-use Rattle.mutest_engine.specs.declared.refusal.Refusal.TheVariants.{BadProgram, NotGreen, TooMany, MachineCheck}
-use Rattle.mutest_engine.specs.declared.refusal.Limit.TheVariants as limit
+use Rattle.mutest_engine.specs.declared.refusal.Refusal.TheVariants.{BadProgram, NotGreen, MachineCheck}
 
 -- ---- the program
 
@@ -52,6 +47,11 @@ named c = (own_name c, link c)
 unfoldable pub program_of : List Class → Look
 program_of classes n =
     first_of (class_among (map named classes) n) (class_among library_so_far n)
+
+-- The class file of each name: the first of these classes that has it.
+abbrev pub class_file : List Class → ClassFiles
+class_file [] n = None
+class_file (c ∷ cs) n = if same (own_name c) n then Some c else class_file cs n
 
 -- The names of the classes and of the library's.
 abbrev pub names_in : List Class → List Name
@@ -74,44 +74,6 @@ fault_of fault.Memory = None
 abbrev pub IsStopOf : TableFault → Stop → Type 0
 IsStopOf table s =
     MatchOption (fault_of table) (s ≡ stop.WantOfMemory) (λ f. s ≡ stop.Refused (BadProgram f))
-
--- ---- the tests
-
--- A class by its name in modified UTF-8.
-abbrev pub class_by_name : Class → List ℕ × Class
-class_by_name c = (text (own_name c), c)
-
--- The classes by their names, in the order of the names; of two of one name the later one.
-abbrev pub kept_classes : List Class → List (List ℕ × Class)
-kept_classes classes = ordered (map class_by_name classes)
-
--- The tests of these classes, in the order of the classes' names.
-abbrev pub tests_among : List Class → List Test
-tests_among classes = flat_map class_tests (map (λ e. e.1) (kept_classes classes))
-
--- The tests of a suite are those of its tests folder.
-abbrev pub tests_of : LoadedSuite → List Test
-tests_of s = tests_among (classes_in s.tests)
-
--- So many tests are at most 65,535.
-abbrev pub few_tests : ℕ → Result (Unit {0}) Refusal
-few_tests count = if nat_lt 65535 count then Err (TooMany limit.Tests 65536) else Ok tt
-
-abbrev pub few_of : List Test → Result (List Test) Refusal
-few_of ts = and_then (few_tests (length ts)) (λ few. Ok ts)
-
--- what the code has: classes that are referred to, and these by their names
-abbrev pub referred : List (Bor Class) → List Class
-referred classes = map (λ c. c.now) classes
-
-abbrev pub entries_in : List (List ℕ × Bor Class) → List (List ℕ × Class)
-entries_in entries = map (seen (λ c. c.now)) entries
-
-abbrev pub values_in : List (List ℕ × Bor Class) → List Class
-values_in entries = map (λ e. e.1) (entries_in entries)
-
-abbrev pub kept_among : List Loaded → List (List ℕ × Class)
-kept_among classes = kept_classes (classes_in classes)
 
 -- ---- the original runs
 

@@ -1,11 +1,16 @@
 -- What is told of each refusal, its number and its line, and which command it may refuse (this project's own).
 use Rattle.std.specs.Prelude.{◌≡◌, ℕ, ◌<◌, List, [], ◌++◌, codes, decimal, Err}
+use Rattle.program_rules.specs.Names.{Name}
 use Rattle.mutator_ops.specs.Printing.{printed}
 use Rattle.class_model.specs.Fault.{number_of}
 use Rattle.class_model.specs.declared.fault.ClassFault.{ClassFault}
 use Rattle.class_model.specs.declared.fault.ClassFault.TheVariants as class_fault
 use Rattle.class_asm.specs.Assembled.{AssembledClass}
 use Rattle.asm_text.specs.declared.fault.AsmFault.TheVariants as asm_fault
+use Rattle.test_discovery.specs.declared.fault.Rule.{Rule}
+use Rattle.test_discovery.specs.declared.fault.Rule.TheVariants as rule
+use Rattle.test_discovery.specs.declared.fault.TestFault.{TestFault}
+use Rattle.test_discovery.specs.declared.fault.TestFault.TheVariants as test_fault
 use Rattle.mutest_engine.specs.Lines.{named_line, count_text, fault_text, place_text, not_green_lines}
 use Rattle.mutest_words.specs.Words.{Command, list_class, run_suite, assemble_class}
 use Rattle.mutest_engine.specs.declared.refusal.Limit.{Limit}
@@ -13,7 +18,7 @@ use Rattle.mutest_engine.specs.declared.refusal.Limit.TheVariants as limit
 use Rattle.mutest_engine.specs.declared.refusal.ProgramFault.{ProgramFault}
 use Rattle.mutest_engine.specs.declared.refusal.ProgramFault.TheVariants.{Duplicate, SuperMissing, SuperCycle, SuperKind}
 use Rattle.mutest_engine.specs.declared.refusal.Refusal.{Refusal}
-use Rattle.mutest_engine.specs.declared.refusal.Refusal.TheVariants.{Usage, NotFound, Archive, BadClass, BadProgram, NotGreen, TooMany, MachineCheck, AsmRefused}
+use Rattle.mutest_engine.specs.declared.refusal.Refusal.TheVariants.{Usage, NotFound, Archive, BadClass, BadProgram, BadTest, NotGreen, TooMany, MachineCheck, AsmRefused}
 
 -- ---- the exit status
 
@@ -23,6 +28,7 @@ refusal_number (NotFound path) = 3
 refusal_number (Archive path) = 4
 refusal_number (BadClass path fault) = 5
 refusal_number (BadProgram fault) = 6
+refusal_number (BadTest fault) = 7
 refusal_number (NotGreen tests) = 8
 refusal_number (TooMany what number) = 12
 refusal_number (MachineCheck test class method at) = 13
@@ -44,6 +50,25 @@ program_text (SuperMissing name) = codes " 14 " ++ printed name
 program_text (SuperCycle name) = codes " 15 " ++ printed name
 program_text (SuperKind name) = codes " 16 " ++ printed name
 
+abbrev pub rule_name : Rule → List ℕ
+rule_name rule.B1 = codes "B1"
+rule_name rule.B2 = codes "B2"
+rule_name rule.B3 = codes "B3"
+rule_name rule.B4 = codes "B4"
+rule_name rule.B5 = codes "B5"
+
+-- a test class, a method that is looked at for it, and the rule that the method breaks
+abbrev pub method_text : Name → Name → Rule → List ℕ
+method_text class method rule =
+    printed class ++ codes " " ++ printed method ++ codes " " ++ rule_name rule
+
+-- the line of a fault of the tests; want of memory is none
+abbrev pub test_line : TestFault → List ℕ
+test_line (test_fault.BadTest class method rule) =
+    named_line (codes "mutest: BadTest ") (method_text class method rule)
+test_line (test_fault.RunnerUsed class) = named_line (codes "mutest: RunnerUsed ") (printed class)
+test_line test_fault.Memory = []
+
 abbrev pub refusal_line : Refusal → List ℕ
 refusal_line Usage = named_line (codes "mutest: Usage") []
 refusal_line (NotFound path) = named_line (codes "mutest: NotFound ") path
@@ -51,6 +76,7 @@ refusal_line (Archive path) = named_line (codes "mutest: Archive ") path
 refusal_line (BadClass path fault) =
     named_line (codes "mutest: BadClass ") (path ++ fault_text fault (number_of fault))
 refusal_line (BadProgram fault) = named_line (codes "mutest: BadProgram") (program_text fault)
+refusal_line (BadTest fault) = test_line fault
 refusal_line (NotGreen tests) = not_green_lines tests
 refusal_line (TooMany what number) =
     named_line (codes "mutest: TooMany ") (count_text (limit_name what) number)
@@ -64,6 +90,11 @@ refusal_line (AsmRefused line) = named_line (codes "mutest: AsmRefused ") (decim
 abbrev pub IsClassFault : ClassFault → Type 0
 IsClassFault class_fault.Memory = ⊥
 IsClassFault fault = Unit {0}
+
+-- a fault of the tests; want of memory is none
+abbrev pub IsTestFault : TestFault → Type 0
+IsTestFault test_fault.Memory = ⊥
+IsTestFault fault = Unit {0}
 
 -- a count that passes its limit: the first that does, or for bytes the whole
 abbrev pub IsPassed : Limit → ℕ → Type 0
@@ -93,6 +124,7 @@ IsOfSuite (NotFound path) = Unit {0}
 IsOfSuite (Archive path) = ⊥
 IsOfSuite (BadClass path fault) = IsClassFault fault
 IsOfSuite (BadProgram fault) = Unit {0}
+IsOfSuite (BadTest fault) = IsTestFault fault
 IsOfSuite (NotGreen tests) = Unit {0}
 IsOfSuite (TooMany what number) = IsPassed what number
 IsOfSuite (MachineCheck test class method at) = Unit {0}

@@ -7,7 +7,7 @@ ghost use Rattle.mutest_engine.specs.Steps.{Gives, Refuses, Counts};
 ghost use Rattle.mutest_engine.specs.SuiteFiles.{IsFormed};
 ghost use Rattle.mutest_engine.specs.Mutation.{verdicts_in, steps_on_all, input_of, tested_in, tested_steps_in, judged, suite_steps, Stays, Meters, MetersRuns};
 
-use crate::discovered::tests_of;
+use crate::discovered::tests_from;
 use crate::mutants::first_mutants;
 use crate::originals::{USUAL, green};
 use crate::program::program_of;
@@ -145,11 +145,11 @@ pub fn judge(alloc: Global, suite: LoadedSuite, meter: &mut Meter) -> Result<Rep
     ensures meter { Meters meter.old meter.new (suite_steps suite) result }
     ensures stays { IfErr result (Refuses (Stays meter.old meter.new)) }
 {
-    let found = tests_of(alloc, suite.tests.as_slice())?;
     let own = suite.classes.len();
+    let of_tests = suite.tests.len();
     let classes = all_classes(suite.classes, suite.tests)?;
     let mut program = program_of(alloc, classes)?;
-    let tests = found?;
+    let tests = tests_from(alloc, &program, own, of_tests)?;
     let mutants = first_mutants(alloc, &program, own)?;
     mutants_fit();
     test_mutants(alloc, &mut program, tests, mutants, meter)

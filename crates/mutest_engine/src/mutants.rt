@@ -2,28 +2,18 @@
 //! are counted before one is made.
 
 ghost use Rattle.std.specs.Prelude.{◌≡◌, ◌≤◌, length, Ok, IfOk, IfErr};
-ghost use Rattle.mutest_engine.specs.Mutation.{numbers_from, numbers_of, AreFirstMutants, few_mutants, HasTooMany};
+ghost use Rattle.mutest_engine.specs.Mutation.{AreFirstMutants, few_mutants, HasTooMany};
 ghost use Rattle.mutest_engine.specs.Steps.{Refuses};
 
+use crate::numbers::numbers_from;
 use crate::refusal::{Limit, Refusal};
 use crate::stop::Stop;
-use class_model::{ClassId, Memory, Seq};
+use class_model::Seq;
 use class_table::Program;
 use mutator_ops::{Mutant, count_all, mutants};
 use std::alloc::Global;
 
 const MUTANTS_LIMIT: u64 = 262_144;
-
-// So many numbers of classes, from the first on.
-fn first_numbers(alloc: Global, count: u32) -> Result<Seq<ClassId>, Memory>
-    ensures { IfOk result (λ ids. numbers_of ids ≡ numbers_from 0 count) }
-{
-    let mut ids = Seq::new(alloc);
-    for number in 0..count {
-        ids.push(ClassId(number))?;
-    }
-    Ok(ids)
-}
 
 // So many mutants are few enough.
 fn few_mutants(count: u64) -> Result<(), Refusal>
@@ -48,7 +38,7 @@ pub fn first_mutants(alloc: Global, program: &Program, count: usize) -> Result<S
     ensures many { IfErr result (Refuses (HasTooMany program.now count)) }
 {
     let _all = program.len();
-    let ids = first_numbers(alloc, count as u32)?;
+    let ids = numbers_from(alloc, 0, count as u32)?;
     let number = count_all(alloc, program, &ids)?;
     few_mutants(number)?;
     Ok(mutants(alloc, program, &ids)?)

@@ -1,10 +1,11 @@
 //! The program of a suite.
 
 ghost use Rattle.std.specs.Prelude.{◌≡◌, ◌≤◌, length, Ok, Err, IfOk, IfErr, OnOk};
-ghost use Rattle.class_table.specs.Table.{look};
+ghost use Rattle.class_table.specs.Table.{look, names};
 ghost use Rattle.mutest_engine.specs.Steps.{Refuses};
-ghost use Rattle.mutest_engine.specs.Mutation.{class_file, AreNumbered};
-ghost use Rattle.mutest_engine.specs.Originals.{classes_in, program_of, accepted, IsStopOf};
+ghost use Rattle.mutest_engine.specs.Numbers.{AreNumbered};
+ghost use Rattle.mutest_engine.specs.Originals.{classes_in, class_file, program_of, names_in};
+ghost use Rattle.mutest_engine.specs.Originals.{accepted, IsStopOf};
 ghost use Rattle.mutant_runs.specs.Programs.{files_of};
 ghost use Rattle.mutest_engine.specs.declared.refusal.Refusal.TheVariants.{BadProgram};
 ghost use Rattle.mutest_engine.specs.declared.stop.Stop.TheVariants.{Refused};
@@ -41,6 +42,7 @@ pub fn program_of(alloc: Global, classes: Seq<Loaded>) -> Result<Program, Stop>
     ensures refused { IfErr result (Refuses (λ r. accepted (classes_in classes) ≡ Err r)) }
     ensures program { IfOk result (λ p. look p ≡ program_of (classes_in classes)) }
     ensures files { IfOk result (λ p. files_of p ≡ class_file (classes_in classes)) }
+    ensures names { IfOk result (λ p. names p ≡ names_in (classes_in classes)) }
     ensures numbered { IfOk result (λ p. AreNumbered p (classes_in classes)) }
     ensures many { IfOk result (λ p. length classes ≤ length p) }
 {

@@ -3,7 +3,8 @@
 
 ghost use Rattle.std.specs.Prelude.{◌≡◌, ◌++◌, OnOk};
 ghost use Rattle.mutator_ops.specs.Printing.{printed};
-ghost use Rattle.mutest_engine.specs.Refusals.{limit_name, program_text, refusal_number, refusal_line};
+ghost use Rattle.mutest_engine.specs.Refusals.{limit_name, program_text, rule_name, method_text};
+ghost use Rattle.mutest_engine.specs.Refusals.{test_line, refusal_number, refusal_line};
 
 use crate::line::{
     class_text, not_green_lines, place_text, put_count, put_name, put_named, put_number, put_str,
@@ -11,6 +12,7 @@ use crate::line::{
 use class_model::{Bytes, ClassFault, Memory, Name, Seq};
 use machine_rules::Outcome;
 use std::alloc::Global;
+use test_discovery::{Rule, TestFault};
 
 /// What a count has a limit for.
 #[derive(Clone, Copy)]
@@ -74,6 +76,10 @@ pub enum Refusal {
     BadProgram {
         fault: ProgramFault,
     },
+    /// A class of the tests folder is refused for its tests.
+    BadTest {
+        fault: TestFault,
+    },
     /// Original runs didn't pass: those of these tests.
     NotGreen {
         tests: Seq<(Bytes, Outcome)>,
@@ -116,6 +122,58 @@ fn put_program(alloc: Global, text: &mut Bytes, fault: &ProgramFault) -> Result<
     }
 }
 
+fn rule_name(rule: Rule) -> &'static str
+    ensures { result.now ≡ rule_name rule }
+{
+    match rule {
+        Rule::B1 => "B1",
+        Rule::B2 => "B2",
+        Rule::B3 => "B3",
+        Rule::B4 => "B4",
+        Rule::B5 => "B5",
+    }
+}
+
+// Puts a test class, a method that is looked at for it, and the rule that the method breaks.
+fn put_method(
+    alloc: Global,
+    text: &mut Bytes,
+    class: &Name,
+    method: &Name,
+    rule: Rule,
+) -> Result<(), Memory>
+    ensures { OnOk result (text.new ≡ text.old ++ method_text class.now method.now rule) }
+{
+    put_name(alloc, text, class)?;
+    put_str(text, " ")?;
+    put_name(alloc, text, method)?;
+    put_str(text, " ")?;
+    put_str(text, rule_name(rule))
+}
+
+// Puts the line of a fault of the tests.
+fn put_test_line(alloc: Global, line: &mut Bytes, fault: &TestFault) -> Result<(), Memory>
+    ensures { OnOk result (line.new ≡ line.old ++ test_line fault.now) }
+{
+    match fault {
+        TestFault::BadTest {
+            class,
+            method,
+            rule,
+        } => {
+            let mut text = Bytes::new(alloc);
+            put_method(alloc, &mut text, class, method, *rule)?;
+            put_named(line, "mutest: BadTest ", text.as_slice())
+        }
+        TestFault::RunnerUsed { class } => {
+            let mut text = Bytes::new(alloc);
+            put_name(alloc, &mut text, class)?;
+            put_named(line, "mutest: RunnerUsed ", text.as_slice())
+        }
+        TestFault::Memory => Ok(()),
+    }
+}
+
 impl Refusal {
     /// The exit status.
     pub fn code(&self) -> u8
@@ -127,6 +185,7 @@ impl Refusal {
             Refusal::Archive { .. } => 4,
             Refusal::BadClass { .. } => 5,
             Refusal::BadProgram { .. } => 6,
+            Refusal::BadTest { .. } => 7,
             Refusal::NotGreen { .. } => 8,
             Refusal::TooMany { .. } => 12,
             Refusal::MachineCheck { .. } => 13,
@@ -151,6 +210,7 @@ impl Refusal {
                 put_program(alloc, &mut text, fault)?;
                 put_named(line, "mutest: BadProgram", text.as_slice())
             }
+            Refusal::BadTest { fault } => put_test_line(alloc, line, fault),
             Refusal::NotGreen { tests } => {
                 let lines = not_green_lines(alloc, tests.as_slice())?;
                 line.extend_from_slice(lines.as_slice())

@@ -2,11 +2,13 @@
 
 ghost use Rattle.std.specs.Prelude.{◌≡◌};
 ghost use Rattle.mutest_engine.specs.Steps.{IsHaltOf};
+ghost use Rattle.mutest_engine.specs.Discovered.{IsStopOfTest};
 ghost use Rattle.mutest_engine.specs.declared.stop.Stop.TheVariants as stop;
 ghost use Rattle.mutest_engine.specs.declared.stop.Halt.TheVariants as halt;
 
 use crate::refusal::Refusal;
 use class_model::Memory;
+use test_discovery::TestFault;
 
 /// Of a step that reads nothing: it refuses, or memory runs out.
 #[derive(Drop)]
@@ -37,6 +39,30 @@ impl From<Refusal> for Stop {
 
     fn from(refusal: Refusal) -> Self {
         Stop::Refused(refusal)
+    }
+}
+
+impl From<TestFault> for Stop {
+    ghost from_gives = { λ f s. IsStopOfTest f s };
+
+    fn from(fault: TestFault) -> Self {
+        match fault {
+            TestFault::BadTest {
+                class,
+                method,
+                rule,
+            } => Stop::Refused(Refusal::BadTest {
+                fault: TestFault::BadTest {
+                    class,
+                    method,
+                    rule,
+                },
+            }),
+            TestFault::RunnerUsed { class } => Stop::Refused(Refusal::BadTest {
+                fault: TestFault::RunnerUsed { class },
+            }),
+            TestFault::Memory => Stop::WantOfMemory,
+        }
     }
 }
 

@@ -241,6 +241,34 @@ fn two_classes_of_one_name_are_no_program(rt: HostRuntime) -> Result<(), Fail> {
     Ok(())
 }
 
+// Bytes of T that are put there, and what is told of its tests.
+const TESTS: [(&'static [(usize, u8)], &'static str); 2] = [
+    // `neg` is static.
+    (&[(279, 9)], "mutest: BadTest T neg()V B2\n"),
+    // The annotation `Test` becomes `Rule`.
+    (
+        &[(217, b'R'), (218, b'u'), (219, b'l'), (220, b'e')],
+        "mutest: RunnerUsed T\n",
+    ),
+];
+
+#[test]
+fn what_is_wrong_with_a_test_is_told(rt: HostRuntime) -> Result<(), Fail> {
+    for (puts, text) in TESTS {
+        let mut test = T.to_vec(rt.alloc())?;
+        for (at, byte) in puts {
+            if test.len() > *at {
+                test[*at] = *byte;
+            }
+        }
+        let told = run_of(rt.alloc(), &A, test.as_slice(), &[])?;
+        assert_eq!(rt; told.0, 7);
+        assert_eq!(rt; told.1.as_slice(), text.as_bytes());
+        assert_eq!(rt; told.2, 0);
+    }
+    Ok(())
+}
+
 // A byte of A and one of T that are put there, and what is told of their supers.
 const SUPERS: [(usize, u8, usize, u8, &str); 3] = [
     // The superclass of A is java/lang/Objecs.

@@ -7,7 +7,7 @@ use Rattle.class_model.specs.declared.annotation.Note.{Note}
 use Rattle.class_model.specs.declared.attribute.Attr.{Attr}
 use Rattle.class_model.specs.declared.constant.Const.{Const}
 use Rattle.program_rules.specs.Names.{Name}
-use Rattle.test_discovery.specs.Tests.{names_text, notes_at}
+use Rattle.test_discovery.specs.Notes.{names_text, notes_at}
 use Rattle.test_discovery.specs.declared.marks.Marks.{Marks}
 use Rattle.test_discovery.specs.Expected.{first_expected}
 

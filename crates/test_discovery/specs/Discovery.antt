@@ -1,6 +1,7 @@
 -- The tests of the tests folder (this project's own, in the manner of JUnit).
 use Rattle.std.specs.Prelude.{◌≡◌, ◌≢◌, ℕ, List, [], ◌++◌, map, fold, length, slice_get, Option, Some, None, Result, Ok, Err, MatchResult}
 use Rattle.std.specs.List.{flat_map}
+use Rattle.std.specs.Io.Iter.{u64_saturate}
 use Rattle.std.specs.BTreeMap.{insert_entry}
 use Rattle.std.specs.Ordering.{nat_cmp}
 use Rattle.std.specs.Cmp.Lexicographic.{slice_cmp}
@@ -65,6 +66,17 @@ program_tests p from = Tests (length p) (files_of p) (names_of p from)
 abbrev pub Finds : Result (List Test) TestFault → Result (List Test) TestFault → Type 0
 Finds meant result =
     MatchResult result (λ tests. meant ≡ Ok tests) (λ fault. fault ≢ Memory → meant ≡ Err fault)
+
+-- How many tests are meant, or 2^64 - 1 where they are more.
+abbrev pub counted : Result (List Test) TestFault → Result ℕ TestFault
+counted (Ok tests) = Ok (u64_saturate (length tests))
+counted (Err fault) = Err fault
+
+-- A call told how many tests are meant, unless memory ran out.
+abbrev pub Counts : Result (List Test) TestFault → Result ℕ TestFault → Type 0
+Counts meant result =
+    MatchResult result (λ n. counted meant ≡ Ok n)
+    (λ fault. fault ≢ Memory → counted meant ≡ Err fault)
 
 -- A call added these tests where no fault is meant, and else told it, unless memory ran out.
 abbrev pub Adds :

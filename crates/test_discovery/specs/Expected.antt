@@ -10,7 +10,7 @@ use Rattle.class_model.specs.declared.annotation.Token.TheVariants as token
 use Rattle.class_model.specs.declared.attribute.Attr.{Attr}
 use Rattle.class_model.specs.declared.constant.Const.{Const}
 use Rattle.program_rules.specs.Names.{Name, without_last}
-use Rattle.test_discovery.specs.Tests.{names_text, notes_at}
+use Rattle.test_discovery.specs.Notes.{names_text, notes_at}
 use Rattle.test_discovery.specs.declared.expected.Expected.{Expected}
 use Rattle.test_discovery.specs.declared.expected.Expected.TheVariants.{NoClass, Named}
 

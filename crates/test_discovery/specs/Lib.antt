@@ -1,4 +1,4 @@
-pub mod Tests
+pub mod Notes
 pub mod Expected
 pub mod Annotations
 pub mod Listed

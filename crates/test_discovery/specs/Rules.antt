@@ -4,10 +4,10 @@ use Rattle.std.specs.List.{list_any}
 use Rattle.class_model.specs.declared.class.Class.{Class}
 use Rattle.class_model.specs.declared.class.Member.{Member}
 use Rattle.class_model.specs.declared.constant.Const.{Const}
-use Rattle.program_rules.specs.Names.{Name, same, plain_descriptor}
+use Rattle.program_rules.specs.Names.{Name, same, instance_initializer, plain_descriptor}
 use Rattle.program_rules.specs.Linked.{is_static, is_private, is_abstract, is_interface}
 use Rattle.class_link.specs.Info.{own_name}
-use Rattle.test_discovery.specs.Tests.{is_plain_constructor}
+use Rattle.test_discovery.specs.Notes.{names_text}
 use Rattle.test_discovery.specs.declared.expected.Expected.{Expected}
 use Rattle.test_discovery.specs.declared.expected.Expected.TheVariants.{NoClass, Named}
 use Rattle.test_discovery.specs.declared.listed.Listed.{Listed}
@@ -29,6 +29,11 @@ abbrev pub is_no_class : Option Expected → Bool
 is_no_class None = false
 is_no_class (Some NoClass) = true
 is_no_class (Some (Named name)) = false
+
+-- A method is `<init>()V`.
+abbrev pub is_plain_constructor : List Const → Member → Bool
+is_plain_constructor pool m =
+    names_text pool m.name instance_initializer && names_text pool m.desc plain_descriptor
 
 -- The class declares an `<init>()V` that is neither static nor abstract.
 abbrev pub makes_instance : List Const → Member → Bool

@@ -5,19 +5,18 @@
 //! `src/annotations.rt`; the README says what else one may owe.
 #![tactic(auto)]
 
-mod annotated;
 mod annotations;
+mod count;
 mod expected;
 mod fault;
 mod flags;
 mod listed;
 mod marks;
 mod names;
-mod plain;
 mod rules;
 mod script;
 mod search;
 
+pub use count::count_tests;
 pub use fault::{Rule, TestFault};
-pub use plain::{class_tests, count_class_tests};
 pub use search::tests;

@@ -1,36 +1,21 @@
-//! Names that tests are known by.
+//! Names of the constant pool, and those that are asked for.
 
 ghost use Rattle.std.specs.Prelude.{◌≡◌, IfOk};
 ghost use Rattle.program_rules.specs.Names.{same, instance_initializer as initializer, plain_descriptor};
 ghost use Rattle.class_model.specs.Pool.{text_of};
 ghost use Rattle.class_link.specs.Symbols.{name_or_empty};
 ghost use Rattle.class_link.specs.Info.{own_name as name_of};
-ghost use Rattle.test_discovery.specs.Tests.{names_text, test_annotation};
+ghost use Rattle.test_discovery.specs.Notes.{names_text};
 
 use class_model::{Class, Const, Memory, Name};
 use mt_pool::{class_name_of, text_of};
 use std::alloc::Global;
-
-/// `Lorg/junit/Test;`
-const TEST: [u16; 16] = [
-    76, 111, 114, 103, 47, 106, 117, 110, 105, 116, 47, 84, 101, 115, 116, 59,
-];
 
 /// `<init>`
 pub const INITIALIZER: [u16; 6] = [60, 105, 110, 105, 116, 62];
 
 /// `()V`
 const PLAIN: [u16; 3] = [40, 41, 86];
-
-/// The index names the type of the annotation of tests.
-pub fn names_test_annotation(pool: &[Const], index: u16) -> bool
-    ensures { result ≡ names_text pool.now index test_annotation }
-{
-    match text_of(pool, index) {
-        Some(text) => text.as_slice() == TEST.as_slice(),
-        None => false,
-    }
-}
 
 /// The index names `<init>`.
 pub fn names_initializer(pool: &[Const], index: u16) -> bool

@@ -3,8 +3,9 @@
 ghost use Rattle.std.specs.Prelude.{◌≡◌, IfOk};
 ghost use Rattle.std.specs.List.{list_any};
 ghost use Rattle.class_link.specs.Info.{own_name};
-ghost use Rattle.test_discovery.specs.Rules.{is_special, is_no_class, makes_instance};
-ghost use Rattle.test_discovery.specs.Rules.{makes_instances, is_wrongly_static, breaks, rules};
+ghost use Rattle.test_discovery.specs.Rules.{is_special, is_no_class, is_plain_constructor};
+ghost use Rattle.test_discovery.specs.Rules.{makes_instance, makes_instances};
+ghost use Rattle.test_discovery.specs.Rules.{is_wrongly_static, breaks, rules};
 ghost use Rattle.test_discovery.specs.Rules.{first_broken, has_runner, uses_runner, may_test};
 ghost use Rattle.test_discovery.specs.Rules.{is_test_class, bad_test, method_fault, first_fault};
 ghost use Rattle.test_discovery.specs.Rules.{methods_fault, Passes};
@@ -14,8 +15,7 @@ use crate::expected::Expected;
 use crate::fault::{Rule, TestFault};
 use crate::flags::{is_abstract, is_interface, is_private, is_static};
 use crate::listed::Listed;
-use crate::names::{is_plain_descriptor, own_name};
-use crate::plain::is_plain_constructor;
+use crate::names::{is_plain_descriptor, names_initializer, names_plain_descriptor, own_name};
 use class_model::{Class, Const, Member, Memory, Name};
 use std::alloc::Global;
 
@@ -36,6 +36,13 @@ fn is_no_class(expected: &Option<Expected>) -> bool
         Some(Expected::Named(_)) => false,
         None => false,
     }
+}
+
+// The method is `<init>()V`.
+fn is_plain_constructor(pool: &[Const], member: &Member) -> bool
+    ensures { result ≡ is_plain_constructor pool.now member.now }
+{
+    names_initializer(pool, member.name) && names_plain_descriptor(pool, member.desc)
 }
 
 fn makes_instance(pool: &[Const], member: &Member) -> bool

@@ -123,8 +123,8 @@ fn name_of(alloc: Global, program: &Program, id: ClassId) -> Result<Name, Memory
     }
 }
 
-// The names of classes in the byte order of modified UTF-8.
-fn in_order(
+/// The names of classes in the byte order of modified UTF-8.
+pub fn in_order(
     alloc: Global,
     program: &Program,
     from: &[ClassId],

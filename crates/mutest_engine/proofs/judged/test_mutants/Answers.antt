@@ -11,7 +11,7 @@ use Rattle.mutest_engine.proofs.judged.test_mutants.Goals as goal
 
 pub returns-in_err-verdicts-clause-value : goal.returns-in_err-verdicts-clause-value
 returns-in_err-verdicts-clause-value c =
-    let ready = few_is c.args.tests c.args.mutants c.requires.few_tests c.requires.few_mutants in
+    let ready = few_is c.args.mutants c.requires.few_mutants in
     let files = files_of c.args.program.now in
     let p = look c.args.program.now in
     let q = err_from_is_err_and c.from_residual.result c.from_residual.ensures.1 in
@@ -26,7 +26,7 @@ returns-in_err-verdicts-clause-stays c =
 
 pub returns-clause-value : goal.returns-clause-value
 returns-clause-value c =
-    let ready = few_is c.args.tests c.args.mutants c.requires.few_tests c.requires.few_mutants in
+    let ready = few_is c.args.mutants c.requires.few_mutants in
     let files = files_of c.args.program.now in
     let p = look c.args.program.now in
     tested_ok files p c.args.tests c.args.mutants c.in_ok-verdicts.verdicts ready (subst (λ (ts : List Test). green_verdicts files p ts c.args.mutants ≡ all_verdicts c.in_ok-verdicts.verdicts) c.as_slice.ensures (subst (λ (ms : List Mutant). green_verdicts files p c.as_slice.result.now ms ≡ all_verdicts c.in_ok-verdicts.verdicts) c.as_slice-2.ensures c.in_ok-verdicts.ensures.value))
@@ -34,7 +34,7 @@ returns-clause-value c =
 
 pub returns-in_err-verdicts-clause-meter : goal.returns-in_err-verdicts-clause-meter
 returns-in_err-verdicts-clause-meter c =
-    let ready = few_is c.args.tests c.args.mutants c.requires.few_tests c.requires.few_mutants in
+    let ready = few_is c.args.mutants c.requires.few_mutants in
     let files = files_of c.args.program.now in
     let p = look c.args.program.now in
     let steps = counted_steps files p c.args.tests c.args.mutants c.as_slice.result.now c.as_slice-2.result.now ready c.as_slice.ensures c.as_slice-2.ensures in
@@ -46,7 +46,7 @@ returns-in_err-verdicts-clause-meter c =
 
 pub returns-in_err-input_of-clause-meter : goal.returns-in_err-input_of-clause-meter
 returns-in_err-input_of-clause-meter c =
-    let ready = few_is c.args.tests c.args.mutants c.requires.few_tests c.requires.few_mutants in
+    let ready = few_is c.args.mutants c.requires.few_mutants in
     let files = files_of c.args.program.now in
     let p = look c.args.program.now in
     let steps = counted_steps files p c.args.tests c.args.mutants c.as_slice.result.now c.as_slice-2.result.now ready c.as_slice.ensures c.as_slice-2.ensures in
@@ -59,7 +59,7 @@ returns-in_err-input_of-clause-meter c =
 
 pub returns-clause-meter : goal.returns-clause-meter
 returns-clause-meter c =
-    let ready = few_is c.args.tests c.args.mutants c.requires.few_tests c.requires.few_mutants in
+    let ready = few_is c.args.mutants c.requires.few_mutants in
     let files = files_of c.args.program.now in
     let p = look c.args.program.now in
     let steps = counted_steps files p c.args.tests c.args.mutants c.as_slice.result.now c.as_slice-2.result.now ready c.as_slice.ensures c.as_slice-2.ensures in

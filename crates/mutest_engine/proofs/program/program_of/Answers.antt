@@ -1,5 +1,5 @@
 use Rattle.std.proofs.Common.{Err, ap}
-use Rattle.mutest_engine.proofs.ProgramLaws.{is_program}
+use Rattle.mutest_engine.proofs.ProgramLaws.{is_program, all_named}
 use Rattle.mutest_engine.proofs.FileLaws.{are_files}
 use Rattle.mutest_engine.proofs.NumberLaws.{numbered, as_many}
 use Rattle.mutest_engine.proofs.AcceptedLaws.{accepted_by, refused_as}
@@ -19,6 +19,9 @@ returns-in-Ok-clause-program c =
 
 pub returns-in-Ok-clause-files : goal.returns-in-Ok-clause-files
 returns-in-Ok-clause-files c = are_files c.in-Ok.program c.args.classes c.in_ok-library.library c.in-Ok.ensures.meant c.in-Ok.ensures.classes
+
+pub returns-in-Ok-clause-names : goal.returns-in-Ok-clause-names
+returns-in-Ok-clause-names c = all_named c.in-Ok.program c.args.classes c.in_ok-library.library c.in-Ok.ensures.meant c.in-Ok.ensures.classes c.in_ok-library.ensures
 
 pub returns-in-Ok-clause-numbered : goal.returns-in-Ok-clause-numbered
 returns-in-Ok-clause-numbered c = numbered c.in-Ok.program c.args.classes c.in_ok-library.library c.in-Ok.ensures.classes

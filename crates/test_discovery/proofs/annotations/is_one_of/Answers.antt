@@ -1,5 +1,5 @@
 use Rattle.std.proofs.Common.{◌∙◌, sym}
-use Rattle.test_discovery.specs.Tests.{names_text}
+use Rattle.test_discovery.specs.Notes.{names_text}
 use Rattle.test_discovery.proofs.Lists.{list_any_map}
 use Rattle.test_discovery.proofs.annotations.is_one_of.Goals as goal
 
