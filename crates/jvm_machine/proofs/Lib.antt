@@ -1,0 +1,5 @@
+mod Leaving
+mod Ends
+mod Reached
+pub mod Going
+pub mod Stepped

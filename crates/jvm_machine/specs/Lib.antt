@@ -1,0 +1,4 @@
+pub mod Tables
+pub mod Programs
+pub mod Machines
+pub mod Going

@@ -1,0 +1,17 @@
+-- What is found once for a program, and kept by number from run to run.
+use Rattle.std.specs.Prelude.{List}
+use Rattle.class_link.specs.Info.{Info}
+use Rattle.jvm_receivers.specs.Objects.{AreLookups}
+use Rattle.jvm_field_rows.specs.Slots.{AreSlots}
+use Rattle.jvm_field_rows.specs.Layouts.{AreLayouts}
+use Rattle.jvm_natives.specs.Natives.{AreNatives}
+use Rattle.jvm_act.specs.Codes.{AreCodes}
+use Rattle.jvm_machine.specs.declared.tables.Tables.{Tables}
+
+-- They are those of a program, and all that they keep is right.
+pub record AreTablesOf (p : List Info) (t : Tables) : Type 0 where
+  pub natives : AreNatives p t.natives
+  pub lookups : AreLookups p t.lookups
+  pub slots : AreSlots p t.slots
+  pub layouts : AreLayouts p t.layouts
+  pub codes : AreCodes p t.codes

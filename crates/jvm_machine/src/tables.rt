@@ -1,0 +1,62 @@
+//! What is found once for a program and kept by number, from run to run.
+
+ghost use Rattle.std.specs.Prelude.{IfOk, IfSome};
+ghost use Rattle.jvm_natives.specs.Natives.{AreNatives};
+ghost use Rattle.jvm_machine.specs.Tables.{AreTablesOf};
+
+use class_family::Walker;
+use class_model::Memory;
+use class_table::Program;
+use jvm_act::Codes;
+use jvm_field_rows::{Layouts, Slots};
+use jvm_natives::Natives;
+use jvm_receivers::Lookups;
+use std::alloc::Global;
+
+/// What the machine finds once for a program: what native methods are asked with, what references
+/// resolve to and objects select, slots of fields, layouts of classes, codes of methods. It depends
+/// on the program alone, so it is lent to one run of the program after the other.
+#[derive(Drop)]
+pub struct Tables {
+    pub natives: Natives,
+    pub lookups: Lookups,
+    pub slots: Slots,
+    pub layouts: Layouts,
+    pub codes: Codes,
+    /// What walks over classes; it keeps nothing that tells of the program.
+    pub walker: Walker,
+}
+
+// Tables in which nothing was asked yet.
+fn tables_with(alloc: Global, p: &Program, natives: Natives) -> Result<Tables, Memory>
+    requires natives { AreNatives p.now natives }
+    ensures { IfOk result (λ tables. AreTablesOf p.now tables) }
+{
+    let lookups = Lookups::new(alloc, p)?;
+    let slots = Slots::new(alloc);
+    let layouts = Layouts::new(alloc);
+    let codes = Codes::new(alloc);
+    let walker = Walker::new(alloc);
+    Ok(Tables {
+        natives,
+        lookups,
+        slots,
+        layouts,
+        codes,
+        walker,
+    })
+}
+
+impl Tables {
+    /// Those of a program, in which nothing was asked yet; none where it lacks a class of which
+    /// native methods make objects.
+    pub fn find(alloc: Global, p: &Program) -> Result<Option<Tables>, Memory>
+        ensures { IfOk result (λ found. IfSome found (λ tables. AreTablesOf p.now tables)) }
+    {
+        let Some(natives) = Natives::find(alloc, p)? else {
+            return Ok(None);
+        };
+        let tables = tables_with(alloc, p, natives)?;
+        Ok(Some(tables))
+    }
+}
