@@ -1,5 +1,9 @@
 mod Leaving
 mod Ends
 mod Reached
+mod Finished
+mod Placed
+mod AtLimit
 pub mod Going
 pub mod Stepped
+pub mod Ran

@@ -1,12 +1,20 @@
-//! The machine over all instructions: its state, and one step.
+//! The machine over all instructions: its state, one step, and a whole run of a test.
 #![tactic(auto)]
 
 mod executing;
+mod finish;
 mod machine;
+mod outcome;
+mod places;
 mod reaching;
+mod result;
+mod running;
 mod stepping;
 mod tables;
 
 pub use machine::{Machine, Step};
+pub use outcome::Outcome;
+pub use result::RunResult;
+pub use running::execute;
 pub use stepping::step;
 pub use tables::Tables;

@@ -1,0 +1,49 @@
+use Rattle.std.proofs.Common.{◌<◌, subst, arith}
+use Rattle.std.specs.Prelude.{◌^◌}
+use Rattle.jvm_machine.specs.Machines.{Answers}
+use Rattle.jvm_machine.specs.Running.{start_of}
+use Rattle.jvm_machine.proofs.Ran.{begins, few, goes_on, meaning, ended, stuck}
+use Rattle.jvm_machine.proofs.running.run.Goals as goal
+
+pub step-requires-clause-few : goal.step-requires-clause-few
+step-requires-clause-few c =
+    let p = c.args.p.now in
+    let lt : c.loop-i.i < c.args.limit = omega arith in
+    let small : c.args.limit < 2 ^ 64 = omega (arith, c.requires.room) in
+    few p c.args.m.now.world.limits c.args.limit c.loop-i.i (start_of p c.args.test.now) c.loop-i.m lt small c.loop-i.invariant.run
+
+pub returns-in-Ended-clause-run : goal.returns-in-Ended-clause-run
+returns-in-Ended-clause-run c =
+    let p = c.args.p.now in
+    let lt : c.loop-i.i < c.args.limit = omega arith in
+    ended p c.args.m.now.world.limits c.args.limit c.loop-i.i (start_of p c.args.test.now) c.loop-i.m c.step.new.m c.in-Ended.outcome lt c.loop-i.invariant.run
+    (subst (λ r. Answers p r c.loop-i.m c.step.new.m) c.in-Ended.is c.in_ok-step.ensures.step)
+
+pub returns-in-Stuck-clause-run : goal.returns-in-Stuck-clause-run
+returns-in-Stuck-clause-run c =
+    let p = c.args.p.now in
+    let lt : c.loop-i.i < c.args.limit = omega arith in
+    stuck p c.args.m.now.world.limits c.args.limit c.loop-i.i (start_of p c.args.test.now) c.loop-i.m c.step.new.m lt c.loop-i.invariant.run
+    (subst (λ r. Answers p r c.loop-i.m c.step.new.m) c.in-Stuck.is c.in_ok-step.ensures.step)
+
+pub step-requires-clause-meaning : goal.step-requires-clause-meaning
+step-requires-clause-meaning c =
+    meaning c.args.p.now c.args.m.now.world.limits c.args.limit c.loop-i.i (start_of c.args.p.now c.args.test.now) c.loop-i.m c.loop-i.invariant.run
+
+pub loop-i-init : goal.loop-i-init
+loop-i-init c = record {
+  run = begins c.args.p.now c.args.limit c.args.test.now c.args.m.now c.requires.machine c.requires.stands;
+  tables = c.requires.tables;
+  ticks = omega arith;
+}
+
+pub loop-i-preserved : goal.loop-i-preserved
+loop-i-preserved c =
+    let p = c.args.p.now in
+    let lt : c.loop-i.i < c.args.limit = omega arith in
+    record {
+      run = goes_on p c.args.m.now.world.limits c.args.limit c.loop-i.i (start_of p c.args.test.now) c.loop-i.m c.step.new.m lt c.loop-i.invariant.run
+          (subst (λ r. Answers p r c.loop-i.m c.step.new.m) c.in-Next.is c.in_ok-step.ensures.step) c.in_ok-step.ensures.still;
+      tables = c.step.ensures.tables;
+      ticks = omega (arith, c.loop-i.invariant.ticks, c.tick.ensures);
+    }

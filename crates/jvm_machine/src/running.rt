@@ -1,0 +1,246 @@
+//! A whole run of a test on a program.
+
+ghost use Rattle.std.specs.Prelude.{◌≡◌, ◌+◌, ◌≤◌, ◌<◌, ◌^◌, IfOk, OnOk, OnErr};
+ghost use Rattle.machine_rules.specs.Runs.{run_from, run_of};
+ghost use Rattle.class_table.specs.Table.{look};
+ghost use Rattle.jvm_world.specs.Classes.{AreMachineClasses};
+ghost use Rattle.jvm_world.specs.View.{test_of};
+ghost use Rattle.jvm_machine.specs.Machines.{IsMachineOf, StandsFor};
+ghost use Rattle.jvm_machine.specs.Programs.{IsRunnable};
+ghost use Rattle.jvm_machine.specs.Result.{IsResultOf, TellsRun};
+ghost use Rattle.jvm_machine.specs.Running.{EndsSo, EndsAtLimit, HasSteps, IsStuckResult, after, start_of};
+ghost use Rattle.jvm_machine.specs.Tables.{AreTablesOf};
+
+use crate::finish::finish;
+use crate::machine::{Machine, Step};
+use crate::outcome::Outcome;
+use crate::places::stuck_at;
+use crate::result::RunResult;
+use crate::stepping::step;
+use crate::tables::Tables;
+use class_model::Memory;
+use class_table::{Program, Test};
+use jvm_world::MachineClasses;
+use machine_rules::Limits;
+use mt_edge::MeterPart;
+use std::alloc::Global;
+
+/// How a run came to its end, but for the place where it is stuck.
+#[derive(Clone, Copy)]
+pub enum End {
+    With(machine_rules::Outcome),
+    Stuck,
+}
+
+// How a run ends that has taken all its steps.
+fn outcome_at_limit(p: &Program, m: &Machine) -> machine_rules::Outcome
+    ensures { EndsAtLimit p.now m.now result }
+{
+    match m.end(p) {
+        Some(outcome) => outcome,
+        None => machine_rules::Outcome::TimedOut,
+    }
+}
+
+// Runs a machine that stands at the start of a test, for so many steps at most.
+#[tactic(auto, using(crate::proofs::Ran::at_limit_is, crate::proofs::Ran::least))]
+fn run(
+    m: &mut Machine,
+    alloc: Global,
+    p: &Program,
+    tables: &mut Tables,
+    test: &Test,
+    limit: u64,
+    part: &mut MeterPart,
+) -> Result<(End, u64), Memory>
+    requires machine { IsMachineOf p.now m.old }
+    requires stands { StandsFor p.now m.old (start_of p.now test.now) }
+    requires tables { AreTablesOf p.now tables.old }
+    requires runnable { IsRunnable (look p.now) }
+    requires room { part.old + limit < 2 ^ 64 }
+    ensures run { IfOk result (λ r. EndsSo p.now m.old.world.limits limit
+        (start_of p.now test.now) r.0 r.1 m.new) }
+    ensures machine { OnOk result (IsMachineOf p.now m.new) }
+    ensures steps { IfOk result (λ r. part.new ≡ part.old + r.1) }
+    ensures memory { OnErr result (part.new ≤ part.old
+        + (run_from (look p.now) m.old.world.limits limit (start_of p.now test.now) 0).steps) }
+    ensures tables { AreTablesOf p.now tables.new }
+{
+    for i in 0..limit {
+        match step(m, alloc, p, tables)? {
+            Step::Next => part.tick(),
+            Step::Ended(outcome) => return Ok((End::With(outcome), i)),
+            Step::Stuck => return Ok((End::Stuck, i)),
+        }
+    }
+    let outcome = outcome_at_limit(p, m);
+    Ok((End::With(outcome), limit))
+}
+
+// Runs a machine that stands at the start of a test for so many steps as it has, and not further.
+#[tactic(auto, using(crate::proofs::Ran::not_ended, crate::proofs::Ran::not_stuck))]
+fn run_again(
+    m: &mut Machine,
+    alloc: Global,
+    p: &Program,
+    tables: &mut Tables,
+    test: &Test,
+    steps: u64,
+) -> Result<(), Memory>
+    requires machine { IsMachineOf p.now m.old }
+    requires stands { StandsFor p.now m.old (start_of p.now test.now) }
+    requires tables { AreTablesOf p.now tables.old }
+    requires runnable { IsRunnable (look p.now) }
+    requires long { HasSteps p.now m.old.world.limits steps (start_of p.now test.now) }
+    ensures stands { OnOk result (StandsFor p.now m.new
+        (after (look p.now) m.old.world.limits steps (start_of p.now test.now))) }
+    ensures machine { OnOk result (IsMachineOf p.now m.new) }
+    ensures tables { AreTablesOf p.now tables.new }
+{
+    for i in 0..steps {
+        let _ = i;
+        match step(m, alloc, p, tables)? {
+            Step::Next => {}
+            Step::Ended(_) => unreachable!(),
+            Step::Stuck => unreachable!(),
+        }
+    }
+    Ok(())
+}
+
+// What a run gives that is stuck behind so many steps, by a machine that stands at its start.
+fn finish_again(
+    m: &mut Machine,
+    alloc: Global,
+    p: &Program,
+    tables: &mut Tables,
+    test: &Test,
+    steps: u64,
+) -> Result<RunResult, Memory>
+    requires machine { IsMachineOf p.now m.old }
+    requires stands { StandsFor p.now m.old (start_of p.now test.now) }
+    requires tables { AreTablesOf p.now tables.old }
+    requires runnable { IsRunnable (look p.now) }
+    requires long { HasSteps p.now m.old.world.limits steps (start_of p.now test.now) }
+    ensures run { IfOk result (IsStuckResult p.now m.old.world.limits steps
+        (start_of p.now test.now)) }
+    ensures tables { AreTablesOf p.now tables.new }
+{
+    run_again(m, alloc, p, tables, test, steps)?;
+    let outcome = stuck_at(alloc, p, m)?;
+    let result = finish(alloc, p, m, outcome, steps)?;
+    Ok(result)
+}
+
+// What a run gives that is stuck behind so many steps. It is run again up to there, since a step
+// that is stuck leaves nothing known of a machine.
+fn finish_stuck(
+    alloc: Global,
+    p: &Program,
+    tables: &mut Tables,
+    test: &Test,
+    limits: Limits,
+    classes: MachineClasses,
+    steps: u64,
+) -> Result<RunResult, Memory>
+    requires classes { AreMachineClasses p.now classes }
+    requires tables { AreTablesOf p.now tables.old }
+    requires runnable { IsRunnable (look p.now) }
+    requires small { limits.heap < 2 ^ 31 }
+    requires long { HasSteps p.now limits steps (start_of p.now test.now) }
+    ensures run { IfOk result (IsStuckResult p.now limits steps (start_of p.now test.now)) }
+    ensures tables { AreTablesOf p.now tables.new }
+{
+    let mut m = Machine::start(alloc, p, test, limits, classes)?;
+    let result = finish_again(&mut m, alloc, p, tables, test, steps)?;
+    Ok(result)
+}
+
+// What a run gives whose machine isn't to run any more.
+fn finish_whole(
+    m: Machine,
+    alloc: Global,
+    p: &Program,
+    outcome: Outcome,
+    steps: u64,
+) -> Result<RunResult, Memory>
+    ensures { IfOk result (λ r. TellsRun p.now m r outcome steps) }
+{
+    let result = finish(alloc, p, &m, outcome, steps)?;
+    Ok(result)
+}
+
+// The classes of a machine that isn't to run any more.
+fn classes_of(m: Machine) -> MachineClasses
+    ensures { result ≡ m.world.classes }
+{
+    let world = m.world;
+    world.classes
+}
+
+// What a run gives that came to this end.
+fn finish_run(
+    m: Machine,
+    alloc: Global,
+    p: &Program,
+    tables: &mut Tables,
+    test: &Test,
+    limits: Limits,
+    limit: u64,
+    end: End,
+    steps: u64,
+) -> Result<RunResult, Memory>
+    requires tables { AreTablesOf p.now tables.old }
+    requires runnable { IsRunnable (look p.now) }
+    requires small { limits.heap < 2 ^ 31 }
+    requires machine { IsMachineOf p.now m }
+    requires run { EndsSo p.now limits limit (start_of p.now test.now) end steps m }
+    ensures run { IfOk result (λ r.
+        IsResultOf p.now r (run_of (look p.now) (test_of test.now) limits limit)) }
+    ensures tables { AreTablesOf p.now tables.new }
+{
+    match end {
+        End::With(outcome) => {
+            let told = Outcome::of(outcome);
+            let result = finish_whole(m, alloc, p, told, steps)?;
+            Ok(result)
+        }
+        End::Stuck => {
+            let classes = classes_of(m);
+            let result = finish_stuck(alloc, p, tables, test, limits, classes, steps)?;
+            Ok(result)
+        }
+    }
+}
+
+/// Runs a test on a program, for so many steps at most. Each step is counted in the part. Where
+/// memory runs out, no more steps are counted than the run has. A run that is stuck is run again,
+/// to tell where, and that isn't counted. The tables are right still, also where memory ran out.
+#[tactic(auto, using(crate::proofs::Ran::steps_of))]
+pub fn execute(
+    alloc: Global,
+    p: &Program,
+    tables: &mut Tables,
+    test: &Test,
+    limits: Limits,
+    classes: MachineClasses,
+    limit: u64,
+    part: &mut MeterPart,
+) -> Result<RunResult, Memory>
+    requires classes { AreMachineClasses p.now classes }
+    requires tables { AreTablesOf p.now tables.old }
+    requires runnable { IsRunnable (look p.now) }
+    requires small { limits.heap < 2 ^ 31 }
+    requires room { part.old + limit < 2 ^ 64 }
+    ensures run { IfOk result (λ r.
+        IsResultOf p.now r (run_of (look p.now) (test_of test.now) limits limit)) }
+    ensures steps { IfOk result (λ r. part.new ≡ part.old + r.steps) }
+    ensures memory { OnErr result (part.new ≤ part.old
+        + (run_of (look p.now) (test_of test.now) limits limit).steps) }
+    ensures tables { AreTablesOf p.now tables.new }
+{
+    let mut m = Machine::start(alloc, p, test, limits, classes)?;
+    let (end, steps) = run(&mut m, alloc, p, tables, test, limit, part)?;
+    let result = finish_run(m, alloc, p, tables, test, limits, limit, end, steps)?;
+    Ok(result)
+}
