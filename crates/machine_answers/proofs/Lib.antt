@@ -1,0 +1,2 @@
+mod RightKinds
+mod Rooms

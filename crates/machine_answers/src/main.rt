@@ -1,0 +1,43 @@
+//! Reads each class file below a folder, which the first word names, as one program with the whole
+//! library, and runs the tests of a file, which the second word names, one behind the other by the
+//! machine over all instructions. Prints a line for each test: how it ended, its steps, and how
+//! many names were consulted and how many lines were reached.
+#![tactic(auto)]
+
+ghost use Rattle.class_table.specs.Faults.{HasRightKinds};
+ghost use Rattle.class_table.specs.Table.{look};
+
+mod case;
+mod landing;
+mod program;
+mod runs;
+
+use crate::landing::can_land;
+use crate::program::program_of;
+use crate::runs::push_runs;
+use class_table::Program;
+use std::{env, fs};
+
+// Runs the tests of these lines, where an object may be thrown in each code.
+#[tactic(auto, using(crate::proofs::Rooms::runnable))]
+fn push_all(program: &Program, tests: &str, out: &mut String) -> anyhow::Result<()>
+    requires { HasRightKinds (look program.now) }
+{
+    if !can_land(program) {
+        anyhow::bail!("a code has no room for what it catches");
+    }
+    push_runs(program, tests, out)
+}
+
+fn main(rt: HostRuntime) -> anyhow::Result<()> {
+    let mut words = env::args(&rt)?.skip(1);
+    let (Some(folder), Some(tests)) = (words.next(), words.next()) else {
+        anyhow::bail!("a folder and a file of tests");
+    };
+    let tests = fs::read_to_string(&rt, tests.as_str())?;
+    let program = program_of(&rt, folder.as_str())?;
+    let mut out = String::new(rt.alloc());
+    push_all(&program, tests.as_str(), &mut out)?;
+    print!(rt; "{out}")?;
+    Ok(())
+}
