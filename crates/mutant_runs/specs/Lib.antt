@@ -1,4 +1,5 @@
 pub mod Programs
+pub mod Ready
 pub mod Files
 pub mod Runs
 pub mod Verdicts

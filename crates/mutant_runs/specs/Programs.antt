@@ -1,5 +1,5 @@
 -- The program that a mutant's edit makes (this project's own).
-use Rattle.std.specs.Prelude.{◌≡◌, ℕ, if◌then◌else◌, List, Option, Some, None, IfSome, MatchOption, slice_get, slice_set, option_and_then}
+use Rattle.std.specs.Prelude.{◌≡◌, ℕ, if◌then◌else◌, List, Option, Some, None, is_some, IfSome, MatchOption, slice_get, slice_set, option_and_then}
 use Rattle.std.specs.Option.{option_map}
 use Rattle.std.specs.Arc.{arc_value}
 use Rattle.std.specs.declared.sync.Arc.{Arc}
@@ -11,7 +11,10 @@ use Rattle.program_rules.specs.Names.{Name, same}
 use Rattle.program_rules.specs.Programs.{Look}
 use Rattle.class_link.specs.Info.{Info, own_name, file_in}
 use Rattle.class_link.specs.Linking.{link}
-use Rattle.class_table.specs.Table.{number_of, look, CanSwap}
+use Rattle.class_table.specs.Table.{number_of, name_at, look}
+use Rattle.type_rules.specs.Faults.{class_fault}
+use Rattle.accepted_edits.specs.Codes.{IsBoundedBody}
+use Rattle.accepted_edits.specs.Put.{IsPut}
 use Rattle.mutant_apply.specs.Edited.{applied}
 use Rattle.mutant_apply.specs.Fitting.{Fits}
 use Rattle.mutator_ops.specs.declared.mutant.Mutant.{Mutant}
@@ -32,13 +35,27 @@ with_class c p n = if same n (own_name c) then Some (link c) else p n
 abbrev pub edited : ClassFiles → Look → Mutant → Option Look
 edited files p m = option_map (λ made. with_class made.0 p) (option_and_then (λ c. applied c m.edit) (files m.class))
 
+-- A program in which the class of this name is accepted; none where it is refused.
+abbrev pub with_accepted : Name → Look → Option Look
+with_accepted n p = if is_some (class_fault p n) then None else Some p
+
+-- The program that a mutant is run as; none where the edited class has no layout or is refused. Where
+-- it is accepted, so is the program, if the one that is edited is (`accepted_edits`).
+abbrev pub viable : ClassFiles → Look → Mutant → Option Look
+viable files p m = option_and_then (with_accepted m.class) (edited files p m)
+
 -- The edit of a mutant is one that its class takes, and the class has a spelling.
 abbrev pub IsMutantOf : ClassFiles → Mutant → Type 0
 IsMutantOf files m = IfSome (files m.class) (λ c. HasClassForm c × Fits c m.edit × IsClass c)
 
--- The class that a mutant's edit makes may stand in the place of the one of this number, and the program then is the one that the edit makes.
+-- The class that a mutant's edit makes takes the place of the one of this number, whose name the
+-- mutant has; its codes are within the bounds of a class file, and the program then is the one that
+-- the edit makes.
 pub record Makes (p : List Info) (m : Mutant) (id : ℕ) (class : Info) : Type 0 where
-  pub swaps : CanSwap p id class
+  pub old : Info
+  pub put : IsPut p id old class
+  pub name : name_at p id ≡ m.class
+  pub bounded : IsBoundedBody class.body
   pub program : edited (files_of p) (look p) m ≡ Some (look (slice_set p id class))
 
 -- What is made of a mutant's edit: the number and the class that it makes, or none where the edited

@@ -3,19 +3,18 @@ use Rattle.std.specs.Prelude.{ℕ, Bool, ◌&&◌, ◌==◌, List, map, Option, 
 use Rattle.std.specs.List.{list_any, zip}
 use Rattle.program_rules.specs.Names.{Name, same}
 use Rattle.program_rules.specs.Programs.{Look}
-use Rattle.machine_rules.specs.Runs.{Ending, With, StuckAt, Ran, limit_of}
-use Rattle.machine_so_far.specs.Runs.{run_so_far}
+use Rattle.machine_rules.specs.Runs.{Ending, With, StuckAt, Ran, limit_of, run_of}
 use Rattle.machine_rules.specs.declared.machine.Limits.{Limits}
 use Rattle.machine_rules.specs.declared.machine.Outcome.TheVariants as outcome
 use Rattle.class_table.specs.declared.scripted.Test.{Test}
-use Rattle.jvm_step.specs.View.{test_of}
+use Rattle.jvm_world.specs.View.{test_of}
 use Rattle.mutator_ops.specs.declared.mutant.Mutant.{Mutant}
 use Rattle.mutator_ops.specs.declared.mutant.State.{State}
 use Rattle.mutator_ops.specs.declared.mutant.State.TheVariants as state
 
 -- The run of a test on the program that an edit makes, where its run on the program as it is took so many steps.
 unfoldable pub mutant_run : Limits → Look → Test → ℕ → Ran
-mutant_run q p t n = run_so_far p (test_of t) q (limit_of n)
+mutant_run q p t n = run_of p (test_of t) q (limit_of n)
 
 -- A test with the steps of its run on the program as it is.
 abbrev pub Timed : Type 0

@@ -9,7 +9,7 @@ use Rattle.mutator_ops.specs.declared.mutant.Mutant.{Mutant}
 use Rattle.mutator_ops.specs.declared.mutant.State.{State}
 use Rattle.mutator_ops.specs.declared.mutant.State.TheVariants as state
 use Rattle.mutator_ops.specs.declared.mutant.Verdict.{Verdict}
-use Rattle.mutant_runs.specs.Programs.{ClassFiles, edited}
+use Rattle.mutant_runs.specs.Programs.{ClassFiles, viable}
 use Rattle.mutant_runs.specs.Runs.{Timed, runs_on, steps_in, reaches, detected}
 
 -- The numbers of the tests whose runs reach the mutant's class and line.
@@ -31,13 +31,13 @@ verdict_by (n ∷ ns) (Some first) = record { state = first.1; killer = Some fir
 unfoldable pub judged : Mutant → List Ran → Verdict
 judged m runs = verdict_by (covering m (enumerate_from 0 runs)) (killer (enumerate_from 0 runs))
 
--- The verdict on a mutant whose edit has no layout: no test is run.
+-- The verdict on a mutant whose edited class has no layout or is refused: no test is run.
 abbrev pub not_viable : Verdict
 not_viable = record { state = state.NonViable; killer = None; covering = [] }
 
--- The runs of all tests on a mutant that has a layout.
+-- The runs of all tests on a mutant that is viable.
 abbrev pub mutant_runs : Limits → ClassFiles → Look → List Timed → Mutant → Option (List Ran)
-mutant_runs q files p tests m = option_map (λ made. runs_on q made tests) (edited files p m)
+mutant_runs q files p tests m = option_map (λ made. runs_on q made tests) (viable files p m)
 
 unfoldable pub verdict_of : Limits → ClassFiles → Look → List Timed → Mutant → Verdict
 verdict_of q files p tests m = option_map_or (judged m) (mutant_runs q files p tests m) not_viable

@@ -3,13 +3,14 @@
 ghost use Rattle.std.specs.Prelude.{◌≡◌, ◌+◌, ◌≤◌, ◌<◌, ◌^◌, All, length, map, IfOk, OnOk};
 ghost use Rattle.class_table.specs.Table.{look};
 ghost use Rattle.mutant_runs.specs.Programs.{files_of, IsMutantOf};
+ghost use Rattle.mutant_runs.specs.Ready.{IsReady};
 ghost use Rattle.mutant_runs.specs.Runs.{timed, most_steps};
 ghost use Rattle.mutant_runs.specs.Verdicts.{verdict_of, steps_of_all};
 
 use crate::on_mutant::run_mutant;
 use class_model::{Memory, Seq};
 use class_table::{Program, Test};
-use jvm_run::Limits;
+use machine_rules::Limits;
 use mt_edge::MeterPart;
 use mutator_ops::{Mutant, Verdict};
 use std::alloc::Global;
@@ -25,6 +26,8 @@ pub fn verdicts(
     limits: Limits,
     part: &mut MeterPart,
 ) -> Result<Seq<Verdict>, Memory>
+    requires ready { IsReady program.old }
+    requires small { limits.heap < 2 ^ 31 }
     requires few_tests { length tests.now ≤ 65535 }
     requires few_mutants { length mutants.now ≤ 262144 }
     requires each { length steps.now ≡ length tests.now }

@@ -4,6 +4,7 @@ ghost use Rattle.std.specs.Prelude.{◌≡◌, ◌+◌, ◌≤◌, ◌<◌, ◌^
 ghost use Rattle.class_table.specs.Table.{look};
 ghost use Rattle.mutant_runs.specs.Programs.{files_of, IsMutantOf, ComesOf};
 ghost use Rattle.mutant_runs.specs.Files.{IsKept};
+ghost use Rattle.mutant_runs.specs.Ready.{IsReady};
 ghost use Rattle.mutant_runs.specs.Runs.{timed, most_steps};
 ghost use Rattle.mutant_runs.specs.Verdicts.{verdict_of, steps_on};
 
@@ -15,7 +16,8 @@ use crate::tests_run::run_tests;
 use class_model::{ClassId, Memory};
 use class_table::{ClassBody, ClassInfo, Program, Test};
 use edited_bytes::parts_are_of_applied;
-use jvm_run::Limits;
+use jvm_machine::Tables;
+use machine_rules::Limits;
 use mt_edge::MeterPart;
 use mutator_ops::{Mutant, Verdict};
 use std::alloc::Global;
@@ -51,6 +53,40 @@ fn edited_class(
     Ok(Some((id, Arc::new(alloc, edited)?)))
 }
 
+// Whether the class of this number is accepted.
+fn is_accepted(alloc: Global, program: &Program, id: ClassId) -> Result<bool, Memory>
+    requires within { id.0 < length program.now }
+    requires numbered { AreNumbered program.now }
+    requires library { IsLibraryAccepted (look program.now) }
+    ensures { IfOk result (TellsAccepted program.now id.0) }
+{
+    first_faults_are_found();
+    match verify_class(alloc, program, id) {
+        Ok(()) => Ok(true),
+        Err(VerifyEnd::Refused(_fault)) => Ok(false),
+        Err(VerifyEnd::Memory) => Err(Memory),
+    }
+}
+
+// The verdict on a mutant by a run of each test on a program that may be run.
+fn run_on(
+    alloc: Global,
+    program: &Program,
+    tests: &[Test],
+    steps: &[u64],
+    mutant: &Mutant,
+    limits: Limits,
+    part: &mut MeterPart,
+) -> Result<Verdict, Memory>
+    requires ready { IsReady program.now }
+    ..
+{
+    let Some(mut tables) = Tables::find(alloc, program)? else {
+        unreachable!()
+    };
+    run_tests(alloc, program, &mut tables, tests, steps, mutant, limits, part)
+}
+
 /// The verdict on a mutant by a run of each test on it. The program is as before afterwards.
 pub fn run_mutant(
     alloc: Global,
@@ -62,6 +98,8 @@ pub fn run_mutant(
     part: &mut MeterPart,
     kept: &mut Option<ClassBytes>,
 ) -> Result<Verdict, Memory>
+    requires ready { IsReady program.old }
+    requires small { limits.heap < 2 ^ 31 }
     requires few { length tests.now ≤ 65535 }
     requires each { length steps.now ≡ length tests.now }
     requires timed { All (λ n. n ≤ most_steps) steps.now }

@@ -4,14 +4,18 @@ ghost use Rattle.std.specs.Prelude.{◌≡◌, ◌+◌, ◌≤◌, ◌<◌, ◌^
 ghost use Rattle.std.specs.List.{list_any};
 ghost use Rattle.program_rules.specs.Names.{same};
 ghost use Rattle.machine_rules.specs.Runs.{limit_of};
-ghost use Rattle.class_table.specs.Table.{look, name_or_none};
-ghost use Rattle.jvm_step.specs.Ending.{ending_of};
-ghost use Rattle.jvm_run.specs.Result.{named_place};
+ghost use Rattle.class_table.specs.Faults.{HasRightKinds};
+ghost use Rattle.class_table.specs.Table.{look, name_at};
+ghost use Rattle.jvm_world.specs.View.{named};
+ghost use Rattle.jvm_machine.specs.Ending.{ending_of};
+ghost use Rattle.jvm_machine.specs.Programs.{IsRunnable};
+ghost use Rattle.jvm_machine.specs.Tables.{AreTablesOf};
 ghost use Rattle.mutant_runs.specs.Runs.{mutant_run, is_at, reaches, detected, most_steps, most_limit};
 
-use class_model::{Memory, Name};
+use class_model::{ClassId, Memory};
 use class_table::{Program, Test};
-use jvm_run::{Limits, Outcome, RunResult, execute};
+use jvm_machine::{Outcome, RunResult, Tables, execute};
+use machine_rules::Limits;
 use mt_edge::MeterPart;
 use mutator_ops::{Mutant, State};
 use std::alloc::Global;
@@ -34,26 +38,21 @@ fn limit_of(steps: u64) -> u64
     steps + steps / 4 + 100_000
 }
 
-// A place among names stands for this name; a place behind them stands for the empty one.
-fn is_named(names: &[Name], place: u32, name: &Name) -> bool
-    ensures { result ≡ same (name_or_none (slice_get names.now place)) name.now }
+// Whether a class by its number and a line are those of a mutant.
+fn is_at(p: &Program, mutant: &Mutant, pair: (ClassId, u16)) -> bool
+    ensures { result ≡ is_at mutant.now (named p.now (pair.0.0, pair.1)) }
 {
-    match names.get(place as usize) {
-        Some(named) => named.as_slice() == name.as_slice(),
-        None => name.is_empty(),
+    match p.get(pair.0) {
+        Some(info) => info.name().as_slice() == mutant.class.as_slice() && pair.1 == mutant.line,
+        None => mutant.class.is_empty() && pair.1 == mutant.line,
     }
 }
 
-fn is_at(mutant: &Mutant, names: &[Name], pair: (u32, u16)) -> bool
-    ensures { result ≡ is_at mutant.now (named_place names.now pair) }
+// Whether one of these classes and lines is that of a mutant.
+fn any_at(p: &Program, mutant: &Mutant, reached: &[(ClassId, u16)]) -> bool
+    ensures { result ≡ list_any (λ pair. is_at mutant.now (named p.now (pair.0.0, pair.1))) reached.now }
 {
-    is_named(names, pair.0, &mutant.class) && pair.1 == mutant.line
-}
-
-fn any_at(mutant: &Mutant, names: &[Name], reached: &[(u32, u16)]) -> bool
-    ensures { result ≡ list_any (λ pair. is_at mutant.now (named_place names.now pair)) reached.now }
-{
-    reached.iter().any(|pair| is_at(mutant, names, *pair))
+    reached.iter().any(|pair| is_at(p, mutant, *pair))
 }
 
 fn detected(outcome: &Outcome) -> Option<State>
@@ -68,34 +67,40 @@ fn detected(outcome: &Outcome) -> Option<State>
     }
 }
 
-fn said_by(run: &RunResult, mutant: &Mutant) -> Said
-    ensures reaches { result.reaches ≡ list_any (λ pair. is_at mutant.now (named_place run.now.consulted pair)) run.now.reached }
+// What a run on a program says of a mutant.
+fn said_by(p: &Program, run: &RunResult, mutant: &Mutant) -> Said
+    ensures reaches { (ran : Ran) → IsResultOf p.now run.now ran → result.reaches ≡ reaches mutant.now ran }
     ensures detected { result.detected ≡ detected (ending_of run.now.outcome) }
 {
     Said {
-        reaches: any_at(mutant, run.consulted.as_slice(), run.reached.as_slice()),
+        reaches: any_at(p, mutant, run.reached.as_slice()),
         detected: detected(&run.outcome),
     }
 }
 
-/// Runs a test on a mutant, whose program this is. The test's run on the program as it is took so many steps.
-#[tactic(auto, using(crate::proofs::RunLaws::of_run, crate::proofs::RunLaws::run_reaches))]
+/// Runs a test on a mutant, whose program this is, with its tables. The test's run on the program as
+/// it is took so many steps.
 pub fn run_test(
     alloc: Global,
     program: &Program,
+    tables: &mut Tables,
     test: &Test,
     steps: u64,
     mutant: &Mutant,
     limits: Limits,
     part: &mut MeterPart,
 ) -> Result<Said, Memory>
+    requires runnable { IsRunnable (look program.now) }
+    requires tables { AreTablesOf program.now tables.old }
+    requires small { limits.heap < 2 ^ 31 }
     requires timed { steps ≤ most_steps }
     requires room { part.old + most_limit < 2 ^ 64 }
     ensures reaches { IfOk result (λ s. s.reaches ≡ reaches mutant.now (mutant_run limits (look program.now) test.now steps)) }
     ensures detected { IfOk result (λ s. s.detected ≡ detected (mutant_run limits (look program.now) test.now steps).ending) }
     ensures steps { OnOk result (part.new ≡ part.old + (mutant_run limits (look program.now) test.now steps).steps) }
     ensures most { part.new ≤ part.old + (mutant_run limits (look program.now) test.now steps).steps }
+    ensures tables { AreTablesOf program.now tables.new }
 {
-    let run = execute(alloc, program, test, limits, limit_of(steps), part)?;
-    Ok(said_by(&run, mutant))
+    let run = execute(alloc, program, tables, test, limits, limit_of(steps), part)?;
+    Ok(said_by(program, &run, mutant))
 }
