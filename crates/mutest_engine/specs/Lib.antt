@@ -4,8 +4,6 @@ pub mod Refusals
 pub mod Steps
 pub mod Answers
 pub mod SuiteFiles
-pub mod Supers
-pub mod Duplicates
 pub mod Originals
 pub mod Numbers
 pub mod Discovered

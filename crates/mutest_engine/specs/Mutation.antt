@@ -16,7 +16,8 @@ use Rattle.report_schema.specs.declared.input.ReportInput.{ReportInput}
 use Rattle.mutest_engine.specs.Refusals.{IsBeforeRuns}
 use Rattle.mutest_engine.specs.Steps.{and_then, Counts}
 use Rattle.mutest_engine.specs.Numbers.{numbers_from, numbers_of}
-use Rattle.mutest_engine.specs.Originals.{all_classes, classes_in, class_file, program_of, accepted, usual, green, original_steps, steps_made}
+use Rattle.suite_program.specs.Programs.{classes_in, class_file, program_of}
+use Rattle.mutest_engine.specs.Originals.{all_classes, accepted, usual, green, original_steps, steps_made}
 use Rattle.mutest_engine.specs.Discovered.{tests_of}
 use Rattle.mutest_engine.specs.declared.suite.LoadedSuite.{LoadedSuite}
 use Rattle.mutest_engine.specs.declared.refusal.Refusal.{Refusal}

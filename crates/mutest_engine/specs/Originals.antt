@@ -1,33 +1,19 @@
--- The program of a suite, and the runs of tests on the program as it is (this project's own).
-use Rattle.std.specs.Prelude.{◌≡◌, ℕ, ◌+◌, MatchOption, List, [], ◌∷◌, ◌++◌, codes, map, Option, Some, None, Result, Ok, Err, if◌then◌else◌}
+-- Whether the classes of a suite are a program, and the runs of tests on the program as it is (this project's own).
+use Rattle.std.specs.Prelude.{ℕ, ◌+◌, List, [], ◌∷◌, ◌++◌, codes, map, Option, Some, None, Result, Ok, Err}
 use Rattle.class_model.specs.declared.class.Class.{Class}
 use Rattle.machine_rules.specs.declared.machine.Limits.{Limits}
 use Rattle.machine_rules.specs.declared.machine.Outcome.{Outcome}
 use Rattle.machine_rules.specs.declared.machine.Outcome.TheVariants as outcome
-use Rattle.program_rules.specs.Names.{Name, same}
-use Rattle.program_rules.specs.Linked.{Linked}
+use Rattle.machine_rules.specs.Runs.{Ending, With, StuckAt, Ran, run_of}
 use Rattle.program_rules.specs.Programs.{Look}
-use Rattle.program_rules.specs.Library.{class_among, first_of}
-use Rattle.machine_so_far.specs.Library.{library_so_far}
-use Rattle.machine_rules.specs.Runs.{Ending, With, StuckAt, Ran}
-use Rattle.machine_so_far.specs.Runs.{run_so_far}
 use Rattle.class_link.specs.declared.loaded.Loaded.{Loaded}
 use Rattle.class_table.specs.declared.scripted.Test.{Test}
-use Rattle.class_link.specs.Info.{own_name}
-use Rattle.class_link.specs.Linking.{link}
-use Rattle.jvm_step.specs.View.{test_of}
+use Rattle.jvm_world.specs.View.{test_of}
 use Rattle.mutator_ops.specs.Printing.{printed}
-use Rattle.mutant_runs.specs.Programs.{ClassFiles}
+use Rattle.suite_program.specs.Faults.{first_fault}
+use Rattle.suite_program.specs.declared.fault.ProgramFault.{ProgramFault}
 use Rattle.mutest_engine.specs.Steps.{and_then}
-use Rattle.mutest_engine.specs.Duplicates.{duplicate_in}
-use Rattle.mutest_engine.specs.Supers.{unless_found, right_supers}
 use Rattle.mutest_engine.specs.declared.suite.LoadedSuite.{LoadedSuite}
-use Rattle.class_table.specs.declared.fault.TableFault.{TableFault}
-use Rattle.class_table.specs.declared.fault.TableFault.TheVariants as fault
-use Rattle.mutest_engine.specs.declared.refusal.ProgramFault.{ProgramFault}
-use Rattle.mutest_engine.specs.declared.refusal.ProgramFault.TheVariants.{Duplicate, SuperMissing, SuperCycle, SuperKind}
-use Rattle.mutest_engine.specs.declared.stop.Stop.{Stop}
-use Rattle.mutest_engine.specs.declared.stop.Stop.TheVariants as stop
 use Rattle.mutest_engine.specs.declared.refusal.Refusal.{Refusal}
 use Rattle.mutest_engine.specs.declared.refusal.Refusal.TheVariants.{BadProgram, NotGreen, MachineCheck}
 
@@ -37,43 +23,14 @@ use Rattle.mutest_engine.specs.declared.refusal.Refusal.TheVariants.{BadProgram,
 abbrev pub all_classes : LoadedSuite → List Loaded
 all_classes s = s.classes ++ s.tests
 
-abbrev pub classes_in : List Loaded → List Class
-classes_in loaded = map (λ l. l.class) loaded
+-- Classes are refused by their first fault, if they have one.
+abbrev pub unless_fault : Option ProgramFault → Result (Unit {0}) Refusal
+unless_fault None = Ok tt
+unless_fault (Some f) = Err (BadProgram f)
 
-abbrev pub named : Class → Name × Linked
-named c = (own_name c, link c)
-
--- A name means a class of these, else the library's class.
-unfoldable pub program_of : List Class → Look
-program_of classes n =
-    first_of (class_among (map named classes) n) (class_among library_so_far n)
-
--- The class file of each name: the first of these classes that has it.
-abbrev pub class_file : List Class → ClassFiles
-class_file [] n = None
-class_file (c ∷ cs) n = if same (own_name c) n then Some c else class_file cs n
-
--- The names of the classes and of the library's.
-abbrev pub names_in : List Class → List Name
-names_in classes = map own_name classes ++ map (λ c. c.0) library_so_far
-
--- The classes are a program: no two have one name, and their supers are as they have to be.
+-- The classes are a program with the library, and its code is accepted.
 abbrev pub accepted : List Class → Result (Unit {0}) Refusal
-accepted classes =
-    and_then (unless_found Duplicate (duplicate_in (names_in classes))) (λ apart.
-    right_supers (program_of classes) (names_in classes))
-
--- The same by the fault that the code finds; want of memory is none.
-abbrev pub fault_of : TableFault → Option ProgramFault
-fault_of (fault.Duplicate name) = Some (Duplicate name)
-fault_of (fault.SuperMissing name) = Some (SuperMissing name)
-fault_of (fault.SuperCycle name) = Some (SuperCycle name)
-fault_of (fault.SuperKind name) = Some (SuperKind name)
-fault_of fault.Memory = None
-
-abbrev pub IsStopOf : TableFault → Stop → Type 0
-IsStopOf table s =
-    MatchOption (fault_of table) (s ≡ stop.WantOfMemory) (λ f. s ≡ stop.Refused (BadProgram f))
+accepted classes = unless_fault (first_fault classes)
 
 -- ---- the original runs
 
@@ -83,7 +40,7 @@ usual = record { heap = 4194304; depth = 1024 }
 
 -- The run of a test on the program as it is, of 10,000,000 steps at most.
 unfoldable pub original_run : Look → Test → Ran
-original_run p t = run_so_far p (test_of t) usual 10000000
+original_run p t = run_of p (test_of t) usual 10000000
 
 abbrev pub run_ending : Look → Test → Ending
 run_ending p t = (original_run p t).ending

@@ -15,8 +15,8 @@ use Rattle.mutest_engine.specs.Lines.{named_line, count_text, fault_text, place_
 use Rattle.mutest_words.specs.Words.{Command, list_class, run_suite, assemble_class}
 use Rattle.mutest_engine.specs.declared.refusal.Limit.{Limit}
 use Rattle.mutest_engine.specs.declared.refusal.Limit.TheVariants as limit
-use Rattle.mutest_engine.specs.declared.refusal.ProgramFault.{ProgramFault}
-use Rattle.mutest_engine.specs.declared.refusal.ProgramFault.TheVariants.{Duplicate, SuperMissing, SuperCycle, SuperKind}
+use Rattle.suite_program.specs.declared.fault.ProgramFault.{ProgramFault}
+use Rattle.suite_program.specs.declared.fault.ProgramFault.TheVariants.{Duplicate, SuperMissing, SuperCycle, SuperKind, Code}
 use Rattle.mutest_engine.specs.declared.refusal.Refusal.{Refusal}
 use Rattle.mutest_engine.specs.declared.refusal.Refusal.TheVariants.{Usage, NotFound, Archive, BadClass, BadProgram, BadTest, NotGreen, TooMany, MachineCheck, AsmRefused}
 
@@ -43,12 +43,19 @@ limit_name limit.Bytes = codes "bytes"
 limit_name limit.Tests = codes "tests"
 limit_name limit.Mutants = codes "mutants"
 
--- a fault of the program: its number, and the name of the class that has it
+-- an instruction's class, its method and its number
+abbrev pub code_place : Name → Name → ℕ → List ℕ
+code_place class method at =
+    codes " " ++ printed class ++ codes " " ++ printed method ++ codes " " ++ decimal at
+
+-- a fault of the program: its number, and the name of the class that has it; of code the rule, the
+-- class, its method and the instruction
 abbrev pub program_text : ProgramFault → List ℕ
 program_text (Duplicate name) = codes " 13 " ++ printed name
 program_text (SuperMissing name) = codes " 14 " ++ printed name
 program_text (SuperCycle name) = codes " 15 " ++ printed name
 program_text (SuperKind name) = codes " 16 " ++ printed name
+program_text (Code class method at rule) = codes " V" ++ decimal rule ++ code_place class method at
 
 abbrev pub rule_name : Rule → List ℕ
 rule_name rule.B1 = codes "B1"

@@ -3,7 +3,7 @@
 
 ghost use Rattle.std.specs.Prelude.{◌≡◌, ◌++◌, OnOk};
 ghost use Rattle.mutator_ops.specs.Printing.{printed};
-ghost use Rattle.mutest_engine.specs.Refusals.{limit_name, program_text, rule_name, method_text};
+ghost use Rattle.mutest_engine.specs.Refusals.{limit_name, code_place, program_text, rule_name, method_text};
 ghost use Rattle.mutest_engine.specs.Refusals.{test_line, refusal_number, refusal_line};
 
 use crate::line::{
@@ -12,6 +12,7 @@ use crate::line::{
 use class_model::{Bytes, ClassFault, Memory, Name, Seq};
 use machine_rules::Outcome;
 use std::alloc::Global;
+use suite_program::ProgramFault;
 use test_discovery::{Rule, TestFault};
 
 /// What a count has a limit for.
@@ -39,19 +40,6 @@ impl Limit {
             Limit::Mutants => "mutants",
         }
     }
-}
-
-/// Why the classes are no program.
-#[derive(Drop)]
-pub enum ProgramFault {
-    /// Two classes have this name.
-    Duplicate { name: Name },
-    /// The superclass of this class, or one of its interfaces, is missing.
-    SuperMissing { name: Name },
-    /// This class stands above itself.
-    SuperCycle { name: Name },
-    /// The superclass of this class, or one of its interfaces, is of a wrong kind.
-    SuperKind { name: Name },
 }
 
 /// Why a call is refused. A path and a test are their printed UTF-8.
@@ -110,7 +98,25 @@ fn put_class(alloc: Global, text: &mut Bytes, number: &str, name: &Name) -> Resu
     put_name(alloc, text, name)
 }
 
-// Puts the number of a fault of the program, and the class that has it.
+// Puts an instruction's class, its method and its number.
+fn put_code_place(
+    alloc: Global,
+    text: &mut Bytes,
+    class: &Name,
+    method: &Name,
+    at: u64,
+) -> Result<(), Memory>
+    ensures { OnOk result (text.new ≡ text.old ++ code_place class.now method.now at) }
+{
+    put_str(text, " ")?;
+    put_name(alloc, text, class)?;
+    put_str(text, " ")?;
+    put_name(alloc, text, method)?;
+    put_str(text, " ")?;
+    put_number(alloc, text, at)
+}
+
+// Puts the number of a fault of the program, and what has it.
 fn put_program(alloc: Global, text: &mut Bytes, fault: &ProgramFault) -> Result<(), Memory>
     ensures { OnOk result (text.new ≡ text.old ++ program_text fault.now) }
 {
@@ -119,6 +125,16 @@ fn put_program(alloc: Global, text: &mut Bytes, fault: &ProgramFault) -> Result<
         ProgramFault::SuperMissing { name } => put_class(alloc, text, " 14 ", name),
         ProgramFault::SuperCycle { name } => put_class(alloc, text, " 15 ", name),
         ProgramFault::SuperKind { name } => put_class(alloc, text, " 16 ", name),
+        ProgramFault::Code {
+            class,
+            method,
+            at,
+            rule,
+        } => {
+            put_str(text, " V")?;
+            put_number(alloc, text, u64::from(*rule))?;
+            put_code_place(alloc, text, class, method, u64::from(*at))
+        }
     }
 }
 

@@ -1,7 +1,6 @@
 -- The first fault of a class that is found is the one of the rules.
-use Rattle.std.specs.Prelude.{◌≡◌, ℕ, Bool, true, false, Option, Some, None, IfSome}
+use Rattle.std.specs.Prelude.{◌≡◌, ℕ, true, Some, None, IfSome}
 use Rattle.program_rules.specs.Names.{Name}
-use Rattle.program_rules.specs.Linked.{Linked}
 use Rattle.program_rules.specs.Programs.{Look}
 use Rattle.type_rules.specs.Faults.{class_fault}
 use Rattle.type_rules.specs.Rules.{MethodFault, ClassAccepted, IsFirstInClass}

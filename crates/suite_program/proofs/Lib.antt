@@ -1,0 +1,5 @@
+mod AcceptedLaws
+mod DuplicateLaws
+mod FileLaws
+mod ProgramLaws
+mod SuperLaws

@@ -1,0 +1,4 @@
+pub mod Duplicates
+pub mod Supers
+pub mod Programs
+pub mod Faults

@@ -1,0 +1,42 @@
+-- The program of the classes of a suite and of the library (this project's own).
+use Rattle.std.specs.Prelude.{◌≡◌, ℕ, ◌<◌, List, [], ◌∷◌, ◌++◌, map, length, All, Option, Some, None, if◌then◌else◌, slice_get, option_and_then}
+use Rattle.class_model.specs.declared.class.Class.{Class}
+use Rattle.class_reader.specs.Spells.{IsClass}
+use Rattle.program_rules.specs.Names.{Name, same}
+use Rattle.program_rules.specs.Linked.{Linked}
+use Rattle.program_rules.specs.Library.{class_among, first_of}
+use Rattle.program_rules.specs.Programs.{Look}
+use Rattle.class_link.specs.Info.{Info, file_in, own_name}
+use Rattle.class_link.specs.Linking.{link}
+use Rattle.class_link.specs.declared.loaded.Loaded.{Loaded}
+use Rattle.lib_table.specs.Library.{library_meant}
+use Rattle.mutant_runs.specs.Programs.{ClassFiles}
+
+abbrev pub classes_in : List Loaded → List Class
+classes_in loaded = map (λ l. l.class) loaded
+
+-- Each class file has a spelling, as each that was read has.
+abbrev pub AreSpelled : List Loaded → Type 0
+AreSpelled loaded = All (λ l. IsClass l.class) loaded
+
+abbrev pub named : Class → Name × Linked
+named c = (own_name c, link c)
+
+-- A name means a class of these, else the library's class.
+unfoldable pub program_of : List Class → Look
+program_of classes n =
+    first_of (class_among (map named classes) n) (class_among library_meant n)
+
+-- The class file of each name: the first of these classes that has it.
+abbrev pub class_file : List Class → ClassFiles
+class_file [] n = None
+class_file (c ∷ cs) n = if same (own_name c) n then Some c else class_file cs n
+
+-- The names of the classes and of the library's.
+abbrev pub names_in : List Class → List Name
+names_in classes = map own_name classes ++ map (λ c. c.0) library_meant
+
+-- The class files of a program have the first numbers, in order.
+abbrev pub HaveFirstNumbers : List Info → List Class → Type 0
+HaveFirstNumbers p classes =
+    (k : ℕ) → k < length classes → option_and_then file_in (slice_get p k) ≡ slice_get classes k
