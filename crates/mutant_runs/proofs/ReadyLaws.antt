@@ -13,14 +13,18 @@ use Rattle.class_table.specs.Table.{name_or_none, names, name_at, look, IsProgra
 use Rattle.class_table.proofs.Places.{name_of_class, names_kept}
 use Rattle.type_laws.specs.Alike.{HeadsAlike, head_of}
 use Rattle.type_laws.specs.Bounds.{BoundedHaveRoom, HasBoundedCodes}
+use Rattle.type_laws.specs.Faults.{FirstAreFound}
 use Rattle.type_rules.specs.Rules.{ClassAccepted}
+use Rattle.program_verifier.specs.Programs.{IsRefused, place_of}
+use Rattle.program_verifier.specs.declared.end.VerifyFault.{VerifyFault}
 use Rattle.jvm_world.specs.Finding.{lacks}
 use Rattle.jvm_machine.specs.Programs.{HaveRoomToLand, HasRoomToLand}
 use Rattle.jvm_machine.specs.Tables.{looked_up}
 use Rattle.accepted_edits.specs.Codes.{IsBoundedBody, BoundedAreNumbered, PutStayNumbered, BoundedByName}
 use Rattle.accepted_edits.specs.Kept.{PutKeepKinds, PutKeepLibrary, PutStayAccepted}
 use Rattle.accepted_edits.specs.Put.{PutStayAlike}
-use Rattle.mutant_runs.specs.Edited.{IsReadyBut, EditedAreReady, ReadyMayRun}
+use Rattle.mutant_runs.specs.Edited.{IsReadyBut, EditedAreReady, ReadyMayRun, TellsAccepted}
+use Rattle.mutant_runs.specs.Ready.{IsReady}
 
 -- ---- what is looked up stays
 
@@ -75,3 +79,12 @@ ready_runs named room p ok ready = record {
   kinds = ready.kinds;
   room = λ class place code h. room_by room (look p) class (look p class) place code refl (ready.accepted class) (named p class ok.meant ready.bounded) h;
 }
+
+-- ---- the edited class is accepted, or isn't
+
+pub told_refused : FirstAreFound → (p : List Info) (id : ℕ) (f : VerifyFault) → IsRefused p id f → TellsAccepted p id false
+told_refused first p id f refused = sym (ap (λ o. is_none o) (first (look p) (name_at p id) f.method (place_of f) refused.first))
+
+-- What is looked up is there.
+pub not_lacking : (p : List Info) → IsReady p → lacks (look p) looked_up ≡ true → ⊥
+not_lacking p ready h = let both : true ≡ false = sym h ∙ ready.whole in absurd cc

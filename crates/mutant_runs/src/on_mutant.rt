@@ -92,6 +92,7 @@ fn is_accepted(alloc: Global, program: &Program, id: ClassId) -> Result<bool, Me
 }
 
 // The verdict on a mutant by a run of each test on this program, which the mutant is run as.
+#[tactic(auto, using(crate::proofs::ReadyLaws::not_lacking))]
 fn run_on(
     alloc: Global,
     program: &Program,

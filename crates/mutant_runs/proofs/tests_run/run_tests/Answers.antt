@@ -24,12 +24,15 @@ returns-in_err-add-clause-most c =
     let at = runs_at c.args.limits (look c.args.program.now) c.args.tests.now c.args.steps.now c.loop-i.i c.index-tests-i.result steps c.loop-i-test.true c.requires.each c.index-tests-i.is refl in
     most_so_far c.args.mutant.now (runs_on c.args.limits (look c.args.program.now) (timed c.args.tests.now c.args.steps.now)) c.loop-i.i (mutant_run c.args.limits (look c.args.program.now) c.index-tests-i.result steps) c.loop-i.tally c.loop-i.part c.run_test.new.part c.args.part.now at c.in_ok-said.ensures.most c.loop-i.invariant.runs
 
-pub loop-i-preserved-runs : goal.loop-i-preserved-runs
-loop-i-preserved-runs c =
+pub loop-i-preserved : goal.loop-i-preserved
+loop-i-preserved c =
     let steps = get_or c.args.steps.now c.loop-i.i 0 in
     let at = runs_at c.args.limits (look c.args.program.now) c.args.tests.now c.args.steps.now c.loop-i.i c.index-tests-i.result steps c.loop-i-test.true c.requires.each c.index-tests-i.is refl in
-    one_more c.args.mutant.now (runs_on c.args.limits (look c.args.program.now) (timed c.args.tests.now c.args.steps.now)) c.loop-i.i (mutant_run c.args.limits (look c.args.program.now) c.index-tests-i.result steps) c.loop-i.tally c.add.new.self c.in_ok-said.said.reaches c.in_ok-said.said.detected c.loop-i.part c.run_test.new.part c.args.part.now at
-    c.in_ok-said.ensures.reaches c.in_ok-said.ensures.detected c.in_ok-add.ensures.covering c.in_ok-add.ensures.killer c.in_ok-said.ensures.steps c.loop-i.invariant.runs
+    record {
+      runs = one_more c.args.mutant.now (runs_on c.args.limits (look c.args.program.now) (timed c.args.tests.now c.args.steps.now)) c.loop-i.i (mutant_run c.args.limits (look c.args.program.now) c.index-tests-i.result steps) c.loop-i.tally c.add.new.self c.in_ok-said.said.reaches c.in_ok-said.said.detected c.loop-i.part c.run_test.new.part c.args.part.now at
+          c.in_ok-said.ensures.reaches c.in_ok-said.ensures.detected c.in_ok-add.ensures.covering c.in_ok-add.ensures.killer c.in_ok-said.ensures.steps c.loop-i.invariant.runs;
+      tables = c.in_ok-said.ensures.tables;
+    }
 
 pub returns-clause-told : goal.returns-clause-told
 returns-clause-told c =
