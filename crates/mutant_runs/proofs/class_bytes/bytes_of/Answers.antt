@@ -1,4 +1,4 @@
-use Rattle.std.proofs.Common.{◌≡◌, Some}
+use Rattle.std.proofs.Common.{◌≡◌, Some, rules}
 use Rattle.mutant_runs.proofs.EditLaws.{kept_right}
 use Rattle.mutant_runs.proofs.class_bytes.bytes_of.Goals as goal
 
