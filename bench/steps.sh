@@ -1,32 +1,42 @@
 #!/bin/sh
-# Steps per second of the machine on a counted loop, beside the same class file on the JVM's plain interpreters in the same run: `java -Xint`, and `java -zero` where it is there (Debian's openjdk-17-jre-zero).
-# `ratio` is our steps per second by theirs. One word: the number of steps at most, 100000000 where none is given. It needs `rt`, `java` and `javac`.
+# Steps per second of the machine on five loops (bench/steps/Steps.java), beside the same class file on the JVM's plain
+# interpreters in the same run: `java -Xint`, and `java -zero` where it is there (Debian's openjdk-17-jre-zero). `ratio` is
+# our steps per second by theirs. Words: one or more programs `machine_answers`, as `rt ci` builds them
+# (crates/machine_answers/out/machine_answers, where none is given), so that an older one can be measured in the same run.
+# What a program takes to start is measured by a run of one step and taken off. It needs `java` and `javac`.
 set -eu
 here=$(cd "$(dirname "$0")" && pwd)
-steps=${1:-100000000}
-crate=$here/../crates/bench_steps
+[ $# -gt 0 ] || set -- "$here/../crates/machine_answers/out/machine_answers"
 work=$(mktemp -d)
-trap 'rm -rf "$work" "$crate/Steps.class"' EXIT
-cat > "$work/Main.java" <<'JAVA'
-public class Main {
-    public static void main(String[] words) {
-        long start = System.nanoTime();
-        new Steps().count();
-        System.out.println(System.nanoTime() - start);
-    }
+trap 'rm -rf "$work"' EXIT
+javac --release 8 -nowarn -Xlint:-options -g:lines -d "$work/classes" "$here/steps/Steps.java" 2> /dev/null
+
+now() { date +%s%N; }
+
+# The nanoseconds that a program takes for the tests of a file.
+run() {
+    begun=$(now)
+    "$1" "$work/classes" "$2" > "$work/told"
+    echo $(($(now) - begun))
 }
-JAVA
-cp "$crate/data/Steps.class" "$work"
-javac -cp "$work" -d "$work" "$work/Main.java"
-# `rt run` builds the program and runs it in the crate's folder
-cp "$crate/data/Steps.class" "$crate"
-(cd "$crate" && rt run > "$work/log" 2>&1) || { cat "$work/log"; exit 1; }
-(cd "$work" && "$crate/out/bench_steps" "$steps") > "$work/ours"
-printf 'interpreter         steps/s   ratio\n'
-awk '{ printf "ours           %12.0f\n", $1 / $2 * 1e9 }' "$work/ours"
-for kind in Xint zero; do
-    if java "-$kind" -cp "$work" Main > "$work/theirs" 2> /dev/null; then
-        # the loop has 100,000,003 instructions
-        awk -v k="$kind" 'NR == FNR { a = $1 / $2 * 1e9; next } { b = 100000003 / $1 * 1e9; printf "java -%-8s %12.0f  %6.3f\n", k, b, a / b }' "$work/ours" "$work/theirs"
-    fi
+
+printf '%-12s %-34s %12s %8s\n' loop interpreter steps/s ratio
+for loop in count calls fields arrays exceptions; do
+    echo "Steps $loop 1000000000 2000000000 1024" > "$work/whole"
+    echo "Steps $loop 1 2000000000 1024" > "$work/one"
+    ours=0
+    for program in "$@"; do
+        start=$(run "$program" "$work/one")
+        took=$(($(run "$program" "$work/whole") - start))
+        steps=$(awk '{ print $3 }' "$work/told")
+        ours=$((steps * 1000 / (took / 1000000 + 1)))
+        printf '%-12s %-34s %12d\n' "$loop" "$(echo "$program" | tail -c 34)" "$ours"
+    done
+    for kind in Xint zero; do
+        if java "-$kind" -cp "$work/classes" Steps "$loop" > "$work/theirs" 2> /dev/null; then
+            theirs=$((steps * 1000 / ($(cat "$work/theirs") / 1000000 + 1)))
+            ratio=$(awk "BEGIN { printf \"%.3f\", $ours / $theirs }")
+            printf '%-12s %-34s %12d %8s\n' "$loop" "java -$kind" "$theirs" "$ratio"
+        fi
+    done
 done

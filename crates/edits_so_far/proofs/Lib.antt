@@ -1,5 +1,0 @@
-mod Exchange
-mod Lockstep
-mod Kept
-mod Unreached
-mod Reached
