@@ -12,7 +12,7 @@ use Rattle.mutator_ops.specs.declared.mutant.Mutant.{Mutant}
 use Rattle.mutant_runs.specs.Programs.{ClassFiles}
 use Rattle.mutest_engine.specs.Refusals.{IsOfSuite, IsBeforeRuns, IsTestFault}
 use Rattle.mutest_engine.specs.Steps.{and_then}
-use Rattle.suite_program.specs.Faults.{first_fault}
+use Rattle.suite_program.specs.Faults as program_faults
 use Rattle.suite_program.specs.Programs.{classes_in, class_file, names_in}
 use Rattle.suite_program.specs.declared.fault.ProgramFault.{ProgramFault}
 use Rattle.mutest_engine.specs.Originals.{test_text, all_classes, unless_fault, accepted, settled, run_ending, run_settled, all_settled, all_passed, green}
@@ -126,7 +126,7 @@ of_fault_found None r h = absurd cc
 of_fault_found (Some f) r h = let e : BadProgram f ≡ r = cc in subst IsOfSuite e tt
 
 of_accepted : (classes : List Class) (r : Refusal) → accepted classes ≡ Err r → IsOfSuite r
-of_accepted classes r h = of_fault_found (first_fault classes) r h
+of_accepted classes r h = of_fault_found (program_faults.first_fault classes) r h
 
 pub of_judged : (s : LoadedSuite) (r : Refusal) → judged s ≡ Err r → IsOfSuite r
 of_judged s r h =
