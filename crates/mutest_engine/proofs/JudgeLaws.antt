@@ -159,7 +159,7 @@ is_accepted all h = ap unless_fault h
 is_program : (s : LoadedSuite) (all : List Loaded) → accepted (classes_in all) ≡ Ok tt → all ≡ all_classes s → linked s ≡ Ok tt
 is_program s all acc is = ap (λ l. accepted (classes_in l)) (sym is) ∙ acc
 
-refused_first : {X : Type 0} (all : List Loaded) (e : ProgramEnd) (s : Stop) → RefusesFirst {X} (classes_in all) (Err e) → IsStopOfProgram e s → Refuses (λ r. accepted (classes_in all) ≡ Err r) s
+refused_first : {X : Type 0} (all : List Loaded) (e : ProgramEnd) (s : Stop) → RefusesFirst {X = X} (classes_in all) (Err e) → IsStopOfProgram e s → Refuses (λ r. accepted (classes_in all) ≡ Err r) s
 refused_first all (end.Refused f) s is told = λ r h.
     let both : stop.Refused (BadProgram f) ≡ stop.Refused r = sym told ∙ h in
     let same : BadProgram f ≡ r = cc in
@@ -169,7 +169,7 @@ refused_first all end.Memory s is told = λ r h.
     absurd cc
 
 -- The classes are refused.
-pub program_refused : {X : Type 0} (s : LoadedSuite) (all : List Loaded) (e : ProgramEnd) (told : Stop) → all ≡ all_classes s → RefusesFirst {X} (classes_in all) (Err e) → IsStopOfProgram e told → Refuses (IsRefused s) told
+pub program_refused : {X : Type 0} (s : LoadedSuite) (all : List Loaded) (e : ProgramEnd) (told : Stop) → all ≡ all_classes s → RefusesFirst {X = X} (classes_in all) (Err e) → IsStopOfProgram e told → Refuses (IsRefused s) told
 program_refused s all e told is first by = λ r h.
     let by_classes : linked s ≡ Err r = ap (λ l. accepted (classes_in l)) (sym is) ∙ refused_first all e told first by r h in
     record {
