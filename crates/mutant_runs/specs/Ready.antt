@@ -2,10 +2,9 @@
 use Rattle.std.specs.Prelude.{◌≡◌, false, List, All}
 use Rattle.class_link.specs.Info.{Info}
 use Rattle.class_table.specs.Faults.{HasRightKinds}
-use Rattle.class_table.specs.Table.{look, IsProgram}
+use Rattle.class_table.specs.Table.{look}
 use Rattle.type_rules.specs.Rules.{Accepted}
 use Rattle.jvm_world.specs.Classes.{lacks}
-use Rattle.jvm_machine.specs.Programs.{IsRunnable}
 use Rattle.jvm_machine.specs.Tables.{looked_up}
 use Rattle.accepted_edits.specs.Codes.{IsBoundedBody}
 
@@ -16,7 +15,3 @@ pub record IsReady (p : List Info) : Type 0 where
   pub accepted : Accepted (look p)
   pub bounded : All (λ i. IsBoundedBody i.body) p
   pub whole : lacks (look p) looked_up ≡ false
-
--- A program that is ready may be run.
-abbrev pub ReadyAreRunnable : Type 0
-ReadyAreRunnable = (p : List Info) → IsProgram p → IsReady p → IsRunnable (look p)

@@ -1,7 +1,6 @@
 //! Laws on the definitions.
 
 ghost use Rattle.mutant_runs.specs.Laws.{FilesAreFound, MutantsAreOf, EntriesAddAlone};
-ghost use Rattle.mutant_runs.specs.Ready.{ReadyAreRunnable};
 
 use apply_laws::what_is_spelled_is_named;
 use mutant_apply::mutants_fit;
@@ -27,8 +26,3 @@ pub fn entries_add_alone()
 {
     what_is_spelled_is_named();
 }
-
-/// A program that is ready may be run.
-pub fn ready_programs_are_runnable()
-    ensures { ReadyAreRunnable }
-{}

@@ -11,6 +11,4 @@ mod tally;
 mod tests_run;
 
 pub use all::verdicts;
-pub use laws::{
-    entries_add_alone, files_are_found, mutants_are_of, ready_programs_are_runnable,
-};
+pub use laws::{entries_add_alone, files_are_found, mutants_are_of};
