@@ -1,10 +1,16 @@
 -- The class file that an edit makes is that of the class with the parts that the edit makes anew.
-use Rattle.std.proofs.Common.{◌≡◌, ◌∙◌, sym, refl, ap, subst, ℕ, zero, suc, List, [], ◌∷◌, ◌++◌, Option, None, Some, slice_get, IfSome}
+use Rattle.std.proofs.Common.{◌≡◌, ◌≢◌, ◌∙◌, sym, refl, ap, subst, ℕ, zero, suc, List, [], ◌∷◌, ◌++◌, Option, None, Some, Result, Ok, Err, slice_get, IfSome}
 use Rattle.std.specs.Prelude.{option_and_then}
 use Rattle.std.specs.Option.{option_map}
 use Rattle.class_model.specs.declared.class.Class.{Class}
 use Rattle.class_model.specs.declared.class.Member.{Member}
 use Rattle.class_model.specs.declared.edit.Edit.{Edit}
+use Rattle.class_model.specs.declared.fault.Bound.{Bound}
+use Rattle.class_model.specs.declared.fault.LayoutFault.{LayoutFault}
+use Rattle.class_model.specs.declared.fault.LayoutFault.TheVariants as layout_fault
+use Rattle.codec_rules.specs.Meets.{Gives}
+use Rattle.class_reader.specs.Spells.{IsClass, class_bytes}
+use Rattle.class_writer.specs.Writing.{SpelledIsWritten, layout}
 use Rattle.class_link.specs.declared.loaded.EditedFile.{EditedFile}
 use Rattle.class_link.specs.declared.loaded.Loaded.{Loaded}
 use Rattle.class_link.specs.Edits.{with_attrs_at, class_edited}
@@ -51,6 +57,19 @@ pub none_made : PartsAreOfApplied → (l : Loaded) (edit : Edit) → made_file l
 none_made law l edit h = none_case l edit (parts_and_bytes l.class edit) (law l.class edit) h
 
 -- ---- what is kept
+
+-- A class that has a spelling passes no bound.
+pub never_large : (class : Class) (r : Result (List ℕ) LayoutFault) (what : Bound) → SpelledIsWritten → IsClass class → Gives layout_fault.Memory (λ bytes. bytes) (layout class) r → r ≡ Err (layout_fault.TooLarge what) → ⊥
+never_large class r what law is gives e =
+    let large : layout_fault.TooLarge what ≢ layout_fault.Memory → layout class ≡ Err (layout_fault.TooLarge what) = subst (Gives layout_fault.Memory (λ bytes. bytes) (layout class)) e gives in
+    let whole = (law (class_bytes class) class (record { form = is; text = refl })).1 in
+    not_both (layout class) (class_bytes class) (layout_fault.TooLarge what) whole (large (λ same. absurd cc))
+  where
+    not_both : (o : Result (List ℕ) LayoutFault) (bytes : List ℕ) (f : LayoutFault) → o ≡ Ok bytes → o ≡ Err f → ⊥
+    not_both o bytes f a b = let both : Ok bytes ≡ Err f = sym a ∙ b in absurd cc
+
+pub kept_right : (id : ℕ) (class : Class) (kept : Option ClassBytes) (known : ClassBytes) → kept ≡ Some known → known.id.0 ≡ id → IsRightFor id class kept → HasBytes class known
+kept_right id class kept known is same right = (subst (IsRightFor id class) is right) same
 
 pub right_for : (p : List Info) (id : ℕ) (c : Class) (kept : Option ClassBytes) → option_and_then file_in (slice_get p id) ≡ Some c → IsKept p kept → IsRightFor id c kept
 right_for p id c None there h = tt

@@ -1,47 +1,84 @@
 -- The verdict on a mutant by the runs on the program with its edit, and the steps of these runs.
-use Rattle.std.proofs.Common.{◌≡◌, ◌∙◌, sym, ap, subst, Result, IfOk, ℕ, ◌+◌, ◌^◌, ◌<◌, ◌≤◌, List, length, take, get_or, All, Option, None, Some, slice_set, arith}
+use Rattle.std.proofs.Common.{◌≡◌, ◌∙◌, sym, refl, ap, subst, Result, IfOk, ℕ, ◌+◌, ◌^◌, ◌<◌, ◌≤◌, Bool, true, false, List, length, take, get_or, All, Option, None, Some, slice_set, arith}
+use Rattle.std.specs.Prelude.{if◌then◌else◌, is_none, is_some, option_and_then}
 use Rattle.std.specs.Option.{option_map, option_map_or}
 use Rattle.std.proofs.lemmas.List.Sums.{sum_by-le, sum_by-take-le, sum_by_more_le}
 use Rattle.machine_rules.specs.declared.machine.Limits.{Limits}
 use Rattle.program_rules.specs.Programs.{Look}
+use Rattle.type_rules.specs.Faults.{Placed, class_fault}
 use Rattle.class_table.specs.declared.scripted.Test.{Test}
 use Rattle.class_link.specs.Info.{Info}
-use Rattle.class_table.specs.Table.{look}
+use Rattle.class_table.specs.Table.{look, name_at}
 use Rattle.class_model.specs.declared.memory.Memory.{Memory}
 use Rattle.mutator_ops.specs.declared.mutant.Mutant.{Mutant}
 use Rattle.mutator_ops.specs.declared.mutant.Verdict.{Verdict}
-use Rattle.mutant_runs.specs.Programs.{ClassFiles, files_of, edited, Makes}
+use Rattle.mutant_runs.specs.Edited.{TellsAccepted}
+use Rattle.mutant_runs.specs.Programs.{ClassFiles, files_of, edited, with_accepted, viable, Makes}
+use Rattle.mutant_runs.specs.Promises.{runs_in, runs_if_accepted, steps_run, steps_if, steps_for, IsJudged, IsVerdict, IsVerdictIf}
 use Rattle.mutant_runs.specs.Runs.{Timed, timed, runs_on, steps_in, most_steps}
-use Rattle.mutant_runs.specs.Verdicts.{judged, not_viable, verdict_of, steps_on, steps_of_all}
+use Rattle.mutant_runs.specs.Verdicts.{judged, not_viable, mutant_runs, verdict_of, steps_on, steps_of_all}
 use Rattle.mutant_runs.proofs.RunLaws.{all_runs_most}
 
 -- ---- one mutant
 
-pub verdict_made : (q : Limits) (p : List Info) (tests : List Timed) (m : Mutant) (id : ℕ) (class : Info) → Makes p m id class → verdict_of q (files_of p) (look p) tests m ≡ judged m (runs_on q (look (slice_set p id class)) tests)
-unfolding verdict_of
-verdict_made q p tests m id class h = ap (λ o. option_map_or (judged m) (option_map (λ made. runs_on q made tests) o) not_viable) h.program
+module _ (q : Limits) (p ran : List Info) (ts : List Test) (ns : List ℕ) (m : Mutant) (id : ℕ) (class : Info) (made : Makes p m id class) (is : ran ≡ slice_set p id class) where
+  -- The runs on a mutant are those on the program with the class that its edit makes, where that is
+  -- accepted.
+  runs_made : mutant_runs q (files_of p) (look p) (timed ts ns) m ≡ runs_if_accepted q ran ts ns m
+  runs_made =
+      ap (λ o. option_map (λ w. runs_on q w (timed ts ns)) (option_and_then (with_accepted m.class) o)) made.program
+      ∙ ap (λ w. runs_if_accepted q w ts ns m) (sym is)
 
-pub steps_made : (q : Limits) (p : List Info) (tests : List Timed) (m : Mutant) (id : ℕ) (class : Info) → Makes p m id class → steps_on q (files_of p) (look p) tests m ≡ steps_in (runs_on q (look (slice_set p id class)) tests)
-unfolding steps_on
-steps_made q p tests m id class h = ap (λ o. option_map_or steps_in (option_map (λ made. runs_on q made tests) o) 0) h.program
+  verdict_made : verdict_of q (files_of p) (look p) (timed ts ns) m ≡ option_map_or (judged m) (runs_if_accepted q ran ts ns m) not_viable
+  unfolding verdict_of
+  verdict_made = ap (λ o. option_map_or (judged m) o not_viable) runs_made
 
--- The same where the runs were made on a program that is equal to this one.
-pub told_made : (q : Limits) (p ran : List Info) (tests : List Timed) (m : Mutant) (id : ℕ) (class : Info) (r : Result Verdict Memory) → Makes p m id class → ran ≡ slice_set p id class → IfOk r (λ v. v ≡ judged m (runs_on q (look ran) tests))
-    → IfOk r (λ v. v ≡ verdict_of q (files_of p) (look p) tests m)
-told_made q p ran tests m id class r h e told =
-    let P : Verdict → Type 0 = λ x. IfOk r (λ v. v ≡ x) in
-    subst P (ap (λ w. judged m (runs_on q (look w) tests)) e ∙ sym (verdict_made q p tests m id class h)) told
+  pub told_made : (r : Result Verdict Memory) → IfOk r (IsVerdictIf q ran ts ns m) → IfOk r (IsVerdict q p ts ns m)
+  told_made r told = let P : Verdict → Type 0 = λ x. IfOk r (λ v. v ≡ x) in subst P (sym verdict_made) told
 
-pub counted_made : (q : Limits) (p ran : List Info) (tests : List Timed) (m : Mutant) (id : ℕ) (class : Info) → Makes p m id class → ran ≡ slice_set p id class → steps_in (runs_on q (look ran) tests) ≡ steps_on q (files_of p) (look p) tests m
-counted_made q p ran tests m id class h e = ap (λ w. steps_in (runs_on q (look w) tests)) e ∙ sym (steps_made q p tests m id class h)
+  pub counted_made : steps_if q ran ts ns m ≡ steps_for q p ts ns m
+  unfolding steps_on
+  counted_made = ap (λ o. option_map_or steps_in o 0) (sym runs_made)
 
 pub verdict_none : (q : Limits) (files : ClassFiles) (p : Look) (tests : List Timed) (m : Mutant) → edited files p m ≡ None → verdict_of q files p tests m ≡ not_viable
 unfolding verdict_of
-verdict_none q files p tests m h = ap (λ o. option_map_or (judged m) (option_map (λ made. runs_on q made tests) o) not_viable) h
+verdict_none q files p tests m h = ap (λ o. option_map_or (judged m) (option_map (λ made. runs_on q made tests) (option_and_then (with_accepted m.class) o)) not_viable) h
 
 pub steps_none : (q : Limits) (files : ClassFiles) (p : Look) (tests : List Timed) (m : Mutant) → edited files p m ≡ None → steps_on q files p tests m ≡ 0
 unfolding steps_on
-steps_none q files p tests m h = ap (λ o. option_map_or steps_in (option_map (λ made. runs_on q made tests) o) 0) h
+steps_none q files p tests m h = ap (λ o. option_map_or steps_in (option_map (λ made. runs_on q made tests) (option_and_then (with_accepted m.class) o)) 0) h
+
+-- ---- whether the edited class is accepted
+
+fault_case : (o : Option Placed) (p : Look) → is_none o ≡ true → (if is_some o then None else Some p) ≡ Some p
+fault_case None p h = refl
+fault_case (Some f) p h = absurd cc
+
+no_fault_case : (o : Option Placed) (p : Look) → is_none o ≡ false → (if is_some o then None else Some p) ≡ None
+no_fault_case None p h = absurd cc
+no_fault_case (Some f) p h = refl
+
+module _ (q : Limits) (p : List Info) (ts : List Test) (ns : List ℕ) (m : Mutant) (id : ℕ) (ok : Bool) (named : name_at p id ≡ m.class) (told : TellsAccepted p id ok) where
+  fault_is : is_none (class_fault (look p) m.class) ≡ ok
+  fault_is = ap (λ n. is_none (class_fault (look p) n)) (sym named) ∙ sym told
+
+  pub runs_accepted : ok ≡ true → runs_if_accepted q p ts ns m ≡ Some (runs_in q p ts ns)
+  runs_accepted e = ap (option_map (λ made. runs_on q made (timed ts ns))) (fault_case (class_fault (look p) m.class) (look p) (fault_is ∙ e))
+
+  pub runs_refused : ok ≡ false → runs_if_accepted q p ts ns m ≡ None
+  runs_refused e = ap (option_map (λ made. runs_on q made (timed ts ns))) (no_fault_case (class_fault (look p) m.class) (look p) (fault_is ∙ e))
+
+  pub told_accepted : ok ≡ true → (r : Result Verdict Memory) → IfOk r (IsJudged q p ts ns m) → IfOk r (IsVerdictIf q p ts ns m)
+  told_accepted e r h = let P : Verdict → Type 0 = λ x. IfOk r (λ v. v ≡ x) in subst P (sym (ap (λ o. option_map_or (judged m) o not_viable) (runs_accepted e))) h
+
+  pub steps_accepted : ok ≡ true → steps_run q p ts ns ≡ steps_if q p ts ns m
+  steps_accepted e = ap (λ o. option_map_or steps_in o 0) (sym (runs_accepted e))
+
+  pub told_refused : ok ≡ false → IsVerdictIf q p ts ns m not_viable
+  told_refused e = sym (ap (λ o. option_map_or (judged m) o not_viable) (runs_refused e))
+
+  pub steps_refused : ok ≡ false → steps_if q p ts ns m ≡ 0
+  steps_refused e = ap (λ o. option_map_or steps_in o 0) (runs_refused e)
 
 -- ---- all mutants
 
@@ -51,7 +88,7 @@ most_case q ts ns (Some made) few h = all_runs_most q made ts ns few h
 
 steps_most : (q : Limits) (files : ClassFiles) (p : Look) (ts : List Test) (ns : List ℕ) (m : Mutant) → length ts ≤ 65535 → All (λ n. n ≤ most_steps) ns → steps_on q files p (timed ts ns) m ≤ 825741000000
 unfolding steps_on
-steps_most q files p ts ns m few h = most_case q ts ns (edited files p m) few h
+steps_most q files p ts ns m few h = most_case q ts ns (viable files p m) few h
 
 -- The steps of all runs on the first mutants leave room for more.
 pub room_left : (q : Limits) (files : ClassFiles) (p : Look) (ts : List Test) (ns : List ℕ) (mutants : List Mutant) (i part start : ℕ) → length ts ≤ 65535 → All (λ n. n ≤ most_steps) ns → length mutants ≤ 262144 → start < 2 ^ 62

@@ -1,33 +1,32 @@
 -- A program with an edited class in the place of the one that it was made of, and the way back.
-use Rattle.std.proofs.Common.{◌≡◌, ◌≢◌, ◌∙◌, sym, refl, ap, subst, ℕ, zero, suc, Bool, true, false, List, [], ◌∷◌, Option, None, Some, slice_get, slice_set, IsSomeAnd, map, ◌++◌, arith}
-use Rattle.std.specs.Prelude.{◌==◌, if◌then◌else◌, option_and_then, IfSome}
-use Rattle.std.specs.List.{AllByRecursion}
+use Rattle.std.proofs.Common.{◌≡◌, ◌≢◌, ◌∙◌, sym, refl, ap, subst, ℕ, zero, suc, Bool, true, false, List, [], ◌∷◌, Option, None, Some, slice_get, slice_set, IsSomeAnd, arith}
+use Rattle.std.specs.Prelude.{if◌then◌else◌, option_and_then, IfSome}
 use Rattle.std.specs.Option.{option_map}
 use Rattle.std.specs.Cmp.Lexicographic.{same_text, other_text}
 use Rattle.std.proofs.lemmas.List.{length-map}
 use Rattle.std.proofs.lemmas.Option.{slice_get_within}
 use Rattle.class_model.specs.declared.class.Class.{Class}
-use Rattle.class_model.specs.declared.edit.Edit.{Edit}
-use Rattle.class_model.specs.Pool.{class_name_of}
-use Rattle.class_model.specs.declared.constant.Const.{Const}
 use Rattle.class_writer.specs.Writing.{HasClassForm}
 use Rattle.program_rules.specs.Names.{Name, same}
-use Rattle.program_rules.specs.Linked.{Linked}
 use Rattle.class_link.specs.declared.loaded.Loaded.{Loaded}
 use Rattle.class_link.specs.declared.loaded.ClassBody.TheVariants as body
+use Rattle.class_link.specs.Edits.{AddsAlone, class_edited}
 use Rattle.class_link.specs.Info.{Info, own_name, body_name, link_body, class_of, file_in}
-use Rattle.class_link.specs.Linking.{class_or_none, link}
-use Rattle.class_link.specs.Symbols.{name_or_empty, class_named}
-use Rattle.class_table.specs.Table.{place_in, names, number_of, name_at, class_at, look, AreDistinct, IsFile, IsAlike, CanSwap}
-use Rattle.class_table.proofs.Places.{name_at_place, names_kept}
-use Rattle.class_reader.specs.Spells.{IsClass}
-use Rattle.mutant_apply.specs.Edited.{class_with, applied}
-use Rattle.mutant_apply.specs.declared.parts.Parts.{Parts}
-use Rattle.mutant_apply.proofs.Made.{applied_made}
-use Rattle.mutant_apply.proofs.NamesKept.{SameNames, same_names}
+use Rattle.class_link.specs.Linking.{link}
+use Rattle.class_table.specs.Table.{place_in, names, number_of, name_at, class_at, look, AreDistinct, IsAlike, CanSwap}
+use Rattle.class_table.proofs.Places.{name_at_place, name_of_class, number_named, names_kept}
+use Rattle.class_reader.specs.Spells.{IsClass, Spells, class_bytes}
+use Rattle.accepted_edits.specs.Codes.{IsSpelledBody, SpelledAreBounded}
+use Rattle.accepted_edits.specs.Put.{IsPut, EditsArePut}
+use Rattle.apply_laws.specs.Spelled.{EditsAreSpelled}
+use Rattle.edited_bytes.specs.Laws.{PartsAreOfApplied}
+use Rattle.mutant_apply.specs.Edited.{applied}
 use Rattle.mutant_apply.specs.Fitting.{Fits}
 use Rattle.mutator_ops.specs.declared.mutant.Mutant.{Mutant}
+use Rattle.mutant_runs.specs.Edited.{EditsMake}
+use Rattle.mutant_runs.specs.Laws.{EntriesAddAlone}
 use Rattle.mutant_runs.specs.Programs.{files_of, with_class, edited, IsMutantOf, Makes}
+use Rattle.mutant_runs.proofs.EditLaws.{IsEdit, is_edit}
 
 -- ---- an item of a list, exchanged
 
@@ -76,58 +75,10 @@ look_named p id old new c n h number name class =
 look_with : (p : List Info) (id : ℕ) (old new : Info) (c : Class) → slice_get p id ≡ Some old → number_of p (own_name c) ≡ Some id → new.name ≡ old.name → class_of new ≡ link c → look (slice_set p id new) ≡ with_class c (look p)
 look_with p id old new c h number name class = λ i n. look_named p id old new c n h number name class i
 
--- ---- the class that an edit makes
-
-each_same : (f : ℕ → Name) (g : ℕ → Name) (is : List ℕ) → AllByRecursion (λ i. f i ≡ g i) is → map f is ≡ map g is
-each_same f g [] q = refl
-each_same f g (i ∷ is) q = ap (λ (n : Name). n ∷ map f is) q.0 ∙ ap (λ (ns : List Name). g i ∷ ns) (each_same f g is q.1)
-
-each_named : (pool more : List Const) (is : List ℕ) → AllByRecursion (λ i. class_name_of (pool ++ more) i ≡ class_name_of pool i) is → AllByRecursion (λ i. class_named (pool ++ more) i ≡ class_named pool i) is
-each_named pool more [] q = tt
-each_named pool more (i ∷ is) q = (ap name_or_empty q.0, each_named pool more is q.1)
-
-parent_case : (pool more : List Const) (i : ℕ) (b : Bool) → (b ≡ false → class_name_of (pool ++ more) i ≡ class_name_of pool i) → (if b then None else Some (class_named (pool ++ more) i)) ≡ (if b then None else Some (class_named pool i))
-parent_case pool more i true same = refl
-parent_case pool more i false same = ap (λ (o : Option Name). Some (name_or_empty o)) (same refl)
-
--- the superclass and the interfaces of a class with entries behind its pool
-same_parent : (c : Class) (more : List Const) → SameNames c more → class_or_none (c.pool ++ more) c.parent ≡ class_or_none c.pool c.parent
-same_parent c more q = parent_case c.pool more c.parent (c.parent == 0) q.parent
-
-same_interfaces : (c : Class) (more : List Const) → SameNames c more → map (class_named (c.pool ++ more)) c.interfaces ≡ map (class_named c.pool) c.interfaces
-same_interfaces c more q = each_same (class_named (c.pool ++ more)) (class_named c.pool) c.interfaces (each_named c.pool more c.interfaces q.interfaces)
-
-linked_parent : (edit : Edit) (c : Class) (parts : Parts) → SameNames c parts.added → (link (class_with edit c parts)).parent ≡ (link c).parent
-unfolding link
-linked_parent edit c parts q = same_parent c parts.added q
-
-linked_interfaces : (edit : Edit) (c : Class) (parts : Parts) → SameNames c parts.added → (link (class_with edit c parts)).interfaces ≡ (link c).interfaces
-unfolding link
-linked_interfaces edit c parts q = same_interfaces c parts.added q
-
--- An edit leaves the name, the superclass and the interfaces.
-alike : (old new : Info) (l : Loaded) (edit : Edit) (parts : Parts) (made : Class) → made ≡ class_with edit l.class parts → SameNames l.class parts.added → old.name ≡ body_name old.body → class_of old ≡ link_body old.body → old.body ≡ body.File l
-    → new.name ≡ own_name made → class_of new ≡ link made → IsFile new.body → IsAlike old new
-alike old new l edit parts made is same old-name old-class old-body new-name new-class new-file = record {
-  old_file = subst IsFile (sym old-body) tt;
-  new_file = new-file;
-  name = new-name ∙ ap own_name is ∙ ap name_or_empty same.this ∙ sym (old-name ∙ ap body_name old-body);
-  parent = ap (λ (k : Linked). k.parent) (new-class ∙ ap link is) ∙ linked_parent edit l.class parts same ∙ sym (ap (λ (k : Linked). k.parent) (old-class ∙ ap link_body old-body));
-  interfaces = ap (λ (k : Linked). k.interfaces) (new-class ∙ ap link is) ∙ linked_interfaces edit l.class parts same ∙ sym (ap (λ (k : Linked). k.interfaces) (old-class ∙ ap link_body old-body));
-}
-
 -- ---- which class file a mutant's class has
 
 pub number_at : (p : List Info) (i : ℕ) (x : Info) → AreDistinct (names p) → slice_get p i ≡ Some x → number_of p (name_at p i) ≡ Some i
 number_at p i x distinct h = let lt = slice_get_within p i x h in distinct i (omega (arith, lt, length-map p (λ (y : Info). y.name)))
-
--- The class of a number is the class of this name.
-pub record IsAt (p : List Info) (n : Name) (id : ℕ) (i : Info) : Type 0 where
-  pub number : number_of p n ≡ Some id
-  pub place : slice_get p id ≡ Some i
-  pub named : i.name ≡ n
-  pub name : i.name ≡ body_name i.body
-  pub class : class_of i ≡ link_body i.body
 
 pub file_at : (p : List Info) (n : Name) (id : ℕ) (i : Info) → number_of p n ≡ Some id → slice_get p id ≡ Some i → files_of p n ≡ file_in i
 file_at p n id i number place = ap (option_and_then (λ k. option_and_then file_in (slice_get p k))) number ∙ ap (option_and_then file_in) place
@@ -147,26 +98,70 @@ edited_by p m c o file is = ap (λ f. option_map (λ made. with_class made.0 (lo
 pub of_file : (p : List Info) (m : Mutant) (c : Class) → files_of p m.class ≡ Some c → IsMutantOf (files_of p) m → HasClassForm c × Fits c m.edit × IsClass c
 of_file p m c file h = let P : Option Class → Type 0 = λ o. IfSome o (λ c. HasClassForm c × Fits c m.edit × IsClass c) in subst P file h
 
--- The class that is made takes the other's place.
-pub makes : (p : List Info) (m : Mutant) (id : ℕ) (old new : Info) (l : Loaded) (made : Class × List ℕ) → IsAt p m.class id old → old.body ≡ body.File l → IsClass l.class → applied l.class m.edit ≡ Some made
-    → new.name ≡ own_name made.0 → class_of new ≡ link made.0 → IsFile new.body → Makes p m id new
-makes p m id old new l made at file spelled is new-name new-class new-file =
-    let made_by = applied_made l.class m.edit made is in
-    let same = same_names l.class made_by.parts.added spelled in
-    let like : IsAlike old new = alike old new l m.edit made_by.parts made.0 made_by.is same at.name at.class file new-name new-class new-file in
-    let own : own_name made.0 ≡ m.class = sym new-name ∙ like.name ∙ at.named in
-    let number : number_of p (own_name made.0) ≡ Some id = ap (number_of p) own ∙ at.number in
-    let P : Option Info → Type 0 = λ o. IsSomeAnd o (λ x. IsAlike x new) in
-    record {
-      swaps = subst P (sym at.place) like;
-      program = edited_by p m l.class (Some made) (file_at p m.class id old at.number at.place ∙ ap (λ b. file_in (record old { body = b })) file) is ∙ ap Some (sym (look_with p id old new made.0 at.place number like.name new-class));
-    }
+-- ---- the class that an edit makes
+
+module _ (parts : PartsAreOfApplied) (alone : EntriesAddAlone) (put : EditsArePut) (spelled : EditsAreSpelled) (bounded : SpelledAreBounded) where
+  pub made_by : EditsMake
+  made_by p m id new ok fit by = record {
+    old = by.old;
+    put = is_put;
+    name = name_of_class p id by.old by.there ∙ old_name;
+    bounded = bounded new.body (subst IsSpelledBody (sym by.edited) made_spelled.form);
+    program = edited_by p m l.class (Some made) file edit.applied ∙ ap Some (sym looks);
+  }
+    where
+      l : Loaded
+      l = by.loaded
+
+      made : Class × List ℕ
+      made = (class_edited by.file, by.file.bytes)
+
+      file : files_of p m.class ≡ Some l.class
+      file = file_found p m.class id by.old l by.number by.there by.original
+
+      known : HasClassForm l.class × Fits l.class m.edit × IsClass l.class
+      known = of_file p m l.class file fit
+
+      edit : IsEdit l m.edit by.file
+      edit = is_edit parts l m.edit by.file by.made
+
+      is_alone : AddsAlone by.file
+      is_alone = alone by.file (subst (λ (x : Loaded). HasClassForm x.class) (sym edit.original) known.0) (subst (λ (x : Loaded). IsClass x.class) (sym edit.original) known.2)
+
+      is_put : IsPut p id by.old new
+      is_put = put p id by.file by.old new ok (record {
+        there = by.there;
+        file = by.original ∙ ap body.File (sym edit.original);
+        edited = by.edited;
+        alone = is_alone;
+        meant = by.meant;
+      })
+
+      made_spelled : Spells by.file.bytes (class_edited by.file)
+      made_spelled = spelled (class_bytes l.class) l.class m.edit made (record { form = known.2; text = refl }) known.1 edit.applied
+
+      old_name : by.old.name ≡ m.class
+      old_name = sym (name_of_class p id by.old by.there) ∙ number_named p m.class id by.number
+
+      own : own_name (class_edited by.file) ≡ m.class
+      own = sym (by.meant.name ∙ ap body_name by.edited) ∙ is_put.alike.name ∙ old_name
+
+      looks : look (slice_set p id new) ≡ with_class (class_edited by.file) (look p)
+      looks = look_with p id by.old new (class_edited by.file) by.there (ap (number_of p) own ∙ by.number) is_put.alike.name (by.meant.linked ∙ ap link_body by.edited)
 
 -- ---- the way back
 
-pub can_swap_back : (p : List Info) (id : ℕ) (old new : Info) → slice_get p id ≡ Some old → CanSwap p id new → CanSwap (slice_set p id new) id old
-can_swap_back p id old new place h =
+can_swap : (p : List Info) (id : ℕ) (old new : Info) → slice_get p id ≡ Some old → IsAlike old new → CanSwap p id new
+can_swap p id old new place like =
     let P : Option Info → Type 0 = λ o. IsSomeAnd o (λ x. IsAlike x new) in
-    let Q : Option Info → Type 0 = λ o. IsSomeAnd o (λ x. IsAlike x old) in
-    let like : IsAlike old new = subst P place h in
-    subst Q (sym (set_same p id old new place)) (record { old_file = like.new_file; new_file = like.old_file; name = sym like.name; parent = sym like.parent; interfaces = sym like.interfaces })
+    subst P (sym place) like
+
+pub makes_swap : (p : List Info) (m : Mutant) (id : ℕ) (new : Info) → Makes p m id new → CanSwap p id new
+makes_swap p m id new made = can_swap p id made.old new made.put.there made.put.alike
+
+pub makes_swap_back : (p : List Info) (m : Mutant) (id : ℕ) (old new : Info) → Makes p m id new → slice_get p id ≡ Some old → CanSwap (slice_set p id new) id old
+makes_swap_back p m id old new made place =
+    let both : Some old ≡ Some made.old = sym place ∙ made.put.there in
+    let like : IsAlike old new = subst (λ x. IsAlike x new) (let same : made.old ≡ old = cc in same) made.put.alike in
+    can_swap (slice_set p id new) id new old (set_same p id old new place)
+    (record { old_file = like.new_file; new_file = like.old_file; name = sym like.name; parent = sym like.parent; interfaces = sym like.interfaces })

@@ -5,14 +5,13 @@ use Rattle.std.proofs.lemmas.List.Sums.{sum_by-cons}
 use Rattle.machine_rules.specs.declared.machine.Limits.{Limits}
 use Rattle.program_rules.specs.Programs.{Look}
 use Rattle.machine_rules.specs.State.{World, MachineState, start}
-use Rattle.machine_rules.specs.Steps.{Stepped, Next, Ended, Stuck}
-use Rattle.machine_so_far.specs.Steps.{step_so_far}
-use Rattle.machine_rules.specs.Runs.{Ran, then_run, limit_of}
-use Rattle.machine_so_far.specs.Runs.{run_so_far_from, run_so_far}
+use Rattle.machine_rules.specs.Steps.{Stepped, Next, Ended, Stuck, step_of}
+use Rattle.machine_rules.specs.Runs.{Ran, then_run, limit_of, run_from, run_of}
+use Rattle.class_link.specs.Info.{Info}
 use Rattle.class_table.specs.declared.scripted.Test.{Test}
-use Rattle.jvm_step.specs.View.{test_of}
-use Rattle.jvm_run.specs.Result.{named_place, IsResultOf}
-use Rattle.jvm_run.specs.declared.result.RunResult.{RunResult}
+use Rattle.jvm_world.specs.View.{named, test_of}
+use Rattle.jvm_machine.specs.Result.{pairs_of, IsResultOf}
+use Rattle.jvm_machine.specs.declared.result.RunResult.{RunResult}
 use Rattle.mutator_ops.specs.declared.mutant.Mutant.{Mutant}
 use Rattle.mutant_runs.specs.Runs.{mutant_run, timed, runs_on, steps_in, is_at, reaches, most_steps}
 
@@ -23,11 +22,11 @@ then_most (Next t) n left go w h = let le = h t in omega (arith, le)
 then_most (Ended o) n left go w h = omega arith
 then_most (Stuck place) n left go w h = omega arith
 
-run_most : (p : Look) (q : Limits) (left : ℕ) (s : MachineState) (n : ℕ) → (run_so_far_from p q left s n).steps ≤ n + left
+run_most : (p : Look) (q : Limits) (left : ℕ) (s : MachineState) (n : ℕ) → (run_from p q left s n).steps ≤ n + left
 run_most p q zero s n = omega arith
-run_most p q (suc left) s n = then_most (step_so_far p q s) n left (λ t. run_so_far_from p q left t (suc n)) s.world (λ t. run_most p q left t (suc n))
+run_most p q (suc left) s n = then_most (step_of p q s) n left (λ t. run_from p q left t (suc n)) s.world (λ t. run_most p q left t (suc n))
 
-of_most : (p : Look) (q : Limits) (t : Test) (limit : ℕ) → (run_so_far p (test_of t) q limit).steps ≤ limit
+of_most : (p : Look) (q : Limits) (t : Test) (limit : ℕ) → (run_of p (test_of t) q limit).steps ≤ limit
 of_most p q t limit = let most = run_most p q limit (start p (test_of t)) 0 in omega (arith, most)
 
 limit_most : (n : ℕ) → n ≤ most_steps → limit_of n ≤ 12600000
@@ -40,16 +39,19 @@ mutant_most q p t n h = let run = of_most p q t (limit_of n) in let limit = limi
 -- ---- what a run says
 
 -- A run of so many steps is the mutant's run, where this is its limit.
-pub of_run : (q : Limits) (p : Look) (t : Test) (n limit : ℕ) → limit ≡ limit_of n → run_so_far p (test_of t) q limit ≡ mutant_run q p t n
+pub of_run : (q : Limits) (p : Look) (t : Test) (n limit : ℕ) → limit ≡ limit_of n → run_of p (test_of t) q limit ≡ mutant_run q p t n
 unfolding mutant_run
-of_run q p t n limit e = ap (run_so_far p (test_of t) q) e
+of_run q p t n limit e = ap (run_of p (test_of t) q) e
 
 any_map : {A B : Type 0} (test : B → Bool) (f : A → B) (xs : List A) → list_any (λ x. test (f x)) xs ≡ list_any test (map f xs)
 any_map test f [] = refl
 any_map test f (x ∷ xs) = ap (λ b. test (f x) || b) (any_map test f xs)
 
-pub run_reaches : (m : Mutant) (r : RunResult) (ran : Ran) → IsResultOf r ran → list_any (λ pair. is_at m (named_place r.consulted pair)) r.reached ≡ reaches m ran
-run_reaches m r ran h = any_map (is_at m) (named_place r.consulted) r.reached ∙ ap (list_any (is_at m)) h.reached
+pub run_reaches : (p : List Info) (m : Mutant) (r : RunResult) (ran : Ran) → IsResultOf p r ran → list_any (λ pair. is_at m (named p (pair.0.0, pair.1))) r.reached ≡ reaches m ran
+run_reaches p m r ran h =
+    any_map (λ x. is_at m (named p x)) (λ x. (x.0.0, x.1)) r.reached
+    ∙ any_map (is_at m) (named p) (pairs_of r)
+    ∙ ap (list_any (is_at m)) h.reached
 
 -- ---- all runs
 

@@ -4,7 +4,7 @@ use Rattle.class_link.specs.Info.{Info}
 use Rattle.class_table.specs.Faults.{HasRightKinds}
 use Rattle.class_table.specs.Table.{look}
 use Rattle.type_rules.specs.Rules.{Accepted}
-use Rattle.jvm_world.specs.Classes.{lacks}
+use Rattle.jvm_world.specs.Finding.{lacks}
 use Rattle.jvm_machine.specs.Tables.{looked_up}
 use Rattle.accepted_edits.specs.Codes.{IsBoundedBody}
 

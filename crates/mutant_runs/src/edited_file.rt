@@ -1,6 +1,7 @@
 //! The class file that an edit makes of another one: what is made anew, and the bytes of the whole.
 
 ghost use Rattle.std.specs.Prelude.{◌≡◌, IfOk, OnOk};
+ghost use Rattle.class_reader.specs.Spells.{IsClass};
 ghost use Rattle.class_writer.specs.Writing.{HasClassForm};
 ghost use Rattle.mutant_apply.specs.Fitting.{Fits};
 ghost use Rattle.mutant_runs.specs.Files.{edited_attrs, edited_file, made_file, IsRightFor, IsKeptOf};
@@ -59,6 +60,7 @@ pub fn edited_file(
     kept: &mut Option<ClassBytes>,
 ) -> Result<Option<EditedFile>, Memory>
     requires form { HasClassForm loaded.now.class }
+    requires spelled { IsClass loaded.now.class }
     requires fits { Fits loaded.now.class edit.now }
     requires kept { IsRightFor id.0 loaded.now.class kept.old }
     ensures made { IfOk result (λ file. file ≡ made_file loaded.now edit.now) }

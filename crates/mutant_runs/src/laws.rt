@@ -1,10 +1,17 @@
 //! Laws on the definitions.
 
+ghost use Rattle.mutant_runs.specs.Edited.{EditsMake, EditedAreReady, ReadyMayRun};
 ghost use Rattle.mutant_runs.specs.Laws.{FilesAreFound, MutantsAreOf, EntriesAddAlone};
 
-use apply_laws::what_is_spelled_is_named;
+use accepted_edits::{
+    accepted_classes_have_room, edited_programs_are_accepted, edits_are_put,
+    instructions_have_numbers, kinds_stay_right, put_classes_stay_alike,
+};
+use apply_laws::{edits_are_spelled, what_is_spelled_is_named};
+use edited_bytes::parts_are_of_applied;
 use mutant_apply::mutants_fit;
 use mutator_ops::listed_exactly;
+use type_laws::accepted_code_has_room_for_what_it_catches;
 
 /// A class file of a program is found by its name.
 pub fn files_are_found()
@@ -25,4 +32,34 @@ pub fn entries_add_alone()
     ensures { EntriesAddAlone }
 {
     what_is_spelled_is_named();
+}
+
+/// The class that is linked of a mutant's edit takes the place of the class that is edited, and the
+/// program then is the one that the edit makes.
+pub fn edits_make()
+    ensures { EditsMake }
+{
+    parts_are_of_applied();
+    entries_add_alone();
+    edits_are_put();
+    edits_are_spelled();
+    instructions_have_numbers();
+}
+
+/// A program whose mutants may be run is such a one with an edited class, if that is accepted.
+pub fn edited_are_ready()
+    ensures { EditedAreReady }
+{
+    put_classes_stay_alike();
+    kinds_stay_right();
+    edited_programs_are_accepted();
+    instructions_have_numbers();
+}
+
+/// A program whose mutants may be run may be run itself.
+pub fn ready_may_run()
+    ensures { ReadyMayRun }
+{
+    accepted_classes_have_room();
+    accepted_code_has_room_for_what_it_catches();
 }

@@ -1,16 +1,15 @@
 //! What the run of one test says of a mutant.
 
-ghost use Rattle.std.specs.Prelude.{◌≡◌, ◌+◌, ◌≤◌, ◌<◌, ◌^◌, IfOk, OnOk, slice_get};
+ghost use Rattle.std.specs.Prelude.{◌≡◌, ◌+◌, ◌≤◌, ◌<◌, ◌^◌, IfOk, OnOk};
 ghost use Rattle.std.specs.List.{list_any};
-ghost use Rattle.program_rules.specs.Names.{same};
 ghost use Rattle.machine_rules.specs.Runs.{limit_of};
-ghost use Rattle.class_table.specs.Faults.{HasRightKinds};
-ghost use Rattle.class_table.specs.Table.{look, name_at};
+ghost use Rattle.class_table.specs.Table.{look};
 ghost use Rattle.jvm_world.specs.View.{named};
 ghost use Rattle.jvm_machine.specs.Ending.{ending_of};
 ghost use Rattle.jvm_machine.specs.Programs.{IsRunnable};
 ghost use Rattle.jvm_machine.specs.Tables.{AreTablesOf};
-ghost use Rattle.mutant_runs.specs.Runs.{mutant_run, is_at, reaches, detected, most_steps, most_limit};
+ghost use Rattle.mutant_runs.specs.Promises.{run_in, TellsReached};
+ghost use Rattle.mutant_runs.specs.Runs.{is_at, reaches, detected, most_steps, most_limit};
 
 use class_model::{ClassId, Memory};
 use class_table::{Program, Test};
@@ -50,7 +49,8 @@ fn is_at(p: &Program, mutant: &Mutant, pair: (ClassId, u16)) -> bool
 
 // Whether one of these classes and lines is that of a mutant.
 fn any_at(p: &Program, mutant: &Mutant, reached: &[(ClassId, u16)]) -> bool
-    ensures { result ≡ list_any (λ pair. is_at mutant.now (named p.now (pair.0.0, pair.1))) reached.now }
+    ensures { result ≡ list_any
+        (λ pair. is_at mutant.now (named p.now (pair.0.0, pair.1))) reached.now }
 {
     reached.iter().any(|pair| is_at(p, mutant, *pair))
 }
@@ -69,7 +69,7 @@ fn detected(outcome: &Outcome) -> Option<State>
 
 // What a run on a program says of a mutant.
 fn said_by(p: &Program, run: &RunResult, mutant: &Mutant) -> Said
-    ensures reaches { (ran : Ran) → IsResultOf p.now run.now ran → result.reaches ≡ reaches mutant.now ran }
+    ensures reaches { TellsReached p.now run.now mutant.now result }
     ensures detected { result.detected ≡ detected (ending_of run.now.outcome) }
 {
     Said {
@@ -95,10 +95,13 @@ pub fn run_test(
     requires small { limits.heap < 2 ^ 31 }
     requires timed { steps ≤ most_steps }
     requires room { part.old + most_limit < 2 ^ 64 }
-    ensures reaches { IfOk result (λ s. s.reaches ≡ reaches mutant.now (mutant_run limits (look program.now) test.now steps)) }
-    ensures detected { IfOk result (λ s. s.detected ≡ detected (mutant_run limits (look program.now) test.now steps).ending) }
-    ensures steps { OnOk result (part.new ≡ part.old + (mutant_run limits (look program.now) test.now steps).steps) }
-    ensures most { part.new ≤ part.old + (mutant_run limits (look program.now) test.now steps).steps }
+    ensures reaches { IfOk result (λ s. s.reaches
+        ≡ reaches mutant.now (run_in limits program.now test.now steps)) }
+    ensures detected { IfOk result (λ s. s.detected
+        ≡ detected (run_in limits program.now test.now steps).ending) }
+    ensures steps { OnOk result (part.new ≡ part.old
+        + (run_in limits program.now test.now steps).steps) }
+    ensures most { part.new ≤ part.old + (run_in limits program.now test.now steps).steps }
     ensures tables { AreTablesOf program.now tables.new }
 {
     let run = execute(alloc, program, tables, test, limits, limit_of(steps), part)?;

@@ -4,8 +4,8 @@ ghost use Rattle.std.specs.Prelude.{◌≡◌, ◌+◌, ◌≤◌, ◌<◌, ◌^
 ghost use Rattle.class_table.specs.Table.{look};
 ghost use Rattle.jvm_machine.specs.Programs.{IsRunnable};
 ghost use Rattle.jvm_machine.specs.Tables.{AreTablesOf};
-ghost use Rattle.mutant_runs.specs.Runs.{timed, runs_on, steps_in, most_steps};
-ghost use Rattle.mutant_runs.specs.Verdicts.{judged};
+ghost use Rattle.mutant_runs.specs.Promises.{IsJudged, steps_run};
+ghost use Rattle.mutant_runs.specs.Runs.{most_steps};
 
 use crate::one_run::run_test;
 use crate::tally::Tally;
@@ -36,9 +36,10 @@ pub fn run_tests(
     requires each { length steps.now ≡ length tests.now }
     requires timed { All (λ n. n ≤ most_steps) steps.now }
     requires room { part.old < 2 ^ 63 }
-    ensures told { IfOk result (λ v. v ≡ judged mutant.now (runs_on limits (look program.now) (timed tests.now steps.now))) }
-    ensures steps { OnOk result (part.new ≡ part.old + steps_in (runs_on limits (look program.now) (timed tests.now steps.now))) }
-    ensures most { part.new ≤ part.old + steps_in (runs_on limits (look program.now) (timed tests.now steps.now)) }
+    ensures told { IfOk result (IsJudged limits program.now tests.now steps.now mutant.now) }
+    ensures steps { OnOk result (part.new ≡ part.old
+        + steps_run limits program.now tests.now steps.now) }
+    ensures most { part.new ≤ part.old + steps_run limits program.now tests.now steps.now }
 {
     let mut tally = Tally::new(alloc);
     for i in 0..tests.len() {

@@ -1,12 +1,14 @@
-ghost use Rattle.std.specs.Prelude.{◌≡◌, ◌+◌, ◌≤◌, ◌<◌, ◌^◌, All, length, map, IfOk, OnOk};
-ghost use Rattle.class_table.specs.Table.{look};
+//! The call over which wrong bodies are tried.
+
+ghost use Rattle.std.specs.Prelude.{◌≡◌, ◌+◌, ◌≤◌, ◌<◌, ◌^◌, All, length, IfOk, OnOk};
 ghost use Rattle.mutant_runs.specs.Programs.{files_of, IsMutantOf};
-ghost use Rattle.mutant_runs.specs.Runs.{timed, most_steps};
-ghost use Rattle.mutant_runs.specs.Verdicts.{verdict_of, steps_of_all};
+ghost use Rattle.mutant_runs.specs.Promises.{AreVerdicts, steps_for_all};
+ghost use Rattle.mutant_runs.specs.Ready.{IsReady};
+ghost use Rattle.mutant_runs.specs.Runs.{most_steps};
 
 use class_model::{Memory, Seq};
 use class_table::{Program, Test};
-use jvm_run::Limits;
+use machine_rules::Limits;
 use mt_edge::MeterPart;
 use mutator_ops::{Mutant, Verdict};
 use std::alloc::Global;
@@ -21,15 +23,19 @@ pub fn verdicts(
     limits: Limits,
     part: &mut MeterPart,
 ) -> Result<Seq<Verdict>, Memory>
+    requires ready { IsReady program.old }
+    requires small { limits.heap < 2 ^ 31 }
     requires few_tests { length tests.now ≤ 65535 }
     requires few_mutants { length mutants.now ≤ 262144 }
     requires each { length steps.now ≡ length tests.now }
     requires timed { All (λ n. n ≤ most_steps) steps.now }
     requires room { part.old < 2 ^ 62 }
     requires fit { All (IsMutantOf (files_of program.old)) mutants.now }
-    ensures told { IfOk result (λ vs. vs ≡ map (verdict_of limits (files_of program.old) (look program.old) (timed tests.now steps.now)) mutants.now) }
-    ensures steps { OnOk result (part.new ≡ part.old + steps_of_all limits (files_of program.old) (look program.old) (timed tests.now steps.now) mutants.now) }
-    ensures most { part.new ≤ part.old + steps_of_all limits (files_of program.old) (look program.old) (timed tests.now steps.now) mutants.now }
+    ensures told { IfOk result (AreVerdicts limits program.old tests.now steps.now mutants.now) }
+    ensures steps { OnOk result (part.new ≡ part.old
+        + steps_for_all limits program.old tests.now steps.now mutants.now) }
+    ensures most { part.new ≤ part.old
+        + steps_for_all limits program.old tests.now steps.now mutants.now }
     ensures same { program.new ≡ program.old }
 {
     let verdicts = mutant_runs::verdicts(alloc, program, tests, steps, mutants, limits, part)?;

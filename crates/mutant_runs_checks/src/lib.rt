@@ -1,4 +1,4 @@
-//! Tests of `mutant_runs`, and the call over which wrong bodies are tried.
+//! The call of `mutant_runs` over which wrong bodies are tried.
 //!
 //! The function here has the contract of the public call that its body makes, word for word. An
 //! edit in `must-fail/` puts a wrong body in its place: what the contract refuses here, it refuses
@@ -6,7 +6,5 @@
 #![tactic(auto)]
 
 mod calls;
-#[cfg(test)]
-mod tests;
 
 pub use calls::verdicts;

@@ -1,7 +1,10 @@
-use Rattle.class_table.specs.Table.{look}
-use Rattle.mutant_runs.specs.Runs.{timed, runs_on}
+use Rattle.jvm_machine.specs.Tables.{AreTablesOf}
+use Rattle.mutant_runs.specs.Promises.{runs_in}
 use Rattle.mutant_runs.proofs.VerdictLaws.{SoFar}
 use Rattle.mutant_runs.proofs.tests_run.run_tests.Given as goal
 
 abbrev pub invariant-loop-i : goal.invariant-loop-i
-invariant-loop-i l = SoFar l.mutant (runs_on l.limits (look l.program) (timed l.tests l.steps)) l.i l.tally l.part l.fn.part
+invariant-loop-i l = record {
+  runs : SoFar l.mutant (runs_in l.limits l.program l.tests l.steps) l.i l.tally l.part l.fn.part;
+  tables : AreTablesOf l.program l.tables;
+}
