@@ -17,7 +17,7 @@ use class_table::{Program, Test};
 use jvm_machine::{Outcome, Tables, execute};
 use machine_rules::{Limits, Outcome as Ended};
 use mt_edge::MeterPart;
-use mutant_runs::ready_programs_are_runnable;
+use mutant_runs::ready_may_run;
 use std::alloc::Global;
 
 /// What a run may use.
@@ -62,7 +62,7 @@ fn settled(alloc: Global, test: &Test, outcome: Outcome) -> Result<Option<(Bytes
 }
 
 // How the run of a test on the program as it is comes to its end, and after how many steps. They are
-// counted in the part.
+// counted in the part. The program's tables are lent to one run after the other.
 fn end_of(
     alloc: Global,
     program: &Program,
@@ -153,7 +153,8 @@ fn all_passed(tests: Seq<(Bytes, Ended)>) -> Result<(), Refusal>
     Err(Refusal::NotGreen { tests })
 }
 
-/// All tests pass on the program as it is: the steps of each run. They are counted in the part.
+/// All tests pass on the program as it is: the steps of each run. They are counted in the part. What
+/// the machine looks up is found once for all of them.
 pub fn green(
     alloc: Global,
     program: &Program,
@@ -167,11 +168,12 @@ pub fn green(
     ensures most { part.new ≤ steps_made (look program.now) tests.now }
     ensures exact { Counts part.new (steps_made (look program.now) tests.now) result }
 {
+    // What every program is, for the prover alone, and that this one may be run.
     let _all = program.len();
+    ready_may_run();
     let Some(mut tables) = Tables::find(alloc, program)? else {
         unreachable!()
     };
-    ready_programs_are_runnable();
     let (failed, counts) = all_settled(alloc, program, &mut tables, tests, part)?;
     all_passed(failed)?;
     Ok(counts)
