@@ -33,7 +33,7 @@ bounded_library : (library : List LibClass) → AllByRecursion IsBoundedClass (m
 bounded_library [] h = tt
 bounded_library (c ∷ library) h = (h.0, bounded_library library h.1)
 
-bounded_bodies : (classes : List Loaded) (library : List LibClass) → LinkedFilesAreBounded → AllByRecursion (λ l. IsClass l.class) classes → AllByRecursion IsBoundedClass (map class_meant library) → AllByRecursion IsBoundedBody (bodies_of classes library)
+bounded_bodies : (classes : List Loaded) (library : List LibClass) → LinkedFilesAreBounded → AllByRecursion (λ (l : Loaded). IsClass l.class) classes → AllByRecursion IsBoundedClass (map class_meant library) → AllByRecursion IsBoundedBody (bodies_of classes library)
 bounded_bodies [] library law h l = bounded_library library l
 bounded_bodies (c ∷ classes) library law h l = (law c.class h.0, bounded_bodies classes library law h.1 l)
 
@@ -41,11 +41,11 @@ of_bodies : (p : List Info) → AllByRecursion IsBoundedBody (map (λ i. i.body)
 of_bodies [] h = tt
 of_bodies (i ∷ p) h = (h.0, of_bodies p h.1)
 
-pub are_bounded : (p : List Info) (classes : List Loaded) (library : List LibClass) → LinkedFilesAreBounded → map class_meant library ≡ library_meant → All IsBoundedClass library_meant → All (λ l. IsClass l.class) classes
+pub are_bounded : (p : List Info) (classes : List Loaded) (library : List LibClass) → LinkedFilesAreBounded → map class_meant library ≡ library_meant → All IsBoundedClass library_meant → All (λ (l : Loaded). IsClass l.class) classes
     → map (λ i. i.body) p ≡ bodies_of classes library → All (λ (i : Info). IsBoundedBody i.body) p
 are_bounded p classes library law lib bounded spelled made =
     let of_library : AllByRecursion IsBoundedClass (map class_meant library) = subst (AllByRecursion IsBoundedClass) (sym lib) (recursion_from_All IsBoundedClass library_meant bounded) in
-    let bodies : AllByRecursion IsBoundedBody (bodies_of classes library) = bounded_bodies classes library law (recursion_from_All (λ l. IsClass l.class) classes spelled) of_library in
+    let bodies : AllByRecursion IsBoundedBody (bodies_of classes library) = bounded_bodies classes library law (recursion_from_All (λ (l : Loaded). IsClass l.class) classes spelled) of_library in
     All-from_recursion (λ (i : Info). IsBoundedBody i.body) p (of_bodies p (subst (AllByRecursion IsBoundedBody) (sym made) bodies))
 
 -- ---- the library beside class files
