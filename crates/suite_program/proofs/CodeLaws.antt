@@ -1,5 +1,5 @@
 -- The first fault of the code of a program, by the one that the verifier finds.
-use Rattle.std.proofs.Common.{◌≡◌, ◌∙◌, ℕ, zero, suc, ◌<◌, Bool, true, false, List, [], ◌∷◌, length, Option, Some, None, refl, sym, ap, subst, arith, inl, inr}
+use Rattle.std.proofs.Common.{◌≡◌, ◌∙◌, ℕ, zero, suc, ◌<◌, Bool, true, false, List, [], ◌∷◌, length, Some, None, refl, sym, ap, arith, inl, inr}
 use Rattle.std.specs.Prelude.{is_some, option_and_then}
 use Rattle.std.specs.Option.{option_map}
 use Rattle.program_rules.specs.Names.{Name}
@@ -8,7 +8,6 @@ use Rattle.type_rules.specs.Faults.{class_fault}
 use Rattle.type_rules.specs.Rules.{MethodFault, Accepted, ClassAccepted, IsFirstInProgram}
 use Rattle.type_laws.specs.Faults.{AcceptedHaveNone, FirstAreFound}
 use Rattle.class_link.specs.Info.{Info}
-use Rattle.class_order.specs.Supers.{IsLeastWith}
 use Rattle.class_table.specs.Table.{look, names, name_at}
 use Rattle.program_verifier.specs.Programs.{comes_before, place_of, IsFirstRefused}
 use Rattle.program_verifier.specs.declared.end.VerifyFault.{VerifyFault}

@@ -1,20 +1,19 @@
 -- What a program of class files and of the library has for the verifier and the machine.
-use Rattle.std.proofs.Common.{◌≡◌, ◌∙◌, Bool, true, false, List, [], ◌∷◌, ◌++◌, map, Option, Some, None, is_none, refl, sym, ap, subst, inl, inr}
-use Rattle.std.specs.Prelude.{All, ◌||◌, if◌then◌else◌}
-use Rattle.std.specs.List.{AllByRecursion, list_any}
+use Rattle.std.proofs.Common.{◌≡◌, Bool, true, false, List, [], ◌∷◌, map, Option, Some, None, refl, sym, ap, subst, inl, inr}
+use Rattle.std.specs.Prelude.{All, if◌then◌else◌}
+use Rattle.std.specs.List.{AllByRecursion}
 use Rattle.std.specs.Cmp.Lexicographic.{same_text}
 use Rattle.std.proofs.lemmas.List.Elements.{recursion_from_All, All-from_recursion}
 use Rattle.class_model.specs.declared.class.Class.{Class}
 use Rattle.class_link.specs.declared.loaded.Loaded.{Loaded}
 use Rattle.class_link.specs.declared.loaded.LibClass.{LibClass}
-use Rattle.class_link.specs.declared.loaded.ClassBody.{ClassBody}
 use Rattle.class_link.specs.Info.{Info, own_name}
 use Rattle.class_link.specs.Linking.{link}
 use Rattle.class_reader.specs.Spells.{IsClass}
 use Rattle.class_table.specs.Table.{AreDistinct, bodies_of, look}
 use Rattle.program_rules.specs.Names.{Name, same}
 use Rattle.program_rules.specs.Linked.{Linked}
-use Rattle.program_rules.specs.Library.{class_among, first_of}
+use Rattle.program_rules.specs.Library.{class_among}
 use Rattle.type_laws.specs.Bounds.{HasBoundedCodes}
 use Rattle.linked_files.specs.Bounded.{LinkedFilesAreBounded}
 use Rattle.lib_table.specs.Library.{library_meant, class_meant}
