@@ -12,7 +12,7 @@ use Rattle.class_model.specs.Text.{text, unit_bytes, is_single}
 use Rattle.program_rules.specs.Names.{Name, same}
 use Rattle.class_table.specs.Numbers.{is_before, lesser}
 use Rattle.class_table.specs.Table.{place_in, name_or_none, AreDistinct, IsDuplicate, IsLeastDuplicate}
-use Rattle.mutest_engine.specs.Duplicates.{again, least, duplicate_in}
+use Rattle.suite_program.specs.Duplicates.{again, least, duplicate_in}
 
 -- ---- names among names
 
@@ -97,6 +97,23 @@ pub nothing_in : (xs : List Name) → ((n : Name) → In n xs → ⊥) → xs �
 nothing_in [] h = refl
 nothing_in (x ∷ xs) h = absurd (h x (inl refl))
 
+-- A name of two lists stands twice in both together.
+in_both : (n : Name) (xs ys : List Name) → In n ys → In n (xs ++ ys)
+in_both n [] ys q = q
+in_both n (x ∷ xs) ys q = inr (in_both n xs ys q)
+
+again_in : (n : Name) (xs ys : List Name) → In n xs → In n ys → In n (again (xs ++ ys))
+again_in n [] ys q r = absurd q
+again_in n (x ∷ xs) ys q r =
+    ⊎_elim
+    (λ (e : x ≡ n). front_case n x (xs ++ ys) (list_any (same x) (xs ++ ys)) (in_any x (xs ++ ys) (in_both x xs ys (subst (λ (m : Name). In m ys) (sym e) r))) e)
+    (λ (s : In n xs). rest_case n x (xs ++ ys) (list_any (same x) (xs ++ ys)) (again_in n xs ys s r))
+    q
+
+-- Where names are apart no name is one of two lists.
+pub apart_lists : (n : Name) (xs ys : List Name) → AreDistinct (xs ++ ys) → In n xs → In n ys → ⊥
+apart_lists n xs ys distinct q r = distinct_once n (xs ++ ys) distinct (again_twice n (xs ++ ys) (again_in n xs ys q r))
+
 pub no_duplicate : (xs : List Name) → AreDistinct xs → duplicate_in xs ≡ None
 no_duplicate xs distinct = ap least (nothing_in (again xs) (λ n q. distinct_once n xs distinct (again_twice n xs q)))
 
@@ -165,6 +182,15 @@ cmp n m = slice_cmp nat_cmp (text n) (text m)
 
 abbrev pub Le : Name → Name → Type 0
 Le n m = IsTrue (is_le (cmp n m))
+
+turned : (o : Ordering) → is_lt o ≡ false → IsTrue (is_le (ordering_reverse o))
+turned Less e = absurd cc
+turned Equal e = refl
+turned Greater e = refl
+
+-- A name that no other one comes before.
+pub not_before : (n m : Name) → is_lt (cmp m n) ≡ false → Le n m
+not_before n m e = subst (λ o. IsTrue (is_le o)) (sym (nat_list_cmp_total.antisymm (text n) (text m))) (turned (cmp m n) e)
 
 must_equal : (o : Ordering) → IsTrue (is_le o) → is_lt o ≡ false → o ≡ Equal
 must_equal Less le lt = absurd cc

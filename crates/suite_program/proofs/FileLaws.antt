@@ -12,7 +12,7 @@ use Rattle.class_link.specs.declared.loaded.ClassBody.TheVariants as body
 use Rattle.class_link.specs.Info.{Info, IsInfo, body_name, own_name, file_in}
 use Rattle.class_table.specs.Table.{place_from, names, bodies_of}
 use Rattle.mutant_runs.specs.Programs.{files_of}
-use Rattle.mutest_engine.specs.Originals.{classes_in, class_file}
+use Rattle.suite_program.specs.Programs.{classes_in, class_file}
 
 abbrev Named : Type 0
 Named = Name × Option Class

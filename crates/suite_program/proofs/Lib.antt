@@ -1,5 +1,11 @@
 mod AcceptedLaws
+mod BuiltLaws
+mod CodeLaws
 mod DuplicateLaws
 mod FileLaws
+mod FirstLaws
+mod NumberLaws
 mod ProgramLaws
+mod ReadyLaws
 mod SuperLaws
+mod WholeLaws

@@ -7,7 +7,7 @@ use Rattle.std.specs.Option.{option_map}
 use Rattle.program_rules.specs.Names.{Name, same}
 use Rattle.program_rules.specs.Linked.{Linked}
 use Rattle.program_rules.specs.Library.{class_among, first_of}
-use Rattle.machine_so_far.specs.Library.{library_so_far}
+use Rattle.lib_table.specs.Library.{library_meant}
 use Rattle.class_link.specs.declared.loaded.Loaded.{Loaded}
 use Rattle.class_link.specs.declared.loaded.LibClass.{LibClass}
 use Rattle.class_link.specs.declared.loaded.ClassBody.{ClassBody}
@@ -16,7 +16,7 @@ use Rattle.class_link.specs.Info.{Info, IsInfo, body_name, link_body, own_name}
 use Rattle.class_link.specs.Linking.{link_library}
 use Rattle.class_table.specs.Faults.{look_of}
 use Rattle.class_table.specs.Table.{place_from, place_in, look, bodies_of, names, names_of}
-use Rattle.mutest_engine.specs.Originals.{classes_in, named, program_of, names_in}
+use Rattle.suite_program.specs.Programs.{classes_in, named, program_of, names_in}
 
 -- ---- by name
 
@@ -66,13 +66,13 @@ bodies_among : (bs : List ClassBody) (n : Name) → look_of bs n ≡ class_among
 unfolding linked_at
 bodies_among bs n = mapped_after bs (place_in (map body_name bs) n) ∙ bodies_from (linked_at bs) 0 n bs (λ j. ap (linked_at bs) (let e : 0 + j ≡ j = omega arith in e))
 
-pub look_is : (classes : List Loaded) (library : List LibClass) → map (λ c. (c.name, link_library c)) library ≡ library_so_far → look_of (bodies_of classes library) ≡ program_of (classes_in classes)
+pub look_is : (classes : List Loaded) (library : List LibClass) → map (λ c. (c.name, link_library c)) library ≡ library_meant → look_of (bodies_of classes library) ≡ program_of (classes_in classes)
 unfolding program_of
 look_is classes library lib =
-    let pairs : map of_body (bodies_of classes library) ≡ map named (classes_in classes) ++ library_so_far = of_bodies classes library ∙ ap (λ z. map named (classes_in classes) ++ z) lib in
-    λ i n. (bodies_among (bodies_of classes library) n ∙ ap (λ z. class_among z n) pairs ∙ among_both (map named (classes_in classes)) library_so_far n) i
+    let pairs : map of_body (bodies_of classes library) ≡ map named (classes_in classes) ++ library_meant = of_bodies classes library ∙ ap (λ z. map named (classes_in classes) ++ z) lib in
+    λ i n. (bodies_among (bodies_of classes library) n ∙ ap (λ z. class_among z n) pairs ∙ among_both (map named (classes_in classes)) library_meant n) i
 
-pub is_program : (p : List Info) (classes : List Loaded) (library : List LibClass) → look p ≡ look_of (bodies_of classes library) → map (λ c. (c.name, link_library c)) library ≡ library_so_far → look p ≡ program_of (classes_in classes)
+pub is_program : (p : List Info) (classes : List Loaded) (library : List LibClass) → look p ≡ look_of (bodies_of classes library) → map (λ c. (c.name, link_library c)) library ≡ library_meant → look p ≡ program_of (classes_in classes)
 is_program p classes library looks lib = looks ∙ look_is classes library lib
 
 -- ---- names
@@ -85,7 +85,7 @@ names_with : (classes : List Loaded) (library : List LibClass) → names_of clas
 names_with [] library = of_library_names library
 names_with (c ∷ classes) library = ap (λ z. own_name c.class ∷ z) (names_with classes library)
 
-pub names_are : (classes : List Loaded) (library : List LibClass) → map (λ c. (c.name, link_library c)) library ≡ library_so_far → names_of classes library ≡ names_in (classes_in classes)
+pub names_are : (classes : List Loaded) (library : List LibClass) → map (λ c. (c.name, link_library c)) library ≡ library_meant → names_of classes library ≡ names_in (classes_in classes)
 names_are classes library lib = names_with classes library ∙ ap (λ z. map own_name (classes_in classes) ++ map (λ (c : Name × Linked). c.0) z) lib
 
 named_by : (p : List Info) → AllByRecursion IsInfo p → names p ≡ map body_name (map (λ i. i.body) p)
@@ -93,5 +93,5 @@ named_by [] h = refl
 named_by (x ∷ p) h = let first = h.0.name in let rest = named_by p h.1 in (λ i. first i ∷ rest i)
 
 -- A program that was built has the names of its classes and of the library's, by number.
-pub all_named : (p : List Info) (classes : List Loaded) (library : List LibClass) → All IsInfo p → map (λ i. i.body) p ≡ bodies_of classes library → map (λ c. (c.name, link_library c)) library ≡ library_so_far → names p ≡ names_in (classes_in classes)
+pub all_named : (p : List Info) (classes : List Loaded) (library : List LibClass) → All IsInfo p → map (λ i. i.body) p ≡ bodies_of classes library → map (λ c. (c.name, link_library c)) library ≡ library_meant → names p ≡ names_in (classes_in classes)
 all_named p classes library ok made lib = named_by p (recursion_from_All IsInfo p ok) ∙ ap (map body_name) made ∙ names_are classes library lib

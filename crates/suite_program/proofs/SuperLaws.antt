@@ -1,7 +1,7 @@
 -- Which classes stand above themselves, found within as many levels as there are classes, and the least name with a fault.
 use Rattle.std.proofs.Common.{◌≡◌, ◌∙◌, ℕ, zero, suc, ◌+◌, ◌-◌, ◌≤◌, Bool, true, false, cond, List, [], ◌∷◌, length, map, Option, Some, None, slice_get, refl, sym, ap, subst, arith, inl, inr, ⊎_elim}
-use Rattle.std.specs.Prelude.{IsTrue, ◌||◌, filter, option_and_then, Ok, Err}
-use Rattle.std.specs.Option.{option_map}
+use Rattle.std.specs.Prelude.{IsTrue, ◌||◌, filter, option_and_then}
+use Rattle.std.specs.Option.{option_map, option_or}
 use Rattle.std.specs.List.{list_any}
 use Rattle.std.specs.Cmp.Lexicographic.{same_text, bytes_decides}
 use Rattle.program_rules.specs.Names.{Name, same, is_listed}
@@ -12,21 +12,20 @@ use Rattle.class_link.specs.declared.loaded.ClassBody.{ClassBody}
 use Rattle.class_link.specs.Info.{body_name, link_body}
 use Rattle.class_table.specs.Table.{place_from, place_in}
 use Rattle.class_table.specs.Faults.{look_of}
-use Rattle.mutest_engine.specs.Duplicates.{least}
-use Rattle.mutest_engine.specs.Supers.{is_above, is_own_super, least_with, unless_found, right_supers}
-use Rattle.mutest_engine.specs.Steps.{and_then}
-use Rattle.mutest_engine.specs.declared.refusal.ProgramFault.{ProgramFault}
-use Rattle.mutest_engine.specs.declared.refusal.ProgramFault.TheVariants.{SuperMissing, SuperCycle, SuperKind}
-use Rattle.mutest_engine.specs.declared.refusal.Refusal.TheVariants.{BadProgram}
-use Rattle.mutest_engine.proofs.DuplicateLaws.{In, or_case, or_left, or_right, any_in, in_any, least_is}
+use Rattle.suite_program.specs.Duplicates.{least}
+use Rattle.suite_program.specs.Supers.{is_above, is_own_super, least_with}
+use Rattle.suite_program.specs.Faults.{super_fault}
+use Rattle.suite_program.specs.declared.fault.ProgramFault.{ProgramFault}
+use Rattle.suite_program.specs.declared.fault.ProgramFault.TheVariants.{SuperMissing, SuperCycle, SuperKind}
+use Rattle.suite_program.proofs.DuplicateLaws.{In, or_case, or_left, or_right, any_in, in_any, least_is}
 
 -- ---- names among names
 
-listed_in : (n : Name) (xs : List Name) → is_listed n xs ≡ true → In n xs
+pub listed_in : (n : Name) (xs : List Name) → is_listed n xs ≡ true → In n xs
 listed_in n [] e = absurd cc
 listed_in n (x ∷ xs) e = ⊎_elim (λ (h : same x n ≡ true). inl (same_text x n (sym h))) (λ (h : is_listed n xs ≡ true). inr (listed_in n xs h)) (or_case (same x n) (is_listed n xs) e)
 
-in_listed : (n : Name) (xs : List Name) → In n xs → is_listed n xs ≡ true
+pub in_listed : (n : Name) (xs : List Name) → In n xs → is_listed n xs ≡ true
 in_listed n [] q = absurd q
 in_listed n (x ∷ xs) q = ⊎_elim (λ (e : x ≡ n). or_left (same x n) (is_listed n xs) ((bytes_decides x n).1 e)) (λ (r : In n xs). or_right (same x n) (is_listed n xs) (in_listed n xs r)) q
 
@@ -155,7 +154,7 @@ none_case : (f : Name → Bool) (x : Name) (ys : List Name) (b : Bool) → b ≡
 none_case f x ys true e rest = absurd cc
 none_case f x ys false e rest = rest
 
-none_with : (f : Name → Bool) (ns : List Name) → ((n : Name) → f n ≡ false) → filter f ns ≡ []
+pub none_with : (f : Name → Bool) (ns : List Name) → ((n : Name) → f n ≡ false) → filter f ns ≡ []
 none_with f [] h = refl
 none_with f (x ∷ xs) h = none_case f x (filter f xs) (f x) (h x) (none_with f xs h)
 
@@ -218,31 +217,35 @@ none_own p ns none n = by_test (is_own_super p ns n) refl
 
 -- ---- how the classes are refused
 
-none_found : (fault : Name → ProgramFault) (f : Name → Bool) (ns : List Name) → ((n : Name) → f n ≡ false) → unless_found fault (least_with f ns) ≡ Ok tt
-none_found fault f ns h = ap (λ l. unless_found fault (least l)) (none_with f ns h)
+pub none_found : (fault : Name → ProgramFault) (f : Name → Bool) (ns : List Name) → ((n : Name) → f n ≡ false) → option_map fault (least_with f ns) ≡ None
+none_found fault f ns h = ap (λ l. option_map fault (least l)) (none_with f ns h)
 
-pub all_right : (p : Look) (ns : List Name) → ((n : Name) → is_super_missing p n ≡ false) → ((n : Name) → IsOwnSuper p n → ⊥) → ((n : Name) → is_super_of_wrong_kind p n ≡ false) → right_supers p ns ≡ Ok tt
+-- The three faults one after the other.
+abbrev any_of : Option ProgramFault → Option ProgramFault → Option ProgramFault → Option ProgramFault
+any_of a b c = option_or a (option_or b c)
+
+pub all_right : (p : Look) (ns : List Name) → ((n : Name) → is_super_missing p n ≡ false) → ((n : Name) → IsOwnSuper p n → ⊥) → ((n : Name) → is_super_of_wrong_kind p n ≡ false) → super_fault p ns ≡ None
 all_right p ns present acyclic kinds =
-    ap (λ x. and_then x (λ ok. and_then (unless_found SuperCycle (least_with (is_own_super p ns) ns)) (λ ok. unless_found SuperKind (least_with (is_super_of_wrong_kind p) ns)))) (none_found SuperMissing (is_super_missing p) ns present)
-    ∙ ap (λ x. and_then x (λ ok. unless_found SuperKind (least_with (is_super_of_wrong_kind p) ns))) (none_found SuperCycle (is_own_super p ns) ns (none_own p ns acyclic))
+    ap (λ x. any_of x (option_map SuperCycle (least_with (is_own_super p ns) ns)) (option_map SuperKind (least_with (is_super_of_wrong_kind p) ns))) (none_found SuperMissing (is_super_missing p) ns present)
+    ∙ ap (λ x. option_or x (option_map SuperKind (least_with (is_super_of_wrong_kind p) ns))) (none_found SuperCycle (is_own_super p ns) ns (none_own p ns acyclic))
     ∙ none_found SuperKind (is_super_of_wrong_kind p) ns kinds
 
-pub one_missing : (p : Look) (ns : List Name) (n : Name) → IsLeastWith ns (λ m. IsTrue (is_super_missing p m)) n → right_supers p ns ≡ Err (BadProgram (SuperMissing n))
+pub one_missing : (p : Look) (ns : List Name) (n : Name) → IsLeastWith ns (λ m. IsTrue (is_super_missing p m)) n → super_fault p ns ≡ Some (SuperMissing n)
 one_missing p ns n is =
-    ap (λ o. and_then (unless_found SuperMissing o) (λ ok. and_then (unless_found SuperCycle (least_with (is_own_super p ns) ns)) (λ ok. unless_found SuperKind (least_with (is_super_of_wrong_kind p) ns))))
+    ap (λ o. any_of (option_map SuperMissing o) (option_map SuperCycle (least_with (is_own_super p ns) ns)) (option_map SuperKind (least_with (is_super_of_wrong_kind p) ns)))
     (least_found (is_super_missing p) (λ m. IsTrue (is_super_missing p m)) ns n (λ m h. h) (λ m h. h) is)
 
-pub one_cycle : (bs : List ClassBody) (n : Name) → ((m : Name) → is_super_missing (look_of bs) m ≡ false) → IsLeastWith (map body_name bs) (IsOwnSuper (look_of bs)) n → right_supers (look_of bs) (map body_name bs) ≡ Err (BadProgram (SuperCycle n))
+pub one_cycle : (bs : List ClassBody) (n : Name) → ((m : Name) → is_super_missing (look_of bs) m ≡ false) → IsLeastWith (map body_name bs) (IsOwnSuper (look_of bs)) n → super_fault (look_of bs) (map body_name bs) ≡ Some (SuperCycle n)
 one_cycle bs n present is =
     let p = look_of bs in
     let ns = map body_name bs in
-    ap (λ x. and_then x (λ ok. and_then (unless_found SuperCycle (least_with (is_own_super p ns) ns)) (λ ok. unless_found SuperKind (least_with (is_super_of_wrong_kind p) ns)))) (none_found SuperMissing (is_super_missing p) ns present)
-    ∙ ap (λ o. and_then (unless_found SuperCycle o) (λ ok. unless_found SuperKind (least_with (is_super_of_wrong_kind p) ns)))
+    ap (λ x. any_of x (option_map SuperCycle (least_with (is_own_super p ns) ns)) (option_map SuperKind (least_with (is_super_of_wrong_kind p) ns))) (none_found SuperMissing (is_super_missing p) ns present)
+    ∙ ap (λ o. option_or (option_map SuperCycle o) (option_map SuperKind (least_with (is_super_of_wrong_kind p) ns)))
     (least_found (is_own_super p ns) (IsOwnSuper p) ns n (λ m h. complete p ns m m (covers bs) h) (λ m h. sound p (length ns) m m h) is)
 
 pub one_wrong : (p : Look) (ns : List Name) (n : Name) → ((m : Name) → is_super_missing p m ≡ false) → ((m : Name) → IsOwnSuper p m → ⊥) → IsLeastWith ns (λ m. IsTrue (is_super_of_wrong_kind p m)) n
-    → right_supers p ns ≡ Err (BadProgram (SuperKind n))
+    → super_fault p ns ≡ Some (SuperKind n)
 one_wrong p ns n present acyclic is =
-    ap (λ x. and_then x (λ ok. and_then (unless_found SuperCycle (least_with (is_own_super p ns) ns)) (λ ok. unless_found SuperKind (least_with (is_super_of_wrong_kind p) ns)))) (none_found SuperMissing (is_super_missing p) ns present)
-    ∙ ap (λ x. and_then x (λ ok. unless_found SuperKind (least_with (is_super_of_wrong_kind p) ns))) (none_found SuperCycle (is_own_super p ns) ns (none_own p ns acyclic))
-    ∙ ap (unless_found SuperKind) (least_found (is_super_of_wrong_kind p) (λ m. IsTrue (is_super_of_wrong_kind p m)) ns n (λ m h. h) (λ m h. h) is)
+    ap (λ x. any_of x (option_map SuperCycle (least_with (is_own_super p ns) ns)) (option_map SuperKind (least_with (is_super_of_wrong_kind p) ns))) (none_found SuperMissing (is_super_missing p) ns present)
+    ∙ ap (λ x. option_or x (option_map SuperKind (least_with (is_super_of_wrong_kind p) ns))) (none_found SuperCycle (is_own_super p ns) ns (none_own p ns acyclic))
+    ∙ ap (option_map SuperKind) (least_found (is_super_of_wrong_kind p) (λ m. IsTrue (is_super_of_wrong_kind p m)) ns n (λ m h. h) (λ m h. h) is)

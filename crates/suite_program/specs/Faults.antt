@@ -1,5 +1,5 @@
 -- Why classes are no program, or no accepted one: the first fault (this project's own).
-use Rattle.std.specs.Prelude.{◌≡◌, List, Option, Some, None, is_some, Result, Err, option_and_then}
+use Rattle.std.specs.Prelude.{◌≡◌, List, Option, Some, is_some, Result, Err, option_and_then}
 use Rattle.std.specs.Option.{option_map, option_or}
 use Rattle.class_model.specs.declared.class.Class.{Class}
 use Rattle.class_order.specs.Supers.{is_super_missing, is_super_of_wrong_kind}

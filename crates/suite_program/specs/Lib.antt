@@ -2,3 +2,4 @@ pub mod Duplicates
 pub mod Supers
 pub mod Programs
 pub mod Faults
+pub mod Building

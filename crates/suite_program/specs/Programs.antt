@@ -1,5 +1,5 @@
 -- The program of the classes of a suite and of the library (this project's own).
-use Rattle.std.specs.Prelude.{◌≡◌, ℕ, ◌<◌, List, [], ◌∷◌, ◌++◌, map, length, All, Option, Some, None, if◌then◌else◌, slice_get, option_and_then}
+use Rattle.std.specs.Prelude.{◌≡◌, ℕ, ◌<◌, List, [], ◌∷◌, ◌++◌, map, length, All, Some, None, if◌then◌else◌, slice_get, option_and_then}
 use Rattle.class_model.specs.declared.class.Class.{Class}
 use Rattle.class_reader.specs.Spells.{IsClass}
 use Rattle.program_rules.specs.Names.{Name, same}

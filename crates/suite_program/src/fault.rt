@@ -9,13 +9,21 @@ use class_model::{Memory, Name};
 #[derive(Drop)]
 pub enum ProgramFault {
     /// Two classes have this name.
-    Duplicate { name: Name },
+    Duplicate {
+        name: Name,
+    },
     /// The superclass of this class, or one of its interfaces, is missing.
-    SuperMissing { name: Name },
+    SuperMissing {
+        name: Name,
+    },
     /// This class stands above itself.
-    SuperCycle { name: Name },
+    SuperCycle {
+        name: Name,
+    },
     /// The superclass of this class, or one of its interfaces, is of a wrong kind.
-    SuperKind { name: Name },
+    SuperKind {
+        name: Name,
+    },
     /// The code of this class is refused: its method by name and descriptor written together, the
     /// number of the instruction, and that of the rule, of which there are 13.
     Code {

@@ -2,6 +2,7 @@
 //! run; or the first fault.
 #![tactic(auto)]
 
+mod accepting;
 mod building;
 mod fault;
 

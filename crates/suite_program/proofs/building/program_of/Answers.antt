@@ -1,30 +1,19 @@
-use Rattle.std.proofs.Common.{Err, ap}
-use Rattle.mutest_engine.proofs.ProgramLaws.{is_program, all_named}
-use Rattle.mutest_engine.proofs.FileLaws.{are_files}
-use Rattle.mutest_engine.proofs.NumberLaws.{numbered, as_many}
-use Rattle.mutest_engine.proofs.AcceptedLaws.{accepted_by, refused_as}
-use Rattle.mutest_engine.proofs.program.program_of.Goals as goal
+use Rattle.std.proofs.Common.{◌≡◌, Err, ap}
+use Rattle.suite_program.specs.Programs.{classes_in}
+use Rattle.suite_program.specs.declared.fault.ProgramEnd.TheVariants.{Refused}
+use Rattle.suite_program.proofs.FirstLaws.{first_none, first_of_code, first_of_table, is_ready}
+use Rattle.suite_program.proofs.building.program_of.Goals as goal
 
-pub returns-in-Ok-clause-accepted : goal.returns-in-Ok-clause-accepted
-returns-in-Ok-clause-accepted c = accepted_by c.args.classes c.in_ok-library.library c.in_ok-library.ensures c.in-Ok.ensures.program
+pub returns-in-Ok-accept-clause-accepted : goal.returns-in-Ok-accept-clause-accepted
+returns-in-Ok-accept-clause-accepted c = first_none c.args.classes c.in-Ok.program c.in-Ok.ensures.built c.in-Ok-accept.ensures.none
+
+pub returns-in-Ok-accept-clause-ready : goal.returns-in-Ok-accept-clause-ready
+returns-in-Ok-accept-clause-ready c = is_ready c.args.classes c.in-Ok.program c.in-Ok.ensures.built c.in-Ok-accept.ensures.accepted
+
+pub returns-in-Err-accept-clause-refused : goal.returns-in-Err-accept-clause-refused
+returns-in-Err-accept-clause-refused c f e =
+    let end : c.in-Err-accept.end ≡ Refused f = cc in
+    first_of_code c.args.classes c.in-Ok.program c.in-Ok.ensures.built f (c.in-Err-accept.ensures.refused f (ap Err end))
 
 pub returns-in-Err-clause-refused : goal.returns-in-Err-clause-refused
-returns-in-Err-clause-refused c =
-    refused_as c.args.classes c.in_ok-library.library c.in-Err.fault c.fault_stop.result c.in_ok-library.ensures c.fault_stop.ensures
-    (λ n e. c.in-Err.ensures.duplicate n (ap Err e)) (λ n e. c.in-Err.ensures.missing n (ap Err e)) (λ n e. c.in-Err.ensures.cycle n (ap Err e)) (λ n e. c.in-Err.ensures.kind n (ap Err e))
-
-pub returns-in-Ok-clause-program : goal.returns-in-Ok-clause-program
-returns-in-Ok-clause-program c =
-    is_program c.in-Ok.program c.args.classes c.in_ok-library.library c.in-Ok.ensures.looks c.in_ok-library.ensures
-
-pub returns-in-Ok-clause-files : goal.returns-in-Ok-clause-files
-returns-in-Ok-clause-files c = are_files c.in-Ok.program c.args.classes c.in_ok-library.library c.in-Ok.ensures.meant c.in-Ok.ensures.classes
-
-pub returns-in-Ok-clause-names : goal.returns-in-Ok-clause-names
-returns-in-Ok-clause-names c = all_named c.in-Ok.program c.args.classes c.in_ok-library.library c.in-Ok.ensures.meant c.in-Ok.ensures.classes c.in_ok-library.ensures
-
-pub returns-in-Ok-clause-numbered : goal.returns-in-Ok-clause-numbered
-returns-in-Ok-clause-numbered c = numbered c.in-Ok.program c.args.classes c.in_ok-library.library c.in-Ok.ensures.classes
-
-pub returns-in-Ok-clause-many : goal.returns-in-Ok-clause-many
-returns-in-Ok-clause-many c = as_many c.in-Ok.program c.args.classes c.in_ok-library.library c.in-Ok.ensures.classes
+returns-in-Err-clause-refused c f e = first_of_table (classes_in c.args.classes) f (c.in-Err.ensures.refused f e)
