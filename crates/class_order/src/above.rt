@@ -129,7 +129,7 @@ fn beside(
     let split = search.found.len();
     note_supers(links, search, stamp, class)?;
     close(links, search, stamp, split)?;
-    Ok(behind(alloc, &search.found, split)?)
+    behind(alloc, &search.found, split)
 }
 
 // The other super of a class that names two, where that one is a top.
@@ -178,7 +178,7 @@ fn others(
     };
     match other_top(links, class, through) {
         Some(top) => Ok(alone(alloc, top)?),
-        None => Ok(beside(alloc, links, search, class, through)?),
+        None => beside(alloc, links, search, class, through),
     }
 }
 

@@ -48,8 +48,7 @@ pub fn note_one(search: &mut Search, stamp: u32, class: u32) -> Result<(), Memor
     requires search { IsSearch (length search.old.marks.items) stamp search.old }
     ensures { OnOk result (Finds (length search.old.marks.items) stamp (class ∷ []) search.old search.new) }
 {
-    note(search, stamp, class)?;
-    Ok(())
+    note(search, stamp, class)
 }
 
 // Notes the superclass of a class, if it has one.
@@ -59,10 +58,7 @@ fn note_parent(search: &mut Search, stamp: u32, parent: Option<u32>) -> Result<(
     ensures { OnOk result (Finds (length search.old.marks.items) stamp (with_parent parent []) search.old search.new) }
 {
     match parent {
-        Some(parent) => {
-            note_one(search, stamp, parent)?;
-            Ok(())
-        }
+        Some(parent) => note_one(search, stamp, parent),
         None => Ok(()),
     }
 }
@@ -81,8 +77,7 @@ pub fn note_supers(
 {
     let own = &links[class as usize];
     note_parent(search, stamp, own.parent)?;
-    note_all(search, stamp, &own.interfaces)?;
-    Ok(())
+    note_all(search, stamp, &own.interfaces)
 }
 
 // The class at a place of what was found.

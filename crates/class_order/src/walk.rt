@@ -183,10 +183,7 @@ fn meet(walk: &mut Walk, class: u32) -> Result<(), Memory>
     ensures { OnOk result (Meets class walk.old walk.new) }
 {
     match standing(walk, class) {
-        Standing::New => {
-            enter(walk, class)?;
-            Ok(())
-        }
+        Standing::New => enter(walk, class),
         Standing::Open(place) => {
             join(walk, place);
             Ok(())
@@ -279,9 +276,9 @@ fn step(links: &[Links], walk: &mut Walk) -> Result<bool, Memory>
     };
     if at < bound {
         close(links, walk, bound);
-    } else {
-        look(links, walk, at)?;
+        return Ok(true);
     }
+    look(links, walk, at)?;
     Ok(true)
 }
 
@@ -314,8 +311,7 @@ fn visit(links: &[Links], walk: &mut Walk, class: u32) -> Result<(), Memory>
         return Ok(());
     };
     enter(walk, class)?;
-    run(links, walk)?;
-    Ok(())
+    run(links, walk)
 }
 
 // The walk before its first step.

@@ -1,6 +1,9 @@
 -- Where a name stands among names, and what that says of a program.
-use Rattle.std.proofs.Common.{◌≡◌, ◌∙◌, sym, refl, ap, ℕ, zero, suc, ◌+◌, ◌<◌, Bool, true, false, List, [], ◌∷◌, length, Option, None, Some, slice_get, slice_set, arith, IsSomeAnd}
+use Rattle.std.proofs.Common.{◌≡◌, ◌∙◌, sym, refl, ap, ℕ, zero, suc, ◌+◌, ◌<◌, Bool, true, false, List, [], ◌∷◌, map, length, Option, None, Some, slice_get, slice_set, arith, IsSomeAnd}
 use Rattle.std.specs.Prelude.{if◌then◌else◌, option_and_then}
+use Rattle.std.specs.Arc.{arc_value}
+use Rattle.std.specs.declared.sync.Arc.{Arc}
+use Rattle.std.specs.List.{AllZip}
 use Rattle.std.specs.Option.{option_map}
 use Rattle.std.specs.Cmp.Lexicographic.{same_text}
 use Rattle.std.proofs.lemmas.List.{length-map}
@@ -13,6 +16,15 @@ use Rattle.class_link.specs.View.{method_of, linked_of}
 use Rattle.std.specs.HashMap.{HashMap}
 use Rattle.class_table.specs.Numbers.{IsNumbering}
 use Rattle.class_table.specs.Table.{place_from, place_in, name_or_none, names, number_of, class_at, name_at, look, entries_in, entries_at, methods_in, methods_at, AreDistinct, IsProgram, IsAlike, CanSwap}
+
+-- ---- shared values
+
+-- What is shared once more is the same.
+pub clones_shared : {T Z : Type 0} (xs ys : List (Arc T Z)) → AllZip (λ c d. arc_value d ≡ arc_value c) xs ys → map (λ c. arc_value c) ys ≡ map (λ c. arc_value c) xs
+clones_shared [] [] all = refl
+clones_shared [] (y ∷ ys) all = absurd all
+clones_shared (x ∷ xs) [] all = absurd all
+clones_shared (x ∷ xs) (y ∷ ys) all = ap (λ v. v ∷ map (λ c. arc_value c) ys) all.0 ∙ ap (λ vs. arc_value x ∷ vs) (clones_shared xs ys all.1)
 
 -- ---- names
 

@@ -104,30 +104,30 @@ fn all_targets(
     words: &HashMap<Name, u32>,
     places: &[Places],
     infos: &[Arc<ClassInfo, Global>],
-) -> Result<Targets, Memory>
+) -> Result<Arc<Targets, Global>, Memory>
     requires { AreWords words.now }
-    ensures { IfOk result (λ rows. rows ≡ map (λ i. map (entry_target numbers.now words.now places.now) i.linked.entries) (shared infos.now)) }
+    ensures { IfOk result (λ rows. arc_value rows ≡ map (λ i. map (entry_target numbers.now words.now places.now) i.linked.entries) (shared infos.now)) }
 {
     let mut rows = Vec::with_capacity(alloc, infos.len())?;
     for info in infos {
         let entries = info.linked().entries.as_slice();
         rows.push(class_targets(alloc, numbers, words, places, entries)?)?;
     }
-    Ok(Seq::from_vec(rows))
+    Ok(Arc::new(alloc, Seq::from_vec(rows))?)
 }
 
-/// The targets of a program: of each method that is named by short texts, and that is found.
+/// The targets of a program, shared: of each method that is named by short texts, and that is found.
 pub fn targets(
     alloc: Global,
     infos: &[Arc<ClassInfo, Global>],
     numbers: &HashMap<Name, u32>,
-) -> Result<Targets, Memory>
+) -> Result<Arc<Targets, Global>, Memory>
     requires { IsNumbering numbers.now (shared infos.now) }
-    ensures { IfOk result (λ rows. AreTargets rows (shared infos.now)) }
+    ensures { IfOk result (λ rows. AreTargets (arc_value rows) (shared infos.now)) }
 {
     let words = words(alloc, infos)?;
     let places = places(alloc, &words, infos)?;
-    Ok(all_targets(alloc, numbers, &words, places.as_slice(), infos)?)
+    all_targets(alloc, numbers, &words, places.as_slice(), infos)
 }
 
 /// The same targets, shared.

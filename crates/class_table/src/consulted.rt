@@ -51,14 +51,12 @@ impl Consulted {
     }
 
     // Adds a name, unless it is known.
-    #[tactic(auto, using(crate::proofs::Walk::kept_one))]
     fn note(&mut self, program: &Program, name: &Name) -> Result<(), Memory>
         requires { IsConsultedOf program.now self.old }
         ensures names { OnOk result (self.new.names ≡ consult_one (look program.now) name.now self.old.names) }
         ensures kept { OnOk result (IsConsultedOf program.now self.new) }
     {
-        self.add(program, name)?;
-        Ok(())
+        self.add(program, name)
     }
 
     fn add(&mut self, program: &Program, name: &Name) -> Result<(), Memory>
@@ -129,8 +127,7 @@ impl Program {
         }
         seen.note(self, self.info(id).name())?;
         tasks.push(Task::Close(id.0))?;
-        push_supers(tasks, self.links(id))?;
-        Ok(())
+        push_supers(tasks, self.links(id))
     }
 
     // Makes a task.
@@ -142,10 +139,7 @@ impl Program {
     {
         let _len = self.len();
         match task {
-            Task::Visit(class) => {
-                self.visit(seen, tasks, ClassId(class))?;
-                Ok(())
-            }
+            Task::Visit(class) => self.visit(seen, tasks, ClassId(class)),
             Task::Close(class) => {
                 seen.mark(self, ClassId(class));
                 Ok(())
@@ -178,8 +172,7 @@ impl Program {
             return Ok(());
         }
         let mut tasks = first_task(*seen.marks.allocator(), Task::Visit(id.0))?;
-        self.run(seen, &mut tasks)?;
-        Ok(())
+        self.run(seen, &mut tasks)
     }
 
     /// Consults the class of a name, also where there is none, as `consult` does.
@@ -190,10 +183,8 @@ impl Program {
     {
         let _len = self.len();
         let Some(id) = self.find(name) else {
-            seen.note(self, name)?;
-            return Ok(());
+            return seen.note(self, name);
         };
-        self.consult(seen, id)?;
-        Ok(())
+        self.consult(seen, id)
     }
 }

@@ -92,17 +92,21 @@ fn add_name(numbers: &mut HashMap<Name, u32>, name: &Name, number: u32) -> Resul
     Ok(())
 }
 
-/// The numbers of the classes by their names, of two classes of one name the first.
+/// The numbers of the classes by their names, shared: of two classes of one name the first. Where
+/// there are 2^32 classes or more, memory runs out.
 pub fn numbers(
     alloc: Global,
     infos: &[Arc<ClassInfo, Global>],
-) -> Result<HashMap<Name, u32>, Memory>
-    requires few { length infos.now < 2 ^ 32 }
-    ensures { IfOk result (λ m. IsNumbering m (shared infos.now)) }
+) -> Result<Arc<HashMap<Name, u32>, Global>, Memory>
+    ensures few { OnOk result (length infos.now < 2 ^ 32) }
+    ensures numbers { IfOk result (λ m. IsNumbering (arc_value m) (shared infos.now)) }
 {
+    if infos.len() > u32::MAX as usize {
+        return Err(Memory);
+    }
     let mut numbers = HashMap::new(alloc);
     for (i, info) in infos.iter().enumerate() {
         add_name(&mut numbers, info.name(), i as u32)?;
     }
-    Ok(numbers)
+    Ok(Arc::new(alloc, numbers)?)
 }

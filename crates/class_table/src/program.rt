@@ -10,7 +10,7 @@ ghost use Rattle.class_link.specs.View.{method_of};
 ghost use Rattle.class_link.specs.Info.{IsInfo, class_of, link_body, file_in};
 ghost use Rattle.class_table.specs.Table.{AreDistinct, IsLeastDuplicate, bodies_of, names_of, number_of, CanSwap, class_at, name_at, look, entries_at, methods_at, reference_at, named_number, named_place, IsProgram, AreLinksOf};
 ghost use Rattle.class_order.specs.Ranks.{HasRanks};
-ghost use Rattle.class_table.specs.Calls.{IsTargetOf, AreTargets};
+ghost use Rattle.class_table.specs.Calls.{IsTargetOf};
 ghost use Rattle.class_table.specs.Faults.{look_of, AreProgram, IsFirstMissing, IsFirstCycle, IsFirstWrongKind};
 ghost use Rattle.class_table.specs.Faults.{IfDuplicate, IfSuperMissing, IfSuperCycle, IfSuperKind};
 ghost use Rattle.class_table.specs.Flaws.{IsFirstFaultOf, AreSoundSupers, IsTableOf};
@@ -199,11 +199,15 @@ impl Program {
     pub fn copy(&self) -> Result<Program, Memory>
         ensures { IfOk result (λ p. p ≡ self.now) }
     {
+        let numbers = self.numbers.clone()?;
+        let supers = self.supers.clone()?;
+        let targets = copy_targets(&self.targets)?;
+        let classes = copy_classes(&self.classes)?;
         Ok(Program {
-            classes: copy_classes(&self.classes)?,
-            numbers: self.numbers.clone()?,
-            targets: copy_targets(&self.targets)?,
-            supers: self.supers.clone()?,
+            classes,
+            numbers,
+            targets,
+            supers,
         })
     }
 
@@ -309,16 +313,16 @@ fn meant(info: &ClassInfo)
     let _linked = info.linked();
 }
 
-// What stands above each of these classes, or the first fault that they have as a program.
+// What stands above each of these classes, shared, or the first fault that they have as a program.
 fn supers_of(
     alloc: Global,
     infos: &[Arc<ClassInfo, Global>],
     numbers: &HashMap<Name, u32>,
-) -> Result<Supers, TableFault>
+) -> Result<Arc<Supers, Global>, TableFault>
     requires few { length infos.now < 2 ^ 32 }
     requires meant { All IsInfo (shared infos.now) }
     requires numbers { IsNumbering numbers.now (shared infos.now) }
-    ensures supers { IfOk result (AreSoundSupers (shared infos.now)) }
+    ensures supers { IfOk result (λ s. AreSoundSupers (shared infos.now) (arc_value s)) }
     ensures fault { IfErr result (IsFirstFaultOf (shared infos.now)) }
 {
     let links = all_links(alloc, infos, numbers)?;
@@ -327,21 +331,7 @@ fn supers_of(
         return Err(fault);
     }
     let above = all_above(alloc, links.as_slice(), found.as_slice())?;
-    Ok(Supers { links, above })
-}
-
-// The numbers of these classes, and what they name by number, shared.
-fn number_all(
-    alloc: Global,
-    infos: &[Arc<ClassInfo, Global>],
-) -> Result<(Arc<HashMap<Name, u32>, Global>, Arc<Targets, Global>), Memory>
-    requires few { length infos.now < 2 ^ 32 }
-    ensures numbers { IfOk result (λ both. IsNumbering (arc_value both.0) (shared infos.now)) }
-    ensures targets { IfOk result (λ both. AreTargets (arc_value both.1) (shared infos.now)) }
-{
-    let numbers = numbers(alloc, infos)?;
-    let targets = targets(alloc, infos, &numbers)?;
-    Ok((Arc::new(alloc, numbers)?, Arc::new(alloc, targets)?))
+    Ok(Arc::new(alloc, Supers { links, above })?)
 }
 
 // The program of these classes.
@@ -350,30 +340,24 @@ fn program_of(alloc: Global, infos: Vec<Arc<ClassInfo, Global>>) -> Result<Progr
     ensures program { IfOk result (IsTableOf (shared infos.items)) }
     ensures fault { IfErr result (IsFirstFaultOf (shared infos.items)) }
 {
-    if infos.len() > u32::MAX as usize {
-        return Err(TableFault::Memory);
+    let numbers = numbers(alloc, infos.as_slice())?;
+    let targets = targets(alloc, infos.as_slice(), &numbers)?;
+    match supers_of(alloc, infos.as_slice(), &numbers) {
+        Ok(supers) => Ok(Program {
+            classes: infos,
+            numbers,
+            targets: Some(targets),
+            supers,
+        }),
+        Err(fault) => Err(fault),
     }
-    let (numbers, targets) = number_all(alloc, infos.as_slice())?;
-    let supers = match supers_of(alloc, infos.as_slice(), &numbers) {
-        Ok(supers) => supers,
-        Err(fault) => return Err(fault),
-    };
-    Ok(Program {
-        classes: infos,
-        numbers,
-        targets: Some(targets),
-        supers: Arc::new(alloc, supers)?,
-    })
 }
 
+// These classes, shared once more.
 fn copy_classes(
     classes: &Vec<Arc<ClassInfo, Global>>,
 ) -> Result<Vec<Arc<ClassInfo, Global>>, Memory>
     ensures { IfOk result (λ copy. shared copy.items ≡ shared classes.now.items) }
 {
-    let mut copy = Vec::with_capacity(*classes.allocator(), classes.len())?;
-    for class in classes {
-        copy.push(class.clone()?)?;
-    }
-    Ok(copy)
+    Ok(classes.clone()?)
 }

@@ -35,10 +35,7 @@ impl Program {
     {
         let _len = self.len();
         match task {
-            Task::Visit(class) => {
-                self.add_visit(out, tasks, ClassId(class))?;
-                Ok(())
-            }
+            Task::Visit(class) => self.add_visit(out, tasks, ClassId(class)),
             Task::Close(_) => Ok(()),
         }
     }
@@ -59,8 +56,8 @@ impl Program {
         requires class { id.0 < length self.now }
         ensures { IfOk result (λ names. names ≡ supers (look self.now) (name_at self.now id.0)) }
     {
-        let mut names = Vec::new(alloc);
         let mut tasks = first_task(alloc, Task::Visit(id.0))?;
+        let mut names = Vec::new(alloc);
         self.add_all(&mut names, &mut tasks)?;
         Ok(Seq::from_vec(names))
     }
@@ -85,7 +82,7 @@ impl Program {
     {
         let _len = self.len();
         match task {
-            Task::Visit(class) => Ok(self.pass_class(tasks, ClassId(class))?),
+            Task::Visit(class) => self.pass_class(tasks, ClassId(class)),
             Task::Close(_) => Ok(true),
         }
     }
@@ -112,6 +109,6 @@ impl Program {
         let _len = self.len();
         let mut tasks = Vec::new(alloc);
         push_supers(&mut tasks, self.links(id))?;
-        Ok(self.pass_all(&mut tasks)?)
+        self.pass_all(&mut tasks)
     }
 }

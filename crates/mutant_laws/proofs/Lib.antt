@@ -1,4 +1,6 @@
+mod Ranges
 mod Lists
+mod Meant
 mod Jumps
 mod Listed
 mod IntJumps
@@ -10,5 +12,10 @@ mod Recoded
 mod Edits
 mod RunLaws
 mod SelectedLaws
+mod Alike
+mod Kept
+mod AcceptedLaws
 mod Premises
+mod WitnessProgram
+mod WitnessSafe
 mod WitnessLaws

@@ -1,8 +1,7 @@
 -- A program and a mutant meet the premises of the laws, by computing.
-use Rattle.std.proofs.Common.{◌≡◌, refl, sym, subst, ℕ, zero, suc, Bool, true, false, List, [], ◌∷◌, Option, Some, None, Ok, drop, lit<, arith, codes}
-use Rattle.std.specs.Prelude.{◌<◌, ◌^◌, nat_lt, ◌&&◌, ◌||◌, if◌then◌else◌, is_none, length, option_and_then}
-use Rattle.std.specs.List.{Contains, list_all, list_any}
-use Rattle.std.specs.Cmp.Lexicographic.{same_text}
+use Rattle.std.proofs.Common.{◌≡◌, ◌∙◌, refl, sym, ap, subst, ℕ, zero, suc, Bool, true, false, List, [], ◌∷◌, Option, Some, None, Ok, drop, lit<, arith, codes}
+use Rattle.std.specs.Prelude.{nat_lt, ◌&&◌, if◌then◌else◌, is_some, option_and_then}
+use Rattle.std.specs.List.{Contains, list_all}
 use Rattle.std.proofs.lemmas.Bool.{ltb-true}
 use Rattle.std.proofs.lemmas.List.Elements.{All-from_recursion}
 use Rattle.class_model.specs.Text.{units_within}
@@ -28,33 +27,39 @@ use Rattle.mt_attrs.specs.Rows.{row_at}
 use Rattle.mt_insn.specs.Reading.{insn_at, formed_at, wide_at}
 use Rattle.mt_insn.specs.Operands.{jump_at, array_at, constant_at, dimensions_at, far_jump_at, increment_at, interface_at, local_at, long_constant_at, lookup_at, lookup_body_at, named_at, pair_at, refused_at, small_constant_at, small_number_at, table_at as operand_table_at, table_items_at, wide_increment_at, wide_local_at, wide_number_at}
 use denote.Hole.Carrier.{hidden, out, roll, shown}
-use Rattle.program_rules.specs.Names.{Name, same, object_name, is_listed}
-use Rattle.program_rules.specs.Linked.{parents_of}
-use Rattle.program_rules.specs.Programs.{supers}
+use Rattle.program_rules.specs.Programs.{supers, nodes, family}
+use Rattle.program_rules.specs.Resolution.{resolve_field, resolve_method}
+use Rattle.program_rules.specs.Selection.{select_virtual, select_named}
+use Rattle.type_rules.specs.Faults.{Placed, class_fault}
+use Rattle.type_rules.specs.Rows.{row}
+use Rattle.type_rules.specs.Rules.{method_fault}
+use Rattle.machine_rules.specs.Initialisation.{need_of}
+use Rattle.machine_rules.specs.Lookups.{is_instance}
+use Rattle.machine_rules.specs.Steps.{act, step_of}
 use Rattle.machine_rules.specs.declared.machine.Outcome.TheVariants.{Passed}
 use Rattle.machine_rules.specs.Runs.{With}
 use Rattle.machine_rules.specs.Worked.{roomy}
 use Rattle.machine_laws.specs.FrameLaw.{HasEnded}
-use Rattle.machine_so_far.specs.Steps.{act, step_so_far}
-use Rattle.class_link.specs.Info.{Info, IsInfo}
-use Rattle.class_link.specs.Linking.{link, link_library}
+use Rattle.type_laws.specs.Faults.{FaultlessAreAccepted}
+use Rattle.class_link.specs.Info.{Info}
+use Rattle.class_link.specs.Linking.{link}
 use Rattle.class_link.specs.Opcodes.{instruction_by}
 use Rattle.class_link.specs.View.{instruction_of, linked_of}
-use Rattle.class_order.specs.Supers.{is_super_missing, lacks_superclass}
-use Rattle.class_order.specs.Ranks.{HasRanks}
-use Rattle.class_table.specs.Table.{look, class_at as class_of_number, names, AreDistinct, IsProgram}
+use Rattle.class_table.specs.Table.{look}
 use Rattle.mutator_ops.specs.Laws.{IsMutant}
 use Rattle.mutator_ops.specs.Mutants.{class_mutants}
 use Rattle.mutator_ops.specs.declared.mutant.Mutant.{Mutant}
 use Rattle.mutant_apply.specs.Fitting.{Fits}
 use Rattle.mutant_apply.specs.Laws.{MutantsFit}
 use Rattle.apply_laws.specs.Witness.{sample_file}
-use Rattle.mutant_runs.specs.Programs.{files_of, edited, IsMutantOf}
+use Rattle.mutant_runs.specs.Programs.{files_of, edited, viable, with_accepted, IsMutantOf}
 use Rattle.mutant_runs.specs.Runs.{reaches}
-use Rattle.mutant_laws.specs.Edited.{is_int_jump}
+use Rattle.mutant_laws.specs.Edited.{IsMutated, is_int_jump}
 use Rattle.mutant_laws.specs.Covered.{original_run}
-use Rattle.mutant_laws.specs.Witness.{a_jumping, t_class, t_file, a_info, t_info, object_info, sample_program, sample_mutant, sample_mutated, neg_test, idle_test, IsSpelled, PremisesAreMet}
+use Rattle.mutant_laws.specs.Witness.{a_jumping, t_class, t_file, sample_program, sample_mutant, sample_mutated, neg_test, idle_test, IsSpelled, PremisesAreMet}
 use Rattle.mutant_laws.proofs.Premises.{listed_are_mutated}
+use Rattle.mutant_laws.proofs.WitnessProgram.{of_all, program, whole}
+use Rattle.mutant_laws.proofs.WitnessSafe as safe
 
 -- ---- the class files, each definition of the reading opened
 
@@ -85,77 +90,6 @@ a_spelled read = (read sample_file (a_jumping 0x9c) (bytes_are sample_file refl)
 t_spelled : ReadIsSpelled → Spells t_file t_class
 t_spelled read = (read t_file t_class (bytes_are t_file refl)).0 t_read
 
--- ---- the infos
-
-a_is : IsInfo a_info
-unfolding linked_of link instruction_of instruction_by hidden-the_row-Attr-0 shape-the_row-Attr-0 shown-the_row-Attr-0 roll-Code hidden roll shown out out-Body out-Code parameters_at
-a_is = record { name = refl; linked = refl; entries = refl; few = lit< tt }
-
-t_is : IsInfo t_info
-unfolding linked_of link instruction_of instruction_by hidden-the_row-Attr-0 shape-the_row-Attr-0 shown-the_row-Attr-0 roll-Code hidden roll shown out out-Body out-Code parameters_at
-t_is = record { name = refl; linked = refl; entries = refl; few = lit< tt }
-
-object_is : IsInfo object_info
-unfolding linked_of link_library parameters_at
-object_is = record { name = refl; linked = refl; entries = refl; few = lit< tt }
-
--- ---- the program
-
-distinct : AreDistinct (names sample_program)
-distinct zero lt = refl
-distinct (suc zero) lt = refl
-distinct (suc (suc zero)) lt = refl
-distinct (suc (suc (suc i))) lt = let few : suc (suc (suc i)) < 3 = lt in absurd (omega (arith, few))
-
--- a super is missing of the class of a number
-abbrev misses : Name → Option ℕ → Bool
-misses n o =
-    lacks_superclass n (option_and_then (class_of_number sample_program) o) || list_any (λ m. is_none (look sample_program m)) (parents_of (option_and_then (class_of_number sample_program) o))
-
-present_by : (n : Name) (a t o : Bool) → o ≡ same object_name n → misses n (if a then Some 0 else if t then Some 1 else if o then Some 2 else None) ≡ false
-unfolding linked_of
-present_by n true t o e = refl
-present_by n false true o e = refl
-present_by n false false true e = subst (λ m. misses m (Some 2) ≡ false) (same_text object_name n e) refl
-present_by n false false false e = refl
-
-present : (n : Name) → is_super_missing (look sample_program) n ≡ false
-present n = present_by n (same (codes "A") n) (same (codes "T") n) (same object_name n) refl
-
--- the supers of the class of a number, where these tell which of the three names it has
-abbrev parents_by : Bool → Bool → Bool → List Name
-parents_by a t o = parents_of (option_and_then (class_of_number sample_program) (if a then Some 0 else if t then Some 1 else if o then Some 2 else None))
-
-few_by : (a t o : Bool) → length (parents_by a t o) < 2 ^ 32
-unfolding linked_of
-few_by true t o = lit< tt
-few_by false true o = lit< tt
-few_by false false true = lit< tt
-few_by false false false = lit< tt
-
--- Object has none
-under : (m : Name) (b : Bool) → b ≡ same object_name m → (b || false) ≡ true → length (parents_of (look sample_program m)) < 1
-unfolding linked_of
-under m true e l = subst (λ k. length (parents_of (look sample_program k)) < 1) (same_text object_name m e) (lit< tt)
-under m false e l = let no : false ≡ true = l in absurd cc
-
-lower_by : (a t o : Bool) (m : Name) → is_listed m (parents_by a t o) ≡ true → length (parents_of (look sample_program m)) < length (parents_by a t o)
-unfolding linked_of
-lower_by true t o m l = under m (same object_name m) refl l
-lower_by false true o m l = under m (same object_name m) refl l
-lower_by false false true m l = let no : false ≡ true = l in absurd cc
-lower_by false false false m l = let no : false ≡ true = l in absurd cc
-
-ranks : HasRanks (look sample_program)
-ranks = record {
-  rank = λ n. length (parents_of (look sample_program n));
-  few = λ n. few_by (same (codes "A") n) (same (codes "T") n) (same object_name n);
-  lower = λ n m l. lower_by (same (codes "A") n) (same (codes "T") n) (same object_name n) m l;
-}
-
-program : IsProgram sample_program
-program = record { few = lit< tt; distinct = distinct; meant = All-from_recursion IsInfo sample_program (a_is, (t_is, (object_is, tt))); present = present; ranks = ranks }
-
 -- ---- the mutant
 
 found : files_of sample_program sample_mutant.class ≡ Some (a_jumping 0x9c)
@@ -172,6 +106,13 @@ made : edited (files_of sample_program) (look sample_program) sample_mutant ≡ 
 unfolding parameters_at hidden-the_row-Attr-0 shape-the_row-Attr-0 shown-the_row-Attr-0 roll-Code hidden roll shown out out-Body out-Code
 made = refl
 
+has_no_fault : class_fault sample_mutated (codes "A") ≡ None
+unfolding class_fault method_fault row supers link linked_of instruction_of instruction_by hidden-the_row-Attr-0 shape-the_row-Attr-0 shown-the_row-Attr-0 roll-Code hidden roll shown out out-Body out-Code parameters_at
+has_no_fault = refl
+
+accepted : viable (files_of sample_program) (look sample_program) sample_mutant ≡ Some sample_mutated
+accepted = ap (option_and_then (with_accepted (codes "A"))) made ∙ ap (λ (o : Option Placed). if is_some o then None else Some sample_mutated) has_no_fault
+
 mutant : IsMutant (a_jumping 0x9c) sample_mutant
 unfolding parameters_at hidden-the_row-Attr-0 shape-the_row-Attr-0 shown-the_row-Attr-0 roll-Code hidden roll shown out out-Body out-Code
 mutant = record { real = refl; member = _; declared = refl; kept = refl; code = _; coded = refl; insn = _; stands = refl; listed = (0, lit< tt, refl); change = _; applies = refl; is = refl }
@@ -183,37 +124,42 @@ jumps = refl
 -- ---- the runs
 
 neg_passed : (original_run sample_program neg_test roomy 1000000000).ending ≡ With Passed
-unfolding supers act step_so_far linked_of instruction_of
+unfolding supers nodes act step_of family resolve_field resolve_method select_virtual select_named need_of is_instance linked_of instruction_of
 neg_passed = refl
 
 idle_passed : (original_run sample_program idle_test roomy 1000000000).ending ≡ With Passed
-unfolding supers act step_so_far linked_of instruction_of
+unfolding supers nodes act step_of family resolve_field resolve_method select_virtual select_named need_of is_instance linked_of instruction_of
 idle_passed = refl
 
 neg_reaches : reaches sample_mutant (original_run sample_program neg_test roomy 1000000000) ≡ true
-unfolding supers act step_so_far linked_of instruction_of
+unfolding supers nodes act step_of family resolve_field resolve_method select_virtual select_named need_of is_instance linked_of instruction_of
 neg_reaches = refl
 
 idle_misses : reaches sample_mutant (original_run sample_program idle_test roomy 1000000000) ≡ false
-unfolding supers act step_so_far linked_of instruction_of
+unfolding supers nodes act step_of family resolve_field resolve_method select_virtual select_named need_of is_instance linked_of instruction_of
 idle_misses = refl
 
 -- ---- the premises
 
-pub premises_are_met : ReadIsSpelled → SpelledIsWritten → MutantsFit → PremisesAreMet
-premises_are_met read written fit =
+pub premises_are_met : ReadIsSpelled → SpelledIsWritten → MutantsFit → FaultlessAreAccepted → PremisesAreMet
+premises_are_met read written fit law =
     let spelled = a_spelled read in
     let form : HasClassForm (a_jumping 0x9c) = (written sample_file (a_jumping 0x9c) spelled).0 in
     let fits = subst (λ (m : Mutant). Fits (a_jumping 0x9c) m.edit) listed.2 (fit (a_jumping 0x9c) form listed.0 sample_mutant listed.1) in
     let of : IsMutantOf (files_of sample_program) sample_mutant = (form, fits, spelled.form) in
+    let mutated : IsMutated sample_program sample_mutant sample_mutated = listed_are_mutated sample_program sample_mutant sample_mutated (a_jumping 0x9c) program of found listed made in
     record {
       program = program;
-      spelled = All-from_recursion (λ (i : Info). IsSpelled i.body) sample_program (spelled, (t_spelled read, (tt, tt)));
+      whole = whole;
+      spelled = All-from_recursion (λ (i : Info). IsSpelled i.body) sample_program (of_all (λ i. IsSpelled i.body) spelled (t_spelled read) tt tt (λ n. tt) (λ n. tt) (λ n. tt));
       of = of;
       found = found;
       listed = listed;
       made = made;
-      mutated = listed_are_mutated sample_program sample_mutant sample_mutated (a_jumping 0x9c) program of found listed made;
+      accepted = accepted;
+      safe = record { safe = safe.is_safe law; mutated = mutated; accepted = accepted };
+      fit = safe.fit;
+      mutated = mutated;
       mutant = mutant;
       jumps = jumps;
       puts = refl;

@@ -1,5 +1,5 @@
 -- A program and a mutant that meet the premises of the laws (this project's own).
-use Rattle.std.specs.Prelude.{◌≡◌, ℕ, ⊤, pos, negsuc, true, false, List, [], ◌∷◌, All, Some, None, codes}
+use Rattle.std.specs.Prelude.{◌≡◌, ℕ, ⊤, pos, negsuc, true, false, List, [], ◌∷◌, ◌++◌, map, take, All, Some, None, codes}
 use Rattle.std.specs.List.{Contains}
 use Rattle.class_model.specs.declared.attribute.Attr.{Attr, roll-Attr}
 use Rattle.class_model.specs.declared.attribute.Body.{Body}
@@ -17,13 +17,15 @@ use Rattle.class_model.specs.declared.kind.Kind.TheVariants as kind
 use Rattle.class_model.specs.declared.mutator.Mutator.TheVariants.{ConditionalsBoundary}
 use Rattle.class_reader.specs.Spells.{Spells}
 use Rattle.program_rules.specs.declared.call_kind.CallKind.TheVariants.{Make, TestMethod}
+use Rattle.program_rules.specs.declared.making.Making.TheVariants as making
 use Rattle.program_rules.specs.declared.operation.Comparison.TheVariants.{IsAtLeast}
-use Rattle.program_rules.specs.Names.{Name, object_name, instance_initializer, plain_descriptor}
+use Rattle.program_rules.specs.Deeds.{making_name}
+use Rattle.program_rules.specs.Names.{Name, object_name, string_name, class_name, descriptor_of, instance_initializer, plain_descriptor}
 use Rattle.program_rules.specs.Programs.{Look}
 use Rattle.machine_rules.specs.declared.machine.Limits.{Limits}
-use Rattle.machine_rules.specs.declared.machine.Outcome.TheVariants.{Passed}
-use Rattle.machine_rules.specs.Runs.{With}
 use Rattle.machine_rules.specs.Worked.{roomy}
+use Rattle.type_rules.specs.References.{throwable_name}
+use Rattle.machine_laws.specs.Consulted.{IsLibraryWhole}
 use Rattle.machine_laws.specs.FrameLaw.{HasEnded}
 use Rattle.class_link.specs.declared.frames.FrameShape.TheVariants.{SameLocals}
 use Rattle.class_link.specs.declared.instruction.Instruction.{Instruction}
@@ -31,6 +33,7 @@ use Rattle.class_link.specs.declared.instruction.Instruction.TheVariants as code
 use Rattle.class_link.specs.declared.linked.Entry.TheVariants as entry
 use Rattle.class_link.specs.declared.linked.LinkedBody.TheVariants as linked_body
 use Rattle.class_link.specs.declared.linked.LinkedClass.{LinkedClass}
+use Rattle.class_link.specs.declared.linked.LinkedField.{LinkedField}
 use Rattle.class_link.specs.declared.linked.LinkedMethod.{LinkedMethod}
 use Rattle.library_rules.specs.declared.native.ObjectNative.TheVariants.{DoNothing}
 use Rattle.library_rules.specs.Places.{as_object}
@@ -38,17 +41,20 @@ use Rattle.class_link.specs.declared.loaded.ClassBody.{ClassBody}
 use Rattle.class_link.specs.declared.loaded.ClassBody.TheVariants as body
 use Rattle.class_link.specs.Edits.{class_edited}
 use Rattle.class_link.specs.declared.loaded.LibBody.TheVariants as lib
+use Rattle.class_link.specs.declared.loaded.LibField.{LibField}
 use Rattle.class_link.specs.Info.{Info}
 use Rattle.class_table.specs.declared.scripted.Test.{Test}
 use Rattle.class_table.specs.Table.{IsProgram, look}
+use Rattle.jvm_world.specs.Classes.{machine_names}
 use Rattle.mutator_ops.specs.Laws.{IsMutant}
 use Rattle.mutator_ops.specs.Mutants.{class_mutants}
 use Rattle.mutator_ops.specs.declared.mutant.Mutant.{Mutant}
 use Rattle.apply_laws.specs.Witness.{sample_file}
-use Rattle.mutant_runs.specs.Programs.{files_of, with_class, edited, IsMutantOf}
+use Rattle.mutant_runs.specs.Programs.{files_of, with_class, edited, viable, IsMutantOf}
 use Rattle.mutant_runs.specs.Runs.{reaches}
 use Rattle.mutant_laws.specs.Edited.{IsMutated, is_int_jump, puts_int_jump}
-use Rattle.mutant_laws.specs.Covered.{original_run}
+use Rattle.mutant_laws.specs.Covered.{original_run, AllPass}
+use Rattle.mutant_laws.specs.Accepted.{FitsProgram, IsSafeMutant}
 
 -- ---- class files
 
@@ -220,8 +226,77 @@ object_info = record {
   };
 }
 
+-- A class of the library with these flags, below another one, without methods.
+abbrev library_info : ℕ → Name → List LibField → List LinkedField → Name → Info
+library_info flags parent fields linked name = record {
+  name = name;
+  body =
+      body.Library (record {
+        name = name;
+        parent = Some parent;
+        interfaces = [];
+        flags = flags;
+        pool = [];
+        fields = fields;
+        methods = [];
+      });
+  linked = record {
+    library = true;
+    flags = flags;
+    parent = Some parent;
+    interfaces = [];
+    fields = linked;
+    methods = [];
+    entries = entry.Other ∷ [];
+  };
+}
+
+-- A class without fields, and an interface.
+abbrev pub bare_info : Name → Name → Info
+bare_info parent name = library_info 33 parent [] [] name
+
+abbrev pub interface_info : Name → Info
+interface_info name = library_info 1537 object_name [] [] name
+
+-- A private field that holds an object of this class.
+abbrev held : Name → Name → LibField
+held name class = record { name = name; desc = descriptor_of class; flags = 2 }
+
+abbrev held_linked : Name → Name → LinkedField
+held_linked name class = record {
+  flags = 2;
+  name = name;
+  desc = descriptor_of class;
+  kind = kind.Ref class;
+  constant = None;
+}
+
+-- Throwable, with its message and its cause.
+abbrev pub throwable_info : Info
+throwable_info =
+    library_info 33 object_name
+    (held (codes "message") string_name ∷ held (codes "cause") throwable_name ∷ [])
+    (held_linked (codes "message") string_name ∷ held_linked (codes "cause") throwable_name ∷ [])
+    throwable_name
+
+-- The class of classes, and those of which native methods make objects.
+abbrev pub object_names : List Name
+object_names =
+    class_name ∷ making_name making.Text ∷ making_name making.List ∷ making_name making.Set
+    ∷ making_name making.Iterator ∷ making_name making.Optional ∷ making_name making.Integer
+    ∷ making_name making.Long ∷ making_name making.Short ∷ making_name making.Byte
+    ∷ making_name making.Character ∷ making_name making.Boolean ∷ []
+
+-- The exceptions that the machine makes.
+abbrev pub fault_names : List Name
+fault_names = take 22 machine_names
+
+-- The library is the least that the laws ask.
 abbrev pub sample_program : List Info
-sample_program = a_info ∷ t_info ∷ object_info ∷ []
+sample_program =
+    a_info ∷ t_info ∷ object_info ∷ throwable_info
+    ∷ interface_info (codes "java/lang/Cloneable") ∷ interface_info (codes "java/io/Serializable")
+    ∷ map (bare_info object_name) object_names ++ map (bare_info throwable_name) fault_names
 
 -- The mutant of the jump in `f` with ifgt (9d) in its place.
 abbrev pub sample_mutant : Mutant
@@ -263,23 +338,32 @@ IsSpelled (body.File loaded) = Spells loaded.bytes loaded.class
 IsSpelled (body.Edited e) = Spells e.bytes (class_edited e)
 IsSpelled (body.Library c) = ⊤
 
--- All that the laws ask: of a program and a mutant of one of its class files; of a mutant of a jump on ints; and of tests, of which one reaches the mutant's line and one doesn't. Both pass.
-pub record ArePremises (p : List Info) (file : Class) (m : Mutant) (p' : Look) (q : Limits) (limit : ℕ) (reaching missing : Test) : Type 0 where
+-- All that the laws ask: of a program that is built and accepted and has a whole library, and of a
+-- mutant of one of its class files, whose edited class is accepted; of a mutant of a jump on ints;
+-- and of tests, of which one reaches the mutant's line and one doesn't. Both pass.
+pub record ArePremises (p : List Info) (file : Class) (m : Mutant) (p' : Look) (q : Limits)
+    (limit : ℕ) (reaching missing : Test) : Type 0 where
   pub program : IsProgram p
+  pub whole : IsLibraryWhole (look p)
   pub spelled : All (λ i. IsSpelled i.body) p
   pub of : IsMutantOf (files_of p) m
   pub found : files_of p m.class ≡ Some file
   pub listed : Contains (class_mutants file) m
   pub made : edited (files_of p) (look p) m ≡ Some p'
+  pub accepted : viable (files_of p) (look p) m ≡ Some p'
+  pub safe : IsSafeMutant p m p'
+  pub fit : All (FitsProgram p) (reaching ∷ missing ∷ [])
   pub mutated : IsMutated p m p'
   pub mutant : IsMutant file m
   pub jumps : is_int_jump mutant.insn.op ≡ true
   pub puts : puts_int_jump m.edit.with ≡ true
-  pub passed : All (λ t. (original_run p t q limit).ending ≡ With Passed) (reaching ∷ missing ∷ [])
+  pub passed : AllPass p q limit (reaching ∷ missing ∷ [])
   pub reaching_ended : HasEnded (original_run p reaching q limit).ending
   pub missing_ended : HasEnded (original_run p missing q limit).ending
   pub reached : reaches m (original_run p reaching q limit) ≡ true
   pub missed : reaches m (original_run p missing q limit) ≡ false
 
 abbrev pub PremisesAreMet : Type 0
-PremisesAreMet = ArePremises sample_program (a_jumping 0x9c) sample_mutant sample_mutated roomy 1000000000 neg_test idle_test
+PremisesAreMet =
+    ArePremises sample_program (a_jumping 0x9c) sample_mutant sample_mutated roomy 1000000000
+    neg_test idle_test

@@ -11,4 +11,4 @@ mod tally;
 mod tests_run;
 
 pub use all::verdicts;
-pub use laws::{entries_add_alone, files_are_found, mutants_are_of};
+pub use laws::{entries_add_alone, files_are_found, mutants_are_of, ready_may_run};

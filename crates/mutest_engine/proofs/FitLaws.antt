@@ -1,6 +1,7 @@
 -- Each mutant of a suite's classes has an edit that its class takes.
 use Rattle.std.proofs.Common.{◌≡◌, ◌∙◌, ℕ, ◌+◌, Bool, true, false, List, [], ◌∷◌, ◌++◌, map, Option, Some, None, Ok, refl, sym, ap, subst}
-use Rattle.std.specs.Prelude.{All, IfSome, if◌then◌else◌, ◌||◌, Result}
+use Rattle.std.specs.Prelude.{All, IfSome, if◌then◌else◌, ◌||◌}
+use Rattle.std.specs.Option.{option_map, option_or}
 use Rattle.std.specs.List.{AllByRecursion, list_any, flat_map, fold}
 use Rattle.std.specs.declared.cmp.Ordering.{Ordering}
 use Rattle.std.specs.declared.cmp.Ordering.TheVariants.{Less, Equal, Greater}
@@ -27,14 +28,14 @@ use Rattle.mutator_ops.specs.declared.mutant.Mutant.{Mutant}
 use Rattle.mutant_apply.specs.Fitting.{Fits}
 use Rattle.mutant_apply.specs.Laws.{MutantsFit}
 use Rattle.mutant_runs.specs.Programs.{ClassFiles, IsMutantOf}
-use Rattle.mutest_engine.specs.Steps.{and_then}
-use Rattle.mutest_engine.specs.Supers.{unless_found, right_supers}
-use Rattle.mutest_engine.specs.Duplicates.{again, least, duplicate_in}
+use Rattle.suite_program.specs.Duplicates.{again, least, duplicate_in}
+use Rattle.suite_program.specs.Faults.{first_fault}
+use Rattle.suite_program.specs.Programs.{classes_in, class_file, names_in, AreSpelled}
+use Rattle.suite_program.specs.declared.fault.ProgramFault.{ProgramFault}
+use Rattle.suite_program.specs.declared.fault.ProgramFault.TheVariants.{Duplicate}
 use Rattle.mutest_engine.specs.SuiteFiles.{IsSpelled, IsFormed}
-use Rattle.mutest_engine.specs.Originals.{all_classes, classes_in, class_file, names_in, program_of, accepted}
+use Rattle.mutest_engine.specs.Originals.{all_classes, unless_fault, accepted}
 use Rattle.mutest_engine.specs.Mutation.{mutants_of, suite_files, linked}
-use Rattle.mutest_engine.specs.declared.refusal.ProgramFault.TheVariants.{Duplicate}
-use Rattle.mutest_engine.specs.declared.refusal.Refusal.{Refusal}
 use Rattle.mutest_engine.specs.declared.suite.LoadedSuite.{LoadedSuite}
 
 -- ---- lists
@@ -129,12 +130,20 @@ nothing_twice : (ns : List Name) → least ns ≡ None → ns ≡ []
 nothing_twice [] h = refl
 nothing_twice (n ∷ ns) h = absurd cc
 
-accepted_case : (o : Option Name) (next : Unit {0} → Result (Unit {0}) Refusal) → and_then (unless_found Duplicate o) next ≡ Ok tt → o ≡ None
-accepted_case None next h = refl
-accepted_case (Some n) next h = absurd cc
+no_fault : (o : Option ProgramFault) → unless_fault o ≡ Ok tt → o ≡ None
+no_fault None h = refl
+no_fault (Some f) h = absurd cc
+
+no_name : (o : Option Name) (rest : Option ProgramFault) → option_or (option_map Duplicate o) rest ≡ None → o ≡ None
+no_name None rest h = refl
+no_name (Some n) rest h = absurd cc
+
+no_duplicate : (classes : List Class) → first_fault classes ≡ None → duplicate_in (names_in classes) ≡ None
+unfolding first_fault
+no_duplicate classes h = no_name (duplicate_in (names_in classes)) _ h
 
 none_again : (classes : List Class) → accepted classes ≡ Ok tt → again (names_in classes) ≡ []
-none_again classes h = nothing_twice (again (names_in classes)) (accepted_case (duplicate_in (names_in classes)) (λ ok. right_supers (program_of classes) (names_in classes)) h)
+none_again classes h = nothing_twice (again (names_in classes)) (no_duplicate classes (no_fault (first_fault classes) h))
 
 abbrev IsFound : List Class → Class → Type 0
 IsFound cs c = class_file cs (own_name c) ≡ Some c
@@ -198,3 +207,15 @@ all_fit fit s forms ok =
     front (λ (c : Class). IsSpelled c × (files (own_name c) ≡ Some c)) (classes_in s.classes) (classes_in s.tests)
     (subst (λ (ds : List Class). AllByRecursion (λ (c : Class). IsSpelled c × (files (own_name c) ≡ Some c)) ds) (classes_both s.classes s.tests) each) in
     All-from_recursion (IsMutantOf files) (mutants_of s) (among_fit fit files (classes_in s.classes) some)
+
+-- ---- the classes that were read
+
+spelled : (xs : List Loaded) → AllByRecursion (λ (l : Loaded). IsSpelled l.class) xs → AllByRecursion (λ (l : Loaded). IsClass l.class) xs
+spelled [] p = tt
+spelled (x ∷ xs) p = (p.0.spelled, spelled xs p.1)
+
+-- Each class of a suite that was read has a spelling.
+pub all_spelled : (s : LoadedSuite) (all : List Loaded) → IsFormed s → all ≡ all_classes s → AreSpelled all
+all_spelled s all forms is =
+    let formed_all = appended (λ (l : Loaded). IsSpelled l.class) s.classes s.tests (recursion_from_All (λ (l : Loaded). IsSpelled l.class) s.classes forms.0) (recursion_from_All (λ (l : Loaded). IsSpelled l.class) s.tests forms.1) in
+    subst AreSpelled (sym is) (All-from_recursion (λ (l : Loaded). IsClass l.class) (all_classes s) (spelled (all_classes s) formed_all))

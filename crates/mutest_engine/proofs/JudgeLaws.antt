@@ -3,7 +3,7 @@ use Rattle.std.proofs.Common.{◌≡◌, ◌∙◌, ℕ, suc, ◌+◌, ◌≤◌
 use Rattle.std.proofs.lemmas.Bool.{ltb-false, le-ltb}
 use Rattle.std.proofs.lemmas.List.{length-append}
 use Rattle.class_link.specs.Info.{Info}
-use Rattle.std.specs.Prelude.{All, if◌then◌else◌}
+use Rattle.std.specs.Prelude.{All, if◌then◌else◌, None}
 use Rattle.program_rules.specs.Programs.{Look}
 use Rattle.class_table.specs.declared.scripted.Test.{Test}
 use Rattle.mutator_ops.specs.declared.mutant.Mutant.{Mutant}
@@ -13,15 +13,21 @@ use Rattle.mutant_apply.specs.Laws.{MutantsFit}
 use Rattle.mutant_runs.specs.Programs.{ClassFiles, IsMutantOf}
 use Rattle.report_schema.specs.declared.input.ReportInput.{ReportInput}
 use Rattle.mutest_engine.specs.SuiteFiles.{IsFormed}
-use Rattle.mutest_engine.specs.Steps.{and_then}
-use Rattle.mutest_engine.specs.Originals.{all_classes, classes_in, class_file, program_of, accepted, green}
-use Rattle.mutest_engine.specs.Numbers.{numbers_from, AreNumbered}
+use Rattle.mutest_engine.specs.Steps.{and_then, Refuses}
+use Rattle.suite_program.specs.Faults.{first_fault, RefusesFirst}
+use Rattle.suite_program.specs.Programs.{classes_in, class_file, program_of, HaveFirstNumbers}
+use Rattle.suite_program.specs.declared.fault.ProgramEnd.{ProgramEnd}
+use Rattle.suite_program.specs.declared.fault.ProgramEnd.TheVariants as end
+use Rattle.mutest_engine.specs.Originals.{all_classes, unless_fault, accepted, IsStopOfProgram, green}
+use Rattle.mutest_engine.specs.Numbers.{numbers_from}
 use Rattle.mutest_engine.specs.Discovered.{tests_of}
 use Rattle.mutest_engine.specs.Mutation.{suite_files, program, mutants_of, AreFirstMutants, linked, judged, if_found, suite_steps, few_mutants, HasTooMany, verdicts_by, green_verdicts, input_of, if_so, all_steps, tested, tested_steps, Stays}
 use Rattle.mutest_engine.specs.declared.suite.LoadedSuite.{LoadedSuite}
 use Rattle.mutest_engine.specs.declared.refusal.Limit.TheVariants as limit
 use Rattle.mutest_engine.specs.declared.refusal.Refusal.{Refusal}
-use Rattle.mutest_engine.specs.declared.refusal.Refusal.TheVariants.{TooMany}
+use Rattle.mutest_engine.specs.declared.refusal.Refusal.TheVariants.{BadProgram, TooMany}
+use Rattle.mutest_engine.specs.declared.stop.Stop.{Stop}
+use Rattle.mutest_engine.specs.declared.stop.Stop.TheVariants as stop
 use Rattle.mutest_engine.proofs.FitLaws.{all_fit, classes_both}
 use Rattle.mutest_engine.proofs.NumberLaws.{first_mutants}
 use Rattle.mutest_engine.proofs.RefusalLaws.{of_green}
@@ -86,11 +92,11 @@ pub record IsLinked (s : LoadedSuite) (files : ClassFiles) (p : Look) (ts : List
   pub of_mutants : ms ≡ mutants_of s
 
 -- The mutants that the code asks of the program are those of the suite.
-pub mutants_are : (s : LoadedSuite) (p : List Info) (all : List Loaded) (count : ℕ) (ms : List Mutant) → AreNumbered p (classes_in all) → all ≡ all_classes s → count ≡ length s.classes → AreFirstMutants p count ms → ms ≡ mutants_of s
+pub mutants_are : (s : LoadedSuite) (p : List Info) (all : List Loaded) (count : ℕ) (ms : List Mutant) → HaveFirstNumbers p (classes_in all) → all ≡ all_classes s → count ≡ length s.classes → AreFirstMutants p count ms → ms ≡ mutants_of s
 mutants_are s p all count ms are is len found =
     let both : classes_in all ≡ classes_in s.classes ++ classes_in s.tests = ap (λ l. classes_in l) is ∙ classes_both s.classes s.tests in
     let as_long : count ≡ length (classes_in s.classes) = len ∙ same_length s.classes in
-    found.2 ∙ first_mutants p found.0 (classes_in s.classes) (classes_in s.tests) (subst (AreNumbered p) both are) (found.1 ∙ ap (numbers_from 0) as_long)
+    found.2 ∙ first_mutants p found.0 (classes_in s.classes) (classes_in s.tests) (subst (HaveFirstNumbers p) both are) (found.1 ∙ ap (numbers_from 0) as_long)
   where
     same_length : (ls : List Loaded) → length ls ≡ length (classes_in ls)
     same_length [] = refl
@@ -146,8 +152,30 @@ by_found s found ok is = (
 pub counts_none : (s : LoadedSuite) (r : Refusal) (n : ℕ) → IsRefused s r → n ≡ n + suite_steps s
 counts_none s r n h = let none = h.unrun in omega (arith, none)
 
+-- The classes have no fault.
+pub is_accepted : (all : List Loaded) → first_fault (classes_in all) ≡ None → accepted (classes_in all) ≡ Ok tt
+is_accepted all h = ap unless_fault h
+
 is_program : (s : LoadedSuite) (all : List Loaded) → accepted (classes_in all) ≡ Ok tt → all ≡ all_classes s → linked s ≡ Ok tt
 is_program s all acc is = ap (λ l. accepted (classes_in l)) (sym is) ∙ acc
+
+refused_first : {X : Type 0} (all : List Loaded) (e : ProgramEnd) (s : Stop) → RefusesFirst {X = X} (classes_in all) (Err e) → IsStopOfProgram e s → Refuses (λ r. accepted (classes_in all) ≡ Err r) s
+refused_first all (end.Refused f) s is told = λ r h.
+    let both : stop.Refused (BadProgram f) ≡ stop.Refused r = sym told ∙ h in
+    let same : BadProgram f ≡ r = cc in
+    ap unless_fault (is f refl) ∙ ap (λ x. Err x) same
+refused_first all end.Memory s is told = λ r h.
+    let both : stop.WantOfMemory ≡ stop.Refused r = sym told ∙ h in
+    absurd cc
+
+-- The classes are refused.
+pub program_refused : {X : Type 0} (s : LoadedSuite) (all : List Loaded) (e : ProgramEnd) (told : Stop) → all ≡ all_classes s → RefusesFirst {X = X} (classes_in all) (Err e) → IsStopOfProgram e told → Refuses (IsRefused s) told
+program_refused s all e told is first by = λ r h.
+    let by_classes : linked s ≡ Err r = ap (λ l. accepted (classes_in l)) (sym is) ∙ refused_first all e told first by r h in
+    record {
+      stated = ap (λ x. and_then x (λ ok. judged_by s (tests_of s))) by_classes;
+      unrun = ap (λ x. if_so x (steps_by s (tests_of s))) by_classes;
+    }
 
 -- The tests are refused.
 pub tests_refused : (s : LoadedSuite) (all : List Loaded) (r : Refusal) → accepted (classes_in all) ≡ Ok tt → all ≡ all_classes s → tests_of s ≡ Err r → IsRefused s r
@@ -157,7 +185,7 @@ tests_refused s all r acc is refused =
 
 -- The mutants are refused.
 pub mutants_refused : (s : LoadedSuite) (p : List Info) (all : List Loaded) (ts : List Test) (count : ℕ) (r : Refusal) → accepted (classes_in all) ≡ Ok tt → all ≡ all_classes s → tests_of s ≡ Ok ts
-    → AreNumbered p (classes_in all) → count ≡ length s.classes → HasTooMany p count r → IsRefused s r
+    → HaveFirstNumbers p (classes_in all) → count ≡ length s.classes → HasTooMany p count r → IsRefused s r
 mutants_refused s p all ts count r acc is found numbered len many =
     let ms : many.0 ≡ mutants_of s = mutants_are s p all count many.0 numbered is len many.1 in
     let own : few_mutants (length (mutants_of s)) ≡ Err r = ap (λ l. few_mutants (length l)) (sym ms) ∙ many.2 in

@@ -1,18 +1,13 @@
 -- The class files of a program by their numbers: those of a suite's classes folder are the first.
-use Rattle.std.proofs.Common.{◌≡◌, ◌∙◌, ℕ, zero, suc, ◌+◌, ◌<◌, ◌≤◌, List, [], ◌∷◌, ◌++◌, length, map, drop, Option, Some, slice_get, refl, sym, ap, arith}
+use Rattle.std.proofs.Common.{◌≡◌, ◌∙◌, ℕ, zero, suc, ◌+◌, ◌<◌, List, [], ◌∷◌, ◌++◌, length, Option, Some, slice_get, refl, sym, ap, arith}
 use Rattle.std.specs.Prelude.{option_and_then, filter_map}
 use Rattle.std.specs.List.{cons_option}
 use Rattle.class_model.specs.declared.class.Class.{Class}
 use Rattle.class_model.specs.declared.class.ClassId.{ClassId}
-use Rattle.class_link.specs.declared.loaded.Loaded.{Loaded}
-use Rattle.class_link.specs.declared.loaded.LibClass.{LibClass}
-use Rattle.class_link.specs.declared.loaded.ClassBody.TheVariants as body
 use Rattle.class_link.specs.Info.{Info, file_in}
-use Rattle.class_table.specs.Table.{bodies_of}
 use Rattle.mutator_ops.specs.Programs.{file_at, files_among, mutants_among, mutants}
-use Rattle.mutest_engine.specs.Originals.{classes_in}
-use Rattle.mutest_engine.specs.Numbers.{numbers_from, numbers_of, AreNumbered}
-use Rattle.mutest_engine.proofs.FileLaws.{file_by}
+use Rattle.suite_program.specs.Programs.{HaveFirstNumbers}
+use Rattle.mutest_engine.specs.Numbers.{numbers_from, numbers_of}
 
 -- ---- numbers
 
@@ -32,17 +27,6 @@ pushed old new id first n e at h =
 
 -- ---- a program's class files
 
-pub numbered : (p : List Info) (classes : List Loaded) (library : List LibClass) → map (λ i. i.body) p ≡ bodies_of classes library → AreNumbered p (classes_in classes)
-numbered p [] library e k lt = absurd (omega (arith, lt))
-numbered [] (c ∷ cs) library e k lt = absurd cc
-numbered (x ∷ p) (c ∷ cs) library e zero lt = file_by x (body.File c) (let f : x.body ≡ body.File c = cc in f)
-numbered (x ∷ p) (c ∷ cs) library e (suc k) lt = numbered p cs library (ap (drop 1) e) k (omega (arith, lt))
-
-pub as_many : (p : List Info) (classes : List Loaded) (library : List LibClass) → map (λ i. i.body) p ≡ bodies_of classes library → length classes ≤ length p
-as_many p [] library e = omega arith
-as_many [] (c ∷ cs) library e = absurd cc
-as_many (x ∷ p) (c ∷ cs) library e = let rest = as_many p cs library (ap (drop 1) e) in omega (arith, rest)
-
 gathered : (g : ℕ → Option Class) (k : ℕ) (cs others : List Class) → ((j : ℕ) → j < length (cs ++ others) → g (k + j) ≡ slice_get (cs ++ others) j) → filter_map g (numbers_from k (length cs)) ≡ cs
 gathered g k [] others h = refl
 gathered g k (c ∷ cs) others h =
@@ -55,7 +39,7 @@ by_number p [] = refl
 by_number p (id ∷ ids) = ap (cons_option (file_at p id)) (by_number p ids)
 
 -- The mutants of the first classes of a program.
-pub first_mutants : (p : List Info) (ids : List ClassId) (cs others : List Class) → AreNumbered p (cs ++ others) → numbers_of ids ≡ numbers_from 0 (length cs) → mutants p ids ≡ mutants_among cs
+pub first_mutants : (p : List Info) (ids : List ClassId) (cs others : List Class) → HaveFirstNumbers p (cs ++ others) → numbers_of ids ≡ numbers_from 0 (length cs) → mutants p ids ≡ mutants_among cs
 first_mutants p ids cs others are first =
     ap mutants_among
     (by_number p ids ∙ ap (filter_map (λ k. option_and_then file_in (slice_get p k))) first

@@ -7,19 +7,17 @@ use Rattle.machine_rules.specs.declared.machine.Outcome.TheVariants as outcome
 use Rattle.machine_rules.specs.declared.machine.Limits.{Limits}
 use Rattle.program_rules.specs.Programs.{Look}
 use Rattle.machine_rules.specs.State.{World, MachineState, start}
-use Rattle.machine_rules.specs.Steps.{Stepped, Next, Ended, Stuck}
-use Rattle.machine_so_far.specs.Steps.{step_so_far}
-use Rattle.machine_rules.specs.Runs.{Ending, With, StuckAt, Ran, then_run}
-use Rattle.machine_so_far.specs.Runs.{run_so_far_from, run_so_far}
+use Rattle.machine_rules.specs.Steps.{Stepped, Next, Ended, Stuck, step_of}
+use Rattle.machine_rules.specs.Runs.{Ending, With, StuckAt, Ran, then_run, run_from, run_of}
 use Rattle.class_table.specs.declared.scripted.Test.{Test}
-use Rattle.jvm_step.specs.View.{test_of}
+use Rattle.jvm_world.specs.View.{test_of}
 use Rattle.mutest_engine.specs.Steps.{and_then}
 use Rattle.mutest_engine.specs.Originals.{usual, original_run, run_ending, run_steps, settled, run_settled, with_first, all_settled, unless_stuck, steps_made}
 use Rattle.mutest_engine.specs.declared.refusal.Refusal.{Refusal}
 
 -- ---- one run
 
-original_is : (p : Look) (t : Test) → run_so_far p (test_of t) usual 10000000 ≡ original_run p t
+original_is : (p : Look) (t : Test) → run_of p (test_of t) usual 10000000 ≡ original_run p t
 unfolding original_run
 original_is p t = refl
 
@@ -28,11 +26,11 @@ then_most (Next t) n left go w h = let le = h t in omega (arith, le)
 then_most (Ended o) n left go w h = omega arith
 then_most (Stuck place) n left go w h = omega arith
 
-run_most : (p : Look) (q : Limits) (left : ℕ) (s : MachineState) (n : ℕ) → (run_so_far_from p q left s n).steps ≤ n + left
+run_most : (p : Look) (q : Limits) (left : ℕ) (s : MachineState) (n : ℕ) → (run_from p q left s n).steps ≤ n + left
 run_most p q zero s n = omega arith
-run_most p q (suc left) s n = then_most (step_so_far p q s) n left (λ t. run_so_far_from p q left t (suc n)) s.world (λ t. run_most p q left t (suc n))
+run_most p q (suc left) s n = then_most (step_of p q s) n left (λ t. run_from p q left t (suc n)) s.world (λ t. run_most p q left t (suc n))
 
-pub of_most : (p : Look) (q : Limits) (t : Test) (limit : ℕ) → (run_so_far p (test_of t) q limit).steps ≤ limit
+pub of_most : (p : Look) (q : Limits) (t : Test) (limit : ℕ) → (run_of p (test_of t) q limit).steps ≤ limit
 of_most p q t limit = let most = run_most p q limit (start p (test_of t)) 0 in omega (arith, most)
 
 pub original_most : (p : Look) (t : Test) → (original_run p t).steps ≤ 10000000

@@ -12,9 +12,10 @@ use Rattle.mutator_ops.specs.declared.mutant.Mutant.{Mutant}
 use Rattle.mutant_runs.specs.Programs.{ClassFiles}
 use Rattle.mutest_engine.specs.Refusals.{IsOfSuite, IsBeforeRuns, IsTestFault}
 use Rattle.mutest_engine.specs.Steps.{and_then}
-use Rattle.mutest_engine.specs.Duplicates.{duplicate_in}
-use Rattle.mutest_engine.specs.Supers.{is_own_super, least_with, unless_found}
-use Rattle.mutest_engine.specs.Originals.{test_text, all_classes, classes_in, class_file, names_in, program_of, accepted, settled, run_ending, run_settled, all_settled, all_passed, green}
+use Rattle.suite_program.specs.Faults as program_faults
+use Rattle.suite_program.specs.Programs.{classes_in, class_file, names_in}
+use Rattle.suite_program.specs.declared.fault.ProgramFault.{ProgramFault}
+use Rattle.mutest_engine.specs.Originals.{test_text, all_classes, unless_fault, accepted, settled, run_ending, run_settled, all_settled, all_passed, green}
 use Rattle.mutest_engine.specs.Discovered.{or_bad_test, few_of, few_tests, few_found, tests_named, tests_of}
 use Rattle.mutest_engine.specs.Mutation.{few_mutants, tested, judged, linked, suite_files, program, mutants_of}
 use Rattle.class_model.specs.declared.class.Class.{Class}
@@ -27,11 +28,8 @@ use Rattle.test_discovery.specs.Listed.{Files, listed_of, downwards}
 use Rattle.test_discovery.specs.Rules.{rules, first_broken, makes_instances, uses_runner, is_test_class, told, method_fault, or_else, first_fault, methods_fault, listed_fault, class_fault}
 use Rattle.test_discovery.specs.Scripts.{tests_of as tests_in_class}
 use Rattle.test_discovery.specs.Discovery.{in_order, risings, unless_refused, tests_among}
-use Rattle.class_order.specs.Supers.{is_super_missing, is_super_of_wrong_kind}
-use Rattle.mutest_engine.specs.declared.refusal.ProgramFault.{ProgramFault}
 use Rattle.mutest_engine.specs.declared.refusal.Limit.{Limit}
 use Rattle.mutest_engine.specs.declared.refusal.Limit.TheVariants as limit
-use Rattle.mutest_engine.specs.declared.refusal.ProgramFault.TheVariants.{Duplicate, SuperMissing, SuperCycle, SuperKind}
 use Rattle.mutest_engine.specs.declared.refusal.Refusal.{Refusal}
 use Rattle.mutest_engine.specs.declared.refusal.Refusal.TheVariants.{BadProgram, BadTest, NotGreen, TooMany, MachineCheck}
 use Rattle.mutest_engine.specs.declared.suite.LoadedSuite.{LoadedSuite}
@@ -123,18 +121,12 @@ of_tested files p ts ms r h =
     and_err (few_mutants (length ms)) _ r IsOfSuite (over (nat_lt 262144 (length ms)) limit.Mutants 262145 tt r refl)
     (λ ok rest. and_err (green p ts) _ r IsOfSuite (λ is. (of_green p ts r is).0) (λ ok none. no_ok _ r (IsOfSuite r) none) rest) h
 
-of_found : (fault : Name → ProgramFault) (o : Option Name) (r : Refusal) → unless_found fault o ≡ Err r → IsOfSuite r
-of_found fault None r h = absurd cc
-of_found fault (Some name) r h = let e : BadProgram (fault name) ≡ r = cc in subst IsOfSuite e tt
+of_fault_found : (o : Option ProgramFault) (r : Refusal) → unless_fault o ≡ Err r → IsOfSuite r
+of_fault_found None r h = absurd cc
+of_fault_found (Some f) r h = let e : BadProgram f ≡ r = cc in subst IsOfSuite e tt
 
 of_accepted : (classes : List Class) (r : Refusal) → accepted classes ≡ Err r → IsOfSuite r
-of_accepted classes r h =
-    let p = program_of classes in
-    let ns = names_in classes in
-    and_err (unless_found Duplicate (duplicate_in ns)) _ r IsOfSuite (of_found Duplicate (duplicate_in ns) r)
-    (λ ok rest. and_err (unless_found SuperMissing (least_with (is_super_missing p) ns)) _ r IsOfSuite (of_found SuperMissing (least_with (is_super_missing p) ns) r)
-    (λ ok more. and_err (unless_found SuperCycle (least_with (is_own_super p ns) ns)) _ r IsOfSuite (of_found SuperCycle (least_with (is_own_super p ns) ns) r)
-    (λ ok. of_found SuperKind (least_with (is_super_of_wrong_kind p) ns) r) more) rest) h
+of_accepted classes r h = of_fault_found (program_faults.first_fault classes) r h
 
 pub of_judged : (s : LoadedSuite) (r : Refusal) → judged s ≡ Err r → IsOfSuite r
 of_judged s r h =

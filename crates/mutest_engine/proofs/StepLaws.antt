@@ -11,7 +11,7 @@ use Rattle.machine_rules.specs.Runs.{Ran, limit_of}
 use Rattle.class_table.specs.declared.scripted.Test.{Test}
 use Rattle.mutator_ops.specs.declared.mutant.Mutant.{Mutant}
 use Rattle.mutator_ops.specs.declared.mutant.Verdict.{Verdict}
-use Rattle.mutant_runs.specs.Programs.{ClassFiles, edited}
+use Rattle.mutant_runs.specs.Programs.{ClassFiles, viable}
 use Rattle.mutant_runs.specs.Runs.{timed, mutant_run, runs_on, steps_in, most_steps}
 use Rattle.mutant_runs.specs.Verdicts.{verdict_of, steps_on, steps_of_all}
 use Rattle.mutest_engine.specs.Steps.{and_then}
@@ -56,7 +56,7 @@ runs_most q p (t ∷ ts) (n ∷ ns) few =
 
 on_mutant_most : (q : Limits) (files : ClassFiles) (p : Look) (ts : List Test) (ns : List ℕ) (m : Mutant) → AllByRecursion IsFew ns → length ts ≤ 65535 → steps_on q files p (timed ts ns) m ≤ 825741000000
 unfolding steps_on
-on_mutant_most q files p ts ns m few count = by_case (edited files p m)
+on_mutant_most q files p ts ns m few count = by_case (viable files p m)
   where
     by_case : (o : Option Look) → option_map_or steps_in (option_map (λ made. runs_on q made (timed ts ns)) o) 0 ≤ 825741000000
     by_case None = omega arith

@@ -10,14 +10,14 @@ use Rattle.class_link.specs.Info.{Info, own_name}
 use Rattle.class_link.specs.declared.loaded.Loaded.{Loaded}
 use Rattle.class_table.specs.Table.{name_at, name_or_none, names}
 use Rattle.class_table.specs.declared.scripted.Test.{Test}
-use Rattle.machine_so_far.specs.Library.{library_so_far}
 use Rattle.test_discovery.specs.Listed.{files_of}
 use Rattle.test_discovery.specs.Discovery.{Tests, name_in, names_of, program_tests, counted}
 use Rattle.test_discovery.specs.declared.fault.TestFault.{TestFault}
 use Rattle.test_discovery.specs.declared.fault.TestFault.TheVariants as fault
 use Rattle.mutest_engine.specs.Steps.{and_then, Refuses}
 use Rattle.mutest_engine.specs.Numbers.{numbers_from, numbers_of}
-use Rattle.mutest_engine.specs.Originals.{all_classes, classes_in, class_file, names_in}
+use Rattle.suite_program.specs.Programs.{classes_in, class_file, names_in}
+use Rattle.mutest_engine.specs.Originals.{all_classes}
 use Rattle.mutest_engine.specs.Discovered.{IsStopOfTest, few_tests, few_found, tests_named, tests_of, tests_from}
 use Rattle.mutest_engine.specs.declared.suite.LoadedSuite.{LoadedSuite}
 use Rattle.mutest_engine.specs.declared.refusal.Limit.TheVariants as limit
@@ -110,11 +110,11 @@ as_long [] = refl
 as_long (l ∷ ls) = ap suc (as_long ls)
 
 -- The names of a suite's program: those of its classes folder, of its tests folder, and of the library.
-parted : (s : LoadedSuite) → names_in (classes_in (all_classes s)) ≡ map own_name (classes_in s.classes) ++ (map own_name (classes_in s.tests) ++ map (λ c. c.0) library_so_far)
+parted : (s : LoadedSuite) → names_in (classes_in (all_classes s)) ≡ map own_name (classes_in s.classes) ++ (map own_name (classes_in s.tests) ++ names_in [])
 parted s =
-    ap (λ cs. map own_name cs ++ map (λ c. c.0) library_so_far) (classes_both s.classes s.tests)
-    ∙ ap (λ ns. ns ++ map (λ c. c.0) library_so_far) (map-append own_name (classes_in s.classes) (classes_in s.tests))
-    ∙ append_assoc (map own_name (classes_in s.classes)) (map own_name (classes_in s.tests)) (map (λ c. c.0) library_so_far)
+    ap names_in (classes_both s.classes s.tests)
+    ∙ ap (λ ns. ns ++ names_in []) (map-append own_name (classes_in s.classes) (classes_in s.tests))
+    ∙ append_assoc (map own_name (classes_in s.classes)) (map own_name (classes_in s.tests)) (names_in [])
 
 -- The tests of the classes behind those of the classes folder.
 pub of_suite : (s : LoadedSuite) (p : List Info) (all : List Loaded) (own count : ℕ) → names p ≡ names_in (classes_in all) → files_of p ≡ class_file (classes_in all) → all ≡ all_classes s → own ≡ length s.classes → count ≡ length s.tests
@@ -127,7 +127,7 @@ of_suite s p all own count named files is first len =
     let numbers : numbers_from own count ≡ numbers_from (length (map own_name (classes_in s.classes))) (length (map own_name (classes_in s.tests))) =
     ap (λ k. numbers_from k count) (first ∙ as_long s.classes) ∙ ap (numbers_from (length (map own_name (classes_in s.classes)))) (len ∙ as_long s.tests) in
     let own_names : map (name_at p) (numbers_from own count) ≡ map own_name (classes_in s.tests) =
-    ap (map (name_at p)) numbers ∙ named_behind (names p) (map own_name (classes_in s.classes)) (map own_name (classes_in s.tests)) (map (λ c. c.0) library_so_far) (named_so ∙ parted s) in
+    ap (map (name_at p)) numbers ∙ named_behind (names p) (map own_name (classes_in s.classes)) (map own_name (classes_in s.tests)) (names_in []) (named_so ∙ parted s) in
     ap (λ m. tests_named m (files_of p) (map (name_at p) (numbers_from own count))) most
     ∙ ap (λ f. tests_named (length (names_in cs)) f (map (name_at p) (numbers_from own count))) files_so
     ∙ ap (tests_named (length (names_in cs)) (class_file cs)) own_names

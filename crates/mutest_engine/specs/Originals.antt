@@ -1,5 +1,5 @@
 -- Whether the classes of a suite are a program, and the runs of tests on the program as it is (this project's own).
-use Rattle.std.specs.Prelude.{ℕ, ◌+◌, List, [], ◌∷◌, ◌++◌, codes, map, Option, Some, None, Result, Ok, Err}
+use Rattle.std.specs.Prelude.{◌≡◌, ℕ, ◌+◌, List, [], ◌∷◌, ◌++◌, codes, map, Option, Some, None, Result, Ok, Err}
 use Rattle.class_model.specs.declared.class.Class.{Class}
 use Rattle.machine_rules.specs.declared.machine.Limits.{Limits}
 use Rattle.machine_rules.specs.declared.machine.Outcome.{Outcome}
@@ -11,9 +11,13 @@ use Rattle.class_table.specs.declared.scripted.Test.{Test}
 use Rattle.jvm_world.specs.View.{test_of}
 use Rattle.mutator_ops.specs.Printing.{printed}
 use Rattle.suite_program.specs.Faults.{first_fault}
+use Rattle.suite_program.specs.declared.fault.ProgramEnd.{ProgramEnd}
+use Rattle.suite_program.specs.declared.fault.ProgramEnd.TheVariants as end
 use Rattle.suite_program.specs.declared.fault.ProgramFault.{ProgramFault}
 use Rattle.mutest_engine.specs.Steps.{and_then}
 use Rattle.mutest_engine.specs.declared.suite.LoadedSuite.{LoadedSuite}
+use Rattle.mutest_engine.specs.declared.stop.Stop.{Stop}
+use Rattle.mutest_engine.specs.declared.stop.Stop.TheVariants as stop
 use Rattle.mutest_engine.specs.declared.refusal.Refusal.{Refusal}
 use Rattle.mutest_engine.specs.declared.refusal.Refusal.TheVariants.{BadProgram, NotGreen, MachineCheck}
 
@@ -31,6 +35,11 @@ unless_fault (Some f) = Err (BadProgram f)
 -- The classes are a program with the library, and its code is accepted.
 abbrev pub accepted : List Class → Result (Unit {0}) Refusal
 accepted classes = unless_fault (first_fault classes)
+
+-- The same by the end that the code finds; want of memory is no fault.
+abbrev pub IsStopOfProgram : ProgramEnd → Stop → Type 0
+IsStopOfProgram (end.Refused f) s = s ≡ stop.Refused (BadProgram f)
+IsStopOfProgram end.Memory s = s ≡ stop.WantOfMemory
 
 -- ---- the original runs
 

@@ -2,6 +2,7 @@
 
 ghost use Rattle.std.specs.Prelude.{◌≡◌, ◌+◌, ◌<◌, ◌≤◌, ◌^◌, ◌++◌, length, map, All, IfOk, IfErr};
 ghost use Rattle.mutant_runs.specs.Programs.{files_of, IsMutantOf};
+ghost use Rattle.mutant_runs.specs.Ready.{IsReady};
 ghost use Rattle.report_schema.specs.FileKey.{file_key};
 ghost use Rattle.mutest_engine.specs.Steps.{Gives, Refuses, Counts};
 ghost use Rattle.mutest_engine.specs.SuiteFiles.{IsFormed};
@@ -10,7 +11,6 @@ ghost use Rattle.mutest_engine.specs.Mutation.{verdicts_in, steps_on_all, input_
 use crate::discovered::tests_from;
 use crate::mutants::first_mutants;
 use crate::originals::{USUAL, green};
-use crate::program::program_of;
 use crate::stop::Stop;
 use crate::suite::LoadedSuite;
 use class_model::{Memory, Name, Seq};
@@ -21,6 +21,7 @@ use mutant_runs::verdicts;
 use mutator_ops::{Mutant, Verdict};
 use report_schema::{ReportInput, file_key};
 use std::alloc::Global;
+use suite_program::program_of;
 
 // The verdicts on the mutants, where all tests pass on the program as it is. The steps of all runs are
 // counted in the part.
@@ -31,6 +32,7 @@ fn all_runs(
     mutants: &[Mutant],
     part: &mut MeterPart,
 ) -> Result<Seq<Verdict>, Stop>
+    requires ready { IsReady program.old }
     requires few_tests { length tests.now ≤ 65535 }
     requires few_mutants { length mutants.now ≤ 262144 }
     requires fit { All (IsMutantOf (files_of program.old)) mutants.now }
@@ -60,6 +62,7 @@ fn metered_runs(
     mutants: &[Mutant],
     meter: &mut Meter,
 ) -> Result<Seq<Verdict>, Stop>
+    requires ready { IsReady program.old }
     requires few_tests { length tests.now ≤ 65535 }
     requires few_mutants { length mutants.now ≤ 262144 }
     requires fit { All (IsMutantOf (files_of program.old)) mutants.now }
@@ -114,6 +117,7 @@ fn test_mutants(
     mutants: Seq<Mutant>,
     meter: &mut Meter,
 ) -> Result<ReportInput, Stop>
+    requires ready { IsReady program.old }
     requires few_tests { length tests ≤ 65535 }
     requires few_mutants { length mutants ≤ 262144 }
     requires fit { All (IsMutantOf (files_of program.old)) mutants }

@@ -4,17 +4,20 @@ ghost use Rattle.std.specs.Prelude.{◌≡◌, ◌+◌, ◌<◌, ◌≤◌, ◌^
 ghost use Rattle.class_table.specs.Table.{look};
 ghost use Rattle.mutest_engine.specs.Steps.{Gives, GivesBy, Counts};
 ghost use Rattle.mutest_engine.specs.Originals.{test_text, settled, run_ending, run_steps, run_settled, with_first, all_settled, all_passed, green_steps, original_steps, steps_made};
-ghost use Rattle.jvm_step.specs.Ending.{ending_of};
+ghost use Rattle.jvm_machine.specs.Ending.{ending_of};
+ghost use Rattle.jvm_machine.specs.Programs.{IsRunnable};
+ghost use Rattle.jvm_machine.specs.Tables.{AreTablesOf};
+ghost use Rattle.mutant_runs.specs.Ready.{IsReady};
 
 use crate::line::{put_name, put_str};
 use crate::refusal::Refusal;
 use crate::stop::Stop;
 use class_model::{Bytes, Memory, Seq};
 use class_table::{Program, Test};
-use jvm_run::execute;
-use jvm_step::{Limits, Outcome};
-use machine_rules::Outcome as Ended;
+use jvm_machine::{Outcome, Tables, execute};
+use machine_rules::{Limits, Outcome as Ended};
 use mt_edge::MeterPart;
+use mutant_runs::ready_may_run;
 use std::alloc::Global;
 
 /// What a run may use.
@@ -51,7 +54,7 @@ fn settled(alloc: Global, test: &Test, outcome: Outcome) -> Result<Option<(Bytes
                 test: test_text(alloc, test)?,
                 class,
                 method,
-                at: u64::from(at),
+                at: at as u64,
             }));
         }
     };
@@ -59,20 +62,24 @@ fn settled(alloc: Global, test: &Test, outcome: Outcome) -> Result<Option<(Bytes
 }
 
 // How the run of a test on the program as it is comes to its end, and after how many steps. They are
-// counted in the part.
+// counted in the part. The program's tables are lent to one run after the other.
 fn end_of(
     alloc: Global,
     program: &Program,
+    tables: &mut Tables,
     test: &Test,
     part: &mut MeterPart,
 ) -> Result<(Outcome, u64), Memory>
-    requires { part.old + 10000000 < 2 ^ 64 }
+    requires runnable { IsRunnable (look program.now) }
+    requires tables { AreTablesOf program.now tables.old }
+    requires room { part.old + 10000000 < 2 ^ 64 }
     ensures ending { IfOk result (λ end. ending_of end.0 ≡ run_ending (look program.now) test.now) }
     ensures count { IfOk result (λ end. end.1 ≡ run_steps (look program.now) test.now) }
     ensures steps { OnOk result (part.new ≡ part.old + run_steps (look program.now) test.now) }
     ensures most { part.new ≤ part.old + run_steps (look program.now) test.now }
+    ensures tables { AreTablesOf program.now tables.new }
 {
-    let run = execute(alloc, program, test, USUAL, STEPS, part)?;
+    let run = execute(alloc, program, tables, test, USUAL, STEPS, part)?;
     Ok((run.outcome, run.steps))
 }
 
@@ -81,16 +88,20 @@ fn end_of(
 fn original(
     alloc: Global,
     program: &Program,
+    tables: &mut Tables,
     test: &Test,
     part: &mut MeterPart,
 ) -> Result<(Option<(Bytes, Ended)>, u64), Stop>
-    requires { part.old + 10000000 < 2 ^ 64 }
+    requires runnable { IsRunnable (look program.now) }
+    requires tables { AreTablesOf program.now tables.old }
+    requires room { part.old + 10000000 < 2 ^ 64 }
     ensures value { GivesBy (λ run. run.0) (run_settled (look program.now) test.now) result }
     ensures count { IfOk result (λ run. run.1 ≡ run_steps (look program.now) test.now) }
     ensures most { part.new ≤ part.old + run_steps (look program.now) test.now }
     ensures exact { Counts part.new (part.old + run_steps (look program.now) test.now) result }
+    ensures tables { AreTablesOf program.now tables.new }
 {
-    let (outcome, steps) = end_of(alloc, program, test, part)?;
+    let (outcome, steps) = end_of(alloc, program, tables, test, part)?;
     let ended = settled(alloc, test, outcome)?;
     Ok((ended, steps))
 }
@@ -109,20 +120,24 @@ fn note(failed: &mut Seq<(Bytes, Ended)>, ended: Option<(Bytes, Ended)>) -> Resu
 fn all_settled(
     alloc: Global,
     program: &Program,
+    tables: &mut Tables,
     tests: &[Test],
     part: &mut MeterPart,
 ) -> Result<(Seq<(Bytes, Ended)>, Seq<u64>), Stop>
+    requires runnable { IsRunnable (look program.now) }
+    requires tables { AreTablesOf program.now tables.old }
     requires few { length tests.now ≤ 65535 }
     requires start { part.old ≡ 0 }
     ensures value { GivesBy (λ runs. runs.0) (all_settled (look program.now) tests.now) result }
     ensures counts { IfOk result (λ runs. runs.1 ≡ original_steps (look program.now) tests.now) }
     ensures most { part.new ≤ steps_made (look program.now) tests.now }
     ensures exact { Counts part.new (steps_made (look program.now) tests.now) result }
+    ensures tables { AreTablesOf program.now tables.new }
 {
     let mut failed = Seq::new(alloc);
     let mut counts = Seq::new(alloc);
     for test in tests {
-        let run = original(alloc, program, test, part)?;
+        let run = original(alloc, program, tables, test, part)?;
         note(&mut failed, run.0)?;
         counts.push(run.1)?;
     }
@@ -138,20 +153,28 @@ fn all_passed(tests: Seq<(Bytes, Ended)>) -> Result<(), Refusal>
     Err(Refusal::NotGreen { tests })
 }
 
-/// All tests pass on the program as it is: the steps of each run. They are counted in the part.
+/// All tests pass on the program as it is: the steps of each run. They are counted in the part. What
+/// the machine looks up is found once for all of them.
 pub fn green(
     alloc: Global,
     program: &Program,
     tests: &[Test],
     part: &mut MeterPart,
 ) -> Result<Seq<u64>, Stop>
+    requires ready { IsReady program.now }
     requires few { length tests.now ≤ 65535 }
     requires start { part.old ≡ 0 }
     ensures value { Gives (green_steps (look program.now) tests.now) result }
     ensures most { part.new ≤ steps_made (look program.now) tests.now }
     ensures exact { Counts part.new (steps_made (look program.now) tests.now) result }
 {
-    let (failed, counts) = all_settled(alloc, program, tests, part)?;
+    // What every program is, for the prover alone, and that this one may be run.
+    let _all = program.len();
+    ready_may_run();
+    let Some(mut tables) = Tables::find(alloc, program)? else {
+        unreachable!()
+    };
+    let (failed, counts) = all_settled(alloc, program, &mut tables, tests, part)?;
     all_passed(failed)?;
     Ok(counts)
 }

@@ -3,11 +3,13 @@
 ghost use Rattle.std.specs.Prelude.{◌≡◌};
 ghost use Rattle.mutest_engine.specs.Steps.{IsHaltOf};
 ghost use Rattle.mutest_engine.specs.Discovered.{IsStopOfTest};
+ghost use Rattle.mutest_engine.specs.Originals.{IsStopOfProgram};
 ghost use Rattle.mutest_engine.specs.declared.stop.Stop.TheVariants as stop;
 ghost use Rattle.mutest_engine.specs.declared.stop.Halt.TheVariants as halt;
 
 use crate::refusal::Refusal;
 use class_model::Memory;
+use suite_program::ProgramEnd;
 use test_discovery::TestFault;
 
 /// Of a step that reads nothing: it refuses, or memory runs out.
@@ -39,6 +41,17 @@ impl From<Refusal> for Stop {
 
     fn from(refusal: Refusal) -> Self {
         Stop::Refused(refusal)
+    }
+}
+
+impl From<ProgramEnd> for Stop {
+    ghost from_gives = { λ e s. IsStopOfProgram e s };
+
+    fn from(end: ProgramEnd) -> Self {
+        match end {
+            ProgramEnd::Refused(fault) => Stop::Refused(Refusal::BadProgram { fault }),
+            ProgramEnd::Memory => Stop::WantOfMemory,
+        }
     }
 }
 

@@ -1,4 +1,5 @@
 use Rattle.std.proofs.Common.{◌≡◌, ◌∙◌, ◌∷◌, ◌+◌, [], sym, ap, subst, length, drop, Some, arith}
+use Rattle.std.proofs.lemmas.Result.{IfOk-weaker}
 use Rattle.class_order.specs.declared.search.Search.{Search}
 use Rattle.class_order.specs.Above.{IsWayUp}
 use Rattle.class_order.specs.Searches.{Finds, ClosesTo}
@@ -23,5 +24,8 @@ returns-clause-way c =
     let first = subst (λ n. Finds n stamp (c.args.through ∷ []) start c.note_one.new.search) c.requires.marks.sized c.in_ok-note_one.ensures in
     let fourth = subst (λ n. ClosesTo g stamp n (length c.close-2.new.search.found.items) c.note_supers.new.search c.close-2.new.search) split c.in_ok-close-2.ensures in
     let way = way_up g c.args.class c.args.through stamp c.requires.through start c.note_one.new.search c.close.new.search c.note_supers.new.search c.close-2.new.search c.clear.ensures.items first c.in_ok-close.ensures c.in_ok-note_supers.ensures fourth in
-    let is = c.in_ok-behind.ensures ∙ ap (λ n. drop n c.deref.result.now) split ∙ ap (drop (length c.close.new.search.found.items)) c.deref.ensures.value in
-    subst (IsWayUp g c.args.class (Some c.args.through)) (sym is) way
+    let is = ap (λ n. drop n c.deref.result.now) split ∙ ap (drop (length c.close.new.search.found.items)) c.deref.ensures.value in
+    IfOk-weaker c.behind.result _ _ (λ v told. subst (IsWayUp g c.args.class (Some c.args.through)) (sym (told ∙ is)) way) c.behind.ensures
+
+pub returns-clause-marks : goal.returns-clause-marks
+returns-clause-marks c = IfOk-weaker c.behind.result _ _ (λ v told. c.in_ok-close-2.ensures.search.marks) c.behind.ensures

@@ -6,7 +6,7 @@ use Rattle.class_order.specs.Graph.{AreWithin}
 use Rattle.class_order.specs.Standings.{AreStandings}
 use Rattle.class_table.specs.Table.{names, look}
 use Rattle.class_table.specs.Faults.{IsFaultless}
-use Rattle.class_table.specs.Flaws.{IsFirstOrNone, AreFound}
+use Rattle.class_table.specs.Flaws.{IsFirstOrNone, AreFound, AreSoundSupers}
 use Rattle.class_table.proofs.Verdicts.{links_within, are_ranked, are_falling, none_marked, ranks_named}
 use Rattle.class_table.proofs.program.supers_of.Goals as goal
 
@@ -50,7 +50,7 @@ returns-clause-supers c =
     let ranked = are_ranked p g c.in_ok-links.ensures found right (none_marked p sound.apart g c.in_ok-links.ensures sound.present found right sound.acyclic) in
     let few = c.requires.few in
     let long : length p ≡ length c.args.infos.now = length-map c.args.infos.now (λ i. arc_value i) in
-    record {
+    subst (AreSoundSupers p) (sym c.in_ok-new.ensures.ok) (record {
       supers = record {
         links = c.in_ok-links.ensures;
         rows = subst (λ l. AreRows l c.in_ok-above.above.items) c.as_slice-3.ensures.value c.in_ok-above.ensures;
@@ -63,4 +63,4 @@ returns-clause-supers c =
         ranks = ranks_named p sound.apart g c.in_ok-links.ensures sound.present ranked;
       };
       faultless = sound;
-    }
+    })

@@ -6,8 +6,8 @@ use Rattle.mutest_engine.specs.Originals.{all_settled, steps_made}
 use Rattle.mutest_engine.proofs.OriginalLaws.{made_most, told_more, told_end, steps_more, exact_end}
 use Rattle.mutest_engine.proofs.originals.all_settled.Goals as goal
 
-pub original-requires : goal.original-requires
-original-requires c =
+pub original-requires-clause-room : goal.original-requires-clause-room
+original-requires-clause-room c =
     let made = made_most (look c.args.program.now) c.args.tests.now in
     let few = c.requires.few in
     let steps = c.loop-test.invariant.steps in
@@ -15,6 +15,7 @@ original-requires c =
 
 pub loop-test-preserved : goal.loop-test-preserved
 loop-test-preserved c = record {
+  tables = c.original.ensures.tables;
   told = told_more (look c.args.program.now) c.args.tests.now c.loop-test.test-index c.test-item.result c.loop-test.failed c.note.new.failed c.in_ok-run.run'.0 (all_settled (look c.args.program.now) c.args.tests.now) c.loop-test-test.true c.test-item.is c.in_ok-note.ensures c.in_ok-run.ensures.value c.loop-test.invariant.told;
   steps = steps_more (look c.args.program.now) c.args.tests.now c.loop-test.test-index c.test-item.result c.loop-test.part c.original.new.part (steps_made (look c.args.program.now) c.args.tests.now) c.in_ok-run.run'.0 c.loop-test-test.true c.test-item.is c.in_ok-run.ensures.exact c.in_ok-run.ensures.value c.loop-test.invariant.steps;
   counts = grind (arith, common_steps);

@@ -1,4 +1,5 @@
 use Rattle.std.proofs.Common.{◌∙◌, sym, ap, subst}
+use Rattle.std.proofs.lemmas.Result.{on_ok_weaker}
 use Rattle.program_rules.specs.Programs.{consult_in}
 use Rattle.class_table.specs.Table.{look}
 use Rattle.class_table.specs.Walked.{wanted, AreTasks}
@@ -14,4 +15,5 @@ run-requires-clause-tasks c = subst (AreTasks c.args.self.now c.args.seen.now.na
 pub returns-clause-names : goal.returns-clause-names
 returns-clause-names c =
     let p = c.args.self.now in
-    c.in_ok-run.ensures.names ∙ ap (λ l. consult_in (look p) (wanted p l) c.args.seen.now.names) c.in_ok-tasks.ensures
+    let same = ap (λ l. consult_in (look p) (wanted p l) c.args.seen.now.names) c.in_ok-tasks.ensures in
+    on_ok_weaker c.run.result (λ told. told ∙ same) c.run.ensures.names

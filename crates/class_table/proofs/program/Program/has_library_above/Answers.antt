@@ -1,5 +1,6 @@
 use Rattle.std.proofs.Common.{◌≡◌, ◌∙◌, ◌++◌, sym, ap, subst}
 use Rattle.std.specs.List.{list_all}
+use Rattle.std.proofs.lemmas.Result.{IfOk-weaker}
 use Rattle.program_rules.specs.Linked.{is_library}
 use Rattle.class_order.specs.Graph.{supers_of}
 use Rattle.class_table.specs.Table.{look}
@@ -16,4 +17,5 @@ pub returns : goal.returns
 returns c =
     let p = c.args.self.now in
     let over = supers_of c.links.result.now in
-    c.in_ok-pass_all.ensures ∙ ap (λ l. list_all (λ m. is_library (look p m)) (wanted p l)) (c.in_ok-push_supers.ensures ∙ ap (λ l. l ++ visits_of over) c.new-tasks.ensures.items) ∙ ap (list_all (λ m. is_library (look p m))) (above_is p c.len-len.ensures.form c.args.id.0 over c.links.ensures)
+    let same = ap (λ l. list_all (λ m. is_library (look p m)) (wanted p l)) (c.in_ok-push_supers.ensures ∙ ap (λ l. l ++ visits_of over) c.new-tasks.ensures.items) ∙ ap (list_all (λ m. is_library (look p m))) (above_is p c.len-len.ensures.form c.args.id.0 over c.links.ensures) in
+    IfOk-weaker c.pass_all.result _ _ (λ b told. told ∙ same) c.pass_all.ensures

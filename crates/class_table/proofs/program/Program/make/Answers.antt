@@ -1,4 +1,5 @@
 use Rattle.std.proofs.Common.{◌∙◌, ◌++◌, ◌∷◌, [], sym, subst}
+use Rattle.std.proofs.lemmas.Result.{on_ok_weaker}
 use Rattle.class_table.specs.Walked.{AreTasks, Makes}
 use Rattle.class_table.proofs.Visiting.{last_task, visit_made, close_made, close_known}
 use Rattle.class_table.proofs.program.Program.make.Goals as goal
@@ -10,13 +11,14 @@ visit-requires-clause-class c =
     let h = subst (λ t. AreTasks c.args.self.now names (ts ++ t ∷ [])) c.in-Visit.is c.requires.tasks in
     last_task c.args.self.now ts _ names h
 
-pub returns-in_ok-visit-in-Visit-clause-made : goal.returns-in_ok-visit-in-Visit-clause-made
-returns-in_ok-visit-in-Visit-clause-made c =
+pub returns-in-Visit-clause-made : goal.returns-in-Visit-clause-made
+returns-in-Visit-clause-made c =
     let p = c.args.self.now in
     let ts = c.args.tasks.now.items in
     let old = c.args.seen.now in
     let h = subst (λ t. AreTasks p old.names (ts ++ t ∷ [])) c.in-Visit.is c.requires.tasks in
-    subst (λ t. Makes p t old ts c.visit.new.seen c.visit.new.tasks.items) (sym c.in-Visit.is) (visit_made p c.len-len.ensures.form c.in-Visit.class ts c.visit.new.tasks.items old c.visit.new.seen c.requires.seen h c.in_ok-visit-in-Visit.ensures.visits)
+    let made = visit_made p c.len-len.ensures.form c.in-Visit.class ts c.visit.new.tasks.items old c.visit.new.seen c.requires.seen h in
+    on_ok_weaker c.visit.result (λ told. subst (λ t. Makes p t old ts c.visit.new.seen c.visit.new.tasks.items) (sym c.in-Visit.is) (made told)) c.visit.ensures.visits
 
 pub mark-requires-clause-class : goal.mark-requires-clause-class
 mark-requires-clause-class c =
