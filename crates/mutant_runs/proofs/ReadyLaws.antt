@@ -1,7 +1,6 @@
 -- A program whose mutants may be run, with an edited class in it.
-use Rattle.std.proofs.Common.{◌≡◌, ◌∙◌, sym, refl, ap, ap₂, subst, ℕ, ◌||◌, Bool, true, false, List, [], ◌∷◌, Option, None, Some, IfSome, slice_get, slice_set, arith}
-use Rattle.std.specs.List.{list_any}
-use Rattle.std.specs.Prelude.{is_none, is_some}
+use Rattle.std.proofs.Common.{◌≡◌, ◌∙◌, sym, refl, ap, ap₂, subst, ℕ, ◌||◌, true, false, List, [], ◌∷◌, Option, None, Some, IfSome, slice_get, slice_set, arith}
+use Rattle.std.specs.Prelude.{is_none}
 use Rattle.std.proofs.lemmas.List.{length-set}
 use Rattle.std.proofs.lemmas.List.Elements.{All-set}
 use Rattle.std.proofs.lemmas.Option.{slice_get_within}
@@ -9,7 +8,7 @@ use Rattle.program_rules.specs.Names.{Name}
 use Rattle.program_rules.specs.Linked.{Linked, LinkedBody, LinkedCode, LinkedMethod, HasCode, IsNative, NoBody, code_in, code_of, method_in}
 use Rattle.program_rules.specs.Programs.{Look}
 use Rattle.class_link.specs.Info.{Info}
-use Rattle.class_table.specs.Table.{name_or_none, names, name_at, look, IsProgram}
+use Rattle.class_table.specs.Table.{name_or_none, name_at, look}
 use Rattle.class_table.proofs.Places.{name_of_class, names_kept}
 use Rattle.type_laws.specs.Alike.{HeadsAlike, head_of}
 use Rattle.type_laws.specs.Bounds.{BoundedHaveRoom, HasBoundedCodes}
@@ -18,12 +17,12 @@ use Rattle.type_rules.specs.Rules.{ClassAccepted}
 use Rattle.program_verifier.specs.Programs.{IsRefused, place_of}
 use Rattle.program_verifier.specs.declared.end.VerifyFault.{VerifyFault}
 use Rattle.jvm_world.specs.Finding.{lacks}
-use Rattle.jvm_machine.specs.Programs.{HaveRoomToLand, HasRoomToLand}
+use Rattle.jvm_machine.specs.Programs.{HasRoomToLand}
 use Rattle.jvm_machine.specs.Tables.{looked_up}
 use Rattle.accepted_edits.specs.Codes.{IsBoundedBody, BoundedAreNumbered, PutStayNumbered, BoundedByName}
 use Rattle.accepted_edits.specs.Kept.{PutKeepKinds, PutKeepLibrary, PutStayAccepted}
 use Rattle.accepted_edits.specs.Put.{PutStayAlike}
-use Rattle.mutant_runs.specs.Edited.{IsReadyBut, EditedAreReady, ReadyMayRun, TellsAccepted}
+use Rattle.mutant_runs.specs.Edited.{EditedAreReady, ReadyMayRun, TellsAccepted}
 use Rattle.mutant_runs.specs.Ready.{IsReady}
 
 -- ---- what is looked up stays

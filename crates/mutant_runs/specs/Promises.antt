@@ -1,12 +1,11 @@
 -- What the calls answer of mutants, and how many steps they count (this project's own).
-use Rattle.std.specs.Prelude.{◌≡◌, ℕ, List, map, Option, sum_by}
+use Rattle.std.specs.Prelude.{◌≡◌, ℕ, List, map, Option}
 use Rattle.std.specs.Option.{option_map, option_map_or}
 use Rattle.machine_rules.specs.Runs.{Ran}
 use Rattle.machine_rules.specs.declared.machine.Limits.{Limits}
 use Rattle.class_link.specs.Info.{Info}
 use Rattle.class_table.specs.declared.scripted.Test.{Test}
-use Rattle.class_table.specs.Table.{look, name_at}
-use Rattle.jvm_world.specs.View.{named}
+use Rattle.class_table.specs.Table.{look}
 use Rattle.jvm_machine.specs.declared.result.RunResult.{RunResult}
 use Rattle.jvm_machine.specs.Result.{IsResultOf}
 use Rattle.mutator_ops.specs.declared.mutant.Mutant.{Mutant}

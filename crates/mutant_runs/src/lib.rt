@@ -1,4 +1,5 @@
-//! The verdict on each mutant: every test is run on the program that the mutant's edit makes.
+//! The verdict on each mutant: the class that its edit makes is verified, and every test is run on
+//! the program with it.
 #![tactic(auto)]
 
 mod all;
@@ -11,4 +12,6 @@ mod tally;
 mod tests_run;
 
 pub use all::verdicts;
-pub use laws::{entries_add_alone, files_are_found, mutants_are_of, ready_may_run};
+pub use laws::{
+    edited_are_ready, edits_make, entries_add_alone, files_are_found, mutants_are_of, ready_may_run,
+};

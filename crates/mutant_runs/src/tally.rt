@@ -31,8 +31,10 @@ impl Tally {
 
     /// Adds what the run of a test says.
     pub fn add(&mut self, test: u32, said: Said) -> Result<(), Memory>
-        ensures covering { OnOk result (self.new.covering ≡ self.old.covering ++ (if said.reaches then test ∷ [] else [])) }
-        ensures killer { OnOk result (self.new.killer ≡ option_or self.old.killer (option_map (λ state. (test, state)) said.detected)) }
+        ensures covering { OnOk result (self.new.covering
+            ≡ self.old.covering ++ (if said.reaches then test ∷ [] else [])) }
+        ensures killer { OnOk result (self.new.killer
+            ≡ option_or self.old.killer (option_map (λ state. (test, state)) said.detected)) }
     {
         if said.reaches {
             self.covering.push(test)?;
@@ -73,7 +75,7 @@ impl Tally {
     }
 }
 
-/// The verdict on a mutant whose edit has no layout.
+/// The verdict on a mutant whose edited class has no layout or is refused.
 pub fn not_viable(alloc: Global) -> Verdict
     ensures { result ≡ not_viable }
 {

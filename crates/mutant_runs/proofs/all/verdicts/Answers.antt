@@ -12,3 +12,8 @@ pub returns-in_err-push-clause-most : goal.returns-in_err-push-clause-most
 returns-in_err-push-clause-most c =
     within_all c.args.limits c.args.program.now c.loop-mutant.program (timed c.args.tests.now c.args.steps.now) c.args.mutants.now c.loop-mutant.mutant-index c.mutant-item.result c.loop-mutant.part c.run_mutant.new.part c.args.part.now c.loop-mutant.invariant.same c.loop-mutant-test.true c.mutant-item.is
     c.loop-mutant.invariant.steps c.run_mutant.ensures.most
+
+pub returns-in_err-verdict-clause-most : goal.returns-in_err-verdict-clause-most
+returns-in_err-verdict-clause-most c =
+    within_all c.args.limits c.args.program.now c.loop-mutant.program (timed c.args.tests.now c.args.steps.now) c.args.mutants.now c.loop-mutant.mutant-index c.mutant-item.result c.loop-mutant.part c.run_mutant.new.part c.args.part.now c.loop-mutant.invariant.same c.loop-mutant-test.true c.mutant-item.is
+    c.loop-mutant.invariant.steps c.run_mutant.ensures.most
