@@ -1,21 +1,25 @@
 -- What native methods are asked with.
-use Rattle.std.proofs.Common.{◌≡◌, ◌∙◌, ◌⊎◌, inl, inr, sym, refl, ap, subst, arith, ℕ, zero, suc, ◌+◌, ◌<◌, ◌≤◌, Bool, true, false, nat_eq, List, [], ◌∷◌, ◌++◌, map, take, length, Option, Some, None, slice_get}
+use Rattle.std.proofs.Common.{◌≡◌, ◌∙◌, ◌⊎◌, inl, inr, sym, refl, ap, subst, arith, ℕ, zero, suc, ◌+◌, ◌<◌, ◌≤◌, Bool, true, false, nat_eq, List, [], ◌∷◌, ◌++◌, map, take, length, Option, Some, None, slice_get, get_or}
+use Rattle.std.specs.Prelude.{◌||◌, is_none, option_and_then}
 use Rattle.std.specs.Cmp.Lexicographic.{same_text}
 use Rattle.std.proofs.lemmas.Cmp.{nat_list_eq_equiv}
 use Rattle.std.proofs.lemmas.Bool.Decides.{nat_tests}
 use Rattle.std.proofs.lemmas.List.{length-map}
+use Rattle.std.proofs.lemmas.List.Folds.{list_any_at}
 use Rattle.std.proofs.lemmas.Option.{slice_get-map}
 use Rattle.std.specs.Option.{option_map}
 use Rattle.program_rules.specs.declared.making.Making.{Making}
 use Rattle.program_rules.specs.declared.making.Making.TheVariants as making
 use Rattle.program_rules.specs.Names.{Name, same}
+use Rattle.program_rules.specs.Programs.{Look}
 use Rattle.program_rules.specs.Deeds.{making_name}
 use Rattle.class_link.specs.Info.{Info}
-use Rattle.class_table.specs.Table.{names, name_at, place_in, IsProgram}
+use Rattle.class_table.specs.Table.{class_at, look, names, name_at, place_in, IsProgram}
 use Rattle.lib_core.specs.declared.known.Known.{Known}
 use Rattle.lib_core.specs.Known.{IsKnown, known_id}
 use Rattle.lib_core.specs.View as core
-use Rattle.jvm_natives.specs.Natives.{IsMadeBy}
+use Rattle.jvm_world.specs.Finding.{lacks}
+use Rattle.jvm_natives.specs.Natives.{IsMadeBy, made_names}
 use Rattle.jvm_natives.proofs.Stores.{name_same}
 
 -- ---- numbers and names
@@ -75,6 +79,60 @@ or_past (suc a) (suc b) = next (or_past a b)
     next (inl lt) = inl (omega (arith, lt))
     next (inr le) = inr (omega (arith, le))
 
+-- ---- whether they are there
+
+some_at : (p : List Info) (k : ℕ) → k < length p → is_none (class_at p k) ≡ false
+some_at [] k lt = absurd (omega (arith, lt))
+some_at (i ∷ p) zero lt = refl
+some_at (i ∷ p) (suc k) lt = some_at p k (omega (arith, lt))
+
+-- The class of a number is found by its name.
+found_by : (p : List Info) (k : ℕ) → IsProgram p → k < length p → look p (name_at p k) ≡ class_at p k
+found_by p k d lt =
+    let n : length (names p) ≡ length p = length-map p (λ x. x.name) in
+    let e : place_in (names p) (name_at p k) ≡ Some k = d.distinct k (omega arith) in
+    ap (λ o. option_and_then (class_at p) o) e
+
+there : (p : List Info) (m : Making) (k : ℕ) → IsProgram p → IsMadeBy p m k → is_none (look p (making_name m)) ≡ false
+there p m k d h =
+    ap (λ n. is_none (look p n)) (sym h.named) ∙ ap is_none (found_by p k d h.within) ∙ some_at p k h.within
+
+here_too : (p : Look) (n : Name) (ns : List Name) → is_none (p n) ≡ false → lacks p ns ≡ false → lacks p (n ∷ ns) ≡ false
+here_too p n ns here behind = ap (λ b. b || lacks p ns) here ∙ behind
+
+lacks_none : (p : List Info) → IsProgram p → (id : Making → ℕ) → ((m : Making) → IsMadeBy p m (id m)) → lacks (look p) made_names ≡ false
+lacks_none p d id h =
+    here_too (look p) _ _ (one making.Text)
+    (here_too (look p) _ _ (one making.List)
+    (here_too (look p) _ _ (one making.Set)
+    (here_too (look p) _ _ (one making.Iterator)
+    (here_too (look p) _ _ (one making.Optional)
+    (here_too (look p) _ _ (one making.Integer)
+    (here_too (look p) _ _ (one making.Long)
+    (here_too (look p) _ _ (one making.Short)
+    (here_too (look p) _ _ (one making.Byte)
+    (here_too (look p) _ _ (one making.Character)
+    (here_too (look p) _ _ (one making.Boolean) refl))))))))))
+  where
+    one : (m : Making) → is_none (look p (making_name m)) ≡ false
+    one m = there p m (id m) d (h m)
+
+missed_at : (p : Look) (i : ℕ) → i < length made_names → p (get_or made_names i []) ≡ None → lacks p made_names ≡ true
+missed_at p i lt e = list_any_at (λ n. is_none (p n)) made_names i [] lt (ap is_none e)
+
+pub lacks_made : (p : Look) (m : Making) → p (making_name m) ≡ None → lacks p made_names ≡ true
+lacks_made p making.Text e = missed_at p 0 (omega arith) e
+lacks_made p making.List e = missed_at p 1 (omega arith) e
+lacks_made p making.Set e = missed_at p 2 (omega arith) e
+lacks_made p making.Iterator e = missed_at p 3 (omega arith) e
+lacks_made p making.Optional e = missed_at p 4 (omega arith) e
+lacks_made p making.Integer e = missed_at p 5 (omega arith) e
+lacks_made p making.Long e = missed_at p 6 (omega arith) e
+lacks_made p making.Short e = missed_at p 7 (omega arith) e
+lacks_made p making.Byte e = missed_at p 8 (omega arith) e
+lacks_made p making.Character e = missed_at p 9 (omega arith) e
+lacks_made p making.Boolean e = missed_at p 10 (omega arith) e
+
 -- ---- the classes of which objects are made
 
 alone_by : (p : List Info) (k : Known) (m : Making) (id : ℕ) → IsProgram p → IsMadeBy p m (known_id k m) → (id < length p) ⊎ (length p ≤ id) → same (name_at p id) (making_name m) ≡ nat_eq id (known_id k m)
@@ -92,8 +150,8 @@ known_by p k d h = record {
       ∙ alone_by p k m id d (h m) (or_past id (length p));
 }
 
-pub known_is : (p : List Info) (k : Known) → IsProgram p → IsMadeBy p making.Text k.text.0 → IsMadeBy p making.List k.list.0 → IsMadeBy p making.Set k.set.0 → IsMadeBy p making.Iterator k.iterator.0 → IsMadeBy p making.Optional k.optional.0 → IsMadeBy p making.Integer k.integer.0 → IsMadeBy p making.Long k.long.0 → IsMadeBy p making.Short k.short.0 → IsMadeBy p making.Byte k.byte.0 → IsMadeBy p making.Character k.character.0 → IsMadeBy p making.Boolean k.boolean.0 → IsKnown (names p) k
-known_is p k d text list set iterator optional integer long short byte character boolean = known_by p k d each
+pub known_is : (p : List Info) (k : Known) → IsProgram p → IsMadeBy p making.Text k.text.0 → IsMadeBy p making.List k.list.0 → IsMadeBy p making.Set k.set.0 → IsMadeBy p making.Iterator k.iterator.0 → IsMadeBy p making.Optional k.optional.0 → IsMadeBy p making.Integer k.integer.0 → IsMadeBy p making.Long k.long.0 → IsMadeBy p making.Short k.short.0 → IsMadeBy p making.Byte k.byte.0 → IsMadeBy p making.Character k.character.0 → IsMadeBy p making.Boolean k.boolean.0 → IsKnown (names p) k × (lacks (look p) made_names ≡ false)
+known_is p k d text list set iterator optional integer long short byte character boolean = (known_by p k d each, lacks_none p d (λ m. known_id k m) each)
   where
     each : (m : Making) → IsMadeBy p m (known_id k m)
     each making.Text = text

@@ -1,10 +1,11 @@
 //! What native methods are asked with, found once for a program.
 
-ghost use Rattle.std.specs.Prelude.{◌≡◌, ◌<◌, length, map, slice_get, Some, IfOk, IfSome};
+ghost use Rattle.std.specs.Prelude.{◌≡◌, ◌<◌, length, slice_get, Some, IfOk};
 ghost use Rattle.program_rules.specs.Deeds.{making_name};
-ghost use Rattle.class_table.specs.Table.{names};
+ghost use Rattle.class_table.specs.Table.{look, names};
 ghost use Rattle.lib_core.specs.Known.{IsKnown};
-ghost use Rattle.jvm_natives.specs.Natives.{AreNatives, IsMadeBy};
+ghost use Rattle.jvm_world.specs.Finding.{Finds};
+ghost use Rattle.jvm_natives.specs.Natives.{AreNatives, FindsMade, made_names};
 
 use class_model::{ClassId, Memory, Name, Seq};
 use class_table::Program;
@@ -42,16 +43,16 @@ fn name_of(alloc: Global, making: Making) -> Result<Name, Memory>
 
 // Its number, if the program has it.
 fn id_of(alloc: Global, p: &Program, making: Making) -> Result<Option<ClassId>, Memory>
-    ensures { IfOk result (λ found. IfSome found (λ id. IsMadeBy p.now making id.0)) }
+    ensures { IfOk result (FindsMade p.now making) }
 {
     let name = name_of(alloc, making)?;
     Ok(p.find(&name))
 }
 
 // The numbers of those classes; none where the program lacks one.
-#[tactic(auto, using(crate::proofs::Found::known_is))]
+#[tactic(auto, using(crate::proofs::Found::known_is, crate::proofs::Found::lacks_made))]
 fn known_in(alloc: Global, p: &Program) -> Result<Option<Known>, Memory>
-    ensures { IfOk result (λ found. IfSome found (λ known. IsKnown (names p.now) known)) }
+    ensures { IfOk result (Finds (look p.now) made_names (IsKnown (names p.now))) }
 {
     let _ = p.len();
     let Some(text) = id_of(alloc, p, Making::Text)? else {
@@ -132,7 +133,7 @@ fn names_of(alloc: Global, p: &Program) -> Result<Seq<Name>, Memory>
 impl Natives {
     /// Those of a program; none where it lacks a class of which native methods make objects.
     pub fn find(alloc: Global, p: &Program) -> Result<Option<Natives>, Memory>
-        ensures { IfOk result (λ found. IfSome found (λ natives. AreNatives p.now natives)) }
+        ensures { IfOk result (Finds (look p.now) made_names (AreNatives p.now)) }
     {
         let Some(known) = known_in(alloc, p)? else {
             return Ok(None);

@@ -1,11 +1,12 @@
 //! The classes of which the machine makes objects by itself.
 
-ghost use Rattle.std.specs.Prelude.{◌≡◌, ◌<◌, map, length, take, IfOk, IfSome};
+ghost use Rattle.std.specs.Prelude.{◌≡◌, ◌∷◌, [], map, IfOk};
 ghost use Rattle.std.proofs.Common.{get_or};
 ghost use Rattle.program_rules.specs.Names.{class_name};
 ghost use Rattle.program_rules.specs.Faults.{fault_name};
-ghost use Rattle.class_table.specs.Table.{name_at};
+ghost use Rattle.class_table.specs.Table.{look, name_at};
 ghost use Rattle.jvm_world.specs.Classes.{fault_place, fault_id, machine_names, AreMachineClasses};
+ghost use Rattle.jvm_world.specs.Finding.{Finds};
 
 use crate::text::name;
 use class_model::{ClassId, Memory};
@@ -59,12 +60,21 @@ impl Model for MachineClasses {
 impl MachineClasses {
     /// The classes in a program; none where it lacks one of them.
     pub fn find(alloc: Global, p: &Program) -> Result<Option<MachineClasses>, Memory>
-        ensures { IfOk result (λ found. IfSome found (λ classes. AreMachineClasses p.now classes)) }
+        ensures { IfOk result (Finds (look p.now) machine_names (AreMachineClasses p.now)) }
     {
         let Some(ids) = find_all(alloc, p, &NAMES)? else {
             return Ok(None);
         };
         Ok(Some(MachineClasses { ids }))
+    }
+
+    /// The same classes once more.
+    pub fn copy(&self, alloc: Global) -> Result<MachineClasses, Memory>
+        ensures { IfOk result (λ c. c ≡ self.now) }
+    {
+        let mut ids = Vec::with_capacity(alloc, self.ids.len())?;
+        ids.extend_from_slice(&self.ids)?;
+        Ok(MachineClasses { ids })
     }
 
     /// The class of an exception.
@@ -82,14 +92,23 @@ impl MachineClasses {
     }
 }
 
+// The class of this name; none where it is missing.
+fn find_one(alloc: Global, p: &Program, text: &str) -> Result<Option<ClassId>, Memory>
+    ensures { IfOk result (Finds (look p.now) (text.now ∷ []) (λ id.
+        name_at p.now id.0 ≡ text.now)) }
+{
+    let name = name(alloc, text)?;
+    Ok(p.find(&name))
+}
+
 // The classes of these names; none where one is missing.
 fn find_all(alloc: Global, p: &Program, names: &[&str]) -> Result<Option<Vec<ClassId>>, Memory>
-    ensures { IfOk result (λ found. IfSome found (λ ids.
+    ensures { IfOk result (Finds (look p.now) (map (λ t. t.now) names.now) (λ ids.
         map (name_at p.now) (map (λ x. x.0) ids.items) ≡ map (λ t. t.now) names.now)) }
 {
     let mut ids = Vec::with_capacity(alloc, names.len())?;
     for text in names {
-        let Some(id) = p.find(&name(alloc, text)?) else {
+        let Some(id) = find_one(alloc, p, text)? else {
             return Ok(None);
         };
         ids.push(id)?;
