@@ -1,3 +1,4 @@
+mod Looked
 mod Leaving
 mod Ends
 mod Reached

@@ -14,7 +14,6 @@ use Rattle.class_link.specs.Info.{Info}
 use Rattle.class_table.specs.declared.scripted.Test.{Test}
 use Rattle.class_table.specs.Table.{look}
 use Rattle.jvm_world.specs.Holding.{opened}
-use Rattle.jvm_world.specs.Classes.{AreMachineClasses}
 use Rattle.jvm_machine.specs.declared.machine.Machine.{Machine}
 use Rattle.jvm_machine.specs.declared.machine.Step.TheVariants as step
 use Rattle.jvm_machine.specs.declared.outcome.Outcome as code
@@ -166,9 +165,6 @@ not_stuck p q limit i s m new lt steps h answer =
     not_next_stuck (step_of (look p) q here) (place_of (look p) here) (stuck_in p q limit i s m new h answer) (steps i lt)
 
 -- ---- what it gives
-
-pub classes_are : (p : List Info) (m : Machine) (ids : List ℕ) → IsMachineOf p m → ids ≡ m.world.classes → AreMachineClasses p ids
-classes_are p m ids h e = subst (AreMachineClasses p) (sym e) h.world.classes
 
 result_of : (p : List Info) (m : Machine) (r : RunResult) (o : code.Outcome) (n : ℕ) (s : def.MachineState) (ran : Ran) → StandsFor p m s → TellsRun p m r o n → ran ≡ comes_to (ending_of o) n s.world → IsResultOf p r ran
 result_of p m r o n s ran is tells e =

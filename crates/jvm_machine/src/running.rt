@@ -3,11 +3,10 @@
 ghost use Rattle.std.specs.Prelude.{◌≡◌, ◌+◌, ◌≤◌, ◌<◌, ◌^◌, IfOk, OnOk, OnErr};
 ghost use Rattle.machine_rules.specs.Runs.{run_from, run_of};
 ghost use Rattle.class_table.specs.Table.{look};
-ghost use Rattle.jvm_world.specs.Classes.{AreMachineClasses};
 ghost use Rattle.jvm_world.specs.View.{test_of};
 ghost use Rattle.jvm_machine.specs.Machines.{IsMachineOf, StandsFor};
 ghost use Rattle.jvm_machine.specs.Programs.{IsRunnable};
-ghost use Rattle.jvm_machine.specs.Result.{IsResultOf, TellsRun};
+ghost use Rattle.jvm_machine.specs.Result.{IsResultOf};
 ghost use Rattle.jvm_machine.specs.Running.{EndsSo, EndsAtLimit, HasSteps, IsStuckResult, after, start_of};
 ghost use Rattle.jvm_machine.specs.Tables.{AreTablesOf};
 
@@ -20,7 +19,6 @@ use crate::stepping::step;
 use crate::tables::Tables;
 use class_model::Memory;
 use class_table::{Program, Test};
-use jvm_world::MachineClasses;
 use machine_rules::Limits;
 use mt_edge::MeterPart;
 use std::alloc::Global;
@@ -135,15 +133,14 @@ fn finish_again(
 // What a run gives that is stuck behind so many steps. It is run again up to there, since a step
 // that is stuck leaves nothing known of a machine.
 fn finish_stuck(
+    m: &mut Machine,
     alloc: Global,
     p: &Program,
     tables: &mut Tables,
     test: &Test,
     limits: Limits,
-    classes: MachineClasses,
     steps: u64,
 ) -> Result<RunResult, Memory>
-    requires classes { AreMachineClasses p.now classes }
     requires tables { AreTablesOf p.now tables.old }
     requires runnable { IsRunnable (look p.now) }
     requires small { limits.heap < 2 ^ 31 }
@@ -151,36 +148,16 @@ fn finish_stuck(
     ensures run { IfOk result (IsStuckResult p.now limits steps (start_of p.now test.now)) }
     ensures tables { AreTablesOf p.now tables.new }
 {
-    let mut m = Machine::start(alloc, p, test, limits, classes)?;
-    let result = finish_again(&mut m, alloc, p, tables, test, steps)?;
+    let classes = tables.classes.copy(alloc)?;
+    let start = Machine::start(alloc, p, test, limits, classes)?;
+    *m = start;
+    let result = finish_again(m, alloc, p, tables, test, steps)?;
     Ok(result)
-}
-
-// What a run gives whose machine isn't to run any more.
-fn finish_whole(
-    m: Machine,
-    alloc: Global,
-    p: &Program,
-    outcome: Outcome,
-    steps: u64,
-) -> Result<RunResult, Memory>
-    ensures { IfOk result (λ r. TellsRun p.now m r outcome steps) }
-{
-    let result = finish(alloc, p, &m, outcome, steps)?;
-    Ok(result)
-}
-
-// The classes of a machine that isn't to run any more.
-fn classes_of(m: Machine) -> MachineClasses
-    ensures { result ≡ m.world.classes }
-{
-    let world = m.world;
-    world.classes
 }
 
 // What a run gives that came to this end.
 fn finish_run(
-    m: Machine,
+    m: &mut Machine,
     alloc: Global,
     p: &Program,
     tables: &mut Tables,
@@ -193,8 +170,7 @@ fn finish_run(
     requires tables { AreTablesOf p.now tables.old }
     requires runnable { IsRunnable (look p.now) }
     requires small { limits.heap < 2 ^ 31 }
-    requires machine { IsMachineOf p.now m }
-    requires run { EndsSo p.now limits limit (start_of p.now test.now) end steps m }
+    requires run { EndsSo p.now limits limit (start_of p.now test.now) end steps m.old }
     ensures run { IfOk result (λ r.
         IsResultOf p.now r (run_of (look p.now) (test_of test.now) limits limit)) }
     ensures tables { AreTablesOf p.now tables.new }
@@ -202,32 +178,57 @@ fn finish_run(
     match end {
         End::With(outcome) => {
             let told = Outcome::of(outcome);
-            let result = finish_whole(m, alloc, p, told, steps)?;
+            let result = finish(alloc, p, m, told, steps)?;
             Ok(result)
         }
         End::Stuck => {
-            let classes = classes_of(m);
-            let result = finish_stuck(alloc, p, tables, test, limits, classes, steps)?;
+            let result = finish_stuck(m, alloc, p, tables, test, limits, steps)?;
             Ok(result)
         }
     }
 }
 
+// Runs a machine that stands at the start of a test, and gives what the run gives.
+#[tactic(auto, using(crate::proofs::Ran::steps_of))]
+fn complete(
+    m: &mut Machine,
+    alloc: Global,
+    p: &Program,
+    tables: &mut Tables,
+    test: &Test,
+    limit: u64,
+    part: &mut MeterPart,
+) -> Result<RunResult, Memory>
+    requires machine { IsMachineOf p.now m.old }
+    requires stands { StandsFor p.now m.old (start_of p.now test.now) }
+    requires tables { AreTablesOf p.now tables.old }
+    requires runnable { IsRunnable (look p.now) }
+    requires room { part.old + limit < 2 ^ 64 }
+    ensures run { IfOk result (λ r. IsResultOf p.now r
+        (run_of (look p.now) (test_of test.now) m.old.world.limits limit)) }
+    ensures steps { IfOk result (λ r. part.new ≡ part.old + r.steps) }
+    ensures memory { OnErr result (part.new ≤ part.old
+        + (run_of (look p.now) (test_of test.now) m.old.world.limits limit).steps) }
+    ensures tables { AreTablesOf p.now tables.new }
+{
+    let limits = m.world.limits;
+    let (end, steps) = run(m, alloc, p, tables, test, limit, part)?;
+    let result = finish_run(m, alloc, p, tables, test, limits, limit, end, steps)?;
+    Ok(result)
+}
+
 /// Runs a test on a program, for so many steps at most. Each step is counted in the part. Where
 /// memory runs out, no more steps are counted than the run has. A run that is stuck is run again,
 /// to tell where, and that isn't counted. The tables are right still, also where memory ran out.
-#[tactic(auto, using(crate::proofs::Ran::steps_of))]
 pub fn execute(
     alloc: Global,
     p: &Program,
     tables: &mut Tables,
     test: &Test,
     limits: Limits,
-    classes: MachineClasses,
     limit: u64,
     part: &mut MeterPart,
 ) -> Result<RunResult, Memory>
-    requires classes { AreMachineClasses p.now classes }
     requires tables { AreTablesOf p.now tables.old }
     requires runnable { IsRunnable (look p.now) }
     requires small { limits.heap < 2 ^ 31 }
@@ -239,8 +240,7 @@ pub fn execute(
         + (run_of (look p.now) (test_of test.now) limits limit).steps) }
     ensures tables { AreTablesOf p.now tables.new }
 {
+    let classes = tables.classes.copy(alloc)?;
     let mut m = Machine::start(alloc, p, test, limits, classes)?;
-    let (end, steps) = run(&mut m, alloc, p, tables, test, limit, part)?;
-    let result = finish_run(m, alloc, p, tables, test, limits, limit, end, steps)?;
-    Ok(result)
+    complete(&mut m, alloc, p, tables, test, limit, part)
 }

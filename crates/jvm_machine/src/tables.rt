@@ -1,8 +1,11 @@
 //! What is found once for a program and kept by number, from run to run.
 
-ghost use Rattle.std.specs.Prelude.{IfOk, IfSome};
+ghost use Rattle.std.specs.Prelude.{IfOk};
+ghost use Rattle.class_table.specs.Table.{look};
+ghost use Rattle.jvm_world.specs.Classes.{AreMachineClasses};
+ghost use Rattle.jvm_world.specs.Finding.{Finds};
 ghost use Rattle.jvm_natives.specs.Natives.{AreNatives};
-ghost use Rattle.jvm_machine.specs.Tables.{AreTablesOf};
+ghost use Rattle.jvm_machine.specs.Tables.{AreTablesOf, looked_up};
 
 use class_family::Walker;
 use class_model::Memory;
@@ -11,13 +14,16 @@ use jvm_act::Codes;
 use jvm_field_rows::{Layouts, Slots};
 use jvm_natives::Natives;
 use jvm_receivers::Lookups;
+use jvm_world::MachineClasses;
 use std::alloc::Global;
 
-/// What the machine finds once for a program: what native methods are asked with, what references
-/// resolve to and objects select, slots of fields, layouts of classes, codes of methods. It depends
-/// on the program alone, so it is lent to one run of the program after the other.
+/// What the machine finds once for a program: the classes of which it makes objects by itself, what
+/// native methods are asked with, what references resolve to and objects select, slots of fields,
+/// layouts of classes, codes of methods. It depends on the program alone, so it is lent to one run
+/// of the program after the other.
 #[derive(Drop)]
 pub struct Tables {
+    pub classes: MachineClasses,
     pub natives: Natives,
     pub lookups: Lookups,
     pub slots: Slots,
@@ -28,7 +34,13 @@ pub struct Tables {
 }
 
 // Tables in which nothing was asked yet.
-fn tables_with(alloc: Global, p: &Program, natives: Natives) -> Result<Tables, Memory>
+fn tables_with(
+    alloc: Global,
+    p: &Program,
+    classes: MachineClasses,
+    natives: Natives,
+) -> Result<Tables, Memory>
+    requires classes { AreMachineClasses p.now classes }
     requires natives { AreNatives p.now natives }
     ensures { IfOk result (λ tables. AreTablesOf p.now tables) }
 {
@@ -38,6 +50,7 @@ fn tables_with(alloc: Global, p: &Program, natives: Natives) -> Result<Tables, M
     let codes = Codes::new(alloc);
     let walker = Walker::new(alloc);
     Ok(Tables {
+        classes,
         natives,
         lookups,
         slots,
@@ -48,15 +61,19 @@ fn tables_with(alloc: Global, p: &Program, natives: Natives) -> Result<Tables, M
 }
 
 impl Tables {
-    /// Those of a program, in which nothing was asked yet; none where it lacks a class of which
-    /// native methods make objects.
+    /// Those of a program, in which nothing was asked yet; none where it lacks a class of which the
+    /// machine or a native method makes objects.
+    #[tactic(auto, using(crate::proofs::Looked::lacks_own, crate::proofs::Looked::lacks_made, crate::proofs::Looked::lacks_none))]
     pub fn find(alloc: Global, p: &Program) -> Result<Option<Tables>, Memory>
-        ensures { IfOk result (λ found. IfSome found (λ tables. AreTablesOf p.now tables)) }
+        ensures { IfOk result (Finds (look p.now) looked_up (AreTablesOf p.now)) }
     {
+        let Some(classes) = MachineClasses::find(alloc, p)? else {
+            return Ok(None);
+        };
         let Some(natives) = Natives::find(alloc, p)? else {
             return Ok(None);
         };
-        let tables = tables_with(alloc, p, natives)?;
+        let tables = tables_with(alloc, p, classes, natives)?;
         Ok(Some(tables))
     }
 }

@@ -2,7 +2,6 @@
 
 ghost use Rattle.std.specs.Prelude.{◌<◌, ◌^◌};
 ghost use Rattle.class_table.specs.Table.{look};
-ghost use Rattle.jvm_world.specs.Classes.{AreMachineClasses};
 ghost use Rattle.jvm_machine.specs.Programs.{IsRunnable};
 ghost use Rattle.jvm_machine.specs.Tables.{AreTablesOf};
 
@@ -10,7 +9,6 @@ use crate::case::{Case, case_of};
 use class_model::{Memory, Name};
 use class_table::{Program, Test};
 use jvm_machine::{Outcome, RunResult, Tables, execute};
-use jvm_world::MachineClasses;
 use mt_edge::Meter;
 use std::alloc::Global;
 
@@ -61,15 +59,13 @@ fn push_line(out: &mut String, test: &Test, ran: &RunResult) -> Result<(), Memor
     push_ran(out, ran)
 }
 
-// The run of a test, with the machine's classes.
-fn run_with(
+// The run of a test.
+fn run(
     program: &Program,
     tables: &mut Tables,
     case: &Case,
     alloc: Global,
-    classes: MachineClasses,
 ) -> Result<RunResult, Memory>
-    requires classes { AreMachineClasses program.now classes }
     requires tables { AreTablesOf program.now tables.old }
     requires runnable { IsRunnable (look program.now) }
     requires small { case.now.limits.heap < 2 ^ 31 }
@@ -83,32 +79,12 @@ fn run_with(
         tables,
         &case.test,
         case.limits,
-        classes,
         case.steps,
         &mut part,
     );
     let _counted = part.count();
     meter.join(part);
     ran
-}
-
-// The run of a test.
-fn run(
-    program: &Program,
-    tables: &mut Tables,
-    case: &Case,
-    alloc: Global,
-) -> anyhow::Result<RunResult>
-    requires tables { AreTablesOf program.now tables.old }
-    requires runnable { IsRunnable (look program.now) }
-    requires small { case.now.limits.heap < 2 ^ 31 }
-    ensures tables { AreTablesOf program.now tables.new }
-{
-    let Some(classes) = MachineClasses::find(alloc, program)? else {
-        anyhow::bail!("the library lacks a class");
-    };
-    let ran = run_with(program, tables, case, alloc, classes)?;
-    Ok(ran)
 }
 
 // Runs a test, and adds its line.

@@ -5,9 +5,9 @@ use Rattle.jvm_machine.proofs.running.finish_stuck.Goals as goal
 pub finish_again-requires-clause-long : goal.finish_again-requires-clause-long
 finish_again-requires-clause-long c =
     let p = c.args.p.now in
-    subst (λ q. HasSteps p q c.args.steps (start_of p c.args.test.now)) (sym c.in_ok-m.ensures.limits) c.requires.long
+    subst (λ q. HasSteps p q c.args.steps (start_of p c.args.test.now)) (sym c.in_ok-start.ensures.limits) c.requires.long
 
 pub returns-clause-run : goal.returns-clause-run
 returns-clause-run c =
     let p = c.args.p.now in
-    subst (λ q. IsStuckResult p q c.args.steps (start_of p c.args.test.now) c.in_ok-result.result) c.in_ok-m.ensures.limits c.in_ok-result.ensures.run
+    subst (λ q. IsStuckResult p q c.args.steps (start_of p c.args.test.now) c.in_ok-result.result) c.in_ok-start.ensures.limits c.in_ok-result.ensures.run

@@ -2,6 +2,7 @@ use Rattle.jvm_machine.proofs.tables.tables_with.Goals as goal
 
 pub returns : goal.returns
 returns c = record {
+  classes = c.requires.classes;
   natives = c.requires.natives;
   lookups = c.in_ok-lookups.ensures;
   slots = c.new-slots.ensures c.args.p.now;
