@@ -3,7 +3,6 @@
 ghost use Rattle.std.specs.Prelude.{◌≡◌, ◌+◌, ◌≤◌, ◌<◌, ◌^◌, IfOk, OnErr};
 ghost use Rattle.machine_rules.specs.Runs.{run_of};
 ghost use Rattle.class_table.specs.Table.{look};
-ghost use Rattle.jvm_world.specs.Classes.{AreMachineClasses};
 ghost use Rattle.jvm_world.specs.View.{test_of};
 ghost use Rattle.jvm_machine.specs.Programs.{IsRunnable};
 ghost use Rattle.jvm_machine.specs.Result.{IsResultOf};
@@ -12,7 +11,6 @@ ghost use Rattle.jvm_machine.specs.Tables.{AreTablesOf};
 use class_model::Memory;
 use class_table::{Program, Test};
 use jvm_machine::{RunResult, Tables};
-use jvm_world::MachineClasses;
 use machine_rules::Limits;
 use mt_edge::MeterPart;
 use std::alloc::Global;
@@ -24,11 +22,9 @@ pub fn execute(
     tables: &mut Tables,
     test: &Test,
     limits: Limits,
-    classes: MachineClasses,
     limit: u64,
     part: &mut MeterPart,
 ) -> Result<RunResult, Memory>
-    requires classes { AreMachineClasses p.now classes }
     requires tables { AreTablesOf p.now tables.old }
     requires runnable { IsRunnable (look p.now) }
     requires small { limits.heap < 2 ^ 31 }
@@ -40,6 +36,6 @@ pub fn execute(
         + (run_of (look p.now) (test_of test.now) limits limit).steps) }
     ensures tables { AreTablesOf p.now tables.new }
 {
-    let run = jvm_machine::execute(alloc, p, tables, test, limits, classes, limit, part)?;
+    let run = jvm_machine::execute(alloc, p, tables, test, limits, limit, part)?;
     Ok(run)
 }
