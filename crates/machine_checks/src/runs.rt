@@ -1,14 +1,17 @@
 //! A whole run of a test.
 
 ghost use Rattle.std.specs.Prelude.{◌≡◌, ◌+◌, ◌≤◌, ◌<◌, ◌^◌, IfOk, OnErr};
-ghost use Rattle.machine_so_far.specs.Runs.{run_so_far};
+ghost use Rattle.machine_rules.specs.Runs.{run_of};
 ghost use Rattle.class_table.specs.Table.{look};
-ghost use Rattle.jvm_step.specs.View.{test_of};
-ghost use Rattle.jvm_run.specs.Result.{IsResultOf};
+ghost use Rattle.jvm_world.specs.View.{test_of};
+ghost use Rattle.jvm_machine.specs.Programs.{IsRunnable};
+ghost use Rattle.jvm_machine.specs.Result.{IsResultOf};
+ghost use Rattle.jvm_machine.specs.Tables.{AreTablesOf};
 
 use class_model::Memory;
 use class_table::{Program, Test};
-use jvm_run::{Limits, RunResult};
+use jvm_machine::{RunResult, Tables};
+use machine_rules::Limits;
 use mt_edge::MeterPart;
 use std::alloc::Global;
 
@@ -16,15 +19,23 @@ use std::alloc::Global;
 pub fn execute(
     alloc: Global,
     p: &Program,
+    tables: &mut Tables,
     test: &Test,
     limits: Limits,
     limit: u64,
     part: &mut MeterPart,
 ) -> Result<RunResult, Memory>
-    requires { part.old + limit < 2 ^ 64 }
-    ensures run { IfOk result (λ r. IsResultOf r (run_so_far (look p.now) (test_of test.now) limits limit)) }
+    requires tables { AreTablesOf p.now tables.old }
+    requires runnable { IsRunnable (look p.now) }
+    requires small { limits.heap < 2 ^ 31 }
+    requires room { part.old + limit < 2 ^ 64 }
+    ensures run { IfOk result (λ r.
+        IsResultOf p.now r (run_of (look p.now) (test_of test.now) limits limit)) }
     ensures steps { IfOk result (λ r. part.new ≡ part.old + r.steps) }
-    ensures memory { OnErr result (part.new ≤ part.old + (run_so_far (look p.now) (test_of test.now) limits limit).steps) }
+    ensures memory { OnErr result (part.new ≤ part.old
+        + (run_of (look p.now) (test_of test.now) limits limit).steps) }
+    ensures tables { AreTablesOf p.now tables.new }
 {
-    jvm_run::execute(alloc, p, test, limits, limit, part)
+    let run = jvm_machine::execute(alloc, p, tables, test, limits, limit, part)?;
+    Ok(run)
 }

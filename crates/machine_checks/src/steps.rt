@@ -1,31 +1,56 @@
 //! The start of a machine, and one step.
 
-ghost use Rattle.std.specs.Prelude.{◌≡◌, IfOk, OnOk};
+ghost use Rattle.std.specs.Prelude.{◌≡◌, ◌<◌, ◌^◌, IfOk, OnOk};
 ghost use Rattle.machine_rules.specs.State.{start};
-ghost use Rattle.machine_so_far.specs.Steps.{step_so_far};
 ghost use Rattle.class_table.specs.Table.{look};
-ghost use Rattle.jvm_step.specs.View.{limits_of, state_of, test_of, Answers, IsMachineOf};
+ghost use Rattle.jvm_world.specs.View.{test_of};
+ghost use Rattle.jvm_world.specs.Classes.{AreMachineClasses};
+ghost use Rattle.jvm_machine.specs.Machines.{Answers, HasFewMonitors, HasMeaning, IsMachineOf, IsMachineStill, StandsFor};
+ghost use Rattle.jvm_machine.specs.Programs.{IsRunnable};
+ghost use Rattle.jvm_machine.specs.Tables.{AreTablesOf};
 
 use class_model::Memory;
 use class_table::{Program, Test};
-use jvm_step::{Limits, Machine, Step};
+use jvm_machine::{Machine, Step, Tables};
+use jvm_world::MachineClasses;
+use machine_rules::Limits;
 use std::alloc::Global;
 
 /// A machine that is to run a test.
-pub fn start(alloc: Global, p: &Program, test: &Test, limits: Limits) -> Result<Machine, Memory>
-    ensures state { IfOk result (λ m. state_of p.now m ≡ start (look p.now) (test_of test.now)) }
-    ensures limits { IfOk result (λ m. limits_of m ≡ limits) }
+pub fn start(
+    alloc: Global,
+    p: &Program,
+    test: &Test,
+    limits: Limits,
+    classes: MachineClasses,
+) -> Result<Machine, Memory>
+    requires classes { AreMachineClasses p.now classes }
+    requires small { limits.heap < 2 ^ 31 }
+    ensures stands { IfOk result (λ m.
+        StandsFor p.now m (start (look p.now) (test_of test.now))) }
     ensures machine { IfOk result (λ m. IsMachineOf p.now m) }
+    ensures limits { IfOk result (λ m. m.world.limits ≡ limits) }
 {
-    Machine::start(alloc, p, test, limits)
+    let m = Machine::start(alloc, p, test, limits, classes)?;
+    Ok(m)
 }
 
 /// One step of a machine.
-pub fn step(alloc: Global, p: &Program, m: &mut Machine) -> Result<Step, Memory>
+pub fn step(
+    m: &mut Machine,
+    alloc: Global,
+    p: &Program,
+    tables: &mut Tables,
+) -> Result<Step, Memory>
     requires machine { IsMachineOf p.now m.old }
-    ensures step { IfOk result (λ r. Answers (step_so_far (look p.now) (limits_of m.old) (state_of p.now m.old)) r (state_of p.now m.old) (state_of p.now m.new)) }
-    ensures machine { OnOk result (IsMachineOf p.now m.new) }
-    ensures limits { OnOk result (limits_of m.new ≡ limits_of m.old) }
+    requires tables { AreTablesOf p.now tables.old }
+    requires runnable { IsRunnable (look p.now) }
+    requires few { HasFewMonitors m.old.world }
+    requires meaning { HasMeaning p.now m.old.world }
+    ensures step { IfOk result (λ r. Answers p.now r m.old m.new) }
+    ensures still { OnOk result (IsMachineStill p.now m.old m.new) }
+    ensures tables { AreTablesOf p.now tables.new }
 {
-    jvm_step::step(alloc, p, m)
+    let done = jvm_machine::step(m, alloc, p, tables)?;
+    Ok(done)
 }

@@ -5,6 +5,8 @@
 #![tactic(auto)]
 
 pub mod arithmetic;
+pub mod beginnings;
 pub mod handlers;
 pub mod heap;
+pub mod stacks;
 pub mod storing;
