@@ -118,6 +118,22 @@ fn push_run(
     push_case(program, tables, &case, out)
 }
 
+// Runs the test of each line with these tables, and adds a line for each.
+fn push_lines(
+    program: &Program,
+    tables: &mut Tables,
+    tests: &str,
+    out: &mut String,
+) -> anyhow::Result<()>
+    requires tables { AreTablesOf program.now tables.old }
+    requires runnable { IsRunnable (look program.now) }
+{
+    for line in tests.lines() {
+        push_run(program, tables, line, out)?;
+    }
+    Ok(())
+}
+
 /// Runs the test of each line, and adds a line for each.
 pub fn push_runs(program: &Program, tests: &str, out: &mut String) -> anyhow::Result<()>
     requires runnable { IsRunnable (look program.now) }
@@ -125,8 +141,5 @@ pub fn push_runs(program: &Program, tests: &str, out: &mut String) -> anyhow::Re
     let Some(mut tables) = Tables::find(*out.allocator(), program)? else {
         anyhow::bail!("the library lacks a class");
     };
-    for line in tests.lines() {
-        push_run(program, &mut tables, line, out)?;
-    }
-    Ok(())
+    push_lines(program, &mut tables, tests, out)
 }

@@ -1,5 +1,5 @@
 use Rattle.jvm_machine.specs.Tables.{AreTablesOf}
-use Rattle.machine_answers.proofs.runs.push_runs.Given as goal
+use Rattle.machine_answers.proofs.runs.push_lines.Given as goal
 
 abbrev pub invariant-loop-line : goal.invariant-loop-line
 invariant-loop-line l = AreTablesOf l.program l.tables
