@@ -61,7 +61,7 @@ use Rattle.mutant_apply.proofs.NamesKept.{same_names}
 use Rattle.mutant_runs.specs.Programs.{files_of, with_class, edited}
 use Rattle.mutant_laws.specs.Edited.{puts_int_jump, IsEditOf, IsSmoothEditOf, MutantsAreEdits, IntJumpsGoOn}
 use Rattle.mutant_laws.proofs.Recoded.{IsRecoded, code_by, linked_edit, class_edited}
-use Rattle.mutant_laws.proofs.Jumps.{is_alike, with_op, goes_on_so_far, goes_on_alike}
+use Rattle.mutant_laws.proofs.Jumps.{is_alike, with_op, goes_on_alike}
 use Rattle.mutant_laws.proofs.Linked as plain
 use Rattle.mutant_laws.proofs.Linked.{new_code, recoded, linked_declares, linked_body, is_recoded}
 use Rattle.mutant_laws.proofs.Listed.{exchanges}
@@ -209,7 +209,6 @@ module _ (law : AppliedIsMade) (p : List Info) (p' : Look) (c : Class) (infos : 
           place = ap (λ o. placed (method_text o) at) method;
         };
         goes_on = goes_on_alike e (look p) p' changed old stands (like (symbol_at c.pool));
-        goes_on_so_far = goes_on_so_far e (look p) p' changed old stands (like (symbol_at c.pool));
       }
 
   smooth_edit : (m : Mutant) → IsMutant c m → puts_int_jump m.edit.with ≡ true → files_of p m.class ≡ Some c → edited (files_of p) (look p) m ≡ Some p' → IsSmoothEditOf m (look p) p'

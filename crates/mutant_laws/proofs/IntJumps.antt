@@ -13,22 +13,9 @@ use Rattle.mutator_ops.specs.Table.{Asked, row}
 use Rattle.mutator_ops.specs.declared.change.Change.{Change}
 use Rattle.mutant_laws.specs.Edited.{is_int_jump, puts_int_jump, IntJumpsAreExchanged}
 use Rattle.mutant_laws.proofs.Jumps.{with_op}
+use Rattle.mutant_laws.proofs.Ranges.{each, each_in}
 
--- ---- numbers in a row
-
-each : (ℕ → Bool) → ℕ → ℕ → Bool
-each test zero op = true
-each test (suc count) op = test op && each test count (suc op)
-
-each_by : (test : ℕ → Bool) (count start op : ℕ) (above : Bool) → ltb start op ≡ above → each test (suc count) start ≡ true → start ≤ op → op < start + suc count
-    → (each test count (suc start) ≡ true → suc start ≤ op → op < suc start + count → test op ≡ true) → test op ≡ true
-unfolding each
-each_by test count start op true above e le lt later = later (and_parts (test start) (each test count (suc start)) e).1 (omega (arith, ltb-true start op above)) (omega (arith, lt))
-each_by test count start op false above e le lt later = let same : start ≡ op = omega (arith, le, ltb-false start op above) in subst (λ n. test n ≡ true) same (and_parts (test start) (each test count (suc start)) e).0
-
-each_in : (test : ℕ → Bool) (count start op : ℕ) → each test count start ≡ true → start ≤ op → op < start + count → test op ≡ true
-each_in test zero start op e le lt = absurd (omega (arith, le, lt))
-each_in test (suc count) start op e le lt = each_by test count start op (ltb start op) refl e le lt (each_in test count (suc start) op)
+-- ---- the opcodes of jumps on ints
 
 int_low : (op : ℕ) → is_int_jump op ≡ true → 0x99 ≤ op
 int_low op is = grind (arith, nat_tests)

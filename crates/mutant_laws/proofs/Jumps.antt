@@ -11,13 +11,10 @@ use Rattle.program_rules.specs.Outlines.{is_class_initializer}
 use Rattle.program_rules.specs.Programs.{Look}
 use Rattle.machine_rules.specs.State.{Frame, World}
 use Rattle.machine_rules.specs.Effects.{Effect, NoRow, Current, on_some, on_int, jumps}
-use Rattle.machine_rules.specs.Steps as rules
-use Rattle.machine_rules.specs.Steps.{Fetched, fetch_in_method, fetch_in_code, fetch_from, fetch, reaches}
+use Rattle.machine_rules.specs.Steps.{act, Fetched, fetch_in_method, fetch_in_code, fetch_from, fetch, reaches}
 use Rattle.machine_rules.specs.Arithmetic.{compares}
 use Rattle.edit_laws.specs.Edit.{Edit, IsEdited, place_in, edited_method, is_edited, relocate, moved_place}
 use Rattle.edit_laws.specs.EditLaws.{GoesOnAlike, moved_frame}
-use Rattle.edits_so_far.specs.EditLaws as so_far
-use Rattle.machine_so_far.specs.Steps.{act}
 use Rattle.edit_laws.proofs.Places.{edit_by, get_first, get_map, set_same}
 
 -- ---- instructions
@@ -67,26 +64,6 @@ module _ (p p' : Look) (q : Limits) (here here' : Current) (w w' : World) (f : F
   acts_alike Unlinked j like applied = absurd (applied refl)
   acts_alike other j like applied = absurd cc
 
-  -- the same of the rows of the rules
-  int_acts_by_rules : (go : ℤ → List Value → Effect) (j : Instruction) → is_on_int j ≡ true → on_int f.stack go ≢ NoRow → rules.act p' q here' j w' moved_to fs' ≢ NoRow
-  unfolding rules.act moved_to is_on_int
-  int_acts_by_rules go (IfInt c to) like applied = goes_int f.stack go (λ x rest. jumps w' (record f { at = at }) fs' (if compares c x (pos 0) then to else at + 1) rest) (λ z rest k e. absurd cc) applied
-  int_acts_by_rules go other like applied = absurd cc
-
-  ints_act_by_rules : (go : ℤ → ℤ → List Value → Effect) (j : Instruction) → is_on_ints j ≡ true → on_int f.stack (λ y rest. on_int rest (λ x below. go x y below)) ≢ NoRow → rules.act p' q here' j w' moved_to fs' ≢ NoRow
-  unfolding rules.act moved_to is_on_ints
-  ints_act_by_rules go (IfInts c to) like applied =
-      goes_int f.stack (λ y rest. on_int rest (λ x below. go x y below)) (λ y rest. on_int rest (λ x below. jumps w' (record f { at = at }) fs' (if compares c x y then to else at + 1) below))
-      (λ y rest. goes_int rest (λ x below. go x y below) (λ x below. jumps w' (record f { at = at }) fs' (if compares c x y then to else at + 1) below) (λ z below k e. absurd cc)) applied
-  ints_act_by_rules go other like applied = absurd cc
-
-  acts_alike_by_rules : (i j : Instruction) → is_alike i j ≡ true → rules.act p q here i w f fs ≢ NoRow → rules.act p' q here' j w' moved_to fs' ≢ NoRow
-  unfolding rules.act is_alike
-  acts_alike_by_rules (IfInt c to) j like applied = int_acts_by_rules (λ x rest. jumps w f fs (if compares c x (pos 0) then to else f.at + 1) rest) j like applied
-  acts_alike_by_rules (IfInts c to) j like applied = ints_act_by_rules (λ x y below. jumps w f fs (if compares c x y then to else f.at + 1) below) j like applied
-  acts_alike_by_rules Unlinked j like applied = absurd (applied refl)
-  acts_alike_by_rules other j like applied = absurd cc
-
 -- the instruction with another opcode
 abbrev pub with_op : Insn → ℕ → Insn
 with_op insn op = record { op = op; wide = insn.wide; arg = insn.arg }
@@ -120,24 +97,13 @@ module _ (e : Edit) (p p' : Look) (ed : IsEdited e p p') (old : Instruction) (ha
       ∙ ap (λ o. fetch_in_method o e.at) (set_same ed.before.methods e.method ed.method (edited_method e ed.method ed.code) ed.declares)
       ∙ ap (fetch_from new_here) (get_first (map (relocate (moved_place e)) ed.code.instructions) e.first e.rest e.at (relocate (moved_place e) old) (get_map (relocate (moved_place e)) ed.code.instructions e.at old had))
 
-  pub goes_on_so_far : is_alike old e.first ≡ true → so_far.GoesOnAlike e p p'
+  pub goes_on_alike : is_alike old e.first ≡ true → GoesOnAlike e p p'
   unfolding moved_to
-  goes_on_so_far like q w f fs hc hk ha applied =
+  goes_on_alike like q w f fs hc hk ha applied =
       let go : Fetched → Effect = λ i. act p q i.here i.instruction (reaches p f w) f fs in
       let mf = moved_frame e f in
       let mfs = map (moved_frame e) fs in
       let go' : Fetched → Effect = λ i. act p' q i.here i.instruction (reaches p' mf w) mf mfs in
       let before : act p q old_here old (reaches p f w) f fs ≢ NoRow = λ none. applied (ap (λ o. on_some o go) (fetch_old f hc hk ha) ∙ none) in
       let after : act p' q new_here e.first (reaches p' mf w) mf mfs ≢ NoRow = acts_alike p p' q old_here new_here (reaches p f w) (reaches p' mf w) f (place_in e f.class f.method f.at) fs mfs old e.first like before in
-      λ none. after (sym (ap (λ o. on_some o go') (fetch_new f hc hk ha)) ∙ none)
-
-  pub goes_on_alike : is_alike old e.first ≡ true → GoesOnAlike e p p'
-  unfolding moved_to
-  goes_on_alike like q w f fs hc hk ha applied =
-      let go : Fetched → Effect = λ i. rules.act p q i.here i.instruction (reaches p f w) f fs in
-      let mf = moved_frame e f in
-      let mfs = map (moved_frame e) fs in
-      let go' : Fetched → Effect = λ i. rules.act p' q i.here i.instruction (reaches p' mf w) mf mfs in
-      let before : rules.act p q old_here old (reaches p f w) f fs ≢ NoRow = λ none. applied (ap (λ o. on_some o go) (fetch_old f hc hk ha) ∙ none) in
-      let after : rules.act p' q new_here e.first (reaches p' mf w) mf mfs ≢ NoRow = acts_alike_by_rules p p' q old_here new_here (reaches p f w) (reaches p' mf w) f (place_in e f.class f.method f.at) fs mfs old e.first like before in
       λ none. after (sym (ap (λ o. on_some o go') (fetch_new f hc hk ha)) ∙ none)

@@ -1,3 +1,4 @@
+mod Ranges
 mod Lists
 mod Jumps
 mod Listed
@@ -10,5 +11,7 @@ mod Recoded
 mod Edits
 mod RunLaws
 mod SelectedLaws
+mod Alike
+mod AcceptedLaws
 mod Premises
 mod WitnessLaws

@@ -9,16 +9,16 @@ use Rattle.program_rules.specs.Programs.{Look}
 use Rattle.machine_rules.specs.declared.machine.Limits.{Limits}
 use Rattle.machine_rules.specs.Runs.{StuckAt, Ran}
 use Rattle.machine_laws.specs.Consulted.{Hit}
-use Rattle.edit_laws.specs.EditLaws.{ReachesLine, ReachAlike, NotStuckAtEdit}
-use Rattle.edits_so_far.specs.EditLaws.{TestsAlikeUnreached, TestsReachAlike, TestsReachTheSame}
+use Rattle.edit_laws.specs.EditLaws as edits
+use Rattle.edit_laws.specs.EditLaws.{ReachesLine, NotStuckAtEdit, TestsAlikeUnreached, TestsReachAlike, TestsReachTheSame}
 use Rattle.class_link.specs.Info.{Info}
 use Rattle.class_table.specs.declared.scripted.Test.{Test}
 use Rattle.class_table.specs.Table.{look}
-use Rattle.jvm_step.specs.View.{test_of}
+use Rattle.jvm_world.specs.View.{test_of}
 use Rattle.mutator_ops.specs.declared.mutant.Mutant.{Mutant}
 use Rattle.mutant_runs.specs.Runs.{is_at, reaches, mutant_run}
 use Rattle.mutant_laws.specs.Edited.{IsEditOf, MutantsAreEdits, IntJumpsGoOn}
-use Rattle.mutant_laws.specs.Covered.{original_run, UnreachedIsAlike, NotStuckThere, ReachingIsAlike, CoveringIsAlike}
+use Rattle.mutant_laws.specs.Covered.{original_run, edited_run, UnreachedIsAlike, NotStuckThere, ReachAlike, ReachingIsAlike, CoveringIsAlike}
 use Rattle.mutant_laws.proofs.Edits.{same_itself}
 
 -- ---- the test for a mutant's line
@@ -48,10 +48,11 @@ module _ (m : Mutant) (p p' : Look) (e : IsEditOf m p p') where
 
 pub unreached_is_alike : MutantsAreEdits → TestsAlikeUnreached → UnreachedIsAlike
 unfolding mutant_run
-unreached_is_alike edits law p m p' t q limit y ended miss =
-    let e = edits p m p' y in
+unreached_is_alike edited law p m p' t q limit y whole ended miss =
+    let e = edited p m p' y in
     let r = original_run p t q limit in
-    law e.edit (look p) p' (test_of t) q limit e.edited ended (λ h. let hit = reaches_true m (look p) p' e r h in let no : true ≡ false = sym hit ∙ miss in absurd cc)
+    law e.edit (look p) p' (test_of t) q limit e.edited whole ended
+    (λ h. let hit = reaches_true m (look p) p' e r h in let no : true ≡ false = sym hit ∙ miss in absurd cc)
 
 same_bool : (a b : Bool) → (a ≡ true → b ≡ true) → (b ≡ true → a ≡ true) → a ≡ b
 same_bool true b there back = sym (there refl)
@@ -63,9 +64,9 @@ module _ (p : List Info) (m : Mutant) (p' : Look) (t : Test) (q : Limits) (limit
   before = original_run p t q limit
 
   abbrev after : Ran
-  after = mutant_run q p' t before.steps
+  after = edited_run p p' t q limit
 
-  reaching : (e : IsEditOf m (look p) p') → ReachAlike e.edit (look p) before after → (reaches m after ≡ true → reaches m before ≡ true) × (NotStuckThere m after → reaches m after ≡ reaches m before)
+  reaching : (e : IsEditOf m (look p) p') → edits.ReachAlike e.edit (look p) before after → ReachAlike m before after
   reaching e k =
       let back : reaches m after ≡ true → reaches m before ≡ true = λ h. reaches_true m (look p) p' e before (k.0 (reaches_line m (look p) p' e after h)) in (
         back,
@@ -76,15 +77,15 @@ module _ (p : List Info) (m : Mutant) (p' : Look) (t : Test) (q : Limits) (limit
 
 pub reaching_is_alike : MutantsAreEdits → TestsReachAlike → ReachingIsAlike
 unfolding mutant_run
-reaching_is_alike edits law p m p' t q limit y ended =
-    let e = edits p m p' y in
-    reaching p m p' t q limit e (law e.edit (look p) p' (test_of t) q limit e.edited ended)
+reaching_is_alike edited law p m p' t q limit y whole ended =
+    let e = edited p m p' y in
+    reaching p m p' t q limit e (law e.edit (look p) p' (test_of t) q limit e.edited whole ended)
 
 pub covering_is_alike : IntJumpsGoOn → TestsReachTheSame → CoveringIsAlike
 unfolding mutant_run
-covering_is_alike edits law p m p' t q limit y jumps ended =
-    let e = edits p m p' y jumps in
+covering_is_alike edited law p m p' t q limit y jumps whole ended =
+    let e = edited p m p' y jumps in
     let r = original_run p t q limit in
-    let r' = mutant_run q p' t r.steps in
-    let k = law e.of.edit (look p) p' (test_of t) q limit e.of.edited e.goes_on_so_far ended in
+    let r' = edited_run p p' t q limit in
+    let k = law e.of.edit (look p) p' (test_of t) q limit e.of.edited e.goes_on whole ended in
     same_bool (reaches m r') (reaches m r) (λ h. reaches_true m (look p) p' e.of r (k.0 (reaches_line m (look p) p' e.of r' h))) (λ h. reaches_true m (look p) p' e.of r' (k.1 (reaches_line m (look p) p' e.of r h)))

@@ -15,7 +15,7 @@ use Rattle.mutator_ops.specs.declared.mutant.Mutant.{Mutant}
 use Rattle.mutator_ops.specs.declared.mutant.State.{State}
 use Rattle.mutant_runs.specs.Runs.{timed, mutant_run, runs_on, reaches, detected}
 use Rattle.mutant_runs.specs.Verdicts.{covering, killer, verdict_by, judged, not_viable, verdict_of}
-use Rattle.mutant_laws.specs.Covered.{original_run, UnreachedIsAlike, NotStuckThere, ReachingIsAlike, CoveringIsAlike, runs_of, SelectedSuffice}
+use Rattle.mutant_laws.specs.Covered.{original_run, edited_run, UnreachedIsAlike, NotStuckThere, ReachingIsAlike, CoveringIsAlike, runs_of, SelectedSuffice}
 
 -- ---- lists of runs
 
@@ -28,7 +28,7 @@ module _ (p : List Info) (m : Mutant) (p' : Look) (q : Limits) (limit : ℕ) whe
   before t = original_run p t q limit
 
   abbrev after : Test → Ran
-  after t = mutant_run q p' t (before t).steps
+  after t = edited_run p p' t q limit
 
   abbrev reaching : ℕ × Test → Bool
   reaching t = reaches m (before t.1)
@@ -67,24 +67,28 @@ module _ (p : List Info) (m : Mutant) (p' : Look) (q : Limits) (limit : ℕ) whe
 
 -- ---- the verdict
 
-both_ways : (p : List Info) (m : Mutant) (p' : Look) (q : Limits) (limit : ℕ) (tests : List Test) → ((t : Test) → HasEnded (original_run p t q limit).ending → NotStuckThere m (mutant_run q p' t (original_run p t q limit).steps) → Alike p m p' q limit t)
-    → AllByRecursion (Passes p m p' q limit) tests → AllByRecursion (λ t. NotStuckThere m (mutant_run q p' t (original_run p t q limit).steps)) tests → AllByRecursion (Alike p m p' q limit) tests
-both_ways p m p' q limit [] h pass past = tt
-both_ways p m p' q limit (t ∷ tests) h pass past = (h t (subst HasEnded (sym pass.0) tt) past.0, both_ways p m p' q limit tests h pass.1 past.1)
+module _ (p : List Info) (m : Mutant) (p' : Look) (q : Limits) (limit : ℕ) where
+  abbrev GoesPast : Test → Type 0
+  GoesPast t = NotStuckThere m (edited_run p p' t q limit)
 
-each_way : (p : List Info) (m : Mutant) (p' : Look) (q : Limits) (limit : ℕ) (tests : List Test) → ((t : Test) → HasEnded (original_run p t q limit).ending → Alike p m p' q limit t) → AllByRecursion (Passes p m p' q limit) tests → AllByRecursion (Alike p m p' q limit) tests
-each_way p m p' q limit [] h pass = tt
-each_way p m p' q limit (t ∷ tests) h pass = (h t (subst HasEnded (sym pass.0) tt), each_way p m p' q limit tests h pass.1)
+  both_ways : (tests : List Test) → ((t : Test) → HasEnded (original_run p t q limit).ending → GoesPast t → Alike p m p' q limit t)
+      → AllByRecursion (Passes p m p' q limit) tests → AllByRecursion GoesPast tests → AllByRecursion (Alike p m p' q limit) tests
+  both_ways [] h pass past = tt
+  both_ways (t ∷ tests) h pass past = (h t (subst HasEnded (sym pass.0) tt) past.0, both_ways tests h pass.1 past.1)
+
+  each_way : (tests : List Test) → ((t : Test) → HasEnded (original_run p t q limit).ending → Alike p m p' q limit t) → AllByRecursion (Passes p m p' q limit) tests → AllByRecursion (Alike p m p' q limit) tests
+  each_way [] h pass = tt
+  each_way (t ∷ tests) h pass = (h t (subst HasEnded (sym pass.0) tt), each_way tests h pass.1)
 
 pub selected_suffice : UnreachedIsAlike → ReachingIsAlike → CoveringIsAlike → SelectedSuffice
 unfolding verdict_of judged
-selected_suffice unreached reaching covers p m p' q limit tests y pass smooth =
+selected_suffice unreached reaching covers p m p' q limit tests y accepted whole pass smooth =
     let all = recursion_from_All (λ t. (original_run p t q limit).ending ≡ With Passed) tests pass in
     let alike : AllByRecursion (Alike p m p' q limit) tests =
-    ⊎_elim (λ jumps. each_way p m p' q limit tests (λ t h. covers p m p' t q limit y jumps h) all)
-    (λ past. both_ways p m p' q limit tests (λ t h. (reaching p m p' t q limit y h).1) all (recursion_from_All (λ t. NotStuckThere m (mutant_run q p' t (original_run p t q limit).steps)) tests past)) smooth in
-    let same : (t : Test) → HasEnded (original_run p t q limit).ending → reaches m (original_run p t q limit) ≡ false → mutant_run q p' t (original_run p t q limit).steps ≡ original_run p t q limit = λ t h. unreached p m p' t q limit y h in
+    ⊎_elim (λ jumps. each_way p m p' q limit tests (λ t h. covers p m p' t q limit y jumps whole h) all)
+    (λ past. both_ways p m p' q limit tests (λ t h. (reaching p m p' t q limit y whole h).1) all (recursion_from_All (GoesPast p m p' q limit) tests past)) smooth in
+    let same : (t : Test) → HasEnded (original_run p t q limit).ending → reaches m (original_run p t q limit) ≡ false → edited_run p p' t q limit ≡ original_run p t q limit = λ t h. unreached p m p' t q limit y whole h in
     let timed_tests = timed tests (map (λ t. (original_run p t q limit).steps) tests) in
-    ap (λ o. option_map_or (judged m) (option_map (λ made. runs_on q made timed_tests) o) not_viable) y.made
+    ap (λ o. option_map_or (judged m) (option_map (λ made. runs_on q made timed_tests) o) not_viable) accepted
     ∙ ap (λ ns. verdict_by ns (killer (enumerate_from 0 (runs_on q p' timed_tests)))) (covering_is p m p' q limit same 0 tests alike)
     ∙ ap (verdict_by _) (killer_is p m p' q limit same 0 tests all)

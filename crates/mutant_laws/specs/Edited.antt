@@ -1,4 +1,5 @@
--- The program that a mutant's edit makes is the program with one instruction edited (this project's own).
+-- The program that a mutant's edit makes is the program with one instruction edited (this project's
+-- own).
 use Rattle.std.specs.Prelude.{◌≡◌, ◌⊎◌, ◌++◌, ℕ, nat_le, ◌&&◌, Bool, true, false, List, [], ◌∷◌, All, Some}
 use Rattle.std.specs.List.{Contains}
 use Rattle.class_model.specs.declared.class.Class.{Class}
@@ -9,7 +10,6 @@ use Rattle.program_rules.specs.Programs.{Look}
 use Rattle.machine_rules.specs.Steps.{Place}
 use Rattle.edit_laws.specs.Edit.{Edit, IsEdited, edited_line}
 use Rattle.edit_laws.specs.EditLaws.{edited_place, GoesOnAlike}
-use Rattle.edits_so_far.specs.EditLaws as so_far
 use Rattle.class_link.specs.Info.{Info, IsInfo}
 use Rattle.class_table.specs.Table.{IsProgram, look}
 use Rattle.mutator_ops.specs.Laws.{IsMutant}
@@ -21,7 +21,8 @@ use Rattle.mutant_runs.specs.Programs.{files_of, edited, IsMutantOf}
 abbrev pub mutant_place : Mutant → Place
 mutant_place m = record { class = m.class; method = m.method ++ m.desc; at = m.at }
 
--- The second program is the first with one instruction edited, at the mutant's place and on its line. Of two methods of one name it's the one of the edit's number.
+-- The second program is the first with one instruction edited, at the mutant's place and on its
+-- line. Of two methods of one name it's the one of the edit's number.
 pub record IsEditOf (m : Mutant) (p p' : Look) : Type 0 where
   pub edit : Edit
   pub edited : IsEdited edit p p'
@@ -31,24 +32,26 @@ pub record IsEditOf (m : Mutant) (p p' : Look) : Type 0 where
   pub line : edited_line edit p ≡ m.line
   pub place : edited_place edit p ≡ mutant_place m
 
--- The same of an edit that goes on wherever the instruction that it replaces does, by the rules and so far.
+-- The same of an edit that goes on wherever the instruction that it replaces does.
 pub record IsSmoothEditOf (m : Mutant) (p p' : Look) : Type 0 where
   pub of : IsEditOf m p p'
   pub goes_on : GoesOnAlike of.edit p p'
-  pub goes_on_so_far : so_far.GoesOnAlike of.edit p p'
 
--- A conditional jump that compares ints (JVMS 6.5): ifeq to ifle (99 to 9e) with 0, if_icmpeq to if_icmple (9f to a4) with each other.
+-- A conditional jump that compares ints (JVMS 6.5): ifeq to ifle (99 to 9e) with 0, if_icmpeq to
+-- if_icmple (9f to a4) with each other.
 abbrev pub is_int_jump : ℕ → Bool
 is_int_jump op = nat_le 0x99 op && nat_le op 0xa4
 
--- An edit puts one such jump in the place of the old instruction: that of each mutant by ConditionalsBoundary, and of each by NegateConditionals at an instruction that is such a jump
+-- An edit puts one such jump in the place of the old instruction: that of each mutant by
+-- ConditionalsBoundary, and of each by NegateConditionals at an instruction that is such a jump
 -- too. No other mutator's edit does.
 abbrev pub puts_int_jump : List NewInsn → Bool
 puts_int_jump (Plain new ∷ []) = is_int_jump new.op
 puts_int_jump other = false
 
--- The mutant is one of a class file of the program, and its edit makes the second program. The file has a spelling, as each that was read has; an edit that exchanges jumps on ints
--- doesn't ask for it, since it adds nothing to the constant pool.
+-- The mutant is one of a class file of the program, and its edit makes the second program. The file
+-- has a spelling, as each that was read has; an edit that exchanges jumps on ints doesn't ask for
+-- it, since it adds nothing to the constant pool.
 pub record IsMutated (p : List Info) (m : Mutant) (p' : Look) : Type 0 where
   pub infos : All IsInfo p
   pub file : Class
@@ -57,20 +60,30 @@ pub record IsMutated (p : List Info) (m : Mutant) (p' : Look) : Type 0 where
   pub spelled : (puts_int_jump m.edit.with ≡ true) ⊎ IsClass file
   pub made : edited (files_of p) (look p) m ≡ Some p'
 
--- What the run of a suite keeps is what the laws ask: of each mutant that is listed of a class file of a program, where its edit is one that the class takes and makes a second program.
+-- What the run of a suite keeps is what the laws ask: of each mutant that is listed of a class file
+-- of a program, where its edit is one that the class takes and makes a second program.
 abbrev pub ListedAreMutated : Type 0
 ListedAreMutated =
-    (p : List Info) (m : Mutant) (p' : Look) (file : Class) → IsProgram p → IsMutantOf (files_of p) m → files_of p m.class ≡ Some file → Contains (class_mutants file) m
-    → edited (files_of p) (look p) m ≡ Some p' → IsMutated p m p'
+    (p : List Info) (m : Mutant) (p' : Look) (file : Class) → IsProgram p →
+    IsMutantOf (files_of p) m → files_of p m.class ≡ Some file → Contains (class_mutants file) m →
+    edited (files_of p) (look p) m ≡ Some p' → IsMutated p m p'
 
--- The program that a mutant's edit makes is the program with one instruction edited, whichever mutator it is of and however many instructions it puts there.
+-- The program that a mutant's edit makes is the program with one instruction edited, whichever
+-- mutator it is of and however many instructions it puts there.
 abbrev pub MutantsAreEdits : Type 0
-MutantsAreEdits = (p : List Info) (m : Mutant) (p' : Look) → IsMutated p m p' → IsEditOf m (look p) p'
+MutantsAreEdits =
+    (p : List Info) (m : Mutant) (p' : Look) → IsMutated p m p' → IsEditOf m (look p) p'
 
--- The edit of a mutant that exchanges jumps on ints goes on wherever the jump that it replaces does.
+-- The edit of a mutant that exchanges jumps on ints goes on wherever the jump that it replaces
+-- does.
 abbrev pub IntJumpsGoOn : Type 0
-IntJumpsGoOn = (p : List Info) (m : Mutant) (p' : Look) → IsMutated p m p' → puts_int_jump m.edit.with ≡ true → IsSmoothEditOf m (look p) p'
+IntJumpsGoOn =
+    (p : List Info) (m : Mutant) (p' : Look) → IsMutated p m p' →
+    puts_int_jump m.edit.with ≡ true → IsSmoothEditOf m (look p) p'
 
--- Each mutant of an instruction that is a conditional jump on ints puts such a jump there, and so goes on wherever that does.
+-- Each mutant of an instruction that is a conditional jump on ints puts such a jump there, and so
+-- goes on wherever that does.
 abbrev pub IntJumpsAreExchanged : Type 0
-IntJumpsAreExchanged = (class : Class) (m : Mutant) (x : IsMutant class m) → is_int_jump x.insn.op ≡ true → puts_int_jump m.edit.with ≡ true
+IntJumpsAreExchanged =
+    (class : Class) (m : Mutant) (x : IsMutant class m) → is_int_jump x.insn.op ≡ true →
+    puts_int_jump m.edit.with ≡ true

@@ -1,3 +1,4 @@
 pub mod Edited
 pub mod Covered
+pub mod Accepted
 pub mod Witness

@@ -1,5 +1,5 @@
 -- A program and a mutant that meet the premises of the laws (this project's own).
-use Rattle.std.specs.Prelude.{◌≡◌, ℕ, ⊤, pos, negsuc, true, false, List, [], ◌∷◌, All, Some, None, codes}
+use Rattle.std.specs.Prelude.{◌≡◌, ℕ, ⊤, pos, negsuc, true, false, List, [], ◌∷◌, ◌++◌, map, All, Some, None, codes}
 use Rattle.std.specs.List.{Contains}
 use Rattle.class_model.specs.declared.attribute.Attr.{Attr, roll-Attr}
 use Rattle.class_model.specs.declared.attribute.Body.{Body}
@@ -17,13 +17,14 @@ use Rattle.class_model.specs.declared.kind.Kind.TheVariants as kind
 use Rattle.class_model.specs.declared.mutator.Mutator.TheVariants.{ConditionalsBoundary}
 use Rattle.class_reader.specs.Spells.{Spells}
 use Rattle.program_rules.specs.declared.call_kind.CallKind.TheVariants.{Make, TestMethod}
+use Rattle.program_rules.specs.declared.making.Making.TheVariants as making
 use Rattle.program_rules.specs.declared.operation.Comparison.TheVariants.{IsAtLeast}
+use Rattle.program_rules.specs.Deeds.{making_name}
 use Rattle.program_rules.specs.Names.{Name, object_name, instance_initializer, plain_descriptor}
 use Rattle.program_rules.specs.Programs.{Look}
 use Rattle.machine_rules.specs.declared.machine.Limits.{Limits}
-use Rattle.machine_rules.specs.declared.machine.Outcome.TheVariants.{Passed}
-use Rattle.machine_rules.specs.Runs.{With}
 use Rattle.machine_rules.specs.Worked.{roomy}
+use Rattle.machine_laws.specs.Consulted.{IsLibraryWhole}
 use Rattle.machine_laws.specs.FrameLaw.{HasEnded}
 use Rattle.class_link.specs.declared.frames.FrameShape.TheVariants.{SameLocals}
 use Rattle.class_link.specs.declared.instruction.Instruction.{Instruction}
@@ -41,14 +42,15 @@ use Rattle.class_link.specs.declared.loaded.LibBody.TheVariants as lib
 use Rattle.class_link.specs.Info.{Info}
 use Rattle.class_table.specs.declared.scripted.Test.{Test}
 use Rattle.class_table.specs.Table.{IsProgram, look}
+use Rattle.jvm_world.specs.Classes.{machine_names}
 use Rattle.mutator_ops.specs.Laws.{IsMutant}
 use Rattle.mutator_ops.specs.Mutants.{class_mutants}
 use Rattle.mutator_ops.specs.declared.mutant.Mutant.{Mutant}
 use Rattle.apply_laws.specs.Witness.{sample_file}
-use Rattle.mutant_runs.specs.Programs.{files_of, with_class, edited, IsMutantOf}
+use Rattle.mutant_runs.specs.Programs.{files_of, with_class, edited, viable, IsMutantOf}
 use Rattle.mutant_runs.specs.Runs.{reaches}
 use Rattle.mutant_laws.specs.Edited.{IsMutated, is_int_jump, puts_int_jump}
-use Rattle.mutant_laws.specs.Covered.{original_run}
+use Rattle.mutant_laws.specs.Covered.{original_run, AllPass}
 
 -- ---- class files
 
@@ -220,8 +222,46 @@ object_info = record {
   };
 }
 
+-- A class of the library below Object, without fields and methods.
+abbrev pub bare_info : Name → Info
+bare_info name = record {
+  name = name;
+  body =
+      body.Library (record {
+        name = name;
+        parent = Some object_name;
+        interfaces = [];
+        flags = 33;
+        pool = [];
+        fields = [];
+        methods = [];
+      });
+  linked = record {
+    library = true;
+    flags = 33;
+    parent = Some object_name;
+    interfaces = [];
+    fields = [];
+    methods = [];
+    entries = entry.Other ∷ [];
+  };
+}
+
+-- The classes of which native methods make objects.
+abbrev pub made_names : List Name
+made_names =
+    making_name making.Text ∷ making_name making.List ∷ making_name making.Set
+    ∷ making_name making.Iterator ∷ making_name making.Optional ∷ making_name making.Integer
+    ∷ making_name making.Long ∷ making_name making.Short ∷ making_name making.Byte
+    ∷ making_name making.Character ∷ making_name making.Boolean ∷ []
+
+-- What a library has to have to be whole, but for Object.
+abbrev pub bare_names : List Name
+bare_names = machine_names ++ made_names
+
+-- The library is the least that is whole.
 abbrev pub sample_program : List Info
-sample_program = a_info ∷ t_info ∷ object_info ∷ []
+sample_program = a_info ∷ t_info ∷ object_info ∷ map bare_info bare_names
 
 -- The mutant of the jump in `f` with ifgt (9d) in its place.
 abbrev pub sample_mutant : Mutant
@@ -263,23 +303,30 @@ IsSpelled (body.File loaded) = Spells loaded.bytes loaded.class
 IsSpelled (body.Edited e) = Spells e.bytes (class_edited e)
 IsSpelled (body.Library c) = ⊤
 
--- All that the laws ask: of a program and a mutant of one of its class files; of a mutant of a jump on ints; and of tests, of which one reaches the mutant's line and one doesn't. Both pass.
-pub record ArePremises (p : List Info) (file : Class) (m : Mutant) (p' : Look) (q : Limits) (limit : ℕ) (reaching missing : Test) : Type 0 where
+-- All that the laws ask: of a program with a whole library and a mutant of one of its class files,
+-- whose edited class is accepted; of a mutant of a jump on ints; and of tests, of which one reaches
+-- the mutant's line and one doesn't. Both pass.
+pub record ArePremises (p : List Info) (file : Class) (m : Mutant) (p' : Look) (q : Limits)
+    (limit : ℕ) (reaching missing : Test) : Type 0 where
   pub program : IsProgram p
+  pub whole : IsLibraryWhole (look p)
   pub spelled : All (λ i. IsSpelled i.body) p
   pub of : IsMutantOf (files_of p) m
   pub found : files_of p m.class ≡ Some file
   pub listed : Contains (class_mutants file) m
   pub made : edited (files_of p) (look p) m ≡ Some p'
+  pub accepted : viable (files_of p) (look p) m ≡ Some p'
   pub mutated : IsMutated p m p'
   pub mutant : IsMutant file m
   pub jumps : is_int_jump mutant.insn.op ≡ true
   pub puts : puts_int_jump m.edit.with ≡ true
-  pub passed : All (λ t. (original_run p t q limit).ending ≡ With Passed) (reaching ∷ missing ∷ [])
+  pub passed : AllPass p q limit (reaching ∷ missing ∷ [])
   pub reaching_ended : HasEnded (original_run p reaching q limit).ending
   pub missing_ended : HasEnded (original_run p missing q limit).ending
   pub reached : reaches m (original_run p reaching q limit) ≡ true
   pub missed : reaches m (original_run p missing q limit) ≡ false
 
 abbrev pub PremisesAreMet : Type 0
-PremisesAreMet = ArePremises sample_program (a_jumping 0x9c) sample_mutant sample_mutated roomy 1000000000 neg_test idle_test
+PremisesAreMet =
+    ArePremises sample_program (a_jumping 0x9c) sample_mutant sample_mutated roomy 1000000000
+    neg_test idle_test

@@ -6,17 +6,21 @@
 
 ghost use Rattle.mutant_laws.specs.Edited.{ListedAreMutated, MutantsAreEdits, IntJumpsGoOn, IntJumpsAreExchanged};
 ghost use Rattle.mutant_laws.specs.Covered.{UnreachedIsAlike, ReachingIsAlike, CoveringIsAlike, SelectedSuffice};
+ghost use Rattle.mutant_laws.specs.Accepted.{ViableAreNeverStuck, SelectedAlwaysSuffice};
 ghost use Rattle.mutant_laws.specs.Witness.{PremisesAreMet};
 
 use apply_laws::what_is_spelled_is_named;
 use class_reader::files_are_read_as_spelled;
 use class_writer::what_is_spelled_is_written;
-use edits_so_far::{
-    runs_so_far_reach_the_line_alike, runs_so_far_reach_the_line_the_same,
-    unreached_runs_so_far_are_alike,
+use edit_laws::{
+    runs_reach_the_line_alike, runs_reach_the_line_the_same, unreached_runs_are_alike,
 };
 use mutant_apply::{applied_is_made, mutants_fit};
 use mutator_ops::listed_exactly;
+use order_laws::ordered_is_built;
+use type_laws::{
+    accepted_code_is_never_stuck, an_edit_is_judged_by_its_class, first_faults_are_found,
+};
 
 /// Each mutant that is listed of a class file of a program meets what the laws below ask of it: by
 /// what every program keeps, and by what is asked where the tests of a suite are run on a mutant.
@@ -51,35 +55,35 @@ pub fn int_jumps_go_on()
 }
 
 /// A test that ended and doesn't reach the mutant's class and line runs on the mutant exactly as on
-/// the program.
+/// the program, where the library is whole.
 pub fn unreached_mutants_run_alike()
     ensures { UnreachedIsAlike }
 {
     mutants_are_edits();
-    unreached_runs_so_far_are_alike();
+    unreached_runs_are_alike();
 }
 
 /// A test that ended reaches the mutant's class and line where its run on the mutant does; and where
-/// it does so does that run, unless it is stuck right at the mutant's place.
+/// it does so does that run, unless it is stuck right at the mutant's place. The library is whole.
 pub fn mutants_are_reached_alike()
     ensures { ReachingIsAlike }
 {
     mutants_are_edits();
-    runs_so_far_reach_the_line_alike();
+    runs_reach_the_line_alike();
 }
 
 /// A test that ended reaches the class and line of a mutant that exchanges jumps on ints exactly
-/// where its run on the mutant does.
+/// where its run on the mutant does, where the library is whole.
 pub fn mutants_are_covered_alike()
     ensures { CoveringIsAlike }
 {
     int_jumps_go_on();
-    runs_so_far_reach_the_line_the_same();
+    runs_reach_the_line_the_same();
 }
 
-/// Where all tests pass and no run on the mutant is stuck right at its place, a mutant's verdict by
-/// the runs of all tests is that by the tests whose original runs reach its class and line, so no
-/// other test need be run on it. Of a mutant that exchanges jumps on ints it is so in any case.
+/// Where all tests pass and no run on a viable mutant is stuck right at its place, its verdict by the
+/// runs of all tests is that by the tests whose original runs reach its class and line, so no other
+/// test need be run on it. Of a mutant that exchanges jumps on ints it is so in any case.
 pub fn selected_tests_suffice()
     ensures { SelectedSuffice }
 {
@@ -88,8 +92,29 @@ pub fn selected_tests_suffice()
     mutants_are_covered_alike();
 }
 
-/// What these laws ask is met: by a program of a class A, of tests T and of Object, by the mutant of
-/// A's jump with its bound moved, and by two tests that pass, one of which reaches the mutant's line.
+/// No run on a viable mutant of a program that is built and accepted is stuck.
+pub fn viable_mutants_are_never_stuck()
+    ensures { ViableAreNeverStuck }
+{
+    mutants_are_edits();
+    first_faults_are_found();
+    an_edit_is_judged_by_its_class();
+    ordered_is_built();
+    accepted_code_is_never_stuck();
+}
+
+/// Where all tests pass on such a program, whose library is whole, the verdict on each viable mutant
+/// is that by the tests whose original runs reach its class and line.
+pub fn selected_tests_always_suffice()
+    ensures { SelectedAlwaysSuffice }
+{
+    viable_mutants_are_never_stuck();
+    selected_tests_suffice();
+}
+
+/// What the other laws ask is met: by a program of a class A, of tests T and of the least library
+/// that is whole, by the mutant of A's jump with its bound moved, whose class is accepted, and by two
+/// tests that pass, one of which reaches the mutant's line.
 pub fn mutant_laws_are_of_use()
     ensures { PremisesAreMet }
 {

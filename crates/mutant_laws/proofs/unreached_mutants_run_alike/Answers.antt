@@ -2,4 +2,4 @@ use Rattle.mutant_laws.proofs.RunLaws as runs
 use Rattle.mutant_laws.proofs.unreached_mutants_run_alike.Goals as goal
 
 pub returns : goal.returns
-returns c = runs.unreached_is_alike c.mutants_are_edits.ensures c.unreached_runs_so_far_are_alike.ensures
+returns c = runs.unreached_is_alike c.mutants_are_edits.ensures c.unreached_runs_are_alike.ensures.tests
