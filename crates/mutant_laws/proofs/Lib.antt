@@ -14,4 +14,6 @@ mod SelectedLaws
 mod Alike
 mod AcceptedLaws
 mod Premises
+mod WitnessProgram
+mod WitnessSafe
 mod WitnessLaws

@@ -41,6 +41,7 @@ use Rattle.program_rules.specs.declared.making.Making.{Making}
 use Rattle.program_rules.specs.declared.making.Making.TheVariants as making
 use Rattle.program_rules.specs.Deeds.{making_name}
 use Rattle.type_rules.specs.Faults.{Placed, class_fault}
+use Rattle.type_rules.specs.References.{throwable_name}
 use Rattle.type_rules.specs.Rows.{row}
 use Rattle.type_rules.specs.Rules.{method_fault}
 use Rattle.machine_rules.specs.Initialisation.{need_of}
@@ -51,6 +52,7 @@ use Rattle.machine_rules.specs.Runs.{With}
 use Rattle.machine_rules.specs.Worked.{roomy}
 use Rattle.machine_laws.specs.Consulted.{Seen, AllSeen, IsLibraryWhole}
 use Rattle.machine_laws.specs.FrameLaw.{HasEnded}
+use Rattle.type_laws.specs.Faults.{FaultlessAreAccepted}
 use Rattle.class_link.specs.Info.{Info, IsInfo, class_of}
 use Rattle.class_link.specs.Linking.{link, link_library}
 use Rattle.class_link.specs.Opcodes.{instruction_by}
@@ -66,21 +68,18 @@ use Rattle.mutant_apply.specs.Laws.{MutantsFit}
 use Rattle.apply_laws.specs.Witness.{sample_file}
 use Rattle.mutant_runs.specs.Programs.{files_of, edited, viable, with_accepted, IsMutantOf}
 use Rattle.mutant_runs.specs.Runs.{reaches}
-use Rattle.mutant_laws.specs.Edited.{is_int_jump}
+use Rattle.mutant_laws.specs.Edited.{IsMutated, is_int_jump}
 use Rattle.mutant_laws.specs.Covered.{original_run}
-use Rattle.mutant_laws.specs.Witness.{a_jumping, t_class, t_file, a_info, t_info, object_info, bare_info, bare_names, sample_program, sample_mutant, sample_mutated, neg_test, idle_test, IsSpelled, PremisesAreMet}
+use Rattle.mutant_laws.specs.Witness.{a_jumping, t_class, t_file, a_info, t_info, object_info, throwable_info, interface_info, bare_info, object_names, fault_names, sample_program, sample_mutant, sample_mutated, neg_test, idle_test, IsSpelled, PremisesAreMet}
 use Rattle.mutant_laws.proofs.Premises.{listed_are_mutated}
-use Rattle.mutant_laws.proofs.Ranges.{each, each_in}
+use Rattle.mutant_laws.proofs.WitnessProgram.{of_all, program, whole}
+use Rattle.mutant_laws.proofs.WitnessSafe as safe
 
 -- ---- the class files, each definition of the reading opened
 
 and_first : (x y : Bool) → (x && y) ≡ true → x ≡ true
 and_first true y e = refl
 and_first false y e = absurd cc
-
-or_false : (b : Bool) → (b || false) ≡ true → b ≡ true
-or_false true e = refl
-or_false false e = absurd cc
 
 and_second : (x y : Bool) → (x && y) ≡ true → y ≡ true
 and_second true y e = e
@@ -104,180 +103,6 @@ a_spelled read = (read sample_file (a_jumping 0x9c) (bytes_are sample_file refl)
 
 t_spelled : ReadIsSpelled → Spells t_file t_class
 t_spelled read = (read t_file t_class (bytes_are t_file refl)).0 t_read
-
--- ---- the infos
-
-a_is : IsInfo a_info
-unfolding linked_of link instruction_of instruction_by hidden-the_row-Attr-0 shape-the_row-Attr-0 shown-the_row-Attr-0 roll-Code hidden roll shown out out-Body out-Code parameters_at
-a_is = record { name = refl; linked = refl; entries = refl; few = lit< tt }
-
-t_is : IsInfo t_info
-unfolding linked_of link instruction_of instruction_by hidden-the_row-Attr-0 shape-the_row-Attr-0 shown-the_row-Attr-0 roll-Code hidden roll shown out out-Body out-Code parameters_at
-t_is = record { name = refl; linked = refl; entries = refl; few = lit< tt }
-
-object_is : IsInfo object_info
-unfolding linked_of link_library parameters_at
-object_is = record { name = refl; linked = refl; entries = refl; few = lit< tt }
-
-bare_is : (n : Name) → IsInfo (bare_info n)
-unfolding linked_of link_library
-bare_is n = record { name = refl; linked = refl; entries = refl; few = lit< tt }
-
--- so it is of each of these
-each_bare : (P : Info → Type 0) → ((n : Name) → P (bare_info n)) → (ns : List Name) → AllByRecursion P (map bare_info ns)
-each_bare P is [] = tt
-each_bare P is (n ∷ ns) = (is n, each_bare P is ns)
-
-of_all : (P : Info → Type 0) → P a_info → P t_info → P object_info → ((n : Name) → P (bare_info n)) → AllByRecursion P sample_program
-of_all P a t object bare = (a, (t, (object, each_bare P bare bare_names)))
-
--- ---- the classes of the program by name
-
--- the place of the name at a place
-is_placed : ℕ → Option ℕ → Bool
-is_placed i None = false
-is_placed i (Some j) = nat_eq j i
-
-stands : ℕ → Bool
-stands i = is_placed i (place_in (names sample_program) (name_or_none (slice_get (names sample_program) i)))
-
-all_stand : each stands 37 0 ≡ true
-unfolding each stands is_placed
-all_stand = refl
-
-placed_there : (i : ℕ) (o : Option ℕ) → is_placed i o ≡ true → o ≡ Some i
-unfolding is_placed
-placed_there i None e = absurd cc
-placed_there i (Some j) e = ap Some (eqb-true j i e)
-
-distinct : AreDistinct (names sample_program)
-unfolding stands
-distinct i lt = placed_there i _ (each_in stands 37 0 i all_stand (omega arith) (let few : i < 37 = lt in omega (arith, few)))
-
-found_case : (P : Name → Option Linked → Type 0) (f : ℕ → Option Linked) (k : ℕ) (m n : Name) (c : Linked) (rest : Option ℕ) (b : Bool) → b ≡ same m n → f k ≡ Some c → P m (Some c) → P n (option_and_then f rest) → P n (option_and_then f (if b then Some k else rest))
-found_case P f k m n c rest true e here is later = subst (P n) (sym here) (subst (λ z. P z (Some c)) (same_text m n e) is)
-found_case P f k m n c rest false e here is later = later
-
-found_from : (P : Name → Option Linked → Type 0) (f : ℕ → Option Linked) (k : ℕ) (n : Name) (p : List Info) → P n None → AllByRecursion (λ i. P i.name (Some (class_of i))) p → ((j : ℕ) → f (k + j) ≡ option_map class_of (slice_get p j)) → P n (option_and_then f (place_from n k (names p)))
-found_from P f k n [] none all is = none
-found_from P f k n (i ∷ p) none all is =
-    found_case P f k i.name n (class_of i) (place_from n (suc k) (names p)) (same i.name n) refl (ap f (let e : k ≡ k + 0 = omega arith in e) ∙ is 0) all.0
-    (found_from P f (suc k) n p none all.1 (λ j. ap f (let e : suc k + j ≡ k + suc j = omega arith in e) ∙ is (suc j)))
-
--- what is so of each class, and of none, is so of the class of each name
-of_each : (P : Name → Option Linked → Type 0) → ((n : Name) → P n None) → AllByRecursion (λ i. P i.name (Some (class_of i))) sample_program → (n : Name) → P n (look sample_program n)
-of_each P none all n = found_from P (class_of_number sample_program) 0 n sample_program (none n) all (λ j. ap (class_of_number sample_program) (let e : 0 + j ≡ j = omega arith in e))
-
--- ---- the program
-
-abbrev IsPresent : Name → Option Linked → Type 0
-IsPresent n o = (lacks_superclass n o || list_any (λ m. is_none (look sample_program m)) (parents_of o)) ≡ false
-
-present : (n : Name) → is_super_missing (look sample_program) n ≡ false
-unfolding linked_of
-present n = of_each IsPresent (λ m. refl) (of_all (λ i. IsPresent i.name (Some (class_of i))) refl refl refl (λ m. refl)) n
-
--- above a class stands Object alone, or none
-abbrev IsLow : Name → Option Linked → Type 0
-IsLow n o = (parents_of o ≡ []) ⊎ (parents_of o ≡ object_name ∷ [])
-
-low : (n : Name) → IsLow n (look sample_program n)
-unfolding linked_of
-low n = of_each IsLow (λ m. inl refl) (of_all (λ i. IsLow i.name (Some (class_of i))) (inr refl) (inr refl) (inl refl) (λ m. inr refl)) n
-
-few_above : (ns : List Name) → (ns ≡ []) ⊎ (ns ≡ object_name ∷ []) → length ns < 2 ^ 32
-few_above ns k = ⊎_elim (λ e. subst (λ (l : List Name). length l < 2 ^ 32) (sym e) (lit< tt)) (λ e. subst (λ (l : List Name). length l < 2 ^ 32) (sym e) (lit< tt)) k
-
--- Object has none
-object_first : (m : Name) → is_listed m (object_name ∷ []) ≡ true → length (parents_of (look sample_program m)) < 1
-unfolding linked_of
-object_first m l = subst (λ k. length (parents_of (look sample_program k)) < 1) (same_text object_name m (sym (or_false (same object_name m) l))) (lit< tt)
-
-lower_by : (ns : List Name) (m : Name) → (ns ≡ []) ⊎ (ns ≡ object_name ∷ []) → is_listed m ns ≡ true → length (parents_of (look sample_program m)) < length ns
-lower_by ns m k l =
-    ⊎_elim
-    (λ e. let no : is_listed m [] ≡ true = subst (λ (x : List Name). is_listed m x ≡ true) e l in absurd cc)
-    (λ e. subst (λ (x : List Name). length (parents_of (look sample_program m)) < length x) (sym e) (object_first m (subst (λ (x : List Name). is_listed m x ≡ true) e l)))
-    k
-
-ranks : HasRanks (look sample_program)
-ranks = record {
-  rank = λ n. length (parents_of (look sample_program n));
-  few = λ n. few_above (parents_of (look sample_program n)) (low n);
-  lower = λ n m l. lower_by (parents_of (look sample_program n)) m (low n) l;
-}
-
-program : IsProgram sample_program
-program = record { few = lit< tt; distinct = distinct; meant = All-from_recursion IsInfo sample_program (of_all IsInfo a_is t_is object_is bare_is); present = present; ranks = ranks }
-
--- ---- its library
-
-seen_one : (n : Name) → is_library (look sample_program n) ≡ true → Seen (look sample_program) [] n
-seen_one n l = ap (λ b. b || false) l
-
-seen_end : (ns : List Name) → AllSeen (look sample_program) [] ns → AllSeen (look sample_program) [] (ns ++ [])
-seen_end [] h = tt
-seen_end (n ∷ ns) h = (h.0, seen_end ns h.1)
-
-joined_seen : (go : Name → List Name) → AllSeen (look sample_program) [] (go object_name) → (ns : List Name) → (ns ≡ []) ⊎ (ns ≡ object_name ∷ []) → AllSeen (look sample_program) [] (concat_over go ns)
-joined_seen go h ns k =
-    ⊎_elim (λ e. subst (λ (l : List Name). AllSeen (look sample_program) [] (concat_over go l)) (sym e) tt) (λ e. subst (λ (l : List Name). AllSeen (look sample_program) [] (concat_over go l)) (sym e) (seen_end (go object_name) h)) k
-
-object_there : is_library (look sample_program object_name) ≡ true
-unfolding linked_of
-object_there = refl
-
--- above a class of the library stands none that isn't
-seen_within : (k : ℕ) (n : Name) → is_library (look sample_program n) ≡ true → AllSeen (look sample_program) [] (supers_within k (look sample_program) n)
-seen_within zero n l = (seen_one n l, tt)
-seen_within (suc k) n l = (seen_one n l, joined_seen (supers_within k (look sample_program)) (seen_within k object_name object_there) (parents_of (look sample_program n)) (low n))
-
-supers_seen : (n : Name) → is_library (look sample_program n) ≡ true → AllSeen (look sample_program) [] (supers (look sample_program) n)
-unfolding supers
-supers_seen n l = seen_within 4294967296 n l
-
-faults_there : (x : Fault) → is_library (look sample_program (fault_name x)) ≡ true
-unfolding linked_of
-faults_there fault.StackOverflowError = refl
-faults_there fault.AssertionError = refl
-faults_there fault.NullPointerException = refl
-faults_there fault.NoClassDefFoundError = refl
-faults_there fault.NoSuchFieldError = refl
-faults_there fault.NoSuchMethodError = refl
-faults_there fault.IncompatibleClassChangeError = refl
-faults_there fault.AbstractMethodError = refl
-faults_there fault.InstantiationError = refl
-faults_there fault.ExceptionInInitializerError = refl
-faults_there fault.ArithmeticException = refl
-faults_there fault.ArrayIndexOutOfBoundsException = refl
-faults_there fault.NegativeArraySizeException = refl
-faults_there fault.ArrayStoreException = refl
-faults_there fault.ClassCastException = refl
-faults_there fault.IllegalMonitorStateException = refl
-faults_there fault.IndexOutOfBoundsException = refl
-faults_there fault.StringIndexOutOfBoundsException = refl
-faults_there fault.IllegalArgumentException = refl
-faults_there fault.NumberFormatException = refl
-faults_there fault.UnsupportedOperationException = refl
-faults_there fault.NoSuchElementException = refl
-
-makings_there : (m : Making) → is_library (look sample_program (making_name m)) ≡ true
-unfolding linked_of
-makings_there making.Text = refl
-makings_there making.List = refl
-makings_there making.Set = refl
-makings_there making.Iterator = refl
-makings_there making.Optional = refl
-makings_there making.Integer = refl
-makings_there making.Long = refl
-makings_there making.Short = refl
-makings_there making.Byte = refl
-makings_there making.Character = refl
-makings_there making.Boolean = refl
-
-whole : IsLibraryWhole (look sample_program)
-unfolding linked_of
-whole = record { supers = supers_seen; faults = faults_there; makings = makings_there; object = refl; text = refl; class = refl }
 
 -- ---- the mutant
 
@@ -330,22 +155,25 @@ idle_misses = refl
 
 -- ---- the premises
 
-pub premises_are_met : ReadIsSpelled → SpelledIsWritten → MutantsFit → PremisesAreMet
-premises_are_met read written fit =
+pub premises_are_met : ReadIsSpelled → SpelledIsWritten → MutantsFit → FaultlessAreAccepted → PremisesAreMet
+premises_are_met read written fit law =
     let spelled = a_spelled read in
     let form : HasClassForm (a_jumping 0x9c) = (written sample_file (a_jumping 0x9c) spelled).0 in
     let fits = subst (λ (m : Mutant). Fits (a_jumping 0x9c) m.edit) listed.2 (fit (a_jumping 0x9c) form listed.0 sample_mutant listed.1) in
     let of : IsMutantOf (files_of sample_program) sample_mutant = (form, fits, spelled.form) in
+    let mutated : IsMutated sample_program sample_mutant sample_mutated = listed_are_mutated sample_program sample_mutant sample_mutated (a_jumping 0x9c) program of found listed made in
     record {
       program = program;
       whole = whole;
-      spelled = All-from_recursion (λ (i : Info). IsSpelled i.body) sample_program (of_all (λ i. IsSpelled i.body) spelled (t_spelled read) tt (λ n. tt));
+      spelled = All-from_recursion (λ (i : Info). IsSpelled i.body) sample_program (of_all (λ i. IsSpelled i.body) spelled (t_spelled read) tt tt (λ n. tt) (λ n. tt) (λ n. tt));
       of = of;
       found = found;
       listed = listed;
       made = made;
       accepted = accepted;
-      mutated = listed_are_mutated sample_program sample_mutant sample_mutated (a_jumping 0x9c) program of found listed made;
+      safe = record { safe = safe.is_safe law; mutated = mutated; accepted = accepted; linked = safe.linked };
+      fit = safe.fit;
+      mutated = mutated;
       mutant = mutant;
       jumps = jumps;
       puts = refl;

@@ -1,5 +1,6 @@
 -- Mutants of accepted programs, on which no run is stuck.
-use Rattle.std.specs.Prelude.{◌≡◌, ℕ, List, All, Some, None}
+use Rattle.std.specs.Prelude.{◌≡◌, ℕ, List, All, map, Some, None}
+use Rattle.std.specs.Option.{option_map}
 use Rattle.program_rules.specs.Programs.{Look}
 use Rattle.machine_rules.specs.declared.machine.Limits.{Limits}
 use Rattle.machine_rules.specs.Runs.{run_of}
@@ -9,6 +10,7 @@ use Rattle.type_laws.specs.Soundness.{HasFaults, HasLibrary, HasLayout, Meanings
 use Rattle.type_laws.specs.States.{ScriptFits}
 use Rattle.order_laws.specs.Ordered.{HasArrays}
 use Rattle.class_link.specs.Info.{Info}
+use Rattle.class_link.specs.Symbols.{kind_of, kind_stated, type_stated}
 use Rattle.class_table.specs.declared.scripted.Test.{Test}
 use Rattle.class_table.specs.Faults.{HasRightKinds}
 use Rattle.class_table.specs.Table.{IsProgram, look}
@@ -55,3 +57,13 @@ SelectedAlwaysSuffice =
     (p : List Info) (m : Mutant) (p' : Look) (d : Meanings) (q : Limits) (limit : ℕ)
     (tests : List Test) → IsSafeMutant p m p' d → IsLibraryWhole (look p) →
     All (FitsProgram p) tests → AllPass p q limit tests → SelectedGive p m p' q limit tests
+
+-- ---- descriptors
+
+-- What descriptors mean by their grammar (JVMS 4.3), which is what linking takes kinds from.
+abbrev pub descriptors : Meanings
+descriptors = record {
+  args = λ desc. map kind_of (type_stated desc).args;
+  result = λ desc. option_map kind_of (type_stated desc).ret;
+  field = λ desc. kind_of (kind_stated desc);
+}

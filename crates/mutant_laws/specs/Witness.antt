@@ -1,5 +1,5 @@
 -- A program and a mutant that meet the premises of the laws (this project's own).
-use Rattle.std.specs.Prelude.{◌≡◌, ℕ, ⊤, pos, negsuc, true, false, List, [], ◌∷◌, ◌++◌, map, All, Some, None, codes}
+use Rattle.std.specs.Prelude.{◌≡◌, ℕ, ⊤, pos, negsuc, true, false, List, [], ◌∷◌, ◌++◌, map, take, All, Some, None, codes}
 use Rattle.std.specs.List.{Contains}
 use Rattle.class_model.specs.declared.attribute.Attr.{Attr, roll-Attr}
 use Rattle.class_model.specs.declared.attribute.Body.{Body}
@@ -20,10 +20,11 @@ use Rattle.program_rules.specs.declared.call_kind.CallKind.TheVariants.{Make, Te
 use Rattle.program_rules.specs.declared.making.Making.TheVariants as making
 use Rattle.program_rules.specs.declared.operation.Comparison.TheVariants.{IsAtLeast}
 use Rattle.program_rules.specs.Deeds.{making_name}
-use Rattle.program_rules.specs.Names.{Name, object_name, instance_initializer, plain_descriptor}
+use Rattle.program_rules.specs.Names.{Name, object_name, string_name, class_name, descriptor_of, instance_initializer, plain_descriptor}
 use Rattle.program_rules.specs.Programs.{Look}
 use Rattle.machine_rules.specs.declared.machine.Limits.{Limits}
 use Rattle.machine_rules.specs.Worked.{roomy}
+use Rattle.type_rules.specs.References.{throwable_name}
 use Rattle.machine_laws.specs.Consulted.{IsLibraryWhole}
 use Rattle.machine_laws.specs.FrameLaw.{HasEnded}
 use Rattle.class_link.specs.declared.frames.FrameShape.TheVariants.{SameLocals}
@@ -32,6 +33,7 @@ use Rattle.class_link.specs.declared.instruction.Instruction.TheVariants as code
 use Rattle.class_link.specs.declared.linked.Entry.TheVariants as entry
 use Rattle.class_link.specs.declared.linked.LinkedBody.TheVariants as linked_body
 use Rattle.class_link.specs.declared.linked.LinkedClass.{LinkedClass}
+use Rattle.class_link.specs.declared.linked.LinkedField.{LinkedField}
 use Rattle.class_link.specs.declared.linked.LinkedMethod.{LinkedMethod}
 use Rattle.library_rules.specs.declared.native.ObjectNative.TheVariants.{DoNothing}
 use Rattle.library_rules.specs.Places.{as_object}
@@ -39,6 +41,7 @@ use Rattle.class_link.specs.declared.loaded.ClassBody.{ClassBody}
 use Rattle.class_link.specs.declared.loaded.ClassBody.TheVariants as body
 use Rattle.class_link.specs.Edits.{class_edited}
 use Rattle.class_link.specs.declared.loaded.LibBody.TheVariants as lib
+use Rattle.class_link.specs.declared.loaded.LibField.{LibField}
 use Rattle.class_link.specs.Info.{Info}
 use Rattle.class_table.specs.declared.scripted.Test.{Test}
 use Rattle.class_table.specs.Table.{IsProgram, look}
@@ -51,6 +54,7 @@ use Rattle.mutant_runs.specs.Programs.{files_of, with_class, edited, viable, IsM
 use Rattle.mutant_runs.specs.Runs.{reaches}
 use Rattle.mutant_laws.specs.Edited.{IsMutated, is_int_jump, puts_int_jump}
 use Rattle.mutant_laws.specs.Covered.{original_run, AllPass}
+use Rattle.mutant_laws.specs.Accepted.{descriptors, FitsProgram, IsSafeMutant}
 
 -- ---- class files
 
@@ -222,46 +226,77 @@ object_info = record {
   };
 }
 
--- A class of the library below Object, without fields and methods.
-abbrev pub bare_info : Name → Info
-bare_info name = record {
+-- A class of the library with these flags, below another one, without methods.
+abbrev library_info : ℕ → Name → List LibField → List LinkedField → Name → Info
+library_info flags parent fields linked name = record {
   name = name;
   body =
       body.Library (record {
         name = name;
-        parent = Some object_name;
+        parent = Some parent;
         interfaces = [];
-        flags = 33;
+        flags = flags;
         pool = [];
-        fields = [];
+        fields = fields;
         methods = [];
       });
   linked = record {
     library = true;
-    flags = 33;
-    parent = Some object_name;
+    flags = flags;
+    parent = Some parent;
     interfaces = [];
-    fields = [];
+    fields = linked;
     methods = [];
     entries = entry.Other ∷ [];
   };
 }
 
--- The classes of which native methods make objects.
-abbrev pub made_names : List Name
-made_names =
-    making_name making.Text ∷ making_name making.List ∷ making_name making.Set
+-- A class without fields, and an interface.
+abbrev pub bare_info : Name → Name → Info
+bare_info parent name = library_info 33 parent [] [] name
+
+abbrev pub interface_info : Name → Info
+interface_info name = library_info 1537 object_name [] [] name
+
+-- A private field that holds an object of this class.
+abbrev held : Name → Name → LibField
+held name class = record { name = name; desc = descriptor_of class; flags = 2 }
+
+abbrev held_linked : Name → Name → LinkedField
+held_linked name class = record {
+  flags = 2;
+  name = name;
+  desc = descriptor_of class;
+  kind = kind.Ref class;
+  constant = None;
+}
+
+-- Throwable, with its message and its cause.
+abbrev pub throwable_info : Info
+throwable_info =
+    library_info 33 object_name
+    (held (codes "message") string_name ∷ held (codes "cause") throwable_name ∷ [])
+    (held_linked (codes "message") string_name ∷ held_linked (codes "cause") throwable_name ∷ [])
+    throwable_name
+
+-- The class of classes, and those of which native methods make objects.
+abbrev pub object_names : List Name
+object_names =
+    class_name ∷ making_name making.Text ∷ making_name making.List ∷ making_name making.Set
     ∷ making_name making.Iterator ∷ making_name making.Optional ∷ making_name making.Integer
     ∷ making_name making.Long ∷ making_name making.Short ∷ making_name making.Byte
     ∷ making_name making.Character ∷ making_name making.Boolean ∷ []
 
--- What a library has to have to be whole, but for Object.
-abbrev pub bare_names : List Name
-bare_names = machine_names ++ made_names
+-- The exceptions that the machine makes.
+abbrev pub fault_names : List Name
+fault_names = take 22 machine_names
 
--- The library is the least that is whole.
+-- The library is the least that the laws ask.
 abbrev pub sample_program : List Info
-sample_program = a_info ∷ t_info ∷ object_info ∷ map bare_info bare_names
+sample_program =
+    a_info ∷ t_info ∷ object_info ∷ throwable_info
+    ∷ interface_info (codes "java/lang/Cloneable") ∷ interface_info (codes "java/io/Serializable")
+    ∷ map (bare_info object_name) object_names ++ map (bare_info throwable_name) fault_names
 
 -- The mutant of the jump in `f` with ifgt (9d) in its place.
 abbrev pub sample_mutant : Mutant
@@ -303,9 +338,9 @@ IsSpelled (body.File loaded) = Spells loaded.bytes loaded.class
 IsSpelled (body.Edited e) = Spells e.bytes (class_edited e)
 IsSpelled (body.Library c) = ⊤
 
--- All that the laws ask: of a program with a whole library and a mutant of one of its class files,
--- whose edited class is accepted; of a mutant of a jump on ints; and of tests, of which one reaches
--- the mutant's line and one doesn't. Both pass.
+-- All that the laws ask: of a program that is built and accepted and has a whole library, and of a
+-- mutant of one of its class files, whose edited class is accepted; of a mutant of a jump on ints;
+-- and of tests, of which one reaches the mutant's line and one doesn't. Both pass.
 pub record ArePremises (p : List Info) (file : Class) (m : Mutant) (p' : Look) (q : Limits)
     (limit : ℕ) (reaching missing : Test) : Type 0 where
   pub program : IsProgram p
@@ -316,6 +351,8 @@ pub record ArePremises (p : List Info) (file : Class) (m : Mutant) (p' : Look) (
   pub listed : Contains (class_mutants file) m
   pub made : edited (files_of p) (look p) m ≡ Some p'
   pub accepted : viable (files_of p) (look p) m ≡ Some p'
+  pub safe : IsSafeMutant p m p' descriptors
+  pub fit : All (FitsProgram p) (reaching ∷ missing ∷ [])
   pub mutated : IsMutated p m p'
   pub mutant : IsMutant file m
   pub jumps : is_int_jump mutant.insn.op ≡ true

@@ -112,13 +112,14 @@ pub fn selected_tests_always_suffice()
     selected_tests_suffice();
 }
 
-/// What the other laws ask is met: by a program of a class A, of tests T and of the least library
-/// that is whole, by the mutant of A's jump with its bound moved, whose class is accepted, and by two
-/// tests that pass, one of which reaches the mutant's line.
+/// What these laws ask is met: by a program of a class A, of tests T and of the least library that
+/// serves, by the mutant of A's jump with its bound moved, whose class is accepted, and by two tests
+/// that pass, one of which reaches the mutant's line.
 pub fn mutant_laws_are_of_use()
     ensures { PremisesAreMet }
 {
     files_are_read_as_spelled();
     what_is_spelled_is_written();
     mutants_fit();
+    first_faults_are_found();
 }
