@@ -1,13 +1,11 @@
 -- No run on a viable mutant of an accepted program is stuck.
-use Rattle.std.proofs.Common.{◌≡◌, ◌∙◌, refl, sym, ap, subst, ℕ, Bool, true, false, List, [], ◌∷◌, Option, Some, None, inr}
-use Rattle.std.specs.Prelude.{◌≢◌, All, IfSome, if◌then◌else◌, is_some, option_and_then}
+use Rattle.std.proofs.Common.{◌≡◌, ◌∙◌, refl, sym, ap, subst, ℕ, true, List, [], ◌∷◌, Option, Some, None, inr}
+use Rattle.std.specs.Prelude.{◌≢◌, IfSome, if◌then◌else◌, is_some, option_and_then}
 use Rattle.std.specs.List.{AllByRecursion}
 use Rattle.std.proofs.lemmas.Bool.{true≢false}
 use Rattle.std.proofs.lemmas.List.Elements.{recursion_from_All, All-from_recursion}
-use Rattle.program_rules.specs.Names.{Name}
 use Rattle.program_rules.specs.Programs.{Look}
 use Rattle.machine_rules.specs.declared.machine.Limits.{Limits}
-use Rattle.machine_rules.specs.Runs.{StuckAt, run_of}
 use Rattle.type_rules.specs.Faults.{Placed, class_fault}
 use Rattle.type_rules.specs.Rules.{ClassAccepted}
 use Rattle.type_laws.specs.Alike.{EditedStaysAccepted}
@@ -20,10 +18,10 @@ use Rattle.class_table.specs.declared.scripted.Test.{Test}
 use Rattle.class_table.specs.Table.{look}
 use Rattle.jvm_world.specs.View.{test_of}
 use Rattle.mutator_ops.specs.declared.mutant.Mutant.{Mutant}
-use Rattle.mutant_runs.specs.Programs.{files_of, edited, viable, with_accepted}
+use Rattle.mutant_runs.specs.Programs.{edited, with_accepted}
 use Rattle.mutant_runs.specs.Runs.{mutant_run}
-use Rattle.mutant_laws.specs.Edited.{MutantsAreEdits, IsEditOf, mutant_place}
-use Rattle.mutant_laws.specs.Covered.{original_run, edited_run, NotStuckThere, SelectedSuffice}
+use Rattle.mutant_laws.specs.Edited.{MutantsAreEdits}
+use Rattle.mutant_laws.specs.Covered.{edited_run, NotStuckThere, SelectedSuffice}
 use Rattle.mutant_laws.specs.Accepted.{IsSafeMutant, FitsProgram, ViableAreNeverStuck, SelectedAlwaysSuffice}
 use Rattle.mutant_laws.proofs.Alike.{heads, others, built, faults, library, layout, script}
 

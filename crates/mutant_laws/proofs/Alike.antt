@@ -1,5 +1,5 @@
 -- What accepted code asks of a program but for its code is the same of the edited one.
-use Rattle.std.proofs.Common.{◌≡◌, ◌∙◌, refl, sym, ap, subst, ℕ, Bool, true, false, List, [], ◌∷◌, Option, Some, None, is_none, arith}
+use Rattle.std.proofs.Common.{◌≡◌, ◌∙◌, refl, sym, ap, subst, Bool, true, false, List, [], ◌∷◌, Option, Some, is_none, arith}
 use Rattle.std.specs.Prelude.{◌≢◌, nat_eq, slice_get}
 use Rattle.std.specs.Cmp.Lexicographic.{same_text, other_text}
 use Rattle.std.proofs.lemmas.Bool.{eqb-true}
@@ -9,13 +9,12 @@ use Rattle.program_rules.specs.declared.call_kind.CallKind.{CallKind}
 use Rattle.program_rules.specs.declared.call_kind.CallKind.TheVariants.{ClassWide, Make, Around, TestMethod}
 use Rattle.program_rules.specs.Faults.{fault_name}
 use Rattle.program_rules.specs.Kinds.{Kind}
-use Rattle.program_rules.specs.Linked.{Linked, LinkedMethod, HasCode, is_static, is_abstract}
+use Rattle.program_rules.specs.Linked.{Linked, LinkedMethod, is_static, is_abstract}
 use Rattle.program_rules.specs.Outlines.{Head, head_of, head_in, outline, outline_of, fields_in, is_interface_class}
 use Rattle.program_rules.specs.Programs.{Look, Node, Family, Rising, nodes, family, top_of}
 use Rattle.program_rules.specs.Resolution.{superclasses_behind}
 use Rattle.program_rules.specs.Tests.{Call}
 use Rattle.type_rules.specs.References.{Classes, classes_of, is_subtype, throwable_name}
-use Rattle.type_rules.specs.Frames.{is_initializer}
 use Rattle.type_laws.specs.Alike as alike
 use Rattle.type_laws.specs.Alike.{HeadsAlike, OthersAlike}
 use Rattle.type_laws.specs.Values.{kinds_of, field_kinds}

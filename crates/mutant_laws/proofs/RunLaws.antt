@@ -18,7 +18,7 @@ use Rattle.jvm_world.specs.View.{test_of}
 use Rattle.mutator_ops.specs.declared.mutant.Mutant.{Mutant}
 use Rattle.mutant_runs.specs.Runs.{is_at, reaches, mutant_run}
 use Rattle.mutant_laws.specs.Edited.{IsEditOf, MutantsAreEdits, IntJumpsGoOn}
-use Rattle.mutant_laws.specs.Covered.{original_run, edited_run, UnreachedIsAlike, NotStuckThere, ReachAlike, ReachingIsAlike, CoveringIsAlike}
+use Rattle.mutant_laws.specs.Covered.{original_run, edited_run, UnreachedIsAlike, ReachAlike, ReachingIsAlike, CoveringIsAlike}
 use Rattle.mutant_laws.proofs.Edits.{same_itself}
 
 -- ---- the test for a mutant's line

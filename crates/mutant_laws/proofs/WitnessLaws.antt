@@ -1,10 +1,8 @@
 -- A program and a mutant meet the premises of the laws, by computing.
-use Rattle.std.proofs.Common.{◌≡◌, ◌∙◌, refl, sym, ap, subst, ℕ, zero, suc, ◌+◌, Bool, true, false, List, [], ◌∷◌, ◌++◌, map, Option, Some, None, Ok, drop, inl, inr, ⊎_elim, lit<, arith, codes}
-use Rattle.std.specs.Prelude.{◌<◌, ◌^◌, ◌⊎◌, nat_eq, nat_lt, ◌&&◌, ◌||◌, if◌then◌else◌, is_none, is_some, length, slice_get, option_and_then}
-use Rattle.std.specs.List.{AllByRecursion, Contains, list_all, list_any}
-use Rattle.std.specs.Option.{option_map}
-use Rattle.std.specs.Cmp.Lexicographic.{same_text}
-use Rattle.std.proofs.lemmas.Bool.{eqb-true, ltb-true}
+use Rattle.std.proofs.Common.{◌≡◌, ◌∙◌, refl, sym, ap, subst, ℕ, zero, suc, Bool, true, false, List, [], ◌∷◌, Option, Some, None, Ok, drop, lit<, arith, codes}
+use Rattle.std.specs.Prelude.{◌<◌, nat_lt, ◌&&◌, if◌then◌else◌, is_some, option_and_then}
+use Rattle.std.specs.List.{Contains, list_all}
+use Rattle.std.proofs.lemmas.Bool.{ltb-true}
 use Rattle.std.proofs.lemmas.List.Elements.{All-from_recursion}
 use Rattle.class_model.specs.Text.{units_within}
 use Rattle.class_model.specs.DescriptorReading.{parameters_at}
@@ -29,19 +27,10 @@ use Rattle.mt_attrs.specs.Rows.{row_at}
 use Rattle.mt_insn.specs.Reading.{insn_at, formed_at, wide_at}
 use Rattle.mt_insn.specs.Operands.{jump_at, array_at, constant_at, dimensions_at, far_jump_at, increment_at, interface_at, local_at, long_constant_at, lookup_at, lookup_body_at, named_at, pair_at, refused_at, small_constant_at, small_number_at, table_at as operand_table_at, table_items_at, wide_increment_at, wide_local_at, wide_number_at}
 use denote.Hole.Carrier.{hidden, out, roll, shown}
-use Rattle.program_rules.specs.Names.{Name, same, object_name, is_listed}
-use Rattle.program_rules.specs.Linked.{Linked, parents_of, is_library}
-use Rattle.program_rules.specs.Programs.{concat_over, supers_within, supers, nodes, family}
+use Rattle.program_rules.specs.Programs.{supers, nodes, family}
 use Rattle.program_rules.specs.Resolution.{resolve_field, resolve_method}
 use Rattle.program_rules.specs.Selection.{select_virtual, select_named}
-use Rattle.program_rules.specs.declared.fault.Fault.{Fault}
-use Rattle.program_rules.specs.declared.fault.Fault.TheVariants as fault
-use Rattle.program_rules.specs.Faults.{fault_name}
-use Rattle.program_rules.specs.declared.making.Making.{Making}
-use Rattle.program_rules.specs.declared.making.Making.TheVariants as making
-use Rattle.program_rules.specs.Deeds.{making_name}
 use Rattle.type_rules.specs.Faults.{Placed, class_fault}
-use Rattle.type_rules.specs.References.{throwable_name}
 use Rattle.type_rules.specs.Rows.{row}
 use Rattle.type_rules.specs.Rules.{method_fault}
 use Rattle.machine_rules.specs.Initialisation.{need_of}
@@ -50,16 +39,13 @@ use Rattle.machine_rules.specs.Steps.{act, step_of}
 use Rattle.machine_rules.specs.declared.machine.Outcome.TheVariants.{Passed}
 use Rattle.machine_rules.specs.Runs.{With}
 use Rattle.machine_rules.specs.Worked.{roomy}
-use Rattle.machine_laws.specs.Consulted.{Seen, AllSeen, IsLibraryWhole}
 use Rattle.machine_laws.specs.FrameLaw.{HasEnded}
 use Rattle.type_laws.specs.Faults.{FaultlessAreAccepted}
-use Rattle.class_link.specs.Info.{Info, IsInfo, class_of}
-use Rattle.class_link.specs.Linking.{link, link_library}
+use Rattle.class_link.specs.Info.{Info}
+use Rattle.class_link.specs.Linking.{link}
 use Rattle.class_link.specs.Opcodes.{instruction_by}
 use Rattle.class_link.specs.View.{instruction_of, linked_of}
-use Rattle.class_order.specs.Supers.{is_super_missing, lacks_superclass}
-use Rattle.class_order.specs.Ranks.{HasRanks}
-use Rattle.class_table.specs.Table.{look, class_at as class_of_number, name_or_none, names, place_from, place_in, AreDistinct, IsProgram}
+use Rattle.class_table.specs.Table.{look}
 use Rattle.mutator_ops.specs.Laws.{IsMutant}
 use Rattle.mutator_ops.specs.Mutants.{class_mutants}
 use Rattle.mutator_ops.specs.declared.mutant.Mutant.{Mutant}
@@ -70,7 +56,7 @@ use Rattle.mutant_runs.specs.Programs.{files_of, edited, viable, with_accepted, 
 use Rattle.mutant_runs.specs.Runs.{reaches}
 use Rattle.mutant_laws.specs.Edited.{IsMutated, is_int_jump}
 use Rattle.mutant_laws.specs.Covered.{original_run}
-use Rattle.mutant_laws.specs.Witness.{a_jumping, t_class, t_file, a_info, t_info, object_info, throwable_info, interface_info, bare_info, object_names, fault_names, sample_program, sample_mutant, sample_mutated, neg_test, idle_test, IsSpelled, PremisesAreMet}
+use Rattle.mutant_laws.specs.Witness.{a_jumping, t_class, t_file, sample_program, sample_mutant, sample_mutated, neg_test, idle_test, IsSpelled, PremisesAreMet}
 use Rattle.mutant_laws.proofs.Premises.{listed_are_mutated}
 use Rattle.mutant_laws.proofs.WitnessProgram.{of_all, program, whole}
 use Rattle.mutant_laws.proofs.WitnessSafe as safe

@@ -9,14 +9,12 @@ use Rattle.class_model.specs.DescriptorReading.{parameters_at}
 use Rattle.class_model.specs.declared.attribute.Body.TheBlock.{hidden-the_row-Attr-0, shape-the_row-Attr-0, shown-the_row-Attr-0}
 use Rattle.class_model.specs.declared.attribute.Body.TheViews.{roll-Code, out-Body, out-Code}
 use denote.Hole.Carrier.{hidden, out, roll, shown}
-use Rattle.program_rules.specs.Names.{Name, same, object_name, string_name, class_name, instance_initializer, plain_descriptor, is_array_name}
+use Rattle.program_rules.specs.Names.{Name, same, object_name, string_name, is_array_name}
 use Rattle.program_rules.specs.Kinds.{Kind, OfReference}
-use Rattle.program_rules.specs.Instructions.{Instruction}
 use Rattle.program_rules.specs.Linked.{Linked, LinkedField, LinkedMethod, LinkedCode, HasCode, parents_of, code_in}
 use Rattle.program_rules.specs.Outlines.{outline_of, is_interface_class}
 use Rattle.program_rules.specs.Programs.{Look, Node, Rising, concat_over, supers_within, supers, nodes, top_of}
 use Rattle.program_rules.specs.Resolution.{superclasses_behind}
-use Rattle.program_rules.specs.declared.call_kind.CallKind.TheVariants.{Make, TestMethod}
 use Rattle.program_rules.specs.declared.fault.Fault.{Fault}
 use Rattle.program_rules.specs.declared.fault.Fault.TheVariants as fault
 use Rattle.program_rules.specs.Faults.{fault_name}
@@ -27,7 +25,6 @@ use Rattle.type_rules.specs.Rows.{row}
 use Rattle.type_rules.specs.Rules.{body_fault, method_fault, ClassAccepted, Accepted}
 use Rattle.type_laws.specs.Faults.{FaultlessAreAccepted}
 use Rattle.type_laws.specs.Soundness.{HasFaults, HasLibrary, HasLayout, AllObject, BodyFits, RefMeant, IsLinkedBy}
-use Rattle.type_laws.specs.States.{CallFits}
 use Rattle.type_laws.specs.Values.{kinds_of, field_kinds}
 use Rattle.type_laws.proofs.Tests.{same_is, if_true}
 use Rattle.order_laws.specs.Ordered.{HasArrays}
@@ -36,11 +33,10 @@ use Rattle.class_link.specs.Linking.{link}
 use Rattle.class_link.specs.Opcodes.{instruction_by}
 use Rattle.class_link.specs.View.{instruction_of, linked_of}
 use Rattle.class_order.specs.Supers.{names_wrong_kind}
-use Rattle.class_table.specs.declared.scripted.Test.{Test}
 use Rattle.class_table.specs.Faults.{HasRightKinds}
 use Rattle.class_table.specs.Table.{look}
 use Rattle.mutant_laws.specs.Accepted.{descriptors, FitsProgram, IsSafe}
-use Rattle.mutant_laws.specs.Witness.{a_jumping, object_info, sample_program, sample_mutated, neg_test, idle_test}
+use Rattle.mutant_laws.specs.Witness.{a_jumping, sample_program, sample_mutated, neg_test, idle_test}
 use Rattle.mutant_laws.proofs.WitnessProgram.{of_all, of_each, program}
 
 abbrev p : Look
