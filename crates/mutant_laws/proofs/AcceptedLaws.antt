@@ -10,7 +10,7 @@ use Rattle.type_rules.specs.Faults.{Placed, class_fault}
 use Rattle.type_rules.specs.Rules.{ClassAccepted}
 use Rattle.type_laws.specs.Alike.{EditedStaysAccepted}
 use Rattle.type_laws.specs.Faults.{FaultlessAreAccepted}
-use Rattle.type_laws.specs.Soundness.{Meanings, IsStuck, NeverStuck}
+use Rattle.type_laws.specs.Soundness.{IsStuck, NeverStuck}
 use Rattle.order_laws.specs.Ordered.{OrderedIsBuilt}
 use Rattle.edit_laws.specs.Edit.{Edit, IsEdited}
 use Rattle.class_link.specs.Info.{Info}
@@ -20,10 +20,11 @@ use Rattle.jvm_world.specs.View.{test_of}
 use Rattle.mutator_ops.specs.declared.mutant.Mutant.{Mutant}
 use Rattle.mutant_runs.specs.Programs.{edited, with_accepted}
 use Rattle.mutant_runs.specs.Runs.{mutant_run}
-use Rattle.mutant_laws.specs.Edited.{MutantsAreEdits}
+use Rattle.mutant_laws.specs.Edited.{descriptors, MutantsAreEdits}
 use Rattle.mutant_laws.specs.Covered.{edited_run, NotStuckThere, SelectedSuffice}
 use Rattle.mutant_laws.specs.Accepted.{IsSafeMutant, FitsProgram, ViableAreNeverStuck, SelectedAlwaysSuffice}
 use Rattle.mutant_laws.proofs.Alike.{heads, others, built, faults, library, layout, script}
+use Rattle.mutant_laws.proofs.Kept.{linked}
 
 -- ---- the edited class
 
@@ -38,7 +39,7 @@ class_accepted law e p p' ed none =
 -- ---- the laws
 
 pub never_stuck : MutantsAreEdits → FaultlessAreAccepted → EditedStaysAccepted → OrderedIsBuilt → NeverStuck → ViableAreNeverStuck
-never_stuck edits faultless stays order sound p m p' d t q limit y fits stuck =
+never_stuck edits faultless stays order sound p m p' t q limit y fits stuck =
     let x = edits p m p' y.mutated in
     let e = x.edit in
     let ed = x.edited in
@@ -47,26 +48,26 @@ never_stuck edits faultless stays order sound p m p' d t q limit y fits stuck =
     let none : class_fault p' m.class ≡ None = none_found p' (class_fault p' m.class) taken in
     let class = class_accepted faultless e (look p) p' ed (ap (class_fault p') x.class ∙ none) in
     let was_built = order (look p) (record { present = s.program.present; kinds = s.kinds; ranks = s.program.ranks }) s.arrays in
-    sound p' d (test_of t) q limit
+    sound p' descriptors (test_of t) q limit
     (built e (look p) p' ed was_built)
     (faults e (look p) p' ed s.faults)
     (library e (look p) p' ed s.library)
     (layout e (look p) p' ed s.layout)
-    y.linked
+    (linked e (look p) p' ed descriptors s.linked x.meant)
     (stays (look p) p' e.class (heads e (look p) p' ed) (others e (look p) p' ed) s.accepted class)
     (script e (look p) p' ed None (test_of t).script fits)
     stuck
 
-module _ (p : List Info) (m : Mutant) (p' : Look) (d : Meanings) (q : Limits) (limit : ℕ) (y : IsSafeMutant p m p' d) (law : ViableAreNeverStuck) where
+module _ (p : List Info) (m : Mutant) (p' : Look) (q : Limits) (limit : ℕ) (y : IsSafeMutant p m p') (law : ViableAreNeverStuck) where
   goes_past : (t : Test) → FitsProgram p t → NotStuckThere m (edited_run p p' t q limit)
   unfolding mutant_run
-  goes_past t fits stuck = law p m p' d t q _ y fits (subst IsStuck (sym stuck) tt)
+  goes_past t fits stuck = law p m p' t q _ y fits (subst IsStuck (sym stuck) tt)
 
   all_go_past : (tests : List Test) → AllByRecursion (FitsProgram p) tests → AllByRecursion (λ t. NotStuckThere m (edited_run p p' t q limit)) tests
   all_go_past [] h = tt
   all_go_past (t ∷ tests) h = (goes_past t h.0, all_go_past tests h.1)
 
 pub always_suffice : ViableAreNeverStuck → SelectedSuffice → SelectedAlwaysSuffice
-always_suffice law suffice p m p' d q limit tests y whole fits pass =
+always_suffice law suffice p m p' q limit tests y whole fits pass =
     suffice p m p' q limit tests y.mutated y.accepted whole pass
-    (inr (All-from_recursion (λ t. NotStuckThere m (edited_run p p' t q limit)) tests (all_go_past p m p' d q limit y law tests (recursion_from_All (FitsProgram p) tests fits))))
+    (inr (All-from_recursion (λ t. NotStuckThere m (edited_run p p' t q limit)) tests (all_go_past p m p' q limit y law tests (recursion_from_All (FitsProgram p) tests fits))))

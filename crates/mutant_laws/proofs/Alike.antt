@@ -32,7 +32,7 @@ module _ (e : Edit) (p p' : Look) (ed : IsEdited e p p') where
   pub others : OthersAlike p p' e.class
   others n apart = ed.others n (other_text n e.class (sym apart))
 
-  classes : classes_of p' ≡ classes_of p
+  pub classes : classes_of p' ≡ classes_of p
   classes = classes_same p p' heads
 
   subtype_same : (a b : Name) → is_subtype p' a b ≡ is_subtype p a b
@@ -48,7 +48,7 @@ module _ (e : Edit) (p p' : Look) (ed : IsEdited e p p') where
   unfolding family
   rising_same n = ap (λ (f : Family). f.rising) (family_alike e p p' ed n)
 
-  fields_same : (n : Name) → field_kinds p' n ≡ field_kinds p n
+  pub fields_same : (n : Name) → field_kinds p' n ≡ field_kinds p n
   fields_same n = ap kinds_of (rising_same n)
 
   -- ---- supers, the library, fields

@@ -1,7 +1,7 @@
 -- The program that a mutant's edit makes is the program with one instruction edited.
 use Rattle.std.proofs.Common.{◌≡◌, ◌≢◌, ◌∙◌, refl, sym, ap, subst, ℕ, ◌-◌, Bool, true, false, List, [], ◌∷◌, ◌++◌, length, map, All, Option, None, Some, arith, ⊎_elim}
-use Rattle.std.specs.List.{Contains}
-use Rattle.std.specs.Prelude.{slice_get, option_and_then, if◌then◌else◌}
+use Rattle.std.specs.List.{AllByRecursion, Contains}
+use Rattle.std.specs.Prelude.{◌==◌, slice_get, option_and_then, if◌then◌else◌}
 use Rattle.std.specs.Option.{option_map}
 use Rattle.std.specs.Cmp.Lexicographic.{same_text, other_text}
 use Rattle.std.proofs.lemmas.List.Elements.{All-get_or, All-contains, recursion_from_All}
@@ -59,12 +59,13 @@ use Rattle.mutant_apply.proofs.Keeping.{edited_is, code_of_form}
 use Rattle.mutant_apply.proofs.Lists.{all_at}
 use Rattle.mutant_apply.proofs.NamesKept.{same_names}
 use Rattle.mutant_runs.specs.Programs.{files_of, with_class, edited}
-use Rattle.mutant_laws.specs.Edited.{puts_int_jump, IsEditOf, IsSmoothEditOf, MutantsAreEdits, IntJumpsGoOn}
+use Rattle.mutant_laws.specs.Edited.{AreMeant, puts_int_jump, IsEditOf, IsSmoothEditOf, MutantsAreEdits, IntJumpsGoOn}
 use Rattle.mutant_laws.proofs.Recoded.{IsRecoded, code_by, linked_edit, class_edited}
 use Rattle.mutant_laws.proofs.Jumps.{is_alike, with_op, goes_on_alike}
 use Rattle.mutant_laws.proofs.Linked as plain
 use Rattle.mutant_laws.proofs.Linked.{new_code, recoded, linked_declares, linked_body, is_recoded}
-use Rattle.mutant_laws.proofs.Listed.{exchanges}
+use Rattle.mutant_laws.proofs.Listed.{exchanges, new_others}
+use Rattle.mutant_laws.proofs.Meant.{is_other, is_other_new, other_by, others_made, all_meant}
 
 -- ---- the class of a name
 
@@ -184,10 +185,10 @@ module _ (law : AppliedIsMade) (p : List Info) (p' : Look) (c : Class) (infos : 
   exchanged member code number at insn by op = listed.mutant_of (listed.place_in (own_name c) c.pool number member code) at insn by (change.Opcode op)
 
   edit_at : (member : Member) (code : Code) (number at : ℕ) (insn : Insn) (by : Mutator) (op : ℕ) → slice_get c.methods number ≡ Some member → listed.code_of member.attrs ≡ Some code → slice_get (out-Code code).insns at ≡ Some insn
-      → ((means : ℕ → Symbol) → is_alike (instruction_by means insn) (instruction_by means (with_op insn op)) ≡ true)
+      → (op == 0xc5) ≡ false → ((means : ℕ → Symbol) → is_alike (instruction_by means insn) (instruction_by means (with_op insn op)) ≡ true)
       → files_of p (own_name c) ≡ Some c → edited (files_of p) (look p) (exchanged member code number at insn by op) ≡ Some p' → IsSmoothEditOf (exchanged member code number at insn by op) (look p) p'
   unfolding is_edited
-  edit_at member code number at insn by op declares coded stood like found made =
+  edit_at member code number at insn by op declares coded stood other like found made =
       let m = exchanged member code number at insn by op in
       let new : Insn = with_op insn op in
       let had : look p (own_name c) ≡ Some (link c) = look_file p (own_name c) c infos found in
@@ -207,6 +208,7 @@ module _ (law : AppliedIsMade) (p : List Info) (p' : Look) (c : Class) (infos : 
           at = refl;
           line = ap (λ o. line_in (code_of o) at) method ∙ ap (λ b. line_in (code_in b) at) (linked_body c member code number declares coded);
           place = ap (λ o. placed (method_text o) at) method;
+          meant = all_meant c.pool (new ∷ []) (other_by new other, tt);
         };
         goes_on = goes_on_alike e (look p) p' changed old stands (like (symbol_at c.pool));
       }
@@ -216,7 +218,7 @@ module _ (law : AppliedIsMade) (p : List Info) (p' : Look) (c : Class) (infos : 
       let e = exchanges m.mutator (listed.asked_of c.pool x.member) x.insn x.change x.applies (sym (ap (λ k. puts_int_jump k.edit.with) x.is) ∙ jumps) in
       let is : m ≡ exchanged x.member x.code m.edit.method m.at x.insn m.mutator e.op = x.is ∙ ap (λ made. listed.mutant_of (listed.place_in (own_name c) c.pool m.edit.method x.member x.code) m.at x.insn m.mutator made) e.is in
       subst (λ k. IsSmoothEditOf k (look p) p') (sym is)
-      (edit_at x.member x.code m.edit.method m.at x.insn m.mutator e.op x.declared x.coded x.stands e.like (subst (λ k. files_of p k.class ≡ Some c) is found) (subst (λ k. edited (files_of p) (look p) k ≡ Some p') is made))
+      (edit_at x.member x.code m.edit.method m.at x.insn m.mutator e.op x.declared x.coded x.stands e.other e.like (subst (λ k. files_of p k.class ≡ Some c) is found) (subst (λ k. edited (files_of p) (look p) k ≡ Some p') is made))
 
   -- ---- each mutant of a class that has a spelling
 
@@ -241,12 +243,12 @@ module _ (law : AppliedIsMade) (p : List Info) (p' : Look) (c : Class) (infos : 
         }
 
     -- the edited program, by the instructions that are put there
-    edited_by : (member : Member) (code : Code) (at : ℕ) (insn : Insn) (m : Mutant) (parts : Parts) (new : List Insn) → IsRecoded c member code m.edit.method → slice_get (out-Code code).insns m.edit.at ≡ Some insn → length new ≡ length m.edit.with → m.edit.with ≢ []
+    edited_by : (member : Member) (code : Code) (at : ℕ) (insn : Insn) (m : Mutant) (parts : Parts) (new : List Insn) → IsRecoded c member code m.edit.method → slice_get (out-Code code).insns m.edit.at ≡ Some insn → length new ≡ length m.edit.with → m.edit.with ≢ [] → AllByRecursion (λ insn. is_other insn ≡ true) new
         → parts ≡ record { code = code_by m.edit code new; added = parts.added } → look p (own_name c) ≡ Some (link c) → p' ≡ with_class (class_with m.edit c parts) (look p)
-        → (e : edit.Edit) × edit.IsEdited e (look p) p' × ((e.class ≡ own_name c) × (e.method ≡ m.edit.method) × (e.at ≡ m.edit.at))
+        → (e : edit.Edit) × edit.IsEdited e (look p) p' × ((e.class ≡ own_name c) × (e.method ≡ m.edit.method) × (e.at ≡ m.edit.at) × AreMeant (e.first ∷ e.rest))
     unfolding link
-    edited_by member code at insn m parts [] known stood many some is had made = absurd (some (none_left m.edit.with many))
-    edited_by member code at insn m parts (first ∷ rest) known stood many some is had made =
+    edited_by member code at insn m parts [] known stood many some other is had made = absurd (some (none_left m.edit.with many))
+    edited_by member code at insn m parts (first ∷ rest) known stood many some other is had made =
         let by = m.edit in
         let count : length rest ≡ length by.with - 1 = omega (arith, many) in
         let e = linked_edit (own_name c) by (c.pool ++ parts.added) code first rest in
@@ -270,12 +272,12 @@ module _ (law : AppliedIsMade) (p : List Info) (p' : Look) (c : Class) (infos : 
                 ∙ ap Some whole;
             others = λ n ne. ap (λ q. q n) made ∙ ap (λ m. if same n m then Some (link made_class) else look p n) own ∙ other_case n (own_name c) (Some (link made_class)) (look p n) (same n (own_name c)) refl ne;
           },
-          (refl, refl, refl),
+          (refl, refl, refl, all_meant (c.pool ++ parts.added) (first ∷ rest) other),
         )
 
     change_at : (member : Member) (code : Code) (number at : ℕ) (insn : Insn) (by : Mutator) (change : Change) → slice_get c.methods number ≡ Some member → listed.code_of member.attrs ≡ Some code → slice_get (out-Code code).insns at ≡ Some insn
-        → (changed_by member code number at insn by change).edit.with ≢ [] → files_of p (own_name c) ≡ Some c → edited (files_of p) (look p) (changed_by member code number at insn by change) ≡ Some p' → IsEditOf (changed_by member code number at insn by change) (look p) p'
-    change_at member code number at insn by change declares coded stood some found made =
+        → (changed_by member code number at insn by change).edit.with ≢ [] → AllByRecursion (λ by. is_other_new by ≡ true) (changed_by member code number at insn by change).edit.with → files_of p (own_name c) ≡ Some c → edited (files_of p) (look p) (changed_by member code number at insn by change) ≡ Some p' → IsEditOf (changed_by member code number at insn by change) (look p) p'
+    change_at member code number at insn by change declares coded stood some other found made =
         let m = changed_by member code number at insn by change in
         let had : look p (own_name c) ≡ Some (link c) = look_file p (own_name c) c infos found in
         let known = recoded_at member code number declares coded in
@@ -286,7 +288,7 @@ module _ (law : AppliedIsMade) (p : List Info) (p' : Look) (c : Class) (infos : 
         let ed = edited_is c.pool m.edit code parts made_code in
         let is : parts ≡ record { code = code_by m.edit code ed.new.0; added = parts.added } = ap (λ x. record { code = x; added = parts.added }) ed.is in
         let program : p' ≡ with_class (class_with m.edit c parts) (look p) = k.2 ∙ ap (λ x. with_class x (look p)) k.1.is in
-        let x = edited_by member code at insn m parts ed.new.0 known stood (new_length c.pool (mover m.edit) m.edit.with [] ed.new ed.made) some is had program in
+        let x = edited_by member code at insn m parts ed.new.0 known stood (new_length c.pool (mover m.edit) m.edit.with [] ed.new ed.made) some (others_made c.pool (mover m.edit) m.edit.with [] ed.new other ed.made) is had program in
         let method : method_in (look p x.0.class) x.0.method ≡ Some (linking.method_in c.pool member) =
         ap (λ n. method_in (look p n) x.0.method) x.2.0 ∙ ap (method_in (look p (own_name c))) x.2.1 ∙ ap (λ o. method_in o number) had ∙ linked_declares c member code number declares coded in
         record {
@@ -297,6 +299,7 @@ module _ (law : AppliedIsMade) (p : List Info) (p' : Look) (c : Class) (infos : 
           at = x.2.2;
           line = ap (λ o. line_in (code_of o) x.0.at) method ∙ ap (λ b. line_in (code_in b) x.0.at) (linked_body c member code number declares coded) ∙ ap (line_in (Some (linking.code_in c.pool code))) x.2.2;
           place = ap (λ o. record { class = x.0.class; method = method_text o; at = x.0.at }) method ∙ ap (λ n. record { class = n; method = method_text (Some (linking.method_in c.pool member)); at = x.0.at }) x.2.0 ∙ ap (placed (method_text (Some (linking.method_in c.pool member)))) x.2.2;
+          meant = x.2.3;
         }
 
     is_edit : MutantsFit → (m : Mutant) → IsMutant c m → Contains (listed.class_mutants c) m → files_of p m.class ≡ Some c → edited (files_of p) (look p) m ≡ Some p' → IsEditOf m (look p) p'
@@ -305,7 +308,7 @@ module _ (law : AppliedIsMade) (p : List Info) (p' : Look) (c : Class) (infos : 
         let some : m.edit.with ≢ [] = puts_some c m.edit fits in
         let is = x.is in
         subst (λ k. IsEditOf k (look p) p') (sym is)
-        (change_at x.member x.code m.edit.method m.at x.insn m.mutator x.change x.declared x.coded x.stands (subst (λ k. k.edit.with ≢ []) is some) (subst (λ k. files_of p k.class ≡ Some c) is found) (subst (λ k. edited (files_of p) (look p) k ≡ Some p') is made))
+        (change_at x.member x.code m.edit.method m.at x.insn m.mutator x.change x.declared x.coded x.stands (subst (λ k. k.edit.with ≢ []) is some) (new_others m.mutator (listed.asked_of c.pool x.member) x.insn x.change x.applies) (subst (λ k. files_of p k.class ≡ Some c) is found) (subst (λ k. edited (files_of p) (look p) k ≡ Some p') is made))
 
 pub int_jumps_go_on : ListedExactly → AppliedIsMade → IntJumpsGoOn
 int_jumps_go_on exactly law p m p' y jumps = smooth_edit law p p' y.file y.infos m ((exactly y.file m).0 y.listed) jumps y.found y.made

@@ -1,5 +1,6 @@
 mod Ranges
 mod Lists
+mod Meant
 mod Jumps
 mod Listed
 mod IntJumps
@@ -12,6 +13,7 @@ mod Edits
 mod RunLaws
 mod SelectedLaws
 mod Alike
+mod Kept
 mod AcceptedLaws
 mod Premises
 mod WitnessProgram

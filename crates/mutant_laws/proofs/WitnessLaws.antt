@@ -157,7 +157,7 @@ premises_are_met read written fit law =
       listed = listed;
       made = made;
       accepted = accepted;
-      safe = record { safe = safe.is_safe law; mutated = mutated; accepted = accepted; linked = safe.linked };
+      safe = record { safe = safe.is_safe law; mutated = mutated; accepted = accepted };
       fit = safe.fit;
       mutated = mutated;
       mutant = mutant;

@@ -1,4 +1,4 @@
--- The program of the witness is built and accepted, and its mutant's references are linked, by computing.
+-- The program of the witness is built and accepted, by computing.
 use Rattle.std.proofs.Common.{◌≡◌, ◌∙◌, refl, sym, ap, subst, ℕ, zero, suc, ◌++◌, Bool, true, false, List, [], ◌∷◌, Option, Some, None, is_none, ⊎_elim, codes}
 use Rattle.std.specs.Prelude.{◌&&◌, ◌||◌, All, IfSome, if◌then◌else◌, slice_get}
 use Rattle.std.specs.List.{AllByRecursion, list_all, list_any}
@@ -6,9 +6,6 @@ use Rattle.std.specs.Char.Utf16.{utf16_chars}
 use Rattle.std.proofs.lemmas.Bool.{and_parts, or_cases, or_left, true≢false}
 use Rattle.std.proofs.lemmas.List.Elements.{All-from_recursion}
 use Rattle.class_model.specs.DescriptorReading.{parameters_at}
-use Rattle.class_model.specs.declared.attribute.Body.TheBlock.{hidden-the_row-Attr-0, shape-the_row-Attr-0, shown-the_row-Attr-0}
-use Rattle.class_model.specs.declared.attribute.Body.TheViews.{roll-Code, out-Body, out-Code}
-use denote.Hole.Carrier.{hidden, out, roll, shown}
 use Rattle.program_rules.specs.Names.{Name, same, object_name, string_name, is_array_name}
 use Rattle.program_rules.specs.Kinds.{Kind, OfReference}
 use Rattle.program_rules.specs.Linked.{Linked, LinkedField, LinkedMethod, LinkedCode, HasCode, parents_of, code_in}
@@ -28,15 +25,14 @@ use Rattle.type_laws.specs.Soundness.{HasFaults, HasLibrary, HasLayout, AllObjec
 use Rattle.type_laws.specs.Values.{kinds_of, field_kinds}
 use Rattle.type_laws.proofs.Tests.{same_is, if_true}
 use Rattle.order_laws.specs.Ordered.{HasArrays}
-use Rattle.class_link.specs.Info.{Info, class_of, own_name}
-use Rattle.class_link.specs.Linking.{link}
-use Rattle.class_link.specs.Opcodes.{instruction_by}
+use Rattle.class_link.specs.Info.{Info, class_of}
 use Rattle.class_link.specs.View.{instruction_of, linked_of}
 use Rattle.class_order.specs.Supers.{names_wrong_kind}
 use Rattle.class_table.specs.Faults.{HasRightKinds}
 use Rattle.class_table.specs.Table.{look}
-use Rattle.mutant_laws.specs.Accepted.{descriptors, FitsProgram, IsSafe}
-use Rattle.mutant_laws.specs.Witness.{a_jumping, sample_program, sample_mutated, neg_test, idle_test}
+use Rattle.mutant_laws.specs.Accepted.{FitsProgram, IsSafe}
+use Rattle.mutant_laws.specs.Edited.{descriptors}
+use Rattle.mutant_laws.specs.Witness.{sample_program, neg_test, idle_test}
 use Rattle.mutant_laws.proofs.WitnessProgram.{of_all, of_each, program}
 
 abbrev p : Look
@@ -279,14 +275,11 @@ layout : HasLayout p
 unfolding linked_of
 layout = record { object = refl; begins = λ a b e g. (laid a b (is_none (p a)) refl e g).0; behind = λ a b e g. (laid a b (is_none (p a)) refl e g).1 }
 
-pub is_safe : FaultlessAreAccepted → IsSafe sample_program
-is_safe law = record { program = program; kinds = kinds; accepted = accepted law; arrays = arrays; faults = faults; library = library; layout = layout }
-
--- ---- what linking gives of the mutant
+-- ---- what linking gives
 
 abbrev MethodIs : Name → LinkedMethod → Type 0
 MethodIs n m =
-    (m.args ≡ descriptors.args m.desc) × (m.result ≡ descriptors.result m.desc) × BodyFits sample_mutated n m m.body
+    (m.args ≡ descriptors.args m.desc) × (m.result ≡ descriptors.result m.desc) × BodyFits p n m m.body
     × IfSome (code_in m.body) (λ code. AllByRecursion (RefMeant descriptors) code.instructions)
 
 abbrev FieldIs : LinkedField → Type 0
@@ -295,13 +288,9 @@ FieldIs f = f.kind ≡ descriptors.field f.desc
 abbrev ClassIs : Name → Option Linked → Type 0
 ClassIs n o = IfSome o (λ c. AllByRecursion (MethodIs n) c.methods × AllByRecursion FieldIs c.fields)
 
-edited_is : (n : Name) → ClassIs n (Some (link (a_jumping 0x9d)))
-unfolding link instruction_by hidden-the_row-Attr-0 shape-the_row-Attr-0 shown-the_row-Attr-0 roll-Code hidden roll shown out out-Body out-Code parameters_at
-edited_is n = (((refl, refl, tt, (tt, (tt, (tt, (tt, (tt, (tt, tt))))))), tt), tt)
-
-other_is : (n : Name) → ClassIs n (p n)
+class_is : (n : Name) → ClassIs n (p n)
 unfolding linked_of instruction_of parameters_at utf16_chars
-other_is n =
+class_is n =
     of_each ClassIs (λ m. tt)
     (of_all (λ i. ClassIs i.name (Some (class_of i)))
     (((refl, refl, tt, (tt, (tt, (tt, (tt, (tt, (tt, tt))))))), tt), tt)
@@ -310,23 +299,16 @@ other_is n =
     (tt, (refl, (refl, tt)))
     (λ m. (tt, tt)) (λ m. (tt, tt)) (λ m. (tt, tt))) n
 
-class_case : (n : Name) (b : Bool) → ClassIs n (if b then Some (link (a_jumping 0x9d)) else p n)
-class_case n true = edited_is n
-class_case n false = other_is n
-
-class_is : (n : Name) → ClassIs n (sample_mutated n)
-class_is n = class_case n (same n (own_name (a_jumping 0x9d)))
-
-class_there : (n : Name) (c : Linked) → sample_mutated n ≡ Some c → AllByRecursion (MethodIs n) c.methods × AllByRecursion FieldIs c.fields
+class_there : (n : Name) (c : Linked) → p n ≡ Some c → AllByRecursion (MethodIs n) c.methods × AllByRecursion FieldIs c.fields
 class_there n c has = subst (ClassIs n) has (class_is n)
 
-method_there : (n : Name) (c : Linked) (k : ℕ) (m : LinkedMethod) → sample_mutated n ≡ Some c → slice_get c.methods k ≡ Some m → MethodIs n m
+method_there : (n : Name) (c : Linked) (k : ℕ) (m : LinkedMethod) → p n ≡ Some c → slice_get c.methods k ≡ Some m → MethodIs n m
 method_there n c k m has get = item_of (MethodIs n) c.methods k m (class_there n c has).0 get
 
 in_code : (m : LinkedMethod) (code : LinkedCode) → m.body ≡ HasCode code → IfSome (code_in m.body) (λ code. AllByRecursion (RefMeant descriptors) code.instructions) → AllByRecursion (RefMeant descriptors) code.instructions
 in_code m code body h = subst (λ b. IfSome (code_in b) (λ code. AllByRecursion (RefMeant descriptors) code.instructions)) body h
 
-pub linked : IsLinkedBy sample_mutated descriptors
+linked : IsLinkedBy p descriptors
 unfolding parameters_at utf16_chars
 linked = record {
   method = λ n c k m has get. let x = method_there n c k m has get in (x.0, x.1);
@@ -338,6 +320,9 @@ linked = record {
   clone_args = refl;
   clone_result = refl;
 }
+
+pub is_safe : FaultlessAreAccepted → IsSafe sample_program
+is_safe law = record { program = program; kinds = kinds; accepted = accepted law; arrays = arrays; faults = faults; library = library; layout = layout; linked = linked }
 
 -- ---- the tests
 

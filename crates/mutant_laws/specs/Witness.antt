@@ -54,7 +54,7 @@ use Rattle.mutant_runs.specs.Programs.{files_of, with_class, edited, viable, IsM
 use Rattle.mutant_runs.specs.Runs.{reaches}
 use Rattle.mutant_laws.specs.Edited.{IsMutated, is_int_jump, puts_int_jump}
 use Rattle.mutant_laws.specs.Covered.{original_run, AllPass}
-use Rattle.mutant_laws.specs.Accepted.{descriptors, FitsProgram, IsSafeMutant}
+use Rattle.mutant_laws.specs.Accepted.{FitsProgram, IsSafeMutant}
 
 -- ---- class files
 
@@ -351,7 +351,7 @@ pub record ArePremises (p : List Info) (file : Class) (m : Mutant) (p' : Look) (
   pub listed : Contains (class_mutants file) m
   pub made : edited (files_of p) (look p) m ≡ Some p'
   pub accepted : viable (files_of p) (look p) m ≡ Some p'
-  pub safe : IsSafeMutant p m p' descriptors
+  pub safe : IsSafeMutant p m p'
   pub fit : All (FitsProgram p) (reaching ∷ missing ∷ [])
   pub mutated : IsMutated p m p'
   pub mutant : IsMutant file m
