@@ -1,6 +1,6 @@
 -- No run on a viable mutant of an accepted program is stuck.
 use Rattle.std.proofs.Common.{◌≡◌, ◌∙◌, refl, sym, ap, subst, ℕ, true, List, [], ◌∷◌, Option, Some, None, inr}
-use Rattle.std.specs.Prelude.{◌≢◌, IfSome, if◌then◌else◌, is_some, option_and_then}
+use Rattle.std.specs.Prelude.{IfSome, if◌then◌else◌, is_some, option_and_then}
 use Rattle.std.specs.List.{AllByRecursion}
 use Rattle.std.proofs.lemmas.Bool.{true≢false}
 use Rattle.std.proofs.lemmas.List.Elements.{recursion_from_All, All-from_recursion}
@@ -18,7 +18,7 @@ use Rattle.class_table.specs.declared.scripted.Test.{Test}
 use Rattle.class_table.specs.Table.{look}
 use Rattle.jvm_world.specs.View.{test_of}
 use Rattle.mutator_ops.specs.declared.mutant.Mutant.{Mutant}
-use Rattle.mutant_runs.specs.Programs.{edited, with_accepted}
+use Rattle.mutant_runs.specs.Programs.{with_accepted}
 use Rattle.mutant_runs.specs.Runs.{mutant_run}
 use Rattle.mutant_laws.specs.Edited.{descriptors, MutantsAreEdits}
 use Rattle.mutant_laws.specs.Covered.{edited_run, NotStuckThere, SelectedSuffice}

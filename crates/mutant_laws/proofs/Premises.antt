@@ -6,7 +6,7 @@ use Rattle.class_reader.specs.Spells.{IsClass}
 use Rattle.class_writer.specs.Writing.{HasClassForm}
 use Rattle.mutant_apply.specs.Fitting.{Fits}
 use Rattle.mutator_ops.specs.declared.mutant.Mutant.{Mutant}
-use Rattle.mutant_laws.specs.Edited.{IsMutated, ListedAreMutated}
+use Rattle.mutant_laws.specs.Edited.{ListedAreMutated}
 
 taken_by : (m : Mutant) (o : Option Class) (file : Class) → o ≡ Some file → IfSome o (λ c. HasClassForm c × Fits c m.edit × IsClass c) → IsClass file
 taken_by m o file e h = let q = subst (λ (x : Option Class). IfSome x (λ c. HasClassForm c × Fits c m.edit × IsClass c)) e h in q.2

@@ -1,8 +1,6 @@
 -- What a class means in which an instruction is replaced by several, and entries are put behind its pool: the class with one instruction edited.
-use Rattle.std.proofs.Common.{◌≡◌, ◌∙◌, refl, sym, ap, ℕ, zero, suc, ◌+◌, ◌-◌, Bool, true, false, List, [], ◌∷◌, ◌++◌, map, take, drop, length, Option, None, Some, arith, append_assoc}
+use Rattle.std.proofs.Common.{◌≡◌, ◌∙◌, refl, sym, ap, ℕ, zero, suc, ◌+◌, ◌-◌, Bool, false, List, [], ◌∷◌, ◌++◌, map, take, drop, length, Option, Some, arith, append_assoc}
 use Rattle.std.specs.Prelude.{◌==◌, nat_le, slice_get, slice_set, if◌then◌else◌}
-use Rattle.std.specs.List.{AllByRecursion}
-use Rattle.std.proofs.lemmas.List.Elements.{recursion_from_All}
 use Rattle.class_model.specs.declared.attribute.Attr.{Attr}
 use Rattle.class_model.specs.declared.attribute.Row as file_row
 use Rattle.class_model.specs.declared.attribute.Body.{Body}
@@ -19,8 +17,8 @@ use Rattle.class_model.specs.declared.frame.Shape.TheVariants as shape
 use Rattle.class_model.specs.declared.frame.VItem.{VItem}
 use Rattle.class_model.specs.declared.frame.VItem.TheVariants as vitem
 use Rattle.class_model.specs.declared.instruction.Insn.{Insn}
-use Rattle.class_model.specs.DeclaredName.{is_field_name, is_method_name}
-use Rattle.class_model.specs.DescriptorReading.{field_kind, method_kinds}
+use Rattle.class_model.specs.DeclaredName.{is_method_name}
+use Rattle.class_model.specs.DescriptorReading.{method_kinds}
 use Rattle.class_model.specs.Pool.{class_name_of}
 use Rattle.program_rules.specs.Names.{Name}
 use Rattle.program_rules.specs.Instructions.{Instruction}
@@ -36,10 +34,10 @@ use Rattle.mt_attrs.specs.CodeParts.{name_of, body_of}
 use Rattle.mt_attrs.specs.Frames.{next_behind, delta_of}
 use Rattle.mt_attrs.specs.Layout.{HasCodeForm}
 use Rattle.mt_attrs.specs.Naming.{AreNamedParts}
-use Rattle.mt_attrs.specs.declared.owner.Owner.TheVariants.{OfField, OfMethod}
+use Rattle.mt_attrs.specs.declared.owner.Owner.TheVariants.{OfMethod}
 use Rattle.class_reader.specs.Indices.{is_read}
 use Rattle.class_reader.specs.Spells.{IsClass}
-use Rattle.class_writer.specs.Writing.{HasClassForm, HasMemberForm, IsNamedField, IsNamedMethod, IsNamedClass}
+use Rattle.class_writer.specs.Writing.{HasClassForm, IsNamedMethod, IsNamedClass}
 use Rattle.mutator_ops.specs.Mutants.{code_of}
 use Rattle.mutant_apply.specs.Edited.{mover, edited_insns, code_with, member_with, changed_at, class_with}
 use Rattle.mutant_apply.specs.Moved.{moved_insn, moved_row, moved_line, moved_item, with_items_moved, long_enough, placed_frame, moved_frames, moved_table, moved_tables}

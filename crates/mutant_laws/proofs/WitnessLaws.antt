@@ -1,6 +1,6 @@
 -- A program and a mutant meet the premises of the laws, by computing.
 use Rattle.std.proofs.Common.{◌≡◌, ◌∙◌, refl, sym, ap, subst, ℕ, zero, suc, Bool, true, false, List, [], ◌∷◌, Option, Some, None, Ok, drop, lit<, arith, codes}
-use Rattle.std.specs.Prelude.{◌<◌, nat_lt, ◌&&◌, if◌then◌else◌, is_some, option_and_then}
+use Rattle.std.specs.Prelude.{nat_lt, ◌&&◌, if◌then◌else◌, is_some, option_and_then}
 use Rattle.std.specs.List.{Contains, list_all}
 use Rattle.std.proofs.lemmas.Bool.{ltb-true}
 use Rattle.std.proofs.lemmas.List.Elements.{All-from_recursion}

@@ -19,9 +19,9 @@ use Rattle.mutant_laws.specs.Edited.{descriptors, IsMutated}
 use Rattle.mutant_laws.specs.Covered.{AllPass, SelectedGive}
 
 -- A program that is built and accepted. `program` is what each `Program` keeps, `kinds` what
--- `Program::build` gives, `accepted` what the verifier tells. `arrays`, `faults` and `library` are of
--- the library's table, `arrays` of the reader, too, `layout` of who builds programs, and `linked` of
--- who links class files and native methods.
+-- `Program::build` gives, `accepted` what the verifier tells. `arrays`, `faults` and `library` are
+-- of the library's table, `arrays` of the reader, too; `layout` is of who builds programs, and
+-- `linked` of who links class files and native methods.
 pub record IsSafe (p : List Info) : Type 0 where
   pub program : IsProgram p
   pub kinds : HasRightKinds (look p)
@@ -52,4 +52,5 @@ ViableAreNeverStuck =
 abbrev pub SelectedAlwaysSuffice : Type 0
 SelectedAlwaysSuffice =
     (p : List Info) (m : Mutant) (p' : Look) (q : Limits) (limit : ℕ) (tests : List Test) →
-    IsSafeMutant p m p' → IsLibraryWhole (look p) → All (FitsProgram p) tests → AllPass p q limit tests → SelectedGive p m p' q limit tests
+    IsSafeMutant p m p' → IsLibraryWhole (look p) → All (FitsProgram p) tests →
+    AllPass p q limit tests → SelectedGive p m p' q limit tests
