@@ -100,22 +100,15 @@ there p m k d h =
 here_too : (p : Look) (n : Name) (ns : List Name) → is_none (p n) ≡ false → lacks p ns ≡ false → lacks p (n ∷ ns) ≡ false
 here_too p n ns here behind = ap (λ b. b || lacks p ns) here ∙ behind
 
+lacks_no_making : (p : List Info) → IsProgram p → (id : Making → ℕ) → ((m : Making) → IsMadeBy p m (id m)) → (ms : List Making) → lacks (look p) (map making_name ms) ≡ false
+lacks_no_making p d id h [] = refl
+lacks_no_making p d id h (m ∷ ms) =
+    here_too (look p) (making_name m) (map making_name ms) (there p m (id m) d (h m)) (lacks_no_making p d id h ms)
+
 lacks_none : (p : List Info) → IsProgram p → (id : Making → ℕ) → ((m : Making) → IsMadeBy p m (id m)) → lacks (look p) made_names ≡ false
 lacks_none p d id h =
-    here_too (look p) _ _ (one making.Text)
-    (here_too (look p) _ _ (one making.List)
-    (here_too (look p) _ _ (one making.Set)
-    (here_too (look p) _ _ (one making.Iterator)
-    (here_too (look p) _ _ (one making.Optional)
-    (here_too (look p) _ _ (one making.Integer)
-    (here_too (look p) _ _ (one making.Long)
-    (here_too (look p) _ _ (one making.Short)
-    (here_too (look p) _ _ (one making.Byte)
-    (here_too (look p) _ _ (one making.Character)
-    (here_too (look p) _ _ (one making.Boolean) refl))))))))))
-  where
-    one : (m : Making) → is_none (look p (making_name m)) ≡ false
-    one m = there p m (id m) d (h m)
+    lacks_no_making p d id h
+    (making.Text ∷ making.List ∷ making.Set ∷ making.Iterator ∷ making.Optional ∷ making.Integer ∷ making.Long ∷ making.Short ∷ making.Byte ∷ making.Character ∷ making.Boolean ∷ [])
 
 missed_at : (p : Look) (i : ℕ) → i < length made_names → p (get_or made_names i []) ≡ None → lacks p made_names ≡ true
 missed_at p i lt e = list_any_at (λ n. is_none (p n)) made_names i [] lt (ap is_none e)
