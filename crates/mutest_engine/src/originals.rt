@@ -153,8 +153,31 @@ fn all_passed(tests: Seq<(Bytes, Ended)>) -> Result<(), Refusal>
     Err(Refusal::NotGreen { tests })
 }
 
-/// All tests pass on the program as it is: the steps of each run. They are counted in the part. What
-/// the machine looks up is found once for all of them.
+// The same, with what the machine looks up found once for all runs.
+fn settled_runs(
+    alloc: Global,
+    program: &Program,
+    tests: &[Test],
+    part: &mut MeterPart,
+) -> Result<(Seq<(Bytes, Ended)>, Seq<u64>), Stop>
+    requires ready { IsReady program.now }
+    requires few { length tests.now ≤ 65535 }
+    requires start { part.old ≡ 0 }
+    ensures value { GivesBy (λ runs. runs.0) (all_settled (look program.now) tests.now) result }
+    ensures counts { IfOk result (λ runs. runs.1 ≡ original_steps (look program.now) tests.now) }
+    ensures most { part.new ≤ steps_made (look program.now) tests.now }
+    ensures exact { Counts part.new (steps_made (look program.now) tests.now) result }
+{
+    // What every program is, for the prover alone, and that this one may be run.
+    let _all = program.len();
+    ready_may_run();
+    let Some(mut tables) = Tables::find(alloc, program)? else {
+        unreachable!()
+    };
+    all_settled(alloc, program, &mut tables, tests, part)
+}
+
+/// All tests pass on the program as it is: the steps of each run. They are counted in the part.
 pub fn green(
     alloc: Global,
     program: &Program,
@@ -168,13 +191,7 @@ pub fn green(
     ensures most { part.new ≤ steps_made (look program.now) tests.now }
     ensures exact { Counts part.new (steps_made (look program.now) tests.now) result }
 {
-    // What every program is, for the prover alone, and that this one may be run.
-    let _all = program.len();
-    ready_may_run();
-    let Some(mut tables) = Tables::find(alloc, program)? else {
-        unreachable!()
-    };
-    let (failed, counts) = all_settled(alloc, program, &mut tables, tests, part)?;
+    let (failed, counts) = settled_runs(alloc, program, tests, part)?;
     all_passed(failed)?;
     Ok(counts)
 }
