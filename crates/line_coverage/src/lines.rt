@@ -1,0 +1,34 @@
+//! The tests of each line.
+
+ghost use Rattle.std.specs.Prelude.{◌≡◌, ℕ, ◌==◌, ◌&&◌, ◌||◌, false, OnOk};
+ghost use Rattle.line_coverage.specs.Lines.{is_reached, is_listed, same_line, words_at};
+
+use crate::words::add_test;
+use class_model::{ClassId, Memory};
+use std::collections::HashMap;
+
+/// The words of each line, by the class's number and the line.
+pub type Lines = HashMap<(u32, u16), Vec<u64>>;
+
+// Adds a test to those that reach a line.
+fn add_line(lines: &mut Lines, line: (u32, u16), test: usize) -> Result<(), Memory>
+    ensures ok { OnOk result ((p : ℕ × ℕ) (t : ℕ) → is_reached lines.new p t ≡ (is_reached lines.old p t || (same_line p line && t == test))) }
+    ensures others { (p : ℕ × ℕ) (t : ℕ) → (t == test) ≡ false → is_reached lines.new p t ≡ is_reached lines.old p t }
+{
+    add_test(lines.entry(line)?.or_default(), test)
+}
+
+/// Adds a test to those that reach each of these lines.
+pub fn add_lines(
+    lines: &mut Lines,
+    reached: &[(ClassId, u16)],
+    test: usize,
+) -> Result<(), Memory>
+    ensures ok { OnOk result ((p : ℕ × ℕ) (t : ℕ) → is_reached lines.new p t ≡ (is_reached lines.old p t || (is_listed p reached.now && t == test))) }
+    ensures others { (p : ℕ × ℕ) (t : ℕ) → (t == test) ≡ false → is_reached lines.new p t ≡ is_reached lines.old p t }
+{
+    for (class, line) in reached {
+        add_line(lines, (class.0, *line), test)?;
+    }
+    Ok(())
+}
