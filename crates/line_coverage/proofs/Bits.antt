@@ -24,9 +24,9 @@ none_passing p a (suc n) h =
 -- the first that passes, and those that pass besides
 first_passing : (p q : ℕ → Bool) (k a n : ℕ) → a ≤ k → k < a + n → p k ≡ true → q k ≡ false → ((i : ℕ) → i < k → p i ≡ false) → ((i : ℕ) → i < a + n → (i ≡ k → ⊥) → q i ≡ p i)
     → filter p (range_with_len a n) ≡ k ∷ filter q (range_with_len a n)
-first_passing p q k a zero from below is no before others = absurd (let l = from in let b = below in omega arith)
-first_passing p q k a (suc n) from below is no before others =
-    ⊎_elim here (there (λ less. first_passing p q k (a + 1) n (omega arith) (omega arith) is no before (λ i under other. others i (omega arith) other))) (cases_eq a k)
+first_passing p q k a zero from below at_p at_q before others = absurd (let l = from in let b = below in omega arith)
+first_passing p q k a (suc n) from below at_p at_q before others =
+    ⊎_elim here (there (λ less. first_passing p q k (a + 1) n (omega arith) (omega arith) at_p at_q before (λ i under other. others i (omega arith) other))) (cases_eq a k)
   where
     ps : List ℕ
     ps = filter p (range_with_len (a + 1) n)
@@ -34,9 +34,9 @@ first_passing p q k a (suc n) from below is no before others =
     qs = filter q (range_with_len (a + 1) n)
     here : a ≡ k → cond (p a) (a ∷ ps) ps ≡ k ∷ cond (q a) (a ∷ qs) qs
     here e =
-        ap (λ b. cond b (a ∷ ps) ps) (ap p e ∙ is)
+        ap (λ b. cond b (a ∷ ps) ps) (ap p e ∙ at_p)
         ∙ ap₂ (λ x xs. x ∷ xs) e (same_passing p q (a + 1) n (λ i above under. sym (others i (omega arith) (λ same. (let s = same in let t = e in let u = above in omega arith)))))
-        ∙ ap (λ b. k ∷ cond b (a ∷ qs) qs) (sym (ap q e ∙ no))
+        ∙ ap (λ b. k ∷ cond b (a ∷ qs) qs) (sym (ap q e ∙ at_q))
     there : (a < k → ps ≡ k ∷ qs) → (a ≡ k → ⊥) → cond (p a) (a ∷ ps) ps ≡ k ∷ cond (q a) (a ∷ qs) qs
     there rest apart =
         let less : a < k = omega arith in

@@ -1,12 +1,11 @@
 -- Tests word by word: one more word, and all of them.
-use Rattle.std.proofs.Common.{◌≡◌, ℕ, zero, suc, ◌+◌, ◌*◌, ◌/◌, ◌%◌, ◌^◌, ◌<◌, ◌≤◌, Bool, false, ◌&&◌, ◌||◌, ◌==◌, eqb, List, [], ◌∷◌, ◌++◌, map, length, filter, get_or, set, drop, bit_or, refl, sym, ap, ap₂, ◌∙◌, subst, ⊎_elim, arith, w64, append-nil, append_assoc, add_comm, get_or-set_same, get_or-set_other, length-append, drop_of_length-le, true}
+use Rattle.std.proofs.Common.{◌≡◌, ℕ, zero, suc, ◌+◌, ◌*◌, ◌/◌, ◌%◌, ◌^◌, ◌<◌, ◌≤◌, Bool, false, ◌&&◌, ◌||◌, ◌==◌, eqb, List, [], ◌∷◌, ◌++◌, map, length, filter, get_or, set, drop, bit_or, refl, sym, ap, ap₂, ◌∙◌, subst, ⊎_elim, arith, w64, append-nil, append_assoc, add_comm, get_or-set_same, get_or-set_other, true}
 use Rattle.std.specs.Int.{bit_at, trailing_zeros}
-use Rattle.std.specs.Io.Iter.{u64_saturate}
 use Rattle.std.specs.List.{range_with_len}
 use Rattle.std.proofs.lemmas.Bool.{cases_eq, eq-eqb, ne_eqb, and_from, and_left, and_right, or_right}
-use Rattle.std.proofs.lemmas.List.{drop_more, get_or_past, length-map}
+use Rattle.std.proofs.lemmas.List.{drop_more, get_or_past}
 use Rattle.std.proofs.lemmas.List.Elements.{filter-append}
-use Rattle.std.proofs.lemmas.Nat.Bits.{bit_at-zero, bit_at_set_same, bit_at_set_other}
+use Rattle.std.proofs.lemmas.Nat.Bits.{bit_at-trailing_zeros, bit_at-zero, bit_at_set_same, bit_at_set_other}
 use Rattle.line_coverage.specs.Words.{is_set, has_test, bits_of, tests_of, tests_from}
 use Rattle.line_coverage.proofs.Bits.{moved_passing, none_passing, no_bits, next_bit, without}
 
@@ -57,17 +56,19 @@ more_words ws i lt =
     ap (tests_from (64 * i)) (drop_more ws i 0 lt)
     ∙ ap (λ b. tests_of (64 * i) (get_or ws i 0) ++ tests_from b (drop (i + 1) ws)) (omega arith)
 
-pub more_counted : (ws : List ℕ) (i count word new all : ℕ) → i < length ws → word ≡ length (bits_of (get_or ws i 0)) → new ≡ u64_saturate (count + word)
-    → u64_saturate (count + length (tests_from (64 * i) (drop i ws))) ≡ all → u64_saturate (new + length (tests_from (64 * (i + 1)) (drop (i + 1) ws))) ≡ all
-more_counted ws i count word new all lt is more so_far =
-    let long = ap length (more_words ws i lt) ∙ length-append (tests_of (64 * i) (get_or ws i 0)) (tests_from (64 * (i + 1)) (drop (i + 1) ws)) in
-    let own = length-map (bits_of (get_or ws i 0)) (λ b. 64 * i + b) in
+-- a test of the word at a place is one of the words'
+pub at_place : (ws : List ℕ) (i b : ℕ) → b < 64 → has_test ws (64 * i + b) ≡ is_set (get_or ws i 0) b
+at_place ws i b below = ap₂ (λ j k. is_set (get_or ws j 0) k) (omega arith) (omega arith)
+
+-- where the tests of a word are numbers of 32 bits, so is its place
+pub place_below : (at word : ℕ) → 0 < word → word < 2 ^ 64 → ((b : ℕ) → b < 64 → is_set word b ≡ true → 64 * at + b < 2 ^ 32) → at < 2 ^ 26
+place_below at word some fits h =
+    let low = bit_at-trailing_zeros w64 word some fits in
+    let t = h (trailing_zeros w64 word) low.0 (ap (λ b. eqb b 1) low.1) in
     omega arith
 
-pub all_counted : (ws : List ℕ) (i count all : ℕ) → length ws ≤ i → count < 2 ^ 64 → u64_saturate (count + length (tests_from (64 * i) (drop i ws))) ≡ all → count ≡ all
-all_counted ws i count all le fits so_far =
-    let none = ap (λ xs. length (tests_from (64 * i) xs)) (drop_of_length-le i ws le) in
-    omega arith
+pub no_tests : (old : List ℕ) (base word : ℕ) → word ≡ 0 → old ≡ old ++ tests_of base word
+no_tests old base word is = sym (append-nil old) ∙ ap (λ bs. old ++ map (λ b. base + b) bs) (sym (no_bits word is))
 
 -- ---- all words
 
@@ -101,7 +102,7 @@ further p m n h =
 -- the tests of words, where none of them stands behind n
 pub words_are : (ws : List ℕ) (n : ℕ) → ((t : ℕ) → n ≤ t → has_test ws t ≡ false) → tests_from 0 ws ≡ filter (has_test ws) (range_with_len 0 n)
 words_are ws n h =
-    of_words ws 0 (has_test ws) (λ i b below. ap₂ (λ j k. is_set (get_or ws j 0) k) (omega arith) (omega arith))
+    of_words ws 0 (has_test ws) (λ i b below. at_place ws i b below)
     ∙ sym (further (has_test ws) (64 * length ws) n (λ t from. ap (λ w. is_set w (t % 64)) (get_or_past ws (t / 64) 0 (omega arith)) ∙ ap (λ b. eqb b 1) (bit_at-zero (t % 64))))
     ∙ ap (λ k. filter (has_test ws) (range_with_len 0 k)) (add_comm (64 * length ws) n)
     ∙ further (has_test ws) n (64 * length ws) h

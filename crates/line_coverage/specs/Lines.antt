@@ -16,7 +16,7 @@ same_line p q = p.0 == q.0 && p.1 == q.1
 
 -- Whether a line is among those that a run reached.
 abbrev pub is_listed : Line → List (ClassId × ℕ) → Bool
-is_listed p reached = list_any (λ x. same_line p (x.0.0, x.1)) reached
+is_listed p reached = list_any (λ x. same_line (x.0.0, x.1) p) reached
 
 -- ---- as the code keeps them
 

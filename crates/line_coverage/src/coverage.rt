@@ -3,9 +3,9 @@
 ghost use Rattle.std.specs.Prelude.{◌≡◌, ℕ, ◌<◌, ◌+◌, ◌^◌, ◌++◌, ◌∷◌, List, [], length, OnOk, OnErr};
 ghost use Rattle.std.specs.Io.Iter.{u64_saturate};
 ghost use Rattle.class_model.specs.declared.class.ClassId.{ClassId};
-ghost use Rattle.line_coverage.specs.Coverage.{Covers, KeepsRuns, reaches, tests_at, words_of};
+ghost use Rattle.line_coverage.specs.Coverage.{Covers, KeepsRuns, reaches, tests_at};
 
-use crate::lines::{Lines, add_lines};
+use crate::lines::{Lines, add_lines, words_at};
 use crate::tests::{count_tests, push_tests};
 use crate::words::has_test;
 use class_model::{ClassId, Memory};
@@ -33,6 +33,7 @@ impl Model for Coverage {
 
 impl Coverage {
     /// No test was run.
+    #[tactic(auto, using(crate::proofs::Kept::none_covers, crate::proofs::Kept::none_more))]
     pub fn new(alloc: Global) -> Coverage
         ensures { Covers [] result }
     {
@@ -44,6 +45,7 @@ impl Coverage {
 
     /// Adds the run of the next test, by the lines that it reached. Where memory runs out the run
     /// counts, with some of its lines.
+    #[tactic(auto, using(crate::proofs::Kept::run_added, crate::proofs::Kept::runs_kept, crate::proofs::Kept::no_more))]
     pub fn add_run(&mut self, reached: &[(ClassId, u16)]) -> Result<(), Memory>
         requires { self.old.tests + 1 < 2 ^ 64 }
         ensures ok { OnOk result ((runs : List (List (ClassId × ℕ))) → Covers runs self.old → Covers (runs ++ reached.now ∷ []) self.new) }
@@ -61,35 +63,28 @@ impl Coverage {
         self.tests
     }
 
-    // The words of a line.
-    fn words(&self, class: ClassId, line: u16) -> &[u64]
-        ensures { result.now ≡ words_of self.now (class.0, line) }
-    {
-        match self.lines.get(&(class.0, line)) {
-            Some(words) => words.as_slice(),
-            None => &[],
-        }
-    }
-
     /// Whether a test reaches a line of a class.
+    #[tactic(auto, using(crate::proofs::Kept::reaches_kept))]
     pub fn reaches(&self, class: ClassId, line: u16, test: usize) -> bool
         ensures { result ≡ reaches self.now class.0 line test }
     {
-        has_test(self.words(class, line), test)
+        has_test(words_at(&self.lines, (class.0, line)), test)
     }
 
     /// How many tests reach a line of a class. The count stays at 2^64 - 1.
+    #[tactic(auto, using(crate::proofs::Kept::tests_kept))]
     pub fn count_at(&self, class: ClassId, line: u16) -> u64
         ensures { result ≡ u64_saturate (length (tests_at self.now class.0 line)) }
     {
-        count_tests(self.words(class, line))
+        count_tests(words_at(&self.lines, (class.0, line)))
     }
 
     /// Adds the tests that reach a line of a class, in their order.
+    #[tactic(auto, using(crate::proofs::Kept::tests_kept, crate::proofs::Kept::tests_below))]
     pub fn push_tests(&self, class: ClassId, line: u16, tests: &mut Vec<u32>) -> Result<(), Memory>
         requires { self.now.tests < 2 ^ 32 }
         ensures { OnOk result (tests.new.items ≡ tests.old.items ++ tests_at self.now class.0 line) }
     {
-        push_tests(self.words(class, line), tests)
+        push_tests(words_at(&self.lines, (class.0, line)), tests)
     }
 }

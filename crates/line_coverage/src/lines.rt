@@ -12,10 +12,22 @@ pub type Lines = HashMap<(u32, u16), Vec<u64>>;
 
 // Adds a test to those that reach a line.
 fn add_line(lines: &mut Lines, line: (u32, u16), test: usize) -> Result<(), Memory>
-    ensures ok { OnOk result ((p : ℕ × ℕ) (t : ℕ) → is_reached lines.new p t ≡ (is_reached lines.old p t || (same_line p line && t == test))) }
+    ensures ok { OnOk result ((p : ℕ × ℕ) (t : ℕ) → is_reached lines.new p t ≡ (is_reached lines.old p t || (same_line line p && t == test))) }
     ensures others { (p : ℕ × ℕ) (t : ℕ) → (t == test) ≡ false → is_reached lines.new p t ≡ is_reached lines.old p t }
 {
-    add_test(lines.entry(line)?.or_default(), test)
+    let words = lines.entry(line)?.or_default();
+    add_test(words, test)?;
+    Ok(())
+}
+
+/// The words of a line, none where no test reaches it.
+pub fn words_at(lines: &Lines, line: (u32, u16)) -> &[u64]
+    ensures { result.now ≡ words_at lines.now line }
+{
+    match lines.get(&line) {
+        Some(words) => words.as_slice(),
+        None => &[],
+    }
 }
 
 /// Adds a test to those that reach each of these lines.

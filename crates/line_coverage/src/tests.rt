@@ -2,7 +2,7 @@
 
 ghost use Rattle.std.specs.Prelude.{◌≡◌, ℕ, ◌<◌, ◌+◌, ◌*◌, ◌^◌, ◌++◌, true, map, length, OnOk};
 ghost use Rattle.std.specs.Io.Iter.{u64_saturate};
-ghost use Rattle.line_coverage.specs.Words.{bits_of, has_test, tests_from, tests_of};
+ghost use Rattle.line_coverage.specs.Words.{bits_of, has_test, is_set, tests_from, tests_of};
 
 use class_model::Memory;
 
@@ -20,15 +20,25 @@ fn push_word(base: u32, word: u64, tests: &mut Vec<u32>) -> Result<(), Memory>
     Ok(())
 }
 
-/// Adds the tests of these words. Words without a test cost no more than a look.
+// Adds the tests of the word at a place. One without a test costs no more than a look.
+#[tactic(auto, using(crate::proofs::Walks::no_tests))]
+fn push_place(at: usize, word: u64, tests: &mut Vec<u32>) -> Result<(), Memory>
+    requires { (b : ℕ) → b < 64 → is_set word b ≡ true → 64 * at + b < 2 ^ 32 }
+    ensures { OnOk result (tests.new.items ≡ tests.old.items ++ tests_of (64 * at) word) }
+{
+    if word == 0 {
+        return Ok(());
+    }
+    push_word(64 * at as u32, word, tests)
+}
+
+/// Adds the tests of these words.
 pub fn push_tests(words: &[u64], tests: &mut Vec<u32>) -> Result<(), Memory>
     requires { (t : ℕ) → has_test words.now t ≡ true → t < 2 ^ 32 }
     ensures { OnOk result (tests.new.items ≡ tests.old.items ++ tests_from 0 words.now) }
 {
     for (at, word) in words.iter().enumerate() {
-        if *word != 0 {
-            push_word(at as u32 * 64, *word, tests)?;
-        }
+        push_place(at, *word, tests)?;
     }
     Ok(())
 }
