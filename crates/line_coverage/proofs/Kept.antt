@@ -1,5 +1,5 @@
 -- What is kept of lines says which tests reach them, and one more run.
-use Rattle.std.proofs.Common.{◌≡◌, ℕ, zero, suc, ◌+◌, ◌<◌, ◌≤◌, ◌%◌, Bool, true, false, cond, ◌&&◌, ◌||◌, ◌==◌, eqb, List, [], ◌∷◌, ◌++◌, map, length, filter, get_or, Option, Some, Vec, Global, HashMap, refl, sym, ap, ap₂, ◌∙◌, subst, ⊎_elim, arith, length-append, true≢false}
+use Rattle.std.proofs.Common.{◌≡◌, ℕ, zero, suc, ◌+◌, ◌<◌, ◌≤◌, ◌%◌, Bool, true, false, cond, ◌&&◌, ◌||◌, ◌==◌, eqb, List, [], ◌∷◌, ◌++◌, map, length, filter, get_or, Option, Some, Result, Ok, Err, OnErr, Vec, Global, HashMap, refl, sym, ap, ap₂, ◌∙◌, subst, ⊎_elim, arith, length-append, true≢false}
 use Rattle.std.specs.List.{list_any, range_with_len}
 use Rattle.std.specs.Map.{lookup}
 use Rattle.std.specs.Option.{option_map_or, unwrap_or}
@@ -13,20 +13,49 @@ use Rattle.line_coverage.specs.Words.{has_test, is_set, tests_from}
 use Rattle.line_coverage.proofs.Bits.{same_passing}
 use Rattle.line_coverage.proofs.Walks.{words_are}
 
-Kept : Type 0
+abbrev Kept : Type 0
 Kept = Line × Vec ℕ Global
 
-module _ {S : Type 0} where
-  abbrev Lines : Type 0
-  Lines = HashMap Line (Vec ℕ Global) S
+abbrev pub Lines : Type 0 → Type 0
+Lines S = HashMap Line (Vec ℕ Global) S
 
+or_none : (x : Bool) → x ≡ (x || false)
+or_none true = refl
+or_none false = refl
+
+pub on_err : {A B P : Type 0} (r : Result A B) → P → OnErr r P
+on_err (Ok x) p = tt
+on_err (Err e) p = p
+
+or_listed : (x listed b : Bool) → x ≡ false → b ≡ true → (x || (listed && b)) ≡ listed
+or_listed x true b none is = ap (λ y. y || b) none ∙ is
+or_listed x false b none is = ap (λ y. y || false) none
+
+module _ {S : Type 0} where
   -- one line has one row of words
-  pub same_words : (lines : Lines) (k p : Line) → same_line k p ≡ true → words_at lines p ≡ words_at lines k
+  same_words : (lines : Lines S) (k p : Line) → same_line k p ≡ true → words_at lines p ≡ words_at lines k
   same_words lines k p same =
       let parts = and_parts (k.0 == p.0) (k.1 == p.1) same in
       ap₂ (λ c l. words_at lines (c, l)) (sym (eqb-true k.0 p.0 parts.0)) (sym (eqb-true k.1 p.1 parts.1))
 
-  words_kept : (tests : ℕ) (lines : Lines) (p : Line) → words_of (covered tests lines) p ≡ words_at lines p
+  -- after a line's words were written, by what they were
+  pub line_added : (m n : Lines S) (k : Line) (old new : List ℕ) (t test : ℕ) → ((q : Line) → words_at n q ≡ cond (same_line k q) new (words_at m q)) → old ≡ words_at m k
+      → has_test new t ≡ (has_test old t || t == test) → (p : Line) → is_reached n p t ≡ (is_reached m p t || (same_line k p && t == test))
+  line_added m n k old new t test writes was adds p = ap (λ ws. has_test ws t) (writes p) ∙ by (same_line k p) refl
+    where
+      by : (b : Bool) → same_line k p ≡ b → has_test (cond b new (words_at m p)) t ≡ (is_reached m p t || (b && t == test))
+      by true same = adds ∙ ap (λ ws. has_test ws t || t == test) (was ∙ sym (same_words m k p same))
+      by false apart = or_none (is_reached m p t)
+
+  pub line_kept : (m n : Lines S) (k : Line) (old new : List ℕ) (t : ℕ) → ((q : Line) → words_at n q ≡ cond (same_line k q) new (words_at m q)) → old ≡ words_at m k
+      → has_test new t ≡ has_test old t → (p : Line) → is_reached n p t ≡ is_reached m p t
+  line_kept m n k old new t writes was keeps p = ap (λ ws. has_test ws t) (writes p) ∙ by (same_line k p) refl
+    where
+      by : (b : Bool) → same_line k p ≡ b → has_test (cond b new (words_at m p)) t ≡ is_reached m p t
+      by true same = keeps ∙ ap (λ ws. has_test ws t) (was ∙ sym (same_words m k p same))
+      by false apart = refl
+
+  words_kept : (tests : ℕ) (lines : Lines S) (p : Line) → words_of (covered tests lines) p ≡ words_at lines p
   words_kept tests lines p = by lines.entries
     where
       at : (e : Kept) (found : Option (List ℕ)) (here : Option (Vec ℕ Global)) → unwrap_or found [] ≡ option_map_or (λ ws. ws.items) here [] → (b : Bool)
@@ -37,16 +66,16 @@ module _ {S : Type 0} where
       by [] = refl
       by (e ∷ es) = at e (lookup (same_line p) (map (λ e. (e.0, e.1.items)) es)) (lookup (same_line p) es) (by es) (same_line p e.0)
 
-  pub reaches_kept : (tests : ℕ) (lines : Lines) (class line test : ℕ) → reaches (covered tests lines) class line test ≡ has_test (words_at lines (class, line)) test
+  pub reaches_kept : (tests : ℕ) (lines : Lines S) (class line test : ℕ) → reaches (covered tests lines) class line test ≡ has_test (words_at lines (class, line)) test
   unfolding reaches
   reaches_kept tests lines class line test = ap (λ ws. has_test ws test) (words_kept tests lines (class, line))
 
-  pub tests_kept : (tests : ℕ) (lines : Lines) (class line : ℕ) → HasNoMore (covered tests lines) → tests_from 0 (words_at lines (class, line)) ≡ tests_at (covered tests lines) class line
+  pub tests_kept : (tests : ℕ) (lines : Lines S) (class line : ℕ) → HasNoMore (covered tests lines) → tests_from 0 (words_at lines (class, line)) ≡ tests_at (covered tests lines) class line
   tests_kept tests lines class line more =
       words_are (words_at lines (class, line)) tests (λ t from. sym (reaches_kept tests lines class line t) ∙ more class line t from)
       ∙ same_passing (has_test (words_at lines (class, line))) (reaches (covered tests lines) class line) 0 tests (λ t from below. sym (reaches_kept tests lines class line t))
 
-  pub tests_below : (tests n : ℕ) (lines : Lines) (class line : ℕ) → HasNoMore (covered tests lines) → tests < n → (t : ℕ) → has_test (words_at lines (class, line)) t ≡ true → t < n
+  pub tests_below : (tests n : ℕ) (lines : Lines S) (class line : ℕ) → HasNoMore (covered tests lines) → tests < n → (t : ℕ) → has_test (words_at lines (class, line)) t ≡ true → t < n
   tests_below tests n lines class line more few t has =
       ⊎_elim (λ (below : t < n). below)
       (λ (behind : n ≤ t). absurd (true≢false (sym has ∙ sym (reaches_kept tests lines class line t) ∙ more class line t (omega arith))))
@@ -54,51 +83,42 @@ module _ {S : Type 0} where
 
   -- ---- no run
 
-  none_reach : (tests : ℕ) (lines : Lines) → lines.entries ≡ [] → (class line test : ℕ) → reaches (covered tests lines) class line test ≡ false
+  none_reach : (tests : ℕ) (lines : Lines S) → lines.entries ≡ [] → (class line test : ℕ) → reaches (covered tests lines) class line test ≡ false
   unfolding reaches
   none_reach tests lines none class line test =
       ap (λ es. has_test (unwrap_or (lookup (same_line (class, line)) (map (λ (e : Kept). (e.0, e.1.items)) es)) []) test) none
       ∙ ap (λ b. eqb b 1) (bit_at-zero (test % 64))
 
-  pub none_covers : (lines : Lines) → lines.entries ≡ [] → Covers [] (covered 0 lines)
+  pub none_covers : (lines : Lines S) → lines.entries ≡ [] → Covers [] (covered 0 lines)
   none_covers lines none = record { count = refl; lines = λ class line test. none_reach 0 lines none class line test }
 
-  pub none_more : (lines : Lines) → lines.entries ≡ [] → HasNoMore (covered 0 lines)
+  pub none_more : (lines : Lines S) → lines.entries ≡ [] → HasNoMore (covered 0 lines)
   none_more lines none = λ class line test from. none_reach 0 lines none class line test
 
   -- ---- one more run
 
-  AddsRun : ℕ → List (ClassId × ℕ) → Lines → Lines → Type 0
+  abbrev pub AddsRun : ℕ → List (ClassId × ℕ) → Lines S → Lines S → Type 0
   AddsRun tests reached old new = (p : Line) (t : ℕ) → is_reached new p t ≡ (is_reached old p t || (is_listed p reached && t == tests))
 
-  KeepsOthers : ℕ → Lines → Lines → Type 0
+  abbrev pub KeepsOthers : ℕ → Lines S → Lines S → Type 0
   KeepsOthers tests old new = (p : Line) (t : ℕ) → (t == tests) ≡ false → is_reached new p t ≡ is_reached old p t
 
-  other_kept : (tests : ℕ) (old new : Lines) → KeepsOthers tests old new → (class line test : ℕ) → (test == tests) ≡ false → reaches (covered (tests + 1) new) class line test ≡ reaches (covered tests old) class line test
+  other_kept : (tests : ℕ) (old new : Lines S) → KeepsOthers tests old new → (class line test : ℕ) → (test == tests) ≡ false → reaches (covered (tests + 1) new) class line test ≡ reaches (covered tests old) class line test
   other_kept tests old new others class line test apart =
       reaches_kept (tests + 1) new class line test ∙ others (class, line) test apart ∙ sym (reaches_kept tests old class line test)
 
-  pub runs_kept : (tests : ℕ) (old new : Lines) → KeepsOthers tests old new → KeepsRuns (covered tests old) (covered (tests + 1) new)
+  pub runs_kept : (tests : ℕ) (old new : Lines S) → KeepsOthers tests old new → KeepsRuns (covered tests old) (covered (tests + 1) new)
   runs_kept tests old new others = record {
     count = refl;
     lines = λ class line test below. other_kept tests old new others class line test (ne_eqb test tests (λ same. (let s = same in let b = below in omega arith)));
   }
 
-  pub no_more : (tests : ℕ) (old new : Lines) → KeepsOthers tests old new → HasNoMore (covered tests old) → HasNoMore (covered (tests + 1) new)
+  pub no_more : (tests : ℕ) (old new : Lines S) → KeepsOthers tests old new → HasNoMore (covered tests old) → HasNoMore (covered (tests + 1) new)
   no_more tests old new others more class line test from =
       other_kept tests old new others class line test (ne_eqb test tests (λ same. (let s = same in let b = from in omega arith)))
       ∙ more class line test (omega arith)
 
-
-
-
-
-
-  or_listed : (x listed b : Bool) → x ≡ false → b ≡ true → (x || (listed && b)) ≡ listed
-  or_listed x true b none is = ap (λ y. y || b) none ∙ is
-  or_listed x false b none is = ap (λ y. y || false) none
-
-  pub run_added : (tests : ℕ) (old new : Lines) (reached : List (ClassId × ℕ)) → AddsRun tests reached old new → KeepsOthers tests old new → HasNoMore (covered tests old)
+  pub run_added : (tests : ℕ) (old new : Lines S) (reached : List (ClassId × ℕ)) → AddsRun tests reached old new → KeepsOthers tests old new → HasNoMore (covered tests old)
       → (runs : List (List (ClassId × ℕ))) → Covers runs (covered tests old) → Covers (runs ++ reached ∷ []) (covered (tests + 1) new)
   run_added tests old new reached adds others more runs h = record {
     count = (let e = h.count in omega (arith, length-append runs (reached ∷ [])));

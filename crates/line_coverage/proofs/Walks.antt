@@ -102,7 +102,7 @@ further p m n h =
 -- the tests of words, where none of them stands behind n
 pub words_are : (ws : List ℕ) (n : ℕ) → ((t : ℕ) → n ≤ t → has_test ws t ≡ false) → tests_from 0 ws ≡ filter (has_test ws) (range_with_len 0 n)
 words_are ws n h =
-    of_words ws 0 (has_test ws) (λ i b below. at_place ws i b below)
+    of_words ws 0 (has_test ws) (λ i b below. ap (has_test ws) (omega arith) ∙ at_place ws i b below)
     ∙ sym (further (has_test ws) (64 * length ws) n (λ t from. ap (λ w. is_set w (t % 64)) (get_or_past ws (t / 64) 0 (omega arith)) ∙ ap (λ b. eqb b 1) (bit_at-zero (t % 64))))
     ∙ ap (λ k. filter (has_test ws) (range_with_len 0 k)) (add_comm (64 * length ws) n)
     ∙ further (has_test ws) n (64 * length ws) h

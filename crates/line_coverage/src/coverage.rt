@@ -33,7 +33,6 @@ impl Model for Coverage {
 
 impl Coverage {
     /// No test was run.
-    #[tactic(auto, using(crate::proofs::Kept::none_covers, crate::proofs::Kept::none_more))]
     pub fn new(alloc: Global) -> Coverage
         ensures { Covers [] result }
     {
@@ -45,7 +44,6 @@ impl Coverage {
 
     /// Adds the run of the next test, by the lines that it reached. Where memory runs out the run
     /// counts, with some of its lines.
-    #[tactic(auto, using(crate::proofs::Kept::run_added, crate::proofs::Kept::runs_kept, crate::proofs::Kept::no_more))]
     pub fn add_run(&mut self, reached: &[(ClassId, u16)]) -> Result<(), Memory>
         requires { self.old.tests + 1 < 2 ^ 64 }
         ensures ok { OnOk result ((runs : List (List (ClassId × ℕ))) → Covers runs self.old → Covers (runs ++ reached.now ∷ []) self.new) }
@@ -53,7 +51,8 @@ impl Coverage {
     {
         let test = self.tests;
         self.tests += 1;
-        add_lines(&mut self.lines, reached, test)
+        add_lines(&mut self.lines, reached, test)?;
+        Ok(())
     }
 
     /// How many tests were run.
@@ -64,7 +63,6 @@ impl Coverage {
     }
 
     /// Whether a test reaches a line of a class.
-    #[tactic(auto, using(crate::proofs::Kept::reaches_kept))]
     pub fn reaches(&self, class: ClassId, line: u16, test: usize) -> bool
         ensures { result ≡ reaches self.now class.0 line test }
     {
@@ -72,7 +70,6 @@ impl Coverage {
     }
 
     /// How many tests reach a line of a class. The count stays at 2^64 - 1.
-    #[tactic(auto, using(crate::proofs::Kept::tests_kept))]
     pub fn count_at(&self, class: ClassId, line: u16) -> u64
         ensures { result ≡ u64_saturate (length (tests_at self.now class.0 line)) }
     {
@@ -80,7 +77,6 @@ impl Coverage {
     }
 
     /// Adds the tests that reach a line of a class, in their order.
-    #[tactic(auto, using(crate::proofs::Kept::tests_kept, crate::proofs::Kept::tests_below))]
     pub fn push_tests(&self, class: ClassId, line: u16, tests: &mut Vec<u32>) -> Result<(), Memory>
         requires { self.now.tests < 2 ^ 32 }
         ensures { OnOk result (tests.new.items ≡ tests.old.items ++ tests_at self.now class.0 line) }

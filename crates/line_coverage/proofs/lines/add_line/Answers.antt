@@ -1,10 +1,19 @@
 use Rattle.std.proofs.Common.{arith}
 use Rattle.std.proofs.lemmas.Grind.{common_steps}
-use Rattle.line_coverage.proofs.Kept.{same_words}
+use Rattle.line_coverage.proofs.Kept.{line_added, line_kept}
 use Rattle.line_coverage.proofs.lines.add_line.Goals as goal
 
 pub returns-clause-ok : goal.returns-clause-ok
-returns-clause-ok c = λ p t. grind (arith, common_steps, same_words c.args.lines.now c.args.line p, c.add_test.ensures.ok t)
+returns-clause-ok c = λ p t.
+    line_added c.args.lines.now _ c.args.line c.or_default-words.result.now.items c.add_test.new.words.items t c.args.test
+    (λ q. grind arith) (grind arith) (c.in_ok-add_test.ensures.ok t) p
 
 pub returns-clause-others : goal.returns-clause-others
-returns-clause-others c = λ p t apart. grind (arith, common_steps, same_words c.args.lines.now c.args.line p, c.add_test.ensures.others t apart)
+returns-clause-others c = λ p t apart.
+    line_kept c.args.lines.now _ c.args.line c.or_default-words.result.now.items c.add_test.new.words.items t
+    (λ q. grind arith) (grind arith) (c.add_test.ensures.others t apart) p
+
+pub returns-in_err-add_test-clause-others : goal.returns-in_err-add_test-clause-others
+returns-in_err-add_test-clause-others c = λ p t apart.
+    line_kept c.args.lines.now _ c.args.line c.or_default-words.result.now.items c.add_test.new.words.items t
+    (λ q. grind arith) (grind arith) (c.add_test.ensures.others t apart) p
