@@ -1,6 +1,7 @@
 -- What is kept of lines says which tests reach them, and one more run.
 use Rattle.std.proofs.Common.{◌≡◌, ℕ, zero, suc, ◌+◌, ◌<◌, ◌≤◌, ◌%◌, Bool, true, false, cond, ◌&&◌, ◌||◌, ◌==◌, eqb, List, [], ◌∷◌, ◌++◌, map, length, filter, get_or, Option, Some, Result, Ok, Err, OnErr, Vec, Global, HashMap, refl, sym, ap, ap₂, ◌∙◌, subst, ⊎_elim, arith, length-append, true≢false}
 use Rattle.std.specs.List.{list_any, range_with_len}
+use Rattle.std.specs.HashMap.{UpdatesBy}
 use Rattle.std.specs.Map.{lookup}
 use Rattle.std.specs.Option.{option_map_or, unwrap_or}
 use Rattle.std.proofs.lemmas.Bool.{cases_lt, cases_order, eqb-true, eq-eqb, ne_eqb, and_parts}
@@ -38,20 +39,27 @@ module _ {S : Type 0} where
       let parts = and_parts (k.0 == p.0) (k.1 == p.1) same in
       ap₂ (λ c l. words_at lines (c, l)) (sym (eqb-true k.0 p.0 parts.0)) (sym (eqb-true k.1 p.1 parts.1))
 
-  -- after a line's words were written, by what they were
-  pub line_added : (m n : Lines S) (k : Line) (old new : List ℕ) (t test : ℕ) → ((q : Line) → words_at n q ≡ cond (same_line k q) new (words_at m q)) → old ≡ words_at m k
-      → has_test new t ≡ (has_test old t || t == test) → (p : Line) → is_reached n p t ≡ (is_reached m p t || (same_line k p && t == test))
-  line_added m n k old new t test writes was adds p = ap (λ ws. has_test ws t) (writes p) ∙ by (same_line k p) refl
+  line_after : (m n : Lines S) (k : Line) (w : Vec ℕ Global) → UpdatesBy same_line (same_line k) m n (Some w) → (q : Line) → words_at n q ≡ cond (same_line k q) w.items (words_at m q)
+  line_after m n k w updates q = ap (λ o. option_map_or (λ ws. ws.items) o []) (updates.0 q) ∙ by (same_line k q)
     where
-      by : (b : Bool) → same_line k p ≡ b → has_test (cond b new (words_at m p)) t ≡ (is_reached m p t || (b && t == test))
+      by : (b : Bool) → option_map_or (λ (ws : Vec ℕ Global). ws.items) (cond b (Some w) (lookup (same_line q) m.entries)) [] ≡ cond b w.items (words_at m q)
+      by true = refl
+      by false = refl
+
+  -- after a line's words were written, by what they were
+  pub line_added : (m n : Lines S) (k : Line) (old : List ℕ) (new : Vec ℕ Global) (t test : ℕ) → UpdatesBy same_line (same_line k) m n (Some new) → old ≡ words_at m k
+      → has_test new.items t ≡ (has_test old t || t == test) → (p : Line) → is_reached n p t ≡ (is_reached m p t || (same_line k p && t == test))
+  line_added m n k old new t test writes was adds p = ap (λ ws. has_test ws t) (line_after m n k new writes p) ∙ by (same_line k p) refl
+    where
+      by : (b : Bool) → same_line k p ≡ b → has_test (cond b new.items (words_at m p)) t ≡ (is_reached m p t || (b && t == test))
       by true same = adds ∙ ap (λ ws. has_test ws t || t == test) (was ∙ sym (same_words m k p same))
       by false apart = or_none (is_reached m p t)
 
-  pub line_kept : (m n : Lines S) (k : Line) (old new : List ℕ) (t : ℕ) → ((q : Line) → words_at n q ≡ cond (same_line k q) new (words_at m q)) → old ≡ words_at m k
-      → has_test new t ≡ has_test old t → (p : Line) → is_reached n p t ≡ is_reached m p t
-  line_kept m n k old new t writes was keeps p = ap (λ ws. has_test ws t) (writes p) ∙ by (same_line k p) refl
+  pub line_kept : (m n : Lines S) (k : Line) (old : List ℕ) (new : Vec ℕ Global) (t : ℕ) → UpdatesBy same_line (same_line k) m n (Some new) → old ≡ words_at m k
+      → has_test new.items t ≡ has_test old t → (p : Line) → is_reached n p t ≡ is_reached m p t
+  line_kept m n k old new t writes was keeps p = ap (λ ws. has_test ws t) (line_after m n k new writes p) ∙ by (same_line k p) refl
     where
-      by : (b : Bool) → same_line k p ≡ b → has_test (cond b new (words_at m p)) t ≡ is_reached m p t
+      by : (b : Bool) → same_line k p ≡ b → has_test (cond b new.items (words_at m p)) t ≡ is_reached m p t
       by true same = keeps ∙ ap (λ ws. has_test ws t) (was ∙ sym (same_words m k p same))
       by false apart = refl
 
