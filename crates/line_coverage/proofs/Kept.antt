@@ -1,9 +1,9 @@
 -- What is kept of lines says which tests reach them, and one more run.
-use Rattle.std.proofs.Common.{◌≡◌, ℕ, zero, suc, ◌+◌, ◌<◌, ◌≤◌, ◌%◌, Bool, true, false, cond, ◌&&◌, ◌||◌, ◌==◌, eqb, List, [], ◌∷◌, ◌++◌, map, length, filter, get_or, Option, Some, Result, Ok, Err, OnErr, Vec, Global, HashMap, refl, sym, ap, ap₂, ◌∙◌, subst, ⊎_elim, arith, length-append, true≢false}
+use Rattle.std.proofs.Common.{◌≡◌, ℕ, zero, suc, ◌+◌, ◌<◌, ◌≤◌, ◌%◌, Bool, true, false, cond, ◌&&◌, ◌||◌, ◌==◌, eqb, List, [], ◌∷◌, ◌++◌, map, length, filter, get_or, Option, Some, None, Result, vec_len, Ok, Err, OnErr, Vec, Global, HashMap, refl, sym, ap, ap₂, ◌∙◌, subst, ⊎_elim, arith, length-append, true≢false}
 use Rattle.std.specs.List.{list_any, range_with_len}
 use Rattle.std.specs.HashMap.{UpdatesBy}
 use Rattle.std.specs.Map.{lookup}
-use Rattle.std.specs.Option.{option_map_or, unwrap_or}
+use Rattle.std.specs.Option.{UnwrapsOrElse, option_map_or, unwrap_or}
 use Rattle.std.proofs.lemmas.Bool.{cases_lt, cases_order, eqb-true, eq-eqb, ne_eqb, and_parts}
 use Rattle.std.proofs.lemmas.List.{get_or_append_left, get_or_at, get_or_past}
 use Rattle.std.proofs.lemmas.Nat.Bits.{bit_at-zero}
@@ -19,6 +19,11 @@ Kept = Line × Vec ℕ Global
 
 abbrev pub Lines : Type 0 → Type 0
 Lines S = HashMap Line (Vec ℕ Global) S
+
+-- what an entry lends, where none is an empty row
+pub words_lent : (o : Option (Vec ℕ Global)) (w : Vec ℕ Global) → UnwrapsOrElse o (λ x. (x.items ≡ []) × (vec_len x ≡ 0)) w → w.items ≡ option_map_or (λ ws. ws.items) o []
+words_lent (Some v) w h = ap (λ x. x.items) h
+words_lent None w h = h.0
 
 or_none : (x : Bool) → x ≡ (x || false)
 or_none true = refl
