@@ -4,10 +4,10 @@ ghost use Rattle.std.specs.Prelude.{◌≡◌, ◌<◌, ◌≤◌, ◌^◌, leng
 ghost use Rattle.line_coverage.specs.Coverage.{reaches};
 ghost use Rattle.test_select.specs.Cells.{IsRefusal, cells, most_cells};
 
-use class_model::ClassId;
+use class_model::{ClassId, Seq};
 use line_coverage::Coverage;
 use std::alloc::Global;
-use test_select::{Cells, MutantPlace, SelectFault};
+use test_select::{Cell, MutantPlace, SelectFault};
 
 /// `Coverage::reaches`.
 pub fn reaches(cover: &Coverage, class: ClassId, line: u16, test: usize) -> bool
@@ -22,7 +22,7 @@ pub fn cells(
     mutants: &[MutantPlace],
     viable: &[bool],
     cover: &Coverage,
-) -> Result<Cells, SelectFault>
+) -> Result<Seq<Cell>, SelectFault>
     requires viable { length viable.now ≡ length mutants.now }
     requires mutants { length mutants.now < 2 ^ 32 }
     requires tests { cover.now.tests < 2 ^ 32 }

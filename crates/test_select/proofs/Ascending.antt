@@ -1,14 +1,15 @@
 -- Cells stand by mutant and then by test.
 use Rattle.std.proofs.Common.{◌≡◌, ℕ, zero, suc, ◌+◌, ◌<◌, ◌≤◌, Bool, true, false, cond, List, [], ◌∷◌, ◌++◌, map, filter, flat_map, zip, All, AllPairs, refl, sym, ◌∙◌, inl, inr, arith, le_refl}
+use Rattle.std.specs.Prelude.{⊤}
 use Rattle.std.specs.List.{enumerate_from, range_with_len}
 use Rattle.std.proofs.lemmas.List.Elements.{All-nil, All-cons, All-head, All-tail, All-append, All-weaker}
 use Rattle.std.proofs.lemmas.List.Kept.{AllPairs-cons}
 use Rattle.line_coverage.specs.Coverage.{Covered, reaches}
 use Rattle.test_select.specs.Cells.{IsBefore, Placed, cell, cells, cells_of}
-use Rattle.test_select.specs.declared.cells.Cell.{Cell}
+use Rattle.test_select.specs.declared.selection.Cell.{Cell}
 use Rattle.test_select.specs.declared.mutant.MutantPlace.{MutantPlace}
 
-Ascend : List Cell → Type 0
+abbrev Ascend : List Cell → Type 0
 Ascend [] = ⊤
 Ascend (c ∷ cs) = All (IsBefore c) cs × Ascend cs
 
@@ -23,10 +24,10 @@ pairs (c ∷ cs) a = AllPairs-cons IsBefore c cs a.0 (pairs cs a.1)
 
 -- ---- the cells of one mutant
 
-IsOf : ℕ → ℕ → Cell → Type 0
+abbrev IsOf : ℕ → ℕ → Cell → Type 0
 IsOf n from c = (c.mutant ≡ n) × (from ≤ c.test)
 
-OfOne : ℕ → ℕ → List Cell → Type 0
+abbrev OfOne : ℕ → ℕ → List Cell → Type 0
 OfOne n from cs = Ascend cs × All (IsOf n from) cs
 
 of_tests : (n : ℕ) (p : ℕ → Bool) (from k : ℕ) → OfOne n from (map (cell n) (filter p (range_with_len from k)))
@@ -51,10 +52,10 @@ of_mutant cover n m = by m.1
 
 -- ---- the cells of all
 
-IsFrom : ℕ → Cell → Type 0
+abbrev IsFrom : ℕ → Cell → Type 0
 IsFrom n c = n ≤ c.mutant
 
-OfAll : ℕ → List Cell → Type 0
+abbrev OfAll : ℕ → List Cell → Type 0
 OfAll n cs = Ascend cs × All (IsFrom n) cs
 
 joined : (n : ℕ) (xs ys : List Cell) → OfOne n 0 xs → OfAll (n + 1) ys → OfAll n (xs ++ ys)

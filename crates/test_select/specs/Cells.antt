@@ -2,9 +2,9 @@
 use Rattle.std.specs.Prelude.{◌≡◌, ◌<◌, ◌+◌, ◌⊎◌, ℕ, Bool, if◌then◌else◌, ⊤, List, [], map, length, flat_map, zip}
 use Rattle.std.specs.List.{enumerate_from}
 use Rattle.line_coverage.specs.Coverage.{Covered, tests_at}
-use Rattle.test_select.specs.declared.cells.Cell.{Cell}
-use Rattle.test_select.specs.declared.cells.SelectFault.{SelectFault}
-use Rattle.test_select.specs.declared.cells.SelectFault.TheVariants as fault
+use Rattle.test_select.specs.declared.selection.Cell.{Cell}
+use Rattle.test_select.specs.declared.selection.SelectFault.{SelectFault}
+use Rattle.test_select.specs.declared.selection.SelectFault.TheVariants as fault
 use Rattle.test_select.specs.declared.mutant.MutantPlace.{MutantPlace}
 
 abbrev pub cell : ℕ → ℕ → Cell

@@ -2,7 +2,7 @@ use Rattle.std.proofs.Common.{◌≡◌, ◌+◌, ◌<◌, ◌^◌, length}
 use Rattle.std.specs.Io.Iter.{u64_saturate}
 use Rattle.test_select.specs.Cells.{cells}
 use Rattle.test_select.proofs.Making.{cells_behind}
-use Rattle.test_select.proofs.cells.count_cells.Given as goal
+use Rattle.test_select.proofs.selection.count_cells.Given as goal
 
 abbrev pub invariant-loop-i : goal.invariant-loop-i
 invariant-loop-i l = record {

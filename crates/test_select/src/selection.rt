@@ -19,9 +19,6 @@ pub struct Cell {
     pub test: u32,
 }
 
-/// Cells by mutant and then by test.
-pub type Cells = Seq<Cell>;
-
 /// Why there are no cells.
 #[derive(Drop)]
 pub enum SelectFault {
@@ -106,13 +103,13 @@ fn make_cells(
     Ok(all)
 }
 
-/// The cells, or that they are too many. None is made then.
+/// The cells by mutant and then by test, or that they are too many. None is made then.
 pub fn cells(
     alloc: Global,
     mutants: &[MutantPlace],
     viable: &[bool],
     cover: &Coverage,
-) -> Result<Cells, SelectFault>
+) -> Result<Seq<Cell>, SelectFault>
     requires viable { length viable.now ≡ length mutants.now }
     requires mutants { length mutants.now < 2 ^ 32 }
     requires tests { cover.now.tests < 2 ^ 32 }
