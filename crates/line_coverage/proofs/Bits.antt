@@ -1,5 +1,5 @@
 -- The bits that are set in a word: the lowest first, and how many.
-use Rattle.std.proofs.Common.{◌≡◌, ℕ, zero, suc, ◌+◌, ◌-◌, ◌*◌, ◌/◌, ◌%◌, ◌^◌, ◌<◌, ◌≤◌, Bool, true, false, cond, eqb, List, [], ◌∷◌, map, length, filter, refl, sym, ap, ap₂, ◌∙◌, subst, ⊎_elim, arith, w64, bit_and, count_ones, le_refl, add-one}
+use Rattle.std.proofs.Common.{◌≡◌, ℕ, zero, suc, ◌+◌, ◌*◌, ◌/◌, ◌%◌, ◌^◌, ◌<◌, ◌≤◌, Bool, true, false, cond, eqb, List, [], ◌∷◌, map, length, filter, refl, sym, ap, ap₂, ◌∙◌, subst, ⊎_elim, arith, w64, bit_and, count_ones, le_refl, add-one}
 use Rattle.std.specs.Int.{bit_at, bit_not, trailing_zeros}
 use Rattle.std.specs.List.{range_with_len}
 use Rattle.std.proofs.lemmas.Bool.{cases_eq}
@@ -30,13 +30,16 @@ first_passing p q k a (suc n) from below at_p at_q before others =
   where
     ps : List ℕ
     ps = filter p (range_with_len (a + 1) n)
+
     qs : List ℕ
     qs = filter q (range_with_len (a + 1) n)
+
     here : a ≡ k → cond (p a) (a ∷ ps) ps ≡ k ∷ cond (q a) (a ∷ qs) qs
     here e =
         ap (λ b. cond b (a ∷ ps) ps) (ap p e ∙ at_p)
         ∙ ap₂ (λ x xs. x ∷ xs) e (same_passing p q (a + 1) n (λ i above under. sym (others i (omega arith) (λ same. (let s = same in let t = e in let u = above in omega arith)))))
         ∙ ap (λ b. k ∷ cond b (a ∷ qs) qs) (sym (ap q e ∙ at_q))
+
     there : (a < k → ps ≡ k ∷ qs) → (a ≡ k → ⊥) → cond (p a) (a ∷ ps) ps ≡ k ∷ cond (q a) (a ∷ qs) qs
     there rest apart =
         let less : a < k = omega arith in
@@ -96,6 +99,7 @@ ones_below (suc k) n h =
   where
     others : filter (is_set n) (range_with_len 1 k) ≡ map (λ b. 1 + b) (filter (is_set (n / 2)) (range_with_len 0 k))
     others = moved_passing (is_set n) (is_set (n / 2)) 1 0 1 k refl (λ b from below. ap (λ x. eqb x 1) (ap (bit_at n) (omega arith) ∙ bit_at-suc n b))
+
     lowest : (r : ℕ) → r < 2 → bit_at n 0 ≡ r → length (filter (is_set (n / 2)) (range_with_len 0 k)) + count_ones r ≡ length (cond (is_set n 0) (0 ∷ filter (is_set n) (range_with_len 1 k)) (filter (is_set n) (range_with_len 1 k)))
     lowest zero small is =
         let one : count_ones 0 ≡ 0 = (let o = ones_le_self 0 in omega arith) in

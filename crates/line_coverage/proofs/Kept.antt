@@ -1,6 +1,5 @@
 -- What is kept of lines says which tests reach them, and one more run.
-use Rattle.std.proofs.Common.{◌≡◌, ℕ, zero, suc, ◌+◌, ◌<◌, ◌≤◌, ◌%◌, Bool, true, false, cond, ◌&&◌, ◌||◌, ◌==◌, eqb, List, [], ◌∷◌, ◌++◌, map, length, filter, get_or, Option, Some, None, Result, vec_len, Ok, Err, OnErr, Vec, Global, HashMap, refl, sym, ap, ap₂, ◌∙◌, subst, ⊎_elim, arith, length-append, true≢false}
-use Rattle.std.specs.List.{list_any, range_with_len}
+use Rattle.std.proofs.Common.{◌≡◌, ℕ, ◌+◌, ◌<◌, ◌≤◌, ◌%◌, Bool, true, false, cond, ◌&&◌, ◌||◌, ◌==◌, eqb, List, [], ◌∷◌, ◌++◌, map, Option, Some, None, Result, vec_len, Ok, Err, OnErr, Vec, Global, HashMap, refl, sym, ap, ap₂, ◌∙◌, ⊎_elim, arith, length-append, true≢false}
 use Rattle.std.specs.HashMap.{UpdatesBy}
 use Rattle.std.specs.Map.{lookup}
 use Rattle.std.specs.Option.{UnwrapsOrElse, option_map_or, unwrap_or}
@@ -8,9 +7,9 @@ use Rattle.std.proofs.lemmas.Bool.{cases_lt, cases_order, eqb-true, eq-eqb, ne_e
 use Rattle.std.proofs.lemmas.List.{get_or_append_left, get_or_at, get_or_past}
 use Rattle.std.proofs.lemmas.Nat.Bits.{bit_at-zero}
 use Rattle.class_model.specs.declared.class.ClassId.{ClassId}
-use Rattle.line_coverage.specs.Coverage.{Covered, Covers, HasNoMore, KeepsRuns, covered, reaches, tests_at, words_of}
+use Rattle.line_coverage.specs.Coverage.{Covers, HasNoMore, KeepsRuns, covered, reaches, tests_at, words_of}
 use Rattle.line_coverage.specs.Lines.{Line, is_listed, is_reached, same_line, words_at}
-use Rattle.line_coverage.specs.Words.{has_test, is_set, tests_from}
+use Rattle.line_coverage.specs.Words.{has_test, tests_from}
 use Rattle.line_coverage.proofs.Bits.{same_passing}
 use Rattle.line_coverage.proofs.Walks.{words_are}
 
@@ -75,6 +74,7 @@ module _ {S : Type 0} where
           → unwrap_or (cond b (Some e.1.items) found) [] ≡ option_map_or (λ ws. ws.items) (cond b (Some e.1) here) []
       at e found here h true = refl
       at e found here h false = h
+
       by : (es : List Kept) → unwrap_or (lookup (same_line p) (map (λ e. (e.0, e.1.items)) es)) [] ≡ option_map_or (λ ws. ws.items) (lookup (same_line p) es) []
       by [] = refl
       by (e ∷ es) = at e (lookup (same_line p) (map (λ e. (e.0, e.1.items)) es)) (lookup (same_line p) es) (by es) (same_line p e.0)
@@ -136,19 +136,19 @@ module _ {S : Type 0} where
   run_added tests old new reached adds others more runs h = record {
     count = (let e = h.count in omega (arith, length-append runs (reached ∷ [])));
     lines = λ class line test. ⊎_elim
-      (λ (same : test ≡ tests).
+        (λ (same : test ≡ tests).
         reaches_kept (tests + 1) new class line test
         ∙ adds (class, line) test
         ∙ or_listed (is_reached old (class, line) test) (is_listed (class, line) reached) (test == tests) (sym (reaches_kept tests old class line test) ∙ more class line test (omega arith)) (eq-eqb test tests same)
         ∙ ap (is_listed (class, line)) (sym (get_or_at runs reached [] [] test (let e = h.count in omega arith))))
-      (λ r. ⊎_elim
+        (λ r. ⊎_elim
         (λ (below : test < tests).
-          other_kept tests old new others class line test (ne_eqb test tests (λ same. (let s = same in let b = below in omega arith)))
-          ∙ h.lines class line test
-          ∙ ap (is_listed (class, line)) (sym (get_or_append_left runs (reached ∷ []) [] test (let e = h.count in omega arith))))
+        other_kept tests old new others class line test (ne_eqb test tests (λ same. (let s = same in let b = below in omega arith)))
+        ∙ h.lines class line test
+        ∙ ap (is_listed (class, line)) (sym (get_or_append_left runs (reached ∷ []) [] test (let e = h.count in omega arith))))
         (λ (behind : tests < test).
-          no_more tests old new others more class line test (omega arith)
-          ∙ ap (is_listed (class, line)) (sym (get_or_past (runs ++ reached ∷ []) test [] (let e = h.count in omega (arith, length-append runs (reached ∷ []))))))
+        no_more tests old new others more class line test (omega arith)
+        ∙ ap (is_listed (class, line)) (sym (get_or_past (runs ++ reached ∷ []) test [] (let e = h.count in omega (arith, length-append runs (reached ∷ []))))))
         r)
-      (cases_order test tests);
+        (cases_order test tests);
   }

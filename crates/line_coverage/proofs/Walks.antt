@@ -1,5 +1,5 @@
 -- Tests word by word: one more word, and all of them.
-use Rattle.std.proofs.Common.{◌≡◌, ℕ, zero, suc, ◌+◌, ◌*◌, ◌/◌, ◌%◌, ◌^◌, ◌<◌, ◌≤◌, Bool, false, ◌&&◌, ◌||◌, ◌==◌, eqb, List, [], ◌∷◌, ◌++◌, map, length, filter, get_or, set, drop, bit_or, refl, sym, ap, ap₂, ◌∙◌, subst, ⊎_elim, arith, w64, append-nil, append_assoc, add_comm, get_or-set_same, get_or-set_other, true}
+use Rattle.std.proofs.Common.{◌≡◌, ℕ, zero, suc, ◌+◌, ◌*◌, ◌/◌, ◌%◌, ◌^◌, ◌<◌, ◌≤◌, Bool, false, ◌&&◌, ◌||◌, ◌==◌, eqb, List, [], ◌∷◌, ◌++◌, map, length, filter, get_or, set, drop, bit_or, refl, sym, ap, ap₂, ◌∙◌, ⊎_elim, arith, w64, append-nil, append_assoc, add_comm, get_or-set_same, get_or-set_other, true}
 use Rattle.std.specs.Int.{bit_at, trailing_zeros}
 use Rattle.std.specs.List.{range_with_len}
 use Rattle.std.proofs.lemmas.Bool.{cases_eq, eq-eqb, ne_eqb, and_from, and_left, and_right, or_right}
@@ -21,6 +21,7 @@ bit_set ws at bit there within i b below = ⊎_elim here else (cases_eq i at)
   where
     word : ℕ
     word = bit_or (get_or ws at 0) (1 * 2 ^ bit % 2 ^ 64)
+
     here : i ≡ at → is_set (get_or (set ws at word) i 0) b ≡ (is_set (get_or ws i 0) b || (i == at && b == bit))
     here same =
         let is : get_or (set ws at word) i 0 ≡ word = ap (λ j. get_or (set ws at word) j 0) same ∙ get_or-set_same ws at word 0 there in
@@ -30,6 +31,7 @@ bit_set ws at bit there within i b below = ⊎_elim here else (cases_eq i at)
         (λ (one : b ≡ bit). ap (λ x. eqb x 1) (ap (bit_at word) one ∙ bit_at_set_same w64 (get_or ws at 0) bit within) ∙ sym (or_right (is_set (get_or ws i 0) b) (i == at && b == bit) (and_from (i == at) (b == bit) (eq-eqb i at same) (eq-eqb b bit one))))
         (λ (other : b ≡ bit → ⊥). ap (λ x. eqb x 1) (bit_at_set_other w64 (get_or ws at 0) bit within b other ∙ ap (λ w. bit_at w b) was) ∙ or_false (is_set (get_or ws i 0) b) (i == at && b == bit) (and_right (i == at) (b == bit) (ne_eqb b bit other)))
         (cases_eq b bit)
+
     else : (i ≡ at → ⊥) → is_set (get_or (set ws at word) i 0) b ≡ (is_set (get_or ws i 0) b || (i == at && b == bit))
     else apart =
         ap (λ w. is_set w b) (get_or-set_other ws at i word 0 apart)

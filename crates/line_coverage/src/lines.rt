@@ -31,11 +31,7 @@ pub fn words_at(lines: &Lines, line: (u32, u16)) -> &[u64]
 }
 
 /// Adds a test to those that reach each of these lines.
-pub fn add_lines(
-    lines: &mut Lines,
-    reached: &[(ClassId, u16)],
-    test: usize,
-) -> Result<(), Memory>
+pub fn add_lines(lines: &mut Lines, reached: &[(ClassId, u16)], test: usize) -> Result<(), Memory>
     ensures ok { OnOk result ((p : ℕ × ℕ) (t : ℕ) → is_reached lines.new p t ≡ (is_reached lines.old p t || (is_listed p reached.now && t == test))) }
     ensures others { (p : ℕ × ℕ) (t : ℕ) → (t == test) ≡ false → is_reached lines.new p t ≡ is_reached lines.old p t }
 {

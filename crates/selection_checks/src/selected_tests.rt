@@ -4,6 +4,7 @@ use std::test::Fail;
 use test_select::{MutantPlace, cells};
 
 const A: ClassId = ClassId(0);
+
 const B: ClassId = ClassId(1);
 
 // Test 0 reaches line 3 of A, test 1 nothing, test 2 line 3 of A and line 3 of B.

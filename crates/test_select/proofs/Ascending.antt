@@ -36,10 +36,11 @@ of_tests n p from (suc k) = by (of_tests n p (from + 1) k) (p from)
   where
     by : OfOne n (from + 1) (map (cell n) (filter p (range_with_len (from + 1) k))) → (b : Bool)
         → OfOne n from (map (cell n) (cond b (from ∷ filter p (range_with_len (from + 1) k)) (filter p (range_with_len (from + 1) k))))
-    by rest true =
-        ((All-weaker (IsOf n (from + 1)) (IsBefore (cell n from)) (λ c h. inr (sym h.0, (let t = h.1 in omega arith))) (map (cell n) (filter p (range_with_len (from + 1) k))) rest.1, rest.0),
-        All-cons (IsOf n from) (cell n from) (map (cell n) (filter p (range_with_len (from + 1) k))) (refl, le_refl from)
-        (All-weaker (IsOf n (from + 1)) (IsOf n from) (λ c h. (h.0, (let t = h.1 in omega arith))) (map (cell n) (filter p (range_with_len (from + 1) k))) rest.1))
+    by rest true = (
+      (All-weaker (IsOf n (from + 1)) (IsBefore (cell n from)) (λ c h. inr (sym h.0, (let t = h.1 in omega arith))) (map (cell n) (filter p (range_with_len (from + 1) k))) rest.1, rest.0),
+      All-cons (IsOf n from) (cell n from) (map (cell n) (filter p (range_with_len (from + 1) k))) (refl, le_refl from)
+          (All-weaker (IsOf n (from + 1)) (IsOf n from) (λ c h. (h.0, (let t = h.1 in omega arith))) (map (cell n) (filter p (range_with_len (from + 1) k))) rest.1),
+    )
     by rest false =
         (rest.0, All-weaker (IsOf n (from + 1)) (IsOf n from) (λ c h. (h.0, (let t = h.1 in omega arith))) (map (cell n) (filter p (range_with_len (from + 1) k))) rest.1)
 
@@ -59,9 +60,10 @@ abbrev OfAll : ℕ → List Cell → Type 0
 OfAll n cs = Ascend cs × All (IsFrom n) cs
 
 joined : (n : ℕ) (xs ys : List Cell) → OfOne n 0 xs → OfAll (n + 1) ys → OfAll n (xs ++ ys)
-joined n xs ys a b =
-    (ascend_append xs ys a.0 b.0 (All-weaker (IsOf n 0) (λ x. All (IsBefore x) ys) (λ x h. All-weaker (IsFrom (n + 1)) (IsBefore x) (λ y from. inl (let e = h.0 in let f = from in omega arith)) ys b.1) xs a.1),
-    All-append (IsFrom n) xs ys (All-weaker (IsOf n 0) (IsFrom n) (λ x h. (let e = h.0 in omega arith)) xs a.1) (All-weaker (IsFrom (n + 1)) (IsFrom n) (λ y from. (let f = from in omega arith)) ys b.1))
+joined n xs ys a b = (
+  ascend_append xs ys a.0 b.0 (All-weaker (IsOf n 0) (λ x. All (IsBefore x) ys) (λ x h. All-weaker (IsFrom (n + 1)) (IsBefore x) (λ y from. inl (let e = h.0 in let f = from in omega arith)) ys b.1) xs a.1),
+  All-append (IsFrom n) xs ys (All-weaker (IsOf n 0) (IsFrom n) (λ x h. (let e = h.0 in omega arith)) xs a.1) (All-weaker (IsFrom (n + 1)) (IsFrom n) (λ y from. (let f = from in omega arith)) ys b.1),
+)
 
 of_mutants : (cover : Covered) (n : ℕ) (ms : List Placed) → OfAll n (flat_map (cells_of cover) (enumerate_from n ms))
 of_mutants cover n [] = (tt, All-nil (IsFrom n))

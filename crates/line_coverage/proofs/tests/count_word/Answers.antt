@@ -1,4 +1,4 @@
-use Rattle.std.proofs.Common.{◌≡◌, ◌∙◌}
+use Rattle.std.proofs.Common.{◌∙◌}
 use Rattle.line_coverage.proofs.Bits.{count_is}
 use Rattle.line_coverage.proofs.tests.count_word.Goals as goal
 

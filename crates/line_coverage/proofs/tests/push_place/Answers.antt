@@ -1,4 +1,4 @@
-use Rattle.std.proofs.Common.{◌<◌, ◌^◌, arith}
+use Rattle.std.proofs.Common.{arith}
 use Rattle.line_coverage.proofs.Walks.{place_below}
 use Rattle.line_coverage.proofs.tests.push_place.Goals as goal
 

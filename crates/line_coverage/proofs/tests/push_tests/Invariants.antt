@@ -1,4 +1,4 @@
-use Rattle.std.proofs.Common.{◌≡◌, ◌+◌, ◌*◌, ◌++◌, drop}
+use Rattle.std.proofs.Common.{◌≡◌, ◌*◌, ◌++◌, drop}
 use Rattle.line_coverage.specs.Words.{tests_from}
 use Rattle.line_coverage.proofs.tests.push_tests.Given as goal
 

@@ -1,4 +1,4 @@
-use Rattle.std.proofs.Common.{◌≡◌, ◌<◌, ◌++◌, refl, arith, w64}
+use Rattle.std.proofs.Common.{◌++◌, refl, arith, w64}
 use Rattle.std.specs.Int.{trailing_zeros}
 use Rattle.line_coverage.specs.Words.{tests_of}
 use Rattle.line_coverage.proofs.Bits.{fewer_bits}

@@ -1,4 +1,4 @@
-use Rattle.std.proofs.Common.{◌≡◌, ◌++◌, ℕ}
+use Rattle.std.proofs.Common.{◌≡◌, ◌++◌}
 use Rattle.line_coverage.specs.Words.{tests_of}
 use Rattle.line_coverage.proofs.tests.push_word.Given as goal
 
