@@ -1,5 +1,5 @@
 -- What is kept of lines says which tests reach them, and one more run.
-use Rattle.std.proofs.Common.{◌≡◌, ℕ, ◌+◌, ◌<◌, ◌≤◌, ◌%◌, Bool, true, false, cond, ◌&&◌, ◌||◌, ◌==◌, eqb, List, [], ◌∷◌, ◌++◌, map, Option, Some, None, Result, vec_len, Ok, Err, OnErr, Vec, Global, HashMap, refl, sym, ap, ap₂, ◌∙◌, ⊎_elim, arith, length-append, true≢false}
+use Rattle.std.proofs.Common.{◌≡◌, ℕ, ◌+◌, ◌<◌, ◌≤◌, ◌%◌, Bool, true, false, cond, ◌&&◌, ◌||◌, ◌==◌, eqb, List, [], ◌∷◌, ◌++◌, map, Option, Some, None, Result, vec_len, Ok, Err, OnErr, Vec, Global, refl, sym, ap, ap₂, ◌∙◌, ⊎_elim, arith, length-append, true≢false}
 use Rattle.std.specs.HashMap.{UpdatesBy}
 use Rattle.std.specs.Map.{lookup}
 use Rattle.std.specs.Option.{UnwrapsOrElse, option_map_or, unwrap_or}
@@ -7,17 +7,14 @@ use Rattle.std.proofs.lemmas.Bool.{cases_lt, cases_order, eqb-true, eq-eqb, ne_e
 use Rattle.std.proofs.lemmas.List.{get_or_append_left, get_or_at, get_or_past}
 use Rattle.std.proofs.lemmas.Nat.Bits.{bit_at-zero}
 use Rattle.class_model.specs.declared.class.ClassId.{ClassId}
-use Rattle.line_coverage.specs.Coverage.{Covers, HasNoMore, KeepsRuns, covered, reaches, tests_at, words_of}
-use Rattle.line_coverage.specs.Lines.{Line, is_listed, is_reached, same_line, words_at}
+use Rattle.line_coverage.specs.Coverage.{AddsRun, Covers, HasNoMore, KeepsRuns, covered, reaches, tests_at, words_of}
+use Rattle.line_coverage.specs.Lines.{AddsToLines, KeepsOtherRuns, Line, Lines, is_listed, is_reached, same_line, words_at}
 use Rattle.line_coverage.specs.Words.{has_test, tests_from}
 use Rattle.line_coverage.proofs.Bits.{same_passing}
 use Rattle.line_coverage.proofs.Walks.{words_are}
 
 abbrev Kept : Type 0
 Kept = Line × Vec ℕ Global
-
-abbrev pub Lines : Type 0 → Type 0
-Lines S = HashMap Line (Vec ℕ Global) S
 
 -- what an entry lends, where none is an empty row
 pub words_lent : (o : Option (Vec ℕ Global)) (w : Vec ℕ Global) → UnwrapsOrElse o (λ x. (x.items ≡ []) × (vec_len x ≡ 0)) w → w.items ≡ option_map_or (λ ws. ws.items) o []
@@ -110,29 +107,23 @@ module _ {S : Type 0} where
 
   -- ---- one more run
 
-  abbrev pub AddsRun : ℕ → List (ClassId × ℕ) → Lines S → Lines S → Type 0
-  AddsRun tests reached old new = (p : Line) (t : ℕ) → is_reached new p t ≡ (is_reached old p t || (is_listed p reached && t == tests))
-
-  abbrev pub KeepsOthers : ℕ → Lines S → Lines S → Type 0
-  KeepsOthers tests old new = (p : Line) (t : ℕ) → (t == tests) ≡ false → is_reached new p t ≡ is_reached old p t
-
-  other_kept : (tests : ℕ) (old new : Lines S) → KeepsOthers tests old new → (class line test : ℕ) → (test == tests) ≡ false → reaches (covered (tests + 1) new) class line test ≡ reaches (covered tests old) class line test
+  other_kept : (tests : ℕ) (old new : Lines S) → KeepsOtherRuns tests old new → (class line test : ℕ) → (test == tests) ≡ false → reaches (covered (tests + 1) new) class line test ≡ reaches (covered tests old) class line test
   other_kept tests old new others class line test apart =
       reaches_kept (tests + 1) new class line test ∙ others (class, line) test apart ∙ sym (reaches_kept tests old class line test)
 
-  pub runs_kept : (tests : ℕ) (old new : Lines S) → KeepsOthers tests old new → KeepsRuns (covered tests old) (covered (tests + 1) new)
+  pub runs_kept : (tests : ℕ) (old new : Lines S) → KeepsOtherRuns tests old new → KeepsRuns (covered tests old) (covered (tests + 1) new)
   runs_kept tests old new others = record {
     count = refl;
     lines = λ class line test below. other_kept tests old new others class line test (ne_eqb test tests (λ same. (let s = same in let b = below in omega arith)));
   }
 
-  pub no_more : (tests : ℕ) (old new : Lines S) → KeepsOthers tests old new → HasNoMore (covered tests old) → HasNoMore (covered (tests + 1) new)
+  pub no_more : (tests : ℕ) (old new : Lines S) → KeepsOtherRuns tests old new → HasNoMore (covered tests old) → HasNoMore (covered (tests + 1) new)
   no_more tests old new others more class line test from =
       other_kept tests old new others class line test (ne_eqb test tests (λ same. (let s = same in let b = from in omega arith)))
       ∙ more class line test (omega arith)
 
-  pub run_added : (tests : ℕ) (old new : Lines S) (reached : List (ClassId × ℕ)) → AddsRun tests reached old new → KeepsOthers tests old new → HasNoMore (covered tests old)
-      → (runs : List (List (ClassId × ℕ))) → Covers runs (covered tests old) → Covers (runs ++ reached ∷ []) (covered (tests + 1) new)
+  pub run_added : (tests : ℕ) (old new : Lines S) (reached : List (ClassId × ℕ)) → AddsToLines reached tests old new → KeepsOtherRuns tests old new → HasNoMore (covered tests old)
+      → AddsRun reached (covered tests old) (covered (tests + 1) new)
   run_added tests old new reached adds others more runs h = record {
     count = (let e = h.count in omega (arith, length-append runs (reached ∷ [])));
     lines = λ class line test. ⊎_elim

@@ -1,5 +1,5 @@
 -- The tests that reach each line of a class (this project's own).
-use Rattle.std.specs.Prelude.{ℕ, ◌==◌, ◌&&◌, Bool, List, [], Vec}
+use Rattle.std.specs.Prelude.{◌≡◌, ℕ, ◌==◌, ◌&&◌, ◌||◌, Bool, false, List, [], Vec}
 use Rattle.std.specs.declared.alloc.Global.{Global}
 use Rattle.std.specs.HashMap.{HashMap, get}
 use Rattle.std.specs.List.{list_any}
@@ -20,10 +20,31 @@ is_listed p reached = list_any (λ x. same_line (x.0.0, x.1) p) reached
 
 -- ---- as the code keeps them
 
+-- The words of each line, by a hasher of this type.
+abbrev pub Lines : Type 0 → Type 0
+Lines S = HashMap Line (Vec ℕ Global) S
+
 module _ {S : Type 0} where
   -- The words of a line, none where no test reaches it.
-  abbrev pub words_at : HashMap Line (Vec ℕ Global) S → Line → List ℕ
+  abbrev pub words_at : Lines S → Line → List ℕ
   words_at lines p = option_map_or (λ words. words.items) (get same_line lines p) []
 
-  abbrev pub is_reached : HashMap Line (Vec ℕ Global) S → Line → ℕ → Bool
+  abbrev pub is_reached : Lines S → Line → ℕ → Bool
   is_reached lines p test = has_test (words_at lines p) test
+
+  -- What reaches a line is what did before, and for this line the test, too.
+  abbrev pub AddsToLine : Line → ℕ → Lines S → Lines S → Type 0
+  AddsToLine line test old new =
+      (p : Line) (t : ℕ) →
+      is_reached new p t ≡ (is_reached old p t || (same_line line p && t == test))
+
+  -- What reaches a line is what did before, and for each of these lines the test, too.
+  abbrev pub AddsToLines : List (ClassId × ℕ) → ℕ → Lines S → Lines S → Type 0
+  AddsToLines reached test old new =
+      (p : Line) (t : ℕ) →
+      is_reached new p t ≡ (is_reached old p t || (is_listed p reached && t == test))
+
+  -- The other tests reach what they did.
+  abbrev pub KeepsOtherRuns : ℕ → Lines S → Lines S → Type 0
+  KeepsOtherRuns test old new =
+      (p : Line) (t : ℕ) → (t == test) ≡ false → is_reached new p t ≡ is_reached old p t

@@ -1,9 +1,9 @@
 //! Which tests reach a line of a class.
 
-ghost use Rattle.std.specs.Prelude.{◌≡◌, ℕ, ◌<◌, ◌+◌, ◌^◌, ◌++◌, ◌∷◌, List, [], length, OnOk, OnErr};
+ghost use Rattle.std.specs.Prelude.{◌≡◌, ◌<◌, ◌+◌, ◌^◌, [], length, OnOk, OnErr};
 ghost use Rattle.std.specs.Io.Iter.{u64_saturate};
-ghost use Rattle.class_model.specs.declared.class.ClassId.{ClassId};
-ghost use Rattle.line_coverage.specs.Coverage.{Covers, KeepsRuns, reaches, tests_at};
+ghost use Rattle.line_coverage.specs.Coverage.{AddsRun, AddsTestsAt, Covers, KeepsRuns};
+ghost use Rattle.line_coverage.specs.Coverage.{reaches, tests_at};
 
 use crate::lines::{Lines, add_lines, words_at};
 use crate::tests::{count_tests, push_tests};
@@ -13,8 +13,8 @@ use std::alloc::Global;
 use std::collections::HashMap;
 use std::marker::Model;
 
-/// Which tests reach a line of a class, by the runs of the tests. Contracts see how many tests there
-/// are, and the words of each line.
+/// Which tests reach a line of a class, by the runs of the tests. Contracts see how many tests
+/// there are, and the words of each line.
 #[derive(Drop)]
 pub struct Coverage {
     tests: usize,
@@ -46,7 +46,7 @@ impl Coverage {
     /// counts, with some of its lines.
     pub fn add_run(&mut self, reached: &[(ClassId, u16)]) -> Result<(), Memory>
         requires { self.old.tests + 1 < 2 ^ 64 }
-        ensures ok { OnOk result ((runs : List (List (ClassId × ℕ))) → Covers runs self.old → Covers (runs ++ reached.now ∷ []) self.new) }
+        ensures ok { OnOk result (AddsRun reached.now self.old self.new) }
         ensures err { OnErr result (KeepsRuns self.old self.new) }
     {
         let test = self.tests;
@@ -79,7 +79,7 @@ impl Coverage {
     /// Adds the tests that reach a line of a class, in their order.
     pub fn push_tests(&self, class: ClassId, line: u16, tests: &mut Vec<u32>) -> Result<(), Memory>
         requires { self.now.tests < 2 ^ 32 }
-        ensures { OnOk result (tests.new.items ≡ tests.old.items ++ tests_at self.now class.0 line) }
+        ensures { OnOk result (AddsTestsAt self.now class.0 line tests.old.items tests.new.items) }
     {
         push_tests(words_at(&self.lines, (class.0, line)), tests)
     }

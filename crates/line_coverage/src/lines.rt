@@ -1,7 +1,7 @@
 //! The tests of each line.
 
-ghost use Rattle.std.specs.Prelude.{◌≡◌, ℕ, ◌==◌, ◌&&◌, ◌||◌, false, OnOk};
-ghost use Rattle.line_coverage.specs.Lines.{is_reached, is_listed, same_line, words_at};
+ghost use Rattle.std.specs.Prelude.{◌≡◌, OnOk};
+ghost use Rattle.line_coverage.specs.Lines.{AddsToLine, AddsToLines, KeepsOtherRuns, words_at};
 
 use crate::words::add_test;
 use class_model::{ClassId, Memory};
@@ -12,8 +12,8 @@ pub type Lines = HashMap<(u32, u16), Vec<u64>>;
 
 // Adds a test to those that reach a line.
 fn add_line(lines: &mut Lines, line: (u32, u16), test: usize) -> Result<(), Memory>
-    ensures ok { OnOk result ((p : ℕ × ℕ) (t : ℕ) → is_reached lines.new p t ≡ (is_reached lines.old p t || (same_line line p && t == test))) }
-    ensures others { (p : ℕ × ℕ) (t : ℕ) → (t == test) ≡ false → is_reached lines.new p t ≡ is_reached lines.old p t }
+    ensures ok { OnOk result (AddsToLine line test lines.old lines.new) }
+    ensures others { KeepsOtherRuns test lines.old lines.new }
 {
     let words = lines.entry(line)?.or_default();
     add_test(words, test)?;
@@ -32,8 +32,8 @@ pub fn words_at(lines: &Lines, line: (u32, u16)) -> &[u64]
 
 /// Adds a test to those that reach each of these lines.
 pub fn add_lines(lines: &mut Lines, reached: &[(ClassId, u16)], test: usize) -> Result<(), Memory>
-    ensures ok { OnOk result ((p : ℕ × ℕ) (t : ℕ) → is_reached lines.new p t ≡ (is_reached lines.old p t || (is_listed p reached.now && t == test))) }
-    ensures others { (p : ℕ × ℕ) (t : ℕ) → (t == test) ≡ false → is_reached lines.new p t ≡ is_reached lines.old p t }
+    ensures ok { OnOk result (AddsToLines reached.now test lines.old lines.new) }
+    ensures others { KeepsOtherRuns test lines.old lines.new }
 {
     for (class, line) in reached {
         add_line(lines, (class.0, *line), test)?;

@@ -1,8 +1,8 @@
 //! Tests as the bits of words.
 
-ghost use Rattle.std.specs.Prelude.{◌≡◌, ℕ, ◌<◌, ◌==◌, ◌&&◌, ◌||◌, false, length, OnOk};
+ghost use Rattle.std.specs.Prelude.{◌≡◌, ℕ, ◌<◌, length, OnOk};
 ghost use Rattle.std.proofs.Common.{get_or};
-ghost use Rattle.line_coverage.specs.Words.{has_test, is_set};
+ghost use Rattle.line_coverage.specs.Words.{AddsTest, KeepsOtherTests, SetsBit, has_test};
 
 use class_model::Memory;
 
@@ -21,15 +21,15 @@ fn make_word(words: &mut Vec<u64>, at: usize) -> Result<(), Memory>
 fn set_bit(words: &mut [u64], at: usize, bit: u32)
     requires at { at < length words.old }
     requires bit { bit < 64 }
-    ensures { (i b : ℕ) → b < 64 → is_set (get_or words.new i 0) b ≡ (is_set (get_or words.old i 0) b || (i == at && b == bit)) }
+    ensures { SetsBit at bit words.old words.new }
 {
     words[at] |= 1 << bit;
 }
 
 /// Adds a test. Where memory runs out the tests are as they were.
 pub fn add_test(words: &mut Vec<u64>, test: usize) -> Result<(), Memory>
-    ensures ok { OnOk result ((t : ℕ) → has_test words.new.items t ≡ (has_test words.old.items t || t == test)) }
-    ensures others { (t : ℕ) → (t == test) ≡ false → has_test words.new.items t ≡ has_test words.old.items t }
+    ensures ok { OnOk result (AddsTest test words.old.items words.new.items) }
+    ensures others { KeepsOtherTests test words.old.items words.new.items }
 {
     make_word(words, test / 64)?;
     set_bit(words, test / 64, (test % 64) as u32);

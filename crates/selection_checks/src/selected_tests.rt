@@ -1,3 +1,5 @@
+//! Three mutants and three tests, worked out by hand.
+
 use class_model::ClassId;
 use line_coverage::Coverage;
 use std::test::Fail;

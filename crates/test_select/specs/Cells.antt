@@ -1,5 +1,6 @@
 -- The cells: which tests a mutant needs (this project's own).
-use Rattle.std.specs.Prelude.{◌≡◌, ◌<◌, ◌+◌, ◌⊎◌, ℕ, Bool, if◌then◌else◌, ⊤, List, [], map, length, flat_map, zip}
+use Rattle.std.specs.Prelude.{◌≡◌, ◌<◌, ◌+◌, ◌⊎◌, ℕ, Bool, if◌then◌else◌, ⊤, AllPairs}
+use Rattle.std.specs.Prelude.{List, [], ◌++◌, map, length, flat_map, zip}
 use Rattle.std.specs.List.{enumerate_from}
 use Rattle.line_coverage.specs.Coverage.{Covered, tests_at}
 use Rattle.test_select.specs.declared.selection.Cell.{Cell}
@@ -14,10 +15,15 @@ cell mutant test = record { mutant = mutant; test = test }
 abbrev pub Placed : Type 0
 Placed = MutantPlace × Bool
 
--- The cells of a mutant of this number: none where it isn't viable, else one for each test that reaches its class and line.
+-- The cells of a mutant of this number: none where it isn't viable, else one for each test that
+-- reaches its class and line.
 abbrev pub cells_of : Covered → ℕ × Placed → List Cell
 cells_of cover m =
     if m.1.1 then map (cell m.0) (tests_at cover m.1.0.class.0 m.1.0.line) else []
+
+-- The cells of a mutant are added to a list.
+abbrev pub AddsCells : Covered → ℕ → MutantPlace → Bool → List Cell → List Cell → Type 0
+AddsCells cover mutant place viable old new = new ≡ old ++ cells_of cover (mutant, (place, viable))
 
 -- The cells of all mutants.
 abbrev pub cells : List MutantPlace → List Bool → Covered → List Cell
@@ -26,6 +32,12 @@ cells mutants viable cover = flat_map (cells_of cover) (enumerate_from 0 (zip mu
 -- By mutant, and then by test.
 abbrev pub IsBefore : Cell → Cell → Type 0
 IsBefore a b = (a.mutant < b.mutant) ⊎ ((a.mutant ≡ b.mutant) × (a.test < b.test))
+
+-- Cells stand by mutant and then by test.
+abbrev pub CellsAscend : Type 0
+CellsAscend =
+    (mutants : List MutantPlace) (viable : List Bool) (cover : Covered) →
+    AllPairs IsBefore (cells mutants viable cover)
 
 abbrev pub most_cells : ℕ
 most_cells = 4194304

@@ -3,7 +3,8 @@
 
 ghost use Rattle.std.specs.Prelude.{◌≡◌, ℕ, ◌<◌, ◌≤◌, ◌^◌, ◌++◌, map, length, IfOk, IfErr, OnOk};
 ghost use Rattle.std.specs.Io.Iter.{u64_saturate};
-ghost use Rattle.test_select.specs.Cells.{IsRefusal, cell, cells, cells_of, most_cells};
+ghost use Rattle.test_select.specs.Cells.{AddsCells, IsRefusal};
+ghost use Rattle.test_select.specs.Cells.{cell, cells, cells_of, most_cells};
 
 use crate::mutant::MutantPlace;
 use class_model::{Memory, Seq};
@@ -73,7 +74,7 @@ fn push_mutant(
     all: &mut Vec<Cell>,
 ) -> Result<(), Memory>
     requires { cover.now.tests < 2 ^ 32 }
-    ensures { OnOk result (all.new.items ≡ all.old.items ++ cells_of cover.now (mutant, (place, viable))) }
+    ensures { OnOk result (AddsCells cover.now mutant place viable all.old.items all.new.items) }
 {
     if !viable {
         return Ok(());

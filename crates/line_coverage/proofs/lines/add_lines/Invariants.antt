@@ -1,9 +1,9 @@
-use Rattle.std.proofs.Common.{◌≡◌, ◌&&◌, ◌||◌, ◌==◌, false, ℕ, take}
-use Rattle.line_coverage.specs.Lines.{is_listed, is_reached}
+use Rattle.std.proofs.Common.{take}
+use Rattle.line_coverage.specs.Lines.{AddsToLines, KeepsOtherRuns}
 use Rattle.line_coverage.proofs.lines.add_lines.Given as goal
 
 abbrev pub invariant-loop-class : goal.invariant-loop-class
 invariant-loop-class l = record {
-  ok : (p : ℕ × ℕ) (t : ℕ) → is_reached l.lines p t ≡ (is_reached l.fn.lines p t || (is_listed p (take l.class-index l.reached) && t == l.test));
-  others : (p : ℕ × ℕ) (t : ℕ) → (t == l.test) ≡ false → is_reached l.lines p t ≡ is_reached l.fn.lines p t;
+  ok : AddsToLines (take l.class-index l.reached) l.test l.fn.lines l.lines;
+  others : KeepsOtherRuns l.test l.fn.lines l.lines;
 }
