@@ -1,4 +1,4 @@
-//! Tests and wrong bodies of the selection of tests: of the lines that tests reach
+//! Wrong bodies of the selection of tests: of the lines that tests reach
 //! (`line_coverage`) and of the cells (`test_select`).
 //!
 //! Each function here has the contract of the public call that its body makes, word for word. An
@@ -7,7 +7,5 @@
 #![tactic(auto)]
 
 mod selected;
-#[cfg(test)]
-mod selected_tests;
 
 pub use selected::{cells, reaches};
