@@ -9,3 +9,4 @@ pub mod Least
 pub mod Supers
 pub mod Faults
 pub mod Flaws
+pub mod Kept

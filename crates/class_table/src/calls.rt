@@ -1,15 +1,13 @@
 //! The methods that a program's classes name, by numbers, so that a call looks nothing up by text.
 
-ghost use Rattle.std.specs.Prelude.{◌≡◌, ℕ, true, List, map, Some, IfOk, slice_get, slice_set};
-ghost use Rattle.std.specs.Option.{option_copied, option_map};
+ghost use Rattle.std.specs.Prelude.{◌≡◌, true, map, IfOk};
+ghost use Rattle.std.specs.Option.{option_copied};
 ghost use Rattle.std.specs.Arc.{arc_value};
-ghost use Rattle.class_link.specs.Info.{Info};
 ghost use Rattle.class_table.specs.Numbers.{IsNumbering};
 ghost use Rattle.class_table.specs.Adding.{shared};
-ghost use Rattle.class_link.specs.View.{method_entry, method_ref_at};
-ghost use Rattle.class_table.specs.declared.calls.Target.{Target};
-ghost use Rattle.class_table.specs.Words.{AreWords, target_by, ref_target, entry_target};
-ghost use Rattle.class_table.specs.Calls.{target_at, AreTargets, AreTargetsOrNone, brief, head_of, AreSameNamed, AreNamedAlike};
+ghost use Rattle.class_table.specs.Words.{AreWords, target_by, ref_target, entry_target, row_by, AreTargetsBy};
+ghost use Rattle.class_table.specs.Calls.{target_at, AreTargets, brief, head_of, AreEntriesAlike, AreNamedAlike};
+ghost use Rattle.class_table.specs.Calls.{IsKept, AreCallsAlike, targets_in, StayRight};
 
 use crate::words::{Places, SHORT, head, places, words};
 use class_link::{ClassInfo, Entry, LinkedClass, LinkedMethod, MethodRef};
@@ -89,7 +87,7 @@ fn class_targets(
     entries: &[Entry],
 ) -> Result<Seq<Option<Target>>, Memory>
     requires { AreWords words.now }
-    ensures { IfOk result (λ row. row ≡ map (entry_target numbers.now words.now places.now) entries.now) }
+    ensures { IfOk result (λ row. row ≡ row_by numbers.now words.now places.now entries.now) }
 {
     let mut row = Vec::with_capacity(alloc, entries.len())?;
     for entry in entries {
@@ -106,7 +104,7 @@ fn all_targets(
     infos: &[Arc<ClassInfo, Global>],
 ) -> Result<Arc<Targets, Global>, Memory>
     requires { AreWords words.now }
-    ensures { IfOk result (λ rows. arc_value rows ≡ map (λ i. map (entry_target numbers.now words.now places.now) i.linked.entries) (shared infos.now)) }
+    ensures { IfOk result (AreTargetsBy numbers.now words.now places.now infos.now) }
 {
     let mut rows = Vec::with_capacity(alloc, infos.len())?;
     for info in infos {
@@ -134,7 +132,7 @@ pub fn targets(
 pub fn copy_targets(
     targets: &Option<Arc<Targets, Global>>,
 ) -> Result<Option<Arc<Targets, Global>>, Memory>
-    ensures { IfOk result (λ copy. option_map (λ t. arc_value t) copy ≡ option_map (λ t. arc_value t) targets.now) }
+    ensures { IfOk result (λ copy. targets_in copy ≡ targets_in targets.now) }
 {
     match targets {
         Some(targets) => Ok(Some(targets.clone()?)),
@@ -178,7 +176,7 @@ fn have_same_heads(old: &[LinkedMethod], new: &[LinkedMethod]) -> bool
 
 // Whether two entries name methods by the same words.
 fn are_same_named(old: Option<&Entry>, new: Option<&Entry>) -> bool
-    ensures { result ≡ true → AreSameNamed (method_entry (option_copied old.entry)) (method_entry (option_copied new.entry)) }
+    ensures { result ≡ true → AreEntriesAlike (option_copied old.entry) (option_copied new.entry) }
 {
     let (Some(Entry::Method(old)), Some(Entry::Method(new))) = (old, new) else {
         return false;
@@ -188,7 +186,7 @@ fn are_same_named(old: Option<&Entry>, new: Option<&Entry>) -> bool
 
 // Whether two entries name methods by the same words, where a target is kept.
 fn is_kept(target: Option<Target>, old: Option<&Entry>, new: Option<&Entry>) -> bool
-    ensures { (t : Target) → result ≡ true → target ≡ Some t → AreSameNamed (method_entry (option_copied old.entry)) (method_entry (option_copied new.entry)) }
+    ensures { IsKept result target (option_copied old.entry) (option_copied new.entry) }
 {
     match target {
         Some(_) => are_same_named(old, new),
@@ -211,7 +209,7 @@ fn are_named_alike(row: &[Option<Target>], old: &Seq<Entry>, new: &Seq<Entry>) -
 // Whether the targets stay right where one class takes the place of another.
 fn stay_right(targets: &Targets, class: usize, old: &LinkedClass, new: &LinkedClass) -> bool
     ensures heads { result ≡ true → map head_of new.now.methods ≡ map head_of old.now.methods }
-    ensures entries { result ≡ true → (index : ℕ) (t : Target) → target_at targets.now class index ≡ Some t → AreSameNamed (method_ref_at old.now index) (method_ref_at new.now index) }
+    ensures entries { result ≡ true → AreCallsAlike targets.now class old.now new.now }
 {
     if !have_same_heads(old.methods.as_slice(), new.methods.as_slice()) {
         return false;
@@ -230,7 +228,7 @@ pub fn forget_unless_right(
     old: &ClassInfo,
     new: &ClassInfo,
 )
-    ensures { (p : List Info) → slice_get p class ≡ Some old.now → new.now.name ≡ old.now.name → AreTargetsOrNone (option_map (λ t. arc_value t) targets.old) p → AreTargetsOrNone (option_map (λ t. arc_value t) targets.new) (slice_set p class new.now) }
+    ensures { StayRight class old.now new.now targets.old targets.new }
 {
     let Some(rows) = &*targets else {
         return;

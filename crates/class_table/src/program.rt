@@ -10,7 +10,7 @@ ghost use Rattle.class_link.specs.View.{method_of};
 ghost use Rattle.class_link.specs.Info.{IsInfo, class_of, link_body, file_in};
 ghost use Rattle.class_table.specs.Table.{AreDistinct, IsLeastDuplicate, bodies_of, names_of, number_of, CanSwap, class_at, name_at, look, entries_at, methods_at, reference_at, named_number, named_place, IsProgram, AreLinksOf};
 ghost use Rattle.class_order.specs.Ranks.{HasRanks};
-ghost use Rattle.class_table.specs.Calls.{IsTargetOf};
+ghost use Rattle.class_table.specs.Calls.{IsTargetAt};
 ghost use Rattle.class_table.specs.Faults.{look_of, AreProgram, IsFirstMissing, IsFirstCycle, IsFirstWrongKind};
 ghost use Rattle.class_table.specs.Faults.{IfDuplicate, IfSuperMissing, IfSuperCycle, IfSuperKind};
 ghost use Rattle.class_table.specs.Flaws.{IsFirstFaultOf, AreSoundSupers, IsTableOf};
@@ -44,18 +44,13 @@ pub struct Program {
 }
 
 impl Model for Program {
-    ghost use Rattle.std.specs.Prelude.{◌≡◌, ℕ, List, map};
-    ghost use Rattle.std.specs.Option.{option_map};
+    ghost use Rattle.std.specs.Prelude.{List, map};
     ghost use Rattle.std.specs.Coded.{codes};
     ghost use Rattle.std.specs.Arc.{arc_value};
     ghost use Rattle.class_model.specs.contracts.attribute.Body as content;
     ghost use Rattle.class_model.specs.contracts.attribute.Code as written;
     ghost use Rattle.class_link.specs.Info.{Info};
-    ghost use Rattle.class_table.specs.Table.{IsProgram};
-    ghost use Rattle.class_table.specs.Numbers.{IsNumbering};
-    ghost use Rattle.class_table.specs.Adding.{shared};
-    ghost use Rattle.class_table.specs.Calls.{AreTargetsOrNone};
-    ghost use Rattle.class_table.specs.Supers.{AreSupers};
+    ghost use Rattle.class_table.specs.Kept.{IsKeptOf};
 
     ghost Value = { List Info };
 
@@ -63,7 +58,7 @@ impl Model for Program {
 
     ghost view = { λ p. map (λ c. arc_value c) p.classes.items };
 
-    ghost invariant = { λ p. IsProgram (map (λ c. arc_value c) p.classes.items) × IsNumbering (arc_value p.numbers) (map (λ c. arc_value c) p.classes.items) × AreTargetsOrNone (option_map (λ t. arc_value t) p.targets) (map (λ c. arc_value c) p.classes.items) × AreSupers (map (λ c. arc_value c) p.classes.items) (arc_value p.supers) };
+    ghost invariant = { λ p. IsKeptOf p.classes.items p.numbers p.targets p.supers };
 }
 
 impl Program {
@@ -222,7 +217,7 @@ impl Program {
 
     // What is kept for an index of a class's constant pool.
     fn target(&self, class: ClassId, reference: u32) -> Option<Target>
-        ensures { IfSome result (λ t. IsSomeAnd (reference_at self.now class.0 reference) (λ r. IsTargetOf self.now r t)) }
+        ensures { IfSome result (IsTargetAt self.now class.0 reference) }
     {
         match &self.targets {
             Some(targets) => target_at(targets, class.0 as usize, reference as usize),
@@ -299,7 +294,7 @@ fn put(
     with: Arc<ClassInfo, Global>,
 ) -> Arc<ClassInfo, Global>
     requires { at < length classes.old }
-    ensures program { map (λ c. arc_value c) classes.new ≡ slice_set (map (λ c. arc_value c) classes.old) at (arc_value with) }
+    ensures program { shared classes.new ≡ slice_set (shared classes.old) at (arc_value with) }
     ensures other { slice_get (map (λ c. arc_value c) classes.old) at ≡ Some (arc_value result) }
 {
     mem::replace(&mut classes[at], with)

@@ -1,12 +1,12 @@
 //! The names and descriptors of methods by numbers, so that what is called is found without a walk
 //! over the methods of its class.
 
-ghost use Rattle.std.specs.Prelude.{◌≡◌, ◌<◌, ◌^◌, ◌&&◌, ℕ, List, map, length, IfOk, OnOk};
+ghost use Rattle.std.specs.Prelude.{◌≡◌, ◌<◌, ◌^◌, map, length, IfOk, OnOk};
 ghost use Rattle.std.specs.HashMap.{get};
 ghost use Rattle.program_rules.specs.Names.{same};
 ghost use Rattle.class_table.specs.Adding.{shared};
-ghost use Rattle.class_table.specs.Numbers.{with_number};
-ghost use Rattle.class_table.specs.Words.{both, same_head, AreWords, head_in, ArePlaces, ArePlacesOf};
+ghost use Rattle.class_table.specs.Words.{both, AreWords, head_in, ArePlaces, ArePlacesOf};
+ghost use Rattle.class_table.specs.Words.{NotesPlace, AddsPlace};
 
 use class_link::{ClassInfo, LinkedMethod};
 use class_model::{Memory, Name};
@@ -23,17 +23,14 @@ pub type Places = HashMap<(u32, u32), u32>;
 
 // ---- numbers of texts
 
-// Gives a number to a short text, unless it has one. Where 2^32 texts have one, memory runs out.
+// Gives a number to a short text, unless it has one, or all numbers are given.
 fn add_word(words: &mut HashMap<Name, u32>, text: &Name) -> Result<(), Memory>
     requires { AreWords words.old }
     ensures { OnOk result (AreWords words.new) }
 {
-    if text.len() > SHORT || words.contains_key(text) {
-        return Ok(());
-    }
     let number = words.len();
-    if number > u32::MAX as usize {
-        return Err(Memory);
+    if number > u32::MAX as usize || text.len() > SHORT || words.contains_key(text) {
+        return Ok(());
     }
     words.insert(text.copy()?, number as u32)?;
     Ok(())
@@ -86,7 +83,7 @@ pub fn head(words: &HashMap<Name, u32>, name: &Name, desc: &Name) -> Option<(u32
 
 // Notes the place of a method of these numbers, unless there is one before it.
 fn note_place(places: &mut Places, head: (u32, u32), place: u32) -> Result<(), Memory>
-    ensures { OnOk result ((h : ℕ × ℕ) → get same_head places.new h ≡ with_number (get same_head places.old h) (same_head head h) place) }
+    ensures { OnOk result (NotesPlace head place places.old places.new) }
 {
     if places.contains_key(&head) {
         return Ok(());
@@ -104,7 +101,7 @@ fn add_place(
     place: u32,
 ) -> Result<(), Memory>
     requires { AreWords words.now }
-    ensures { OnOk result ((n d : List ℕ) (h : ℕ × ℕ) → get same words.now n ≡ Some h.0 → get same words.now d ≡ Some h.1 → get same_head places.new h ≡ with_number (get same_head places.old h) (same method.now.name n && same method.now.desc d) place) }
+    ensures { OnOk result (AddsPlace words.now method.now place places.old places.new) }
 {
     match head(words, &method.name, &method.desc) {
         Some(head) => Ok(note_place(places, head, place)?),

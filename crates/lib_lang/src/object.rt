@@ -105,7 +105,7 @@ pub fn enum_name(objects: &[Object], args: &[Value]) -> Deed
     };
     match object.items.get(0) {
         Some(name) => Deed::Gives(Some(*name)),
-        None => Deed::NoDeed,
+        None => Deed::Gives(Some(Value::Null)),
     }
 }
 

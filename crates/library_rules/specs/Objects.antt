@@ -1,6 +1,6 @@
 -- java/lang/Object, Class, Enum, Throwable and java/util/Optional. `<init>` of those that keep
 -- nothing is `do_nothing` of `program_rules`.
-use Rattle.std.specs.Prelude.{ℕ, ℤ, ◌-ℤ◌, Bool, true, false, nat_eq, if◌then◌else◌, List, [], ◌∷◌, ◌++◌, map, None, slice_get, slice_set, codes}
+use Rattle.std.specs.Prelude.{ℕ, ℤ, ◌-ℤ◌, Bool, true, false, nat_eq, if◌then◌else◌, List, [], ◌∷◌, ◌++◌, map, Option, Some, None, slice_get, slice_set, codes}
 use Rattle.std.specs.Fmt.{digits}
 use Rattle.std.specs.Int.{w32, int_wrap}
 use Rattle.program_rules.specs.declared.value.Value.{Value}
@@ -64,9 +64,14 @@ abbrev pub enum_init : Meaning
 enum_init heap args =
     on_this_value_int args (λ x v z. Changes x (SetItems (v ∷ Int z ∷ [])) 0 None)
 
+-- The name that is kept, null where none is: so it is in a constant on which no `<init>` ran.
+abbrev pub kept_name : Option Value → Value
+kept_name None = Null
+kept_name (Some v) = v
+
 -- name(), toString()
 abbrev pub enum_name : Meaning
-enum_name heap args = on_receiver heap args (λ o. on_some (slice_get o.items 0) gives)
+enum_name heap args = on_receiver heap args (λ o. gives (kept_name (slice_get o.items 0)))
 
 -- The ordinal that is kept, 0 where none is.
 abbrev pub ordinal_in : Object → ℤ
