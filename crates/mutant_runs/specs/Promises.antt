@@ -53,19 +53,33 @@ steps_if q p tests steps m = option_map_or steps_in (runs_if_accepted q p tests 
 
 -- ---- on a program whose mutants these are
 
--- The verdict on one of them, and the steps of its runs.
-abbrev pub IsVerdict : Limits → List Info → List Test → List ℕ → Mutant → Verdict → Type 0
-IsVerdict q p tests steps m v = v ≡ verdict_of q (files_of p) (look p) (timed tests steps) m
+-- Whether each of them is viable.
+abbrev pub AreViable : List Info → List Mutant → List Bool → Type 0
+AreViable p mutants bs = bs ≡ map (λ m. is_some (viable (files_of p) (look p) m)) mutants
 
-abbrev pub steps_for : Limits → List Info → List Test → List ℕ → Mutant → ℕ
-steps_for q p tests steps m = steps_on q (files_of p) (look p) (timed tests steps) m
+-- The numbers of the tests that reach a mutant's class and line.
+abbrev pub covering_at : List Info → Covered → Mutant → List ℕ
+covering_at p cover m = option_map_or (λ id. tests_at cover id m.line) (number_of p m.class) []
 
--- The verdict on each of them, and the steps of all runs.
+-- The verdict on one of them by these tests, and the steps of the runs that it takes.
+abbrev pub IsVerdict :
+    Limits → List Info → List Test → List ℕ → List ℕ → Mutant → Verdict → Type 0
+IsVerdict q p tests steps ks m v =
+    v ≡ verdict_picked q (files_of p) (look p) (timed tests steps) ks m
+
+abbrev pub steps_for : Limits → List Info → List Test → List ℕ → List ℕ → Mutant → ℕ
+steps_for q p tests steps ks m = steps_by q (files_of p) (look p) (timed tests steps) ks m
+
+-- The verdict on each of them by the tests that cover it, and the steps of all these runs.
 abbrev pub AreVerdicts :
-    Limits → List Info → List Test → List ℕ → List Mutant → List Verdict → Type 0
-AreVerdicts q p tests steps mutants vs =
-    vs ≡ map (verdict_of q (files_of p) (look p) (timed tests steps)) mutants
+    Limits → List Info → List Test → List ℕ → Covered → List Mutant → List Verdict → Type 0
+AreVerdicts q p tests steps cover mutants vs =
+    vs
+    ≡ map (λ m. verdict_picked q (files_of p) (look p) (timed tests steps) (covering_at p cover m) m)
+    mutants
 
-abbrev pub steps_for_all : Limits → List Info → List Test → List ℕ → List Mutant → ℕ
-steps_for_all q p tests steps mutants =
-    steps_of_all q (files_of p) (look p) (timed tests steps) mutants
+abbrev pub steps_for_all :
+    Limits → List Info → List Test → List ℕ → Covered → List Mutant → ℕ
+steps_for_all q p tests steps cover mutants =
+    sum_by (λ m. steps_by q (files_of p) (look p) (timed tests steps) (covering_at p cover m) m)
+    mutants
