@@ -1,6 +1,6 @@
 -- A program whose tests were run on it: what the tests that cover a mutant say of it is what all say.
-use Rattle.std.specs.Prelude.{◌≡◌, ℕ, List, All, map, length, sum_by, Some, Contains}
-use Rattle.std.specs.List.{AllZip}
+use Rattle.std.specs.Prelude.{◌≡◌, ℕ, Bool, List, All, map, length, sum_by, Some}
+use Rattle.std.specs.List.{AllZip, Contains}
 use Rattle.class_model.specs.declared.class.Class.{Class}
 use Rattle.class_model.specs.declared.class.ClassId.{ClassId}
 use Rattle.machine_rules.specs.declared.machine.Limits.{Limits}

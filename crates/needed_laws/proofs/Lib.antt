@@ -1,0 +1,4 @@
+mod Covering
+mod Named
+mod Picked
+mod Needed
