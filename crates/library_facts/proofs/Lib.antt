@@ -1,0 +1,6 @@
+mod Over
+mod Machine
+mod Closed
+mod ArrayNames
+mod FileNames
+mod Results

@@ -1,0 +1,16 @@
+//! What the native methods of the library rest on.
+
+ghost use Rattle.library_facts.specs.Facts.{InEachProgram};
+ghost use Rattle.library_facts.specs.Makings.{HasResults};
+ghost use Rattle.library_facts.specs.Hosts.{AreHostsApart};
+
+/// What native methods make and give fits what their descriptors declare.
+pub fn results_fit()
+    ensures { InEachProgram HasResults }
+{}
+
+/// The classes whose objects keep values beside their fields aren't above one another.
+#[tactic(auto, using(crate::proofs::Results::apart))]
+pub fn hosts_are_apart()
+    ensures { InEachProgram AreHostsApart }
+{}
