@@ -18,7 +18,7 @@ use Rattle.lib_table.specs.Exceptions.{throwables, errors, machine_exceptions, l
 use Rattle.lib_table.specs.Collected.{collections, list_classes, hash_classes, utility_classes, assertions}
 use Rattle.library_facts.specs.Facts.{InEachProgram}
 use Rattle.library_facts.specs.Makings.{MakingsFit, HasResults}
-use Rattle.library_facts.specs.Hosts.{hosts, AreHostsApart}
+use Rattle.library_facts.specs.Hosts.{hosts, AreHostsApart, MakingsKeep}
 use Rattle.library_facts.proofs.Over.{beside, over, any_of}
 
 -- ---- what is made and given
@@ -85,3 +85,22 @@ hosts_beside other = record { plain = plain_beside other; apart = apart_beside o
 
 pub apart : InEachProgram AreHostsApart
 apart other files distinct = over AreHostsApart other distinct (hosts_beside other)
+
+-- ---- what is kept
+
+makings_keep : (other : Look) → MakingsKeep (beside other)
+unfolding link_library supers nodes basic_interfaces collection_interfaces objects texts numbers throwables errors machine_exceptions library_exceptions collections list_classes hash_classes utility_classes assertions
+makings_keep other making.Text = refl
+makings_keep other making.List = refl
+makings_keep other making.Set = refl
+makings_keep other making.Iterator = refl
+makings_keep other making.Optional = refl
+makings_keep other making.Integer = refl
+makings_keep other making.Long = refl
+makings_keep other making.Short = refl
+makings_keep other making.Byte = refl
+makings_keep other making.Character = refl
+makings_keep other making.Boolean = refl
+
+pub keep : InEachProgram MakingsKeep
+keep other files distinct = over MakingsKeep other distinct (makings_keep other)

@@ -1,9 +1,13 @@
 -- The classes of the library whose objects keep values beside their fields.
 use Rattle.std.specs.Prelude.{◌≡◌, true, false, List, [], ◌∷◌, codes}
+use Rattle.program_rules.specs.declared.making.Making.{Making}
+use Rattle.program_rules.specs.declared.making.Making.TheVariants as making
 use Rattle.program_rules.specs.Names.{Name, is_listed}
+use Rattle.program_rules.specs.Deeds.{making_name}
 use Rattle.program_rules.specs.Outlines.{outline_of, is_interface_class}
 use Rattle.program_rules.specs.Programs.{Look}
 use Rattle.type_rules.specs.References.{is_subtype}
+use Rattle.type_laws.specs.Values.{Keeping, Elements, Entries, Cursor, Anything, keeping_of}
 
 -- The highest classes of those whose objects keep values beside their fields.
 abbrev pub hosts : List Name
@@ -18,3 +22,15 @@ pub record AreHostsApart (p : Look) : Type 0 where
   pub apart :
       (a b : Name) → is_listed a hosts ≡ true → is_listed b hosts ≡ true →
       is_subtype p a b ≡ true → a ≡ b
+
+-- What that keeps which native methods make.
+abbrev pub kept_by : Making → Keeping
+kept_by making.List = Elements
+kept_by making.Optional = Elements
+kept_by making.Set = Entries
+kept_by making.Iterator = Cursor
+kept_by m = Anything
+
+-- Their classes say so.
+abbrev pub MakingsKeep : Look → Type 0
+MakingsKeep p = (m : Making) → keeping_of p (making_name m) ≡ kept_by m

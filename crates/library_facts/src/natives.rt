@@ -2,7 +2,7 @@
 
 ghost use Rattle.library_facts.specs.Facts.{InEachProgram};
 ghost use Rattle.library_facts.specs.Makings.{HasResults};
-ghost use Rattle.library_facts.specs.Hosts.{AreHostsApart};
+ghost use Rattle.library_facts.specs.Hosts.{AreHostsApart, MakingsKeep};
 
 /// What native methods make and give fits what their descriptors declare.
 pub fn results_fit()
@@ -13,4 +13,10 @@ pub fn results_fit()
 #[tactic(auto, using(crate::proofs::Results::apart))]
 pub fn hosts_are_apart()
     ensures { InEachProgram AreHostsApart }
+{}
+
+/// What native methods make keeps what is put into it.
+#[tactic(auto, using(crate::proofs::Results::keep))]
+pub fn makings_keep()
+    ensures { InEachProgram MakingsKeep }
 {}
