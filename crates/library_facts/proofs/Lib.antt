@@ -4,3 +4,4 @@ mod Closed
 mod ArrayNames
 mod FileNames
 mod Results
+mod Keeping

@@ -7,6 +7,7 @@ use Rattle.program_rules.specs.Deeds.{making_name}
 use Rattle.program_rules.specs.Outlines.{outline_of, is_interface_class}
 use Rattle.program_rules.specs.Programs.{Look}
 use Rattle.type_rules.specs.References.{is_subtype}
+use Rattle.class_order.specs.Ranks.{IsOrdered}
 use Rattle.type_laws.specs.Values.{Keeping, Elements, Entries, Cursor, Anything, keeping_of}
 
 -- The highest classes of those whose objects keep values beside their fields.
@@ -34,3 +35,13 @@ kept_by m = Anything
 -- Their classes say so.
 abbrev pub MakingsKeep : Look → Type 0
 MakingsKeep p = (m : Making) → keeping_of p (making_name m) ≡ kept_by m
+
+-- What is below one of these hosts keeps what that does.
+abbrev pub HostsKeep : Look → Type 0
+HostsKeep p =
+    (n m : Name) → is_listed n hosts ≡ true → is_subtype p m n ≡ true →
+    keeping_of p m ≡ keeping_of p n
+
+-- So where classes stand in an order.
+abbrev pub HostsKeepIfOrdered : Look → Type 0
+HostsKeepIfOrdered p = IsOrdered p → HostsKeep p
