@@ -3,5 +3,5 @@ mod Machine
 mod Closed
 mod ArrayNames
 mod FileNames
-mod Results
 mod Keeping
+mod Hosting

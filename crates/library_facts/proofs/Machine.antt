@@ -67,7 +67,7 @@ library_beside other tops = record { text = refl; text_fields = refl; class = re
 pub library : InEachProgram HasLibraryIfTops
 library other files apart = over HasLibraryIfTops other apart (library_beside other)
 
-bare_beside : (other : Look) → HasBareObject (beside other)
+pub bare_beside : (other : Look) → HasBareObject (beside other)
 unfolding link_library basic_interfaces collection_interfaces objects texts numbers throwables errors machine_exceptions library_exceptions collections list_classes hash_classes utility_classes assertions
 bare_beside other = refl
 

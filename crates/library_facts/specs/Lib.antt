@@ -1,3 +1,2 @@
 pub mod Facts
-pub mod Makings
-pub mod Hosts
+pub mod Natives

@@ -6,5 +6,5 @@ mod natives;
 mod whole;
 
 pub use arrays::{arrays_have_supers, files_are_no_arrays};
-pub use natives::{hosts_are_apart, hosts_keep, makings_keep, results_fit};
+pub use natives::{keepers_have_hosts, natives_have_hosts};
 pub use whole::{faults_are_there, library_is_closed, library_is_there, object_is_bare};
