@@ -2,3 +2,5 @@ mod Covering
 mod Named
 mod Picked
 mod Needed
+mod Natives
+mod Safe
