@@ -20,7 +20,7 @@ use order_laws::{ordered_has_layout, ordered_is_built, tops_are_object};
 use script_laws::found_in_programs_fit;
 
 /// The verdicts by the tests that cover each mutant are those by all tests, the steps of their runs
-/// are those of the runs that are needed, and cells are the covering tests of the verdicts.
+/// are those of the runs that are needed, and there are as many cells as covering tests of verdicts.
 pub fn covering_tests_are_needed()
     ensures { CoveringTestsAreNeeded }
 {
