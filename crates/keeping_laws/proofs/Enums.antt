@@ -3,25 +3,20 @@ use Rattle.std.proofs.Common.{false, List, [], ◌∷◌, Some, None, refl}
 use Rattle.std.specs.Prelude.{slice_get}
 use Rattle.program_rules.specs.declared.value.Value.{Value}
 use Rattle.program_rules.specs.declared.value.Value.TheVariants.{Int}
-use Rattle.program_rules.specs.Names.{Name, object_name, string_name}
-use Rattle.program_rules.specs.Kinds.{OfBoolean, OfInt, OfReference}
+use Rattle.program_rules.specs.Names.{Name, string_name}
+use Rattle.program_rules.specs.Kinds.{OfInt, OfReference}
 use Rattle.program_rules.specs.Objects.{Object}
 use Rattle.program_rules.specs.Programs.{Look}
 use Rattle.program_rules.specs.Deeds.{SetItems}
 use Rattle.library_rules.specs.Arguments.{on_receiver, on_receiver_value, gives}
-use Rattle.library_rules.specs.Objects.{same_object, allocation_number, enum_init, enum_name, enum_ordinal, kept_name, compare_enum, compare_any_enum}
+use Rattle.library_rules.specs.Objects.{enum_init, enum_name, enum_ordinal, kept_name, compare_enum, compare_any_enum}
 use Rattle.type_laws.specs.Values.{Constant, ConstantFits}
 use Rattle.type_laws.specs.Soundness.{DeedFits}
-use Rattle.keeping_laws.proofs.Forms.{FitsAs, of_this, of_this_value, of_this_value_int, on_its_object, on_needed_object, on_needed_numbered}
+use Rattle.native_laws.specs.Fits.{FitsAs}
+use Rattle.native_laws.proofs.Forms.{of_this, of_this_value, of_this_value_int, on_its_object, on_needed_object, on_needed_numbered}
 use Rattle.keeping_laws.proofs.Keepers.{IsKept, its_items, changed}
 
 module _ (p : Look) (n : Name) where
-  pub same_fits : FitsAs p n false (OfReference object_name ∷ []) (Some OfBoolean) same_object
-  same_fits = of_this_value p n (Some OfBoolean) same_object (OfReference object_name) (λ h x v f i o. tt)
-
-  pub number_fits : FitsAs p n false [] (Some OfInt) allocation_number
-  number_fits = of_this p n (Some OfInt) allocation_number (λ h x f i. tt)
-
   pub ordinal_fits : FitsAs p n false [] (Some OfInt) enum_ordinal
   unfolding on_receiver
   ordinal_fits = of_this p n (Some OfInt) enum_ordinal (λ h x f i. on_its_object p n (Some OfInt) h x i _ tt)

@@ -15,7 +15,8 @@ use Rattle.type_rules.specs.References.{classes_of}
 use Rattle.type_laws.specs.Values.{MayRefer, kind_within, IsThere, Keeping, Elements, Entries, Cursor, AllKept, AllEntries, IsKeeper, GoesOver, CursorFits, ItemsFit, KeptFits, ContentFits, HeapFits}
 use Rattle.type_laws.specs.Soundness.{DeedFits}
 use Rattle.keeping_laws.specs.Hosts.{IsKeepingHost}
-use Rattle.keeping_laws.proofs.Forms.{FitsAs, of_none, of_value, of_this, on_its_object, on_needed_object}
+use Rattle.native_laws.specs.Fits.{FitsAs}
+use Rattle.native_laws.proofs.Forms.{of_none, of_value, of_this, on_its_object, on_needed_object}
 use Rattle.keeping_laws.proofs.Keepers.{IsKept, keeper, its_items, changed, made_items, lists, sets, iterators}
 use Rattle.keeping_laws.proofs.Elements.{of_either, is_object, each_there, kept_at}
 use Rattle.keeping_laws.proofs.Triples.{key_at}

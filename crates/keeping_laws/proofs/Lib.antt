@@ -1,4 +1,3 @@
-pub mod Forms
 pub mod Keepers
 pub mod Elements
 pub mod Placed
@@ -8,5 +7,4 @@ pub mod Maps
 pub mod Enums
 pub mod Optionals
 pub mod Iterators
-pub mod Table
 pub mod Classes

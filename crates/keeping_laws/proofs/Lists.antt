@@ -1,33 +1,30 @@
 -- ArrayList, and what maps and sets have from it.
-use Rattle.std.proofs.Common.{◌≡◌, ℕ, ℤ, Bool, false, List, [], ◌∷◌, ◌++◌, length, Option, Some, None, refl, sym, subst}
+use Rattle.std.proofs.Common.{◌≡◌, ℕ, ℤ, Bool, false, List, [], ◌∷◌, ◌++◌, length, Option, Some, None, refl}
 use Rattle.std.specs.Prelude.{pos, negsuc, slice_get, slice_set}
 use Rattle.program_rules.specs.declared.value.Value.{Value}
 use Rattle.program_rules.specs.declared.value.Value.TheVariants.{Int, Ref}
+use Rattle.program_rules.specs.declared.fault.Fault.TheVariants.{UnsupportedOperationException}
 use Rattle.program_rules.specs.Names.{Name, object_name}
 use Rattle.program_rules.specs.Kinds.{Kind, OfBoolean, OfInt, OfReference}
 use Rattle.program_rules.specs.Objects.{Object}
 use Rattle.program_rules.specs.Programs.{Look}
 use Rattle.program_rules.specs.Deeds.{SetItems, AddItems, InsertItem, SetItem, CutItem, insert_item, remove_item}
-use Rattle.program_rules.specs.Natives.{do_nothing, add_element, element_of_list, item_or_fault, item_at}
+use Rattle.program_rules.specs.Natives.{add_element, element_of_list, item_or_fault, item_at}
 use Rattle.library_rules.specs.Arguments.{on_receiver, place_of}
 use Rattle.library_rules.specs.Collections.{list_of_capacity, list_size, has_no_items, clear_items, set_element, insert_element, remove_element, up_to, unsupported}
 use Rattle.type_rules.specs.References.{classes_of}
 use Rattle.type_laws.specs.Values.{Keeping, Elements, IsThere, AllKept, MayRefer}
 use Rattle.type_laws.specs.Soundness.{DeedFits}
 use Rattle.type_laws.proofs.Kept.{nothing_fits}
-use Rattle.keeping_laws.proofs.Forms.{FitsAs, of_this, of_this_int, of_this_value, of_this_int_value, on_its_object}
+use Rattle.native_laws.specs.Fits.{FitsAs}
+use Rattle.native_laws.proofs.Forms.{throwing_fits, of_this, of_this_int, of_this_value, of_this_int_value, on_its_object}
 use Rattle.keeping_laws.proofs.Keepers.{IsKept, its_items, changed}
 use Rattle.keeping_laws.proofs.Elements.{is_there, is_object, all_joined, all_with, all_inserted, all_cut, kept_at}
 use Rattle.keeping_laws.proofs.Placed.{of_place, of_item}
 
 module _ (p : Look) (n : Name) where
-  pub begin_fits : (static : Bool) (ks : List Kind) → FitsAs p n static ks None do_nothing
-  unfolding FitsAs
-  begin_fits static ks = λ m s a e h vs i g. subst (λ r. DeedFits p h r (do_nothing h vs)) (sym e) tt
-
   pub unsupported_fits : (static : Bool) (ks : List Kind) (r : Option Kind) → FitsAs p n static ks r unsupported
-  unfolding FitsAs
-  unsupported_fits static ks r = λ m s a e h vs i g. tt
+  unsupported_fits static ks r = throwing_fits p n r static ks UnsupportedOperationException
 
   capacity_done : (h : List Object) (x : ℕ) (z : ℤ) → DeedFits p h None (list_of_capacity h (Ref x ∷ Int z ∷ []))
   capacity_done h x (pos k) = tt

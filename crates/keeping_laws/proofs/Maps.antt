@@ -11,7 +11,8 @@ use Rattle.library_rules.specs.Collections.{entry_count, entry_hash, entry_key, 
 use Rattle.type_rules.specs.References.{classes_of}
 use Rattle.type_laws.specs.Values.{Elements, Entries}
 use Rattle.keeping_laws.specs.Hosts.{IsKeepingHost}
-use Rattle.keeping_laws.proofs.Forms.{FitsAs, of_this, of_this_int, of_this_int_value, of_this_int_values, on_its_object}
+use Rattle.native_laws.specs.Fits.{FitsAs}
+use Rattle.native_laws.proofs.Forms.{of_this, of_this_int, of_this_int_value, of_this_int_values, on_its_object}
 use Rattle.keeping_laws.proofs.Keepers.{IsKept, its_items, changed, made_items, lists, sets}
 use Rattle.keeping_laws.proofs.Elements.{is_there, is_object}
 use Rattle.keeping_laws.proofs.Placed.{of_entry}

@@ -15,7 +15,8 @@ use Rattle.type_rules.specs.References.{classes_of}
 use Rattle.type_laws.specs.Values.{MayRefer, IsThere, Elements, AllKept}
 use Rattle.type_laws.specs.Soundness.{DeedFits}
 use Rattle.keeping_laws.specs.Hosts.{IsKeepingHost}
-use Rattle.keeping_laws.proofs.Forms.{FitsAs, of_none, of_value, of_this, of_this_value, on_its_object}
+use Rattle.native_laws.specs.Fits.{FitsAs}
+use Rattle.native_laws.proofs.Forms.{of_none, of_value, of_this, of_this_value, on_its_object}
 use Rattle.keeping_laws.proofs.Keepers.{IsKept, its_items, made_items, optionals}
 use Rattle.keeping_laws.proofs.Elements.{is_there, is_object}
 

@@ -4,7 +4,8 @@
 ghost use Rattle.program_rules.specs.Programs.{Look};
 ghost use Rattle.lib_table.specs.Collected.{collections};
 ghost use Rattle.keeping_laws.specs.Hosts.{IsKeepingHost};
-ghost use Rattle.keeping_laws.specs.Fitting.{AllFit, keeping_objects};
+ghost use Rattle.native_laws.specs.Fits.{AllFit};
+ghost use Rattle.keeping_laws.specs.Fitting.{keeping_objects};
 
 /// In a program whose classes keep what natives ask of them, each native method of the collections,
 /// of Enum and of Optional does a deed that fits its descriptor.

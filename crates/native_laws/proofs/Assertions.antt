@@ -47,4 +47,4 @@ module _ (p : Look) (n : Name) where
   not_same_fits = by_values p n None (OfReference object_name) (OfReference object_name) (λ h u v. asserts (not (is_same u v))) (λ h u v i o q. test_fits h (not (is_same u v)))
 
   pub fail_fits : (ks : List Kind) (r : Option Kind) → FitsAs p n true ks r fail
-  fail_fits ks r = λ m s a e. throwing_fits p n m AssertionError
+  fail_fits ks r = throwing_fits p n r true ks AssertionError

@@ -18,7 +18,7 @@ use Rattle.lib_table.specs.Exceptions.{throwable_methods, initializers, throwabl
 use Rattle.lib_table.specs.Collected.{list_classes, hash_classes, utility_classes, collections, assert_methods, assertions_methods, assertions}
 use Rattle.lib_table.specs.Library.{interfaces, lang_classes, exceptions, library}
 use Rattle.native_laws.specs.Hosts.{IsNativeHost}
-use Rattle.native_laws.specs.Natives.{NativesFit}
+use Rattle.native_laws.specs.Natives.{OthersFit}
 use Rattle.native_laws.proofs.Objects.{do_nothing_fits, same_fits, allocation_fits, status_fits, class_of_fits, class_name_fits, object_text_fits}
 use Rattle.native_laws.proofs.Throwables.{IsThrown, message_fits, cause_fits, set_message_fits, set_cause_fits, set_both_fits}
 use Rattle.native_laws.proofs.Texts.{length_fits, empty_fits, char_at_fits, equals_fits, hash_fits, compare_fits, compare_any_fits, index_of_text_fits, index_of_char_fits, starts_with_fits, ends_with_fits, chars_fits, itself_fits, concat_fits, substring_fits, substring_from_fits, of_int_fits, of_long_fits, of_char_fits, of_bool_fits, builder_text_fits, of_capacity_fits, of_text_fits, append_text_fits, append_int_fits, append_long_fits, append_char_fits, append_bool_fits}
@@ -378,5 +378,5 @@ module _ (p : Look) (host : IsNativeHost p) where
       (joined p interfaces lang_classes (joined p basic_interfaces collection_interfaces basic_cases collection_cases) (joined p (objects ++ texts) numbers (joined p objects texts object_cases text_cases) number_cases))
       (joined p exceptions (collections ++ assertions) exception_cases (joined p collections assertions collected_cases assertion_cases))
 
-pub natives_fit : NativesFit
+pub natives_fit : OthersFit
 natives_fit p host j c e l = (case_at p library j c (cases p host) e).fit l

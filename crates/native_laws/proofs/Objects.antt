@@ -17,7 +17,7 @@ use Rattle.native_laws.proofs.Made.{text_fits, class_fits}
 
 module _ (p : Look) (n : Name) where
   pub do_nothing_fits : (static : Bool) (ks : List Kind) → FitsAs p n static ks None do_nothing
-  do_nothing_fits static ks = λ m s a e. nothing_fits p n m e
+  do_nothing_fits static ks = nothing_fits p n None static ks
 
   pub same_fits : FitsAs p n false (OfReference object_name ∷ []) (Some OfBoolean) same_object
   same_fits = by_this_value p n (Some OfBoolean) (OfReference object_name) (λ h x v. gives_bool (is_ref_to x v)) (λ h x v i w o. tt)

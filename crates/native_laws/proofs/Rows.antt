@@ -1,11 +1,12 @@
 -- From the rows of the library's table to the methods of its classes.
 use Rattle.std.proofs.Common.{◌≡◌, ℕ, zero, suc, Bool, true, false, List, [], ◌∷◌, ◌++◌, map, Option, Some, sym, ap, subst, ◌∙◌}
 use Rattle.std.specs.Prelude.{slice_get}
-use Rattle.std.specs.List.{list_all}
+use Rattle.std.specs.List.{AllByRecursion, list_all}
 use Rattle.std.specs.Option.{option_map}
 use Rattle.std.proofs.lemmas.Bool.{and_parts, true≢false}
+use Rattle.std.proofs.lemmas.List.Elements.{All-from_recursion}
 use Rattle.class_model.specs.declared.constant.Const.{Const}
-use Rattle.program_rules.specs.Names.{Name, is_listed}
+use Rattle.program_rules.specs.Names.{Name}
 use Rattle.program_rules.specs.Kinds.{Kind}
 use Rattle.program_rules.specs.Linked.{LinkedMethod, LinkedBody, IsNative, is_static}
 use Rattle.program_rules.specs.Programs.{Look}
@@ -20,8 +21,8 @@ use Rattle.lib_table.specs.Steps.{written_behind}
 use Rattle.lib_table.specs.Stated as stated
 use Rattle.lib_table.specs.Stated.{Row, Plain, Coded, methods_from}
 use Rattle.type_laws.specs.Soundness.{BodyFits}
-use Rattle.native_laws.specs.Fits.{FitsAs}
-use Rattle.native_laws.specs.Natives.{keeping_classes, MethodsFit}
+use Rattle.native_laws.specs.Fits.{FitsAs, MethodsFit, AllFit}
+use Rattle.native_laws.specs.Natives.{is_keeping}
 
 infixr 20 ◌&◌
 -- The first, and what is behind it.
@@ -49,6 +50,7 @@ module _ (p : Look) (n : Name) where
   RowsFit (Coded flags name desc m ∷ rows) = RowsFit rows
 
   pub native_fits : {m : LibMethod} {static : Bool} {ks : List Kind} {r : Option Kind} {meaning : Meaning} → FitsAs p n static ks r meaning → ((pool : List Const) → said pool m ≡ (static, ks, r, IsNative meaning)) → RowFits m
+  unfolding FitsAs
   native_fits {m} f e = record { each = λ pool. subst (BodyFits p n (library_method pool m)) (sym (ap (λ x. x.3) (e pool))) (f (library_method pool m) (ap (λ x. x.0) (e pool)) (ap (λ x. x.1) (e pool)) (ap (λ x. x.2) (e pool))) }
 
   methods_fit : (pool before : List Const) (rows : List Row) (k : ℕ) (m : LinkedMethod) → RowsFit rows → slice_get (map (library_method pool) (methods_from before rows)) k ≡ Some m → BodyFits p n m m.body
@@ -88,15 +90,27 @@ module _ (p : Look) (n : Name) where
 -- ---- classes
 
 module _ (p : Look) where
+  pub ClassFits : LibClass → Type 0
+  ClassFits c = MethodsFit p c
+
+  -- A class whose methods are those of rows.
+  pub of_rows : (c : LibClass) (rows : List Row) → c.methods ≡ methods_from [] rows → RowsFit p c.name rows → ClassFits c
+  unfolding ClassFits link_library
+  of_rows c rows same f = λ k m e. methods_fit p c.name c.pool [] rows k m f (subst (λ ms. slice_get (map (library_method c.pool) ms) k ≡ Some m) same e)
+
+  pub of_classes : (cs : List LibClass) → AllByRecursion ClassFits cs → AllFit p cs
+  unfolding ClassFits
+  of_classes cs f = All-from_recursion (MethodsFit p) cs f
+
   -- The methods of a class fit, unless it keeps references.
   pub record CaseFits (c : LibClass) : Type 0 where
-    pub fit : is_listed c.name keeping_classes ≡ false → MethodsFit p c
+    pub fit : is_keeping c ≡ false → MethodsFit p c
 
   pub by_rows : {c : LibClass} (rows : List Row) → c.methods ≡ methods_from [] rows → RowsFit p c.name rows → CaseFits c
-  unfolding link_library
-  by_rows {c} rows same f = record { fit = λ l k m e. methods_fit p c.name c.pool [] rows k m f (subst (λ ms. slice_get (map (library_method c.pool) ms) k ≡ Some m) same e) }
+  unfolding ClassFits
+  by_rows {c} rows same f = record { fit = λ l. of_rows c rows same f }
 
-  pub by_name : {c : LibClass} → is_listed c.name keeping_classes ≡ true → CaseFits c
+  pub by_name : {c : LibClass} → is_keeping c ≡ true → CaseFits c
   by_name e = record { fit = λ l. absurd (true≢false (sym e ∙ l)) }
 
   abbrev pub CasesFit : List LibClass → Type 0

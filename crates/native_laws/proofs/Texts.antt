@@ -20,7 +20,7 @@ use Rattle.type_laws.specs.Values.{IsWithin, OfKind, HeapFits}
 use Rattle.type_laws.specs.Soundness.{DeedFits, ChangeFits}
 use Rattle.native_laws.specs.Hosts.{IsNativeHost}
 use Rattle.native_laws.specs.Fits.{FitsAs}
-use Rattle.native_laws.proofs.Forms.{by_this, by_receiver, by_this_int, by_receiver_int, by_this_ints, by_this_long, by_this_value, by_receiver_value, by_int, by_long, by_needed, by_text, by_test, on_its_object, instance_fits, this_then, int_then, none_then}
+use Rattle.native_laws.proofs.Forms.{by_this, by_receiver, by_this_int, by_receiver_int, by_this_ints, by_this_long, by_this_value, by_receiver_value, by_int, by_long, by_needed, by_text, by_test, of_this_int, on_its_object}
 use Rattle.native_laws.proofs.Made.{makes_fits, text_fits}
 
 abbrev texts : Option Kind
@@ -141,11 +141,7 @@ module _ (p : Look) (n : Name) where
   capacity_fits h x (negsuc k) = tt
 
   pub of_capacity_fits : FitsAs p n false (OfInt ∷ []) None builder_of_capacity
-  of_capacity_fits =
-      instance_fits p n (OfInt ∷ []) None builder_of_capacity (λ h vs i a.
-      this_then p h (λ us. DeedFits p h None (builder_of_capacity h us)) n (OfInt ∷ []) vs a (λ x ws w b.
-      int_then (classes_of p) h (λ us. DeedFits p h None (builder_of_capacity h (Ref x ∷ us))) OfInt [] ws (λ v o. o) b (λ z us c.
-      none_then (classes_of p) h (λ us. DeedFits p h None (builder_of_capacity h (Ref x ∷ Int z ∷ us))) us c (capacity_fits h x z))))
+  of_capacity_fits = of_this_int p n None builder_of_capacity (λ h x z i w. capacity_fits h x z)
 
   set_fits : (h : List Object) (x : ℕ) (t : List ℕ) → HeapFits p h → Within h x → ChangeFits p h x (SetText t)
   set_fits h x t f i = record { object = i.object; there = i.there; fits = f x i.object i.there }

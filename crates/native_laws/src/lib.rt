@@ -2,11 +2,11 @@
 //! keep references aren't here.
 #![tactic(auto)]
 
-ghost use Rattle.native_laws.specs.Natives.{NativesFit};
+ghost use Rattle.native_laws.specs.Natives.{OthersFit};
 
 /// Each native method of the library does what fits its descriptor, on each heap that fits and for
 /// all arguments that do, but for those of the nine classes that keep references or make what does.
 #[tactic(auto, using(crate::proofs::Listed::natives_fit))]
 pub fn natives_fit()
-    ensures { NativesFit }
+    ensures { OthersFit }
 {}

@@ -4,7 +4,7 @@ use Rattle.std.specs.Prelude.{filter, if◌then◌else◌}
 use Rattle.std.specs.List.{AllByRecursion}
 use Rattle.std.proofs.lemmas.Bool.{true≢false}
 use Rattle.std.proofs.lemmas.List.Elements.{recursion_from_All}
-use Rattle.program_rules.specs.Names.{Name, same, is_listed}
+use Rattle.program_rules.specs.Names.{Name, same}
 use Rattle.program_rules.specs.Linked.{Linked, LinkedMethod}
 use Rattle.program_rules.specs.Library.{class_among, first_of}
 use Rattle.program_rules.specs.Programs.{Look}
@@ -19,17 +19,14 @@ use Rattle.lib_table.specs.LangClasses.{objects, texts, numbers}
 use Rattle.lib_table.specs.Collected.{collections, list_classes, hash_classes, utility_classes, assertions}
 use Rattle.library_laws.specs.Beside.{AreOfFiles, behind_others}
 use Rattle.linking_laws.specs.Linked.{NativesFit}
-use Rattle.keeping_laws.specs.Fitting.{MethodsFit, AllFit, keeping_objects}
+use Rattle.keeping_laws.specs.Fitting.{keeping_objects}
 use Rattle.keeping_laws.specs.Hosts.{IsKeepingHost}
 use Rattle.native_laws.specs.Hosts.{IsNativeHost}
-use Rattle.native_laws.specs.Natives.{keeping_classes}
-use Rattle.native_laws.specs.Natives.{NativesFit as OthersFit}
-
-abbrev keeps : LibClass → Bool
-keeps c = is_listed c.name keeping_classes
+use Rattle.native_laws.specs.Fits.{MethodsFit, AllFit}
+use Rattle.native_laws.specs.Natives.{is_keeping, OthersFit}
 
 -- The classes of the library that keep references.
-keepers_are : filter keeps library ≡ keeping_objects ++ collections
+keepers_are : filter is_keeping library ≡ keeping_objects ++ collections
 unfolding basic_interfaces collection_interfaces objects texts numbers throwables errors machine_exceptions library_exceptions list_classes hash_classes utility_classes collections assertions
 keepers_are = refl
 
@@ -43,19 +40,19 @@ first_case : (P : LibClass → Type 0) (x : LibClass) (rest : List LibClass) (b 
 first_case P x rest true h = ((λ e. h.0), h.1)
 first_case P x rest false h = ((λ e. absurd (true≢false (sym e))), h)
 
-filtered : (P : LibClass → Type 0) (xs : List LibClass) → AllByRecursion P (filter keeps xs) → AllByRecursion (λ x. keeps x ≡ true → P x) xs
+filtered : (P : LibClass → Type 0) (xs : List LibClass) → AllByRecursion P (filter is_keeping xs) → AllByRecursion (λ x. is_keeping x ≡ true → P x) xs
 filtered P [] h = tt
-filtered P (x ∷ xs) h = let both = first_case P x (filter keeps xs) (keeps x) h in (both.0, filtered P xs both.1)
+filtered P (x ∷ xs) h = let both = first_case P x (filter is_keeping xs) (is_keeping x) h in (both.0, filtered P xs both.1)
 
-either : (P : LibClass → Type 0) (x : LibClass) (b : Bool) → keeps x ≡ b → (keeps x ≡ true → P x) → (keeps x ≡ false → P x) → P x
+either : (P : LibClass → Type 0) (x : LibClass) (b : Bool) → is_keeping x ≡ b → (is_keeping x ≡ true → P x) → (is_keeping x ≡ false → P x) → P x
 either P x true e h k = h e
 either P x false e h k = k e
 
 -- Classes of a list, each with its place in the library.
-all_of : (P : LibClass → Type 0) (all xs : List LibClass) (from : ℕ → ℕ) → ((k : ℕ) → slice_get xs k ≡ slice_get all (from k)) → ((j : ℕ) (c : LibClass) → slice_get all j ≡ Some c → keeps c ≡ false → P c) → AllByRecursion (λ x. keeps x ≡ true → P x) xs → AllByRecursion P xs
+all_of : (P : LibClass → Type 0) (all xs : List LibClass) (from : ℕ → ℕ) → ((k : ℕ) → slice_get xs k ≡ slice_get all (from k)) → ((j : ℕ) (c : LibClass) → slice_get all j ≡ Some c → is_keeping c ≡ false → P c) → AllByRecursion (λ x. is_keeping x ≡ true → P x) xs → AllByRecursion P xs
 all_of P all [] from at others h = tt
 all_of P all (x ∷ xs) from at others h =
-    (either P x (keeps x) refl h.0 (others (from 0) x (sym (at 0))), all_of P all xs (λ k. from (suc k)) (λ k. at (suc k)) others h.1)
+    (either P x (is_keeping x) refl h.0 (others (from 0) x (sym (at 0))), all_of P all xs (λ k. from (suc k)) (λ k. at (suc k)) others h.1)
 
 -- ---- the methods of a class that is found by its name
 

@@ -23,10 +23,11 @@ use Rattle.library_laws.specs.Beside.{AreOfFiles, AreApart, behind_others}
 use Rattle.library_facts.specs.Natives.{HostsNatives, HostsKeepers}
 use Rattle.library_facts.specs.Facts.{InEachProgram, HasBareObject, HasLibraryIfTops, HasArraysOfFiles, FilesAreNoArrays}
 use Rattle.linking_laws.specs.Linked.{AcceptedAreLinked}
-use Rattle.keeping_laws.specs.Fitting.{AllFit, keeping_objects}
+use Rattle.keeping_laws.specs.Fitting.{keeping_objects}
 use Rattle.keeping_laws.specs.Hosts.{IsKeepingHost}
 use Rattle.native_laws.specs.Hosts.{IsNativeHost}
-use Rattle.native_laws.specs.Natives.{NativesFit as OthersFit}
+use Rattle.native_laws.specs.Fits.{AllFit}
+use Rattle.native_laws.specs.Natives.{OthersFit}
 use Rattle.mutant_laws.specs.Accepted.{IsSafe}
 use Rattle.mutant_laws.specs.Edited.{descriptors}
 use Rattle.suite_program.specs.Programs.{named, program_of, names_in}
