@@ -17,7 +17,8 @@ use Rattle.type_laws.proofs.Tests.{same_is}
 use Rattle.class_link.specs.Symbols.{name_or_empty}
 use Rattle.class_link.specs.Info.{own_name}
 use Rattle.class_link.specs.Linking.{link}
-use Rattle.library_facts.specs.Facts.{FilesAreNoArrays, named_file}
+use Rattle.library_laws.specs.Beside.{named}
+use Rattle.library_facts.specs.Facts.{FilesAreNoArrays}
 
 abbrev units : List ℕ → Bool
 units part = list_all (λ u. not (is_reserved u)) part
@@ -56,10 +57,10 @@ found_case : (n m : Name) (c : Linked) (rest : Option Linked) (b : Bool) → sam
 found_case n m c rest true e plain is later = absurd (true≢false (sym is ∙ ap is_array_name (sym (same_is m n e)) ∙ plain))
 found_case n m c rest false e plain is later = later
 
-none_among : (classes : List Class) → All IsClass classes → (n : Name) → is_array_name n ≡ true → class_among (map named_file classes) n ≡ None
+none_among : (classes : List Class) → All IsClass classes → (n : Name) → is_array_name n ≡ true → class_among (map named classes) n ≡ None
 none_among [] all n is = refl
 none_among (c ∷ cs) all n is =
-    found_case n (own_name c) (link c) (class_among (map named_file cs) n) (same (own_name c) n) refl (of_file c (All-head IsClass c cs all)) is
+    found_case n (own_name c) (link c) (class_among (map named cs) n) (same (own_name c) n) refl (of_file c (All-head IsClass c cs all)) is
     (none_among cs (All-tail IsClass c cs all) n is)
 
 pub no_arrays : FilesAreNoArrays

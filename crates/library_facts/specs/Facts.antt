@@ -3,15 +3,12 @@ use Rattle.std.specs.Prelude.{◌≡◌, true, false, List, [], map, All, None, 
 use Rattle.class_model.specs.declared.class.Class.{Class}
 use Rattle.class_reader.specs.Spells.{IsClass}
 use Rattle.program_rules.specs.Names.{Name, object_name, is_array_name}
-use Rattle.program_rules.specs.Linked.{Linked}
 use Rattle.program_rules.specs.Library.{class_among}
 use Rattle.program_rules.specs.Outlines.{outline_of, fields_in}
 use Rattle.program_rules.specs.Programs.{Look, Rising, nodes, top_of}
 use Rattle.type_laws.specs.Soundness.{AllObject, HasLibrary}
 use Rattle.order_laws.specs.Ordered.{HasArrays}
-use Rattle.class_link.specs.Info.{own_name}
-use Rattle.class_link.specs.Linking.{link}
-use Rattle.library_laws.specs.Beside.{AreOfFiles, AreApart, behind_others}
+use Rattle.library_laws.specs.Beside.{AreOfFiles, AreApart, behind_others, named}
 
 -- This is so of each program of the library and of class files that have no name of the library.
 abbrev pub InEachProgram : (Look → Type 0) → Type 0
@@ -41,12 +38,8 @@ HasArraysOfFiles =
     (other : Look) → AreOfFiles other → AreApart other → AreNoArrays other →
     HasArrays (behind_others other)
 
--- A class file with its own name.
-abbrev pub named_file : Class → Name × Linked
-named_file c = (own_name c, link c)
-
 -- No class file that was read is named as an array.
 abbrev pub FilesAreNoArrays : Type 0
 FilesAreNoArrays =
     (classes : List Class) → All IsClass classes →
-    AreNoArrays (class_among (map named_file classes))
+    AreNoArrays (class_among (map named classes))

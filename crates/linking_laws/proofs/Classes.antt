@@ -28,9 +28,10 @@ use Rattle.lib_table.specs.Exceptions.{throwables, errors, machine_exceptions, l
 use Rattle.lib_table.specs.Interfaces.{basic_interfaces, collection_interfaces}
 use Rattle.lib_table.specs.LangClasses.{objects, texts, numbers}
 use Rattle.lib_table.specs.Library.{library, library_meant, class_meant}
-use Rattle.linking_laws.specs.Linked.{descriptors, named, program_of}
+use Rattle.library_laws.specs.Beside.{named, program_of}
+use Rattle.linking_laws.specs.Linked.{descriptors}
 use Rattle.linking_laws.proofs.Arrays.{IsNameMeant, entry_name, is_right_name, right_name}
-use Rattle.linking_laws.proofs.Instructions.{IsMeant, IsEntryMeant, IsPoolMeant, all_meant}
+use Rattle.linking_laws.proofs.Instructions.{IsNamed, IsEntryMeant, IsPoolMeant, all_meant}
 
 -- ---- constant pools
 
@@ -67,7 +68,7 @@ table_entries pool (c ∷ entries) e =
 pub record MethodIs (m : LinkedMethod) : Type 0 where
   pub args : m.args ≡ descriptors.args m.desc
   pub result : m.result ≡ descriptors.result m.desc
-  pub names : IfSome (code_in m.body) (λ code. AllByRecursion IsMeant code.instructions)
+  pub names : IfSome (code_in m.body) (λ code. AllByRecursion IsNamed code.instructions)
 
 pub record FieldIs (f : LinkedField) : Type 0 where
   pub kind : f.kind ≡ descriptors.field f.desc
@@ -87,7 +88,7 @@ pub record ClassIs (c : Linked) : Type 0 where
   pub fields : AllByRecursion FieldIs c.fields
 
 abbrev BodyIs : LinkedBody → Type 0
-BodyIs b = IfSome (code_in b) (λ code. AllByRecursion IsMeant code.instructions)
+BodyIs b = IfSome (code_in b) (λ code. AllByRecursion IsNamed code.instructions)
 
 -- ---- of class files
 
@@ -172,5 +173,5 @@ table_found (c ∷ cs) n e =
     found (same c.name n) (link_library c) (class_among (map class_meant cs) n) (table_class c h.0) (table_found cs n h.1)
 
 pub class_is : (classes : List Class) (n : Name) → AllByRecursion IsClass classes → HasKinds (program_of classes n)
-unfolding library_meant
+unfolding library_meant program_of
 class_is classes n h = first_found (class_among (map named classes) n) (class_among library_meant n) (file_found classes n h) (table_found library n library_right)

@@ -1,4 +1,5 @@
 mod Arrays
+pub mod Operands
 mod Instructions
 mod Accepted
 mod Classes

@@ -12,9 +12,10 @@ use Rattle.program_rules.specs.Linked.{Linked, LinkedMethod, LinkedBody, LinkedC
 use Rattle.program_rules.specs.Programs.{Look}
 use Rattle.type_rules.specs.Rules.{Accepted}
 use Rattle.type_laws.specs.Soundness.{BodyFits, IsLinkedBy}
-use Rattle.linking_laws.specs.Linked.{descriptors, program_of, NativesFit}
+use Rattle.library_laws.specs.Beside.{program_of}
+use Rattle.linking_laws.specs.Linked.{descriptors, NativesFit}
 use Rattle.linking_laws.proofs.Accepted.{named_arrays}
-use Rattle.linking_laws.proofs.Instructions.{IsMeant}
+use Rattle.linking_laws.proofs.Instructions.{IsNamed}
 use Rattle.linking_laws.proofs.Classes.{MethodIs, FieldIs, ClassIs, is_native, class_is}
 
 item_of : {X : Type 0} (P : X → Type 0) (xs : List X) (k : ℕ) (x : X) → AllByRecursion P xs → slice_get xs k ≡ Some x → P x
@@ -35,8 +36,8 @@ module _ (classes : List Class) (spelled : All IsClass classes) where
   method_there : (n : Name) (c : Linked) (k : ℕ) (m : LinkedMethod) → program_of classes n ≡ Some c → slice_get c.methods k ≡ Some m → MethodIs m
   method_there n c k m has get = item_of MethodIs c.methods k m (class_there n c has).methods get
 
-  in_code : (m : LinkedMethod) (code : LinkedCode) → m.body ≡ HasCode code → MethodIs m → AllByRecursion IsMeant code.instructions
-  in_code m code body h = subst (λ b. IfSome (code_in b) (λ (c : LinkedCode). AllByRecursion IsMeant c.instructions)) body h.names
+  in_code : (m : LinkedMethod) (code : LinkedCode) → m.body ≡ HasCode code → MethodIs m → AllByRecursion IsNamed code.instructions
+  in_code m code body h = subst (λ b. IfSome (code_in b) (λ (c : LinkedCode). AllByRecursion IsNamed c.instructions)) body h.names
 
   module _ (natives : NativesFit (program_of classes)) where
     native_case : (n : Name) (c : Linked) (k : ℕ) (m : LinkedMethod) (b : Bool) → c.library ≡ b → program_of classes n ≡ Some c → slice_get c.methods k ≡ Some m → BodyFits (program_of classes) n m m.body
@@ -52,7 +53,7 @@ module _ (classes : List Class) (spelled : All IsClass classes) where
     field = λ n c k f has get. (item_of FieldIs c.fields k f (class_there n c has).fields get).kind;
     reference =
         λ n c k m code at i has get body stands.
-        (item_of IsMeant code.instructions at i (in_code m code body (method_there n c k m has get)) stands).meant
+        (item_of IsNamed code.instructions at i (in_code m code body (method_there n c k m has get)) stands).meant
         (named_arrays (program_of classes) accepted n c k m code at i has get body stands);
     plain_args = refl;
     plain_result = refl;

@@ -5,14 +5,11 @@ use Rattle.class_model.specs.declared.class.Class.{Class}
 use Rattle.class_reader.specs.Spells.{IsClass}
 use Rattle.program_rules.specs.Names.{Name}
 use Rattle.program_rules.specs.Linked.{Linked, LinkedMethod}
-use Rattle.program_rules.specs.Library.{class_among, first_of}
 use Rattle.program_rules.specs.Programs.{Look}
 use Rattle.type_rules.specs.Rules.{Accepted}
 use Rattle.type_laws.specs.Soundness.{Meanings, BodyFits, IsLinkedBy}
-use Rattle.class_link.specs.Info.{own_name}
-use Rattle.class_link.specs.Linking.{link}
 use Rattle.class_link.specs.Symbols.{kind_of, kind_stated, type_stated}
-use Rattle.lib_table.specs.Library.{library_meant}
+use Rattle.library_laws.specs.Beside.{program_of}
 
 -- What descriptors mean by their grammar (JVMS 4.3), which is what linking takes kinds from.
 abbrev pub descriptors : Meanings
@@ -21,15 +18,6 @@ descriptors = record {
   result = λ desc. option_map kind_of (type_stated desc).ret;
   field = λ desc. kind_of (kind_stated desc);
 }
-
--- A class file's class as it is linked, with its name.
-abbrev pub named : Class → Name × Linked
-named c = (own_name c, link c)
-
--- A name means a class of these class files, else the library's class.
-abbrev pub program_of : List Class → Look
-program_of classes n =
-    first_of (class_among (map named classes) n) (class_among library_meant n)
 
 -- Each native method of the library does deeds that fit its descriptor. Who has the native methods
 -- gives this; class files have none.

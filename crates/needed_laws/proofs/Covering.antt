@@ -1,5 +1,5 @@
 -- The tests that a coverage has at a line are those whose runs have it.
-use Rattle.std.proofs.Common.{◌≡◌, ◌∙◌, refl, sym, ap, ℕ, zero, suc, ◌+◌, Bool, true, false, List, [], ◌∷◌, map, length, get_or, arith, cond}
+use Rattle.std.proofs.Common.{◌≡◌, ◌∙◌, refl, ap, ℕ, suc, ◌+◌, Bool, true, false, List, [], ◌∷◌, map, length, get_or, arith, cond}
 use Rattle.std.specs.Prelude.{filter}
 use Rattle.std.specs.List.{AllZip, enumerate_from, range_with_len}
 use Rattle.class_model.specs.declared.class.ClassId.{ClassId}

@@ -1,6 +1,6 @@
 -- A class that a class file declares has one number, and no class that isn't there has its name.
-use Rattle.std.proofs.Common.{◌≡◌, ◌∙◌, refl, sym, ap, subst, ℕ, ◌<◌, ◌≤◌, Bool, true, false, List, [], ◌∷◌, length, Option, Some, None, ⊎_elim, inl, inr, ◌⊎◌, arith}
-use Rattle.std.specs.Prelude.{◌==◌, nat_eq, IsTrue, slice_get}
+use Rattle.std.proofs.Common.{◌≡◌, ◌∙◌, refl, sym, ap, ℕ, Bool, true, false, List, [], ◌∷◌, Option, Some, None, arith}
+use Rattle.std.specs.Prelude.{◌==◌, nat_eq, slice_get}
 use Rattle.std.specs.Option.{option_map}
 use Rattle.std.proofs.lemmas.Bool.{eqb-true, true≢false}
 use Rattle.std.proofs.lemmas.Bool.Decides.{nat_tests}
@@ -15,8 +15,8 @@ use Rattle.type_laws.proofs.Tests.{same_is}
 use Rattle.class_order.proofs.Within.{same_itself}
 use Rattle.class_link.specs.Info.{Info, own_name}
 use Rattle.class_link.specs.Symbols.{name_or_empty}
-use Rattle.class_table.specs.Table.{IsProgram, number_of, name_at, names, name_or_none}
-use Rattle.class_table.proofs.Places.{number_within, number_named, number_at}
+use Rattle.class_table.specs.Table.{IsProgram, number_of, name_at, name_or_none}
+use Rattle.class_table.proofs.Places.{number_named, number_at}
 
 named_case : (o : Option Name) → is_some_and is_class_name o ≡ true → name_or_empty o ≡ [] → true ≡ false
 named_case None h e = sym h

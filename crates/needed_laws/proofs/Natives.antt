@@ -1,5 +1,5 @@
 -- The native methods of the library fit their descriptors, in a program that has what they need.
-use Rattle.std.proofs.Common.{◌≡◌, ◌∙◌, refl, sym, ap, subst, ℕ, zero, suc, Bool, true, false, List, [], ◌∷◌, ◌++◌, map, Option, None, Some, slice_get, cond, All}
+use Rattle.std.proofs.Common.{◌≡◌, ◌∙◌, refl, sym, ap, subst, ℕ, suc, Bool, true, false, List, [], ◌∷◌, ◌++◌, map, Option, None, Some, slice_get, cond}
 use Rattle.std.specs.Prelude.{filter, if◌then◌else◌}
 use Rattle.std.specs.List.{AllByRecursion}
 use Rattle.std.proofs.lemmas.Bool.{true≢false}
@@ -20,7 +20,6 @@ use Rattle.lib_table.specs.Collected.{collections, list_classes, hash_classes, u
 use Rattle.library_laws.specs.Beside.{AreOfFiles, behind_others}
 use Rattle.linking_laws.specs.Linked.{NativesFit}
 use Rattle.keeping_laws.specs.Fitting.{keeping_objects}
-use Rattle.keeping_laws.specs.Hosts.{IsKeepingHost}
 use Rattle.native_laws.specs.Hosts.{IsNativeHost}
 use Rattle.native_laws.specs.Fits.{MethodsFit, AllFit}
 use Rattle.native_laws.specs.Natives.{is_keeping, OthersFit}

@@ -1,8 +1,8 @@
 -- What the tests that cover a mutant say of it is what all tests say, and it takes the runs that are
 -- needed.
-use Rattle.std.proofs.Common.{◌≡◌, ◌∙◌, refl, sym, ap, ap₂, subst, ℕ, suc, ◌+◌, Bool, true, false, List, [], ◌∷◌, ◌++◌, map, length, Option, None, Some, is_some, All, get_or, slice_get, arith}
+use Rattle.std.proofs.Common.{◌≡◌, ◌∙◌, refl, sym, ap, ap₂, subst, ℕ, suc, ◌+◌, Bool, true, false, List, [], ◌∷◌, map, length, Option, None, Some, is_some, All, slice_get, arith}
 use Rattle.std.specs.Prelude.{◌&&◌, ◌||◌, ◌==◌, if◌then◌else◌, filter, flat_map, zip, sum_by, option_and_then, IfSome}
-use Rattle.std.specs.List.{AllByRecursion, AllZip, Contains, enumerate_from, list_any, range_with_len}
+use Rattle.std.specs.List.{AllByRecursion, AllZip, enumerate_from, list_any, range_with_len}
 use Rattle.std.specs.Option.{option_map, option_map_or}
 use Rattle.std.proofs.lemmas.List.Elements.{recursion_from_All}
 use Rattle.std.proofs.lemmas.List.Sums.{sum_by-cons}
@@ -21,28 +21,27 @@ use Rattle.program_rules.specs.Programs.{Look}
 use Rattle.type_rules.specs.Faults.{Placed, class_fault}
 use Rattle.class_link.specs.Info.{Info, own_name, file_in}
 use Rattle.class_table.specs.declared.scripted.Test.{Test}
-use Rattle.class_table.specs.Table.{IsProgram, number_of, name_at, look}
+use Rattle.class_table.specs.Table.{number_of, look}
 use Rattle.jvm_world.specs.View.{named}
-use Rattle.line_coverage.specs.Coverage.{Covered, Covers, tests_at}
+use Rattle.line_coverage.specs.Coverage.{Covered, tests_at}
 use Rattle.line_coverage.specs.Coverage.{reaches as covers}
 use Rattle.line_coverage.specs.Lines.{is_listed}
 use Rattle.test_select.specs.Cells.{cell, cells_of, cells}
 use Rattle.test_select.specs.declared.mutant.MutantPlace.{MutantPlace}
 use Rattle.mutator_ops.specs.Laws.{IsMutant, ListedExactly}
-use Rattle.mutator_ops.specs.Mutants.{class_mutants}
 use Rattle.mutator_ops.specs.declared.mutant.Mutant.{Mutant}
 use Rattle.mutator_ops.specs.declared.mutant.State.{State}
 use Rattle.mutator_ops.specs.declared.mutant.Verdict.{Verdict}
-use Rattle.mutant_runs.specs.Needed.{up_to_detecting, needed_runs, needed_on, needed_of_all, picked, runs_picked, steps_picked, verdict_picked, steps_by}
-use Rattle.mutant_runs.specs.Programs.{files_of, edited, with_accepted, viable, IsMutantOf}
-use Rattle.mutant_runs.specs.Promises.{covering_at, AreViable}
-use Rattle.mutant_runs.specs.Runs.{Timed, timed, mutant_run, runs_on, steps_in, is_at, reaches, detected}
-use Rattle.mutant_runs.specs.Verdicts.{covering, killer, verdict_by, judged, not_viable, verdict_of}
+use Rattle.mutant_runs.specs.Needed.{up_to_detecting, needed_runs, needed_on, needed_of_all, runs_picked, steps_picked, verdict_picked, steps_by}
+use Rattle.mutant_runs.specs.Programs.{files_of, edited, with_accepted, viable}
+use Rattle.mutant_runs.specs.Promises.{covering_at}
+use Rattle.mutant_runs.specs.Runs.{Timed, timed, mutant_run, runs_on, steps_in, is_at, reaches}
+use Rattle.mutant_runs.specs.Verdicts.{killer, verdict_by, judged, not_viable, verdict_of}
 use Rattle.mutant_laws.specs.Accepted.{IsSafe, IsSafeMutant, FitsProgram, ViableAreNeverStuck, SelectedAlwaysSuffice}
-use Rattle.mutant_laws.specs.Covered.{original_run, edited_run, NotStuckThere, ReachingIsAlike, runs_of, selected, verdict_of_these}
+use Rattle.mutant_laws.specs.Covered.{original_run, edited_run, NotStuckThere, ReachingIsAlike, runs_of}
 use Rattle.mutant_laws.specs.Edited.{IsMutated, ListedAreMutated}
 use Rattle.type_laws.specs.Soundness.{IsStuck}
-use Rattle.needed_laws.specs.Tested.{IsMeasured, IsListed, IsTested, steps_of, timed_of, all_verdicts, ArePlaces, AreNeeded, CoveringTestsAreNeeded}
+use Rattle.needed_laws.specs.Tested.{IsMeasured, IsListed, timed_of, all_verdicts, ArePlaces, CoveringTestsAreNeeded}
 use Rattle.needed_laws.proofs.Covering.{Hit, numbers}
 use Rattle.needed_laws.proofs.Named.{some_name, same_number}
 use Rattle.needed_laws.proofs.Picked.{with_steps, picked_are, runs_are}

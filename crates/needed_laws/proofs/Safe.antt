@@ -1,11 +1,8 @@
 -- The program of a suite is as the laws of accepted programs ask.
-use Rattle.std.proofs.Common.{◌≡◌, ◌∙◌, refl, sym, ap, subst, ℕ, Bool, true, false, List, [], ◌∷◌, map, Option, None, Some, All, is_none, inl, inr}
-use Rattle.std.specs.Prelude.{if◌then◌else◌}
+use Rattle.std.proofs.Common.{◌≡◌, sym, subst, List, map, All}
 use Rattle.class_model.specs.declared.class.Class.{Class}
 use Rattle.class_reader.specs.Spells.{IsClass}
 use Rattle.class_order.specs.Ranks.{IsOrdered}
-use Rattle.program_rules.specs.Names.{Name, same}
-use Rattle.program_rules.specs.Linked.{Linked}
 use Rattle.program_rules.specs.Library.{class_among}
 use Rattle.program_rules.specs.Programs.{Look}
 use Rattle.machine_laws.specs.Consulted.{IsLibraryWhole}
@@ -14,25 +11,20 @@ use Rattle.type_rules.specs.References.{classes_of}
 use Rattle.type_laws.specs.Soundness.{IsBuilt, HasFaults, HasLibrary, HasLayout, IsLinkedBy}
 use Rattle.order_laws.specs.Ordered.{HasArrays, OrderedIsBuilt}
 use Rattle.order_laws.specs.Walks.{TopsAreObject, OrderedHasLayout}
-use Rattle.class_link.specs.Info.{Info, own_name}
-use Rattle.class_link.specs.Linking.{link}
-use Rattle.class_table.specs.Table.{AreDistinct, look, names}
-use Rattle.lib_table.specs.Library.{library_meant}
+use Rattle.class_table.specs.Table.{AreDistinct, look}
 use Rattle.lib_table.specs.Collected.{collections}
-use Rattle.library_laws.specs.Beside.{AreOfFiles, AreApart, behind_others}
+use Rattle.library_laws.specs.Beside.{AreOfFiles, AreApart, behind_others, named, program_of}
 use Rattle.library_facts.specs.Natives.{HostsNatives, HostsKeepers}
 use Rattle.library_facts.specs.Facts.{InEachProgram, HasBareObject, HasLibraryIfTops, HasArraysOfFiles, FilesAreNoArrays}
 use Rattle.linking_laws.specs.Linked.{AcceptedAreLinked}
 use Rattle.keeping_laws.specs.Fitting.{keeping_objects}
 use Rattle.keeping_laws.specs.Hosts.{IsKeepingHost}
-use Rattle.native_laws.specs.Hosts.{IsNativeHost}
 use Rattle.native_laws.specs.Fits.{AllFit}
 use Rattle.native_laws.specs.Natives.{OthersFit}
-use Rattle.mutant_laws.specs.Accepted.{IsSafe}
 use Rattle.mutant_laws.specs.Edited.{descriptors}
-use Rattle.suite_program.specs.Programs.{named, program_of, names_in}
+use Rattle.suite_program.specs.Programs.{names_in}
 use Rattle.suite_program.proofs.ReadyLaws.{of_files, are_apart}
-use Rattle.needed_laws.specs.Suites.{IsOfSuite, SuitesAreSafe}
+use Rattle.needed_laws.specs.Suites.{SuitesAreSafe}
 use Rattle.needed_laws.proofs.Natives.{natives_fit}
 
 -- What is given of each program of class files and of the library, beside its order.
@@ -80,6 +72,7 @@ module _ (g : Given) (classes : List Class) (spelled : All IsClass classes) (apa
     layout = g.layout whole_program order (g.bare other files away)
 
     linked : IsLinkedBy whole_program descriptors
+    unfolding program_of
     linked =
         let keeping = g.keeping_hosts other files away built order in
         g.linked classes spelled

@@ -11,7 +11,8 @@ use Rattle.test_discovery.specs.Discovery.{Tests}
 use Rattle.mutant_runs.specs.Programs.{files_of}
 use Rattle.mutant_runs.specs.Ready.{IsReady}
 use Rattle.mutant_laws.specs.Accepted.{IsSafe, FitsProgram}
-use Rattle.suite_program.specs.Programs.{class_file, program_of, names_in}
+use Rattle.library_laws.specs.Beside.{program_of}
+use Rattle.suite_program.specs.Programs.{class_file, names_in}
 
 -- A program that was built of these class files and the library, and accepted.
 pub record IsOfSuite (classes : List Class) (p : List Info) : Type 0 where

@@ -11,7 +11,8 @@ use Rattle.class_table.specs.declared.fault.TableFault.{TableFault}
 use Rattle.class_table.specs.declared.fault.TableFault.TheVariants as fault
 use Rattle.suite_program.specs.Building.{table_fault, end_of}
 use Rattle.suite_program.specs.Faults.{super_fault}
-use Rattle.suite_program.specs.Programs.{classes_in, names_in, program_of}
+use Rattle.library_laws.specs.Beside.{program_of}
+use Rattle.suite_program.specs.Programs.{classes_in, names_in}
 use Rattle.suite_program.specs.declared.fault.ProgramFault.{ProgramFault}
 use Rattle.suite_program.specs.declared.fault.ProgramFault.TheVariants.{Duplicate, SuperMissing, SuperCycle, SuperKind}
 use Rattle.suite_program.specs.declared.fault.ProgramEnd.TheVariants.{Refused}

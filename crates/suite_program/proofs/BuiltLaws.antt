@@ -11,7 +11,8 @@ use Rattle.lib_table.specs.Library.{library_meant}
 use Rattle.library_laws.specs.Bounded.{AreBounded}
 use Rattle.linked_files.specs.Bounded.{LinkedFilesAreBounded}
 use Rattle.suite_program.specs.Building.{IsBuilt}
-use Rattle.suite_program.specs.Programs.{classes_in, AreSpelled, program_of}
+use Rattle.library_laws.specs.Beside.{program_of}
+use Rattle.suite_program.specs.Programs.{classes_in, AreSpelled}
 use Rattle.suite_program.proofs.AcceptedLaws.{IsLibrary, faultless}
 use Rattle.suite_program.proofs.FileLaws.{are_files}
 use Rattle.suite_program.proofs.NumberLaws.{numbered, as_many}

@@ -9,7 +9,8 @@ use Rattle.type_rules.specs.Rules.{Accepted}
 use Rattle.mutant_runs.specs.Ready.{IsReady}
 use Rattle.suite_program.specs.Building.{table_fault, first_in, IsBuilt}
 use Rattle.suite_program.specs.Faults.{duplicate_of, super_fault, first_fault, first_refused}
-use Rattle.suite_program.specs.Programs.{classes_in, program_of, names_in}
+use Rattle.library_laws.specs.Beside.{program_of}
+use Rattle.suite_program.specs.Programs.{classes_in, names_in}
 use Rattle.suite_program.specs.declared.fault.ProgramFault.{ProgramFault}
 use Rattle.suite_program.proofs.WholeLaws.{is_whole}
 

@@ -16,7 +16,8 @@ use Rattle.class_link.specs.Info.{Info, IsInfo, body_name, link_body, own_name}
 use Rattle.class_link.specs.Linking.{link_library}
 use Rattle.class_table.specs.Faults.{look_of}
 use Rattle.class_table.specs.Table.{place_from, place_in, look, bodies_of, names, names_of}
-use Rattle.suite_program.specs.Programs.{classes_in, named, program_of, names_in}
+use Rattle.library_laws.specs.Beside.{named, program_of}
+use Rattle.suite_program.specs.Programs.{classes_in, names_in}
 
 -- ---- by name
 

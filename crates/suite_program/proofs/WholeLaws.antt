@@ -15,7 +15,7 @@ use Rattle.lib_table.specs.Exceptions.{throwables, errors, machine_exceptions, l
 use Rattle.lib_table.specs.Collected.{collections, list_classes, hash_classes, utility_classes, assertions}
 use Rattle.lib_table.specs.Library.{library_meant}
 use Rattle.jvm_machine.specs.Tables.{looked_up}
-use Rattle.suite_program.specs.Programs.{named, program_of}
+use Rattle.library_laws.specs.Beside.{named, program_of}
 
 -- Whether a program lacks one of these.
 abbrev lacks_one : Look → List Name → Bool

@@ -19,7 +19,8 @@ use Rattle.suite_program.specs.declared.fault.ProgramEnd.{ProgramEnd}
 use Rattle.suite_program.specs.declared.fault.ProgramEnd.TheVariants.{Refused}
 use Rattle.suite_program.specs.declared.fault.ProgramEnd.TheVariants as end
 use Rattle.suite_program.specs.Faults.{duplicate_of, super_fault, code_fault, first_refused}
-use Rattle.suite_program.specs.Programs.{classes_in, class_file, program_of, names_in, HaveFirstNumbers}
+use Rattle.library_laws.specs.Beside.{program_of}
+use Rattle.suite_program.specs.Programs.{classes_in, class_file, names_in, HaveFirstNumbers}
 
 -- ---- names and supers
 

@@ -9,7 +9,8 @@ use Rattle.program_rules.specs.Names.{Name}
 use Rattle.program_rules.specs.Programs.{Look}
 use Rattle.type_rules.specs.Faults.{Placed, class_fault}
 use Rattle.suite_program.specs.Duplicates.{duplicate_in}
-use Rattle.suite_program.specs.Programs.{program_of, names_in}
+use Rattle.library_laws.specs.Beside.{program_of}
+use Rattle.suite_program.specs.Programs.{names_in}
 use Rattle.suite_program.specs.Supers.{is_own_super, least_with}
 use Rattle.suite_program.specs.declared.fault.ProgramFault.{ProgramFault}
 use Rattle.suite_program.specs.declared.fault.ProgramFault.TheVariants.{Duplicate, SuperMissing, SuperCycle, SuperKind, Code}

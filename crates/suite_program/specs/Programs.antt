@@ -3,13 +3,10 @@ use Rattle.std.specs.Prelude.{◌≡◌, ℕ, ◌<◌, List, [], ◌∷◌, ◌+
 use Rattle.class_model.specs.declared.class.Class.{Class}
 use Rattle.class_reader.specs.Spells.{IsClass}
 use Rattle.program_rules.specs.Names.{Name, same}
-use Rattle.program_rules.specs.Linked.{Linked}
-use Rattle.program_rules.specs.Library.{class_among, first_of}
-use Rattle.program_rules.specs.Programs.{Look}
 use Rattle.class_link.specs.Info.{Info, file_in, own_name}
-use Rattle.class_link.specs.Linking.{link}
 use Rattle.class_link.specs.declared.loaded.Loaded.{Loaded}
 use Rattle.lib_table.specs.Library.{library_meant}
+pub use Rattle.library_laws.specs.Beside.{program_of}
 use Rattle.mutant_runs.specs.Programs.{ClassFiles}
 
 abbrev pub classes_in : List Loaded → List Class
@@ -18,14 +15,6 @@ classes_in loaded = map (λ l. l.class) loaded
 -- Each class file has a spelling, as each that was read has.
 abbrev pub AreSpelled : List Loaded → Type 0
 AreSpelled loaded = All (λ l. IsClass l.class) loaded
-
-abbrev pub named : Class → Name × Linked
-named c = (own_name c, link c)
-
--- A name means a class of these, else the library's class.
-unfoldable pub program_of : List Class → Look
-program_of classes n =
-    first_of (class_among (map named classes) n) (class_among library_meant n)
 
 -- The class file of each name: the first of these classes that has it.
 abbrev pub class_file : List Class → ClassFiles

@@ -6,7 +6,8 @@ ghost use Rattle.mutant_runs.specs.Programs.{files_of};
 ghost use Rattle.mutant_runs.specs.Ready.{IsReady};
 ghost use Rattle.suite_program.specs.Building.{IsBuilt, RefusesTable, end_of};
 ghost use Rattle.suite_program.specs.Faults.{first_fault, RefusesFirst};
-ghost use Rattle.suite_program.specs.Programs.{classes_in, AreSpelled, class_file, program_of, names_in, HaveFirstNumbers};
+ghost use Rattle.library_laws.specs.Beside.{program_of};
+ghost use Rattle.suite_program.specs.Programs.{classes_in, AreSpelled, class_file, names_in, HaveFirstNumbers};
 
 use crate::accepting::accept;
 use crate::fault::{ProgramEnd, ProgramFault};
