@@ -20,7 +20,8 @@ use Rattle.jvm_world.specs.View.{test_of}
 use Rattle.mutator_ops.specs.declared.mutant.Mutant.{Mutant}
 use Rattle.mutant_runs.specs.Programs.{with_accepted}
 use Rattle.mutant_runs.specs.Runs.{mutant_run}
-use Rattle.mutant_laws.specs.Edited.{descriptors, MutantsAreEdits}
+use Rattle.linking_laws.specs.Linked.{descriptors}
+use Rattle.mutant_laws.specs.Edited.{MutantsAreEdits}
 use Rattle.mutant_laws.specs.Covered.{edited_run, NotStuckThere, SelectedSuffice}
 use Rattle.mutant_laws.specs.Accepted.{IsSafeMutant, FitsProgram, ViableAreNeverStuck, SelectedAlwaysSuffice}
 use Rattle.mutant_laws.proofs.Alike.{heads, others, built, faults, library, layout, script}

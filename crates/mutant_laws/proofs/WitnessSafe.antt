@@ -31,7 +31,7 @@ use Rattle.class_order.specs.Supers.{names_wrong_kind}
 use Rattle.class_table.specs.Faults.{HasRightKinds}
 use Rattle.class_table.specs.Table.{look}
 use Rattle.mutant_laws.specs.Accepted.{FitsProgram, IsSafe}
-use Rattle.mutant_laws.specs.Edited.{descriptors}
+use Rattle.linking_laws.specs.Linked.{descriptors}
 use Rattle.mutant_laws.specs.Witness.{sample_program, neg_test, idle_test}
 use Rattle.mutant_laws.proofs.WitnessProgram.{of_all, of_each, program}
 

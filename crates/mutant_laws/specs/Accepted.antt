@@ -15,7 +15,8 @@ use Rattle.class_table.specs.Table.{IsProgram, look}
 use Rattle.jvm_world.specs.View.{test_of}
 use Rattle.mutator_ops.specs.declared.mutant.Mutant.{Mutant}
 use Rattle.mutant_runs.specs.Programs.{files_of, viable}
-use Rattle.mutant_laws.specs.Edited.{descriptors, IsMutated}
+use Rattle.linking_laws.specs.Linked.{descriptors}
+use Rattle.mutant_laws.specs.Edited.{IsMutated}
 use Rattle.mutant_laws.specs.Covered.{AllPass, SelectedGive}
 
 -- A program that is built and accepted. `program` is what each `Program` keeps, `kinds` what

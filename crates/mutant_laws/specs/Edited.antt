@@ -1,8 +1,7 @@
 -- The program that a mutant's edit makes is the program with one instruction edited (this project's
 -- own).
-use Rattle.std.specs.Prelude.{◌≡◌, ◌⊎◌, ◌++◌, ℕ, nat_le, ◌&&◌, Bool, true, false, List, [], ◌∷◌, All, map, Some}
+use Rattle.std.specs.Prelude.{◌≡◌, ◌⊎◌, ◌++◌, ℕ, nat_le, ◌&&◌, Bool, true, false, List, [], ◌∷◌, All, Some}
 use Rattle.std.specs.List.{AllByRecursion, Contains}
-use Rattle.std.specs.Option.{option_map}
 use Rattle.class_model.specs.declared.class.Class.{Class}
 use Rattle.class_model.specs.declared.edit.NewInsn.{NewInsn}
 use Rattle.class_model.specs.declared.edit.NewInsn.TheVariants.{Plain}
@@ -10,12 +9,12 @@ use Rattle.class_reader.specs.Spells.{IsClass}
 use Rattle.program_rules.specs.Instructions.{Instruction}
 use Rattle.program_rules.specs.Programs.{Look}
 use Rattle.machine_rules.specs.Steps.{Place}
-use Rattle.type_laws.specs.Soundness.{Meanings, RefMeant}
+use Rattle.type_laws.specs.Soundness.{RefMeant}
 use Rattle.edit_laws.specs.Edit.{Edit, IsEdited, edited_line}
 use Rattle.edit_laws.specs.EditLaws.{edited_place, GoesOnAlike}
 use Rattle.class_link.specs.Info.{Info, IsInfo}
-use Rattle.class_link.specs.Symbols.{kind_of, kind_stated, type_stated}
 use Rattle.class_table.specs.Table.{IsProgram, look}
+use Rattle.linking_laws.specs.Linked.{descriptors}
 use Rattle.mutator_ops.specs.Laws.{IsMutant}
 use Rattle.mutator_ops.specs.Mutants.{class_mutants}
 use Rattle.mutator_ops.specs.declared.mutant.Mutant.{Mutant}
@@ -24,14 +23,6 @@ use Rattle.mutant_runs.specs.Programs.{files_of, edited, IsMutantOf}
 -- The place of a mutant's instruction.
 abbrev pub mutant_place : Mutant → Place
 mutant_place m = record { class = m.class; method = m.method ++ m.desc; at = m.at }
-
--- What descriptors mean by their grammar (JVMS 4.3), which is what linking takes kinds from.
-abbrev pub descriptors : Meanings
-descriptors = record {
-  args = λ desc. map kind_of (type_stated desc).args;
-  result = λ desc. option_map kind_of (type_stated desc).ret;
-  field = λ desc. kind_of (kind_stated desc);
-}
 
 -- What these instructions name has the kinds that its descriptors mean, and the arrays in arrays
 -- that they make have descriptors as names.

@@ -16,12 +16,11 @@ use Rattle.lib_table.specs.Collected.{collections}
 use Rattle.library_laws.specs.Beside.{AreOfFiles, AreApart, behind_others, named, program_of}
 use Rattle.library_facts.specs.Natives.{HostsNatives, HostsKeepers}
 use Rattle.library_facts.specs.Facts.{InEachProgram, HasBareObject, HasLibraryIfTops, HasArraysOfFiles, FilesAreNoArrays}
-use Rattle.linking_laws.specs.Linked.{AcceptedAreLinked}
+use Rattle.linking_laws.specs.Linked.{descriptors, AcceptedAreLinked}
 use Rattle.keeping_laws.specs.Fitting.{keeping_objects}
 use Rattle.keeping_laws.specs.Hosts.{IsKeepingHost}
 use Rattle.native_laws.specs.Fits.{AllFit}
 use Rattle.native_laws.specs.Natives.{OthersFit}
-use Rattle.mutant_laws.specs.Edited.{descriptors}
 use Rattle.suite_program.specs.Programs.{names_in}
 use Rattle.suite_program.proofs.ReadyLaws.{of_files, are_apart}
 use Rattle.needed_laws.specs.Suites.{SuitesAreSafe}
