@@ -50,12 +50,13 @@ pub record IsTested (p : List Info) (q : Limits) (limit : ℕ) (ts : List Test) 
   pub mutants : All (IsListed p) ms
   pub measured : IsMeasured p q limit ts cover
 
--- The tests with the steps of their runs.
-abbrev pub steps_of : List Info → Limits → ℕ → List Test → List ℕ
-steps_of p q limit ts = map (λ t. (original_run p t q limit).steps) ts
+-- The steps of the tests' runs on the program.
+abbrev pub original_steps : List Info → Limits → ℕ → List Test → List ℕ
+original_steps p q limit ts = map (λ t. (original_run p t q limit).steps) ts
 
+-- The tests with these steps.
 abbrev pub timed_of : List Info → Limits → ℕ → List Test → List Timed
-timed_of p q limit ts = timed ts (steps_of p q limit ts)
+timed_of p q limit ts = timed ts (original_steps p q limit ts)
 
 -- The verdicts by the runs of all tests on all mutants.
 abbrev pub all_verdicts : List Info → Limits → ℕ → List Test → List Mutant → List Verdict
@@ -72,9 +73,9 @@ ArePlaces p ms places =
 pub record AreNeeded (p : List Info) (q : Limits) (limit : ℕ) (ts : List Test) (ms : List Mutant)
     (cover : Covered) : Type 0 where
   pub verdicts :
-      AreVerdicts q p ts (steps_of p q limit ts) cover ms (all_verdicts p q limit ts ms)
+      AreVerdicts q p ts (original_steps p q limit ts) cover ms (all_verdicts p q limit ts ms)
   pub steps :
-      steps_for_all q p ts (steps_of p q limit ts) cover ms
+      steps_for_all q p ts (original_steps p q limit ts) cover ms
       ≡ needed_of_all q (files_of p) (look p) (timed_of p q limit ts) ms
   pub cells :
       (places : List MutantPlace) (bs : List Bool) → ArePlaces p ms places → AreViable p ms bs →
