@@ -1,5 +1,5 @@
 -- A program whose tests were run on it: what the tests that cover a mutant say of it is what all say.
-use Rattle.std.specs.Prelude.{◌≡◌, ℕ, List, All, map, length, sum_by, Some, Contains}
+use Rattle.std.specs.Prelude.{◌≡◌, ℕ, Bool, List, All, map, length, sum_by, Some, Contains}
 use Rattle.std.specs.List.{AllZip}
 use Rattle.class_model.specs.declared.class.Class.{Class}
 use Rattle.class_model.specs.declared.class.ClassId.{ClassId}
