@@ -6,12 +6,12 @@ use Rattle.program_rules.specs.Names.{Name}
 use Rattle.machine_laws.specs.Consulted.{IsLibraryWhole}
 use Rattle.class_link.specs.Info.{Info}
 use Rattle.class_table.specs.declared.scripted.Test.{Test}
-use Rattle.class_table.specs.Table.{look, IsProgram}
+use Rattle.class_table.specs.Table.{look, names, IsProgram}
 use Rattle.test_discovery.specs.Discovery.{Tests}
 use Rattle.mutant_runs.specs.Programs.{files_of}
 use Rattle.mutant_runs.specs.Ready.{IsReady}
 use Rattle.mutant_laws.specs.Accepted.{IsSafe, FitsProgram}
-use Rattle.suite_program.specs.Programs.{class_file, program_of}
+use Rattle.suite_program.specs.Programs.{class_file, program_of, names_in}
 
 -- A program that was built of these class files and the library, and accepted.
 pub record IsOfSuite (classes : List Class) (p : List Info) : Type 0 where
@@ -20,6 +20,7 @@ pub record IsOfSuite (classes : List Class) (p : List Info) : Type 0 where
   pub ready : IsReady p
   pub look : look p ≡ program_of classes
   pub files : files_of p ≡ class_file classes
+  pub names : names p ≡ names_in classes
 
 abbrev pub SuitesAreSafe : Type 0
 SuitesAreSafe =

@@ -1,6 +1,6 @@
 -- A program whose tests were run on it: what the tests that cover a mutant say of it is what all say.
-use Rattle.std.specs.Prelude.{◌≡◌, ℕ, Bool, List, All, map, length, sum_by, Some, Contains}
-use Rattle.std.specs.List.{AllZip}
+use Rattle.std.specs.Prelude.{◌≡◌, ℕ, Bool, List, All, map, length, sum_by, Some}
+use Rattle.std.specs.List.{AllZip, Contains}
 use Rattle.class_model.specs.declared.class.Class.{Class}
 use Rattle.class_model.specs.declared.class.ClassId.{ClassId}
 use Rattle.machine_rules.specs.declared.machine.Limits.{Limits}
@@ -68,7 +68,7 @@ ArePlaces p ms places =
     AllZip (λ m place. (number_of p m.class ≡ Some place.class.0) × (place.line ≡ m.line)) ms places
 
 -- The verdicts by the tests that cover each mutant are those by all tests; the steps of their runs
--- are those of the runs that are needed; and cells are the covering tests of the verdicts.
+-- are those of the runs that are needed; and there are as many cells as covering tests of verdicts.
 pub record AreNeeded (p : List Info) (q : Limits) (limit : ℕ) (ts : List Test) (ms : List Mutant)
     (cover : Covered) : Type 0 where
   pub verdicts :
