@@ -17,7 +17,7 @@ use Rattle.program_rules.specs.Tests.{Call}
 use Rattle.type_rules.specs.References.{Classes, classes_of, is_subtype, throwable_name}
 use Rattle.type_laws.specs.Alike as alike
 use Rattle.type_laws.specs.Alike.{HeadsAlike, OthersAlike}
-use Rattle.type_laws.specs.Values.{kinds_of, field_kinds}
+use Rattle.type_laws.specs.Values.{kinds_of, field_kinds, keeping_in, keeping_of}
 use Rattle.type_laws.specs.Soundness.{IsBuilt, HasFaults, HasLibrary, HasLayout, AllObject, StartsWith}
 use Rattle.type_laws.specs.States.{IsMade, RightKind, CallFits, made_by, ScriptFits}
 use Rattle.type_laws.proofs.Alike.{classes_same}
@@ -50,6 +50,9 @@ module _ (e : Edit) (p p' : Look) (ed : IsEdited e p p') where
 
   pub fields_same : (n : Name) → field_kinds p' n ≡ field_kinds p n
   fields_same n = ap kinds_of (rising_same n)
+
+  pub keeping_same : (n : Name) → keeping_of p' n ≡ keeping_of p n
+  keeping_same n = ap keeping_in (rising_same n)
 
   -- ---- supers, the library, fields
 

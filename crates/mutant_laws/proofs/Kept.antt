@@ -1,11 +1,11 @@
 -- What linking gives of a program it gives of the edited one.
-use Rattle.std.proofs.Common.{◌≡◌, ◌∙◌, refl, sym, ap, subst, ℕ, zero, suc, ◌++◌, Bool, true, false, List, [], ◌∷◌, map, Option, Some, None, arith}
+use Rattle.std.proofs.Common.{◌≡◌, ◌∙◌, refl, sym, ap, subst, ℕ, zero, suc, ◌++◌, Bool, true, false, List, [], ◌∷◌, map, Option, Some, None, arith, inl, inr, ⊎_elim}
 use Rattle.std.specs.Prelude.{◌≢◌, nat_eq, slice_get}
-use Rattle.std.specs.List.{AllByRecursion, list_any}
+use Rattle.std.specs.List.{AllByRecursion}
 use Rattle.std.specs.Cmp.Lexicographic.{same_text, other_text}
 use Rattle.std.proofs.lemmas.Bool.{eqb-true}
 use Rattle.std.proofs.lemmas.Bool.Decides.{nat_tests}
-use Rattle.program_rules.specs.Names.{Name, same, class_name}
+use Rattle.program_rules.specs.Names.{Name, same, string_name, class_name}
 use Rattle.program_rules.specs.Deeds.{Meaning, Deed, Gives, Changes, Makes, Boxes, MakesChars, GivesClass, GivesWithin, Throws, NoDeed, Change, with_change, making_name}
 use Rattle.program_rules.specs.declared.making.Making.{Making}
 use Rattle.program_rules.specs.declared.value.Value.{Value}
@@ -15,21 +15,45 @@ use Rattle.program_rules.specs.Linked.{Linked, LinkedField, LinkedMethod, Linked
 use Rattle.program_rules.specs.Objects.{Object, ObjectKind, Plain, ArrayOf}
 use Rattle.program_rules.specs.Programs.{Look}
 use Rattle.type_rules.specs.References.{Classes, classes_of}
-use Rattle.type_laws.specs.Values.{field_kinds, kind_within, Refers, IsWithin, OfKind, AllOfKinds, EachOfKind, object_base, BaseThere, ContentFits, keepers, KeptFits, ObjectFits, HeapFits}
+use Rattle.type_laws.specs.Values.{field_kinds, kind_within, Refers, IsWithin, OfKind, AllOfKinds, EachOfKind, object_base, BaseThere, ContentFits, MayRefer, Keeping, Elements, Entries, Cursor, Constant, Anything, keeping_of, IsKeeper, CursorFits, ConstantFits, ItemsFit, KeptFits, ObjectFits, HeapFits}
 use Rattle.type_laws.specs.Soundness.{Meanings, AnswerFits, MakingFits, CharsFit, ClassFits, ChangeFits, DeedFits, ReceiverFits, ArgumentsFit, NativeFits, BodyFits, RefMeant, IsLinkedBy}
 use Rattle.edit_laws.specs.Edit.{Edit, moved_place, relocate, replaced_at, edited_code, edited_method, edited_class, IsEdited}
 use Rattle.edit_laws.proofs.Places.{set_same, set_other}
-use Rattle.mutant_laws.proofs.Alike.{classes, fields_same}
+use Rattle.mutant_laws.proofs.Alike.{classes, fields_same, keeping_same}
 
--- ---- native methods, in programs of the same classes and fields
+-- ---- native methods, in programs of the same classes and fields that keep the same
 
-module _ (a b : Look) (alike : classes_of a ≡ classes_of b) (fields : (n : Name) → field_kinds a n ≡ field_kinds b n) where
+module _ (a b : Look) (alike : classes_of a ≡ classes_of b) (fields : (n : Name) → field_kinds a n ≡ field_kinds b n) (keeping : (n : Name) → keeping_of a n ≡ keeping_of b n) where
   content_kept : (h : List Object) (k : ObjectKind) (vs : List Value) → ContentFits a h k vs → ContentFits b h k vs
   content_kept h (Plain n) vs c = subst (λ (ks : List Kind). AllOfKinds (classes_of b) h ks vs) (fields n) (subst (λ (z : Classes). AllOfKinds z h (field_kinds a n) vs) alike c)
   content_kept h (ArrayOf k) vs c = subst (λ (z : Classes). EachOfKind z h k vs) alike c
 
+  keeper_kept : (h : List Object) (k : Keeping) (x : ℕ) → IsKeeper a h k x → IsKeeper b h k x
+  keeper_kept h k x c = record { object = c.object; class = c.class; there = c.there; plain = c.plain; keeps = sym (keeping c.class) ∙ c.keeps }
+
+  cursor_kept : (h : List Object) (vs : List Value) → CursorFits a h vs → CursorFits b h vs
+  cursor_kept h [] c = tt
+  cursor_kept h (v ∷ vs) c = record {
+    over = c.over;
+    place = c.place;
+    width = c.width;
+    is = c.is;
+    goes = ⊎_elim (λ i. inl (i.0, keeper_kept h Elements c.over i.1)) (λ i. inr (i.0, keeper_kept h Entries c.over i.1)) c.goes;
+  }
+
+  constant_kept : (h : List Object) (vs : List Value) → ConstantFits a h vs → ConstantFits b h vs
+  constant_kept h [] c = tt
+  constant_kept h (v ∷ vs) c = subst (λ (z : Classes). MayRefer (IsWithin z h string_name) v) alike c
+
+  kept_so : (h : List Object) (k : Keeping) (vs : List Value) → ItemsFit a h k vs → ItemsFit b h k vs
+  kept_so h Elements vs c = c
+  kept_so h Entries vs c = c
+  kept_so h Cursor vs c = cursor_kept h vs c
+  kept_so h Constant vs c = constant_kept h vs c
+  kept_so h Anything vs c = tt
+
   items_kept : (h : List Object) (k : ObjectKind) (vs : List Value) → KeptFits a h k vs → KeptFits b h k vs
-  items_kept h (Plain n) vs c = λ keeper. c (ap (λ (z : Classes). list_any (λ k. z.subtype n k) keepers) alike ∙ keeper)
+  items_kept h (Plain n) vs c = subst (λ (k : Keeping). ItemsFit b h k vs) (keeping n) (kept_so h (keeping_of a n) vs c)
   items_kept h (ArrayOf k) vs c = tt
 
   object_kept : (h : List Object) (o : Object) → ObjectFits a h o → ObjectFits b h o
@@ -83,10 +107,10 @@ module _ (a b : Look) (alike : classes_of a ≡ classes_of b) (fields : (n : Nam
   deed_kept h k (Throws x) c = tt
   deed_kept h k NoDeed c = c
 
-native_kept : (a b : Look) → classes_of a ≡ classes_of b → ((n : Name) → field_kinds a n ≡ field_kinds b n) → (n : Name) (m : LinkedMethod) (meaning : Meaning) → NativeFits a n m meaning → NativeFits b n m meaning
-native_kept a b alike fields n m meaning fits h args heap given =
-    deed_kept a b alike fields h m.result (meaning h args)
-    (fits h args (heap_kept b a (sym alike) (λ n. sym (fields n)) h heap) (arguments_kept b a (sym alike) (λ n. sym (fields n)) h n m args given))
+native_kept : (a b : Look) → classes_of a ≡ classes_of b → ((n : Name) → field_kinds a n ≡ field_kinds b n) → ((n : Name) → keeping_of a n ≡ keeping_of b n) → (n : Name) (m : LinkedMethod) (meaning : Meaning) → NativeFits a n m meaning → NativeFits b n m meaning
+native_kept a b alike fields keeping n m meaning fits h args heap given =
+    deed_kept a b alike fields keeping h m.result (meaning h args)
+    (fits h args (heap_kept b a (sym alike) (λ n. sym (fields n)) (λ n. sym (keeping n)) h heap) (arguments_kept b a (sym alike) (λ n. sym (fields n)) (λ n. sym (keeping n)) h n m args given))
 
 -- ---- lists
 
@@ -159,7 +183,7 @@ module _ (e : Edit) (p p' : Look) (ed : IsEdited e p p') where
 
   body_kept : (n : Name) (m : LinkedMethod) (b : LinkedBody) → BodyFits p n m b → BodyFits p' n m b
   body_kept n m (HasCode code) h = tt
-  body_kept n m (IsNative meaning) h = native_kept p p' (sym (classes e p p' ed)) (λ n. sym (fields_same e p p' ed n)) n m meaning h
+  body_kept n m (IsNative meaning) h = native_kept p p' (sym (classes e p p' ed)) (λ n. sym (fields_same e p p' ed n)) (λ n. sym (keeping_same e p p' ed n)) n m meaning h
   body_kept n m NoBody h = tt
 
   field_case : (d : Meanings) → IsLinkedBy p d → (n : Name) (c : Linked) (k : ℕ) (f : LinkedField) (b : Bool) → b ≡ same n e.class → p' n ≡ Some c → slice_get c.fields k ≡ Some f → f.kind ≡ d.field f.desc

@@ -1,6 +1,9 @@
--- The runs of all tests on a mutant, one after the other, and their steps.
-use Rattle.std.proofs.Common.{◌≡◌, ◌∙◌, sym, refl, ap, ap₂, ℕ, zero, suc, ◌+◌, ◌*◌, ◌<◌, ◌≤◌, Bool, ◌||◌, List, [], ◌∷◌, map, length, drop, get_or, All, arith}
+-- The runs of the tests of some numbers on a mutant, and their steps.
+use Rattle.std.proofs.Common.{◌≡◌, ◌∙◌, sym, refl, ap, ap₂, subst, ℕ, zero, suc, ◌+◌, ◌*◌, ◌<◌, ◌≤◌, Bool, ◌||◌, List, [], ◌∷◌, ◌++◌, map, length, drop, zip, get_or, All, Option, None, Some, slice_get, arith}
+use Rattle.std.specs.Prelude.{if◌then◌else◌, is_none}
 use Rattle.std.specs.List.{list_any}
+use Rattle.std.specs.Option.{option_map_or}
+use Rattle.std.proofs.lemmas.List.{drop_more}
 use Rattle.std.proofs.lemmas.List.Sums.{sum_by-cons}
 use Rattle.machine_rules.specs.declared.machine.Limits.{Limits}
 use Rattle.program_rules.specs.Programs.{Look}
@@ -13,7 +16,9 @@ use Rattle.jvm_world.specs.View.{named, test_of}
 use Rattle.jvm_machine.specs.Result.{pairs_of, IsResultOf}
 use Rattle.jvm_machine.specs.declared.result.RunResult.{RunResult}
 use Rattle.mutator_ops.specs.declared.mutant.Mutant.{Mutant}
-use Rattle.mutant_runs.specs.Runs.{mutant_run, timed, runs_on, steps_in, is_at, reaches, most_steps}
+use Rattle.mutator_ops.specs.declared.mutant.State.{State}
+use Rattle.mutant_runs.specs.Needed.{up_to_detecting, picked, runs_picked, steps_picked}
+use Rattle.mutant_runs.specs.Runs.{Timed, mutant_run, timed, steps_in, is_at, reaches, detected, most_steps}
 
 -- ---- the steps of a run
 
@@ -53,36 +58,65 @@ run_reaches p m r ran h =
     ∙ any_map (is_at m) (named p) (pairs_of r)
     ∙ ap (list_any (is_at m)) h.reached
 
--- ---- all runs
+-- ---- the tests of some numbers
 
-pub steps_first : (r : Ran) (runs : List Ran) → steps_in (r ∷ runs) ≡ r.steps + steps_in runs
+zip_at : {A B : Type 0} (xs : List A) (ys : List B) (k : ℕ) (x : A) (y : B) → k < length xs → length ys ≡ length xs → slice_get (zip xs ys) k ≡ Some (get_or xs k x, get_or ys k y)
+zip_at [] ys k x y lt same = absurd (omega (arith, lt))
+zip_at (a ∷ xs) [] k x y lt same = absurd (omega (arith, same))
+zip_at (a ∷ xs) (b ∷ ys) zero x y lt same = refl
+zip_at (a ∷ xs) (b ∷ ys) (suc k) x y lt same = zip_at xs ys k x y (omega (arith, lt)) (omega (arith, same))
+
+zip_all : {A B : Type 0} (P : B → Type 0) (xs : List A) (ys : List B) (k : ℕ) (both : A × B) → All P ys → slice_get (zip xs ys) k ≡ Some both → P both.1
+zip_all P [] ys k both h at = absurd cc
+zip_all P (a ∷ xs) [] k both h at = absurd cc
+zip_all P (a ∷ xs) (b ∷ ys) zero both h at = let same : b ≡ both.1 = cc in subst P same (h 0 b (omega arith))
+zip_all P (a ∷ xs) (b ∷ ys) (suc k) both h at = zip_all P xs ys k both (λ j d lt. h (suc j) d (omega (arith, lt))) at
+
+module _ (q : Limits) (p : Look) (ts : List Test) (ns : List ℕ) where
+  abbrev run_timed : ℕ × Timed → ℕ × Ran
+  run_timed t = (t.0, mutant_run q p t.1.0 t.1.1)
+
+  -- The run of the first of them, and those of the others.
+  runs_first : (k : ℕ) (ks : List ℕ) (t : Test) (n : ℕ) → k < length ts → length ns ≡ length ts → t ≡ get_or ts k t → n ≡ get_or ns k 0
+      → runs_picked q p (timed ts ns) (k ∷ ks) ≡ (k, mutant_run q p t n) ∷ runs_picked q p (timed ts ns) ks
+  runs_first k ks t n lt same at-t at-n =
+      ap (λ o. map run_timed (option_map_or (λ t. (k, t) ∷ []) o [] ++ picked (timed ts ns) ks)) (zip_at ts ns k t 0 lt same)
+      ∙ ap₂ (λ u j. (k, mutant_run q p u j) ∷ runs_picked q p (timed ts ns) ks) (sym at-t) (sym at-n)
+
+  -- The same of those that are left.
+  pub runs_at : (ks : List ℕ) (i k : ℕ) (t : Test) (n : ℕ) → i < length ks → k ≡ get_or ks i 0 → All (λ j. j < length ts) ks → length ns ≡ length ts → t ≡ get_or ts k t → n ≡ get_or ns k 0
+      → runs_picked q p (timed ts ns) (drop i ks) ≡ (k, mutant_run q p t n) ∷ runs_picked q p (timed ts ns) (drop (i + 1) ks)
+  runs_at ks i k t n lt is below same at-t at-n =
+      ap (runs_picked q p (timed ts ns)) (drop_more ks i 0 lt ∙ ap (λ j. j ∷ drop (i + 1) ks) (sym is))
+      ∙ runs_first k (drop (i + 1) ks) t n (subst (λ j. j < length ts) (sym is) (below i 0 lt)) same at-t at-n
+
+-- ---- up to the first that detects
+
+steps_first : (r : Ran) (runs : List Ran) → steps_in (r ∷ runs) ≡ r.steps + steps_in runs
 steps_first r runs = sum_by-cons (λ (x : Ran). x.steps) r runs
 
-runs_most : (q : Limits) (p : Look) (ts : List Test) (ns : List ℕ) → All (λ n. n ≤ most_steps) ns → steps_in (runs_on q p (timed ts ns)) ≤ length ts * 12600000
-runs_most q p [] ns h = omega arith
-runs_most q p (t ∷ ts) [] h = omega arith
-runs_most q p (t ∷ ts) (n ∷ ns) h =
-    let first = mutant_most q p t n (h 0 n (omega arith)) in
-    let rest = runs_most q p ts ns (λ k d lt. h (suc k) d (omega (arith, lt))) in
-    let sum = steps_first (mutant_run q p t n) (runs_on q p (timed ts ns)) in
-    omega (arith, first, rest, sum)
+-- The steps of a run and of those behind it that are run then.
+pub steps_to : (r : Ran) (runs : List Ran) (o : Option State) → detected r.ending ≡ o → steps_in (up_to_detecting (r ∷ runs)) ≡ r.steps + (if is_none o then steps_in (up_to_detecting runs) else 0)
+steps_to r runs None is = steps_first r (if is_none (detected r.ending) then up_to_detecting runs else []) ∙ ap (λ o. r.steps + steps_in (if is_none o then up_to_detecting runs else [])) is
+steps_to r runs (Some s) is = steps_first r (if is_none (detected r.ending) then up_to_detecting runs else []) ∙ ap (λ o. r.steps + steps_in (if is_none o then up_to_detecting runs else [])) is
 
--- The steps of all runs on one mutant, of 65,535 tests at most.
-pub all_runs_most : (q : Limits) (p : Look) (ts : List Test) (ns : List ℕ) → length ts ≤ 65535 → All (λ n. n ≤ most_steps) ns → steps_in (runs_on q p (timed ts ns)) ≤ 825741000000
-all_runs_most q p ts ns few h = let most = runs_most q p ts ns h in omega (arith, few, most)
+steps_more : (r : Ran) (runs : List Ran) (o : Option State) → detected r.ending ≡ o → steps_in (up_to_detecting (r ∷ runs)) ≤ r.steps + steps_in (up_to_detecting runs)
+steps_more r runs None is = let all = steps_to r runs None is in omega (arith, all)
+steps_more r runs (Some s) is = let all = steps_to r runs (Some s) is in omega (arith, all)
 
--- The run of the test at a place, and those behind it.
-pub runs_at : (q : Limits) (p : Look) (ts : List Test) (ns : List ℕ) (i : ℕ) (t : Test) (n : ℕ) → i < length ts → length ns ≡ length ts → t ≡ get_or ts i t → n ≡ get_or ns i 0
-    → drop i (runs_on q p (timed ts ns)) ≡ mutant_run q p t n ∷ drop (suc i) (runs_on q p (timed ts ns))
-runs_at q p [] ns i t n lt same at-t at-n = absurd (omega (arith, lt))
-runs_at q p (x ∷ ts) [] i t n lt same at-t at-n = absurd (omega (arith, same))
-runs_at q p (x ∷ ts) (y ∷ ns) zero t n lt same at-t at-n = ap₂ (λ u k. mutant_run q p u k ∷ runs_on q p (timed ts ns)) (sym at-t) (sym at-n)
-runs_at q p (x ∷ ts) (y ∷ ns) (suc i) t n lt same at-t at-n = runs_at q p ts ns i t n (omega (arith, lt)) (omega (arith, same)) at-t at-n
+runs_most : (q : Limits) (p : Look) (ts : List Test) (ns : List ℕ) (ks : List ℕ) → All (λ n. n ≤ most_steps) ns → steps_picked (runs_picked q p (timed ts ns) ks) ≤ length ks * 12600000
+runs_most q p ts ns [] h = omega arith
+runs_most q p ts ns (k ∷ ks) h = by (slice_get (timed ts ns) k) refl (runs_most q p ts ns ks h)
+  where
+    by : (o : Option Timed) → slice_get (timed ts ns) k ≡ o → steps_picked (runs_picked q p (timed ts ns) ks) ≤ length ks * 12600000
+        → steps_picked (map (run_timed q p ts ns) (option_map_or (λ t. (k, t) ∷ []) o [] ++ picked (timed ts ns) ks)) ≤ suc (length ks) * 12600000
+    by None at rest = omega (arith, rest)
+    by (Some t) at rest =
+        let run : Ran = mutant_run q p t.0 t.1 in
+        let first = mutant_most q p t.0 t.1 (zip_all (λ n. n ≤ most_steps) ts ns k t h at) in
+        let sum = steps_more run (map (λ (r : ℕ × Ran). r.1) (runs_picked q p (timed ts ns) ks)) (detected run.ending) refl in
+        omega (arith, first, rest, sum)
 
-pub none_left : (q : Limits) (p : Look) (ts : List Test) (ns : List ℕ) (i : ℕ) → length ts ≤ i → drop i (runs_on q p (timed ts ns)) ≡ []
-none_left q p [] ns zero le = refl
-none_left q p [] ns (suc i) le = refl
-none_left q p (x ∷ ts) [] zero le = refl
-none_left q p (x ∷ ts) [] (suc i) le = refl
-none_left q p (x ∷ ts) (y ∷ ns) zero le = absurd (omega (arith, le))
-none_left q p (x ∷ ts) (y ∷ ns) (suc i) le = none_left q p ts ns i (omega (arith, le))
+-- The steps of the runs of 65,535 tests at most.
+pub all_runs_most : (q : Limits) (p : Look) (ts : List Test) (ns : List ℕ) (ks : List ℕ) → length ks ≤ 65535 → All (λ n. n ≤ most_steps) ns → steps_picked (runs_picked q p (timed ts ns) ks) ≤ 825741000000
+all_runs_most q p ts ns ks few h = let most = runs_most q p ts ns ks h in omega (arith, few, most)

@@ -1,5 +1,5 @@
 -- The class that a mutant's edit makes, and the program with it (this project's own).
-use Rattle.std.specs.Prelude.{◌≡◌, ◌<◌, ℕ, true, Bool, List, length, Some, is_none, slice_get, slice_set}
+use Rattle.std.specs.Prelude.{◌≡◌, ◌<◌, ℕ, Bool, List, length, Some, is_none, slice_get, slice_set}
 use Rattle.program_rules.specs.Names.{Name}
 use Rattle.type_rules.specs.Faults.{class_fault}
 use Rattle.type_rules.specs.Rules.{ClassAccepted}
@@ -53,10 +53,6 @@ EditedAreReady =
 -- Whether the class of this number has no fault.
 abbrev pub TellsAccepted : List Info → ℕ → Bool → Type 0
 TellsAccepted p id ok = ok ≡ is_none (class_fault (look p) (name_at p id))
-
--- It is accepted, if so it is told.
-abbrev pub IsAcceptedIf : List Info → ℕ → Bool → Type 0
-IsAcceptedIf p id ok = ok ≡ true → ClassAccepted (look p) (name_at p id)
 
 -- A ready program may be run.
 abbrev pub ReadyMayRun : Type 0

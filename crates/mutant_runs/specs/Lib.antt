@@ -3,6 +3,7 @@ pub mod Ready
 pub mod Files
 pub mod Runs
 pub mod Verdicts
+pub mod Needed
 pub mod Edited
 pub mod Promises
 pub mod Laws

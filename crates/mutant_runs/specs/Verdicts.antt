@@ -1,5 +1,5 @@
 -- What the tests say of a mutant (this project's own).
-use Rattle.std.specs.Prelude.{ℕ, List, [], ◌∷◌, map, filter, Option, Some, None, sum_by}
+use Rattle.std.specs.Prelude.{ℕ, List, [], ◌∷◌, map, filter, Option, Some, None}
 use Rattle.std.specs.List.{enumerate_from}
 use Rattle.std.specs.Option.{option_map, option_map_or, option_or}
 use Rattle.program_rules.specs.Programs.{Look}
@@ -10,7 +10,7 @@ use Rattle.mutator_ops.specs.declared.mutant.State.{State}
 use Rattle.mutator_ops.specs.declared.mutant.State.TheVariants as state
 use Rattle.mutator_ops.specs.declared.mutant.Verdict.{Verdict}
 use Rattle.mutant_runs.specs.Programs.{ClassFiles, viable}
-use Rattle.mutant_runs.specs.Runs.{Timed, runs_on, steps_in, reaches, detected}
+use Rattle.mutant_runs.specs.Runs.{Timed, runs_on, reaches, detected}
 
 -- The numbers of the tests whose runs reach the mutant's class and line.
 abbrev pub covering : Mutant → List (ℕ × Ran) → List ℕ
@@ -41,10 +41,3 @@ mutant_runs q files p tests m = option_map (λ made. runs_on q made tests) (viab
 
 unfoldable pub verdict_of : Limits → ClassFiles → Look → List Timed → Mutant → Verdict
 verdict_of q files p tests m = option_map_or (judged m) (mutant_runs q files p tests m) not_viable
-
--- The steps of all runs on a mutant, and on all mutants.
-unfoldable pub steps_on : Limits → ClassFiles → Look → List Timed → Mutant → ℕ
-steps_on q files p tests m = option_map_or steps_in (mutant_runs q files p tests m) 0
-
-abbrev pub steps_of_all : Limits → ClassFiles → Look → List Timed → List Mutant → ℕ
-steps_of_all q files p tests mutants = sum_by (steps_on q files p tests) mutants

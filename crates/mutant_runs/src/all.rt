@@ -1,29 +1,51 @@
-//! The verdicts on all mutants.
+//! Which mutants are viable, and the verdicts on all.
 
 ghost use Rattle.std.specs.Prelude.{◌≡◌, ◌+◌, ◌≤◌, ◌<◌, ◌^◌, All, length, IfOk, OnOk};
 ghost use Rattle.mutant_runs.specs.Programs.{files_of, IsMutantOf};
 ghost use Rattle.mutant_runs.specs.Ready.{IsReady};
-ghost use Rattle.mutant_runs.specs.Promises.{AreVerdicts, steps_for_all};
+ghost use Rattle.mutant_runs.specs.Promises.{AreViable, AreVerdicts, steps_for_all};
 ghost use Rattle.mutant_runs.specs.Runs.{most_steps};
 
-use crate::on_mutant::run_mutant;
+use crate::covered::verdict_on;
+use crate::on_mutant::is_viable;
 use class_model::{Memory, Seq};
 use class_table::{Program, Test};
+use line_coverage::Coverage;
 use machine_rules::Limits;
 use mt_edge::MeterPart;
 use mutator_ops::{Mutant, Verdict};
 use std::alloc::Global;
 
-/// The verdict on each mutant, by a run of each test on it; NON_VIABLE where its class has no layout
-/// or is refused. `steps` has at each test's place the steps of its run on the program as it is. The
-/// steps of all runs are counted in the part, and the program is as before afterwards, also where
-/// memory runs out.
+/// Whether each mutant is viable: its class has a layout and is accepted. The program is as before
+/// afterwards, also where memory runs out.
+pub fn viable(alloc: Global, program: &mut Program, mutants: &[Mutant]) -> Result<Seq<bool>, Memory>
+    requires ready { IsReady program.old }
+    requires fit { All (IsMutantOf (files_of program.old)) mutants.now }
+    ensures told { IfOk result (AreViable program.old mutants.now) }
+    ensures same { program.new ≡ program.old }
+{
+    let mut all = Seq::new(alloc);
+    let mut kept = None;
+    for mutant in mutants {
+        let viable = is_viable(alloc, program, mutant, &mut kept)?;
+        all.push(viable)?;
+    }
+    Ok(all)
+}
+
+/// The verdict on each mutant, by runs of the tests that reach its class and line, up to the first
+/// that detects it; NON_VIABLE where it isn't viable, NO_COVERAGE where no test reaches them. `steps`
+/// has at each test's place the steps of its run on the program as it is, `cover` which lines that run
+/// reached, and `viable` at each mutant's place whether it is viable. The steps of all runs are
+/// counted in the part, and the program is as before afterwards, also where memory runs out.
 pub fn verdicts(
     alloc: Global,
     program: &mut Program,
     tests: &[Test],
     steps: &[u64],
+    cover: &Coverage,
     mutants: &[Mutant],
+    viable: &[bool],
     limits: Limits,
     part: &mut MeterPart,
 ) -> Result<Seq<Verdict>, Memory>
@@ -35,18 +57,21 @@ pub fn verdicts(
     requires timed { All (λ n. n ≤ most_steps) steps.now }
     requires room { part.old < 2 ^ 62 }
     requires fit { All (IsMutantOf (files_of program.old)) mutants.now }
-    ensures told { IfOk result (AreVerdicts limits program.old tests.now steps.now mutants.now) }
+    requires covered { cover.now.tests ≡ length tests.now }
+    requires viable { AreViable program.old mutants.now viable.now }
+    ensures told { IfOk result
+        (AreVerdicts limits program.old tests.now steps.now cover.now mutants.now) }
     ensures steps { OnOk result (part.new ≡ part.old
-        + steps_for_all limits program.old tests.now steps.now mutants.now) }
+        + steps_for_all limits program.old tests.now steps.now cover.now mutants.now) }
     ensures most { part.new ≤ part.old
-        + steps_for_all limits program.old tests.now steps.now mutants.now }
+        + steps_for_all limits program.old tests.now steps.now cover.now mutants.now }
     ensures same { program.new ≡ program.old }
 {
     let mut verdicts = Seq::new(alloc);
     let mut kept = None;
-    for mutant in mutants {
-        let verdict = run_mutant(
-            alloc, program, tests, steps, mutant, limits, part, &mut kept,
+    for (i, mutant) in mutants.iter().enumerate() {
+        let verdict = verdict_on(
+            alloc, program, tests, steps, cover, mutant, viable[i], limits, part, &mut kept,
         )?;
         verdicts.push(verdict)?;
     }

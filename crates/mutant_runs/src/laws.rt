@@ -18,7 +18,7 @@ pub fn files_are_found()
     ensures { FilesAreFound }
 {}
 
-/// The mutants of a class file of a program are of the program, as `verdicts` asks.
+/// The mutants of a class file of a program are of the program, as `viable` and `verdicts` ask.
 pub fn mutants_are_of()
     ensures { MutantsAreOf }
 {

@@ -1,17 +1,29 @@
-//! The call over which wrong bodies are tried.
+//! The calls over which wrong bodies are tried.
 
 ghost use Rattle.std.specs.Prelude.{◌≡◌, ◌+◌, ◌≤◌, ◌<◌, ◌^◌, All, length, IfOk, OnOk};
 ghost use Rattle.mutant_runs.specs.Programs.{files_of, IsMutantOf};
-ghost use Rattle.mutant_runs.specs.Promises.{AreVerdicts, steps_for_all};
+ghost use Rattle.mutant_runs.specs.Promises.{AreViable, AreVerdicts, steps_for_all};
 ghost use Rattle.mutant_runs.specs.Ready.{IsReady};
 ghost use Rattle.mutant_runs.specs.Runs.{most_steps};
 
 use class_model::{Memory, Seq};
 use class_table::{Program, Test};
+use line_coverage::Coverage;
 use machine_rules::Limits;
 use mt_edge::MeterPart;
 use mutator_ops::{Mutant, Verdict};
 use std::alloc::Global;
+
+/// `mutant_runs::viable`
+pub fn viable(alloc: Global, program: &mut Program, mutants: &[Mutant]) -> Result<Seq<bool>, Memory>
+    requires ready { IsReady program.old }
+    requires fit { All (IsMutantOf (files_of program.old)) mutants.now }
+    ensures told { IfOk result (AreViable program.old mutants.now) }
+    ensures same { program.new ≡ program.old }
+{
+    let flags = mutant_runs::viable(alloc, program, mutants)?;
+    Ok(flags)
+}
 
 /// `mutant_runs::verdicts`
 pub fn verdicts(
@@ -19,7 +31,9 @@ pub fn verdicts(
     program: &mut Program,
     tests: &[Test],
     steps: &[u64],
+    cover: &Coverage,
     mutants: &[Mutant],
+    viable: &[bool],
     limits: Limits,
     part: &mut MeterPart,
 ) -> Result<Seq<Verdict>, Memory>
@@ -31,13 +45,18 @@ pub fn verdicts(
     requires timed { All (λ n. n ≤ most_steps) steps.now }
     requires room { part.old < 2 ^ 62 }
     requires fit { All (IsMutantOf (files_of program.old)) mutants.now }
-    ensures told { IfOk result (AreVerdicts limits program.old tests.now steps.now mutants.now) }
+    requires covered { cover.now.tests ≡ length tests.now }
+    requires viable { AreViable program.old mutants.now viable.now }
+    ensures told { IfOk result
+        (AreVerdicts limits program.old tests.now steps.now cover.now mutants.now) }
     ensures steps { OnOk result (part.new ≡ part.old
-        + steps_for_all limits program.old tests.now steps.now mutants.now) }
+        + steps_for_all limits program.old tests.now steps.now cover.now mutants.now) }
     ensures most { part.new ≤ part.old
-        + steps_for_all limits program.old tests.now steps.now mutants.now }
+        + steps_for_all limits program.old tests.now steps.now cover.now mutants.now }
     ensures same { program.new ≡ program.old }
 {
-    let verdicts = mutant_runs::verdicts(alloc, program, tests, steps, mutants, limits, part)?;
+    let verdicts = mutant_runs::verdicts(
+        alloc, program, tests, steps, cover, mutants, viable, limits, part,
+    )?;
     Ok(verdicts)
 }

@@ -1,5 +1,5 @@
 -- The mutants of a suite, every test on every mutant, and what is written of them (this project's own).
-use Rattle.std.specs.Prelude.{◌≡◌, ℕ, ◌+◌, ◌≤◌, nat_lt, List, [], map, length, Result, Ok, Err, if◌then◌else◌}
+use Rattle.std.specs.Prelude.{◌≡◌, ℕ, ◌+◌, ◌≤◌, nat_lt, List, [], map, length, sum_by, Result, Ok, Err, if◌then◌else◌}
 use Rattle.class_model.specs.declared.class.ClassId.{ClassId}
 use Rattle.program_rules.specs.Programs.{Look}
 use Rattle.class_link.specs.Info.{Info}
@@ -10,7 +10,8 @@ use Rattle.mutator_ops.specs.declared.mutant.Mutant.{Mutant}
 use Rattle.mutator_ops.specs.declared.mutant.Verdict.{Verdict}
 use Rattle.mutant_runs.specs.Programs.{ClassFiles, files_of}
 use Rattle.mutant_runs.specs.Runs.{Timed, timed}
-use Rattle.mutant_runs.specs.Verdicts.{verdict_of, steps_of_all}
+use Rattle.mutant_runs.specs.Verdicts.{verdict_of}
+use Rattle.mutant_runs.specs.Needed.{needed_of_all}
 use Rattle.report_schema.specs.FileKey.{file_key}
 use Rattle.report_schema.specs.declared.input.ReportInput.{ReportInput}
 use Rattle.mutest_engine.specs.Refusals.{IsBeforeRuns}
@@ -62,18 +63,36 @@ timed_tests p ts = timed ts (original_steps p ts)
 unfoldable pub verdicts_by : ClassFiles → Look → List Test → List Mutant → List Verdict
 verdicts_by files p ts ms = map (verdict_of usual files p (timed_tests p ts)) ms
 
--- The same, where all tests pass on the program as it is.
+-- The cells are the mutants that are viable with the tests that cover them: one for each covering
+-- test of each verdict.
+abbrev pub cells_in : List Verdict → ℕ
+cells_in verdicts = sum_by (λ v. length v.covering) verdicts
+
+-- So many cells are at most 4,194,304.
+abbrev pub few_cells : ℕ → Result (Unit {0}) Refusal
+few_cells count = if nat_lt 4194304 count then Err (TooMany limit.Cells 4194305) else Ok tt
+
+-- All tests pass on the program as it is, and there are not too many cells.
+abbrev pub testable : ClassFiles → Look → List Test → List Mutant → Result (Unit {0}) Refusal
+testable files p ts ms =
+    and_then (green p ts) (λ ok. few_cells (cells_in (verdicts_by files p ts ms)))
+
+-- The verdicts, where it is so.
 abbrev pub green_verdicts : ClassFiles → Look → List Test → List Mutant → Result (List Verdict) Refusal
-green_verdicts files p ts ms = and_then (green p ts) (λ ok. Ok (verdicts_by files p ts ms))
+green_verdicts files p ts ms =
+    and_then (testable files p ts ms) (λ ok. Ok (verdicts_by files p ts ms))
 
 abbrev pub if_so : Result (Unit {0}) Refusal → ℕ → ℕ
 if_so (Ok ok) steps = steps
 if_so (Err refusal) steps = 0
 
--- The steps of all runs: those on the program as it is, and where all tests pass there those on the mutants.
+-- The steps of the runs that are needed: those on the program as it is, and where all tests pass
+-- there and cells are not too many, those of each viable mutant's covering tests, up to the first
+-- that detects it.
 unfoldable pub all_steps : ClassFiles → Look → List Test → List Mutant → ℕ
 all_steps files p ts ms =
-    steps_made p ts + if_so (green p ts) (steps_of_all usual files p (timed_tests p ts) ms)
+    steps_made p ts
+    + if_so (testable files p ts ms) (needed_of_all usual files p (timed_tests p ts) ms)
 
 -- ---- the tests and mutants of a program
 
@@ -88,13 +107,14 @@ input_of ts ms verdicts = record {
   sources = [];
 }
 
--- What is reported, unless there are too many mutants, or a test doesn't pass on the program as it is.
+-- What is reported, unless there are too many mutants, a test doesn't pass on the program as it is,
+-- or there are too many cells.
 unfoldable pub tested : ClassFiles → Look → List Test → List Mutant → Result ReportInput Refusal
 tested files p ts ms =
     and_then (few_mutants (length ms)) (λ ok.
-    and_then (green p ts) (λ ok. Ok (input_of ts ms (verdicts_by files p ts ms))))
+    and_then (testable files p ts ms) (λ ok. Ok (input_of ts ms (verdicts_by files p ts ms))))
 
--- The steps of all runs that are made.
+-- The steps of the runs that are needed.
 unfoldable pub tested_steps : ClassFiles → Look → List Test → List Mutant → ℕ
 tested_steps files p ts ms = if_so (few_mutants (length ms)) (all_steps files p ts ms)
 
@@ -115,7 +135,7 @@ abbrev pub if_found : Result (List Test) Refusal → (List Test → ℕ) → ℕ
 if_found (Ok ts) steps = steps ts
 if_found (Err refusal) steps = 0
 
--- The steps of all runs that are made for a suite.
+-- The steps of the runs that are needed for a suite.
 abbrev pub suite_steps : LoadedSuite → ℕ
 suite_steps s =
     if_so (linked s)

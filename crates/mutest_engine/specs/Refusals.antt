@@ -42,6 +42,7 @@ limit_name limit.Class = codes "class"
 limit_name limit.Bytes = codes "bytes"
 limit_name limit.Tests = codes "tests"
 limit_name limit.Mutants = codes "mutants"
+limit_name limit.Cells = codes "cells"
 
 -- an instruction's class, its method and its number
 abbrev pub code_place : Name → Name → ℕ → List ℕ
@@ -110,6 +111,7 @@ IsPassed limit.Class number = 4194304 < number
 IsPassed limit.Bytes number = 67108864 < number
 IsPassed limit.Tests number = number ≡ 65536
 IsPassed limit.Mutants number = number ≡ 262145
+IsPassed limit.Cells number = number ≡ 4194305
 
 -- by the class file at this path
 abbrev pub IsOfFile : List ℕ → Refusal → Type 0
@@ -153,4 +155,5 @@ MayRefuse (assemble_class assembly) r = IsOfText assembly.text r
 abbrev pub IsBeforeRuns : Refusal → Type 0
 IsBeforeRuns (NotGreen tests) = ⊥
 IsBeforeRuns (MachineCheck test class method at) = ⊥
+IsBeforeRuns (TooMany limit.Cells number) = ⊥
 IsBeforeRuns refusal = Unit {0}

@@ -9,6 +9,8 @@ mod calls;
 #[cfg(test)]
 mod listing;
 #[cfg(test)]
+mod needed;
+#[cfg(test)]
 mod running;
 mod same_call;
 

@@ -15,30 +15,30 @@ use Rattle.order_laws.specs.Ordered.{HasArrays}
 
 -- ---- tests
 
-same_itself : (n : Name) → same n n ≡ true
+pub same_itself : (n : Name) → same n n ≡ true
 same_itself n = (bytes_decides n n).1 refl
 
-or_left : (x y : Bool) → (x || y) ≡ false → x ≡ false
+pub or_left : (x y : Bool) → (x || y) ≡ false → x ≡ false
 or_left true y e = e
 or_left false y e = refl
 
-or_right : (x y : Bool) → (x || y) ≡ false → y ≡ false
+pub or_right : (x y : Bool) → (x || y) ≡ false → y ≡ false
 or_right true y e = absurd cc
 or_right false y e = e
 
-or_either : (x y : Bool) → (x || y) ≡ true → (x ≡ true) ⊎ (y ≡ true)
+pub or_either : (x y : Bool) → (x || y) ≡ true → (x ≡ true) ⊎ (y ≡ true)
 or_either true y e = inl refl
 or_either false y e = inr e
 
-or_first : (x y : Bool) → x ≡ true → (x || y) ≡ true
+pub or_first : (x y : Bool) → x ≡ true → (x || y) ≡ true
 or_first true y e = refl
 or_first false y e = absurd cc
 
-or_second : (x y : Bool) → y ≡ true → (x || y) ≡ true
+pub or_second : (x y : Bool) → y ≡ true → (x || y) ≡ true
 or_second true y e = refl
 or_second false y e = e
 
-and_not : (x y : Bool) → (x && not y) ≡ false → x ≡ true → y ≡ true
+pub and_not : (x y : Bool) → (x && not y) ≡ false → x ≡ true → y ≡ true
 and_not true true e h = refl
 and_not true false e h = absurd cc
 and_not false y e h = absurd cc
@@ -58,7 +58,7 @@ listed_either m (x ∷ xs) ys e = elim (or_either (same x m) (is_listed m (xs ++
   | inr h ↦ elim (listed_either m xs ys h) [ inl k ↦ inl (or_second (same x m) (is_listed m xs) k) | inr k ↦ inr k ]
 ]
 
-each_false : (test : Name → Bool) (m : Name) (ns : List Name) → list_any test ns ≡ false → is_listed m ns ≡ true → test m ≡ false
+pub each_false : (test : Name → Bool) (m : Name) (ns : List Name) → list_any test ns ≡ false → is_listed m ns ≡ true → test m ≡ false
 each_false test m [] e h = absurd cc
 each_false test m (x ∷ xs) e h = elim (or_either (same x m) (is_listed m xs) h) [
   | inl s ↦ subst (λ y. test y ≡ false) (same_text x m (sym s)) (or_left (test x) (list_any test xs) e)
@@ -68,7 +68,7 @@ each_false test m (x ∷ xs) e h = elim (or_either (same x m) (is_listed m xs) h
 -- ---- the walk
 
 -- A class is another one, or stands below it.
-abbrev IsWithin : Look → Name → Name → Type 0
+abbrev pub IsWithin : Look → Name → Name → Type 0
 IsWithin p a b = (a ≡ b) ⊎ IsBelow p a b
 
 below_on : (p : Look) (a b c : Name) → IsBelow p a b → IsBelow p b c → IsBelow p a c
@@ -134,19 +134,19 @@ module _ (p : Look) (ok : IsOrdered p) where
 
   -- ---- what is there
 
-  super_there : (n m : Name) → is_listed m (parents_of (p n)) ≡ true → is_none (p m) ≡ false
+  pub super_there : (n m : Name) → is_listed m (parents_of (p n)) ≡ true → is_none (p m) ≡ false
   super_there n m l = each_false (λ x. is_none (p x)) m (parents_of (p n)) (or_right (lacks_superclass n (p n)) (list_any (λ x. is_none (p x)) (parents_of (p n))) (ok.present n)) l
 
   below_there : (a b : Name) → IsBelow p a b → is_none (p b) ≡ false
   below_there a b (next x y l) = super_there a b l
   below_there a b (further x y z l rest) = below_there y b rest
 
-  below_lower : (a b : Name) → IsBelow p a b → ok.ranks.rank b < ok.ranks.rank a
+  pub below_lower : (a b : Name) → IsBelow p a b → ok.ranks.rank b < ok.ranks.rank a
   below_lower a b (next x y l) = ok.ranks.lower a b l
   below_lower a b (further x y z l rest) = let lt = ok.ranks.lower a y l in let more = below_lower y b rest in omega (arith, lt, more)
 
   -- each class is Object or stands below it
-  to_object : (k : ℕ) (n : Name) → ok.ranks.rank n ≤ k → is_none (p n) ≡ false → IsWithin p n object_name
+  pub to_object : (k : ℕ) (n : Name) → ok.ranks.rank n ≤ k → is_none (p n) ≡ false → IsWithin p n object_name
   to_object zero n le there = by_class (p n) refl
     where
       by_class : (o : Option Linked) → p n ≡ o → IsWithin p n object_name
@@ -179,7 +179,7 @@ module _ (p : Look) (ok : IsOrdered p) where
               within_on p n m object_name (inr (next n m l)) (up m (omega (arith, lt, le)) (super_there n m l))
 
   -- nothing stands above Object
-  object_alone : (b : Name) → IsBelow p object_name b → ⊥
+  pub object_alone : (b : Name) → IsBelow p object_name b → ⊥
   object_alone b h =
       let there = below_there object_name b h in
       let lt = below_lower object_name b h in
@@ -193,7 +193,7 @@ module _ (p : Look) (ok : IsOrdered p) where
   is_interface_at : (n : Name) (c : Linked) → p n ≡ Some c → is_interface_class (outline_of (p n)) ≡ true → is_interface c.flags ≡ true
   is_interface_at n c e h = subst (λ o. is_interface_class (outline_of o) ≡ true) e h
 
-  interface_entry : (m : Name) → is_no_interface (p m) ≡ false → is_none (p m) ≡ false → is_interface_class (outline_of (p m)) ≡ true
+  pub interface_entry : (m : Name) → is_no_interface (p m) ≡ false → is_none (p m) ≡ false → is_interface_class (outline_of (p m)) ≡ true
   interface_entry m e there = by_class (p m) refl
     where
       by_class : (o : Option Linked) → p m ≡ o → is_interface_class (outline_of (p m)) ≡ true
@@ -233,7 +233,7 @@ module _ (p : Look) (ok : IsOrdered p) where
           by_place : (m ≡ object_name) ⊎ (is_interface_class (outline_of (p m)) ≡ true)
           by_place = by_parent c.parent refl (subst (λ o. is_listed m (parents_of o) ≡ true) e l)
 
-  below_interface : (a b : Name) → IsBelow p a b → is_interface_class (outline_of (p a)) ≡ true → (b ≡ object_name) ⊎ (is_interface_class (outline_of (p b)) ≡ true)
+  pub below_interface : (a b : Name) → IsBelow p a b → is_interface_class (outline_of (p a)) ≡ true → (b ≡ object_name) ⊎ (is_interface_class (outline_of (p b)) ≡ true)
   below_interface a b (next x y l) h = above_interface a b h l
   below_interface a b (further x y z l rest) h = elim (above_interface a y h l) [
     | inl e ↦ absurd (object_alone b (subst (λ x. IsBelow p x b) e rest))

@@ -6,6 +6,6 @@ mod FileLaws
 mod FirstLaws
 mod NumberLaws
 mod ProgramLaws
-mod ReadyLaws
+pub mod ReadyLaws
 mod SuperLaws
 mod WholeLaws

@@ -58,7 +58,7 @@ are_files : (classes : List Class) (n : Name) (c : Linked) → class_among (map 
 are_files [] n c e = absurd cc
 are_files (x ∷ classes) n c e = of_file x (class_among (map named classes) n) c (same (own_name x) n) (are_files classes n c) e
 
-of_files : (classes : List Class) → AreOfFiles (class_among (map named classes))
+pub of_files : (classes : List Class) → AreOfFiles (class_among (map named classes))
 of_files classes = record { each = are_files classes }
 
 -- The name of a class that is found is one of the names.
@@ -78,7 +78,7 @@ absent_case : (classes : List Class) (n : Name) (c : Linked) (o : Option Linked)
 absent_case classes n c None distinct e is = is
 absent_case classes n c (Some d) distinct e is = absurd (apart_lists n (map own_name classes) (map (λ (x : Name × Linked). x.0) library_meant) distinct (in_own classes n c e) (in_names library_meant n d is))
 
-are_apart : (classes : List Class) → AreDistinct (names_in classes) → AreApart (class_among (map named classes))
+pub are_apart : (classes : List Class) → AreDistinct (names_in classes) → AreApart (class_among (map named classes))
 are_apart classes distinct = record { each = λ n c e. absent_case classes n c (class_among library_meant n) distinct e refl }
 
 -- The law of the library, over any classes of files that are apart from it.

@@ -7,4 +7,4 @@ mod selection;
 
 pub use laws::cells_ascend;
 pub use mutant::MutantPlace;
-pub use selection::{Cell, SelectFault, cells};
+pub use selection::{Cell, SelectFault, cells, count_cells};

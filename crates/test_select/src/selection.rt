@@ -39,8 +39,8 @@ fn count_of(place: MutantPlace, viable: bool, cover: &Coverage) -> u64
     }
 }
 
-// How many cells there are. The count stays at 2^64 - 1.
-fn count_cells(mutants: &[MutantPlace], viable: &[bool], cover: &Coverage) -> u64
+/// How many cells there are. None is made. The count stays at 2^64 - 1.
+pub fn count_cells(mutants: &[MutantPlace], viable: &[bool], cover: &Coverage) -> u64
     requires { length viable.now ≡ length mutants.now }
     ensures { result ≡ u64_saturate (length (cells mutants.now viable.now cover.now)) }
 {

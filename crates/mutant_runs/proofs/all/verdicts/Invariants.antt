@@ -1,15 +1,16 @@
 use Rattle.std.proofs.Common.{◌≡◌, ◌+◌, map, take}
 use Rattle.class_table.specs.Table.{look}
-use Rattle.mutant_runs.specs.Programs.{files_of}
 use Rattle.mutant_runs.specs.Files.{IsKept}
+use Rattle.mutant_runs.specs.Needed.{verdict_picked}
+use Rattle.mutant_runs.specs.Programs.{files_of}
+use Rattle.mutant_runs.specs.Promises.{covering_at, steps_for_all}
 use Rattle.mutant_runs.specs.Runs.{timed}
-use Rattle.mutant_runs.specs.Verdicts.{verdict_of, steps_of_all}
 use Rattle.mutant_runs.proofs.all.verdicts.Given as goal
 
-abbrev pub invariant-loop-mutant : goal.invariant-loop-mutant
-invariant-loop-mutant l = record {
-  told : l.verdicts ≡ map (verdict_of l.limits (files_of l.fn.program) (look l.fn.program) (timed l.tests l.steps)) (take l.mutant-index l.mutants);
-  steps : l.part ≡ l.fn.part + steps_of_all l.limits (files_of l.fn.program) (look l.fn.program) (timed l.tests l.steps) (take l.mutant-index l.mutants);
+abbrev pub invariant-loop-i : goal.invariant-loop-i
+invariant-loop-i l = record {
+  told : l.verdicts ≡ map (λ m. verdict_picked l.limits (files_of l.fn.program) (look l.fn.program) (timed l.tests l.steps) (covering_at l.fn.program l.cover m) m) (take l.i l.mutants);
+  steps : l.part ≡ l.fn.part + steps_for_all l.limits l.fn.program l.tests l.steps l.cover (take l.i l.mutants);
   same : l.program ≡ l.fn.program;
   kept : IsKept l.fn.program l.kept;
 }

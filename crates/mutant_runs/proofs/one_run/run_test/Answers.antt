@@ -1,9 +1,8 @@
 use Rattle.std.proofs.Common.{◌≡◌, ◌∙◌, ap, subst, ℕ, ◌+◌, ◌≤◌, arith}
 use Rattle.class_table.specs.Table.{look}
-use Rattle.machine_rules.specs.Runs.{Ran, run_of}
-use Rattle.jvm_world.specs.View.{test_of}
+use Rattle.machine_rules.specs.Runs.{Ran}
 use Rattle.mutant_runs.specs.Promises.{run_in}
-use Rattle.mutant_runs.specs.Runs.{reaches, detected}
+use Rattle.mutant_runs.specs.Runs.{detected}
 use Rattle.mutant_runs.proofs.RunLaws.{of_run}
 use Rattle.mutant_runs.proofs.one_run.run_test.Goals as goal
 
@@ -13,16 +12,10 @@ returns-in_err-run-clause-most c =
     let P : ℕ → Type 0 = λ n. c.execute.new.part ≤ c.args.part.now + n in
     subst P (ap (λ (r : Ran). r.steps) is) c.in_err-run.ensures.memory
 
-pub returns-clause-reaches : goal.returns-clause-reaches
-returns-clause-reaches c =
-    let is = of_run c.args.limits (look c.args.program.now) c.args.test.now c.args.steps c.limit_of.result c.limit_of.ensures.value in
-    c.said_by.ensures.reaches (run_of (look c.args.program.now) (test_of c.args.test.now) c.args.limits c.limit_of.result) c.in_ok-run.ensures.run
-    ∙ ap (reaches c.args.mutant.now) is
-
 pub returns-clause-detected : goal.returns-clause-detected
 returns-clause-detected c =
     let is = of_run c.args.limits (look c.args.program.now) c.args.test.now c.args.steps c.limit_of.result c.limit_of.ensures.value in
-    c.said_by.ensures.detected ∙ ap detected (c.in_ok-run.ensures.run.ending ∙ ap (λ (r : Ran). r.ending) is)
+    c.detected.ensures ∙ ap detected (c.in_ok-run.ensures.run.ending ∙ ap (λ (r : Ran). r.ending) is)
 
 pub returns-clause-steps : goal.returns-clause-steps
 returns-clause-steps c =

@@ -1,0 +1,12 @@
+pub mod Forms
+pub mod Keepers
+pub mod Elements
+pub mod Placed
+pub mod Triples
+pub mod Lists
+pub mod Maps
+pub mod Enums
+pub mod Optionals
+pub mod Iterators
+pub mod Table
+pub mod Classes

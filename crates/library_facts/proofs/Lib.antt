@@ -1,0 +1,7 @@
+mod Over
+mod Machine
+mod Closed
+mod ArrayNames
+mod FileNames
+mod Keeping
+mod Hosting

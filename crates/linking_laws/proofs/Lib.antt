@@ -1,0 +1,5 @@
+mod Arrays
+mod Instructions
+mod Accepted
+mod Classes
+mod Programs

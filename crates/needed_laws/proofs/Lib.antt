@@ -1,0 +1,6 @@
+mod Covering
+mod Named
+mod Picked
+mod Needed
+mod Natives
+mod Safe

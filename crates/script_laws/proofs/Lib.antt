@@ -1,0 +1,6 @@
+mod Lists
+mod Placed
+mod Usable
+mod Above
+mod Scripts
+mod Programs
