@@ -5,7 +5,7 @@ use Rattle.std.proofs.lemmas.List.{length-append}
 use Rattle.class_link.specs.Info.{Info}
 use Rattle.std.specs.Prelude.{All, map, if◌then◌else◌, None}
 use Rattle.program_rules.specs.Programs.{Look}
-use Rattle.class_table.specs.Table.{IsProgram, look, name_at}
+use Rattle.class_table.specs.Table.{IsProgram, look, name_at, names}
 use Rattle.class_table.specs.declared.scripted.Test.{Test}
 use Rattle.mutator_ops.specs.declared.mutant.Mutant.{Mutant}
 use Rattle.mutator_ops.specs.declared.mutant.Verdict.{Verdict}
@@ -20,7 +20,7 @@ use Rattle.report_schema.specs.declared.input.ReportInput.{ReportInput}
 use Rattle.mutest_engine.specs.SuiteFiles.{IsFormed}
 use Rattle.mutest_engine.specs.Steps.{and_then, Refuses}
 use Rattle.suite_program.specs.Faults.{first_fault, RefusesFirst}
-use Rattle.suite_program.specs.Programs.{classes_in, class_file, program_of, AreSpelled, HaveFirstNumbers}
+use Rattle.suite_program.specs.Programs.{classes_in, class_file, program_of, names_in, AreSpelled, HaveFirstNumbers}
 use Rattle.suite_program.specs.declared.fault.ProgramEnd.{ProgramEnd}
 use Rattle.suite_program.specs.declared.fault.ProgramEnd.TheVariants as end
 use Rattle.mutest_engine.specs.Originals.{all_classes, unless_fault, accepted, IsStopOfProgram}
@@ -215,8 +215,8 @@ tests_found p own count ts h = all_found (Tests (length p) (files_of p) (map (na
 
 -- The program of a suite, with its tests and its mutants.
 pub are_of_suite : MutantsFit → (s : LoadedSuite) (p : List Info) (all : List Loaded) (ts : List Test) (ms : List Mutant) (own count : ℕ) → IsFormed s → AreSpelled all → IsProgram p → IsReady p
-    → look p ≡ program_of (classes_in all) → files_of p ≡ class_file (classes_in all) → tests_from p own count ≡ Ok ts → IsLinked s (files_of p) (look p) ts ms → AreOfSuite p ts ms
-are_of_suite fit s p all ts ms own count formed spelled program ready looks files found linked = record {
+    → look p ≡ program_of (classes_in all) → files_of p ≡ class_file (classes_in all) → names p ≡ names_in (classes_in all) → tests_from p own count ≡ Ok ts → IsLinked s (files_of p) (look p) ts ms → AreOfSuite p ts ms
+are_of_suite fit s p all ts ms own count formed spelled program ready looks files named found linked = record {
   classes = classes_in all;
   program = record {
     spelled = all_classes_spelled all spelled;
@@ -224,6 +224,7 @@ are_of_suite fit s p all ts ms own count formed spelled program ready looks file
     ready = ready;
     look = looks;
     files = files;
+    names = named;
   };
   most = length p;
   names = map (name_at p) (numbers_from own count);

@@ -182,8 +182,8 @@ tested_steps_in p ts ms = tested_steps (files_of p) (look p) ts ms
 
 -- ---- what the tests that cover a mutant say of it
 
--- A program that was built of class files and accepted, the tests that were found of it, and mutants
--- of its class files.
+-- A program that was built of class files and accepted, the tests that were found of it, and
+-- mutants of its class files.
 pub record AreOfSuite (p : List Info) (ts : List Test) (ms : List Mutant) : Type 0 where
   pub classes : List Class
   pub program : IsOfSuite classes p
