@@ -73,6 +73,7 @@ class ClassFile:
         reader.take('H')
         self.major = reader.take('H')
         self.read_pool()
+        self.behind_pool = reader.at
         if self.major not in (51, 52):
             raise Refused(f'its major version is {self.major}, and not 51 or 52: compile with --release 8 [5]')
         flags, name, above = reader.take('H'), self.class_name(reader.take('H')), reader.take('H')

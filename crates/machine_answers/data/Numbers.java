@@ -132,4 +132,42 @@ public class Numbers {
         Assert.assertEquals(23L, sum);
         Assert.assertEquals(44L, again);
     }
+
+    static int tripled(int a) {
+        a = a * 3;
+        return a;
+    }
+
+    static long tripled(long a) {
+        a = a * 3;
+        return a;
+    }
+
+    static String other(String a) {
+        a = "other";
+        return a;
+    }
+
+    public void firstLocals() {
+        tripled(4L);
+        Assert.assertEquals(6, tripled(2));
+        Assert.assertEquals(15000000000L, tripled(5000000000L));
+        Assert.assertSame("other", other("a"));
+    }
+
+    int count;
+    long total;
+
+    public void valuesOfStores() {
+        int[] ints = {5};
+        long[] longs = {7};
+        Assert.assertEquals(0, count++);
+        Assert.assertEquals(0L, total--);
+        Assert.assertEquals(5, ints[0]++);
+        Assert.assertEquals(7L, longs[0]--);
+        Assert.assertEquals(1, count);
+        Assert.assertEquals(-1L, total);
+        Assert.assertEquals(6, ints[0]);
+        Assert.assertEquals(6L, longs[0]);
+    }
 }

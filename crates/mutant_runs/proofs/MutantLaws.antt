@@ -1,5 +1,5 @@
 -- The verdict on a mutant by the runs on the program with its edit, and the steps of these runs.
-use Rattle.std.proofs.Common.{◌≡◌, ◌∙◌, sym, refl, ap, subst, Result, IfOk, OnOk, ℕ, zero, suc, ◌+◌, ◌^◌, ◌<◌, ◌≤◌, Bool, true, false, cond, List, [], ◌∷◌, map, filter, length, take, get_or, All, Option, None, Some, slice_set, arith}
+use Rattle.std.proofs.Common.{◌≡◌, ◌∙◌, sym, refl, ap, subst, Result, IfOk, OnOk, ℕ, zero, suc, ◌+◌, ◌^◌, ◌<◌, ◌≤◌, Bool, true, false, cond, List, [], ◌∷◌, filter, length, take, get_or, All, Option, None, Some, slice_set, arith}
 use Rattle.std.specs.Prelude.{if◌then◌else◌, is_none, is_some, IfSome, option_and_then}
 use Rattle.std.specs.List.{range_with_len}
 use Rattle.std.specs.Option.{option_map_or}
@@ -22,10 +22,10 @@ use Rattle.mutator_ops.specs.declared.mutant.Mutant.{Mutant}
 use Rattle.mutator_ops.specs.declared.mutant.Verdict.{Verdict}
 use Rattle.mutant_runs.specs.Edited.{IsReadyBut, TellsAccepted}
 use Rattle.mutant_runs.specs.Needed.{runs_picked, steps_picked, verdict_picked, steps_by}
-use Rattle.mutant_runs.specs.Programs.{ClassFiles, files_of, edited, with_accepted, viable, Makes}
+use Rattle.mutant_runs.specs.Programs.{files_of, with_accepted, viable, Makes}
 use Rattle.mutant_runs.specs.Promises.{AreViable, TellsViable, covering_at, runs_in, steps_run, steps_for, steps_of, steps_for_all, IsByRuns, IsVerdict}
 use Rattle.mutant_runs.specs.Ready.{IsReady}
-use Rattle.mutant_runs.specs.Runs.{Timed, timed, most_steps}
+use Rattle.mutant_runs.specs.Runs.{timed, most_steps}
 use Rattle.mutant_runs.specs.Verdicts.{killer, verdict_by, not_viable}
 use Rattle.mutant_runs.proofs.RunLaws.{all_runs_most}
 

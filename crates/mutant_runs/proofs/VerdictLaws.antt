@@ -4,8 +4,8 @@ use Rattle.std.specs.Prelude.{if◌then◌else◌, is_none}
 use Rattle.std.specs.Option.{option_map, option_or}
 use Rattle.machine_rules.specs.Runs.{Ran}
 use Rattle.mutator_ops.specs.declared.mutant.State.{State}
-use Rattle.mutant_runs.specs.Needed.{up_to_detecting, steps_picked}
-use Rattle.mutant_runs.specs.Runs.{steps_in, detected}
+use Rattle.mutant_runs.specs.Needed.{steps_picked}
+use Rattle.mutant_runs.specs.Runs.{detected}
 use Rattle.mutant_runs.specs.Verdicts.{killer}
 use Rattle.mutant_runs.proofs.RunLaws.{steps_to}
 

@@ -75,8 +75,8 @@ steps_of q p tests steps cover m = steps_for q p tests steps (covering_at p cove
 abbrev pub AreVerdicts :
     Limits → List Info → List Test → List ℕ → Covered → List Mutant → List Verdict → Type 0
 AreVerdicts q p tests steps cover mutants vs =
-    vs
-    ≡ map (λ m. verdict_picked q (files_of p) (look p) (timed tests steps) (covering_at p cover m) m)
+    vs ≡ map
+    (λ m. verdict_picked q (files_of p) (look p) (timed tests steps) (covering_at p cover m) m)
     mutants
 
 abbrev pub steps_for_all :

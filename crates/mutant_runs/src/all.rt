@@ -34,10 +34,11 @@ pub fn viable(alloc: Global, program: &mut Program, mutants: &[Mutant]) -> Resul
 }
 
 /// The verdict on each mutant, by runs of the tests that reach its class and line, up to the first
-/// that detects it; NON_VIABLE where it isn't viable, NO_COVERAGE where no test reaches them. `steps`
-/// has at each test's place the steps of its run on the program as it is, `cover` which lines that run
-/// reached, and `viable` at each mutant's place whether it is viable. The steps of all runs are
-/// counted in the part, and the program is as before afterwards, also where memory runs out.
+/// that detects it; NON_VIABLE where it isn't viable, NO_COVERAGE where no test reaches them.
+/// `steps` has at each test's place the steps of its run on the program as it is, `cover` the lines
+/// that this run reached, and `viable` at each mutant's place whether it is viable. The steps of all
+/// runs are counted in the part, and the program is as before afterwards, also where memory runs
+/// out.
 pub fn verdicts(
     alloc: Global,
     program: &mut Program,

@@ -76,8 +76,8 @@ fn run_covering(
     )
 }
 
-/// The verdict on a mutant, of which it is told whether it is viable, by runs of the tests that reach
-/// its class and line. The program is as before afterwards.
+/// The verdict on a mutant, of which it is told whether it is viable, by runs of the tests that
+/// reach its class and line. The program is as before afterwards.
 pub fn verdict_on(
     alloc: Global,
     program: &mut Program,

@@ -1,5 +1,5 @@
-//! The verdict on each mutant: the class that its edit makes is verified, and the tests that reach its
-//! line are run on the program with it, up to the first that detects it.
+//! The verdict on each mutant: the class that its edit makes is verified, and the tests that reach
+//! its line are run on the program with it, up to the first that detects it.
 #![tactic(auto)]
 
 mod all;

@@ -7,7 +7,8 @@ ghost use Rattle.program_verifier.specs.Programs.{AreNumbered, IsLibraryAccepted
 ghost use Rattle.mutant_runs.specs.Edited.{TellsAccepted};
 ghost use Rattle.mutant_runs.specs.Files.{IsKept};
 ghost use Rattle.mutant_runs.specs.Programs.{files_of, IsMutantOf, ComesOf};
-ghost use Rattle.mutant_runs.specs.Promises.{IsByRuns, steps_run, TellsViable, IsVerdict, steps_for};
+ghost use Rattle.mutant_runs.specs.Promises.{TellsViable, IsByRuns, steps_run};
+ghost use Rattle.mutant_runs.specs.Promises.{IsVerdict, steps_for};
 ghost use Rattle.mutant_runs.specs.Ready.{IsReady};
 ghost use Rattle.mutant_runs.specs.Runs.{most_steps};
 
@@ -90,8 +91,8 @@ fn is_accepted(alloc: Global, program: &Program, id: ClassId) -> Result<bool, Me
     }
 }
 
-/// Whether a mutant is viable: the class that its edit makes has a layout and is accepted. The program
-/// is as before afterwards.
+/// Whether a mutant is viable: the class that its edit makes has a layout and is accepted. The
+/// program is as before afterwards.
 pub fn is_viable(
     alloc: Global,
     program: &mut Program,
@@ -116,8 +117,8 @@ pub fn is_viable(
     accepted
 }
 
-// The verdict on a mutant by the tests of these numbers, which cover it, on this program, which it is
-// run as.
+// The verdict on a mutant by the tests of these numbers, which cover it, on this program, which it
+// is run as.
 #[tactic(auto, using(crate::proofs::ReadyLaws::not_lacking))]
 fn run_on(
     alloc: Global,
@@ -159,8 +160,8 @@ fn run_on(
     Ok(verdict_by(covering, killer))
 }
 
-/// The verdict on a mutant that is viable, by the tests of these numbers, which cover it. The program
-/// is as before afterwards.
+/// The verdict on a mutant that is viable, by the tests of these numbers, which cover it. The
+/// program is as before afterwards.
 pub fn run_mutant(
     alloc: Global,
     program: &mut Program,

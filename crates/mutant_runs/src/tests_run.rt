@@ -17,8 +17,8 @@ use mutator_ops::State;
 use std::alloc::Global;
 
 /// Runs the tests of these numbers on a mutant, whose program this is, with its tables, up to the
-/// first that detects it, and gives that one's number and the state that it gives to the mutant. Each
-/// test's run on the program as it is took so many steps.
+/// first that detects it, and gives that one's number and the state that it gives to the mutant.
+/// Each test's run on the program as it is took so many steps.
 pub fn run_tests(
     alloc: Global,
     program: &Program,

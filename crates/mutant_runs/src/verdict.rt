@@ -7,8 +7,8 @@ use class_model::Seq;
 use mutator_ops::{State, Verdict};
 use std::alloc::Global;
 
-/// The verdict by the tests that cover a mutant, and the first that detects it with the state that it
-/// gives.
+/// The verdict by the tests that cover a mutant, and the first that detects it with the state that
+/// it gives.
 pub fn verdict_by(covering: Seq<u32>, killer: Option<(u32, State)>) -> Verdict
     ensures { result ≡ verdict_by covering killer }
 {

@@ -1,6 +1,6 @@
--- Each mutant of a suite's classes has an edit that its class takes.
+-- Each mutant of a suite's classes is listed of a class file of its program, which takes its edit.
 use Rattle.std.proofs.Common.{◌≡◌, ◌∙◌, ℕ, ◌+◌, Bool, true, false, List, [], ◌∷◌, ◌++◌, map, Option, Some, None, Ok, refl, sym, ap, subst}
-use Rattle.std.specs.Prelude.{All, IfSome, if◌then◌else◌, ◌||◌}
+use Rattle.std.specs.Prelude.{All, Contains, IfSome, if◌then◌else◌, ◌||◌}
 use Rattle.std.specs.Option.{option_map, option_or}
 use Rattle.std.specs.List.{AllByRecursion, list_any, flat_map, fold}
 use Rattle.std.specs.declared.cmp.Ordering.{Ordering}
@@ -8,7 +8,7 @@ use Rattle.std.specs.declared.cmp.Ordering.TheVariants.{Less, Equal, Greater}
 use Rattle.std.specs.Ordering.{nat_cmp, match_ordering}
 use Rattle.std.specs.Cmp.Lexicographic.{slice_cmp, bytes_decides}
 use Rattle.std.specs.BTreeMap.{insert_entry}
-use Rattle.std.proofs.lemmas.List.Elements.{All-from_recursion, recursion_from_All}
+use Rattle.std.proofs.lemmas.List.Elements.{All-from_recursion, recursion_from_All, All-contains_itself}
 use Rattle.class_model.specs.declared.class.Class.{Class}
 use Rattle.class_model.specs.declared.constant.Const.{Const}
 use Rattle.class_model.specs.declared.class.Member.{Member}
@@ -19,7 +19,7 @@ use Rattle.class_reader.specs.Spells.{IsClass}
 use Rattle.class_writer.specs.Writing.{HasClassForm}
 use Rattle.program_rules.specs.Names.{Name, same}
 use Rattle.class_link.specs.declared.loaded.Loaded.{Loaded}
-use Rattle.class_link.specs.Info.{own_name}
+use Rattle.class_link.specs.Info.{Info, own_name}
 use Rattle.mutator_ops.specs.Mutants.{Place, place_in, mutant_by, mutants_by, mutants_from, code_mutants, code_of, is_synthetic, is_left_out, method_mutants, methods_mutants, class_mutants}
 use Rattle.mutator_ops.specs.Programs.{in_order, mutants_by_name, mutants_among}
 use Rattle.mutator_ops.specs.Table.{mutators, row}
@@ -27,7 +27,8 @@ use Rattle.mutator_ops.specs.declared.change.Change.{Change}
 use Rattle.mutator_ops.specs.declared.mutant.Mutant.{Mutant}
 use Rattle.mutant_apply.specs.Fitting.{Fits}
 use Rattle.mutant_apply.specs.Laws.{MutantsFit}
-use Rattle.mutant_runs.specs.Programs.{ClassFiles, IsMutantOf}
+use Rattle.mutant_runs.specs.Programs.{ClassFiles, files_of, IsMutantOf}
+use Rattle.needed_laws.specs.Tested.{IsListed}
 use Rattle.suite_program.specs.Duplicates.{again, least, duplicate_in}
 use Rattle.suite_program.specs.Faults.{first_fault}
 use Rattle.suite_program.specs.Programs.{classes_in, class_file, names_in, AreSpelled}
@@ -178,24 +179,41 @@ one_fits files c m form is named fits =
     let here : files m.class ≡ Some c = ap files named ∙ is in
     subst (λ (o : Option Class). IfSome o (λ d. HasClassForm d × Fits d m.edit × IsClass d)) (sym here) (form.form, fits, form.spelled)
 
-class_fits : MutantsFit → (files : ClassFiles) (c : Class) → IsSpelled c → files (own_name c) ≡ Some c → AllByRecursion (IsMutantOf files) (class_mutants c)
-class_fits fit files c form is =
-    both (Names (own_name c)) (λ (m : Mutant). Fits c m.edit) (IsMutantOf files) (class_mutants c) (λ m named fits. one_fits files c m form is named fits)
-    (own_mutants c) (recursion_from_All (λ (m : Mutant). Fits c m.edit) (class_mutants c) (fit c form.form))
+-- A mutant of a class file: it is listed of the one that its class's name means, which takes its edit.
+abbrev IsListedIn : ClassFiles → Mutant → Type 0
+IsListedIn files m =
+    (c : Class) × (files m.class ≡ Some c) × Contains (class_mutants c) m × IsMutantOf files m
+
+one_listed : (files : ClassFiles) (c : Class) (m : Mutant) → IsSpelled c → files (own_name c) ≡ Some c → Names (own_name c) m × Contains (class_mutants c) m → Fits c m.edit → IsListedIn files m
+one_listed files c m form is here fits = (c, ap files here.0 ∙ is, here.1, one_fits files c m form is here.0 fits)
+
+class_listed : MutantsFit → (files : ClassFiles) (c : Class) → IsSpelled c → files (own_name c) ≡ Some c → AllByRecursion (IsListedIn files) (class_mutants c)
+class_listed fit files c form is =
+    let ms = class_mutants c in
+    let here : AllByRecursion (λ (m : Mutant). Names (own_name c) m × Contains ms m) ms =
+    both (Names (own_name c)) (Contains ms) (λ (m : Mutant). Names (own_name c) m × Contains ms m) ms (λ m named among. (named, among))
+    (own_mutants c) (recursion_from_All (Contains ms) ms (All-contains_itself ms)) in
+    both (λ (m : Mutant). Names (own_name c) m × Contains ms m) (λ (m : Mutant). Fits c m.edit) (IsListedIn files) ms (λ m found fits. one_listed files c m form is found fits)
+    here (recursion_from_All (λ (m : Mutant). Fits c m.edit) ms (fit c form.form))
 
 formed : (xs : List Loaded) → AllByRecursion (λ (l : Loaded). IsSpelled l.class) xs → AllByRecursion IsSpelled (classes_in xs)
 formed [] p = tt
 formed (x ∷ xs) p = (p.0, formed xs p.1)
 
-among_fit : MutantsFit → (files : ClassFiles) (cs : List Class) → AllByRecursion (λ (c : Class). IsSpelled c × (files (own_name c) ≡ Some c)) cs → AllByRecursion (IsMutantOf files) (mutants_among cs)
-among_fit fit files cs p =
-    joined (IsMutantOf files) (in_order (map mutants_by_name cs))
-    (folded (AllByRecursion (IsMutantOf files)) [] (map mutants_by_name cs) tt
-    (mapped (λ (e : List ℕ × List Mutant). AllByRecursion (IsMutantOf files) e.1) mutants_by_name cs
-    (both (λ (c : Class). IsSpelled c × (files (own_name c) ≡ Some c)) (λ (c : Class). Unit {0}) (λ (c : Class). AllByRecursion (IsMutantOf files) (class_mutants c)) cs (λ c q u. class_fits fit files c q.0 q.1) p (every (λ (c : Class). Unit {0}) cs (λ c. tt)))))
+among_listed : MutantsFit → (files : ClassFiles) (cs : List Class) → AllByRecursion (λ (c : Class). IsSpelled c × (files (own_name c) ≡ Some c)) cs → AllByRecursion (IsListedIn files) (mutants_among cs)
+among_listed fit files cs p =
+    joined (IsListedIn files) (in_order (map mutants_by_name cs))
+    (folded (AllByRecursion (IsListedIn files)) [] (map mutants_by_name cs) tt
+    (mapped (λ (e : List ℕ × List Mutant). AllByRecursion (IsListedIn files) e.1) mutants_by_name cs
+    (both (λ (c : Class). IsSpelled c × (files (own_name c) ≡ Some c)) (λ (c : Class). Unit {0}) (λ (c : Class). AllByRecursion (IsListedIn files) (class_mutants c)) cs (λ c q u. class_listed fit files c q.0 q.1) p (every (λ (c : Class). Unit {0}) cs (λ c. tt)))))
 
-pub all_fit : MutantsFit → (s : LoadedSuite) → IsFormed s → linked s ≡ Ok tt → All (IsMutantOf (suite_files s)) (mutants_of s)
-all_fit fit s forms ok =
+listed : (p : List Info) (ms : List Mutant) → AllByRecursion (IsListedIn (files_of p)) ms → AllByRecursion (IsListed p) ms
+listed p [] h = tt
+listed p (m ∷ ms) h = (record { file = h.0.0; found = h.0.1; listed = h.0.2; fit = h.0.3 }, listed p ms h.1)
+
+-- The mutants of a suite are of the class files of its program.
+pub all_listed : MutantsFit → (s : LoadedSuite) (p : List Info) → IsFormed s → linked s ≡ Ok tt → files_of p ≡ suite_files s → All (IsListed p) (mutants_of s)
+all_listed fit s p forms ok same_files =
     let all = all_classes s in
     let cs = classes_in all in
     let files = class_file cs in
@@ -206,13 +224,22 @@ all_fit fit s forms ok =
     let some : AllByRecursion (λ (c : Class). IsSpelled c × (files (own_name c) ≡ Some c)) (classes_in s.classes) =
     front (λ (c : Class). IsSpelled c × (files (own_name c) ≡ Some c)) (classes_in s.classes) (classes_in s.tests)
     (subst (λ (ds : List Class). AllByRecursion (λ (c : Class). IsSpelled c × (files (own_name c) ≡ Some c)) ds) (classes_both s.classes s.tests) each) in
-    All-from_recursion (IsMutantOf files) (mutants_of s) (among_fit fit files (classes_in s.classes) some)
+    All-from_recursion (IsListed p) (mutants_of s)
+    (listed p (mutants_of s) (subst (λ (f : ClassFiles). AllByRecursion (IsListedIn f) (mutants_of s)) (sym same_files) (among_listed fit files (classes_in s.classes) some)))
 
 -- ---- the classes that were read
 
 spelled : (xs : List Loaded) → AllByRecursion (λ (l : Loaded). IsSpelled l.class) xs → AllByRecursion (λ (l : Loaded). IsClass l.class) xs
 spelled [] p = tt
 spelled (x ∷ xs) p = (p.0.spelled, spelled xs p.1)
+
+-- The same of the classes alone.
+spelled_classes : (xs : List Loaded) → AllByRecursion (λ (l : Loaded). IsClass l.class) xs → AllByRecursion IsClass (classes_in xs)
+spelled_classes [] p = tt
+spelled_classes (x ∷ xs) p = (p.0, spelled_classes xs p.1)
+
+pub all_classes_spelled : (all : List Loaded) → AreSpelled all → All IsClass (classes_in all)
+all_classes_spelled all h = All-from_recursion IsClass (classes_in all) (spelled_classes all (recursion_from_All (λ (l : Loaded). IsClass l.class) all h))
 
 -- Each class of a suite that was read has a spelling.
 pub all_spelled : (s : LoadedSuite) (all : List Loaded) → IsFormed s → all ≡ all_classes s → AreSpelled all

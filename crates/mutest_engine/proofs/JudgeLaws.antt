@@ -3,34 +3,39 @@ use Rattle.std.proofs.Common.{◌≡◌, ◌∙◌, ℕ, suc, ◌+◌, ◌≤◌
 use Rattle.std.proofs.lemmas.Bool.{ltb-false, le-ltb}
 use Rattle.std.proofs.lemmas.List.{length-append}
 use Rattle.class_link.specs.Info.{Info}
-use Rattle.std.specs.Prelude.{All, if◌then◌else◌, None}
+use Rattle.std.specs.Prelude.{All, map, if◌then◌else◌, None}
 use Rattle.program_rules.specs.Programs.{Look}
+use Rattle.class_table.specs.Table.{IsProgram, look, name_at, names}
 use Rattle.class_table.specs.declared.scripted.Test.{Test}
 use Rattle.mutator_ops.specs.declared.mutant.Mutant.{Mutant}
 use Rattle.mutator_ops.specs.declared.mutant.Verdict.{Verdict}
 use Rattle.class_link.specs.declared.loaded.Loaded.{Loaded}
 use Rattle.mutant_apply.specs.Laws.{MutantsFit}
-use Rattle.mutant_runs.specs.Programs.{ClassFiles, IsMutantOf}
+use Rattle.mutant_runs.specs.Programs.{ClassFiles, files_of}
+use Rattle.mutant_runs.specs.Ready.{IsReady}
+use Rattle.needed_laws.specs.Tested.{IsListed}
+use Rattle.test_discovery.specs.Discovery.{Tests}
+use Rattle.test_discovery.specs.declared.fault.TestFault.{TestFault}
 use Rattle.report_schema.specs.declared.input.ReportInput.{ReportInput}
 use Rattle.mutest_engine.specs.SuiteFiles.{IsFormed}
 use Rattle.mutest_engine.specs.Steps.{and_then, Refuses}
 use Rattle.suite_program.specs.Faults.{first_fault, RefusesFirst}
-use Rattle.suite_program.specs.Programs.{classes_in, class_file, program_of, HaveFirstNumbers}
+use Rattle.suite_program.specs.Programs.{classes_in, class_file, program_of, names_in, AreSpelled, HaveFirstNumbers}
 use Rattle.suite_program.specs.declared.fault.ProgramEnd.{ProgramEnd}
 use Rattle.suite_program.specs.declared.fault.ProgramEnd.TheVariants as end
-use Rattle.mutest_engine.specs.Originals.{all_classes, unless_fault, accepted, IsStopOfProgram, green}
+use Rattle.mutest_engine.specs.Originals.{all_classes, unless_fault, accepted, IsStopOfProgram}
 use Rattle.mutest_engine.specs.Numbers.{numbers_from}
-use Rattle.mutest_engine.specs.Discovered.{tests_of}
-use Rattle.mutest_engine.specs.Mutation.{suite_files, program, mutants_of, AreFirstMutants, linked, judged, if_found, suite_steps, few_mutants, HasTooMany, verdicts_by, green_verdicts, input_of, if_so, all_steps, tested, tested_steps, Stays}
+use Rattle.mutest_engine.specs.Discovered.{few_tests, few_found, tests_named, tests_of, tests_from}
+use Rattle.mutest_engine.specs.Mutation.{suite_files, program, mutants_of, AreFirstMutants, linked, judged, if_found, suite_steps, few_mutants, HasTooMany, verdicts_by, testable, green_verdicts, input_of, if_so, all_steps, tested, tested_steps, AreOfSuite, Stays}
 use Rattle.mutest_engine.specs.declared.suite.LoadedSuite.{LoadedSuite}
 use Rattle.mutest_engine.specs.declared.refusal.Limit.TheVariants as limit
 use Rattle.mutest_engine.specs.declared.refusal.Refusal.{Refusal}
 use Rattle.mutest_engine.specs.declared.refusal.Refusal.TheVariants.{BadProgram, TooMany}
 use Rattle.mutest_engine.specs.declared.stop.Stop.{Stop}
 use Rattle.mutest_engine.specs.declared.stop.Stop.TheVariants as stop
-use Rattle.mutest_engine.proofs.FitLaws.{all_fit, classes_both}
+use Rattle.mutest_engine.proofs.FitLaws.{all_listed, all_classes_spelled, classes_both}
 use Rattle.mutest_engine.proofs.NumberLaws.{first_mutants}
-use Rattle.mutest_engine.proofs.RefusalLaws.{of_green}
+use Rattle.mutest_engine.proofs.RefusalLaws.{of_testable}
 
 abbrev within : Refusal → Bool → Result (Unit {0}) Refusal
 within r t = if t then Err r else Ok tt
@@ -43,9 +48,9 @@ bounded limit n r false e h = ltb-false limit n e
 pub few_is : (ms : List Mutant) → length ms ≤ 262144 → few_mutants (length ms) ≡ Ok tt
 few_is ms mutants = ap (within (TooMany limit.Mutants 262145)) (le-ltb 262144 (length ms) mutants)
 
-tested_is : (files : ClassFiles) (p : Look) (ts : List Test) (ms : List Mutant) → few_mutants (length ms) ≡ Ok tt → tested files p ts ms ≡ and_then (green p ts) (λ ok. Ok (input_of ts ms (verdicts_by files p ts ms)))
+tested_is : (files : ClassFiles) (p : Look) (ts : List Test) (ms : List Mutant) → few_mutants (length ms) ≡ Ok tt → tested files p ts ms ≡ and_then (testable files p ts ms) (λ ok. Ok (input_of ts ms (verdicts_by files p ts ms)))
 unfolding tested
-tested_is files p ts ms ready = ap (λ x. and_then x (λ ok. and_then (green p ts) (λ ok. Ok (input_of ts ms (verdicts_by files p ts ms))))) ready
+tested_is files p ts ms ready = ap (λ x. and_then x (λ ok. and_then (testable files p ts ms) (λ ok. Ok (input_of ts ms (verdicts_by files p ts ms))))) ready
 
 steps_are : (files : ClassFiles) (p : Look) (ts : List Test) (ms : List Mutant) → few_mutants (length ms) ≡ Ok tt → tested_steps files p ts ms ≡ all_steps files p ts ms
 unfolding tested_steps
@@ -64,7 +69,7 @@ refused_by (Err q) x y r h = (cc, cc)
 
 pub tested_refused : (files : ClassFiles) (p : Look) (ts : List Test) (ms : List Mutant) (r : Refusal) → few_mutants (length ms) ≡ Ok tt → green_verdicts files p ts ms ≡ Err r → tested files p ts ms ≡ Err r
 tested_refused files p ts ms r ready is =
-    tested_is files p ts ms ready ∙ (refused_by (green p ts) (verdicts_by files p ts ms) (input_of ts ms (verdicts_by files p ts ms)) r is).1
+    tested_is files p ts ms ready ∙ (refused_by (testable files p ts ms) (verdicts_by files p ts ms) (input_of ts ms (verdicts_by files p ts ms)) r is).1
 
 no_case : (P : Type 0) → ⊥ → P
 no_case P q = absurd q
@@ -72,14 +77,14 @@ no_case P q = absurd q
 -- Among the runs, a refusal comes not before the first one.
 pub refused_stays : (files : ClassFiles) (p : Look) (ts : List Test) (ms : List Mutant) (r : Refusal) (before after : ℕ) → before ≤ after → green_verdicts files p ts ms ≡ Err r → Stays before after r
 refused_stays files p ts ms r before after le is =
-    (le, λ early. no_case _ ((of_green p ts r (refused_by (green p ts) (verdicts_by files p ts ms) (verdicts_by files p ts ms) r is).0).1 early))
+    (le, λ early. no_case _ ((of_testable files p ts ms r (refused_by (testable files p ts ms) (verdicts_by files p ts ms) (verdicts_by files p ts ms) r is).0).1 early))
 
 passed_by : {X Y : Type 0} (g : Result (Unit {0}) Refusal) (x y : X) (f : X → Y) → and_then g (λ ok. Ok x) ≡ Ok y → and_then g (λ ok. Ok (f x)) ≡ Ok (f y)
 passed_by (Ok ok) x y f h = let e : x ≡ y = cc in (λ i. Ok (f (e i)))
 passed_by (Err q) x y f h = absurd cc
 
 pub tested_ok : (files : ClassFiles) (p : Look) (ts : List Test) (ms : List Mutant) (vs : List Verdict) → few_mutants (length ms) ≡ Ok tt → green_verdicts files p ts ms ≡ Ok vs → tested files p ts ms ≡ Ok (input_of ts ms vs)
-tested_ok files p ts ms vs ready is = tested_is files p ts ms ready ∙ passed_by (green p ts) (verdicts_by files p ts ms) vs (input_of ts ms) is
+tested_ok files p ts ms vs ready is = tested_is files p ts ms ready ∙ passed_by (testable files p ts ms) (verdicts_by files p ts ms) vs (input_of ts ms) is
 
 -- ---- a suite
 
@@ -130,7 +135,7 @@ pub record IsRefused (s : LoadedSuite) (r : Refusal) : Type 0 where
 
 tested_refused_by : (files : ClassFiles) (p : Look) (ts : List Test) (ms : List Mutant) (r : Refusal) → few_mutants (length ms) ≡ Err r → tested files p ts ms ≡ Err r
 unfolding tested
-tested_refused_by files p ts ms r h = ap (λ x. and_then x (λ ok. and_then (green p ts) (λ ok. Ok (input_of ts ms (verdicts_by files p ts ms))))) h
+tested_refused_by files p ts ms r h = ap (λ x. and_then x (λ ok. and_then (testable files p ts ms) (λ ok. Ok (input_of ts ms (verdicts_by files p ts ms))))) h
 
 none_run : (files : ClassFiles) (p : Look) (ts : List Test) (ms : List Mutant) (r : Refusal) → few_mutants (length ms) ≡ Err r → tested_steps files p ts ms ≡ 0
 unfolding tested_steps
@@ -195,9 +200,37 @@ mutants_refused s p all ts count r acc is found numbered len many =
       unrun = by.1 ∙ none_run (suite_files s) (program s) ts (mutants_of s) r own;
     }
 
-pub fit_of : MutantsFit → (s : LoadedSuite) (files : ClassFiles) (p : Look) (ts : List Test) (ms : List Mutant) → IsFormed s → IsLinked s files p ts ms → All (IsMutantOf files) ms
-fit_of fit s files p ts ms formed h =
-    subst (λ (f : ClassFiles). All (IsMutantOf f) ms) (sym h.by_file) (subst (All (IsMutantOf (suite_files s))) (sym h.of_mutants) (all_fit fit s formed h.asked))
+-- The search found these tests, and no fault.
+found_so : {X : Type 0} (g : Result (Unit {0}) Refusal) (x y : X) → and_then g (λ ok. Ok x) ≡ Ok y → x ≡ y
+found_so (Ok ok) x y h = cc
+found_so (Err q) x y h = absurd cc
+
+all_found : (found : Result (List Test) TestFault) (ts : List Test) → few_found found ≡ Ok ts → found ≡ Ok ts
+all_found (Ok all) ts h = ap (λ l. Ok l) (found_so (few_tests (length all)) all ts h)
+all_found (Err fault) ts h = absurd cc
+
+tests_found : (p : List Info) (own count : ℕ) (ts : List Test) → tests_from p own count ≡ Ok ts → Tests (length p) (files_of p) (map (name_at p) (numbers_from own count)) ≡ Ok ts
+unfolding tests_named
+tests_found p own count ts h = all_found (Tests (length p) (files_of p) (map (name_at p) (numbers_from own count))) ts h
+
+-- The program of a suite, with its tests and its mutants.
+pub are_of_suite : MutantsFit → (s : LoadedSuite) (p : List Info) (all : List Loaded) (ts : List Test) (ms : List Mutant) (own count : ℕ) → IsFormed s → AreSpelled all → IsProgram p → IsReady p
+    → look p ≡ program_of (classes_in all) → files_of p ≡ class_file (classes_in all) → names p ≡ names_in (classes_in all) → tests_from p own count ≡ Ok ts → IsLinked s (files_of p) (look p) ts ms → AreOfSuite p ts ms
+are_of_suite fit s p all ts ms own count formed spelled program ready looks files named found linked = record {
+  classes = classes_in all;
+  program = record {
+    spelled = all_classes_spelled all spelled;
+    program = program;
+    ready = ready;
+    look = looks;
+    files = files;
+    names = named;
+  };
+  most = length p;
+  names = map (name_at p) (numbers_from own count);
+  found = tests_found p own count ts found;
+  mutants = subst (All (IsListed p)) (sym linked.of_mutants) (all_listed fit s p formed linked.asked linked.by_file);
+}
 
 all_tested : (s : LoadedSuite) (files : ClassFiles) (p : Look) (ts : List Test) (ms : List Mutant) → IsLinked s files p ts ms → tested files p ts ms ≡ tested (suite_files s) (program s) ts (mutants_of s)
 all_tested s files p ts ms h =

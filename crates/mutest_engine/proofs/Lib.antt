@@ -1,10 +1,12 @@
 mod AsmLaws
+mod CellLaws
 mod CountLaws
 mod Ends
 mod FaultLaws
 mod FitLaws
 mod JudgeLaws
 mod MadeLaws
+mod NeededLaws
 mod NumberLaws
 mod OriginalLaws
 mod RefusalLaws

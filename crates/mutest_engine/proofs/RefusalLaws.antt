@@ -17,7 +17,7 @@ use Rattle.suite_program.specs.Programs.{classes_in, class_file, names_in}
 use Rattle.suite_program.specs.declared.fault.ProgramFault.{ProgramFault}
 use Rattle.mutest_engine.specs.Originals.{test_text, all_classes, unless_fault, accepted, settled, run_ending, run_settled, all_settled, all_passed, green}
 use Rattle.mutest_engine.specs.Discovered.{or_bad_test, few_of, few_tests, few_found, tests_named, tests_of}
-use Rattle.mutest_engine.specs.Mutation.{few_mutants, tested, judged, linked, suite_files, program, mutants_of}
+use Rattle.mutest_engine.specs.Mutation.{few_mutants, verdicts_by, cells_in, few_cells, testable, tested, judged, linked, suite_files, program, mutants_of}
 use Rattle.class_model.specs.declared.class.Class.{Class}
 use Rattle.class_link.specs.Info.{own_name}
 use Rattle.test_discovery.specs.declared.fault.Rule.{Rule}
@@ -65,8 +65,18 @@ of_passed : (tests : List (List ℕ × Outcome)) (r : Refusal) → all_passed te
 of_passed [] r h = absurd cc
 of_passed (t ∷ ts) r h = let e : NotGreen (t ∷ ts) ≡ r = cc in subst IsOfRuns e (tt, λ before. before)
 
-pub of_green : (p : Look) (ts : List Test) (r : Refusal) → green p ts ≡ Err r → IsOfRuns r
+of_green : (p : Look) (ts : List Test) (r : Refusal) → green p ts ≡ Err r → IsOfRuns r
 of_green p ts r h = and_err (all_settled p ts) all_passed r IsOfRuns (of_all p ts r) (λ tests. of_passed tests r) h
+
+too_many_cells : {X : Type 0} (b : Bool) (x : X) (r : Refusal) → (if b then Err (TooMany limit.Cells 4194305) else Ok x) ≡ Err r → IsOfRuns r
+too_many_cells true x r h = let e : TooMany limit.Cells 4194305 ≡ r = cc in subst IsOfRuns e (refl, λ before. before)
+too_many_cells false x r h = absurd cc
+
+of_cells : (count : ℕ) (r : Refusal) → few_cells count ≡ Err r → IsOfRuns r
+of_cells count r h = too_many_cells (nat_lt 4194304 count) tt r h
+
+pub of_testable : (files : ClassFiles) (p : Look) (ts : List Test) (ms : List Mutant) (r : Refusal) → testable files p ts ms ≡ Err r → IsOfRuns r
+of_testable files p ts ms r h = and_err (green p ts) _ r IsOfRuns (of_green p ts r) (λ ok. of_cells (cells_in (verdicts_by files p ts ms)) r) h
 
 -- ---- before them
 
@@ -119,7 +129,7 @@ of_tested : (files : ClassFiles) (p : Look) (ts : List Test) (ms : List Mutant) 
 unfolding tested
 of_tested files p ts ms r h =
     and_err (few_mutants (length ms)) _ r IsOfSuite (over (nat_lt 262144 (length ms)) limit.Mutants 262145 tt r refl)
-    (λ ok rest. and_err (green p ts) _ r IsOfSuite (λ is. (of_green p ts r is).0) (λ ok none. no_ok _ r (IsOfSuite r) none) rest) h
+    (λ ok rest. and_err (testable files p ts ms) _ r IsOfSuite (λ is. (of_testable files p ts ms r is).0) (λ ok none. no_ok _ r (IsOfSuite r) none) rest) h
 
 of_fault_found : (o : Option ProgramFault) (r : Refusal) → unless_fault o ≡ Err r → IsOfSuite r
 of_fault_found None r h = absurd cc

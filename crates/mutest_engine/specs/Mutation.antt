@@ -1,10 +1,17 @@
 -- The mutants of a suite, every test on every mutant, and what is written of them (this project's own).
-use Rattle.std.specs.Prelude.{◌≡◌, ℕ, ◌+◌, ◌≤◌, nat_lt, List, [], map, length, sum_by, Result, Ok, Err, if◌then◌else◌}
+use Rattle.std.specs.Prelude.{◌≡◌, ℕ, ◌+◌, ◌≤◌, nat_lt, List, [], map, length, sum_by, Bool, All, Some, Result, Ok, Err, if◌then◌else◌}
+use Rattle.std.specs.Io.Iter.{u64_saturate}
+use Rattle.class_model.specs.declared.class.Class.{Class}
 use Rattle.class_model.specs.declared.class.ClassId.{ClassId}
+use Rattle.program_rules.specs.Names.{Name}
 use Rattle.program_rules.specs.Programs.{Look}
 use Rattle.class_link.specs.Info.{Info}
-use Rattle.class_table.specs.Table.{look}
+use Rattle.class_table.specs.Table.{look, number_of}
 use Rattle.class_table.specs.declared.scripted.Test.{Test}
+use Rattle.line_coverage.specs.Coverage.{Covered}
+use Rattle.test_discovery.specs.Discovery.{Tests}
+use Rattle.test_select.specs.Cells.{cells}
+use Rattle.test_select.specs.declared.mutant.MutantPlace.{MutantPlace}
 use Rattle.mutator_ops.specs.Programs.{mutants_among, mutants}
 use Rattle.mutator_ops.specs.declared.mutant.Mutant.{Mutant}
 use Rattle.mutator_ops.specs.declared.mutant.Verdict.{Verdict}
@@ -12,13 +19,16 @@ use Rattle.mutant_runs.specs.Programs.{ClassFiles, files_of}
 use Rattle.mutant_runs.specs.Runs.{Timed, timed}
 use Rattle.mutant_runs.specs.Verdicts.{verdict_of}
 use Rattle.mutant_runs.specs.Needed.{needed_of_all}
+use Rattle.mutant_runs.specs.Promises.{AreViable, AreVerdicts, steps_for_all}
+use Rattle.needed_laws.specs.Suites.{IsOfSuite}
+use Rattle.needed_laws.specs.Tested.{IsListed, ArePlaces}
 use Rattle.report_schema.specs.FileKey.{file_key}
 use Rattle.report_schema.specs.declared.input.ReportInput.{ReportInput}
 use Rattle.mutest_engine.specs.Refusals.{IsBeforeRuns}
 use Rattle.mutest_engine.specs.Steps.{and_then, Counts}
 use Rattle.mutest_engine.specs.Numbers.{numbers_from, numbers_of}
 use Rattle.suite_program.specs.Programs.{classes_in, class_file, program_of}
-use Rattle.mutest_engine.specs.Originals.{all_classes, accepted, usual, green, original_steps, steps_made}
+use Rattle.mutest_engine.specs.Originals.{all_classes, accepted, usual, green, original_steps, steps_made, AreMeasured}
 use Rattle.mutest_engine.specs.Discovered.{tests_of}
 use Rattle.mutest_engine.specs.declared.suite.LoadedSuite.{LoadedSuite}
 use Rattle.mutest_engine.specs.declared.refusal.Refusal.{Refusal}
@@ -149,11 +159,68 @@ verdicts_in p ts ms = green_verdicts (files_of p) (look p) ts ms
 abbrev pub steps_on_all : List Info → List Test → List Mutant → ℕ
 steps_on_all p ts ms = all_steps (files_of p) (look p) ts ms
 
+-- Where all tests pass: the verdicts, unless there are too many cells, and the steps of the runs
+-- that mutants need.
+abbrev pub cells_few_in : List Info → List Test → List Mutant → Result (Unit {0}) Refusal
+cells_few_in p ts ms = few_cells (cells_in (verdicts_by (files_of p) (look p) ts ms))
+
+abbrev pub covered_in : List Info → List Test → List Mutant → Result (List Verdict) Refusal
+covered_in p ts ms =
+    and_then (cells_few_in p ts ms) (λ ok. Ok (verdicts_by (files_of p) (look p) ts ms))
+
+abbrev pub needed_in : List Info → List Test → List Mutant → ℕ
+needed_in p ts ms = needed_of_all usual (files_of p) (look p) (timed_tests (look p) ts) ms
+
+abbrev pub covered_steps_in : List Info → List Test → List Mutant → ℕ
+covered_steps_in p ts ms = if_so (cells_few_in p ts ms) (needed_in p ts ms)
+
 abbrev pub tested_in : List Info → List Test → List Mutant → Result ReportInput Refusal
 tested_in p ts ms = tested (files_of p) (look p) ts ms
 
 abbrev pub tested_steps_in : List Info → List Test → List Mutant → ℕ
 tested_steps_in p ts ms = tested_steps (files_of p) (look p) ts ms
+
+-- ---- what the tests that cover a mutant say of it
+
+-- A program that was built of class files and accepted, the tests that were found of it, and
+-- mutants of its class files.
+pub record AreOfSuite (p : List Info) (ts : List Test) (ms : List Mutant) : Type 0 where
+  pub classes : List Class
+  pub program : IsOfSuite classes p
+  pub most : ℕ
+  pub names : List Name
+  pub found : Tests most (files_of p) names ≡ Ok ts
+  pub mutants : All (IsListed p) ms
+
+-- The verdicts by the tests that cover each mutant are those by all tests; the steps of their runs
+-- are those of the runs that mutants need; and the cells are as many as are defined.
+pub record AreCovered (p : List Info) (ts : List Test) (ms : List Mutant) (cover : Covered) :
+    Type 0 where
+  pub verdicts :
+      AreVerdicts usual p ts (original_steps (look p) ts) cover ms
+      (verdicts_by (files_of p) (look p) ts ms)
+  pub steps :
+      steps_for_all usual p ts (original_steps (look p) ts) cover ms ≡ needed_in p ts ms
+  pub cells :
+      (places : List MutantPlace) (bs : List Bool) → ArePlaces p ms places → AreViable p ms bs →
+      length (cells places bs cover) ≡ cells_in (verdicts_by (files_of p) (look p) ts ms)
+
+-- So it is where all tests pass that were found, by their coverage.
+abbrev pub SuitesAreCovered : Type 0
+SuitesAreCovered =
+    (p : List Info) (ts : List Test) (ms : List Mutant) (cover : Covered) →
+    AreOfSuite p ts ms → green (look p) ts ≡ Ok tt → AreMeasured p ts cover →
+    AreCovered p ts ms cover
+
+-- The place of a mutant is its class by number, and its line.
+abbrev pub IsPlace : List Info → Mutant → MutantPlace → Type 0
+IsPlace p m place = (number_of p m.class ≡ Some place.class.0) × (place.line ≡ m.line)
+
+-- So many cells there are by the mutants' places, or 2^64 - 1 where they are more.
+abbrev pub IsCellCount : List Info → List Mutant → List Bool → Covered → ℕ → Type 0
+IsCellCount p ms bs cover n =
+    (places : List MutantPlace) × ArePlaces p ms places
+    × (n ≡ u64_saturate (length (cells places bs cover)))
 
 -- ---- what runs count
 

@@ -6,10 +6,16 @@ use Rattle.machine_rules.specs.declared.machine.Outcome.{Outcome}
 use Rattle.machine_rules.specs.declared.machine.Outcome.TheVariants as outcome
 use Rattle.machine_rules.specs.Runs.{Ending, With, StuckAt, Ran, run_of}
 use Rattle.program_rules.specs.Programs.{Look}
+use Rattle.class_link.specs.Info.{Info}
 use Rattle.class_link.specs.declared.loaded.Loaded.{Loaded}
+use Rattle.class_table.specs.Table.{look}
 use Rattle.class_table.specs.declared.scripted.Test.{Test}
-use Rattle.jvm_world.specs.View.{test_of}
+use Rattle.jvm_world.specs.View.{named, test_of}
+use Rattle.jvm_machine.specs.Result.{pairs_of}
+use Rattle.jvm_machine.specs.declared.result.RunResult.{RunResult}
+use Rattle.line_coverage.specs.Coverage.{Covered}
 use Rattle.mutator_ops.specs.Printing.{printed}
+use Rattle.needed_laws.specs.Tested.{IsMeasured}
 use Rattle.suite_program.specs.Faults.{first_fault}
 use Rattle.suite_program.specs.declared.fault.ProgramEnd.{ProgramEnd}
 use Rattle.suite_program.specs.declared.fault.ProgramEnd.TheVariants as end
@@ -109,3 +115,18 @@ unless_stuck (StuckAt place) steps = 0
 abbrev pub steps_made : Look → List Test → ℕ
 steps_made p [] = 0
 steps_made p (t ∷ ts) = run_steps p t + unless_stuck (run_ending p t) (steps_made p ts)
+
+-- ---- what these runs reach
+
+-- The lines that a run of the machine reached are those of the test's run on the program as it is.
+abbrev pub IsRunOf : List Info → Test → RunResult → Type 0
+IsRunOf p t r = map (named p) (pairs_of r) ≡ (original_run (look p) t).reached
+
+-- The coverage is that of these tests' runs on the program as it is.
+unfoldable pub AreMeasured : List Info → List Test → Covered → Type 0
+AreMeasured p ts cover = IsMeasured p usual 10000000 ts cover
+
+-- The run of one test more is counted in the coverage.
+abbrev pub MeasuresRun : List Info → Test → Covered → Covered → Type 0
+MeasuresRun p t old new =
+    (ts : List Test) → AreMeasured p ts old → AreMeasured p (ts ++ t ∷ []) new

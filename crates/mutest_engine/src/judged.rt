@@ -1,13 +1,17 @@
 //! What the tests of a suite say of its mutants.
 
 ghost use Rattle.std.specs.Prelude.{◌≡◌, ◌+◌, ◌<◌, ◌≤◌, ◌^◌, ◌++◌, length, map, All, IfOk, IfErr};
-ghost use Rattle.mutant_runs.specs.Programs.{files_of, IsMutantOf};
+ghost use Rattle.class_table.specs.Table.{look};
 ghost use Rattle.mutant_runs.specs.Ready.{IsReady};
+ghost use Rattle.needed_laws.specs.Tested.{IsListed};
 ghost use Rattle.report_schema.specs.FileKey.{file_key};
 ghost use Rattle.mutest_engine.specs.Steps.{Gives, Refuses, Counts};
 ghost use Rattle.mutest_engine.specs.SuiteFiles.{IsFormed};
 ghost use Rattle.mutest_engine.specs.Mutation.{verdicts_in, steps_on_all, input_of, tested_in, tested_steps_in, judged, suite_steps, Stays, Meters, MetersRuns};
+ghost use Rattle.mutest_engine.specs.Mutation.{covered_in, covered_steps_in, AreOfSuite, AreCovered, SuitesAreCovered};
+ghost use Rattle.mutest_engine.specs.Originals.{original_steps};
 
+use crate::cells::{cell_count, few_cells};
 use crate::discovered::tests_from;
 use crate::mutants::first_mutants;
 use crate::originals::{USUAL, green};
@@ -15,16 +19,68 @@ use crate::stop::Stop;
 use crate::suite::LoadedSuite;
 use class_model::{Memory, Name, Seq};
 use class_table::{Loaded, Program, Test};
+use line_coverage::Coverage;
 use mt_edge::{Meter, MeterPart};
 use mutant_apply::mutants_fit;
-use mutant_runs::verdicts;
+use mutant_runs::{verdicts, viable};
 use mutator_ops::{Mutant, Verdict};
+use needed_laws::{covering_tests_are_needed, found_tests_fit, suites_are_safe};
 use report_schema::{ReportInput, file_key};
 use std::alloc::Global;
 use suite_program::program_of;
 
-// The verdicts on the mutants, where all tests pass on the program as it is. The steps of all runs are
-// counted in the part.
+// What the tests that cover a mutant say of it is what all say, of a suite whose tests all pass.
+fn suites_are_covered()
+    ensures { SuitesAreCovered }
+{
+    suites_are_safe();
+    found_tests_fit();
+    covering_tests_are_needed();
+}
+
+// The verdicts on the mutants by the tests that cover them, unless there are too many cells. The
+// steps of the runs are counted in the part.
+fn covered_runs(
+    alloc: Global,
+    program: &mut Program,
+    tests: &[Test],
+    steps: &[u64],
+    cover: &Coverage,
+    mutants: &[Mutant],
+    part: &mut MeterPart,
+) -> Result<Seq<Verdict>, Stop>
+    requires ready { IsReady program.old }
+    requires few_tests { length tests.now ≤ 65535 }
+    requires few_mutants { length mutants.now ≤ 262144 }
+    requires listed { All (IsListed program.old) mutants.now }
+    requires steps { steps.now ≡ original_steps (look program.old) tests.now }
+    requires counted { cover.now.tests ≡ length tests.now }
+    requires covered { AreCovered program.old tests.now mutants.now cover.now }
+    requires room { part.old < 2 ^ 62 }
+    ensures value { Gives (covered_in program.old tests.now mutants.now) result }
+    ensures most { part.new ≤ part.old + covered_steps_in program.old tests.now mutants.now }
+    ensures exact { Counts part.new
+        (part.old + covered_steps_in program.old tests.now mutants.now) result }
+{
+    let viable = viable(alloc, program, mutants)?;
+    let count = cell_count(alloc, program, mutants, viable.as_slice(), cover)?;
+    few_cells(count)?;
+    let verdicts = verdicts(
+        alloc,
+        program,
+        tests,
+        steps,
+        cover,
+        mutants,
+        viable.as_slice(),
+        USUAL,
+        part,
+    )?;
+    Ok(verdicts)
+}
+
+// The verdicts on the mutants, where all tests pass on the program as it is and cells are few
+// enough. The steps of the runs that are needed are counted in the part.
 fn all_runs(
     alloc: Global,
     program: &mut Program,
@@ -32,23 +88,23 @@ fn all_runs(
     mutants: &[Mutant],
     part: &mut MeterPart,
 ) -> Result<Seq<Verdict>, Stop>
-    requires ready { IsReady program.old }
+    requires suite { AreOfSuite program.old tests.now mutants.now }
     requires few_tests { length tests.now ≤ 65535 }
     requires few_mutants { length mutants.now ≤ 262144 }
-    requires fit { All (IsMutantOf (files_of program.old)) mutants.now }
     requires start { part.old ≡ 0 }
     ensures value { Gives (verdicts_in program.old tests.now mutants.now) result }
     ensures most { part.new ≤ steps_on_all program.old tests.now mutants.now }
     ensures exact { Counts part.new (steps_on_all program.old tests.now mutants.now) result }
 {
-    let steps = green(alloc, program, tests, part)?;
-    let verdicts = verdicts(
+    let runs = green(alloc, program, tests, part)?;
+    suites_are_covered();
+    let verdicts = covered_runs(
         alloc,
         program,
         tests,
-        steps.as_slice(),
+        runs.steps.as_slice(),
+        &runs.cover,
         mutants,
-        USUAL,
         part,
     )?;
     Ok(verdicts)
@@ -62,10 +118,9 @@ fn metered_runs(
     mutants: &[Mutant],
     meter: &mut Meter,
 ) -> Result<Seq<Verdict>, Stop>
-    requires ready { IsReady program.old }
+    requires suite { AreOfSuite program.old tests.now mutants.now }
     requires few_tests { length tests.now ≤ 65535 }
     requires few_mutants { length mutants.now ≤ 262144 }
-    requires fit { All (IsMutantOf (files_of program.old)) mutants.now }
     requires room { meter.old < 2 ^ 63 }
     ensures value { Gives (verdicts_in program.old tests.now mutants.now) result }
     ensures meter { MetersRuns meter.old meter.new program.old tests.now mutants.now result }
@@ -107,8 +162,8 @@ fn input_of(
     })
 }
 
-// What is reported of the tests and the mutants of a program. The meter rises by the steps of all
-// runs.
+// What is reported of the tests and the mutants of a program. The meter rises by the steps of the
+// runs that are needed.
 #[tactic(auto, unfolding(crate::specs::Mutation::tested, crate::specs::Mutation::tested_steps))]
 fn test_mutants(
     alloc: Global,
@@ -117,10 +172,9 @@ fn test_mutants(
     mutants: Seq<Mutant>,
     meter: &mut Meter,
 ) -> Result<ReportInput, Stop>
-    requires ready { IsReady program.old }
+    requires suite { AreOfSuite program.old tests mutants }
     requires few_tests { length tests ≤ 65535 }
     requires few_mutants { length mutants ≤ 262144 }
-    requires fit { All (IsMutantOf (files_of program.old)) mutants }
     requires room { meter.old < 2 ^ 63 }
     ensures value { Gives (tested_in program.old tests mutants) result }
     ensures meter { Meters meter.old meter.new (tested_steps_in program.old tests mutants) result }
@@ -141,7 +195,7 @@ fn all_classes(classes: Seq<Loaded>, tests: Seq<Loaded>) -> Result<Seq<Loaded>, 
 }
 
 /// What is reported of a suite whose tests all pass on the program as it is. The meter rises by the
-/// steps of all runs.
+/// steps of the runs that are needed.
 pub fn judge(alloc: Global, suite: LoadedSuite, meter: &mut Meter) -> Result<ReportInput, Stop>
     requires room { meter.old < 2 ^ 63 }
     requires form { IsFormed suite }
@@ -153,6 +207,8 @@ pub fn judge(alloc: Global, suite: LoadedSuite, meter: &mut Meter) -> Result<Rep
     let of_tests = suite.tests.len();
     let classes = all_classes(suite.classes, suite.tests)?;
     let mut program = program_of(alloc, classes)?;
+    // What every program is, for the prover alone.
+    let _all = program.len();
     let tests = tests_from(alloc, &program, own, of_tests)?;
     let mutants = first_mutants(alloc, &program, own)?;
     mutants_fit();

@@ -4,6 +4,7 @@
 
 mod answer;
 mod assembling;
+mod cells;
 mod discovered;
 mod files;
 mod judged;

@@ -4,6 +4,7 @@ ghost use Rattle.std.specs.Prelude.{◌≡◌, ◌+◌, ◌<◌, ◌≤◌, ◌^
 ghost use Rattle.class_table.specs.Table.{look};
 ghost use Rattle.mutest_engine.specs.Steps.{Gives, GivesBy, Counts};
 ghost use Rattle.mutest_engine.specs.Originals.{test_text, settled, run_ending, run_steps, run_settled, with_first, all_settled, all_passed, green_steps, original_steps, steps_made};
+ghost use Rattle.mutest_engine.specs.Originals.{AreMeasured, IsRunOf, MeasuresRun};
 ghost use Rattle.jvm_machine.specs.Ending.{ending_of};
 ghost use Rattle.jvm_machine.specs.Programs.{IsRunnable};
 ghost use Rattle.jvm_machine.specs.Tables.{AreTablesOf};
@@ -14,7 +15,8 @@ use crate::refusal::Refusal;
 use crate::stop::Stop;
 use class_model::{Bytes, Memory, Seq};
 use class_table::{Program, Test};
-use jvm_machine::{Outcome, Tables, execute};
+use jvm_machine::{Outcome, RunResult, Tables, execute};
+use line_coverage::Coverage;
 use machine_rules::{Limits, Outcome as Ended};
 use mt_edge::MeterPart;
 use mutant_runs::ready_may_run;
@@ -27,6 +29,15 @@ pub const USUAL: Limits = Limits {
 };
 
 const STEPS: u64 = 10_000_000;
+
+/// What the runs of all tests on the program as it is gave.
+#[derive(Drop)]
+pub struct OriginalRuns {
+    /// The steps of each.
+    pub steps: Seq<u64>,
+    /// Which of them reach a line.
+    pub cover: Coverage,
+}
 
 // CLASS.METHOD
 fn test_text(alloc: Global, test: &Test) -> Result<Bytes, Memory>
@@ -61,49 +72,70 @@ fn settled(alloc: Global, test: &Test, outcome: Outcome) -> Result<Option<(Bytes
     Ok(Some((test_text(alloc, test)?, ended)))
 }
 
-// How the run of a test on the program as it is comes to its end, and after how many steps. They are
-// counted in the part. The program's tables are lent to one run after the other.
-fn end_of(
+// The run of a test on the program as it is. Its steps are counted in the part. The program's
+// tables are lent to one run after the other.
+fn run_of(
     alloc: Global,
     program: &Program,
     tables: &mut Tables,
     test: &Test,
     part: &mut MeterPart,
-) -> Result<(Outcome, u64), Memory>
+) -> Result<RunResult, Memory>
     requires runnable { IsRunnable (look program.now) }
     requires tables { AreTablesOf program.now tables.old }
     requires room { part.old + 10000000 < 2 ^ 64 }
-    ensures ending { IfOk result (λ end. ending_of end.0 ≡ run_ending (look program.now) test.now) }
-    ensures count { IfOk result (λ end. end.1 ≡ run_steps (look program.now) test.now) }
+    ensures ending { IfOk result (λ r.
+        ending_of r.outcome ≡ run_ending (look program.now) test.now) }
+    ensures count { IfOk result (λ r. r.steps ≡ run_steps (look program.now) test.now) }
+    ensures run { IfOk result (IsRunOf program.now test.now) }
     ensures steps { OnOk result (part.new ≡ part.old + run_steps (look program.now) test.now) }
     ensures most { part.new ≤ part.old + run_steps (look program.now) test.now }
     ensures tables { AreTablesOf program.now tables.new }
 {
     let run = execute(alloc, program, tables, test, USUAL, STEPS, part)?;
-    Ok((run.outcome, run.steps))
+    Ok(run)
+}
+
+// Adds the run of the next test to the coverage.
+fn add_run(
+    cover: &mut Coverage,
+    program: &Program,
+    test: &Test,
+    run: &RunResult,
+) -> Result<(), Memory>
+    requires run { IsRunOf program.now test.now run.now }
+    requires room { cover.old.tests + 1 < 2 ^ 64 }
+    ensures { OnOk result (MeasuresRun program.now test.now cover.old cover.new) }
+{
+    cover.add_run(run.reached.as_slice())?;
+    Ok(())
 }
 
 // The run of a test on the program as it is: nothing where it passed, or how it ended; and its
-// steps.
+// steps. It is added to the coverage.
 fn original(
     alloc: Global,
     program: &Program,
     tables: &mut Tables,
     test: &Test,
+    cover: &mut Coverage,
     part: &mut MeterPart,
 ) -> Result<(Option<(Bytes, Ended)>, u64), Stop>
     requires runnable { IsRunnable (look program.now) }
     requires tables { AreTablesOf program.now tables.old }
     requires room { part.old + 10000000 < 2 ^ 64 }
+    requires counted { cover.old.tests + 1 < 2 ^ 64 }
     ensures value { GivesBy (λ run. run.0) (run_settled (look program.now) test.now) result }
     ensures count { IfOk result (λ run. run.1 ≡ run_steps (look program.now) test.now) }
     ensures most { part.new ≤ part.old + run_steps (look program.now) test.now }
     ensures exact { Counts part.new (part.old + run_steps (look program.now) test.now) result }
+    ensures cover { OnOk result (MeasuresRun program.now test.now cover.old cover.new) }
     ensures tables { AreTablesOf program.now tables.new }
 {
-    let (outcome, steps) = end_of(alloc, program, tables, test, part)?;
-    let ended = settled(alloc, test, outcome)?;
-    Ok((ended, steps))
+    let run = run_of(alloc, program, tables, test, part)?;
+    add_run(cover, program, test, &run)?;
+    let ended = settled(alloc, test, run.outcome)?;
+    Ok((ended, run.steps))
 }
 
 // Notes how a run ended, unless its test passed.
@@ -116,20 +148,24 @@ fn note(failed: &mut Seq<(Bytes, Ended)>, ended: Option<(Bytes, Ended)>) -> Resu
     Ok(())
 }
 
-// The tests that didn't pass, and the steps of each run. They are counted in the part.
+// The tests that didn't pass, and the steps of each run. They are counted in the part, and each run
+// is added to the coverage.
 fn all_settled(
     alloc: Global,
     program: &Program,
     tables: &mut Tables,
     tests: &[Test],
+    cover: &mut Coverage,
     part: &mut MeterPart,
 ) -> Result<(Seq<(Bytes, Ended)>, Seq<u64>), Stop>
     requires runnable { IsRunnable (look program.now) }
     requires tables { AreTablesOf program.now tables.old }
     requires few { length tests.now ≤ 65535 }
     requires start { part.old ≡ 0 }
+    requires none { AreMeasured program.now [] cover.old }
     ensures value { GivesBy (λ runs. runs.0) (all_settled (look program.now) tests.now) result }
     ensures counts { IfOk result (λ runs. runs.1 ≡ original_steps (look program.now) tests.now) }
+    ensures cover { OnOk result (AreMeasured program.now tests.now cover.new) }
     ensures most { part.new ≤ steps_made (look program.now) tests.now }
     ensures exact { Counts part.new (steps_made (look program.now) tests.now) result }
     ensures tables { AreTablesOf program.now tables.new }
@@ -137,7 +173,7 @@ fn all_settled(
     let mut failed = Seq::new(alloc);
     let mut counts = Seq::new(alloc);
     for test in tests {
-        let run = original(alloc, program, tables, test, part)?;
+        let run = original(alloc, program, tables, test, cover, part)?;
         note(&mut failed, run.0)?;
         counts.push(run.1)?;
     }
@@ -158,13 +194,16 @@ fn settled_runs(
     alloc: Global,
     program: &Program,
     tests: &[Test],
+    cover: &mut Coverage,
     part: &mut MeterPart,
 ) -> Result<(Seq<(Bytes, Ended)>, Seq<u64>), Stop>
     requires ready { IsReady program.now }
     requires few { length tests.now ≤ 65535 }
     requires start { part.old ≡ 0 }
+    requires none { AreMeasured program.now [] cover.old }
     ensures value { GivesBy (λ runs. runs.0) (all_settled (look program.now) tests.now) result }
     ensures counts { IfOk result (λ runs. runs.1 ≡ original_steps (look program.now) tests.now) }
+    ensures cover { OnOk result (AreMeasured program.now tests.now cover.new) }
     ensures most { part.new ≤ steps_made (look program.now) tests.now }
     ensures exact { Counts part.new (steps_made (look program.now) tests.now) result }
 {
@@ -174,24 +213,27 @@ fn settled_runs(
     let Some(mut tables) = Tables::find(alloc, program)? else {
         unreachable!()
     };
-    all_settled(alloc, program, &mut tables, tests, part)
+    all_settled(alloc, program, &mut tables, tests, cover, part)
 }
 
-/// All tests pass on the program as it is: the steps of each run. They are counted in the part.
+/// All tests pass on the program as it is: the steps of each run, and which of them reach a line.
+/// The steps are counted in the part.
 pub fn green(
     alloc: Global,
     program: &Program,
     tests: &[Test],
     part: &mut MeterPart,
-) -> Result<Seq<u64>, Stop>
+) -> Result<OriginalRuns, Stop>
     requires ready { IsReady program.now }
     requires few { length tests.now ≤ 65535 }
     requires start { part.old ≡ 0 }
-    ensures value { Gives (green_steps (look program.now) tests.now) result }
+    ensures value { GivesBy (λ runs. runs.steps) (green_steps (look program.now) tests.now) result }
+    ensures cover { IfOk result (λ runs. AreMeasured program.now tests.now runs.cover) }
     ensures most { part.new ≤ steps_made (look program.now) tests.now }
     ensures exact { Counts part.new (steps_made (look program.now) tests.now) result }
 {
-    let (failed, counts) = settled_runs(alloc, program, tests, part)?;
+    let mut cover = Coverage::new(alloc);
+    let (failed, steps) = settled_runs(alloc, program, tests, &mut cover, part)?;
     all_passed(failed)?;
-    Ok(counts)
+    Ok(OriginalRuns { steps, cover })
 }

@@ -26,6 +26,8 @@ pub enum Limit {
     Bytes,
     Tests,
     Mutants,
+    /// Viable mutants with the tests that cover them.
+    Cells,
 }
 
 impl Limit {
@@ -38,6 +40,7 @@ impl Limit {
             Limit::Bytes => "bytes",
             Limit::Tests => "tests",
             Limit::Mutants => "mutants",
+            Limit::Cells => "cells",
         }
     }
 }

@@ -1,4 +1,4 @@
-use Rattle.std.proofs.Common.{◌≡◌, ◌∙◌, sym, ap, List, slice_set, subst}
+use Rattle.std.proofs.Common.{◌∙◌, sym, ap, List, slice_set, subst}
 use Rattle.std.specs.Arc.{arc_value}
 use Rattle.class_link.specs.Info.{Info}
 use Rattle.mutant_runs.specs.Edited.{IsReadyBut}

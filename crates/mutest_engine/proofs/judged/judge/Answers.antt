@@ -9,7 +9,7 @@ use Rattle.mutest_engine.specs.Mutation.{Meters}
 use Rattle.mutest_engine.specs.Steps.{Gives}
 use Rattle.mutest_engine.specs.declared.refusal.Refusal.{Refusal}
 use Rattle.mutest_engine.proofs.FitLaws.{all_spelled}
-use Rattle.mutest_engine.proofs.JudgeLaws.{is_accepted, program_refused, is_linked, mutants_are, enough, fit_of, judged_is, suite_steps_are, tests_refused, mutants_refused, counts_none}
+use Rattle.mutest_engine.proofs.JudgeLaws.{is_accepted, program_refused, is_linked, mutants_are, enough, are_of_suite, judged_is, suite_steps_are, tests_refused, mutants_refused, counts_none}
 use Rattle.mutest_engine.proofs.TestLaws.{of_suite, all_enough, tests_few}
 use Rattle.mutest_engine.proofs.judged.judge.Goals as goal
 
@@ -59,12 +59,12 @@ returns-in_err-mutants-clause-meter c =
 pub test_mutants-requires-clause-few_tests : goal.test_mutants-requires-clause-few_tests
 test_mutants-requires-clause-few_tests c = tests_few c.args.suite c.in_ok-tests.tests (sym (of_suite c.args.suite c.in_ok-program.program c.in_ok-classes.classes c.len-own.result c.len-of_tests.result c.in_ok-program.ensures.names c.in_ok-program.ensures.files c.in_ok-classes.ensures c.len-own.ensures c.len-of_tests.ensures) ∙ c.in_ok-tests.ensures)
 
-pub test_mutants-requires-clause-fit : goal.test_mutants-requires-clause-fit
-test_mutants-requires-clause-fit c =
+pub test_mutants-requires-clause-suite : goal.test_mutants-requires-clause-suite
+test_mutants-requires-clause-suite c =
     let tests : tests_of c.args.suite ≡ Ok c.in_ok-tests.tests = sym (of_suite c.args.suite c.in_ok-program.program c.in_ok-classes.classes c.len-own.result c.len-of_tests.result c.in_ok-program.ensures.names c.in_ok-program.ensures.files c.in_ok-classes.ensures c.len-own.ensures c.len-of_tests.ensures) ∙ c.in_ok-tests.ensures in
     let mutants = mutants_are c.args.suite c.in_ok-program.program c.in_ok-classes.classes c.len-own.result c.in_ok-mutants.mutants c.in_ok-program.ensures.numbered c.in_ok-classes.ensures c.len-own.ensures c.in_ok-mutants.ensures.found in
     let found = is_linked c.args.suite (files_of c.in_ok-program.program) (look c.in_ok-program.program) c.in_ok-classes.classes c.in_ok-tests.tests c.in_ok-mutants.mutants (is_accepted c.in_ok-classes.classes c.in_ok-program.ensures.accepted) c.in_ok-program.ensures.files c.in_ok-program.ensures.program c.in_ok-classes.ensures tests mutants in
-    fit_of c.mutants_fit.ensures c.args.suite (files_of c.in_ok-program.program) (look c.in_ok-program.program) c.in_ok-tests.tests c.in_ok-mutants.mutants c.requires.form found
+    are_of_suite c.mutants_fit.ensures c.args.suite c.in_ok-program.program c.in_ok-classes.classes c.in_ok-tests.tests c.in_ok-mutants.mutants c.len-own.result c.len-of_tests.result c.requires.form (all_spelled c.args.suite c.in_ok-classes.classes c.requires.form c.in_ok-classes.ensures) c.len-all.ensures.form c.in_ok-program.ensures.ready c.in_ok-program.ensures.program c.in_ok-program.ensures.files c.in_ok-program.ensures.names c.in_ok-tests.ensures found
 
 pub returns-clause-value : goal.returns-clause-value
 returns-clause-value c =

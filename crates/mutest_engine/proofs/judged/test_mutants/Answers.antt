@@ -4,10 +4,15 @@ use Rattle.class_table.specs.Table.{look}
 use Rattle.class_table.specs.declared.scripted.Test.{Test}
 use Rattle.mutator_ops.specs.declared.mutant.Mutant.{Mutant}
 use Rattle.mutant_runs.specs.Programs.{files_of}
-use Rattle.mutest_engine.specs.Mutation.{green_verdicts}
+use Rattle.mutest_engine.specs.Mutation.{green_verdicts, AreOfSuite}
 use Rattle.mutest_engine.proofs.JudgeLaws.{all_inputs, few_is, counted_steps, tested_refused, refused_stays, tested_ok}
 use Rattle.mutest_engine.proofs.StepLaws.{all_verdicts}
 use Rattle.mutest_engine.proofs.judged.test_mutants.Goals as goal
+
+pub metered_runs-requires-clause-suite : goal.metered_runs-requires-clause-suite
+metered_runs-requires-clause-suite c =
+    subst (λ (ts : List Test). AreOfSuite c.args.program.now ts c.as_slice-2.result.now) (sym c.as_slice.ensures)
+    (subst (λ (ms : List Mutant). AreOfSuite c.args.program.now c.args.tests ms) (sym c.as_slice-2.ensures) c.requires.suite)
 
 pub returns-in_err-verdicts-clause-value : goal.returns-in_err-verdicts-clause-value
 returns-in_err-verdicts-clause-value c =

@@ -1,7 +1,7 @@
 use Rattle.std.proofs.Common.{ap, ◌∙◌, ◌+◌}
 use Rattle.mutest_engine.specs.Originals.{original_run}
 use Rattle.mutest_engine.proofs.OriginalLaws.{at_most}
-use Rattle.mutest_engine.proofs.originals.end_of.Goals as goal
+use Rattle.mutest_engine.proofs.originals.run_of.Goals as goal
 
 pub returns-in_err-run-clause-most : goal.returns-in_err-run-clause-most
 unfolding original_run
@@ -22,3 +22,7 @@ returns-clause-steps c = c.in_ok-run.ensures.steps ∙ ap (λ n. c.args.part.now
 pub returns-clause-count : goal.returns-clause-count
 unfolding original_run
 returns-clause-count c = c.in_ok-run.ensures.run.steps
+
+pub returns-clause-run : goal.returns-clause-run
+unfolding original_run
+returns-clause-run c = c.in_ok-run.ensures.run.reached
