@@ -1,11 +1,11 @@
 //! The table under threads.
 
-ghost use Rattle.std.specs.Prelude.{◌≡◌, ◌⊎◌, ◌↔◌, ◌<◌, ◌≤◌, ◌+◌, ◌^◌, ◌++◌, ◌∷◌, ℕ, [], All, Contains, IfOk, IfErr, IfSome, IfNone, IsNone, IsSomeAnd, IsTrue, length};
-ghost use Rattle.claim_core.specs.declared.events.Entry.TheVariants.{Claimed, Looked, Detected};
-ghost use Rattle.claim_core.specs.Agreement.{ClaimsAgree};
-ghost use Rattle.claim_core.specs.Claims.{is_exhausted, no_place};
-ghost use Rattle.mutant_table.specs.Entries.{ListAgrees, RanOut};
-ghost use Rattle.mutant_table.specs.Seats.{AreSeats, IsSeatOf, cells_of, claims_at, entries_of, mutants_of, worker_of, workers_of};
+ghost use Rattle.std.specs.Prelude.{◌≡◌, ◌↔◌, ◌<◌, ◌+◌, ◌^◌, [], All, IfOk, IfErr, IfSome, IfNone, IsNone, length};
+ghost use Rattle.claim_core.specs.declared.events.Entry.TheVariants.{Looked, Detected};
+ghost use Rattle.claim_core.specs.Claims.{no_place};
+ghost use Rattle.mutant_table.specs.Drawing.{Draws, DrawsNoCell, HasRunOut, IsAtMostDetected, Notes, SeesPlace, StaysOrAgrees};
+ghost use Rattle.mutant_table.specs.Entries.{ListAgrees};
+ghost use Rattle.mutant_table.specs.Seats.{AgreesAtEnd, AreSeats, HasSizes, IsSeatOf, cells_of, entries_of, mutants_of, worker_of};
 
 use class_model::Memory;
 use mutant_table::{ClaimEnd, ClaimSeat, ClaimTable};
@@ -21,7 +21,7 @@ pub fn new_table(
     requires some { 0 < workers }
     requires few { mutants < 2 ^ 32 }
     requires room { cells + workers < 2 ^ 64 }
-    ensures sizes { IfOk result (λ made. (mutants_of made.0 ≡ mutants) × (cells_of made.0 ≡ cells) × (workers_of made.0 ≡ workers)) }
+    ensures sizes { IfOk result (λ made. HasSizes mutants cells workers made.0) }
     ensures seats { IfOk result (λ made. AreSeats made.0 made.1.items) }
     ensures idle { IfOk result (λ made. All (λ seat. entries_of seat ≡ []) made.1.items) }
 {
@@ -33,10 +33,10 @@ pub fn claim(table: &ClaimTable, seat: &mut ClaimSeat) -> Option<u64>
     requires { IsSeatOf table.now seat.old }
     ensures seat { IsSeatOf table.now seat.new }
     ensures worker { worker_of seat.new ≡ worker_of seat.old }
-    ensures none { IsNone result ↔ IsTrue (is_exhausted (cells_of table.now) (entries_of seat.new)) }
-    ensures cell { IfSome result (λ n. (n < cells_of table.now) × (entries_of seat.new ≡ entries_of seat.old ++ Claimed n ∷ [])) }
-    ensures ran_out { IfNone result (RanOut (cells_of table.now) (entries_of seat.old) (entries_of seat.new)) }
-    ensures list { (entries_of seat.new ≡ entries_of seat.old) ⊎ ListAgrees (cells_of table.now) (entries_of seat.new) }
+    ensures none { IsNone result ↔ HasRunOut table.now seat.new }
+    ensures cell { IfSome result (Draws table.now seat.old seat.new) }
+    ensures ran_out { IfNone result (DrawsNoCell table.now seat.old seat.new) }
+    ensures list { StaysOrAgrees table.now seat.old seat.new }
 {
     table.claim(seat)
 }
@@ -47,10 +47,10 @@ pub fn look(table: &ClaimTable, seat: &mut ClaimSeat, mutant: u64) -> Option<u64
     requires mutant { mutant < mutants_of table.now }
     ensures seat { IsSeatOf table.now seat.new }
     ensures worker { worker_of seat.new ≡ worker_of seat.old }
-    ensures place { IfSome result (λ place. (place < no_place) × (entries_of seat.new ≡ entries_of seat.old ++ Looked mutant place ∷ [])) }
-    ensures none { IfNone result (entries_of seat.new ≡ entries_of seat.old ++ Looked mutant no_place ∷ []) }
+    ensures place { IfSome result (SeesPlace mutant seat.old seat.new) }
+    ensures none { IfNone result (Notes (Looked mutant no_place) seat.old seat.new) }
     ensures list { ListAgrees (cells_of table.now) (entries_of seat.new) }
-    ensures fresh { (p : ℕ) → Contains (entries_of seat.old) (Detected mutant p) → IsSomeAnd result (λ place. place ≤ p) }
+    ensures fresh { IsAtMostDetected seat.old mutant result }
 {
     table.look(seat, mutant)
 }
@@ -62,7 +62,7 @@ pub fn detect(table: &ClaimTable, seat: &mut ClaimSeat, mutant: u64, place: u64)
     requires place { place < no_place }
     ensures seat { IsSeatOf table.now seat.new }
     ensures worker { worker_of seat.new ≡ worker_of seat.old }
-    ensures detected { entries_of seat.new ≡ entries_of seat.old ++ Detected mutant place ∷ [] }
+    ensures detected { Notes (Detected mutant place) seat.old seat.new }
     ensures list { ListAgrees (cells_of table.now) (entries_of seat.new) }
 {
     table.detect(seat, mutant, place);
@@ -74,7 +74,7 @@ pub fn close(
     seats: Vec<ClaimSeat>,
 ) -> Result<ClaimEnd, (ClaimTable, Vec<ClaimSeat>)>
     requires { AreSeats table seats.items }
-    ensures agree { IfOk result (λ end. ClaimsAgree (claims_at (cells_of table) end seats.items)) }
+    ensures agree { IfOk result (AgreesAtEnd table seats.items) }
     ensures mutants { IfOk result (λ end. length end.least ≡ mutants_of table) }
     ensures back { IfErr result (λ all. (all.0 ≡ table) × (all.1 ≡ seats)) }
 {

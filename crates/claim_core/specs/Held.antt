@@ -1,5 +1,5 @@
 -- A held state of claims, as the claims that it stands for.
-use Rattle.std.specs.Prelude.{◌≡◌, ◌+◌, ◌<◌, ◌^◌, List, Bool, map, length}
+use Rattle.std.specs.Prelude.{◌≡◌, ℕ, ◌+◌, ◌<◌, ◌^◌, List, Bool, true, map, length, slice_set}
 use Rattle.claim_core.specs.declared.events.Entry.{Entry}
 use Rattle.claim_core.specs.declared.state.Worker.{Worker}
 use Rattle.claim_core.specs.declared.state.ClaimState.TheInside.{Inside}
@@ -15,11 +15,23 @@ drained_of w = w.drained
 abbrev pub lists_of : List Worker → List (List Entry)
 lists_of workers = map entries_of workers
 
-abbrev pub claims_of : Inside → Claims
-claims_of s = record { cells = s.cells; next = s.next; least = s.least.items; lists = lists_of s.workers.items }
+-- the workers before and after: this one is marked as one that drew a number at or past the cells,
+-- and the marks of the others stay
+abbrev pub Drains : List Worker → ℕ → List Worker → Type 0
+Drains before worker after = map drained_of after ≡ slice_set (map drained_of before) worker true
 
--- the claims agree, each worker knows whether it drew a number at or past the cells, and the numbers never wrap
+abbrev pub claims_of : Inside → Claims
+claims_of s = record {
+  cells = s.cells;
+  next = s.next;
+  least = s.least.items;
+  lists = lists_of s.workers.items;
+}
+
+-- the claims agree, each worker knows whether it drew a number at or past the cells, and the
+-- numbers never wrap
 pub record IsKept (s : Inside) : Type 0 where
   pub agree : ClaimsAgree (claims_of s)
-  pub drained : map drained_of s.workers.items ≡ map (is_exhausted s.cells) (lists_of s.workers.items)
+  pub drained : map drained_of s.workers.items
+      ≡ map (is_exhausted s.cells) (lists_of s.workers.items)
   pub room : s.cells + length s.workers.items < 2 ^ 64

@@ -1,8 +1,8 @@
-ghost use Rattle.std.specs.Prelude.{◌≡◌, ◌<◌, ◌+◌, ◌^◌, [], ◌↔◌, OnOk, OnErr, IfOk, IfSome, IsNone, length, map, List, replicate, false, true, slice_set};
-ghost use Rattle.claim_core.specs.Claims.{started, after, reply_of, IsInRange, noted, place_in as place_of, least_of};
+ghost use Rattle.std.specs.Prelude.{◌≡◌, ◌<◌, ◌+◌, ◌^◌, [], ◌↔◌, OnOk, OnErr, IfOk, IfSome, IsNone, length, map, replicate, false};
+ghost use Rattle.claim_core.specs.Claims.{started, after, reply_of, AnswersClaim, AnswersLook, IsInRange, noted, place_in as place_of, least_of};
 ghost use Rattle.claim_core.specs.Agreement.{ClaimsAgree, IsUndetected, IsLeastDetected};
-ghost use Rattle.claim_core.specs.Ending.{Cell as TableCell, IsWholeRun, IsLeastOf};
-ghost use Rattle.claim_core.specs.Held.{drained_of, lists_of};
+ghost use Rattle.claim_core.specs.Ending.{IsLeastOnceDone};
+ghost use Rattle.claim_core.specs.Held.{Drains, drained_of, lists_of};
 
 use crate::events::{Entry, Event, Reply};
 use class_model::Memory;
@@ -95,7 +95,7 @@ impl ClaimState {
     fn claim(&mut self, worker: u64) -> Result<Option<u64>, Memory>
         requires { IsInRange self.old (Event.Claim worker) }
         ensures state { OnOk result (self.new ≡ after (Event.Claim worker) self.old) }
-        ensures reply { IfOk result (λ cell. Reply.Cell cell ≡ reply_of (Event.Claim worker) self.old) }
+        ensures reply { IfOk result (AnswersClaim self.old worker) }
         ensures err { OnErr result (self.new ≡ self.old) }
     {
         if self.workers[worker as usize].drained {
@@ -114,7 +114,7 @@ impl ClaimState {
     fn look(&mut self, worker: u64, mutant: u64) -> Result<Option<u64>, Memory>
         requires { IsInRange self.old (Event.Look worker mutant) }
         ensures state { OnOk result (self.new ≡ after (Event.Look worker mutant) self.old) }
-        ensures reply { IfOk result (λ place. Reply.Place place ≡ reply_of (Event.Look worker mutant) self.old) }
+        ensures reply { IfOk result (AnswersLook self.old worker mutant) }
         ensures err { OnErr result (self.new ≡ self.old) }
     {
         let least = self.least[mutant as usize];
@@ -142,7 +142,7 @@ impl ClaimState {
         ensures some { IfSome result (IsLeastDetected self.now mutant) }
 
         // Once all cells of a table are done, it is the least of the mutant's detecting cells.
-        ensures end { (table detecting : List TableCell) → IsWholeRun self.now table detecting → IsLeastOf detecting mutant result }
+        ensures end { IsLeastOnceDone self.now mutant result }
     {
         place_in(self.least[mutant as usize])
     }
@@ -184,7 +184,7 @@ fn note(workers: &mut [Worker], worker: u64, entry: Entry) -> Result<(), Memory>
 fn drain(workers: &mut [Worker], worker: u64)
     requires { worker < length workers.old }
     ensures lists { lists_of workers.new ≡ lists_of workers.old }
-    ensures drained { map drained_of workers.new ≡ slice_set (map drained_of workers.old) worker true }
+    ensures drained { Drains workers.old worker workers.new }
 {
     workers[worker as usize].drained = true;
 }

@@ -14,4 +14,6 @@ pub record ListAgrees (cells : ℕ) (entries : List Entry) : Type 0 where
 
 -- the list had run out before and stayed, or runs out by one more draw
 abbrev pub RanOut : ℕ → List Entry → List Entry → Type 0
-RanOut cells before after = ((is_exhausted cells before ≡ true) × (after ≡ before)) ⊎ ((n : ℕ) × (cells ≤ n) × (after ≡ before ++ Claimed n ∷ []))
+RanOut cells before after =
+    ((is_exhausted cells before ≡ true) × (after ≡ before))
+    ⊎ ((n : ℕ) × (cells ≤ n) × (after ≡ before ++ Claimed n ∷ []))

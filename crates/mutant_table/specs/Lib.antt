@@ -1,3 +1,4 @@
+pub mod Drawing
 pub mod Entries
 pub mod Rule
 pub mod Seats

@@ -1,7 +1,10 @@
 -- The seats of a table, in the order of their numbers. This project's own.
-use Rattle.std.specs.Prelude.{◌≡◌, ℕ, ◌<◌, List, [], length, slice_index_or, true, map, drop}
+use Rattle.std.specs.Prelude.{◌≡◌, ℕ, ◌<◌, List, [], length, slice_index_or, true, map, drop, Vec}
+use Rattle.std.specs.declared.alloc.Global.{Global}
+use Rattle.atomic_table.specs.declared.shared.Seat.{Seat}
 use Rattle.atomic_table.specs.Seated.{TableId}
 use Rattle.claim_core.specs.declared.events.Entry.{Entry}
+use Rattle.claim_core.specs.Agreement.{ClaimsAgree}
 use Rattle.claim_core.specs.Claims.{Claims}
 use Rattle.mutant_table.specs.declared.rule.View.{View}
 use Rattle.mutant_table.specs.declared.rule.Sizes.{Sizes}
@@ -43,14 +46,37 @@ IsSeatOf t s = IsSeatAt t.table.shared.table_id t.table.shared.key s
 -- all seats of the table, in the order of their numbers
 pub record AreSeatsAt (table : TableId) (z : Sizes) (seats : List ClaimSeat) : Type 0 where
   pub count : length seats ≡ z.workers
-  pub each : (k : ℕ) (d : ClaimSeat) → k < length seats → IsSeatAt table z (slice_index_or seats k d) × (worker_of (slice_index_or seats k d) ≡ k)
+  pub each : (k : ℕ) (d : ClaimSeat) → k < length seats →
+      IsSeatAt table z (slice_index_or seats k d) × (worker_of (slice_index_or seats k d) ≡ k)
 
 abbrev pub AreSeats : ClaimTable → List ClaimSeat → Type 0
 AreSeats t seats = AreSeatsAt t.table.shared.table_id t.table.shared.key seats
 
+-- the same of seats that are handed out
+abbrev pub AreMadeSeats : TableId → Sizes → Vec ClaimSeat Global → Type 0
+AreMadeSeats table z made = AreSeatsAt table z made.items
+
+-- a seat as the table is made with: it is of worker 0, and no other seat is made yet
+abbrev pub IsFirstSeat : TableId → Sizes → Seat ℕ View → Type 0
+IsFirstSeat table z s = (s.table_id ≡ table) × (s.me ≡ (first_view z, []))
+
+-- the table is for so many mutants, cells and workers
+abbrev pub HasSizes : ℕ → ℕ → ℕ → ClaimTable → Type 0
+HasSizes mutants cells workers t =
+    (mutants_of t ≡ mutants) × (cells_of t ≡ cells) × (workers_of t ≡ workers)
+
 -- the claims at the end, with the lists of the seats
 abbrev pub claims_at : ℕ → ClaimEnd → List ClaimSeat → Claims
-claims_at cells end seats = record { cells = cells; next = end.next; least = end.least; lists = map entries_of seats }
+claims_at cells end seats = record {
+  cells = cells;
+  next = end.next;
+  least = end.least;
+  lists = map entries_of seats;
+}
+
+-- the claims at the end of a table, with the lists of its seats, agree
+abbrev pub AgreesAtEnd : ClaimTable → List ClaimSeat → ClaimEnd → Type 0
+AgreesAtEnd t seats end = ClaimsAgree (claims_at (cells_of t) end seats)
 
 abbrev pub ended_as : ClaimSeat → ℕ × List Entry
 ended_as s = (worker_of s, entries_of s)

@@ -1,7 +1,8 @@
-ghost use Rattle.std.specs.Prelude.{◌≡◌, ◌⊎◌, ◌↔◌, ◌<◌, ◌≤◌, ℕ, ◌++◌, ◌∷◌, [], Contains, IfSome, IfNone, IsNone, IsSomeAnd, IsTrue};
-ghost use Rattle.claim_core.specs.declared.events.Entry.TheVariants.{Claimed, Looked, Detected};
-ghost use Rattle.claim_core.specs.Claims.{is_exhausted, no_place};
-ghost use Rattle.mutant_table.specs.Entries.{ListAgrees, RanOut};
+ghost use Rattle.std.specs.Prelude.{◌≡◌, ◌↔◌, ◌<◌, IfSome, IfNone, IsNone};
+ghost use Rattle.claim_core.specs.declared.events.Entry.TheVariants.{Looked, Detected};
+ghost use Rattle.claim_core.specs.Claims.{no_place};
+ghost use Rattle.mutant_table.specs.Entries.{ListAgrees};
+ghost use Rattle.mutant_table.specs.Drawing.{Draws, DrawsNoCell, HasRunOut, IsAtMostDetected, Notes, SeesPlace, StaysOrAgrees};
 ghost use Rattle.mutant_table.specs.Seats.{IsSeatOf, cells_of, entries_of, mutants_of, worker_of};
 
 use crate::rule::{Claiming, Detecting, Looking};
@@ -15,12 +16,12 @@ impl ClaimTable {
         requires { IsSeatOf self.now seat.old }
         ensures seat { IsSeatOf self.now seat.new }
         ensures worker { worker_of seat.new ≡ worker_of seat.old }
-        ensures none { IsNone result ↔ IsTrue (is_exhausted (cells_of self.now) (entries_of seat.new)) }
+        ensures none { IsNone result ↔ HasRunOut self.now seat.new }
 
         // The list grew by the drawn number, or stayed where no number was drawn.
-        ensures cell { IfSome result (λ n. (n < cells_of self.now) × (entries_of seat.new ≡ entries_of seat.old ++ Claimed n ∷ [])) }
-        ensures ran_out { IfNone result (RanOut (cells_of self.now) (entries_of seat.old) (entries_of seat.new)) }
-        ensures list { (entries_of seat.new ≡ entries_of seat.old) ⊎ ListAgrees (cells_of self.now) (entries_of seat.new) }
+        ensures cell { IfSome result (Draws self.now seat.old seat.new) }
+        ensures ran_out { IfNone result (DrawsNoCell self.now seat.old seat.new) }
+        ensures list { StaysOrAgrees self.now seat.old seat.new }
     {
         if seat.drained {
             return None;
@@ -42,12 +43,12 @@ impl ClaimTable {
         requires mutant { mutant < mutants_of self.now }
         ensures seat { IsSeatOf self.now seat.new }
         ensures worker { worker_of seat.new ≡ worker_of seat.old }
-        ensures place { IfSome result (λ place. (place < no_place) × (entries_of seat.new ≡ entries_of seat.old ++ Looked mutant place ∷ [])) }
-        ensures none { IfNone result (entries_of seat.new ≡ entries_of seat.old ++ Looked mutant no_place ∷ []) }
+        ensures place { IfSome result (SeesPlace mutant seat.old seat.new) }
+        ensures none { IfNone result (Notes (Looked mutant no_place) seat.old seat.new) }
         ensures list { ListAgrees (cells_of self.now) (entries_of seat.new) }
 
         // It is at most every place at which this worker detected the mutant before.
-        ensures fresh { (p : ℕ) → Contains (entries_of seat.old) (Detected mutant p) → IsSomeAnd result (λ place. place ≤ p) }
+        ensures fresh { IsAtMostDetected seat.old mutant result }
     {
         let place = self
             .table
@@ -63,7 +64,7 @@ impl ClaimTable {
         requires place { place < no_place }
         ensures seat { IsSeatOf self.now seat.new }
         ensures worker { worker_of seat.new ≡ worker_of seat.old }
-        ensures detected { entries_of seat.new ≡ entries_of seat.old ++ Detected mutant place ∷ [] }
+        ensures detected { Notes (Detected mutant place) seat.old seat.new }
         ensures list { ListAgrees (cells_of self.now) (entries_of seat.new) }
     {
         self.table

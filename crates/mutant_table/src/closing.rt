@@ -1,6 +1,5 @@
 ghost use Rattle.std.specs.Prelude.{◌≡◌, ◌<◌, IfOk, IfErr, length};
-ghost use Rattle.claim_core.specs.Agreement.{ClaimsAgree};
-ghost use Rattle.mutant_table.specs.Seats.{AreSeats, AreSeatsAt, IsGathered, cells_of, claims_at, mutants_of};
+ghost use Rattle.mutant_table.specs.Seats.{AgreesAtEnd, AreSeats, AreSeatsAt, IsGathered, mutants_of};
 
 use crate::rule::{Seating, View};
 use crate::seat::ClaimSeat;
@@ -13,7 +12,7 @@ impl ClaimTable {
     /// all comes back.
     pub fn close(self, seats: Vec<ClaimSeat>) -> Result<ClaimEnd, (ClaimTable, Vec<ClaimSeat>)>
         requires { AreSeats self seats.items }
-        ensures agree { IfOk result (λ end. ClaimsAgree (claims_at (cells_of self) end seats.items)) }
+        ensures agree { IfOk result (AgreesAtEnd self seats.items) }
         ensures mutants { IfOk result (λ end. length end.least ≡ mutants_of self) }
         ensures back { IfErr result (λ all. (all.0 ≡ self) × (all.1 ≡ seats)) }
     {

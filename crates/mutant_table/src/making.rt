@@ -1,7 +1,6 @@
 ghost use Rattle.std.specs.Prelude.{◌≡◌, ◌<◌, ◌^◌, ◌+◌, ◌∷◌, [], All, IfOk, replicate};
 ghost use Rattle.claim_core.specs.Claims.{no_place};
-ghost use Rattle.mutant_table.specs.Rule.{first_view};
-ghost use Rattle.mutant_table.specs.Seats.{AreSeats, AreSeatsAt, cells_of, entries_of, mutants_of, workers_of};
+ghost use Rattle.mutant_table.specs.Seats.{AreMadeSeats, AreSeats, HasSizes, IsFirstSeat, entries_of};
 
 use crate::rule::{Seating, Sizes, View};
 use crate::seat::ClaimSeat;
@@ -21,7 +20,7 @@ impl ClaimTable {
         requires some { 0 < workers }
         requires few { mutants < 2 ^ 32 }
         requires room { cells + workers < 2 ^ 64 }
-        ensures sizes { IfOk result (λ made. (mutants_of made.0 ≡ mutants) × (cells_of made.0 ≡ cells) × (workers_of made.0 ≡ workers)) }
+        ensures sizes { IfOk result (λ made. HasSizes mutants cells workers made.0) }
         ensures seats { IfOk result (λ made. AreSeats made.0 made.1.items) }
         ensures idle { IfOk result (λ made. All (λ seat. entries_of seat ≡ []) made.1.items) }
     {
@@ -62,10 +61,10 @@ fn seated(
     workers: u64,
 ) -> Result<Vec<ClaimSeat>, Memory>
     requires none { seats.items ≡ [] }
-    requires first { (first.table_id ≡ table.now.shared.table_id) × (first.me ≡ (first_view table.now.shared.key, [])) }
+    requires first { IsFirstSeat table.now.shared.table_id table.now.shared.key first }
     requires workers { (table.now.shared.key.workers ≡ workers) × (0 < workers) }
     requires words { 0 < table.now.shared.table_id.words }
-    ensures seats { IfOk result (λ made. AreSeatsAt table.now.shared.table_id table.now.shared.key made.items) }
+    ensures seats { IfOk result (AreMadeSeats table.now.shared.table_id table.now.shared.key) }
     ensures idle { IfOk result (λ made. All (λ seat. entries_of seat ≡ []) made.items) }
 {
     for _ in 1..workers {

@@ -1,5 +1,7 @@
--- What the words behind a command's name give: plain words, and options with their values (this project's own).
-use Rattle.std.specs.Prelude.{ℕ, List, [], ◌∷◌, Bool, true, false, ◌&&◌, ◌||◌, not, nat_eq, ◌==◌, if◌then◌else◌, length, slice_index, map, is_some, Option, None, Some}
+-- What the words behind a command's name give: plain words, and options with their values (this
+-- project's own).
+use Rattle.std.specs.Prelude.{ℕ, Bool, true, false, ◌&&◌, ◌||◌, not, nat_eq, ◌==◌, if◌then◌else◌}
+use Rattle.std.specs.Prelude.{List, [], ◌∷◌, length, slice_index, map, is_some, Option, None, Some}
 use Rattle.std.specs.Borrow.{Bor}
 use Rattle.std.specs.Cmp.Lexicographic.{pointwise}
 use Rattle.mutest_words.specs.declared.options.Given.{Given as FoundGiven}
@@ -26,7 +28,8 @@ abbrev pub front_of : List (List ℕ) → List ℕ
 front_of [] = []
 front_of (word ∷ words) = word
 
--- The words that are options, each with the word behind it, which is its value. Behind the last word stands an empty one.
+-- The words that are options, each with the word behind it, which is its value. Behind the last
+-- word stands an empty one.
 abbrev pub options_of : List (List ℕ) → List Pair
 options_of [] = []
 options_of (word ∷ []) = if is_value word then [] else (word, []) ∷ []

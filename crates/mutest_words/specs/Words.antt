@@ -1,5 +1,6 @@
 -- Which command the words behind the program's name are (this project's own).
-use Rattle.std.specs.Prelude.{◌≡◌, ℕ, List, [], ◌∷◌, Bool, ◌||◌, nat_eq, if◌then◌else◌, codes, Option, None, Some, MatchOption, option_map, option_and_then}
+use Rattle.std.specs.Prelude.{◌≡◌, ℕ, List, [], ◌∷◌, Bool, ◌||◌, nat_eq, if◌then◌else◌, codes}
+use Rattle.std.specs.Prelude.{Option, None, Some, MatchOption, option_map, option_and_then}
 use Rattle.std.specs.List.{ends_with}
 use Rattle.std.specs.Io.BufRead.{strip_last}
 use Rattle.mutest_words.specs.Options.{Pair, Given, given_of, value_of, are_options, is_word}
@@ -101,7 +102,8 @@ ends_in word end = ends_with nat_eq word end
 
 abbrev pub is_archive : List ℕ → Bool
 is_archive folder =
-    ends_in folder (codes ".jar") || (ends_in folder (codes ".zip") || ends_in folder (codes ".war"))
+    ends_in folder (codes ".jar")
+    || (ends_in folder (codes ".zip") || ends_in folder (codes ".war"))
 
 -- ---- the command that the code has
 
