@@ -1,4 +1,5 @@
--- The small parts of rows: what is so of the monitors before a part is so behind it.
+-- The small parts of rows: what is so of the monitors and of the lines
+-- that were reached before a part is so behind it.
 use Rattle.std.proofs.Common.{ℕ, ◌+◌, ◌++◌, Bool, true, false, List, [], ◌∷◌, length, Option, Some, None}
 use Rattle.std.specs.Prelude.{ℤ, nat_lt, nat_le, if◌then◌else◌}
 use Rattle.program_rules.specs.declared.value.Value.{Value}
@@ -20,17 +21,21 @@ use Rattle.machine_rules.specs.Lookups.{consult, resolves, Known, known_of, on_k
 abbrev pub Monitors : Type 0
 Monitors = List (ℕ × ℕ)
 
--- A fact of the monitors of the state that goes on, if one does.
-abbrev pub Retains : (Monitors → Type 0) → Effect → Type 0
-Retains P (Goes t) = P t.world.monitors
+-- The lines that were reached.
+abbrev pub Lines : Type 0
+Lines = List (Name × ℕ)
+
+-- A fact of the monitors and the lines of the state that goes on, if one does.
+abbrev pub Retains : (Monitors → Lines → Type 0) → Effect → Type 0
+Retains P (Goes t) = P t.world.monitors t.world.reached
 Retains P NoRow = Unit {0}
 
 -- The same of a world with something that was made in it, if there was room.
-abbrev pub RetainsMade : {A : Type 0} → (Monitors → Type 0) → Option (World × A) → Type 0
+abbrev pub RetainsMade : {A : Type 0} → (Monitors → Lines → Type 0) → Option (World × A) → Type 0
 RetainsMade P None = Unit {0}
-RetainsMade P (Some a) = P a.0.monitors
+RetainsMade P (Some a) = P a.0.monitors a.0.reached
 
-module _ (P : Monitors → Type 0) where
+module _ (P : Monitors → Lines → Type 0) where
   -- ---- what a row takes
 
   pub retains_some :
@@ -120,25 +125,27 @@ module _ (P : Monitors → Type 0) where
   -- ---- how a state goes on
 
   pub retains_lays :
-      (w : World) (f : Frame) (fs : List Frame) (room : ℕ) (stack : List Value) → P w.monitors →
+      (w : World) (f : Frame) (fs : List Frame) (room : ℕ) (stack : List Value) →
+      P w.monitors w.reached →
       Retains P (lays w f fs room stack)
   retains_lays w f fs room stack h = retains_test (nat_le (height_of stack) room) _ h
 
   pub retains_pushes :
       (w : World) (f : Frame) (fs : List Frame) (room : ℕ) (v : Value) (stack : List Value) →
-      P w.monitors → Retains P (pushes w f fs room v stack)
+      P w.monitors w.reached → Retains P (pushes w f fs room v stack)
   retains_pushes w f fs room v stack h = retains_lays w f fs room (v ∷ stack) h
 
   -- where the heap was passed the world is as it was
   pub retains_full :
       {A : Type 0} (w : World) (fs : List Frame) (o : Option (World × A))
-      (go : World × A → Effect) → P w.monitors → RetainsMade P o →
-      ((a : World × A) → P a.0.monitors → Retains P (go a)) → Retains P (unless_full w fs o go)
+      (go : World × A → Effect) → P w.monitors w.reached → RetainsMade P o →
+      ((a : World × A) → P a.0.monitors a.0.reached → Retains P (go a)) →
+      Retains P (unless_full w fs o go)
   retains_full w fs None go h m k = h
   retains_full w fs (Some a) go h m k = k a m
 
   allocated_case :
-      (b : Bool) (w : World) (o : Object) (words : ℕ) → P w.monitors →
+      (b : Bool) (w : World) (o : Object) (words : ℕ) → P w.monitors w.reached →
       RetainsMade P (if b
       then Some (record w { heap = w.heap ++ o ∷ []; used = w.used + words }, length w.heap + 1)
       else None)
@@ -146,12 +153,12 @@ module _ (P : Monitors → Type 0) where
   allocated_case false w o words h = tt
 
   pub allocated_made :
-      (q : Limits) (w : World) (o : Object) (words : ℕ) → P w.monitors →
+      (q : Limits) (w : World) (o : Object) (words : ℕ) → P w.monitors w.reached →
       RetainsMade P (allocate q w o words)
   allocated_made q w o words h = allocated_case (nat_le (w.used + words) q.heap) w o words h
 
   pub retains_throws :
-      (q : Limits) (w : World) (fs : List Frame) (fault : Fault) → P w.monitors →
+      (q : Limits) (w : World) (fs : List Frame) (fault : Fault) → P w.monitors w.reached →
       Retains P (throws q w fs fault)
   retains_throws q w fs fault h =
       retains_full w fs (allocate q w (fault_object fault) 3) _ h
@@ -159,19 +166,19 @@ module _ (P : Monitors → Type 0) where
 
   pub retains_found :
       {A : Type 0} (q : Limits) (w : World) (fs : List Frame) (a : Answer A) (go : A → Effect) →
-      P w.monitors → ((x : A) → Retains P (go x)) → Retains P (on_found q w fs a go)
+      P w.monitors w.reached → ((x : A) → Retains P (go x)) → Retains P (on_found q w fs a go)
   retains_found q w fs (Found x) go h k = k x
   retains_found q w fs (Fails fault) go h k = retains_throws q w fs fault h
 
   pub retains_null :
       (q : Limits) (w : World) (fs : List Frame) (o : Option ℕ) (go : ℕ → Effect) →
-      P w.monitors → ((x : ℕ) → Retains P (go x)) → Retains P (unless_null q w fs o go)
+      P w.monitors w.reached → ((x : ℕ) → Retains P (go x)) → Retains P (unless_null q w fs o go)
   retains_null q w fs None go h k = retains_throws q w fs NullPointerException h
   retains_null q w fs (Some x) go h k = k x
 
   pub retains_enters :
       (q : Limits) (w : World) (fs : List Frame) (n : Name) (k max_locals : ℕ)
-      (args : List Value) → P w.monitors → Retains P (enters q w fs n k max_locals args)
+      (args : List Value) → P w.monitors w.reached → Retains P (enters q w fs n k max_locals args)
   retains_enters q w fs n k max_locals args h =
       retains_test (nat_le (length (locals_of args)) max_locals) _
       (retains_if (nat_lt (length fs) q.depth) _ _ h (retains_throws q w fs StackOverflowError h))
@@ -180,8 +187,8 @@ module _ (P : Monitors → Type 0) where
 
   pub retains_resolves :
       (p : Look) (q : Limits) (w : World) (fs : List Frame) (n : Name)
-      (go : World → Family → Effect) → P w.monitors →
-      ((u : World) (c : Family) → P u.monitors → Retains P (go u c)) →
+      (go : World → Family → Effect) → P w.monitors w.reached →
+      ((u : World) (c : Family) → P u.monitors u.reached → Retains P (go u c)) →
       Retains P (resolves p q w fs n go)
   retains_resolves p q w fs n go h k =
       let u = consult p (class_behind n) w in

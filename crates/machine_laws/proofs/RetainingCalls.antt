@@ -1,4 +1,5 @@
--- Calls, returns, what is thrown, and the script leave monitors as they were.
+-- Calls, returns, what is thrown, and the script leave monitors and lines as
+-- they were.
 use Rattle.std.proofs.Common.{ℕ, List, [], ◌∷◌, Option, Some, None, codes, take}
 use Rattle.std.specs.Prelude.{◌||◌, is_none}
 use Rattle.program_rules.specs.declared.value.Value.{Value}
@@ -28,22 +29,24 @@ use Rattle.machine_rules.specs.Performing.{NativeResult, Returns, Raises, Return
 use Rattle.machine_rules.specs.Calls.{goes_on, ends_native, calls, calls_method, static_method_at, invokes, invokes_static, on_receiver, virtual_at, invokes_virtual, interface_at, invokes_interface, calls_above, special_from, special_at, invokes_special, room_of, is_awaited, returns, returns_int, returns_long, is_reference_kind, returns_reference, returns_plain}
 use Rattle.machine_rules.specs.Throwing.{rows_of, matches, find_handler, expects, pops, breaks, is_initializer_method, pops_frame, lands, unwinds}
 use Rattle.machine_rules.specs.Script.{needs_static, begins_call, makes_once_ready, calls_instance, calls_kind, calls_next}
-use Rattle.machine_laws.proofs.Retaining.{Monitors, Retains, allocated_made, retains_some, retains_if, retains_test, retains_top, retains_int, retains_long, retains_reference, retains_reversed, retains_pushes, retains_full, retains_throws, retains_found, retains_null, retains_enters, retains_resolves, retains_known}
+use Rattle.machine_laws.proofs.Retaining.{Monitors, Lines, Retains, allocated_made, retains_some, retains_if, retains_test, retains_top, retains_int, retains_long, retains_reference, retains_reversed, retains_pushes, retains_full, retains_throws, retains_found, retains_null, retains_enters, retains_resolves, retains_known}
 use Rattle.machine_laws.proofs.RetainingWorlds.{RetainsResult, deeds_retain, retains_handler, retains_ready}
 use Rattle.machine_laws.proofs.RetainingRows.{retains_copies}
 
-module _ (P : Monitors → Type 0) (p : Look) (q : Limits) where
+module _ (P : Monitors → Lines → Type 0) (p : Look) (q : Limits) where
   -- ---- a method that was found is called
 
   on_case :
-      (w : World) (f : Frame) (fs : List Frame) (room : ℕ) (v : Option Value) → P w.monitors →
+      (w : World) (f : Frame) (fs : List Frame) (room : ℕ) (v : Option Value) →
+      P w.monitors w.reached →
       Retains P (goes_on w f fs room v)
   on_case w f fs room None h = h
   on_case w f fs room (Some v) h = retains_pushes P w f fs room v f.stack h
 
   -- behind a native method, whichever it is
   native_case :
-      (w : World) (f : Frame) (fs : List Frame) (room : ℕ) (d : NativeResult) → P w.monitors →
+      (w : World) (f : Frame) (fs : List Frame) (room : ℕ) (d : NativeResult) →
+      P w.monitors w.reached →
       RetainsResult P d → Retains P (ends_native p q w f fs room d)
   native_case w f fs room (Returns u v) h k = on_case u f fs room v k
   native_case w f fs room (Raises x) h k = retains_throws P q w (f ∷ fs) x h
@@ -55,7 +58,8 @@ module _ (P : Monitors → Type 0) (p : Look) (q : Limits) where
 
   calls_case :
       (w : World) (f : Frame) (fs : List Frame) (room : ℕ) (args : List Value) (class : Name)
-      (k : ℕ) (c : Callable) → P w.monitors → Retains P (calls p q w f fs room args class k c)
+      (k : ℕ) (c : Callable) → P w.monitors w.reached →
+      Retains P (calls p q w f fs room args class k c)
   calls_case w f fs room args class k (Written n) h =
       retains_enters P q w (f ∷ fs) class k n args h
   calls_case w f fs room args class k (Natively meaning) h =
@@ -67,13 +71,13 @@ module _ (P : Monitors → Type 0) (p : Look) (q : Limits) where
 
   method_case :
       (w : World) (f : Frame) (fs : List Frame) (room : ℕ) (args rest : List Value)
-      (m : MethodAt) → P w.monitors → Retains P (calls_method p q w f fs room args rest m)
+      (m : MethodAt) → P w.monitors w.reached → Retains P (calls_method p q w f fs room args rest m)
   method_case w f fs room args rest m h =
       calls_case w (record f { stack = rest }) fs room args m.class m.place m.callable h
 
   found_case :
       (w : World) (f : Frame) (fs : List Frame) (room : ℕ) (args rest : List Value)
-      (a : Answer MethodAt) → P w.monitors →
+      (a : Answer MethodAt) → P w.monitors w.reached →
       Retains P (on_found q w (f ∷ fs) a (calls_method p q w f fs room args rest))
   found_case w f fs room args rest a h =
       retains_found P q w (f ∷ fs) a _ h (λ m. method_case w f fs room args rest m h)
@@ -82,13 +86,13 @@ module _ (P : Monitors → Type 0) (p : Look) (q : Limits) where
 
   resolved_case :
       (w : World) (f : Frame) (fs : List Frame) (r : MethodRef) (go : World → MethodAt → Effect)
-      (c : Family) → P w.monitors → ((m : MethodAt) → Retains P (go w m)) →
+      (c : Family) → P w.monitors w.reached → ((m : MethodAt) → Retains P (go w m)) →
       Retains P (invokes q f fs r go w c)
   resolved_case w f fs r go c h k = retains_found P q w (f ∷ fs) (resolve_method r c) _ h k
 
   static_case :
       (w : World) (f : Frame) (fs : List Frame) (room : ℕ) (r : MethodRef) (m : MethodAt) →
-      P w.monitors → Retains P (static_method_at p q w f fs room r m)
+      P w.monitors w.reached → Retains P (static_method_at p q w f fs room r m)
   static_case w f fs room r m h =
       retains_if P (is_static m.flags) _ _
       (retains_ready P q p w (f ∷ fs) m.class _ h (λ u c k.
@@ -97,7 +101,8 @@ module _ (P : Monitors → Type 0) (p : Look) (q : Limits) where
       (retains_throws P q w (f ∷ fs) IncompatibleClassChangeError h)
 
   pub retains_invokes_static :
-      (w : World) (f : Frame) (fs : List Frame) (room : ℕ) (r : MethodRef) → P w.monitors →
+      (w : World) (f : Frame) (fs : List Frame) (room : ℕ) (r : MethodRef) →
+      P w.monitors w.reached →
       Retains P (invokes_static p q w f fs room r)
   retains_invokes_static w f fs room r h =
       retains_resolves P p q w (f ∷ fs) r.class _ h (λ u c k.
@@ -106,7 +111,7 @@ module _ (P : Monitors → Type 0) (p : Look) (q : Limits) where
 
   receiver_case :
       (w : World) (f : Frame) (fs : List Frame) (r : MethodRef)
-      (go : ℕ → List Value → List Value → Effect) → P w.monitors →
+      (go : ℕ → List Value → List Value → Effect) → P w.monitors w.reached →
       ((x : ℕ) (args rest : List Value) → Retains P (go x args rest)) →
       Retains P (on_receiver q w f fs r go)
   receiver_case w f fs r go h k =
@@ -116,7 +121,7 @@ module _ (P : Monitors → Type 0) (p : Look) (q : Limits) where
 
   virtual_case :
       (f : Frame) (fs : List Frame) (room : ℕ) (r : MethodRef) (w : World) (m : MethodAt) →
-      P w.monitors → Retains P (virtual_at p q f fs room r w m)
+      P w.monitors w.reached → Retains P (virtual_at p q f fs room r w m)
   virtual_case f fs room r w m h =
       retains_if P (is_static m.flags) _ _
       (retains_throws P q w (f ∷ fs) IncompatibleClassChangeError h)
@@ -124,7 +129,8 @@ module _ (P : Monitors → Type 0) (p : Look) (q : Limits) where
       found_case w f fs room args rest (select_virtual r m (methods_of o)) h)))
 
   pub retains_invokes_virtual :
-      (w : World) (f : Frame) (fs : List Frame) (room : ℕ) (r : MethodRef) → P w.monitors →
+      (w : World) (f : Frame) (fs : List Frame) (room : ℕ) (r : MethodRef) →
+      P w.monitors w.reached →
       Retains P (invokes_virtual p q w f fs room r)
   retains_invokes_virtual w f fs room r h =
       retains_resolves P p q w (f ∷ fs) r.class _ h (λ u c k.
@@ -133,7 +139,7 @@ module _ (P : Monitors → Type 0) (p : Look) (q : Limits) where
 
   interface_case :
       (f : Frame) (fs : List Frame) (room : ℕ) (r : MethodRef) (w : World) (m : MethodAt) →
-      P w.monitors → Retains P (interface_at p q f fs room r w m)
+      P w.monitors w.reached → Retains P (interface_at p q f fs room r w m)
   interface_case f fs room r w m h =
       retains_if P (is_static m.flags || is_private m.flags) _ _
       (retains_throws P q w (f ∷ fs) IncompatibleClassChangeError h)
@@ -143,7 +149,8 @@ module _ (P : Monitors → Type 0) (p : Look) (q : Limits) where
       (retains_throws P q w (f ∷ fs) IncompatibleClassChangeError h))))
 
   pub retains_invokes_interface :
-      (w : World) (f : Frame) (fs : List Frame) (room : ℕ) (r : MethodRef) → P w.monitors →
+      (w : World) (f : Frame) (fs : List Frame) (room : ℕ) (r : MethodRef) →
+      P w.monitors w.reached →
       Retains P (invokes_interface p q w f fs room r)
   retains_invokes_interface w f fs room r h =
       retains_resolves P p q w (f ∷ fs) r.class _ h (λ u c k.
@@ -152,7 +159,7 @@ module _ (P : Monitors → Type 0) (p : Look) (q : Limits) where
 
   above_case :
       (f : Frame) (fs : List Frame) (room : ℕ) (r : MethodRef) (args rest : List Value)
-      (w : World) (above : List Name) → P w.monitors →
+      (w : World) (above : List Name) → P w.monitors w.reached →
       Retains P (calls_above p q f fs room r args rest w above)
   above_case f fs room r args rest w [] h = tt
   above_case f fs room r args rest w (n ∷ ns) h =
@@ -160,7 +167,7 @@ module _ (P : Monitors → Type 0) (p : Look) (q : Limits) where
 
   from_case :
       (f : Frame) (fs : List Frame) (room : ℕ) (r : MethodRef) (m : MethodAt)
-      (args rest : List Value) (w : World) (c : Family) → P w.monitors →
+      (args rest : List Value) (w : World) (c : Family) → P w.monitors w.reached →
       Retains P (special_from p q f fs room r m args rest w c)
   from_case f fs room r m args rest w c h =
       retains_if P (same r.class f.class || is_listed r.class (interfaces_in c.class)) _ _
@@ -169,7 +176,7 @@ module _ (P : Monitors → Type 0) (p : Look) (q : Limits) where
 
   special_case :
       (f : Frame) (fs : List Frame) (room : ℕ) (r : MethodRef) (w : World) (m : MethodAt) →
-      P w.monitors → Retains P (special_at p q f fs room r w m)
+      P w.monitors w.reached → Retains P (special_at p q f fs room r w m)
   special_case f fs room r w m h =
       retains_if P (is_static m.flags) _ _
       (retains_throws P q w (f ∷ fs) IncompatibleClassChangeError h)
@@ -178,7 +185,8 @@ module _ (P : Monitors → Type 0) (p : Look) (q : Limits) where
       (from_case f fs room r m args rest (consult p f.class w) (family p f.class) h)))
 
   pub retains_invokes_special :
-      (w : World) (f : Frame) (fs : List Frame) (room : ℕ) (r : MethodRef) → P w.monitors →
+      (w : World) (f : Frame) (fs : List Frame) (room : ℕ) (r : MethodRef) →
+      P w.monitors w.reached →
       Retains P (invokes_special p q w f fs room r)
   retains_invokes_special w f fs room r h =
       retains_resolves P p q w (f ∷ fs) r.class _ h (λ u c k.
@@ -188,27 +196,27 @@ module _ (P : Monitors → Type 0) (p : Look) (q : Limits) where
   -- ---- returns
 
   returns_case :
-      (w : World) (fs : List Frame) (v : Option Value) → P w.monitors →
+      (w : World) (fs : List Frame) (v : Option Value) → P w.monitors w.reached →
       Retains P (returns p w fs v)
   returns_case w [] v h = retains_if P (is_awaited w) _ _ h h
   returns_case w (f ∷ fs) v h = retains_some P (room_of p f) _ (λ room. on_case w f fs room v h)
 
   pub retains_returns_int :
-      (w : World) (f : Frame) (fs : List Frame) (result : Option Kind) → P w.monitors →
+      (w : World) (f : Frame) (fs : List Frame) (result : Option Kind) → P w.monitors w.reached →
       Retains P (returns_int p w f fs result)
   retains_returns_int w f fs result h =
       retains_some P result _ (λ k. retains_test P (is_int_kind k) _
       (retains_int P f.stack _ (λ z rest. returns_case w fs _ h)))
 
   pub retains_returns_long :
-      (w : World) (f : Frame) (fs : List Frame) (result : Option Kind) → P w.monitors →
+      (w : World) (f : Frame) (fs : List Frame) (result : Option Kind) → P w.monitors w.reached →
       Retains P (returns_long p w f fs result)
   retains_returns_long w f fs result h =
       retains_some P result _ (λ k. retains_test P (is_long_kind k) _
       (retains_long P f.stack _ (λ z rest. returns_case w fs (Some (Long z)) h)))
 
   pub retains_returns_reference :
-      (w : World) (f : Frame) (fs : List Frame) (result : Option Kind) → P w.monitors →
+      (w : World) (f : Frame) (fs : List Frame) (result : Option Kind) → P w.monitors w.reached →
       Retains P (returns_reference p w f fs result)
   retains_returns_reference w f fs result h =
       retains_some P result _ (λ k. retains_test P (is_reference_kind k) _
@@ -216,7 +224,7 @@ module _ (P : Monitors → Type 0) (p : Look) (q : Limits) where
       (returns_case w fs (Some v) h))))
 
   pub retains_returns_plain :
-      (w : World) (f : Frame) (fs : List Frame) (here : Current) → P w.monitors →
+      (w : World) (f : Frame) (fs : List Frame) (here : Current) → P w.monitors w.reached →
       Retains P (returns_plain p w f fs here)
   retains_returns_plain w f fs here h =
       retains_test P (is_none here.result) _
@@ -225,28 +233,29 @@ module _ (P : Monitors → Type 0) (p : Look) (q : Limits) where
   -- ---- an object is thrown
 
   expects_case :
-      (w : World) (x : ℕ) (names : List Name) (o : Option Name) → P w.monitors →
+      (w : World) (x : ℕ) (names : List Name) (o : Option Name) → P w.monitors w.reached →
       Retains P (expects p w x names o)
   expects_case w x names None h = tt
   expects_case w x names (Some n) h =
       retains_if P (matches names n (family p (class_behind n)).class) _ _ h h
 
   pops_case :
-      (w : World) (fs : List Frame) (x : ℕ) (names : List Name) → P w.monitors →
+      (w : World) (fs : List Frame) (x : ℕ) (names : List Name) → P w.monitors w.reached →
       Retains P (pops p w fs x names)
   pops_case w [] x names h =
       retains_if P (is_awaited w) _ _ (expects_case w x names w.expected h) h
   pops_case w (f ∷ fs) x names h = h
 
   breaks_case :
-      (w : World) (fs : List Frame) (x : ℕ) (names : List Name) → P w.monitors →
+      (w : World) (fs : List Frame) (x : ℕ) (names : List Name) → P w.monitors w.reached →
       Retains P (breaks q w fs x names)
   breaks_case w fs x names h =
       retains_if P (is_listed (codes "java/lang/Error") names) _ _ h
       (retains_throws P q w fs ExceptionInInitializerError h)
 
   frame_case :
-      (w : World) (f : Frame) (fs : List Frame) (x : ℕ) (names : List Name) → P w.monitors →
+      (w : World) (f : Frame) (fs : List Frame) (x : ℕ) (names : List Name) →
+      P w.monitors w.reached →
       Retains P (pops_frame p q w f fs x names)
   frame_case w f fs x names h =
       retains_if P (is_initializer_method (method_in (p f.class) f.method)) _ _
@@ -254,12 +263,12 @@ module _ (P : Monitors → Type 0) (p : Look) (q : Limits) where
 
   lands_case :
       (f : Frame) (fs : List Frame) (x : ℕ) (names : List Name) (w : World) (o : Option ℕ) →
-      P w.monitors → Retains P (lands p q f fs x names w o)
+      P w.monitors w.reached → Retains P (lands p q f fs x names w o)
   lands_case f fs x names w (Some to) h = h
   lands_case f fs x names w None h = frame_case w f fs x names h
 
   pub retains_unwinds :
-      (w : World) (f : Frame) (fs : List Frame) (x : ℕ) → P w.monitors →
+      (w : World) (f : Frame) (fs : List Frame) (x : ℕ) → P w.monitors w.reached →
       Retains P (unwinds p q w f fs x)
   retains_unwinds w f fs x h =
       retains_known P p w x _ (λ o.
@@ -271,7 +280,7 @@ module _ (P : Monitors → Type 0) (p : Look) (q : Limits) where
 
   begins_case :
       (w : World) (c : Call) (rest : List Call) (k : ℕ) (args : List Value) (a : Callable) →
-      P w.monitors → Retains P (begins_call q w c rest k args a)
+      P w.monitors w.reached → Retains P (begins_call q w c rest k args a)
   begins_case w c rest k args (Written n) h =
       retains_enters P q (record w { running = Some c; script = rest }) [] c.class k n args h
   begins_case w c rest k args (Natively n) h = tt
@@ -279,13 +288,14 @@ module _ (P : Monitors → Type 0) (p : Look) (q : Limits) where
   begins_case w c rest k args Abstractly h = tt
 
   instance_case :
-      (w : World) (c : Call) (rest : List Call) (m : MethodAt) → P w.monitors →
+      (w : World) (c : Call) (rest : List Call) (m : MethodAt) → P w.monitors w.reached →
       Retains P (calls_instance q w c rest m)
   instance_case w c rest m h =
       retains_some P w.instance _ (λ x. begins_case w c rest m.place (Ref x ∷ []) m.callable h)
 
   makes_case :
-      (c : Call) (rest : List Call) (m : MethodAt) (w : World) (d : Family) → P w.monitors →
+      (c : Call) (rest : List Call) (m : MethodAt) (w : World) (d : Family) →
+      P w.monitors w.reached →
       Retains P (makes_once_ready q c rest m w d)
   makes_case c rest m w d h =
       let o = new_object c.class d.rising in
@@ -294,7 +304,8 @@ module _ (P : Monitors → Type 0) (p : Look) (q : Limits) where
       begins_case (record a.0 { instance = Some a.1 }) c rest m.place (Ref a.1 ∷ []) m.callable k)
 
   kind_case :
-      (w : World) (c : Call) (rest : List Call) (m : MethodAt) (kind : CallKind) → P w.monitors →
+      (w : World) (c : Call) (rest : List Call) (m : MethodAt) (kind : CallKind) →
+      P w.monitors w.reached →
       Retains P (calls_kind p q w c rest m kind)
   kind_case w c rest m ClassWide h =
       retains_ready P q p w [] c.class _ h (λ u d k. begins_case u c rest m.place [] m.callable k)
@@ -304,7 +315,7 @@ module _ (P : Monitors → Type 0) (p : Look) (q : Limits) where
   kind_case w c rest m TestMethod h = instance_case w c rest m h
 
   pub retains_calls_next :
-      (w : World) (cs : List Call) → P w.monitors → Retains P (calls_next p q w cs)
+      (w : World) (cs : List Call) → P w.monitors w.reached → Retains P (calls_next p q w cs)
   retains_calls_next w [] h = tt
   retains_calls_next w (c ∷ rest) h =
       let d = family p c.class in

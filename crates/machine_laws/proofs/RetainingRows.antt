@@ -1,4 +1,5 @@
--- Each row that has no monitor to open or close, and isn't a call, leaves monitors as they were.
+-- Each row that has no monitor to open or close, and isn't a call, leaves monitors and lines
+-- as they were.
 use Rattle.std.proofs.Common.{ℕ, zero, suc, ◌+◌, ◌++◌, List, [], ◌∷◌, length, Option, Some, None, map}
 use Rattle.std.specs.Prelude.{ℤ, pos, negsuc, unsigned_abs, ◌&&◌, nat_lt, slice_get}
 use Rattle.std.specs.Int.{is_negative, int_wrap, w32}
@@ -28,13 +29,13 @@ use Rattle.machine_rules.specs.Fields.{reads_static, writes_static, static_in, g
 use Rattle.machine_rules.specs.Arrays.{array_kind, on_array, serves, taken_by, element_at, if_inside, on_element, loads_element, fits_component, if_storable, stores_element, measures_array, on_count, pushes_new, makes_array, makes_primitive_array, makes_reference_array, on_counts, has_dimensions, makes_arrays, copies}
 use Rattle.machine_rules.specs.TypeRows.{loads_text, loads_class, makes_object, casts_to, casts, truth, tests_for, tests, throws_object}
 use Rattle.machine_rules.specs.Steps.{int_local, long_local, reference_local, loads_int, loads_long, loads_reference, stores_int, stores_long, stores_reference, increments, pops_word, pops_two, doubles, doubles_under_one, doubles_under_two, doubles_two, doubles_two_under_one, doubles_two_under_two, swaps, operates_int, operates_long, converts}
-use Rattle.machine_laws.proofs.Retaining.{Monitors, Retains, RetainsMade, allocated_made, retains_some, retains_if, retains_test, retains_int, retains_ints, retains_long, retains_longs, retains_reference, retains_kind, retains_word, retains_two, retains_lays, retains_pushes, retains_full, retains_throws, retains_found, retains_null, retains_resolves, retains_known}
+use Rattle.machine_laws.proofs.Retaining.{Monitors, Lines, Retains, RetainsMade, allocated_made, retains_some, retains_if, retains_test, retains_int, retains_ints, retains_long, retains_longs, retains_reference, retains_kind, retains_word, retains_two, retains_lays, retains_pushes, retains_full, retains_throws, retains_found, retains_null, retains_resolves, retains_known}
 use Rattle.machine_laws.proofs.RetainingWorlds.{literal_made, class_made, array_made, arrays_made, retains_ready}
 
 -- ---- rows that touch the frame alone
 
-module _ (P : Monitors → Type 0) (q : Limits) (w : World) (f : Frame) (fs : List Frame)
-    (h : P w.monitors) where
+module _ (P : Monitors → Lines → Type 0) (q : Limits) (w : World) (f : Frame) (fs : List Frame)
+    (h : P w.monitors w.reached) where
   pub retains_loads_int : (room n : ℕ) → Retains P (loads_int w f fs room n)
   retains_loads_int room n =
       retains_some P (slice_get f.locals n) _ (λ l. retains_some P (int_local l) _ (λ z.
@@ -139,24 +140,25 @@ module _ (P : Monitors → Type 0) (q : Limits) (w : World) (f : Frame) (fs : Li
 
 -- ---- elements
 
-module _ (P : Monitors → Type 0) (q : Limits) where
+module _ (P : Monitors → Lines → Type 0) (q : Limits) where
   array_case :
       (w : World) (fs : List Frame) (o : Option ℕ) (go : ℕ → Object → Kind → Effect) →
-      P w.monitors → ((x : ℕ) (b : Object) (k : Kind) → Retains P (go x b k)) →
+      P w.monitors w.reached → ((x : ℕ) (b : Object) (k : Kind) → Retains P (go x b k)) →
       Retains P (on_array q w fs o go)
   array_case w fs o go h k =
       retains_null P q w fs o _ h (λ x. retains_some P (object_at w.heap x) _ (λ b.
       retains_some P (array_kind b.kind) _ (λ kind. k x b kind)))
 
   inside_case :
-      (w : World) (fs : List Frame) (o : Option Value) (go : Value → Effect) → P w.monitors →
+      (w : World) (fs : List Frame) (o : Option Value) (go : Value → Effect) →
+      P w.monitors w.reached →
       ((v : Value) → Retains P (go v)) → Retains P (if_inside q w fs o go)
   inside_case w fs None go h k = retains_throws P q w fs ArrayIndexOutOfBoundsException h
   inside_case w fs (Some v) go h k = k v
 
   element_case :
       (w : World) (fs : List Frame) (e : Element) (i : ℤ) (o : Option ℕ)
-      (go : ℕ → Object → Kind → Value → Effect) → P w.monitors →
+      (go : ℕ → Object → Kind → Value → Effect) → P w.monitors w.reached →
       ((x : ℕ) (b : Object) (k : Kind) (v : Value) → Retains P (go x b k v)) →
       Retains P (on_element q w fs e i o go)
   element_case w fs e i o go h k =
@@ -164,7 +166,7 @@ module _ (P : Monitors → Type 0) (q : Limits) where
       (inside_case w fs (element_at b.values i) _ h (λ v. k x b kind v)))
 
   count_case :
-      (w : World) (fs : List Frame) (z : ℤ) (go : ℕ → Effect) → P w.monitors →
+      (w : World) (fs : List Frame) (z : ℤ) (go : ℕ → Effect) → P w.monitors w.reached →
       ((n : ℕ) → Retains P (go n)) → Retains P (on_count q w fs z go)
   count_case w fs (pos n) go h k = k n
   count_case w fs (negsuc n) go h k = retains_throws P q w fs NegativeArraySizeException h
@@ -178,13 +180,13 @@ module _ (P : Monitors → Type 0) (q : Limits) where
 
   new_case :
       (w : World) (f : Frame) (fs : List Frame) (room : ℕ) (rest : List Value)
-      (o : Option (World × ℕ)) → P w.monitors → RetainsMade P o →
+      (o : Option (World × ℕ)) → P w.monitors w.reached → RetainsMade P o →
       Retains P (unless_full w (f ∷ fs) o (pushes_new f fs room rest))
   new_case w f fs room rest o h m =
       retains_full P w (f ∷ fs) o _ h m (λ a k. retains_pushes P a.0 f fs room (Ref a.1) rest k)
 
   makes_case :
-      (w : World) (f : Frame) (fs : List Frame) (room : ℕ) (k : Kind) → P w.monitors →
+      (w : World) (f : Frame) (fs : List Frame) (room : ℕ) (k : Kind) → P w.monitors w.reached →
       Retains P (makes_array q w f fs room k)
   makes_case w f fs room k h =
       retains_int P f.stack _ (λ z rest. count_case w (f ∷ fs) z _ h (λ n.
@@ -192,8 +194,8 @@ module _ (P : Monitors → Type 0) (q : Limits) where
 
 -- ---- rows of arrays, types and fields
 
-module _ (P : Monitors → Type 0) (p : Look) (q : Limits) (w : World) (f : Frame) (fs : List Frame)
-    (h : P w.monitors) where
+module _ (P : Monitors → Lines → Type 0) (p : Look) (q : Limits) (w : World) (f : Frame) (fs : List Frame)
+    (h : P w.monitors w.reached) where
   pub retains_loads_element : (room : ℕ) (e : Element) → Retains P (loads_element q w f fs room e)
   retains_loads_element room e =
       retains_int P f.stack _ (λ i rest. retains_reference P rest _ (λ o below.
@@ -306,8 +308,8 @@ module _ (P : Monitors → Type 0) (p : Look) (q : Limits) (w : World) (f : Fram
 
   static_case :
       (r : FieldRef) (go : FieldAt → World → Family → Effect) (u : World) (c : Family) →
-      P u.monitors →
-      ((x : FieldAt) (v : World) (d : Family) → P v.monitors → Retains P (go x v d)) →
+      P u.monitors u.reached →
+      ((x : FieldAt) (v : World) (d : Family) → P v.monitors v.reached → Retains P (go x v d)) →
       Retains P (static_in p q f fs r go u c)
   static_case r go u c k m =
       retains_found P q u (f ∷ fs) (resolve_field r c) _ k (λ x. retains_if P x.static _ _
@@ -329,14 +331,15 @@ module _ (P : Monitors → Type 0) (p : Look) (q : Limits) (w : World) (f : Fram
   -- ---- fields of objects
 
   owner_case :
-      (u : World) (o : Option ℕ) (go : ℕ → Object → Effect) → P u.monitors →
+      (u : World) (o : Option ℕ) (go : ℕ → Object → Effect) → P u.monitors u.reached →
       ((x : ℕ) (b : Object) → Retains P (go x b)) → Retains P (on_owner q u f fs o go)
   owner_case u o go k m =
       retains_null P q u (f ∷ fs) o _ k (λ x. retains_some P (object_at u.heap x) _ (λ b.
       retains_if P (is_array b.kind) _ _ tt (m x b)))
 
   instance_case :
-      (u : World) (go : FieldAt → Effect) (x : FieldAt) → P u.monitors → Retains P (go x) →
+      (u : World) (go : FieldAt → Effect) (x : FieldAt) → P u.monitors u.reached →
+      Retains P (go x) →
       Retains P (instance_at q u f fs go x)
   instance_case u go x k m =
       retains_if P x.static _ _ (retains_throws P q u (f ∷ fs) IncompatibleClassChangeError k) m
