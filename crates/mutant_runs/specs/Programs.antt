@@ -44,7 +44,8 @@ with_accepted n p = if is_some (class_fault p n) then None else Some p
 abbrev pub viable : ClassFiles → Look → Mutant → Option Look
 viable files p m = option_and_then (with_accepted m.class) (edited files p m)
 
--- The edit of a mutant is one that its class takes, and the class has a spelling.
+-- The class file of the mutant's class, if there is one, takes its edit and has a spelling; where
+-- there is none, nothing is asked.
 abbrev pub IsMutantOf : ClassFiles → Mutant → Type 0
 IsMutantOf files m = IfSome (files m.class) (λ c. HasClassForm c × Fits c m.edit × IsClass c)
 
