@@ -8,3 +8,4 @@ mod AtLimit
 pub mod Going
 pub mod Stepped
 pub mod Ran
+pub mod Stays

@@ -5,3 +5,4 @@ pub mod Going
 pub mod Ending
 pub mod Result
 pub mod Running
+pub mod Marking

@@ -1,9 +1,11 @@
 //! The machine over all instructions: its state, one step, and a whole run of a test.
 #![tactic(auto)]
 
+mod advancing;
 mod executing;
 mod finish;
 mod machine;
+mod marking;
 mod outcome;
 mod places;
 mod reaching;

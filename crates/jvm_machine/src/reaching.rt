@@ -15,9 +15,9 @@ use jvm_act::MethodCode;
 use jvm_frames::Place;
 use jvm_world::World;
 
-// Whether a class comes from a class file.
+/// Whether a class comes from a class file.
 #[tactic(auto, unfolding(class_link::specs::View::linked_of))]
-fn is_from_file(p: &Program, class: ClassId) -> bool
+pub fn is_from_file(p: &Program, class: ClassId) -> bool
     requires { class.0 < length p.now }
     ensures { result ≡ is_from_file (look p.now (name_at p.now class.0)) }
 {
@@ -25,8 +25,8 @@ fn is_from_file(p: &Program, class: ClassId) -> bool
     !info.linked().library
 }
 
-// The line of an instruction of a code.
-fn line_of(method: &MethodCode, at: usize) -> u16
+/// The line of an instruction of a code.
+pub fn line_of(method: &MethodCode, at: usize) -> u16
     ensures { result ≡ line_at at (map line_of method.now.linked.lines) }
 {
     method.linked.lines.line(at)

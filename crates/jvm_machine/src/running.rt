@@ -5,13 +5,16 @@ ghost use Rattle.machine_rules.specs.Runs.{run_from, run_of};
 ghost use Rattle.class_table.specs.Table.{look};
 ghost use Rattle.jvm_world.specs.View.{test_of};
 ghost use Rattle.jvm_machine.specs.Machines.{IsMachineOf, StandsFor};
+ghost use Rattle.jvm_machine.specs.Marking.{AreMarkedRight, lines_of};
 ghost use Rattle.jvm_machine.specs.Programs.{IsRunnable};
 ghost use Rattle.jvm_machine.specs.Result.{IsResultOf};
 ghost use Rattle.jvm_machine.specs.Running.{EndsSo, EndsAtLimit, HasSteps, IsStuckResult, after, start_of};
 ghost use Rattle.jvm_machine.specs.Tables.{AreTablesOf};
 
+use crate::advancing::{Went, advance};
 use crate::finish::finish;
 use crate::machine::{Machine, Step};
+use crate::marking::MethodMarks;
 use crate::outcome::Outcome;
 use crate::places::stuck_at;
 use crate::result::RunResult;
@@ -40,6 +43,16 @@ fn outcome_at_limit(p: &Program, m: &Machine) -> machine_rules::Outcome
     }
 }
 
+// Counts so many steps.
+fn tick_all(part: &mut MeterPart, steps: u64)
+    requires { part.old + steps < 2 ^ 64 }
+    ensures { part.new ≡ part.old + steps }
+{
+    for _ in 0..steps {
+        part.tick();
+    }
+}
+
 // Runs a machine that stands at the start of a test, for so many steps at most.
 #[tactic(auto, using(crate::proofs::Ran::at_limit_is, crate::proofs::Ran::least))]
 fn run(
@@ -47,11 +60,13 @@ fn run(
     alloc: Global,
     p: &Program,
     tables: &mut Tables,
+    marks: &mut Vec<MethodMarks>,
     test: &Test,
     limit: u64,
     part: &mut MeterPart,
 ) -> Result<(End, u64), Memory>
     requires machine { IsMachineOf p.now m.old }
+    requires marked { AreMarkedRight p.now marks.old.items (lines_of p.now m.old.world) }
     requires stands { StandsFor p.now m.old (start_of p.now test.now) }
     requires tables { AreTablesOf p.now tables.old }
     requires runnable { IsRunnable (look p.now) }
@@ -64,11 +79,16 @@ fn run(
         + (run_from (look p.now) m.old.world.limits limit (start_of p.now test.now) 0).steps) }
     ensures tables { AreTablesOf p.now tables.new }
 {
-    for i in 0..limit {
-        match step(m, alloc, p, tables)? {
-            Step::Next => part.tick(),
-            Step::Ended(outcome) => return Ok((End::With(outcome), i)),
-            Step::Stuck => return Ok((End::Stuck, i)),
+    let mut done = 0;
+    while done < limit {
+        let went = advance(m, alloc, p, tables, marks, limit - done)?;
+        match went {
+            Went::Steps(n) => {
+                tick_all(part, n);
+                done += n;
+            }
+            Went::Ended(outcome) => return Ok((End::With(outcome), done)),
+            Went::Stuck => return Ok((End::Stuck, done)),
         }
     }
     let outcome = outcome_at_limit(p, m);
@@ -212,7 +232,8 @@ fn complete(
     ensures tables { AreTablesOf p.now tables.new }
 {
     let limits = m.world.limits;
-    let (end, steps) = run(m, alloc, p, tables, test, limit, part)?;
+    let mut marks = Vec::new(alloc);
+    let (end, steps) = run(m, alloc, p, tables, &mut marks, test, limit, part)?;
     let result = finish_run(m, alloc, p, tables, test, limits, limit, end, steps)?;
     Ok(result)
 }
