@@ -10,7 +10,7 @@ use Rattle.machine_rules.specs.declared.machine.Limits.{Limits}
 use Rattle.machine_rules.specs.State as def
 use Rattle.machine_rules.specs.Effects.{goes_with}
 use Rattle.machine_rules.specs.Calls.{room_in}
-use Rattle.machine_rules.specs.Steps.{Stepped, Next, goes, is_reached, line_in, line_of, over_or, reach, reaches, step_of}
+use Rattle.machine_rules.specs.Steps.{Stepped, Next, is_reached, line_in, line_of, over_or, reach, reaches, step_of}
 use Rattle.machine_laws.specs.FrameLaw.{IfNext}
 use Rattle.machine_laws.specs.Lines.{KeepsLines}
 use Rattle.machine_laws.proofs.Monitors.{keep_lines}
