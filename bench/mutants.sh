@@ -1,9 +1,13 @@
 #!/bin/sh
-# Wall time of `run` on a made suite of 50 classes and 50 classes of tests, beside a Java program that runs the same tests by reflection once for each of the same mutants, in one run. `ratio` is
-# their time by ours. One word: how many classes, 50 where none is given. It needs `rt`, `java` and `javac`.
+# Wall time of `run` on a made suite of 50 classes and 50 classes of tests, beside a Java program that runs the same tests by
+# reflection once for each of the same mutants, in one run: of each the least of three. `ratio` is their time by ours. Words:
+# how many classes, 50 where none is given, and behind it programs, as `mutest` or one that the gate has built; `mutest` of
+# this repository where none is given. So an older one can be measured in the same run. It needs `java` and `javac`.
 set -eu
 here=$(cd "$(dirname "$0")" && pwd)
 count=${1:-50}
+[ $# -eq 0 ] || shift
+[ $# -gt 0 ] || set -- "$here/../mutest"
 work=$(mktemp -d)
 trap 'rm -rf "$work"' EXIT
 mkdir -p "$work/src/gen" "$work/test/gen"
@@ -67,15 +71,23 @@ javac --release 8 -nowarn -Xlint:-options -d "$work/runner" "$here"/../examples/
 javac -nowarn -d "$work/runner" "$here/MutantRuns.java"
 javac --release 8 -Xlint:-options -g:lines -d "$work/classes" "$work"/src/gen/*.java
 javac --release 8 -Xlint:-options -g:lines -cp "$work/classes:$work/runner" -d "$work/tests" "$work"/test/gen/*.java
-"$here/../mutest" list "$work/classes/gen/C0.class" > "$work/listed"
+
+# The least milliseconds of three runs of a command.
 time_of() {
-    start=$(date +%s%N)
-    "$@" >&2
-    end=$(date +%s%N)
-    echo $(((end - start) / 1000000))
+    least=
+    for round in 1 2 3; do
+        start=$(date +%s%N)
+        "$@" > "$work/told"
+        took=$((($(date +%s%N) - start) / 1000000))
+        [ -n "$least" ] && [ "$least" -le "$took" ] || least=$took
+    done
+    echo "$least"
 }
-ours=$(time_of "$here/../mutest" run --classes "$work/classes" --tests "$work/tests" --report "$work/report.json")
+
 theirs=$(time_of java -cp "$work/runner" MutantRuns "$work/classes" "$work/tests")
-echo "mutest, which proves nothing new here: $ours ms"
 echo "JVM, with its start: $theirs ms"
-awk -v a="$ours" -v b="$theirs" 'BEGIN { printf "ratio %.3f\n", b / a }'
+for program in "$@"; do
+    ours=$(time_of "$program" run --classes "$work/classes" --tests "$work/tests" --report "$work/report.json")
+    echo "$program: $ours ms, $(cat "$work/told")"
+    awk -v a="$ours" -v b="$theirs" 'BEGIN { printf "ratio %.3f\n", b / a }'
+done
