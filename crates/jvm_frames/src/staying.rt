@@ -1,6 +1,6 @@
 // Steps of the running frame alone, many at once.
 
-ghost use Rattle.std.specs.Prelude.{◌≡◌, ℕ, ◌≤◌, true, Some, length, slice_get, take};
+ghost use Rattle.std.specs.Prelude.{◌≡◌, ℕ, ◌<◌, ◌≤◌, true, Some, length, slice_get, take};
 ghost use Rattle.std.specs.Bool.{OnTrue};
 ghost use Rattle.jvm_state.specs.Slots.{IsStack};
 ghost use Rattle.jvm_state.specs.Stores.{IsFrame, IsSameFrame};
@@ -9,23 +9,33 @@ ghost use Rattle.jvm_frames.specs.Staying.{Stays, in_slots};
 
 use jvm_state::{Frame, Op, Slot, act};
 
+// How many instructions have a place both in the code and among the marks.
+fn count_of(ops: &[Op], marks: &[bool]) -> usize
+    ensures ops { result ≤ length ops.now }
+    ensures marks { result ≤ length marks.now }
+{
+    if ops.len() < marks.len() {
+        return ops.len();
+    }
+    marks.len()
+}
+
 // Whether an instruction has a mark.
 #[inline(always)]
 fn is_marked(marks: &[bool], at: usize) -> bool
+    requires { at < length marks.now }
     ensures { OnTrue result (slice_get marks.now at ≡ Some true) }
 {
-    match marks.get(at) {
-        Some(mark) => *mark,
-        None => false,
-    }
+    marks[at]
 }
 
-// The instruction of a number, if there is one.
+// The instruction of a number.
 #[inline(always)]
-fn op_at(ops: &[Op], at: usize) -> Option<Op>
-    ensures { result ≡ slice_get ops.now at }
+fn op_at(ops: &[Op], at: usize) -> Op
+    requires { at < length ops.now }
+    ensures { slice_get ops.now at ≡ Some result }
 {
-    ops.get(at).copied()
+    ops[at]
 }
 
 // Takes steps of a frame in its slots, so many at most: the steps, the instruction and the words
@@ -54,26 +64,25 @@ fn stay_in_slots(
     ensures locals { length locals.new ≡ length locals.old }
     ensures operands { length operands.new ≡ length operands.old }
 {
-    let mut taken = 0;
+    let count = count_of(ops, marks);
+    let mut left = limit;
     let mut at = first;
     let mut sp = words;
-    while taken < limit {
-        if !is_marked(marks, at) {
+    while left > 0 {
+        if at >= count || !is_marked(marks, at) {
             break;
         }
-        let Some(op) = op_at(ops, at) else {
-            break;
-        };
-        match act(op, longs, locals, operands, at, sp, top) {
-            Some((to, left)) => {
+        let op = op_at(ops, at);
+        match act::<true>(op, longs, locals, operands, at, sp, top) {
+            Some((to, rest)) => {
                 at = to;
-                sp = left;
-                taken += 1;
+                sp = rest;
+                left -= 1;
             }
-            None => break,
+            None => return (limit - left, at, sp),
         }
     }
-    (taken, at, sp)
+    (limit - left, at, sp)
 }
 
 /// Takes steps of a frame that stands in a store, so many at most, and says how many. Each is of an

@@ -70,9 +70,13 @@ fn push_listed(
 
 /// Does what an instruction does, where that touches the top frame alone: it gives the next
 /// instruction and the words that are left. None leaves everything as it was.
+///
+/// `MANY` says whether it is one of many steps at once, and changes nothing that is done. It gives
+/// each of the two callers a copy of its own, since LLVM inlines a function of this size only where
+/// it is called once.
 #[inline(always)]
 #[tactic(auto, unfolding(crate::specs::Ops::instruction_of, crate::specs::Ops::left_by, machine_rules::specs::Steps::act))]
-pub fn act(
+pub fn act<const MANY: bool>(
     op: Op,
     longs: &[i64],
     locals: &mut [Slot],

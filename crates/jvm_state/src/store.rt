@@ -23,7 +23,7 @@ pub fn act_in(op: Op, longs: &[i64], slots: &mut [Slot], f: &mut Frame) -> bool
     let (low, high) = slots.split_at_mut(f.floor);
     let (_, locals) = low.split_at_mut(f.base);
     let (operands, _) = high.split_at_mut(f.top);
-    match act(op, longs, locals, operands, f.at, f.sp, f.top) {
+    match act::<false>(op, longs, locals, operands, f.at, f.sp, f.top) {
         Some((at, sp)) => {
             f.at = at;
             f.sp = sp;
