@@ -2,5 +2,6 @@ pub mod Slots
 pub mod Tops
 pub mod Rows
 pub mod Zero
+pub mod Jumps
 pub mod Ops
 pub mod Stores

@@ -9,8 +9,7 @@ ghost use Rattle.jvm_state.specs.Rows.{Lays};
 ghost use Rattle.jvm_state.specs.Ops.{Runs, row_of, long_constant, is_alone};
 
 use crate::jumping::{
-    branch_on_int, branch_on_ints, branch_on_null, branch_on_object, branch_on_other,
-    branch_on_same, go_on, go_to,
+    branch_on_int, branch_on_ints, branch_on_null, branch_on_references, go_on, go_to,
 };
 use crate::locals::{
     increment, load_int, load_long, load_reference, store_int, store_long, store_reference,
@@ -89,7 +88,8 @@ pub fn act<const MANY: bool>(
     requires stack { IsStack operands.old sp }
     requires within { sp ≤ top }
     requires room { top ≤ length operands.old }
-    ensures runs { Runs longs.now op top at sp locals.old operands.old locals.new operands.new result }
+    ensures runs { Runs longs.now op top at sp locals.old operands.old locals.new operands.new
+        result }
     ensures alone { IfSome result (λ r. is_alone op ≡ true) }
 {
     match op {
@@ -169,10 +169,10 @@ pub fn act<const MANY: bool>(
         Op::IfsAtLeast(to) => branch_on_ints(Comparison::IsAtLeast, to, operands, at, sp, top),
         Op::IfsGreater(to) => branch_on_ints(Comparison::IsGreater, to, operands, at, sp, top),
         Op::IfsAtMost(to) => branch_on_ints(Comparison::IsAtMost, to, operands, at, sp, top),
-        Op::IfSame(to) => branch_on_same(to, operands, at, sp, top),
-        Op::IfNotSame(to) => branch_on_other(to, operands, at, sp, top),
-        Op::IfNull(to) => branch_on_null(to, operands, at, sp, top),
-        Op::IfNotNull(to) => branch_on_object(to, operands, at, sp, top),
+        Op::IfSame(to) => branch_on_references(true, to, operands, at, sp, top),
+        Op::IfNotSame(to) => branch_on_references(false, to, operands, at, sp, top),
+        Op::IfNull(to) => branch_on_null(true, to, operands, at, sp, top),
+        Op::IfNotNull(to) => branch_on_null(false, to, operands, at, sp, top),
         Op::Goto(to) => go_to(to, operands, at, sp, top),
         Op::TableSwitch(_) => None,
         Op::LookupSwitch(_) => None,

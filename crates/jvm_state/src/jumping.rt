@@ -3,9 +3,10 @@
 ghost use Rattle.std.specs.Prelude.{◌≡◌, ◌+◌, ◌<◌, ◌≤◌, ◌^◌, ℤ, ◌-ℤ◌, length, is_none};
 ghost use Rattle.machine_rules.specs.Arithmetic.{compares};
 ghost use Rattle.machine_rules.specs.Effects.{jumps};
-ghost use Rattle.machine_rules.specs.Steps.{branches_on_int, branches_on_ints, branches_on_references, branches_on_null, same_reference, negation, table_target, key_target, switches_table, switches_keys};
+ghost use Rattle.machine_rules.specs.Steps.{branches_on_int, branches_on_ints, branches_on_references, branches_on_null, same_reference, table_target, key_target, switches_table, switches_keys};
 ghost use Rattle.jvm_state.specs.Slots.{IsStack};
 ghost use Rattle.jvm_state.specs.Rows.{Lays};
+ghost use Rattle.jvm_state.specs.Jumps.{test_of};
 
 use crate::slot::Slot;
 use crate::words::{top_int, top_ints, top_reference};
@@ -41,6 +42,14 @@ fn are_same(x: Option<u32>, y: Option<u32>) -> bool
             Some(y) => x == y,
         },
     }
+}
+
+// Whether a fact is as it is to be.
+#[inline(always)]
+fn passes(wanted: bool, fact: bool) -> bool
+    ensures { result ≡ test_of wanted fact }
+{
+    if wanted { fact } else { !fact }
 }
 
 /// `nop`.
@@ -117,9 +126,10 @@ pub fn branch_on_ints(
     Some((at + 1, below))
 }
 
-/// `if_acmpeq`.
+/// `if_acmpeq` where the two are to be the same, else `if_acmpne`.
 #[inline(always)]
-pub fn branch_on_same(
+pub fn branch_on_references(
+    same: bool,
     to: u32,
     operands: &[Slot],
     at: usize,
@@ -130,44 +140,21 @@ pub fn branch_on_same(
     requires stack { IsStack operands.now sp }
     requires within { sp ≤ top }
     requires room { top ≤ length operands.now }
-    ensures { Lays (λ w f fs. branches_on_references w f fs (λ b. b) to) top at sp
+    ensures { Lays (λ w f fs. branches_on_references w f fs (test_of same) to) top at sp
         operands.now operands.now result }
 {
     let (y, rest) = top_reference(operands, sp)?;
     let (x, below) = top_reference(operands, rest)?;
-    if are_same(x, y) {
+    if passes(same, are_same(x, y)) {
         return Some((to as usize, below));
     }
     Some((at + 1, below))
 }
 
-/// `if_acmpne`.
-#[inline(always)]
-pub fn branch_on_other(
-    to: u32,
-    operands: &[Slot],
-    at: usize,
-    sp: usize,
-    top: usize,
-) -> Option<(usize, usize)>
-    requires next { at + 1 < 2 ^ 64 }
-    requires stack { IsStack operands.now sp }
-    requires within { sp ≤ top }
-    requires room { top ≤ length operands.now }
-    ensures { Lays (λ w f fs. branches_on_references w f fs negation to) top at sp
-        operands.now operands.now result }
-{
-    let (y, rest) = top_reference(operands, sp)?;
-    let (x, below) = top_reference(operands, rest)?;
-    if !are_same(x, y) {
-        return Some((to as usize, below));
-    }
-    Some((at + 1, below))
-}
-
-/// `ifnull`.
+/// `ifnull` where the reference is to be null, else `ifnonnull`.
 #[inline(always)]
 pub fn branch_on_null(
+    null: bool,
     to: u32,
     operands: &[Slot],
     at: usize,
@@ -178,34 +165,11 @@ pub fn branch_on_null(
     requires stack { IsStack operands.now sp }
     requires within { sp ≤ top }
     requires room { top ≤ length operands.now }
-    ensures { Lays (λ w f fs. branches_on_null w f fs (λ b. b) to) top at sp
+    ensures { Lays (λ w f fs. branches_on_null w f fs (test_of null) to) top at sp
         operands.now operands.now result }
 {
     let (x, rest) = top_reference(operands, sp)?;
-    if x.is_none() {
-        return Some((to as usize, rest));
-    }
-    Some((at + 1, rest))
-}
-
-/// `ifnonnull`.
-#[inline(always)]
-pub fn branch_on_object(
-    to: u32,
-    operands: &[Slot],
-    at: usize,
-    sp: usize,
-    top: usize,
-) -> Option<(usize, usize)>
-    requires next { at + 1 < 2 ^ 64 }
-    requires stack { IsStack operands.now sp }
-    requires within { sp ≤ top }
-    requires room { top ≤ length operands.now }
-    ensures { Lays (λ w f fs. branches_on_null w f fs negation to) top at sp
-        operands.now operands.now result }
-{
-    let (x, rest) = top_reference(operands, sp)?;
-    if x.is_some() {
+    if passes(null, x.is_none()) {
         return Some((to as usize, rest));
     }
     Some((at + 1, rest))

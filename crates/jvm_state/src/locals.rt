@@ -22,13 +22,14 @@ fn local(locals: &[Slot], n: usize) -> Option<Slot>
     locals.get(n).copied()
 }
 
-// Puts a value of one word, or the first word of a long, into a local. A store into the second local
-// of a long ends the long.
+// Puts a value of one word, or the first word of a long, into a local. A store into the second
+// local of a long ends the long.
 #[inline(always)]
 #[tactic(auto, using(crate::proofs::LocalLaws::set_at))]
 fn set_local(locals: &mut [Slot], n: usize, s: Slot)
     requires { n < length locals.old }
-    ensures set { locals_in locals.new ≡ slice_set (without_long (locals_in locals.old) n) n (local_in s) }
+    ensures set { locals_in locals.new
+        ≡ slice_set (without_long (locals_in locals.old) n) n (local_in s) }
     ensures len { length locals.new ≡ length locals.old }
 {
     end_long(locals, n);

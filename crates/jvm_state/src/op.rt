@@ -1,7 +1,7 @@
 //! Instructions in eight bytes.
 
-/// An instruction as the machine runs it: one for each thing that is done, in eight bytes. What needs
-/// more stands in a table of the code or of the class, and here its number there.
+/// An instruction as the machine runs it: one for each thing that is done, in eight bytes. What
+/// needs more stands in a table of the code or of the class, and here its number there.
 #[derive(Clone, Copy)]
 pub enum Op {
     Nop,

@@ -48,7 +48,8 @@ pub fn enter(
     requires fit { args ≤ max_locals }
     requires there { from ≤ length slots.old.items }
     requires room { from + 131072 < 2 ^ 64 }
-    ensures entered { IfOk result (λ f. IsEntered from args class.0 method max_locals max_stack slots.old.items slots.new.items f) }
+    ensures entered { IfOk result (λ f.
+        IsEntered from args class.0 method max_locals max_stack slots.old.items slots.new.items f) }
     ensures below { take from slots.new.items ≡ take from slots.old.items }
     ensures more { length slots.old.items ≤ length slots.new.items }
 {
@@ -85,7 +86,8 @@ fn make_slots(slots: &mut Vec<Slot>, from: usize, end: usize) -> Result<(), Memo
 fn unset(slots: &mut Vec<Slot>, from: usize, to: usize)
     requires order { from ≤ to }
     requires within { to ≤ length slots.old.items }
-    ensures unset { take to slots.new.items ≡ take from slots.old.items ++ replicate (to - from) Unset }
+    ensures unset { take to slots.new.items
+        ≡ take from slots.old.items ++ replicate (to - from) Unset }
     ensures len { length slots.new.items ≡ length slots.old.items }
 {
     for place in from..to {

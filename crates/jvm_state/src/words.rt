@@ -1,7 +1,7 @@
 //! The words of an operand stack: what stands on the top, and the words below it.
 //!
-//! `sp` is the number of words. What takes values off answers them with the number of words that are
-//! left; it changes nothing.
+//! `sp` is the number of words. What takes values off answers them with the number of words that
+//! are left; it changes nothing.
 
 ghost use Rattle.std.specs.Prelude.{◌≡◌, ℕ, ℤ, ◌+◌, ◌-◌, ◌<◌, ◌≤◌, true, List, [], ◌∷◌, ◌++◌, length, IfSome, IfNone};
 ghost use Rattle.program_rules.specs.Kinds.{width_of};
@@ -15,7 +15,8 @@ use crate::slot::Slot;
 #[tactic(auto, using(crate::proofs::Stacks::top_word))]
 pub fn word(operands: &[Slot], sp: usize) -> Option<Slot>
     requires { sp ≤ length operands.now }
-    ensures some { IfSome result (λ s. words_in operands.now sp ≡ s ∷ words_in operands.now (sp - 1)) }
+    ensures some { IfSome result (λ s.
+        words_in operands.now sp ≡ s ∷ words_in operands.now (sp - 1)) }
     ensures within { IfSome result (λ s. 0 < sp) }
     ensures none { IfNone result (words_in operands.now sp ≡ []) }
 {
@@ -30,7 +31,8 @@ pub fn word(operands: &[Slot], sp: usize) -> Option<Slot>
 #[tactic(auto, using(crate::proofs::Stacks::below_int, crate::proofs::Stacks::no_int_unset))]
 pub fn top_int(operands: &[Slot], sp: usize) -> Option<(i32, usize)>
     requires { IsStack operands.now sp }
-    ensures some { IfSome result (λ r. TakesInt (stack_in operands.now sp) r.0 (stack_in operands.now r.1)) }
+    ensures some { IfSome result (λ r.
+        TakesInt (stack_in operands.now sp) r.0 (stack_in operands.now r.1)) }
     ensures below { IfSome result (λ r. IsStack operands.now r.1) }
     ensures less { IfSome result (λ r. r.1 < sp) }
     ensures none { IfNone result (NoInt (stack_in operands.now sp)) }
@@ -49,7 +51,8 @@ pub fn top_int(operands: &[Slot], sp: usize) -> Option<(i32, usize)>
 #[inline(always)]
 pub fn top_ints(operands: &[Slot], sp: usize) -> Option<(i32, i32, usize)>
     requires { IsStack operands.now sp }
-    ensures some { IfSome result (λ r. TakesInts (stack_in operands.now sp) r.0 r.1 (stack_in operands.now r.2)) }
+    ensures some { IfSome result (λ r.
+        TakesInts (stack_in operands.now sp) r.0 r.1 (stack_in operands.now r.2)) }
     ensures below { IfSome result (λ r. IsStack operands.now r.2) }
     ensures less { IfSome result (λ r. r.2 + 1 < sp) }
     ensures none { IfNone result (NoInts (stack_in operands.now sp)) }
@@ -64,7 +67,8 @@ pub fn top_ints(operands: &[Slot], sp: usize) -> Option<(i32, i32, usize)>
 #[tactic(auto, using(crate::proofs::Stacks::below_long, crate::proofs::Stacks::long_words))]
 pub fn top_long(operands: &[Slot], sp: usize) -> Option<(i64, usize)>
     requires { IsStack operands.now sp }
-    ensures some { IfSome result (λ r. TakesLong (stack_in operands.now sp) r.0 (stack_in operands.now r.1)) }
+    ensures some { IfSome result (λ r.
+        TakesLong (stack_in operands.now sp) r.0 (stack_in operands.now r.1)) }
     ensures below { IfSome result (λ r. IsStack operands.now r.1) }
     ensures less { IfSome result (λ r. r.1 + 1 < sp) }
     ensures none { IfNone result (NoLong (stack_in operands.now sp)) }
@@ -90,7 +94,8 @@ pub fn top_long(operands: &[Slot], sp: usize) -> Option<(i64, usize)>
 #[inline(always)]
 pub fn top_longs(operands: &[Slot], sp: usize) -> Option<(i64, i64, usize)>
     requires { IsStack operands.now sp }
-    ensures some { IfSome result (λ r. TakesLongs (stack_in operands.now sp) r.0 r.1 (stack_in operands.now r.2)) }
+    ensures some { IfSome result (λ r.
+        TakesLongs (stack_in operands.now sp) r.0 r.1 (stack_in operands.now r.2)) }
     ensures below { IfSome result (λ r. IsStack operands.now r.2) }
     ensures less { IfSome result (λ r. r.2 + 3 < sp) }
     ensures none { IfNone result (NoLongs (stack_in operands.now sp)) }
@@ -105,7 +110,8 @@ pub fn top_longs(operands: &[Slot], sp: usize) -> Option<(i64, i64, usize)>
 #[tactic(auto, using(crate::proofs::Stacks::below_reference, crate::proofs::Stacks::below_null, crate::proofs::Stacks::no_reference_unset))]
 pub fn top_reference(operands: &[Slot], sp: usize) -> Option<(Option<u32>, usize)>
     requires { IsStack operands.now sp }
-    ensures some { IfSome result (λ r. TakesReference (stack_in operands.now sp) r.0 (stack_in operands.now r.1)) }
+    ensures some { IfSome result (λ r.
+        TakesReference (stack_in operands.now sp) r.0 (stack_in operands.now r.1)) }
     ensures below { IfSome result (λ r. IsStack operands.now r.1) }
     ensures less { IfSome result (λ r. r.1 < sp) }
     ensures none { IfNone result (NoReference (stack_in operands.now sp)) }
@@ -125,8 +131,10 @@ pub fn top_reference(operands: &[Slot], sp: usize) -> Option<(Option<u32>, usize
 #[tactic(auto, using(crate::proofs::Stacks::below_int, crate::proofs::Stacks::below_reference, crate::proofs::Stacks::below_null, crate::proofs::Stacks::no_word_unset))]
 pub fn top_word(operands: &[Slot], sp: usize) -> Option<(Slot, usize)>
     requires { IsStack operands.now sp }
-    ensures some { IfSome result (λ r. TakesWord (stack_in operands.now sp) r.0 (stack_in operands.now r.1)) }
-    ensures stack { IfSome result (λ r. stack_in operands.now sp ≡ value_in r.0 ∷ stack_in operands.now r.1) }
+    ensures some { IfSome result (λ r.
+        TakesWord (stack_in operands.now sp) r.0 (stack_in operands.now r.1)) }
+    ensures stack { IfSome result (λ r.
+        stack_in operands.now sp ≡ value_in r.0 ∷ stack_in operands.now r.1) }
     ensures word { IfSome result (λ r. is_word r.0 ≡ true) }
     ensures width { IfSome result (λ r. width_of (value_in r.0) ≡ 1) }
     ensures below { IfSome result (λ r. IsStack operands.now r.1) }
@@ -182,8 +190,10 @@ fn is_word(s: Slot) -> bool
 #[tactic(auto, using(crate::proofs::Pairs::pair_stack, crate::proofs::Pairs::pair_below, crate::proofs::Pairs::takes_pair, crate::proofs::Pairs::no_pair, crate::proofs::Pairs::no_pair_of_one, crate::proofs::Pairs::no_pair_of_none))]
 pub fn top_pair(operands: &[Slot], sp: usize) -> Option<(Slot, Slot, usize)>
     requires { IsStack operands.now sp }
-    ensures some { IfSome result (λ r. TakesPair (stack_in operands.now sp) r.0 r.1 (stack_in operands.now r.2)) }
-    ensures stack { IfSome result (λ r. stack_in operands.now sp ≡ pair_in r.0 r.1 ++ stack_in operands.now r.2) }
+    ensures some { IfSome result (λ r.
+        TakesPair (stack_in operands.now sp) r.0 r.1 (stack_in operands.now r.2)) }
+    ensures stack { IfSome result (λ r.
+        stack_in operands.now sp ≡ pair_in r.0 r.1 ++ stack_in operands.now r.2) }
     ensures pair { IfSome result (λ r. is_pair r.0 r.1 ≡ true) }
     ensures below { IfSome result (λ r. IsStack operands.now r.2) }
     ensures less { IfSome result (λ r. r.2 + 2 ≡ sp) }
@@ -215,7 +225,8 @@ pub fn put_word(operands: &mut [Slot], place: usize, s: Slot)
 pub fn put_pair(operands: &mut [Slot], place: usize, lower: Slot, upper: Slot)
     requires place { place + 1 < length operands.old }
     requires pair { is_pair lower upper ≡ true }
-    ensures stack { stack_in operands.new (place + 2) ≡ pair_in lower upper ++ stack_in operands.old place }
+    ensures stack { stack_in operands.new (place + 2)
+        ≡ pair_in lower upper ++ stack_in operands.old place }
     ensures len { length operands.new ≡ length operands.old }
 {
     operands[place] = lower;

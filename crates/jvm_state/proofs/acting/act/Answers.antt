@@ -230,11 +230,11 @@ returns-in-IfsAtMost-clause-runs g c = rw c.in-IfsAtMost.is (λ named p q kind s
 
 pub returns-in-IfSame-clause-runs : goal.returns-in-IfSame-clause-runs
 unfolding act instruction_of left_by
-returns-in-IfSame-clause-runs g c = rw c.in-IfSame.is (λ named p q kind starts. c.branch_on_same.ensures c.args.locals.now)
+returns-in-IfSame-clause-runs g c = rw c.in-IfSame.is (λ named p q kind starts. c.branch_on_references.ensures c.args.locals.now)
 
 pub returns-in-IfNotSame-clause-runs : goal.returns-in-IfNotSame-clause-runs
 unfolding act instruction_of left_by
-returns-in-IfNotSame-clause-runs g c = rw c.in-IfNotSame.is (λ named p q kind starts. c.branch_on_other.ensures c.args.locals.now)
+returns-in-IfNotSame-clause-runs g c = rw c.in-IfNotSame.is (λ named p q kind starts. c.branch_on_references-in-IfNotSame.ensures c.args.locals.now)
 
 pub returns-in-IfNull-clause-runs : goal.returns-in-IfNull-clause-runs
 unfolding act instruction_of left_by
@@ -242,7 +242,7 @@ returns-in-IfNull-clause-runs g c = rw c.in-IfNull.is (λ named p q kind starts.
 
 pub returns-in-IfNotNull-clause-runs : goal.returns-in-IfNotNull-clause-runs
 unfolding act instruction_of left_by
-returns-in-IfNotNull-clause-runs g c = rw c.in-IfNotNull.is (λ named p q kind starts. c.branch_on_object.ensures c.args.locals.now)
+returns-in-IfNotNull-clause-runs g c = rw c.in-IfNotNull.is (λ named p q kind starts. c.branch_on_null-in-IfNotNull.ensures c.args.locals.now)
 
 pub returns-in-Goto-clause-runs : goal.returns-in-Goto-clause-runs
 unfolding act instruction_of left_by
