@@ -48,8 +48,8 @@ fn switches_in(alloc: Global, insns: &[Insn]) -> Result<Seq<Switch>, Memory>
 
 // What an instruction means, where the next switch has this number.
 #[tactic(auto, unfolding(crate::specs::Opcodes::instruction_by))]
-fn link_insn(entries: &[Entry], next: u32, insn: &Insn) -> Instruction
-    ensures { IsLinkedAt entries.now next insn.now result }
+fn resolve_insn(insn: &Insn, entries: &[Entry], next_switch: u32) -> Instruction
+    ensures { IsLinkedAt entries.now next_switch insn.now result }
 {
     match &insn.arg {
         Arg::None => opcodes::plain(insn.op),
@@ -58,8 +58,8 @@ fn link_insn(entries: &[Entry], next: u32, insn: &Insn) -> Instruction
         Arg::Local(local) => opcodes::with_local(insn.op, *local),
         Arg::Inc(local, by) => opcodes::with_increment(insn.op, *local, *by),
         Arg::To(to) => opcodes::with_target(insn.op, *to),
-        Arg::Table(_, _) => opcodes::table_switch(insn.op, next),
-        Arg::Lookup(_, _) => opcodes::lookup_switch(insn.op, next),
+        Arg::Table(_, _) => opcodes::table_switch(insn.op, next_switch),
+        Arg::Lookup(_, _) => opcodes::lookup_switch(insn.op, next_switch),
         Arg::Kind(elements) => opcodes::with_elements(insn.op, *elements),
         Arg::Multi(index, count) => opcodes::with_count(insn.op, *index, *count),
     }
@@ -85,11 +85,11 @@ fn number_behind(next: u32, insn: &Insn) -> Result<u32, Memory>
     Ok(next)
 }
 
-fn link_insns(
+fn resolve_insns(
     alloc: Global,
+    insns: &[Insn],
     entries: &[Entry],
     switches: &[Switch],
-    insns: &[Insn],
 ) -> Result<Seq<Instruction>, Memory>
     requires { switches.now ≡ switches_in insns.now }
     ensures { IfOk result (AreLinkedBy entries.now switches.now insns.now) }
@@ -97,7 +97,7 @@ fn link_insns(
     let mut instructions = Vec::with_capacity(alloc, insns.len())?;
     let mut next: u32 = 0;
     for insn in insns {
-        instructions.push(link_insn(entries, next, insn))?;
+        instructions.push(resolve_insn(insn, entries, next))?;
         next = number_behind(next, insn)?;
     }
     Ok(Seq::from_vec(instructions))
@@ -125,7 +125,8 @@ fn link_rows(alloc: Global, classes: &NamedClasses, rows: &[Row]) -> Result<Seq<
 }
 
 fn add_rows(lines: &mut Vec<LinkedLine>, rows: &[(u32, u16)]) -> Result<(), Memory>
-    ensures { OnOk result (AddsLines lines.old.items (map linking.line_in rows.now) lines.new.items) }
+    ensures { OnOk result
+        (AddsLines lines.old.items (map linking.line_in rows.now) lines.new.items) }
 {
     for (start, line) in rows {
         lines.push(LinkedLine {
@@ -197,7 +198,7 @@ fn link_code_into(
     linked.max_stack = code.max_stack;
     linked.max_locals = code.max_locals;
     linked.switches = switches_in(alloc, insns)?;
-    linked.instructions = link_insns(alloc, entries, linked.switches.as_slice(), insns)?;
+    linked.instructions = resolve_insns(alloc, insns, entries, linked.switches.as_slice())?;
     linked.rows = link_rows(alloc, classes, code.rows.as_slice())?;
     linked.lines = link_lines(alloc, attrs, insns.len())?;
     linked.frames = link_frames(alloc, classes, attrs)?;

@@ -152,7 +152,8 @@ impl LinkedClass {
     /// The place of the method of this name and descriptor, of two the first.
     #[tactic(auto, unfolding(crate::specs::View::linked_of))]
     pub fn method_place(&self, name: &Name, desc: &Name) -> Option<usize>
-        ensures found { IfSome result (λ place. method_place_in self.now name.now desc.now ≡ Some place) }
+        ensures found { IfSome result (λ place.
+            method_place_in self.now name.now desc.now ≡ Some place) }
         ensures within { IfSome result (λ place. place < length self.now.methods) }
         ensures absent { IfNone result (method_place_in self.now name.now desc.now ≡ None) }
     {

@@ -34,7 +34,8 @@ fn note(search: &mut Search, stamp: u32, class: u32) -> Result<(), Memory>
 fn note_all(search: &mut Search, stamp: u32, classes: &[u32]) -> Result<(), Memory>
     requires within { AllBelow classes.now (length search.old.marks.items) }
     requires search { IsSearch (length search.old.marks.items) stamp search.old }
-    ensures { OnOk result (Finds (length search.old.marks.items) stamp classes.now search.old search.new) }
+    ensures { OnOk result
+        (Finds (length search.old.marks.items) stamp classes.now search.old search.new) }
 {
     for class in classes {
         note(search, stamp, *class)?;
@@ -46,7 +47,8 @@ fn note_all(search: &mut Search, stamp: u32, classes: &[u32]) -> Result<(), Memo
 pub fn note_one(search: &mut Search, stamp: u32, class: u32) -> Result<(), Memory>
     requires within { class < length search.old.marks.items }
     requires search { IsSearch (length search.old.marks.items) stamp search.old }
-    ensures { OnOk result (Finds (length search.old.marks.items) stamp (class ∷ []) search.old search.new) }
+    ensures { OnOk result
+        (Finds (length search.old.marks.items) stamp (class ∷ []) search.old search.new) }
 {
     note(search, stamp, class)
 }
@@ -55,7 +57,8 @@ pub fn note_one(search: &mut Search, stamp: u32, class: u32) -> Result<(), Memor
 fn note_parent(search: &mut Search, stamp: u32, parent: Option<u32>) -> Result<(), Memory>
     requires within { IfSome parent (λ p. p < length search.old.marks.items) }
     requires search { IsSearch (length search.old.marks.items) stamp search.old }
-    ensures { OnOk result (Finds (length search.old.marks.items) stamp (with_parent parent []) search.old search.new) }
+    ensures { OnOk result
+        (Finds (length search.old.marks.items) stamp (with_parent parent []) search.old search.new) }
 {
     match parent {
         Some(parent) => note_one(search, stamp, parent),
@@ -73,7 +76,8 @@ pub fn note_supers(
     requires within { AreWithin links.now (length links.now) }
     requires class { class < length links.now }
     requires search { IsSearch (length links.now) stamp search.old }
-    ensures { OnOk result (Finds (length links.now) stamp (supers_at links.now class) search.old search.new) }
+    ensures { OnOk result
+        (Finds (length links.now) stamp (supers_at links.now class) search.old search.new) }
 {
     let own = &links[class as usize];
     note_parent(search, stamp, own.parent)?;

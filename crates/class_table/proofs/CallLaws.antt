@@ -12,8 +12,8 @@ use Rattle.class_link.specs.declared.linked.MethodRef.{MethodRef}
 use Rattle.class_link.specs.declared.linked.LinkedMethod.{LinkedMethod}
 use Rattle.class_link.specs.Info.{Info, class_of}
 use Rattle.class_link.specs.View.{method_ref_at, method_of, linked_of}
-use Rattle.class_table.specs.Table.{names, number_of, place_in, place_at, reference_at, named_number, named_place, name_at, look, class_at}
-use Rattle.class_table.specs.Calls.{IsTargetOf, target_at, AreTargets, brief, head_of, IsSameNamed, AreSameNamed}
+use Rattle.class_table.specs.Table.{IsNamedBy, names, number_of, place_in, place_at, reference_at, named_number, named_place, name_at, look, class_at}
+use Rattle.class_table.specs.Calls.{IsTargetAt, IsTargetOf, target_at, AreTargets, brief, head_of, IsSameNamed, AreSameNamed}
 use Rattle.class_table.proofs.Places.{names_kept, number_within, number_named}
 
 -- ---- what a target says of the index that it is kept for
@@ -39,14 +39,17 @@ within_case p (Some r) t h = number_within p r.class t.class.0 h.class
 pub target_within : (p : List Info) (class index : ℕ) (t : Target) → IsSomeAnd (reference_at p class index) (λ r. IsTargetOf p r t) → t.class.0 < length p
 target_within p class index t h = within_case p (reference_at p class index) t h
 
-abbrev IsNamed : List Info → ℕ → MethodRef → Type 0
-IsNamed p id r = (name_at p id ≡ r.class) × (look p r.class ≡ class_at p id)
-
-named_case : (p : List Info) (o : Option MethodRef) (t : Target) → IsSomeAnd o (λ r. IsTargetOf p r t) → IsSomeAnd o (IsNamed p t.class.0)
+named_case :
+    (p : List Info) (o : Option MethodRef) (t : Target)
+    → IsSomeAnd o (λ r. IsTargetOf p r t)
+    → IsSomeAnd o (λ r. (name_at p t.class.0 ≡ r.class) × (look p r.class ≡ class_at p t.class.0))
 named_case p None t h = absurd h
 named_case p (Some r) t h = (number_named p r.class t.class.0 h.class, ap (option_and_then (class_at p)) h.class)
 
-pub target_named : (p : List Info) (class index : ℕ) (t : Target) → IsSomeAnd (reference_at p class index) (λ r. IsTargetOf p r t) → IsSomeAnd (reference_at p class index) (λ r. (name_at p t.class.0 ≡ r.class) × (look p r.class ≡ class_at p t.class.0))
+pub target_named :
+    (p : List Info) (class index : ℕ) (t : Target)
+    → IsTargetAt p class index t
+    → IsNamedBy p class index t.class.0
 target_named p class index t h = named_case p (reference_at p class index) t h
 
 -- ---- one class in the place of another

@@ -16,7 +16,7 @@ use Rattle.class_table.specs.declared.supers.Supers.{Supers}
 use Rattle.class_table.specs.Seen.{Seen, AreKnown, IsConsultedOf}
 use Rattle.class_table.specs.Supers.{numbers_known, AreLinks, AreSupers}
 use Rattle.class_table.specs.Table.{number_of, look, name_at, AreLinksOf, IsProgram}
-use Rattle.class_table.specs.Walked.{visits_of, names_of_task, wanted, IsTask, AreTasks, weight_of, weight, Visits, passes, enters, Makes, AreVisits, Adds, AddsVisits, PassesClass, stays, goes, Passes}
+use Rattle.class_table.specs.Walked.{visits_of, names_of_task, wanted, IsTask, AreTasks, weight_of, weight, Visits, passes, enters, Makes, AreVisits, Adds, AddsVisits, PassesClass, stops, goes_up, Passes}
 use Rattle.class_table.proofs.Levels.{supers_step, supers_stable}
 use Rattle.class_table.proofs.Places.{number_named, look_at, none_past}
 use Rattle.class_table.proofs.Verdicts.{supers_known, super_number, step_named}
@@ -211,7 +211,7 @@ module _ (p : List Info) where
     -- ---- whether all is of the library
 
     pub visit_passed : (a : ℕ) (ts more : List Task) (b : Bool) → AreVisits p (ts ++ Visit a ∷ []) → b ≡ is_library (look p (name_at p a)) → PassesClass p a b ts more → Passes p (Visit a) b ts more
-    visit_passed a ts more b h is (stays fails e) = record {
+    visit_passed a ts more b h is (stops fails e) = record {
       visits = subst (AreVisits p) (sym e) (visits_front a ts h);
       names = whole_walk a ts ∙ ap (λ x. x && list_all (λ m. is_library (look p m)) (above a ++ wanted p ts)) (sym is ∙ fails) ∙ ap (λ x. x && list_all (λ m. is_library (look p m)) (wanted p more)) (sym fails);
       less =
@@ -220,7 +220,7 @@ module _ (p : List Info) where
           let q : weight p more ≡ weight p ts = ap (weight p) e in
           omega (arith, two, four, q);
     }
-    visit_passed a ts more b h is (goes passes-it adds) = record {
+    visit_passed a ts more b h is (goes_up passes-it adds) = record {
       visits = subst (AreVisits p) (sym adds.tasks) (visits_both ts (visits_of adds.over) (visits_front a ts h) (all_visits adds.over adds.links.within));
       names =
           whole_walk a ts ∙ ap (λ x. x && list_all (λ m. is_library (look p m)) (above a ++ wanted p ts)) (sym is)

@@ -23,11 +23,14 @@ pub record IsTargetOf (p : List Info) (r : MethodRef) (t : Target) : Type 0 wher
 
 -- What is kept for an index of a class's constant pool, if anything is.
 abbrev pub target_at : List (List (Option Target)) → ℕ → ℕ → Option Target
-target_at rows class index = option_and_then (λ row. option_and_then (λ t. t) (slice_get row index)) (slice_get rows class)
+target_at rows class index =
+    option_and_then (λ row. option_and_then (λ t. t) (slice_get row index)) (slice_get rows class)
 
 -- Whatever is kept for an index is the target of the method that it names.
 abbrev pub AreTargets : List (List (Option Target)) → List Info → Type 0
-AreTargets rows p = (class index : ℕ) (t : Target) → target_at rows class index ≡ Some t → IsSomeAnd (reference_at p class index) (λ r. IsTargetOf p r t)
+AreTargets rows p =
+    (class index : ℕ) (t : Target) → target_at rows class index ≡ Some t →
+    IsSomeAnd (reference_at p class index) (λ r. IsTargetOf p r t)
 
 -- What is kept for an index, as an answer of a program.
 abbrev pub IsTargetAt : List Info → ℕ → ℕ → Target → Type 0
@@ -65,7 +68,9 @@ IsKept is target old new = (t : Target) → is ≡ true → target ≡ Some t �
 
 -- At each index that a target is kept for, two constant pools name a method by the same words.
 abbrev pub AreNamedAlike : List (Option Target) → List Entry → List Entry → Type 0
-AreNamedAlike row old new = (index : ℕ) (t : Target) → slice_get row index ≡ Some (Some t) → AreSameNamed (method_entry (slice_get old index)) (method_entry (slice_get new index))
+AreNamedAlike row old new =
+    (index : ℕ) (t : Target) → slice_get row index ≡ Some (Some t) →
+    AreSameNamed (method_entry (slice_get old index)) (method_entry (slice_get new index))
 
 -- The same of the constant pools of two classes, by the targets of a program.
 abbrev pub AreCallsAlike : List (List (Option Target)) → ℕ → LinkedClass → LinkedClass → Type 0
@@ -75,11 +80,16 @@ AreCallsAlike rows class old new =
     → AreSameNamed (method_ref_at old index) (method_ref_at new index)
 
 -- The targets that are shared, if any are.
-abbrev pub targets_in : {Z : Type 0} → Option (Arc (List (List (Option Target))) Z) → Option (List (List (Option Target)))
+abbrev pub targets_in :
+    {Z : Type 0} → Option (Arc (List (List (Option Target))) Z)
+    → Option (List (List (Option Target)))
 targets_in targets = option_map (λ t. arc_value t) targets
 
 -- Where one class takes the place of another of its name, what is kept stays right.
-abbrev pub StayRight : {Z : Type 0} → ℕ → Info → Info → Option (Arc (List (List (Option Target))) Z) → Option (Arc (List (List (Option Target))) Z) → Type 0
+abbrev pub StayRight :
+    {Z : Type 0} → ℕ → Info → Info
+    → Option (Arc (List (List (Option Target))) Z)
+    → Option (Arc (List (List (Option Target))) Z) → Type 0
 StayRight class old new before after =
     (p : List Info)
     → slice_get p class ≡ Some old

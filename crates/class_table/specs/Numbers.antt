@@ -20,6 +20,12 @@ abbrev pub with_number : Option ℕ → Bool → ℕ → Option ℕ
 with_number None is_it k = if is_it then Some k else None
 with_number (Some j) is_it k = Some j
 
+module _ {S : Type 0} where
+  -- A name gets a number unless it has one, and every other name keeps what it has.
+  abbrev pub AddsNumber : Name → ℕ → HashMap Name ℕ S → HashMap Name ℕ S → Type 0
+  AddsNumber name number old new =
+      (n : Name) → get same new n ≡ with_number (get same old n) (same name n) number
+
 abbrev pub is_before : Name → Name → Bool
 is_before n m = is_lt (slice_cmp nat_cmp (text n) (text m))
 

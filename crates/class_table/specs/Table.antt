@@ -1,12 +1,13 @@
 -- The classes of a program by number and by name.
-use Rattle.std.specs.Prelude.{◌≡◌, false, All, IsTrue, ℕ, suc, ◌<◌, ◌^◌, if◌then◌else◌, List, [], ◌∷◌, ◌++◌, length, map, Option, Some, None, slice_get, option_and_then, IsSomeAnd, ⊤}
+use Rattle.std.specs.Prelude.{◌≡◌, Bool, false, All, IsTrue, ℕ, suc, ◌<◌, ◌^◌, if◌then◌else◌, List, [], ◌∷◌, ◌++◌, length, map, Option, Some, None, slice_get, option_and_then, IfSome, IsSomeAnd, ⊤}
+use Rattle.std.specs.List.{list_all}
 use Rattle.std.specs.Option.{option_map}
 use Rattle.std.specs.Ordering.{nat_cmp, is_le}
 use Rattle.std.specs.Cmp.Lexicographic.{slice_cmp}
 use Rattle.class_model.specs.Text.{text}
-use Rattle.program_rules.specs.Names.{Name, same}
-use Rattle.program_rules.specs.Linked.{Linked, parents_of, method_place}
-use Rattle.program_rules.specs.Programs.{Look}
+use Rattle.program_rules.specs.Names.{Name, same, is_listed}
+use Rattle.program_rules.specs.Linked.{Linked, is_library, parents_of, method_place}
+use Rattle.program_rules.specs.Programs.{Look, supers}
 use Rattle.class_link.specs.declared.loaded.Loaded.{Loaded}
 use Rattle.class_link.specs.declared.loaded.LibClass.{LibClass}
 use Rattle.class_link.specs.declared.loaded.ClassBody.{ClassBody}
@@ -84,6 +85,14 @@ name_at p id = name_or_none (slice_get (names p) id)
 abbrev pub look : List Info → Look
 look p n = option_and_then (class_at p) (number_of p n)
 
+-- Whether the classes of all of these names are of the library.
+abbrev pub are_library : List Info → List Name → Bool
+are_library p ns = list_all (λ m. is_library (look p m)) ns
+
+-- Whether a class is another one or stands below it, by number.
+abbrev pub is_below : List Info → ℕ → ℕ → Bool
+is_below p class over = is_listed (name_at p over) (supers (look p) (name_at p class))
+
 -- The supers of a class, by number.
 pub record AreLinksOf (p : List Info) (a : ℕ) (over : List ℕ) : Type 0 where
   pub named : map (name_at p) over ≡ parents_of (look p (name_at p a))
@@ -118,16 +127,28 @@ methods_at p class = methods_in (slice_get p class)
 abbrev pub reference_at : List Info → ℕ → ℕ → Option MethodRef
 reference_at p class index = option_and_then (λ i. method_ref_at i.linked index) (slice_get p class)
 
+-- The class of this number has the name that it says.
+abbrev pub IsNamedBy : List Info → ℕ → ℕ → ℕ → Type 0
+IsNamedBy p class index id =
+    IsSomeAnd (reference_at p class index) (λ r.
+    (name_at p id ≡ r.class) × (look p r.class ≡ class_at p id))
+
+-- If it names a method, no class has the name that it says.
+abbrev pub NamesNoClass : List Info → ℕ → ℕ → Type 0
+NamesNoClass p class index = IfSome (reference_at p class index) (λ r. look p r.class ≡ None)
+
 -- The number of the class that it names.
 abbrev pub named_number : List Info → ℕ → ℕ → Option ℕ
 named_number p class index = option_and_then (λ r. number_of p r.class) (reference_at p class index)
 
 -- The place that the method of this name and descriptor has in another class.
 abbrev pub place_at : List Info → MethodRef → ℕ → Option ℕ
-place_at p r target = option_and_then (λ i. method_place r.name r.desc (class_of i).methods) (slice_get p target)
+place_at p r target =
+    option_and_then (λ i. method_place r.name r.desc (class_of i).methods) (slice_get p target)
 
 abbrev pub named_place : List Info → ℕ → ℕ → ℕ → Option ℕ
-named_place p class index target = option_and_then (λ r. place_at p r target) (reference_at p class index)
+named_place p class index target =
+    option_and_then (λ r. place_at p r target) (reference_at p class index)
 
 -- ---- one class in the place of another
 

@@ -1,7 +1,5 @@
 -- What a walk over a class and all above it has still to do (this project's own). No public clause
 -- cites these.
-use Rattle.std.specs.List.{list_all}
-use Rattle.program_rules.specs.Linked.{is_library}
 use Rattle.std.specs.Prelude.{◌≡◌, ◌+◌, ◌<◌, ◌&&◌, ℕ, Bool, true, false, ⊤, List, [], ◌∷◌, ◌++◌, length, Some, slice_get}
 use Rattle.program_rules.specs.Names.{Name}
 use Rattle.program_rules.specs.Programs.{supers, consult_one, consult_in}
@@ -9,7 +7,7 @@ use Rattle.class_link.specs.Info.{Info}
 use Rattle.class_table.specs.declared.tasks.Task.{Task}
 use Rattle.class_table.specs.declared.tasks.Task.TheVariants.{Visit, Close}
 use Rattle.class_table.specs.Seen.{Seen, AreKnown}
-use Rattle.class_table.specs.Table.{look, name_at, AreLinksOf}
+use Rattle.class_table.specs.Table.{look, name_at, are_library, AreLinksOf}
 
 -- Visits of these classes as they are kept: the first one is the last of the tasks, and is made
 -- first.
@@ -95,14 +93,13 @@ pub record AddsVisits (p : List Info) (a : ℕ) (old new : List Task) : Type 0 w
 
 -- Whether a class is of the library; where it is, its supers are visited before all else.
 pub data PassesClass (p : List Info) (a : ℕ) (passed : Bool) (old new : List Task) : Type 0 where
-  stays : passed ≡ false → new ≡ old → PassesClass p a passed old new
-  goes : passed ≡ true → AddsVisits p a old new → PassesClass p a passed old new
+  stops : passed ≡ false → new ≡ old → PassesClass p a passed old new
+  goes_up : passed ≡ true → AddsVisits p a old new → PassesClass p a passed old new
 
 -- A task is made: whether all that all tasks come to is of the library stays as it was.
 pub record Passes (p : List Info) (t : Task) (passed : Bool) (before more : List Task)
     : Type 0 where
   pub visits : AreVisits p more
   pub names :
-      list_all (λ m. is_library (look p m)) (wanted p (before ++ t ∷ []))
-      ≡ (passed && list_all (λ m. is_library (look p m)) (wanted p more))
+      are_library p (wanted p (before ++ t ∷ [])) ≡ (passed && are_library p (wanted p more))
   pub less : weight p more < weight p (before ++ t ∷ [])

@@ -47,7 +47,8 @@ module _ {S Z : Type 0} where
       (n d : Name) (h : ℕ × ℕ)
       → get same words n ≡ Some h.0
       → get same words d ≡ Some h.1
-      → get same_head new h ≡ with_number (get same_head old h) (same m.name n && same m.desc d) place
+      → get same_head new h
+      ≡ with_number (get same_head old h) (same m.name n && same m.desc d) place
 
   -- At the numbers of a name and a descriptor stands the place of their method.
   abbrev pub ArePlaces : HashMap Name ℕ S → HashMap (ℕ × ℕ) ℕ Z → List LinkedMethod → Type 0
@@ -70,26 +71,42 @@ module _ {Z : Type 0} where
 
   -- The place in a class of the method of these numbers.
   abbrev pub place_by : List (HashMap (ℕ × ℕ) ℕ Z) → ℕ → ℕ × ℕ → Option ℕ
-  place_by all class head = option_and_then (λ places. get same_head places head) (slice_get all class)
+  place_by all class head =
+      option_and_then (λ places. get same_head places head) (slice_get all class)
 
   abbrev pub target_by : List (HashMap (ℕ × ℕ) ℕ Z) → ℕ → ℕ × ℕ → Option Target
-  target_by all class head = option_map (λ place. record { class = record { 0 = class }; place = place }) (place_by all class head)
+  target_by all class head =
+      option_map (λ place. record { class = record { 0 = class }; place = place })
+      (place_by all class head)
 
 module _ {N S Z : Type 0} where
   -- The target of what is named, where its class, its name and its descriptor have numbers.
-  abbrev pub ref_target : HashMap Name ℕ N → HashMap Name ℕ S → List (HashMap (ℕ × ℕ) ℕ Z) → MethodRef → Option Target
+  abbrev pub ref_target :
+      HashMap Name ℕ N → HashMap Name ℕ S → List (HashMap (ℕ × ℕ) ℕ Z) → MethodRef
+      → Option Target
   ref_target numbers words all r =
-      if nat_le (length r.class) 256 then option_and_then (λ class. option_and_then (target_by all class) (head_in words r.name r.desc)) (get same numbers r.class) else None
+      if nat_le (length r.class) 256
+      then option_and_then
+      (λ class. option_and_then (target_by all class) (head_in words r.name r.desc))
+      (get same numbers r.class)
+      else None
 
-  abbrev pub entry_target : HashMap Name ℕ N → HashMap Name ℕ S → List (HashMap (ℕ × ℕ) ℕ Z) → Entry → Option Target
-  entry_target numbers words all e = option_and_then (ref_target numbers words all) (method_entry (Some e))
+  abbrev pub entry_target :
+      HashMap Name ℕ N → HashMap Name ℕ S → List (HashMap (ℕ × ℕ) ℕ Z) → Entry
+      → Option Target
+  entry_target numbers words all e =
+      option_and_then (ref_target numbers words all) (method_entry (Some e))
 
   -- The targets of a class's entries, in their order.
-  abbrev pub row_by : HashMap Name ℕ N → HashMap Name ℕ S → List (HashMap (ℕ × ℕ) ℕ Z) → List Entry → List (Option Target)
+  abbrev pub row_by :
+      HashMap Name ℕ N → HashMap Name ℕ S → List (HashMap (ℕ × ℕ) ℕ Z) → List Entry
+      → List (Option Target)
   row_by numbers words all entries = map (entry_target numbers words all) entries
 
 module _ {N S Z A B : Type 0} where
   -- For each class the targets of its entries.
-  abbrev pub AreTargetsBy : HashMap Name ℕ N → HashMap Name ℕ S → List (HashMap (ℕ × ℕ) ℕ Z) → List (Arc Info A) → Arc (List (List (Option Target))) B → Type 0
+  abbrev pub AreTargetsBy :
+      HashMap Name ℕ N → HashMap Name ℕ S → List (HashMap (ℕ × ℕ) ℕ Z) → List (Arc Info A)
+      → Arc (List (List (Option Target))) B → Type 0
   AreTargetsBy numbers words all cs rows =
       arc_value rows ≡ map (λ i. row_by numbers words all i.linked.entries) (shared cs)

@@ -1,12 +1,12 @@
 //! What a run has consulted, and the walk over all that stands above a class.
 
-ghost use Rattle.std.specs.Prelude.{◌≡◌, ◌<◌, ◌↔◌, ℕ, [], ◌∷◌, ◌++◌, length, true, slice_get, slice_set, Some, IfOk, OnOk, IsTrue};
+ghost use Rattle.std.specs.Prelude.{◌≡◌, ◌<◌, ◌↔◌, [], ◌∷◌, ◌++◌, length, true, slice_get, slice_set, Some, IfOk, OnOk, IsTrue};
 ghost use Rattle.std.specs.List.{list_any};
 ghost use Rattle.program_rules.specs.Names.{same};
 ghost use Rattle.program_rules.specs.Linked.{is_library};
-ghost use Rattle.program_rules.specs.Programs.{supers_within, consult_one, consult_in, consulted_with};
+ghost use Rattle.program_rules.specs.Programs.{consult_one, consult_in, consulted_with};
 ghost use Rattle.class_table.specs.Table.{look, name_at};
-ghost use Rattle.class_table.specs.Seen.{AreKnown, IsConsultedOf};
+ghost use Rattle.class_table.specs.Seen.{AreKnownAbove, IsConsultedOf};
 ghost use Rattle.class_table.specs.Walked.{wanted, AreTasks, Visits, Makes};
 
 use crate::program::Program;
@@ -53,14 +53,16 @@ impl Consulted {
     // Adds a name, unless it is known.
     fn note(&mut self, program: &Program, name: &Name) -> Result<(), Memory>
         requires { IsConsultedOf program.now self.old }
-        ensures names { OnOk result (self.new.names ≡ consult_one (look program.now) name.now self.old.names) }
+        ensures names { OnOk result
+            (self.new.names ≡ consult_one (look program.now) name.now self.old.names) }
         ensures kept { OnOk result (IsConsultedOf program.now self.new) }
     {
         self.add(program, name)
     }
 
     fn add(&mut self, program: &Program, name: &Name) -> Result<(), Memory>
-        ensures names { OnOk result (self.new.names ≡ consult_one (look program.now) name.now self.old.names) }
+        ensures names { OnOk result
+            (self.new.names ≡ consult_one (look program.now) name.now self.old.names) }
         ensures marks { OnOk result (self.new.marks ≡ self.old.marks) }
     {
         if program.is_library(name) || is_among(self.names.as_slice(), name) {
@@ -88,7 +90,7 @@ impl Consulted {
     fn mark(&mut self, program: &Program, id: ClassId)
         requires class { id.0 < length program.now }
         requires seen { IsConsultedOf program.now self.old }
-        requires walked { (k : ℕ) → AreKnown (look program.now) self.old.names (supers_within k (look program.now) (name_at program.now id.0)) }
+        requires walked { AreKnownAbove program.now self.old.names (name_at program.now id.0) }
         ensures names { self.new.names ≡ self.old.names }
         ensures kept { IsConsultedOf program.now self.new }
     {
@@ -119,7 +121,8 @@ impl Program {
     fn visit(&self, seen: &mut Consulted, tasks: &mut Vec<Task>, id: ClassId) -> Result<(), Memory>
         requires class { id.0 < length self.now }
         requires seen { IsConsultedOf self.now seen.old }
-        ensures visits { OnOk result (Visits self.now id.0 seen.old tasks.old.items seen.new tasks.new.items) }
+        ensures visits { OnOk result
+            (Visits self.now id.0 seen.old tasks.old.items seen.new tasks.new.items) }
         ensures kept { OnOk result (IsConsultedOf self.now seen.new) }
     {
         if seen.is_marked(id) {
@@ -134,7 +137,8 @@ impl Program {
     fn make(&self, seen: &mut Consulted, tasks: &mut Vec<Task>, task: Task) -> Result<(), Memory>
         requires seen { IsConsultedOf self.now seen.old }
         requires tasks { AreTasks self.now seen.old.names (tasks.old.items ++ task ∷ []) }
-        ensures made { OnOk result (Makes self.now task seen.old tasks.old.items seen.new tasks.new.items) }
+        ensures made { OnOk result
+            (Makes self.now task seen.old tasks.old.items seen.new tasks.new.items) }
         ensures kept { OnOk result (IsConsultedOf self.now seen.new) }
     {
         let _len = self.len();
@@ -151,7 +155,9 @@ impl Program {
     fn run(&self, seen: &mut Consulted, tasks: &mut Vec<Task>) -> Result<(), Memory>
         requires seen { IsConsultedOf self.now seen.old }
         requires tasks { AreTasks self.now seen.old.names tasks.old.items }
-        ensures names { OnOk result (seen.new.names ≡ consult_in (look self.now) (wanted self.now tasks.old.items) seen.old.names) }
+        ensures names { OnOk result
+            (seen.new.names
+            ≡ consult_in (look self.now) (wanted self.now tasks.old.items) seen.old.names) }
         ensures kept { OnOk result (IsConsultedOf self.now seen.new) }
     {
         while let Some(task) = next(tasks) {
@@ -165,7 +171,9 @@ impl Program {
     pub fn consult(&self, seen: &mut Consulted, id: ClassId) -> Result<(), Memory>
         requires class { id.0 < length self.now }
         requires seen { IsConsultedOf self.now seen.old }
-        ensures names { OnOk result (seen.new.names ≡ consulted_with (look self.now) (name_at self.now id.0) seen.old.names) }
+        ensures names { OnOk result
+            (seen.new.names
+            ≡ consulted_with (look self.now) (name_at self.now id.0) seen.old.names) }
         ensures kept { OnOk result (IsConsultedOf self.now seen.new) }
     {
         if seen.is_marked(id) {
@@ -178,7 +186,8 @@ impl Program {
     /// Consults the class of a name, also where there is none, as `consult` does.
     pub fn consult_name(&self, seen: &mut Consulted, name: &Name) -> Result<(), Memory>
         requires seen { IsConsultedOf self.now seen.old }
-        ensures names { OnOk result (seen.new.names ≡ consulted_with (look self.now) name.now seen.old.names) }
+        ensures names { OnOk result
+            (seen.new.names ≡ consulted_with (look self.now) name.now seen.old.names) }
         ensures kept { OnOk result (IsConsultedOf self.now seen.new) }
     {
         let _len = self.len();

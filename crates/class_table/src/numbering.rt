@@ -1,14 +1,12 @@
 //! The classes of a program with what they mean, and their numbers by their names.
 
-ghost use Rattle.std.specs.Prelude.{◌≡◌, ◌<◌, ◌^◌, ℕ, List, All, map, length, IfOk, OnOk};
+ghost use Rattle.std.specs.Prelude.{◌≡◌, ◌<◌, ◌^◌, All, map, length, IfOk, OnOk};
 ghost use Rattle.std.specs.Arc.{arc_value};
 ghost use Rattle.class_link.specs.Info.{IsInfo, body_name};
 ghost use Rattle.class_table.specs.Table.{bodies_of};
-ghost use Rattle.std.specs.HashMap.{get};
-ghost use Rattle.program_rules.specs.Names.{same};
 ghost use Rattle.class_link.specs.declared.loaded.ClassBody.TheVariants.{File, Library};
 ghost use Rattle.class_table.specs.Adding.{shared, AreClassesOf, AddsClasses, KeepsMeant};
-ghost use Rattle.class_table.specs.Numbers.{IsNumbering, with_number};
+ghost use Rattle.class_table.specs.Numbers.{IsNumbering, AddsNumber};
 
 use class_link::{ClassBody, ClassInfo, LibClass, Loaded, Shared};
 use class_model::{Memory, Name};
@@ -43,7 +41,8 @@ fn add_files(
     classes: Vec<Loaded>,
 ) -> Result<(), Memory>
     ensures meant { OnOk result (KeepsMeant infos.old.items infos.new.items) }
-    ensures classes { OnOk result (AddsClasses infos.old.items (map File classes.items) infos.new.items) }
+    ensures classes { OnOk result
+        (AddsClasses infos.old.items (map File classes.items) infos.new.items) }
 {
     for loaded in classes {
         infos.push(file_info(alloc, loaded)?)?;
@@ -58,7 +57,8 @@ fn add_library(
     library: Vec<LibClass>,
 ) -> Result<(), Memory>
     ensures meant { OnOk result (KeepsMeant infos.old.items infos.new.items) }
-    ensures classes { OnOk result (AddsClasses infos.old.items (map Library library.items) infos.new.items) }
+    ensures classes { OnOk result
+        (AddsClasses infos.old.items (map Library library.items) infos.new.items) }
 {
     for class in library {
         infos.push(info(alloc, ClassBody::Library(class))?)?;
@@ -72,7 +72,8 @@ pub fn infos(
     classes: Vec<Loaded>,
     library: Vec<LibClass>,
 ) -> Result<Vec<Arc<ClassInfo, Global>>, Memory>
-    ensures classes { IfOk result (λ is. AreClassesOf is.items (bodies_of classes.items library.items)) }
+    ensures classes { IfOk result (λ is.
+        AreClassesOf is.items (bodies_of classes.items library.items)) }
     ensures meant { IfOk result (λ is. All IsInfo (shared is.items)) }
 {
     let mut infos = Vec::new(alloc);
@@ -83,7 +84,7 @@ pub fn infos(
 
 // Gives a number to a name, unless it has one.
 fn add_name(numbers: &mut HashMap<Name, u32>, name: &Name, number: u32) -> Result<(), Memory>
-    ensures { OnOk result ((n : List ℕ) → get same numbers.new n ≡ with_number (get same numbers.old n) (same name.now n) number) }
+    ensures { OnOk result (AddsNumber name.now number numbers.old numbers.new) }
 {
     if numbers.contains_key(name) {
         return Ok(());

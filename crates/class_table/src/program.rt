@@ -1,14 +1,12 @@
 //! The classes of a program by number and by name.
 
-ghost use Rattle.std.specs.Prelude.{◌≡◌, ◌<◌, ◌^◌, All, map, length, slice_get, slice_set, Some, None, IfOk, IfErr, OnOk, IfSome, IfNone, IsSomeAnd, option_and_then};
+ghost use Rattle.std.specs.Prelude.{◌≡◌, ◌<◌, ◌^◌, All, map, length, slice_get, slice_set, Some, None, IfOk, IfErr, OnOk, IfSome, IfNone, option_and_then};
 ghost use Rattle.std.specs.Option.{option_map, option_copied};
 ghost use Rattle.std.specs.Arc.{arc_value};
 ghost use Rattle.program_rules.specs.Linked.{method_in};
-ghost use Rattle.program_rules.specs.Names.{is_listed};
-ghost use Rattle.program_rules.specs.Programs.{supers};
 ghost use Rattle.class_link.specs.View.{method_of};
 ghost use Rattle.class_link.specs.Info.{IsInfo, class_of, link_body, file_in};
-ghost use Rattle.class_table.specs.Table.{AreDistinct, IsLeastDuplicate, bodies_of, names_of, number_of, CanSwap, class_at, name_at, look, entries_at, methods_at, reference_at, named_number, named_place, IsProgram, AreLinksOf};
+ghost use Rattle.class_table.specs.Table.{AreDistinct, IsLeastDuplicate, bodies_of, names_of, number_of, CanSwap, class_at, name_at, look, entries_at, methods_at, is_below, named_number, named_place, IsNamedBy, NamesNoClass, IsProgram, AreLinksOf};
 ghost use Rattle.class_order.specs.Ranks.{HasRanks};
 ghost use Rattle.class_table.specs.Calls.{IsTargetAt};
 ghost use Rattle.class_table.specs.Faults.{look_of, AreProgram, IsFirstMissing, IsFirstCycle, IsFirstWrongKind};
@@ -164,7 +162,7 @@ impl Program {
     pub fn is_subtype(&self, class: ClassId, over: ClassId) -> bool
         requires class { class.0 < length self.now }
         requires over { over.0 < length self.now }
-        ensures { result ≡ is_listed (name_at self.now over.0) (supers (look self.now) (name_at self.now class.0)) }
+        ensures { result ≡ is_below self.now class.0 over.0 }
     {
         stands_below(&self.supers, class.0, over.0)
     }
@@ -210,7 +208,9 @@ impl Program {
     #[tactic(auto, using(crate::proofs::Places::method_linked))]
     pub fn method(&self, class: ClassId, method: u32) -> Option<&LinkedMethod>
         ensures place { option_copied result ≡ slice_get (methods_at self.now class.0) method }
-        ensures linked { class.0 < length self.now → option_map (method_of (entries_at self.now class.0)) (option_copied result) ≡ method_in (look self.now (name_at self.now class.0)) method }
+        ensures linked { class.0 < length self.now →
+            option_map (method_of (entries_at self.now class.0)) (option_copied result)
+            ≡ method_in (look self.now (name_at self.now class.0)) method }
     {
         self.get(class)?.linked().methods.get(method as usize)
     }
@@ -228,16 +228,17 @@ impl Program {
     fn class_by_name(&self, class: ClassId, reference: u32) -> Option<ClassId>
         ensures found { IfSome result (λ id. named_number self.now class.0 reference ≡ Some id.0) }
         ensures within { IfSome result (λ id. id.0 < length self.now) }
-        ensures named { IfSome result (λ id. IsSomeAnd (reference_at self.now class.0 reference) (λ r. (name_at self.now id.0 ≡ r.class) × (look self.now r.class ≡ class_at self.now id.0))) }
+        ensures named { IfSome result (λ id. IsNamedBy self.now class.0 reference id.0) }
         ensures absent { IfNone result (named_number self.now class.0 reference ≡ None) }
-        ensures nothing { IfNone result (IfSome (reference_at self.now class.0 reference) (λ r. look self.now r.class ≡ None)) }
+        ensures nothing { IfNone result (NamesNoClass self.now class.0 reference) }
     {
         let reference = self.get(class)?.linked().method_ref(reference)?;
         self.find(&reference.class)
     }
 
     fn method_by_name(&self, class: ClassId, reference: u32, target: ClassId) -> Option<u32>
-        ensures found { IfSome result (λ place. named_place self.now class.0 reference target.0 ≡ Some place) }
+        ensures found { IfSome result (λ place.
+            named_place self.now class.0 reference target.0 ≡ Some place) }
         ensures absent { IfNone result (named_place self.now class.0 reference target.0 ≡ None) }
     {
         let reference = self.get(class)?.linked().method_ref(reference)?;
@@ -254,9 +255,9 @@ impl Program {
     pub fn named_class(&self, class: ClassId, reference: u32) -> Option<ClassId>
         ensures found { IfSome result (λ id. named_number self.now class.0 reference ≡ Some id.0) }
         ensures within { IfSome result (λ id. id.0 < length self.now) }
-        ensures named { IfSome result (λ id. IsSomeAnd (reference_at self.now class.0 reference) (λ r. (name_at self.now id.0 ≡ r.class) × (look self.now r.class ≡ class_at self.now id.0))) }
+        ensures named { IfSome result (λ id. IsNamedBy self.now class.0 reference id.0) }
         ensures absent { IfNone result (named_number self.now class.0 reference ≡ None) }
-        ensures nothing { IfNone result (IfSome (reference_at self.now class.0 reference) (λ r. look self.now r.class ≡ None)) }
+        ensures nothing { IfNone result (NamesNoClass self.now class.0 reference) }
     {
         match self.target(class, reference) {
             Some(target) => Some(target.class),
@@ -269,7 +270,8 @@ impl Program {
     /// program keeps it.
     #[tactic(auto, using(crate::proofs::CallLaws::target_place))]
     pub fn named_method(&self, class: ClassId, reference: u32, target: ClassId) -> Option<u32>
-        ensures found { IfSome result (λ place. named_place self.now class.0 reference target.0 ≡ Some place) }
+        ensures found { IfSome result (λ place.
+            named_place self.now class.0 reference target.0 ≡ Some place) }
         ensures absent { IfNone result (named_place self.now class.0 reference target.0 ≡ None) }
     {
         if let Some(found) = self.target(class, reference) {

@@ -1,10 +1,9 @@
 //! The walk over all that stands above a class, as the definition has it.
 
 ghost use Rattle.std.specs.Prelude.{◌≡◌, ◌<◌, [], ◌∷◌, ◌++◌, drop, length, IfOk, OnOk};
-ghost use Rattle.std.specs.List.{list_all};
 ghost use Rattle.program_rules.specs.Linked.{is_library};
 ghost use Rattle.program_rules.specs.Programs.{supers};
-ghost use Rattle.class_table.specs.Table.{look, name_at};
+ghost use Rattle.class_table.specs.Table.{look, name_at, are_library};
 ghost use Rattle.class_table.specs.Walked.{wanted, AreVisits, Adds, AddsVisits, PassesClass, Passes};
 
 use crate::program::Program;
@@ -31,7 +30,8 @@ impl Program {
 
     fn add_task(&self, out: &mut Vec<Name>, tasks: &mut Vec<Task>, task: Task) -> Result<(), Memory>
         requires { AreVisits self.now (tasks.old.items ++ task ∷ []) }
-        ensures { OnOk result (Adds self.now task out.old.items tasks.old.items out.new.items tasks.new.items) }
+        ensures { OnOk result
+            (Adds self.now task out.old.items tasks.old.items out.new.items tasks.new.items) }
     {
         let _len = self.len();
         match task {
@@ -67,7 +67,8 @@ impl Program {
     fn pass_class(&self, tasks: &mut Vec<Task>, id: ClassId) -> Result<bool, Memory>
         requires { id.0 < length self.now }
         ensures is { IfOk result (λ b. b ≡ is_library (look self.now (name_at self.now id.0))) }
-        ensures passed { IfOk result (λ b. PassesClass self.now id.0 b tasks.old.items tasks.new.items) }
+        ensures passed { IfOk result (λ b.
+            PassesClass self.now id.0 b tasks.old.items tasks.new.items) }
     {
         if !self.info(id).linked().library {
             return Ok(false);
@@ -89,7 +90,7 @@ impl Program {
 
     fn pass_all(&self, tasks: &mut Vec<Task>) -> Result<bool, Memory>
         requires { AreVisits self.now tasks.old.items }
-        ensures { IfOk result (λ b. b ≡ list_all (λ m. is_library (look self.now m)) (wanted self.now tasks.old.items)) }
+        ensures { IfOk result (λ b. b ≡ are_library self.now (wanted self.now tasks.old.items)) }
     {
         while let Some(task) = next(tasks) {
             let passed = self.pass_task(tasks, task)?;
@@ -104,7 +105,8 @@ impl Program {
     /// class that isn't.
     pub fn has_library_above(&self, alloc: Global, id: ClassId) -> Result<bool, Memory>
         requires { id.0 < length self.now }
-        ensures { IfOk result (λ b. b ≡ list_all (λ m. is_library (look self.now m)) (drop 1 (supers (look self.now) (name_at self.now id.0)))) }
+        ensures { IfOk result (λ b.
+            b ≡ are_library self.now (drop 1 (supers (look self.now) (name_at self.now id.0)))) }
     {
         let _len = self.len();
         let mut tasks = Vec::new(alloc);

@@ -2,9 +2,7 @@
 //! for word. A body that such a clause refuses here, the whole contract refuses there too.
 
 ghost use Rattle.std.specs.Prelude.{◌≡◌, ◌<◌, length, OnOk};
-ghost use Rattle.program_rules.specs.Names.{is_listed};
-ghost use Rattle.program_rules.specs.Programs.{supers};
-ghost use Rattle.class_table.specs.Table.{AreDistinct, bodies_of, names_of, name_at, look};
+ghost use Rattle.class_table.specs.Table.{AreDistinct, bodies_of, names_of, is_below};
 ghost use Rattle.class_table.specs.Faults.{AreProgram, IsFirstMissing, IfSuperMissing};
 
 use class_model::{ClassId, Seq};
@@ -52,7 +50,7 @@ pub fn build_present(
 pub fn is_subtype(program: &Program, class: ClassId, over: ClassId) -> bool
     requires class { class.0 < length program.now }
     requires over { over.0 < length program.now }
-    ensures { result ≡ is_listed (name_at program.now over.0) (supers (look program.now) (name_at program.now class.0)) }
+    ensures { result ≡ is_below program.now class.0 over.0 }
 {
     let is = program.is_subtype(class, over);
     is

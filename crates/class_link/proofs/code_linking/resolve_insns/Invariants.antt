@@ -2,7 +2,7 @@ use Rattle.std.proofs.Common.{◌≡◌, map, take, drop}
 use Rattle.class_link.specs.View.{instruction_of, meaning_at}
 use Rattle.class_link.specs.Opcodes.{instruction_by}
 use Rattle.class_link.specs.Switches.{switches_in}
-use Rattle.class_link.proofs.code_linking.link_insns.Given as goal
+use Rattle.class_link.proofs.code_linking.resolve_insns.Given as goal
 
 abbrev pub invariant-loop-insn : goal.invariant-loop-insn
 invariant-loop-insn l =
