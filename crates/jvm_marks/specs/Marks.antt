@@ -1,5 +1,5 @@
 -- What is kept by class number beside a list in order of first use.
-use Rattle.std.specs.Prelude.{◌≡◌, ℕ, Bool, false, ◌&&◌, nat_eq, if◌then◌else◌, List, [], ◌∷◌, ◌++◌}
+use Rattle.std.specs.Prelude.{◌≡◌, ℕ, Bool, true, false, ◌&&◌, nat_eq, if◌then◌else◌, List, [], ◌∷◌, ◌++◌}
 use Rattle.std.proofs.Common.{get_or}
 use Rattle.std.specs.List.{list_any}
 use Rattle.machine_rules.specs.declared.machine.InitState.{InitState}
@@ -19,6 +19,16 @@ with_number n ns = if is_among n ns then ns else ns ++ n ∷ []
 abbrev pub AreNumberMarksOf : List Bool → List ℕ → Type 0
 AreNumberMarksOf marks ns = (n : ℕ) → get_or marks n false ≡ is_among n ns
 
+-- The mark of a number is this one, and those of all others are as they were.
+abbrev pub SetsMark : List Bool → ℕ → Bool → List Bool → Type 0
+SetsMark old n mark new =
+    (k : ℕ) → get_or new k false ≡ (if nat_eq n k then mark else get_or old k false)
+
+-- The mark of a number is left only if it is to stay, and those of all others are as they were.
+abbrev pub KeepsMarkIf : List Bool → ℕ → Bool → List Bool → Type 0
+KeepsMarkIf old n stays new =
+    (k : ℕ) → get_or new k false ≡ (if nat_eq n k then get_or old k false && stays else get_or old k false)
+
 -- ---- reached lines
 
 -- Whether a class and a line are among these.
@@ -37,6 +47,25 @@ is_marked marks class line = get_or (get_or marks class []) line false
 -- The marks say which pairs are listed.
 abbrev pub AreMarksOf : List (List Bool) → List (ℕ × ℕ) → Type 0
 AreMarksOf marks pairs = (class line : ℕ) → is_marked marks class line ≡ is_listed class line pairs
+
+-- Each line that is marked is among these.
+abbrev pub AreMarkedListed : List (List Bool) → List (ℕ × ℕ) → Type 0
+AreMarkedListed marks pairs =
+    (c l : ℕ) → is_marked marks c l ≡ true → is_listed c l pairs ≡ true
+
+-- A line is marked, and all others are as they were.
+abbrev pub SetsLine : List (List Bool) → ℕ → ℕ → List (List Bool) → Type 0
+SetsLine old class line new =
+    (c l : ℕ) → is_marked new c l ≡ (if nat_eq class c && nat_eq line l then true else is_marked old c l)
+
+-- The mark of a line is left only if it is to stay, and those of all others are as they were.
+abbrev pub KeepsLineIf : List (List Bool) → ℕ → ℕ → Bool → List (List Bool) → Type 0
+KeepsLineIf old class line stays new =
+    (c l : ℕ) → is_marked new c l ≡ (if nat_eq class c && nat_eq line l then is_marked old c l && stays else is_marked old c l)
+
+-- The newest pair is taken back.
+abbrev pub LosesLast : List (ℕ × ℕ) → List (ℕ × ℕ) → Type 0
+LosesLast old new = (before : List (ℕ × ℕ)) (pair : ℕ × ℕ) → old ≡ before ++ pair ∷ [] → new ≡ before
 
 -- ---- initialisation
 

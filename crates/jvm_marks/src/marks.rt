@@ -1,8 +1,8 @@
 //! Numbers that were used, each once.
 
-ghost use Rattle.std.specs.Prelude.{◌≡◌, ℕ, ◌<◌, nat_eq, if◌then◌else◌, Ok, true, false, [], ◌∷◌, ◌++◌, length, OnOk, OnErr};
+ghost use Rattle.std.specs.Prelude.{◌≡◌, ℕ, ◌<◌, Ok, true, false, [], ◌∷◌, ◌++◌, length, OnOk, OnErr};
 ghost use Rattle.std.proofs.Common.{get_or};
-ghost use Rattle.jvm_marks.specs.Marks.{is_among, with_number};
+ghost use Rattle.jvm_marks.specs.Marks.{is_among, with_number, SetsMark};
 
 use crate::slots::make_place;
 use class_model::Memory;
@@ -92,14 +92,14 @@ fn is_marked(marks: &[bool], n: usize) -> bool
 // Marks a number.
 fn mark(marks: &mut [bool], n: usize)
     requires { n < length marks.old }
-    ensures { (k : ℕ) → get_or marks.new k false ≡ (if nat_eq n k then true else get_or marks.old k false) }
+    ensures { SetsMark marks.old n true marks.new }
 {
     marks[n] = true;
 }
 
 // Takes the mark of a number away, if there is one.
 fn unmark(marks: &mut [bool], n: usize)
-    ensures { (k : ℕ) → get_or marks.new k false ≡ (if nat_eq n k then false else get_or marks.old k false) }
+    ensures { SetsMark marks.old n false marks.new }
 {
     if n < marks.len() {
         marks[n] = false;

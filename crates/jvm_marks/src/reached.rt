@@ -1,8 +1,8 @@
 //! The lines that a run reaches.
 
-ghost use Rattle.std.specs.Prelude.{◌≡◌, ℕ, map, nat_eq, ◌&&◌, if◌then◌else◌, Ok, true, false, ◌∷◌, ◌++◌, [], List, OnOk, OnErr, ◌<◌, length};
+ghost use Rattle.std.specs.Prelude.{◌≡◌, ℕ, map, Ok, true, false, ◌∷◌, ◌++◌, [], OnOk, OnErr, ◌<◌, length};
 ghost use Rattle.std.proofs.Common.{get_or};
-ghost use Rattle.jvm_marks.specs.Marks.{is_listed, is_marked, with_pair};
+ghost use Rattle.jvm_marks.specs.Marks.{is_listed, is_marked, with_pair, SetsMark, KeepsMarkIf, SetsLine, KeepsLineIf, AreMarkedListed, LosesLast};
 
 use crate::slots::make_place;
 use class_model::{ClassId, Memory};
@@ -95,7 +95,7 @@ impl Reached {
 
     /// Takes back the newest pair.
     pub fn take_back(&mut self)
-        ensures { (before : List (ℕ × ℕ)) (pair : ℕ × ℕ) → self.old ≡ before ++ pair ∷ [] → self.new ≡ before }
+        ensures { LosesLast self.old self.new }
     {
         let Some((class, line)) = self.pairs.pop() else {
             return;
@@ -149,14 +149,14 @@ fn is_among(pairs: &[(ClassId, u16)], class: ClassId, line: u16) -> bool
 fn mark(lines: &mut [Lines], class: usize, line: usize)
     requires class { class < length lines.old }
     requires line { line < length (get_or lines.old class []) }
-    ensures { (c l : ℕ) → is_marked lines.new c l ≡ (if nat_eq class c && nat_eq line l then true else is_marked lines.old c l) }
+    ensures { SetsLine lines.old class line lines.new }
 {
     lines[class].mark(line);
 }
 
 // Takes the mark of a line of a class away, where it isn't to stay.
 fn unmark_unless(lines: &mut [Lines], class: usize, line: usize, stays: bool)
-    ensures { (c l : ℕ) → is_marked lines.new c l ≡ (if nat_eq class c && nat_eq line l then is_marked lines.old c l && stays else is_marked lines.old c l) }
+    ensures { KeepsLineIf lines.old class line stays lines.new }
 {
     if class < lines.len() {
         lines[class].unmark_unless(line, stays);
@@ -165,7 +165,7 @@ fn unmark_unless(lines: &mut [Lines], class: usize, line: usize, stays: bool)
 
 // Takes the marks of these lines away.
 fn unmark_all(lines: &mut [Lines], pairs: &[(ClassId, u16)])
-    requires marks { (c l : ℕ) → is_marked lines.old c l ≡ true → is_listed c l (map (λ x. (x.0.0, x.1)) pairs.now) ≡ true }
+    requires marks { AreMarkedListed lines.old (map (λ x. (x.0.0, x.1)) pairs.now) }
     ensures { (c l : ℕ) → is_marked lines.new c l ≡ false }
 {
     for pair in pairs {
@@ -185,14 +185,14 @@ impl Lines {
     // Marks a line.
     fn mark(&mut self, line: usize)
         requires { line < length self.old }
-        ensures { (l : ℕ) → get_or self.new l false ≡ (if nat_eq line l then true else get_or self.old l false) }
+        ensures { SetsMark self.old line true self.new }
     {
         self.marks[line] = true;
     }
 
     // Takes the mark of a line away, where it isn't to stay.
     fn unmark_unless(&mut self, line: usize, stays: bool)
-        ensures { (l : ℕ) → get_or self.new l false ≡ (if nat_eq line l then get_or self.old l false && stays else get_or self.old l false) }
+        ensures { KeepsMarkIf self.old line stays self.new }
     {
         if line < self.marks.len() {
             self.marks[line] = self.marks[line] && stays;

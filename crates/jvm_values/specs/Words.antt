@@ -6,6 +6,7 @@ use Rattle.program_rules.specs.declared.value.Value.{Value}
 use Rattle.program_rules.specs.declared.value.Value.TheVariants.{Int, Long, Null}
 use Rattle.jvm_values.specs.declared.object.Object.{Object}
 use Rattle.jvm_values.specs.declared.object.ObjKind.TheVariants.{Plain, Array, Text}
+use Rattle.jvm_values.specs.Contents.{Contents, with_object}
 
 -- What a field or an element of a kind holds at first.
 abbrev pub default_of : Kind → Value
@@ -37,3 +38,15 @@ new_text units = record { kind = Text; values = []; text = units; items = [] }
 
 abbrev pub text_words : List ℕ → ℕ
 text_words units = 2 + length units
+
+-- The heap with such a new object.
+abbrev pub with_new_object : Contents → ℕ → List Kind → Contents
+with_new_object heap class fields = with_object heap (new_object class fields) (object_words fields)
+
+-- The heap with such a new array.
+abbrev pub with_new_array : Contents → Kind → ℕ → Contents
+with_new_array heap of len = with_object heap (new_array of len) (array_words len)
+
+-- The heap with such a new text.
+abbrev pub with_new_text : Contents → List ℕ → Contents
+with_new_text heap units = with_object heap (new_text units) (text_words units)

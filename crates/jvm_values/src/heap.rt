@@ -1,10 +1,10 @@
 //! The heap: objects by their numbers, and the words that they took.
 
-ghost use Rattle.std.specs.Prelude.{◌≡◌, ◌+◌, ◌^◌, ◌≤◌, ◌<◌, ◌↔◌, [], ◌∷◌, ◌++◌, length, slice_get, slice_set, OnOk, OnErr, IfOk, IsOkUnless, IsSome, IsSomeAnd, IsTrue, true, false, IfErr};
+ghost use Rattle.std.specs.Prelude.{◌≡◌, ◌+◌, ◌^◌, ◌≤◌, ◌<◌, ◌↔◌, [], ◌∷◌, ◌++◌, length, slice_get, slice_set, OnOk, OnErr, IfOk, IsOkUnless, IsSome, IsTrue, true, IfErr};
 ghost use Rattle.std.specs.Bool.{OnTrue, OnFalse};
 ghost use Rattle.std.specs.Option.{option_copied};
-ghost use Rattle.jvm_values.specs.Contents.{no_objects, object_at, next_number, IsPassedBy, with_object, with_words, with_object_at, fits_with, HasSlot, with_value, SetsSlot};
-ghost use Rattle.jvm_values.specs.Words.{new_object, object_words, new_array, array_words, new_text, text_words};
+ghost use Rattle.jvm_values.specs.Contents.{no_objects, object_at, next_number, IsPassedBy, IsFullWhere, IsFullPast, with_object, with_words, with_object_at, fits_with, HasSlot, HasSlotAt, SetsSlot, SetsSlotAt};
+ghost use Rattle.jvm_values.specs.Words.{object_words, array_words, text_words, with_new_object, with_new_array, with_new_text};
 
 use crate::defaults::{default_elements, default_fields};
 use crate::fault::HeapFault;
@@ -50,7 +50,7 @@ impl Heap {
     /// Makes an object of a class with such fields, each with its first value (JVMS 2.3, 2.4). It takes one word, and one for each field.
     pub fn object(&mut self, class: ClassId, fields: &Seq<Kind>) -> Result<u32, HeapFault>
         ensures number { IfOk result (λ number. number ≡ next_number self.old) }
-        ensures heap { OnOk result (self.new ≡ with_object self.old (new_object class.0 fields.now) (object_words fields.now)) }
+        ensures heap { OnOk result (self.new ≡ with_new_object self.old class.0 fields.now) }
         ensures full { (result ≡ Err HeapFault.Full) ↔ IsPassedBy self.old (object_words fields.now) }
         ensures err { OnErr result (self.new ≡ self.old) }
     {
@@ -70,7 +70,7 @@ impl Heap {
     /// Makes an array of so many elements, each with its first value. It takes two words, and one for each element.
     pub fn array(&mut self, of: ArrayKind, len: u32) -> Result<u32, HeapFault>
         ensures number { IfOk result (λ number. number ≡ next_number self.old) }
-        ensures heap { OnOk result (self.new ≡ with_object self.old (new_array of len) (array_words len)) }
+        ensures heap { OnOk result (self.new ≡ with_new_array self.old of len) }
         ensures full { (result ≡ Err HeapFault.Full) ↔ IsPassedBy self.old (array_words len) }
         ensures err { OnErr result (self.new ≡ self.old) }
     {
@@ -90,7 +90,7 @@ impl Heap {
     /// Makes a `java/lang/String` of these UTF-16 code units. It takes two words, and one for each unit.
     pub fn text(&mut self, units: &Name) -> Result<u32, HeapFault>
         ensures number { IfOk result (λ number. number ≡ next_number self.old) }
-        ensures heap { OnOk result (self.new ≡ with_object self.old (new_text units.now) (text_words units.now)) }
+        ensures heap { OnOk result (self.new ≡ with_new_text self.old units.now) }
         ensures full { (result ≡ Err HeapFault.Full) ↔ IsPassedBy self.old (text_words units.now) }
         ensures err { OnErr result (self.new ≡ self.old) }
     {
@@ -112,7 +112,7 @@ impl Heap {
         ensures number { IfOk result (λ number. number ≡ next_number self.old) }
         ensures heap { OnOk result (self.new ≡ with_object self.old object (1 + more)) }
         ensures fits { OnOk result (fits_with self.old (1 + more) ≡ true) }
-        ensures full { IfErr result (λ fault. (fault ≡ HeapFault.Full) ↔ (fits_with self.old (1 + more) ≡ false)) }
+        ensures full { IfErr result (λ fault. IsFullWhere fault (fits_with self.old (1 + more))) }
         ensures err { OnErr result (self.new ≡ self.old) }
     {
         let words = words_with(self.words, self.limit, 1, more as usize)?;
@@ -127,7 +127,7 @@ impl Heap {
         requires { IsSome (object_at self.old at) }
         ensures heap { OnOk result (self.new ≡ with_words self.old words) }
         ensures fits { OnOk result (fits_with self.old words ≡ true) }
-        ensures full { IfErr result (λ fault. (fault ≡ HeapFault.Full) × (fits_with self.old words ≡ false)) }
+        ensures full { IfErr result (λ fault. IsFullPast fault (fits_with self.old words)) }
         ensures err { OnErr result (self.new ≡ self.old) }
     {
         self.words = words_with(self.words, self.limit, 0, words as usize)?;
@@ -229,8 +229,8 @@ fn add(objects: &mut Vec<Object>, object: Object) -> Result<u32, HeapFault>
 
 // Puts a value into a slot of the object at a place, if there is one.
 fn put(objects: &mut [Object], place: usize, slot: usize, v: Value) -> bool
-    ensures there { IsTrue result ↔ IsSomeAnd (slice_get objects.old place) (λ object. slot < length object.values) }
-    ensures put { OnTrue result (IsSomeAnd (slice_get objects.old place) (λ object. objects.new ≡ slice_set objects.old place (with_value object slot v))) }
+    ensures there { IsTrue result ↔ HasSlotAt objects.old place slot }
+    ensures put { OnTrue result (SetsSlotAt objects.old objects.new place slot v) }
     ensures absent { OnFalse result (objects.new ≡ objects.old) }
 {
     if place >= objects.len() || slot >= objects[place].values.len() {

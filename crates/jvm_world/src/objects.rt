@@ -93,7 +93,8 @@ impl World {
 
     /// Whether the object of a class was made, or there is room for it.
     pub fn has_room_for_class(&self, p: &Program, name: &Name) -> bool
-        ensures { TellsMade p.now self.now (λ v. object_of_class self.now.limits v name.now) result }
+        ensures { TellsMade p.now self.now (λ v.
+            object_of_class self.now.limits v name.now) result }
     {
         match self.class_objects.get(name) {
             Some(_) => true,

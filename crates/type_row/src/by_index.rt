@@ -74,19 +74,13 @@ pub fn write_field(site: &Site, at: u32, f: &mut Frame, index: u32) -> Result<An
     Ok(put_field(site, f, class, held, own))
 }
 
-pub fn invoke_virtual(site: &Site, at: u32, f: &mut Frame, index: u32) -> Result<Answer, Memory>
+/// `invokevirtual` and `invokeinterface`.
+pub fn invoke_method(site: &Site, at: u32, f: &mut Frame, index: u32) -> Result<Answer, Memory>
     requires { IsSite site.now }
-    ensures { IfOk result (λ a. RowMeant site.now at (InvokeVirtual index) f.old a f.new) }
-{
-    let Some(method) = method_at(site, index) else {
-        return Ok(Answer::Fails(7));
-    };
-    Ok(call_method(site, f, method)?)
-}
-
-pub fn invoke_interface(site: &Site, at: u32, f: &mut Frame, index: u32) -> Result<Answer, Memory>
-    requires { IsSite site.now }
-    ensures { IfOk result (λ a. RowMeant site.now at (InvokeInterface index) f.old a f.new) }
+    ensures virtual_ { IfOk result (λ a.
+        RowMeant site.now at (InvokeVirtual index) f.old a f.new) }
+    ensures interface { IfOk result (λ a.
+        RowMeant site.now at (InvokeInterface index) f.old a f.new) }
 {
     let Some(method) = method_at(site, index) else {
         return Ok(Answer::Fails(7));

@@ -5,9 +5,8 @@ ghost use Rattle.std.specs.Prelude.{◌≡◌, IfOk};
 ghost use Rattle.type_row.specs.Means.{IsSite, RowMeant};
 
 use crate::by_index::{
-    cast, class_constant, invoke_interface, invoke_special, invoke_static, invoke_virtual,
-    make_array, make_arrays, make_object, read_field, read_static, test_instance, text_constant,
-    write_field, write_static,
+    cast, class_constant, invoke_method, invoke_special, invoke_static, make_array, make_arrays,
+    make_object, read_field, read_static, test_instance, text_constant, write_field, write_static,
 };
 use crate::by_number::{by_keys, by_table, make_plain_array};
 use class_link::Instruction;
@@ -78,8 +77,8 @@ pub fn row(site: &Site, at: u32, instruction: Instruction, f: &mut Frame) -> Res
         Instruction::PutStatic(index) => Ok(write_static(site, at, f, index)?),
         Instruction::GetField(index) => Ok(read_field(site, at, f, index)?),
         Instruction::PutField(index) => Ok(write_field(site, at, f, index)?),
-        Instruction::InvokeVirtual(index) => Ok(invoke_virtual(site, at, f, index)?),
-        Instruction::InvokeInterface(index) => Ok(invoke_interface(site, at, f, index)?),
+        Instruction::InvokeVirtual(index) => Ok(invoke_method(site, at, f, index)?),
+        Instruction::InvokeInterface(index) => Ok(invoke_method(site, at, f, index)?),
         Instruction::InvokeSpecial(index) => Ok(invoke_special(site, at, f, index)?),
         Instruction::InvokeStatic(index) => Ok(invoke_static(site, at, f, index)?),
         Instruction::New(index) => Ok(make_object(site, at, f, index)?),

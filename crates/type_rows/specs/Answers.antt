@@ -27,3 +27,7 @@ abbrev pub RowIs : Instruction → ℕ → Frame → Answer → Frame → Type 0
 RowIs i room old a new =
     (ns : List Named) (s : Setting) (at : ℕ) → s.code.max_stack ≡ room
     → row s at i (types_of ns old) ≡ checked_of ns a new
+
+-- The same row, whatever this operand of it is.
+abbrev pub RowsAre : {A : Type 0} → (A → Instruction) → ℕ → Frame → Answer → Frame → Type 0
+RowsAre {A} i room old a new = (x : A) → RowIs (i x) room old a new

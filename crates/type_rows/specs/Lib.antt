@@ -1,3 +1,5 @@
 pub mod Answers
 pub mod Items
+pub mod Locals
 pub mod Sites
+pub mod Words

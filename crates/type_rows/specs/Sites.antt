@@ -1,15 +1,15 @@
 -- Where an instruction stands, seen as the rules have it.
-use Rattle.std.specs.Prelude.{if◌then◌else◌, ◌≡◌, ◌+◌, drop, ℕ, Bool, true, false, ◌&&◌, List, [], ◌∷◌, map, nat_lt, Option, Some, None, is_none, slice_get, ⊤}
+use Rattle.std.specs.Prelude.{if◌then◌else◌, ◌≡◌, ◌+◌, drop, ℕ, Bool, true, false, ◌&&◌, List, [], ◌∷◌, map, nat_le, nat_lt, Option, Some, None, is_none, slice_get, ⊤}
 use Rattle.std.specs.Option.{option_map}
 use Rattle.program_rules.specs.Names.{Name, same, instance_initializer}
 use Rattle.program_rules.specs.Kinds.{Kind, is_int_kind, is_long_kind, reversed_onto}
-use Rattle.program_rules.specs.Instructions.{Instruction, FieldRef, MethodRef, InvokeSpecial, New, NewArray, NewReferenceArray, NewMultiArray, PutField, Unlinked}
+use Rattle.program_rules.specs.Instructions.{Instruction, FieldRef, MethodRef, CheckCast, InvokeSpecial, New, NewArray, NewReferenceArray, NewMultiArray, PutField, Unlinked}
 use Rattle.program_rules.specs.declared.operation.Element.{Element}
 use Rattle.program_rules.specs.Types.{VType, Obj}
 use Rattle.type_rules.specs.References.{Classes, classes_of, array_of, array_name, dimensions}
 use Rattle.type_rules.specs.Assignability.{FrameTypes, assignable}
 use Rattle.type_rules.specs.Frames.{type_of as type_of_kind, is_initializer, new_at, new_of, stated_at}
-use Rattle.type_rules.specs.Rows.{Setting, Checked, Falls, Fails, row, takes, takes_such, takes_ints, returns, plainly_named, is_array_of, is_element, is_plain_name, is_reference_kind, has_kind, leads, leads_all, leads_to, replace_type, initialises, calls_special, may_name, is_owner}
+use Rattle.type_rules.specs.Rows.{Setting, Checked, Falls, Fails, row, takes, takes_such, takes_ints, returns, plainly_named, is_array_of, element_type, is_element, is_plain_name, is_reference_kind, has_kind, leads, leads_all, leads_to, replace_type, initialises, calls_special, may_name, is_owner}
 use Rattle.class_link.specs.Symbols.{IsClass}
 use Rattle.class_link.specs.Opcodes.{on_class, on_field, on_method}
 use Rattle.class_link.specs.declared.instruction.Instruction.{Instruction as Linking}
@@ -61,6 +61,11 @@ takes_reference p ns (given.Reference to) t = assignable p t (type_of ns to)
 takes_reference p ns given.Nothing t = false
 takes_reference p ns given.Int t = false
 takes_reference p ns given.Long t = false
+
+-- Whether a method gives references to which a type is assignable.
+abbrev pub gives_reference : Site → SlotType → Bool
+gives_reference t u =
+    takes_reference (classes_of (look t.program.now)) t.names.now t.given (type_of t.names.now u)
 
 -- What a method gives, by its kind.
 pub record IsGiven (p : Classes) (ns : List Named) (k : Option Kind) (g : Given) : Type 0 where
@@ -175,17 +180,27 @@ PlainIs t m f a =
     → plainly_named r (Falls (types_of t.names.now f)) ≡ checked_of t.names.now a f
 
 -- An array of such elements, or null, stands on the top, and is taken.
-abbrev pub TakesArray : List Named → Element → SlotType → List SlotType → List SlotType → Type 0
-TakesArray ns e t old new =
-    (is_array_of e (type_of ns t) ≡ true)
+abbrev pub TakesArray : Site → Element → SlotType → List SlotType → List SlotType → Type 0
+TakesArray site e t old new =
+    (is_array_of e (type_of site.names.now t) ≡ true)
     × ((go : VType → List VType → Checked)
-    → takes_such (is_array_of e) (types_in ns old) go ≡ go (type_of ns t) (types_in ns new))
+    → takes_such (is_array_of e) (types_in site.names.now old) go
+    ≡ go (type_of site.names.now t) (types_in site.names.now new))
 
 -- It doesn't.
-abbrev pub TakesNoArray : List Named → Element → List SlotType → Type 0
-TakesNoArray ns e old =
+abbrev pub TakesNoArray : Site → Element → List SlotType → Type 0
+TakesNoArray site e old =
     (go : VType → List VType → Checked)
-    → takes_such (is_array_of e) (types_in ns old) go ≡ Fails 7
+    → takes_such (is_array_of e) (types_in site.names.now old) go ≡ Fails 7
+
+-- A type is that of the elements of an array.
+abbrev pub IsElementOf : List Named → Element → SlotType → SlotType → Type 0
+IsElementOf ns e array t = type_of ns t ≡ element_type e (type_of ns array)
+
+-- Whether an array has so many dimensions, and at least one is named.
+abbrev pub has_dimensions : Site → ℕ → ℕ → Bool
+has_dimensions t array count =
+    nat_lt 0 count && nat_le count (dimensions (name_at t.names.now array))
 
 -- What may be stored into such an array stands on the top, and is taken.
 abbrev pub TakesElement : Element → List SlotType → List SlotType → Type 0
@@ -205,6 +220,12 @@ ArrayRow array few room old a new =
     (ns : List Named) (s : Setting) (at : ℕ) (n : Name) → s.code.max_stack ≡ room
     → name_at ns array ≡ array_of n → nat_lt (dimensions n) 255 ≡ few
     → row s at (NewReferenceArray n) (types_of ns old) ≡ checked_of ns a new
+
+-- `checkcast` to the class of this number.
+abbrev pub CastIs : ℕ → ℕ → Frame → Answer → Frame → Type 0
+CastIs to room old a new =
+    (ns : List Named) (s : Setting) (at : ℕ) → s.code.max_stack ≡ room
+    → row s at (CheckCast (name_at ns to)) (types_of ns old) ≡ checked_of ns a new
 
 -- The row of a field that is static, of this type.
 abbrev pub StaticIs :
@@ -280,6 +301,10 @@ IsNoNew i = (es : List Entry) (ss : List Switch) → new_of (Some (instruction_o
 -- The class that the `new` at an instruction names, by the code of a site.
 abbrev pub made_in : Site → ℕ → Option Name
 made_in t at = new_at (code_of t.linked.now.entries t.code.now) at
+
+-- It names the class of this number.
+abbrev pub MakesAt : Site → ℕ → ℕ → Type 0
+MakesAt t at class = made_in t at ≡ Some (name_at t.names.now class)
 
 -- ---- special calls
 

@@ -1,12 +1,10 @@
 //! Constants and arithmetic (JVMS 6.5, `iconst_0` to `lcmp`).
 #![tactic(auto, unfolding(type_rules::specs::Rows::row))]
 
-ghost use Rattle.std.specs.Prelude.{◌≡◌, ◌∷◌, IfOk, ℤ, List};
+ghost use Rattle.std.specs.Prelude.{◌≡◌, ◌∷◌, IfOk, List};
 ghost use Rattle.program_rules.specs.Instructions.{NullConstant, IntConstant, LongConstant, IntOperation, LongOperation, IntNegate, LongNegate, IntShift, LongShift, Convert, LongCompare};
-ghost use Rattle.program_rules.specs.declared.operation.Operation as rules_op;
-ghost use Rattle.program_rules.specs.declared.operation.ShiftKind as rules_shift;
 ghost use Rattle.program_rules.specs.declared.operation.Conversion.TheVariants as conversion;
-ghost use Rattle.type_rows.specs.Answers.{RowIs, Gives};
+ghost use Rattle.type_rows.specs.Answers.{RowIs, RowsAre, Gives};
 
 use crate::answer::{Answer, give};
 use class_model::Memory;
@@ -29,14 +27,14 @@ pub fn null_constant(f: &mut Frame, room: u16) -> Result<Answer, Memory>
 }
 
 pub fn int_constant(f: &mut Frame, room: u16) -> Result<Answer, Memory>
-    ensures { IfOk result (λ a. (z : ℤ) → RowIs (IntConstant z) room f.old a f.new) }
+    ensures { IfOk result (λ a. RowsAre IntConstant room f.old a f.new) }
 {
     f.stack.push(SlotType::Int)?;
     Ok(give(f, room))
 }
 
 pub fn long_constant(f: &mut Frame, room: u16) -> Result<Answer, Memory>
-    ensures { IfOk result (λ a. (z : ℤ) → RowIs (LongConstant z) room f.old a f.new) }
+    ensures { IfOk result (λ a. RowsAre LongConstant room f.old a f.new) }
 {
     f.stack.push(SlotType::Long)?;
     Ok(give(f, room))
@@ -44,8 +42,8 @@ pub fn long_constant(f: &mut Frame, room: u16) -> Result<Answer, Memory>
 
 /// Two ints give one.
 pub fn int_operation(f: &mut Frame, room: u16) -> Result<Answer, Memory>
-    ensures operation { IfOk result (λ a. (op : rules_op.Operation) → RowIs (IntOperation op) room f.old a f.new) }
-    ensures shift { IfOk result (λ a. (k : rules_shift.ShiftKind) → RowIs (IntShift k) room f.old a f.new) }
+    ensures operation { IfOk result (λ a. RowsAre IntOperation room f.old a f.new) }
+    ensures shift { IfOk result (λ a. RowsAre IntShift room f.old a f.new) }
 {
     if !f.stack.take_int() {
         return Ok(Answer::Fails(7));
@@ -59,7 +57,7 @@ pub fn int_operation(f: &mut Frame, room: u16) -> Result<Answer, Memory>
 
 /// Two longs give one.
 pub fn long_operation(f: &mut Frame, room: u16) -> Result<Answer, Memory>
-    ensures { IfOk result (λ a. (op : rules_op.Operation) → RowIs (LongOperation op) room f.old a f.new) }
+    ensures { IfOk result (λ a. RowsAre LongOperation room f.old a f.new) }
 {
     if !f.stack.take_long() {
         return Ok(Answer::Fails(7));
@@ -96,7 +94,7 @@ pub fn long_negate(f: &mut Frame, room: u16) -> Result<Answer, Memory>
 }
 
 pub fn long_shift(f: &mut Frame, room: u16) -> Result<Answer, Memory>
-    ensures { IfOk result (λ a. (k : rules_shift.ShiftKind) → RowIs (LongShift k) room f.old a f.new) }
+    ensures { IfOk result (λ a. RowsAre LongShift room f.old a f.new) }
 {
     if !f.stack.take_int() {
         return Ok(Answer::Fails(7));

@@ -1,14 +1,14 @@
 //! Arrays (JVMS 6.5, `iaload` to `sastore`, `newarray` to `arraylength`, `multianewarray`).
 #![tactic(auto, unfolding(type_rules::specs::Rows::row))]
 
-ghost use Rattle.std.specs.Prelude.{◌≡◌, ◌&&◌, IfOk, IfSome, IfNone, true, false, nat_le, nat_lt};
+ghost use Rattle.std.specs.Prelude.{◌≡◌, IfOk, IfSome, IfNone, true, false};
 ghost use Rattle.program_rules.specs.Instructions.{ArrayLoad, ArrayStore, ArrayLength};
 ghost use Rattle.program_rules.specs.declared.operation.Element.TheVariants.{ReferenceElement};
 ghost use Rattle.type_rules.specs.References.{dimensions, base_of};
-ghost use Rattle.type_rules.specs.Rows.{holds, is_of_references, is_array_of, is_array_type, element_type};
-ghost use Rattle.vframes.specs.Named.{AreNamed, HaveComponents, HasFirst, IsShaped, name_at};
+ghost use Rattle.type_rules.specs.Rows.{holds, is_of_references, is_array_of, is_array_type};
+ghost use Rattle.vframes.specs.Named.{AreNamed, HaveComponents, HasFirst, IsShaped};
 ghost use Rattle.vframes.specs.View.{type_of};
-ghost use Rattle.type_rows.specs.Sites.{RowAt, TakesArray, TakesNoArray, TakesElement, TakesNoElement, ArrayRow, NewArrayRow, MultiIs, TakesInts, TakesNoInts};
+ghost use Rattle.type_rows.specs.Sites.{RowAt, TakesArray, TakesNoArray, TakesElement, TakesNoElement, ArrayRow, NewArrayRow, MultiIs, TakesInts, TakesNoInts, IsElementOf, has_dimensions};
 
 use crate::answer::{Answer, give};
 use crate::site::Site;
@@ -63,8 +63,8 @@ fn is_array_of(site: &Site, t: SlotType, element: Element) -> bool
 // Takes an array of such elements off the top, or null.
 fn take_array(site: &Site, stack: &mut Stack, element: Element) -> Option<SlotType>
     requires { AreNamed site.now.program.now site.now.names.now }
-    ensures some { IfSome result (λ t. TakesArray site.now.names.now element t stack.old stack.new) }
-    ensures none { IfNone result (TakesNoArray site.now.names.now element stack.old) }
+    ensures some { IfSome result (λ t. TakesArray site.now element t stack.old stack.new) }
+    ensures none { IfNone result (TakesNoArray site.now element stack.old) }
 {
     let Some(t) = stack.pop() else {
         return None;
@@ -81,7 +81,7 @@ fn element_of(site: &Site, element: Element, array: SlotType) -> SlotType
     requires named { AreNamed site.now.program.now site.now.names.now }
     requires components { HaveComponents site.now.names.now }
     requires array { is_array_of element (type_of site.now.names.now array) ≡ true }
-    ensures { type_of site.now.names.now result ≡ element_type element (type_of site.now.names.now array) }
+    ensures { IsElementOf site.now.names.now element array result }
 {
     match element {
         Element::LongElement => SlotType::Long,
@@ -98,7 +98,7 @@ fn component_of(names: &[Named], array: SlotType) -> SlotType
     requires first { HasFirst names.now }
     requires components { HaveComponents names.now }
     requires array { is_array_of ReferenceElement (type_of names.now array) ≡ true }
-    ensures { type_of names.now result ≡ element_type ReferenceElement (type_of names.now array) }
+    ensures { IsElementOf names.now ReferenceElement array result }
 {
     match array {
         SlotType::Obj(name) => SlotType::Obj(named_at(names, name).component),
@@ -250,7 +250,7 @@ fn take_ints(stack: &mut Stack, count: u8) -> bool
 // Whether an array has so many dimensions, and at least one is named.
 fn has_dimensions(site: &Site, array: usize, count: u8) -> bool
     requires { AreNamed site.now.program.now site.now.names.now }
-    ensures { result ≡ (nat_lt 0 count && nat_le count (dimensions (name_at site.now.names.now array))) }
+    ensures { result ≡ has_dimensions site.now array count }
 {
     count > 0 && count as usize <= named_at(site.names, array).dimensions
 }

@@ -80,7 +80,8 @@ pub fn call_static(site: &Site, f: &mut Frame, method: &Signature) -> Result<Ans
 pub fn call_method(site: &Site, f: &mut Frame, method: &Signature) -> Result<Answer, Memory>
     requires { AreNamed site.now.program.now site.now.names.now }
     ensures virtual_ { IfOk result (λ a. CallIs InvokeVirtual site.now method.now f.old a f.new) }
-    ensures interface { IfOk result (λ a. CallIs InvokeInterface site.now method.now f.old a f.new) }
+    ensures interface { IfOk result (λ a.
+        CallIs InvokeInterface site.now method.now f.old a f.new) }
 {
     if !take_args(site, &mut f.stack, method.args.as_slice()) {
         return Ok(Answer::Fails(7));

@@ -1,15 +1,12 @@
 //! Loads and stores of locals (JVMS 6.5, `iload` to `iinc`).
 #![tactic(auto, unfolding(type_rules::specs::Rows::row))]
 
-ghost use Rattle.std.specs.Prelude.{◌≡◌, ◌<◌, IfOk, IfSome, IfNone, ℤ, List, true, false, length, suc, slice_set, slice_get};
-ghost use Rattle.program_rules.specs.Types as rules;
+ghost use Rattle.std.specs.Prelude.{◌≡◌, ◌<◌, IfOk, IfSome, IfNone, true, false, length, slice_get};
 ghost use Rattle.program_rules.specs.Instructions.{IntLoad, LongLoad, ReferenceLoad, IntStore, LongStore, ReferenceStore, Increment};
-ghost use Rattle.type_rules.specs.Assignability.{same_type};
-ghost use Rattle.type_rules.specs.Rows.{Checked, Fails, reads, is_any_reference, is_long_type, without_long_type, stored_type, takes_such};
-ghost use Rattle.vframes.specs.View.{type_of, types_in};
-ghost use Rattle.vframes.specs.FrameView.{types_of};
-ghost use Rattle.vframes.specs.declared.named.Named.{Named};
-ghost use Rattle.type_rows.specs.Answers.{RowIs};
+ghost use Rattle.type_rules.specs.Rows.{is_any_reference};
+ghost use Rattle.vframes.specs.declared.slot_type.SlotType.TheVariants.{Int, Long};
+ghost use Rattle.type_rows.specs.Answers.{RowIs, RowsAre};
+ghost use Rattle.type_rows.specs.Locals.{ReadsSuch, ReadsNoSuch, is_int, is_long, HoldsLong, EndsLong, Stores};
 
 use crate::answer::{Answer, give};
 use class_model::Memory;
@@ -24,8 +21,8 @@ fn local(f: &Frame, n: u16) -> Option<SlotType>
 
 // Whether a local holds an int.
 fn reads_int(f: &Frame, n: u16) -> bool
-    ensures yes { result ≡ true → (ns : List Named) (go : rules.VType → Checked) → reads (types_of ns f.now) n (λ t. same_type t rules.IntType) go ≡ go rules.IntType }
-    ensures no { result ≡ false → (ns : List Named) (go : rules.VType → Checked) → reads (types_of ns f.now) n (λ t. same_type t rules.IntType) go ≡ Fails 6 }
+    ensures yes { result ≡ true → ReadsSuch is_int f.now n Int }
+    ensures no { result ≡ false → ReadsNoSuch is_int f.now n }
 {
     match local(f, n) {
         Some(SlotType::Int) => true,
@@ -41,8 +38,8 @@ fn reads_int(f: &Frame, n: u16) -> bool
 
 // Whether a local holds a long.
 fn reads_long(f: &Frame, n: u16) -> bool
-    ensures yes { result ≡ true → (ns : List Named) (go : rules.VType → Checked) → reads (types_of ns f.now) n (λ t. same_type t rules.LongType) go ≡ go rules.LongType }
-    ensures no { result ≡ false → (ns : List Named) (go : rules.VType → Checked) → reads (types_of ns f.now) n (λ t. same_type t rules.LongType) go ≡ Fails 6 }
+    ensures yes { result ≡ true → ReadsSuch is_long f.now n Long }
+    ensures no { result ≡ false → ReadsNoSuch is_long f.now n }
 {
     match local(f, n) {
         Some(SlotType::Long) => true,
@@ -58,8 +55,8 @@ fn reads_long(f: &Frame, n: u16) -> bool
 
 // The reference that a local holds, initialised or not.
 fn reads_reference(f: &Frame, n: u16) -> Option<SlotType>
-    ensures some { IfSome result (λ t. (ns : List Named) (go : rules.VType → Checked) → reads (types_of ns f.now) n is_any_reference go ≡ go (type_of ns t)) }
-    ensures none { IfNone result ((ns : List Named) (go : rules.VType → Checked) → reads (types_of ns f.now) n is_any_reference go ≡ Fails 6) }
+    ensures some { IfSome result (λ t. ReadsSuch is_any_reference f.now n t) }
+    ensures none { IfNone result (ReadsNoSuch is_any_reference f.now n) }
 {
     match local(f, n) {
         Some(SlotType::Null) => Some(SlotType::Null),
@@ -104,7 +101,7 @@ pub fn reference_load(f: &mut Frame, room: u16, n: u16) -> Result<Answer, Memory
 }
 
 pub fn increment(f: &mut Frame, room: u16, n: u16) -> Answer
-    ensures { (z : ℤ) → RowIs (Increment n z) room f.old result f.new }
+    ensures { RowsAre (Increment n) room f.old result f.new }
 {
     if reads_int(f, n) {
         Answer::Falls
@@ -118,7 +115,7 @@ pub fn increment(f: &mut Frame, room: u16, n: u16) -> Answer
 // Ends the long whose half is at this local.
 fn end_long(locals: &mut Vec<SlotType>, n: usize)
     ensures length { length locals.new.items ≡ length locals.old.items }
-    ensures types { (ns : List Named) → types_in ns locals.new.items ≡ without_long_type (types_in ns locals.old.items) n }
+    ensures types { EndsLong locals.old.items n locals.new.items }
 {
     if n == 0 {
         return;
@@ -131,7 +128,7 @@ fn end_long(locals: &mut Vec<SlotType>, n: usize)
 // Whether it is a local that holds a long.
 fn is_long(locals: &[SlotType], n: usize) -> bool
     ensures within { result ≡ true → n < length locals.now }
-    ensures value { (ns : List Named) → result ≡ is_long_type (slice_get (types_in ns locals.now) n) }
+    ensures value { HoldsLong locals.now n result }
 {
     match locals.get(n).copied() {
         Some(SlotType::Long) => true,
@@ -149,7 +146,7 @@ fn is_long(locals: &[SlotType], n: usize) -> bool
 fn store(locals: &mut Vec<SlotType>, n: usize, t: SlotType)
     requires { n < length locals.old.items }
     ensures length { length locals.new.items ≡ length locals.old.items }
-    ensures types { (ns : List Named) → types_in ns locals.new.items ≡ stored_type (types_in ns locals.old.items) n (type_of ns t) }
+    ensures types { Stores locals.old.items n t locals.new.items }
 {
     end_long(locals, n);
     locals[n] = t;

@@ -1,9 +1,8 @@
 //! What the indices of a site's constant pool mean.
 
-ghost use Rattle.std.specs.Prelude.{◌≡◌, IfSome, IfNone, Some, None};
+ghost use Rattle.std.specs.Prelude.{◌≡◌, IfSome, IfNone, None};
 ghost use Rattle.class_link.specs.declared.instruction.Instruction.TheVariants.{New};
-ghost use Rattle.vframes.specs.Named.{name_at};
-ghost use Rattle.type_rows.specs.Sites.{AreItems, ClassAt, NoClassAt, IsNoNew, made_in};
+ghost use Rattle.type_rows.specs.Sites.{AreItems, ClassAt, NoClassAt, IsNoNew, MakesAt, made_in};
 
 use crate::item::Item;
 use crate::site::Site;
@@ -27,7 +26,7 @@ pub fn class_at(site: &Site, index: u32) -> Option<(usize, usize)>
 /// The class that the `new` at an instruction names.
 pub fn class_made(site: &Site, at: u32) -> Option<usize>
     requires { AreItems site.now }
-    ensures some { IfSome result (λ class. made_in site.now at ≡ Some (name_at site.now.names.now class)) }
+    ensures some { IfSome result (λ class. MakesAt site.now at class) }
     ensures none { IfNone result (made_in site.now at ≡ None) }
 {
     let Some(instruction) = site.code.instructions.get(at as usize) else {

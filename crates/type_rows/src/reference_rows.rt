@@ -2,20 +2,12 @@
 //! `athrow` to `monitorexit`).
 #![tactic(auto, unfolding(type_rules::specs::Rows::row))]
 
-ghost use Rattle.std.specs.Prelude.{◌≡◌, ◌&&◌, IfOk, IfSome, IfNone, List, true, false, ℕ};
-ghost use Rattle.program_rules.specs.Names.{Name};
-ghost use Rattle.program_rules.specs.Types as rules;
+ghost use Rattle.std.specs.Prelude.{◌≡◌, IfOk, true, false};
 ghost use Rattle.program_rules.specs.Instructions.{IntReturn, LongReturn, ReferenceReturn, PlainReturn, Throw, CheckCast, InstanceOf, MonitorEnter, MonitorExit};
-ghost use Rattle.type_rules.specs.References.{classes_of, throwable_name};
-ghost use Rattle.type_rules.specs.Assignability.{assignable};
-ghost use Rattle.type_rules.specs.Rows.{Setting, Checked, Fails, takes, row, returns};
-ghost use Rattle.class_table.specs.Table.{look};
+ghost use Rattle.type_rules.specs.References.{throwable_name};
 ghost use Rattle.vframes.specs.Named.{AreNamed, name_at};
-ghost use Rattle.vframes.specs.View.{type_of, types_in};
-ghost use Rattle.vframes.specs.FrameView.{types_of};
-ghost use Rattle.vframes.specs.declared.named.Named.{Named};
-ghost use Rattle.type_rows.specs.Answers.{RowIs, checked_of};
-ghost use Rattle.type_rows.specs.Sites.{RowAt, Returns, is_int, is_long, is_nothing, takes_reference, Takes, TakesNo};
+ghost use Rattle.type_rows.specs.Answers.{RowIs, RowsAre};
+ghost use Rattle.type_rows.specs.Sites.{RowAt, Returns, is_int, is_long, is_nothing, gives_reference, Takes, TakesNo, CastIs};
 
 use crate::answer::{Answer, give};
 use crate::site::{Given, Site};
@@ -81,7 +73,7 @@ fn is_nothing(given: Given) -> bool
 // Whether a method gives references to which this type is assignable.
 fn gives_reference(site: &Site, t: SlotType) -> bool
     requires { AreNamed site.now.program.now site.now.names.now }
-    ensures { result ≡ takes_reference (classes_of (look site.now.program.now)) site.now.names.now site.now.given (type_of site.now.names.now t) }
+    ensures { result ≡ gives_reference site.now t }
 {
     match site.given {
         Given::Reference(to) => is_assignable(site.program, site.names, t, to),
@@ -139,7 +131,7 @@ pub fn throw(site: &Site, f: &mut Frame, throwable: usize) -> Answer
 }
 
 pub fn check_cast(f: &mut Frame, room: u16, to: usize) -> Result<Answer, Memory>
-    ensures { IfOk result (λ a. (ns : List Named) (s : Setting) (at : ℕ) → s.code.max_stack ≡ room → row s at (CheckCast (name_at ns to)) (types_of ns f.old) ≡ checked_of ns a f.new) }
+    ensures { IfOk result (λ a. CastIs to room f.old a f.new) }
 {
     let Some(_) = f.stack.take_reference() else {
         return Ok(Answer::Fails(7));
@@ -149,7 +141,7 @@ pub fn check_cast(f: &mut Frame, room: u16, to: usize) -> Result<Answer, Memory>
 }
 
 pub fn instance_of(f: &mut Frame, room: u16) -> Result<Answer, Memory>
-    ensures { IfOk result (λ a. (n : Name) → RowIs (InstanceOf n) room f.old a f.new) }
+    ensures { IfOk result (λ a. RowsAre InstanceOf room f.old a f.new) }
 {
     let Some(_) = f.stack.take_reference() else {
         return Ok(Answer::Fails(7));

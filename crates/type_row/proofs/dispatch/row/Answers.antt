@@ -200,13 +200,13 @@ pub returns-in_ok-write_field-in-PutField : goal.returns-in_ok-write_field-in-Pu
 unfolding instruction_of
 returns-in_ok-write_field-in-PutField c = rw c.in-PutField.is (λ s x. c.in_ok-write_field-in-PutField.ensures s x)
 
-pub returns-in_ok-invoke_virtual-in-InvokeVirtual : goal.returns-in_ok-invoke_virtual-in-InvokeVirtual
+pub returns-in_ok-invoke_method-in-InvokeVirtual : goal.returns-in_ok-invoke_method-in-InvokeVirtual
 unfolding instruction_of
-returns-in_ok-invoke_virtual-in-InvokeVirtual c = rw c.in-InvokeVirtual.is (λ s x. c.in_ok-invoke_virtual-in-InvokeVirtual.ensures s x)
+returns-in_ok-invoke_method-in-InvokeVirtual c = rw c.in-InvokeVirtual.is (λ s x. c.in_ok-invoke_method-in-InvokeVirtual.ensures.virtual_ s x)
 
-pub returns-in_ok-invoke_interface-in-InvokeInterface : goal.returns-in_ok-invoke_interface-in-InvokeInterface
+pub returns-in_ok-invoke_method-in-InvokeInterface : goal.returns-in_ok-invoke_method-in-InvokeInterface
 unfolding instruction_of
-returns-in_ok-invoke_interface-in-InvokeInterface c = rw c.in-InvokeInterface.is (λ s x. c.in_ok-invoke_interface-in-InvokeInterface.ensures s x)
+returns-in_ok-invoke_method-in-InvokeInterface c = rw c.in-InvokeInterface.is (λ s x. c.in_ok-invoke_method-in-InvokeInterface.ensures.interface s x)
 
 pub returns-in_ok-invoke_special-in-InvokeSpecial : goal.returns-in_ok-invoke_special-in-InvokeSpecial
 unfolding instruction_of

@@ -1,8 +1,7 @@
 use Rattle.std.proofs.Common.{◌≡◌, ◌∷◌, ◌++◌, refl, ap, sym, ◌∙◌}
 use Rattle.type_rules.specs.Rows.{row, gives}
-use Rattle.vframes.specs.View.{type_of, types_in, two_slots, two_types}
+use Rattle.vframes.specs.View.{type_of, types_in}
 use Rattle.vframes.specs.FrameView.{types_of}
-use Rattle.type_rows.proofs.Pushed.{two_pushed}
 use Rattle.type_rows.proofs.arithmetic_rows.null_constant.Goals as goal
 
 pub returns : goal.returns
