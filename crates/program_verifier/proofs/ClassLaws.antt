@@ -8,10 +8,11 @@ use Rattle.program_rules.specs.Linked as rules
 use Rattle.type_rules.specs.References.{classes_of}
 use Rattle.type_rules.specs.Rules.{MethodFault, ClassAccepted, method_fault}
 use Rattle.class_model.specs.declared.class.ClassId.{ClassId}
+use Rattle.class_link.specs.declared.loaded.ClassBody.{ClassBody}
 use Rattle.class_link.specs.declared.linked.Entry.{Entry}
 use Rattle.class_link.specs.declared.linked.LinkedClass.{LinkedClass}
 use Rattle.class_link.specs.declared.linked.LinkedMethod.{LinkedMethod}
-use Rattle.class_link.specs.Info.{Info, class_of}
+use Rattle.class_link.specs.Info.{Info, HasEntries, class_of}
 use Rattle.class_link.specs.View.{linked_of, method_of}
 use Rattle.class_table.specs.Table.{IsProgram, look, name_at}
 use Rattle.class_table.proofs.Places.{look_at}
@@ -129,3 +130,9 @@ module _ (p : List Info) (id : ℕ) (i : Info) (ok : IsProgram p) (file : IsFile
 -- one of the library
 pub library_accepted : (p : List Info) (id : ℕ) (i : Info) → IsLibraryAccepted (look p) → look p (name_at p id) ≡ Some (class_of i) → i.linked.library ≡ true → ClassAccepted (look p) (name_at p id)
 library_accepted p id i all at lib = all (name_at p id) (class_of i) at (is_library i.linked ∙ lib)
+
+-- ---- the entries of a class and of where it comes from
+
+pub own_entries : (i : Info) (b : ClassBody) (c : LinkedClass) → b ≡ i.body → c ≡ i.linked → HasEntries i.body i.linked.entries → HasEntries b c.entries
+own_entries i b c eb ec h =
+    subst (λ (l : LinkedClass). HasEntries b l.entries) (sym ec) (subst (λ (x : ClassBody). HasEntries x i.linked.entries) (sym eb) h)

@@ -36,12 +36,12 @@ use Rattle.type_pass.specs.Handlers.{AreHandlersOf}
 use Rattle.type_pass.specs.Passes.{FirstFaultIs, fault_of}
 use Rattle.type_verifier.specs.declared.names.Names.{Names}
 use Rattle.type_verifier.specs.declared.shapes.Difference.{Difference}
-use Rattle.type_verifier.specs.declared.pool.Own.{Own}
+use Rattle.type_verifier.specs.declared.own.Own.{Own}
 use Rattle.type_verifier.specs.Heads.{FirstIs, InitIs}
 use Rattle.type_verifier.specs.Pool.{home_of}
 use Rattle.type_verifier.specs.Shapes.{frame_in}
 use Rattle.type_verifier.specs.Tables.{IsTable, Adds, NameLasts}
-use Rattle.type_verifier.proofs.Lasting.{lasts}
+use Rattle.type_verifier.proofs.Lasting.{lasts, name_lasts}
 use Rattle.method_tables.specs.declared.method.MethodCode.{MethodCode}
 use Rattle.method_tables.specs.declared.frames.Expansion.{Expansion}
 use Rattle.method_tables.specs.Expansions.{AreInFull, ExpandsTo, IsMethodOf}
@@ -58,6 +58,7 @@ now P old ns e h = subst P (sym e) (subst P (append-nil old) (h []))
 pub tables_last : (o : Own) (t : Tables) (names : Names) → AreTables o t → Adds o.program.now t.names names → AreTables o (record t { names = names })
 tables_last o t names a adds = record {
   table = adds.table;
+  class = name_lasts o.program.now t.names names t.class o.name.now adds a.class;
   common = lasts (λ ns. AreCommon ns t.common) t.names.list.items names.list.items adds.more a.common;
   items = lasts (λ ns. AreItemsOf ns (home_of o) o.linked.now.entries t.items.items) t.names.list.items names.list.items adds.more a.items;
 }

@@ -10,7 +10,7 @@ use Rattle.class_link.specs.declared.linked.LinkedMethod.{LinkedMethod}
 use Rattle.class_link.specs.View.{body_of, linked_of, method_of}
 use Rattle.class_table.specs.Table.{look}
 use Rattle.type_pass.specs.declared.pass.Fault.{Fault}
-use Rattle.type_verifier.specs.declared.pool.Own.{Own}
+use Rattle.type_verifier.specs.declared.own.Own.{Own}
 use Rattle.program_verifier.specs.declared.heads.Heads.{Heads}
 use Rattle.program_verifier.specs.Heads.{declares, IsMet}
 use Rattle.program_verifier.specs.Methods.{HeadIs, HeadBehind, BodyFaultIs, FaultAt}

@@ -12,7 +12,7 @@ use Rattle.class_link.specs.declared.linked.LinkedClass.{LinkedClass}
 use Rattle.class_link.specs.declared.linked.LinkedMethod.{LinkedMethod}
 use Rattle.class_link.specs.Info.{Info}
 use Rattle.class_table.specs.Table.{look, name_at}
-use Rattle.type_verifier.specs.declared.pool.Own.{Own}
+use Rattle.type_verifier.specs.declared.own.Own.{Own}
 use Rattle.program_verifier.specs.declared.end.VerifyFault.{VerifyFault}
 use Rattle.program_verifier.specs.declared.programs.Found.{Found}
 use Rattle.program_verifier.specs.Tables.{HasShortCode}

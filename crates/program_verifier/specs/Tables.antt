@@ -14,7 +14,7 @@ use Rattle.vframes.specs.declared.named.Named.{Named}
 use Rattle.vframes.specs.StatedFrames.{StatedTypes, stated_types, frame_at}
 use Rattle.type_pass.specs.declared.pass.Fault.{Fault}
 use Rattle.type_pass.specs.Passes.{fault_of}
-use Rattle.type_verifier.specs.declared.pool.Own.{Own}
+use Rattle.type_verifier.specs.declared.own.Own.{Own}
 use Rattle.type_verifier.specs.Heads.{CommonLast, FirstLast, ResultGives}
 use Rattle.type_verifier.specs.Pool.{ItemsAre}
 use Rattle.type_verifier.specs.Shapes.{FramesLast}
@@ -28,6 +28,7 @@ use Rattle.program_verifier.specs.declared.parts.Parts.{Parts}
 -- The tables of a class are right, however many names are added.
 pub record AreTables (o : Own) (t : Tables) : Type 0 where
   pub table : IsTable o.program.now t.names
+  pub class : NameLasts t.names.list.items t.class o.name.now
   pub common : CommonLast t.names.list.items t.common
   pub items : ItemsAre t.names o t.items.items
 

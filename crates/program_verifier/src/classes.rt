@@ -85,6 +85,7 @@ fn fault_of_file(
         program,
         id,
         name: info.name(),
+        body: info.body(),
         linked,
     };
     let fault = fault_of_own(alloc, &own);
@@ -92,6 +93,7 @@ fn fault_of_file(
         program: _,
         id: _,
         name: _,
+        body: _,
         linked: _,
     } = own;
     fault

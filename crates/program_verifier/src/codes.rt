@@ -130,7 +130,8 @@ pub fn code_fault(
     ensures fault { IfOk result (CodeFaultIs own.now method.now code.now) }
 {
     let alloc = *tables.names.list.allocator();
-    let parts = parts_of(&mut tables.names, own, method, code)?;
+    let class = tables.class;
+    let parts = parts_of(&mut tables.names, own, class, method, code)?;
     let fault = fault_of_parts(alloc, own, tables, method, code, &parts)?;
     Ok(fault)
 }

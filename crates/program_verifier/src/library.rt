@@ -77,6 +77,7 @@ fn library_fault(
         program,
         id,
         name: info.name(),
+        body: info.body(),
         linked,
     };
     let fault = body_fault_of_own(alloc, &own);
@@ -84,6 +85,7 @@ fn library_fault(
         program: _,
         id: _,
         name: _,
+        body: _,
         linked: _,
     } = own;
     fault

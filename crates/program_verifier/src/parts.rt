@@ -1,7 +1,7 @@
 //! What the verifier makes of a method's head and its code.
 
 ghost use Rattle.std.specs.Prelude.{IfOk, OnOk};
-ghost use Rattle.type_verifier.specs.Tables.{IsTable, Adds};
+ghost use Rattle.type_verifier.specs.Tables.{IsTable, Adds, NameLasts};
 ghost use Rattle.program_verifier.specs.Tables.{AreParts};
 
 use class_link::{LinkedCode, LinkedMethod};
@@ -23,19 +23,20 @@ pub struct Parts {
     pub handlers: Vec<Handler>,
 }
 
-/// The parts of a method and its code.
+/// The parts of a method of the class of this number, and of its code.
 pub fn parts_of(
     names: &mut Names,
     own: &Own,
+    class: usize,
     method: &LinkedMethod,
     code: &LinkedCode,
 ) -> Result<Parts, Memory>
-    requires { IsTable own.now.program.now names.old }
+    requires table { IsTable own.now.program.now names.old }
+    requires class { NameLasts names.old.list.items class own.now.name.now }
     ensures adds { OnOk result (Adds own.now.program.now names.old names.new) }
     ensures parts { IfOk result (AreParts own.now method.now code.now names.new.list.items) }
 {
-    let class = names.number(own.program, own.name)?;
-    let first = first_types(names, own.program, own.name, method)?;
+    let first = first_types(names, own.program, own.name, class, method)?;
     let given = given_of(names, own.program, &method.result)?;
     let differences = differences(names, own.program, code.frames.as_slice())?;
     let handlers = handlers_of(names, own.program, code.rows.as_slice())?;

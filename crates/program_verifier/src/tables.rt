@@ -9,11 +9,12 @@ use std::alloc::Global;
 use type_rows::{CommonNames, Item};
 use type_verifier::{Names, Own, common_names, items};
 
-/// What the methods of a class share: the names that it mentions by number, and what the indices of
-/// its constant pool mean.
+/// What the methods of a class share: the names that it mentions by number, its own number among
+/// them, and what the indices of its constant pool mean.
 #[derive(Drop)]
 pub struct Tables {
     pub names: Names,
+    pub class: usize,
     pub common: CommonNames,
     pub items: Vec<Item>,
 }
@@ -24,10 +25,12 @@ pub fn tables_of(alloc: Global, own: &Own) -> Result<Tables, Memory>
     ensures { IfOk result (AreTables own.now) }
 {
     let mut names = Names::new(alloc, own.program)?;
+    let class = names.number(own.program, own.name)?;
     let common = common_names(&mut names, own.program)?;
     let items = items(&mut names, own)?;
     Ok(Tables {
         names,
+        class,
         common,
         items,
     })

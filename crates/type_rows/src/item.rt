@@ -3,6 +3,7 @@
 ghost use Rattle.std.specs.Prelude.{◌≡◌};
 ghost use Rattle.type_rows.specs.Items.{is_init, is_plain};
 
+use class_link::Shared;
 use vframes::SlotType;
 
 /// Which method a name is that of.
@@ -39,12 +40,13 @@ impl Called {
     }
 }
 
-/// A method that is named. Of the arguments the last stands first.
+/// A method that is named. Of the arguments the last stands first. They are kept once for all
+/// methods of one descriptor, which may be as many and as long as the class file is.
 #[derive(Drop)]
 pub struct Signature {
     pub class: usize,
     pub called: Called,
-    pub args: Vec<SlotType>,
+    pub args: Shared<Vec<SlotType>>,
     pub result: Option<SlotType>,
     /// It is of the class itself or of its superclass, so its `<init>` initialises `this`.
     pub initialises_this: bool,

@@ -1,3 +1,5 @@
 pub mod Lasting
 pub mod Owns
 pub mod Firsts
+mod Indices
+mod Kept

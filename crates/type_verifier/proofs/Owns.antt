@@ -21,7 +21,7 @@ use Rattle.class_link.specs.View.{symbol_of}
 use Rattle.vframes.specs.declared.named.Named.{Named}
 use Rattle.type_rows.specs.declared.item.Item.{Item}
 use Rattle.type_rows.specs.Items.{Home, IsIn, IsItem, AreItemsOf}
-use Rattle.type_verifier.specs.declared.pool.Own.{Own}
+use Rattle.type_verifier.specs.declared.own.Own.{Own}
 use Rattle.type_verifier.specs.Pool.{IsOwn, home_of, is_superclass, NearIs, InitialisesIs, DeclaredIs}
 
 and_false : (a : Bool) → (a && false) ≡ false

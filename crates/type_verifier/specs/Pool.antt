@@ -10,6 +10,7 @@ use Rattle.type_rules.specs.Rows.{Setting, may_name, is_parent, declares}
 use Rattle.class_link.specs.declared.linked.Entry.{Entry}
 use Rattle.class_link.specs.declared.linked.FieldRef.{FieldRef}
 use Rattle.class_link.specs.declared.linked.MethodRef.{MethodRef}
+use Rattle.class_link.specs.Info.{HasEntries}
 use Rattle.class_link.specs.Symbols.{IsClass, IsField, IsMethod, kind_of}
 use Rattle.class_link.specs.View.{linked_of, field_ref_of, method_ref_of, symbol_of}
 use Rattle.class_table.specs.Table.{number_of, look}
@@ -21,13 +22,14 @@ use Rattle.type_rows.specs.declared.item.Item.{Item}
 use Rattle.type_rows.specs.declared.item.Signature.{Signature}
 use Rattle.type_rows.specs.Items.{Home, IsIn, IsSignature, IsSpecial, IsItem, AreItemsOf}
 use Rattle.type_verifier.specs.declared.names.Names.{Names}
-use Rattle.type_verifier.specs.declared.pool.Own.{Own}
+use Rattle.type_verifier.specs.declared.own.Own.{Own}
 
--- A class is this one of its program.
+-- A class is this one of its program, and its indices mean what they mean where it comes from.
 pub record IsOwn (o : Own) : Type 0 where
   pub closed : IsClosed o.program.now
   pub number : number_of o.program.now o.name.now ≡ Some o.id.0
   pub within : o.id.0 < length o.program.now
+  pub entries : HasEntries o.body.now o.linked.now.entries
 
 -- The class, in its program.
 abbrev pub home_of : Own → Home

@@ -4,7 +4,7 @@ ghost use Rattle.std.specs.Prelude.{◌≡◌, ◌≤◌, ◌++◌, IfOk, OnOk};
 ghost use Rattle.program_rules.specs.Names.{same, object_name, instance_initializer};
 ghost use Rattle.program_rules.specs.Linked.{is_static};
 ghost use Rattle.vframes.specs.View.{words_of};
-ghost use Rattle.type_verifier.specs.Tables.{IsTable, Adds};
+ghost use Rattle.type_verifier.specs.Tables.{IsTable, Adds, NameLasts};
 ghost use Rattle.type_verifier.specs.Heads.{FirstAre, FirstIs, InitIs, ReceiverIs, if_any};
 
 use crate::names::Names;
@@ -83,20 +83,20 @@ fn add_all(types: &mut Vec<SlotType>, more: &[SlotType]) -> Result<(), Memory>
     Ok(())
 }
 
-/// The types of the receiver and of the arguments, in a method of the class of this name.
-#[tactic(auto, using(crate::proofs::Lasting::added_twice))]
+/// The types of the receiver and of the arguments, in a method of the class of this name and number.
 pub fn first_types(
     names: &mut Names,
     program: &Program,
     name: &Name,
+    class: usize,
     method: &LinkedMethod,
 ) -> Result<Vec<SlotType>, Memory>
-    requires { IsTable program.now names.old }
+    requires table { IsTable program.now names.old }
+    requires class { NameLasts names.old.list.items class name.now }
     ensures adds { OnOk result (Adds program.now names.old names.new) }
     ensures types { IfOk result (λ ts. FirstAre names.new name.now method.now ts.items) }
 {
     let alloc = *names.list.allocator();
-    let class = names.number(program, name)?;
     let args = kind_types(names, program, method.args.as_slice())?;
     let this = receiver(name, class, method);
     let mut first = of_any(alloc, this)?;

@@ -4,7 +4,7 @@ use Rattle.class_table.specs.Table.{number_of}
 use Rattle.class_table.proofs.Places.{name_of_class, number_at}
 use Rattle.program_verifier.specs.Tables.{HasShortCode}
 use Rattle.program_verifier.specs.Programs.{ClassFaultIs, FirstRefusedIn}
-use Rattle.program_verifier.proofs.ClassLaws.{class_fault}
+use Rattle.program_verifier.proofs.ClassLaws.{own_entries, class_fault}
 use Rattle.program_verifier.proofs.CodeLaws.{for_ok}
 use Rattle.program_verifier.proofs.classes.fault_of_file.Goals as goal
 
@@ -17,6 +17,7 @@ fault_of_own-fault-requires-clause-own c =
       closed = c.is_program.ensures.closed;
       number = ap (number_of p) (c.name.ensures.value ∙ sym (name_of_class p id i c.requires.there)) ∙ number_at p id i c.is_program.ensures.form.distinct c.requires.there;
       within = slice_get_within p id i c.requires.there;
+      entries = own_entries i c.body.result.now c.linked-linked.result.now c.body.ensures c.linked-linked.ensures.value c.linked-linked.ensures.entries;
     }
 
 pub fault_of_own-fault-requires-clause-few : goal.fault_of_own-fault-requires-clause-few

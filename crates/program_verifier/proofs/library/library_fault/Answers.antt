@@ -5,6 +5,7 @@ use Rattle.class_table.proofs.Places.{name_of_class, number_at}
 use Rattle.program_verifier.specs.Tables.{HasShortCode}
 use Rattle.program_verifier.specs.Libraries.{FirstBodyIn, LibraryFaultIs}
 use Rattle.program_verifier.proofs.CodeLaws.{for_ok}
+use Rattle.program_verifier.proofs.ClassLaws.{own_entries}
 use Rattle.program_verifier.proofs.LibraryLaws.{library_fault, file_passed}
 use Rattle.program_verifier.proofs.library.library_fault.Goals as goal
 
@@ -21,6 +22,7 @@ body_fault_of_own-fault-requires-clause-own c =
       closed = c.is_program.ensures.closed;
       number = ap (number_of p) (c.name.ensures.value ∙ sym (name_of_class p id i c.requires.there)) ∙ number_at p id i c.is_program.ensures.form.distinct c.requires.there;
       within = slice_get_within p id i c.requires.there;
+      entries = own_entries i c.body.result.now c.linked-linked.result.now c.body.ensures c.linked-linked.ensures.value c.linked-linked.ensures.entries;
     }
 
 pub body_fault_of_own-fault-requires-clause-few : goal.body_fault_of_own-fault-requires-clause-few

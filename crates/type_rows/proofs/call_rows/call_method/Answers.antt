@@ -17,46 +17,46 @@ pub returns-then-not-take_args-clause-virtual_ : goal.returns-then-not-take_args
 unfolding row
 returns-then-not-take_args-clause-virtual_ c s at r x i =
     let ns = c.args.site.now.names.now in
-    args_at s ns r c.args.method.now (types_in ns c.args.f.now.stack) _ i c.as_slice.result.now c.as_slice.ensures.value ∙ c.if-not-take_args.ensures.no refl s x _
+    args_at s ns r c.args.method.now (types_in ns c.args.f.now.stack) _ i c.as_slice.result.now (c.as_slice.ensures.value ∙ ap (λ v. v.items) c.deref.ensures) ∙ c.if-not-take_args.ensures.no refl s x _
 
 pub returns-then-not-take_assignable-clause-virtual_ : goal.returns-then-not-take_assignable-clause-virtual_
 unfolding row
 returns-then-not-take_assignable-clause-virtual_ c s at r x i =
     let ns = c.args.site.now.names.now in
-    args_at s ns r c.args.method.now (types_in ns c.args.f.now.stack) _ i c.as_slice.result.now c.as_slice.ensures.value ∙ c.if-not-take_args.ensures.yes refl s x _ ∙ ap (λ n. takes s (rules.Obj n) (types_in ns c.take_args.new.stack) (call_ends s r (types_of ns c.args.f.now))) (sym i.class) ∙ c.if-not-take_assignable.ensures.no refl s x _
+    args_at s ns r c.args.method.now (types_in ns c.args.f.now.stack) _ i c.as_slice.result.now (c.as_slice.ensures.value ∙ ap (λ v. v.items) c.deref.ensures) ∙ c.if-not-take_args.ensures.yes refl s x _ ∙ ap (λ n. takes s (rules.Obj n) (types_in ns c.take_args.new.stack) (call_ends s r (types_of ns c.args.f.now))) (sym i.class) ∙ c.if-not-take_assignable.ensures.no refl s x _
 
 pub returns-then-not-fits-clause-virtual_ : goal.returns-then-not-fits-clause-virtual_
 unfolding row
 returns-then-not-fits-clause-virtual_ c s at r x i =
     let ns = c.args.site.now.names.now in
-    args_at s ns r c.args.method.now (types_in ns c.args.f.now.stack) _ i c.as_slice.result.now c.as_slice.ensures.value ∙ c.if-not-take_args.ensures.yes refl s x _ ∙ ap (λ n. takes s (rules.Obj n) (types_in ns c.take_args.new.stack) (call_ends s r (types_of ns c.args.f.now))) (sym i.class) ∙ c.if-not-take_assignable.ensures.yes refl s x _ ∙ ends_full s c.args.site.now r c.args.method.now (types_of ns c.args.f.now) c.take_assignable.new.stack c.push_result.new.stack x i c.in_ok-push_result.ensures (c.if-not-fits.ensures ns)
+    args_at s ns r c.args.method.now (types_in ns c.args.f.now.stack) _ i c.as_slice.result.now (c.as_slice.ensures.value ∙ ap (λ v. v.items) c.deref.ensures) ∙ c.if-not-take_args.ensures.yes refl s x _ ∙ ap (λ n. takes s (rules.Obj n) (types_in ns c.take_args.new.stack) (call_ends s r (types_of ns c.args.f.now))) (sym i.class) ∙ c.if-not-take_assignable.ensures.yes refl s x _ ∙ ends_full s c.args.site.now r c.args.method.now (types_of ns c.args.f.now) c.take_assignable.new.stack c.push_result.new.stack x i c.in_ok-push_result.ensures (c.if-not-fits.ensures ns)
 
 pub returns-clause-virtual_ : goal.returns-clause-virtual_
 unfolding row
 returns-clause-virtual_ c s at r x i =
     let ns = c.args.site.now.names.now in
-    args_at s ns r c.args.method.now (types_in ns c.args.f.now.stack) _ i c.as_slice.result.now c.as_slice.ensures.value ∙ c.if-not-take_args.ensures.yes refl s x _ ∙ ap (λ n. takes s (rules.Obj n) (types_in ns c.take_args.new.stack) (call_ends s r (types_of ns c.args.f.now))) (sym i.class) ∙ c.if-not-take_assignable.ensures.yes refl s x _ ∙ ends_plain s c.args.site.now r c.args.method.now (types_of ns c.args.f.now) c.take_assignable.new.stack c.push_result.new.stack x i c.in_ok-push_result.ensures (c.if-not-fits.ensures ns) ∙ c.plainly.ensures r i
+    args_at s ns r c.args.method.now (types_in ns c.args.f.now.stack) _ i c.as_slice.result.now (c.as_slice.ensures.value ∙ ap (λ v. v.items) c.deref.ensures) ∙ c.if-not-take_args.ensures.yes refl s x _ ∙ ap (λ n. takes s (rules.Obj n) (types_in ns c.take_args.new.stack) (call_ends s r (types_of ns c.args.f.now))) (sym i.class) ∙ c.if-not-take_assignable.ensures.yes refl s x _ ∙ ends_plain s c.args.site.now r c.args.method.now (types_of ns c.args.f.now) c.take_assignable.new.stack c.push_result.new.stack x i c.in_ok-push_result.ensures (c.if-not-fits.ensures ns) ∙ c.plainly.ensures r i
 
 pub returns-then-not-take_args-clause-interface : goal.returns-then-not-take_args-clause-interface
 unfolding row
 returns-then-not-take_args-clause-interface c s at r x i =
     let ns = c.args.site.now.names.now in
-    args_at s ns r c.args.method.now (types_in ns c.args.f.now.stack) _ i c.as_slice.result.now c.as_slice.ensures.value ∙ c.if-not-take_args.ensures.no refl s x _
+    args_at s ns r c.args.method.now (types_in ns c.args.f.now.stack) _ i c.as_slice.result.now (c.as_slice.ensures.value ∙ ap (λ v. v.items) c.deref.ensures) ∙ c.if-not-take_args.ensures.no refl s x _
 
 pub returns-then-not-take_assignable-clause-interface : goal.returns-then-not-take_assignable-clause-interface
 unfolding row
 returns-then-not-take_assignable-clause-interface c s at r x i =
     let ns = c.args.site.now.names.now in
-    args_at s ns r c.args.method.now (types_in ns c.args.f.now.stack) _ i c.as_slice.result.now c.as_slice.ensures.value ∙ c.if-not-take_args.ensures.yes refl s x _ ∙ ap (λ n. takes s (rules.Obj n) (types_in ns c.take_args.new.stack) (call_ends s r (types_of ns c.args.f.now))) (sym i.class) ∙ c.if-not-take_assignable.ensures.no refl s x _
+    args_at s ns r c.args.method.now (types_in ns c.args.f.now.stack) _ i c.as_slice.result.now (c.as_slice.ensures.value ∙ ap (λ v. v.items) c.deref.ensures) ∙ c.if-not-take_args.ensures.yes refl s x _ ∙ ap (λ n. takes s (rules.Obj n) (types_in ns c.take_args.new.stack) (call_ends s r (types_of ns c.args.f.now))) (sym i.class) ∙ c.if-not-take_assignable.ensures.no refl s x _
 
 pub returns-then-not-fits-clause-interface : goal.returns-then-not-fits-clause-interface
 unfolding row
 returns-then-not-fits-clause-interface c s at r x i =
     let ns = c.args.site.now.names.now in
-    args_at s ns r c.args.method.now (types_in ns c.args.f.now.stack) _ i c.as_slice.result.now c.as_slice.ensures.value ∙ c.if-not-take_args.ensures.yes refl s x _ ∙ ap (λ n. takes s (rules.Obj n) (types_in ns c.take_args.new.stack) (call_ends s r (types_of ns c.args.f.now))) (sym i.class) ∙ c.if-not-take_assignable.ensures.yes refl s x _ ∙ ends_full s c.args.site.now r c.args.method.now (types_of ns c.args.f.now) c.take_assignable.new.stack c.push_result.new.stack x i c.in_ok-push_result.ensures (c.if-not-fits.ensures ns)
+    args_at s ns r c.args.method.now (types_in ns c.args.f.now.stack) _ i c.as_slice.result.now (c.as_slice.ensures.value ∙ ap (λ v. v.items) c.deref.ensures) ∙ c.if-not-take_args.ensures.yes refl s x _ ∙ ap (λ n. takes s (rules.Obj n) (types_in ns c.take_args.new.stack) (call_ends s r (types_of ns c.args.f.now))) (sym i.class) ∙ c.if-not-take_assignable.ensures.yes refl s x _ ∙ ends_full s c.args.site.now r c.args.method.now (types_of ns c.args.f.now) c.take_assignable.new.stack c.push_result.new.stack x i c.in_ok-push_result.ensures (c.if-not-fits.ensures ns)
 
 pub returns-clause-interface : goal.returns-clause-interface
 unfolding row
 returns-clause-interface c s at r x i =
     let ns = c.args.site.now.names.now in
-    args_at s ns r c.args.method.now (types_in ns c.args.f.now.stack) _ i c.as_slice.result.now c.as_slice.ensures.value ∙ c.if-not-take_args.ensures.yes refl s x _ ∙ ap (λ n. takes s (rules.Obj n) (types_in ns c.take_args.new.stack) (call_ends s r (types_of ns c.args.f.now))) (sym i.class) ∙ c.if-not-take_assignable.ensures.yes refl s x _ ∙ ends_plain s c.args.site.now r c.args.method.now (types_of ns c.args.f.now) c.take_assignable.new.stack c.push_result.new.stack x i c.in_ok-push_result.ensures (c.if-not-fits.ensures ns) ∙ c.plainly.ensures r i
+    args_at s ns r c.args.method.now (types_in ns c.args.f.now.stack) _ i c.as_slice.result.now (c.as_slice.ensures.value ∙ ap (λ v. v.items) c.deref.ensures) ∙ c.if-not-take_args.ensures.yes refl s x _ ∙ ap (λ n. takes s (rules.Obj n) (types_in ns c.take_args.new.stack) (call_ends s r (types_of ns c.args.f.now))) (sym i.class) ∙ c.if-not-take_assignable.ensures.yes refl s x _ ∙ ends_plain s c.args.site.now r c.args.method.now (types_of ns c.args.f.now) c.take_assignable.new.stack c.push_result.new.stack x i c.in_ok-push_result.ensures (c.if-not-fits.ensures ns) ∙ c.plainly.ensures r i

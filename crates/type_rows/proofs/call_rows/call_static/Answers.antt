@@ -17,16 +17,16 @@ pub returns-then-not-take_args : goal.returns-then-not-take_args
 unfolding row
 returns-then-not-take_args c s at r x i =
     let ns = c.args.site.now.names.now in
-    args_at s ns r c.args.method.now (types_in ns c.args.f.now.stack) _ i c.as_slice.result.now c.as_slice.ensures.value ∙ c.if-not-take_args.ensures.no refl s x _
+    args_at s ns r c.args.method.now (types_in ns c.args.f.now.stack) _ i c.as_slice.result.now (c.as_slice.ensures.value ∙ ap (λ v. v.items) c.deref.ensures) ∙ c.if-not-take_args.ensures.no refl s x _
 
 pub returns-then-not-fits : goal.returns-then-not-fits
 unfolding row
 returns-then-not-fits c s at r x i =
     let ns = c.args.site.now.names.now in
-    args_at s ns r c.args.method.now (types_in ns c.args.f.now.stack) _ i c.as_slice.result.now c.as_slice.ensures.value ∙ c.if-not-take_args.ensures.yes refl s x _ ∙ ends_full s c.args.site.now r c.args.method.now (types_of ns c.args.f.now) c.take_args.new.stack c.push_result.new.stack x i c.in_ok-push_result.ensures (c.if-not-fits.ensures ns)
+    args_at s ns r c.args.method.now (types_in ns c.args.f.now.stack) _ i c.as_slice.result.now (c.as_slice.ensures.value ∙ ap (λ v. v.items) c.deref.ensures) ∙ c.if-not-take_args.ensures.yes refl s x _ ∙ ends_full s c.args.site.now r c.args.method.now (types_of ns c.args.f.now) c.take_args.new.stack c.push_result.new.stack x i c.in_ok-push_result.ensures (c.if-not-fits.ensures ns)
 
 pub returns : goal.returns
 unfolding row
 returns c s at r x i =
     let ns = c.args.site.now.names.now in
-    args_at s ns r c.args.method.now (types_in ns c.args.f.now.stack) _ i c.as_slice.result.now c.as_slice.ensures.value ∙ c.if-not-take_args.ensures.yes refl s x _ ∙ ends_plain s c.args.site.now r c.args.method.now (types_of ns c.args.f.now) c.take_args.new.stack c.push_result.new.stack x i c.in_ok-push_result.ensures (c.if-not-fits.ensures ns) ∙ c.plainly.ensures r i
+    args_at s ns r c.args.method.now (types_in ns c.args.f.now.stack) _ i c.as_slice.result.now (c.as_slice.ensures.value ∙ ap (λ v. v.items) c.deref.ensures) ∙ c.if-not-take_args.ensures.yes refl s x _ ∙ ends_plain s c.args.site.now r c.args.method.now (types_of ns c.args.f.now) c.take_args.new.stack c.push_result.new.stack x i c.in_ok-push_result.ensures (c.if-not-fits.ensures ns) ∙ c.plainly.ensures r i

@@ -22,19 +22,19 @@ use Rattle.type_rows.proofs.special_rows.call_initializer.Goals as goal
 pub returns-then-not-take_args : goal.returns-then-not-take_args
 returns-then-not-take_args c s r x i k e =
     let ns = c.args.site.now.names.now in
-    init_only s (types_of ns c.args.f.now) r e ∙ args_at s ns r c.args.method.now (types_in ns c.args.f.now.stack) _ i c.as_slice.result.now c.as_slice.ensures.value
+    init_only s (types_of ns c.args.f.now) r e ∙ args_at s ns r c.args.method.now (types_in ns c.args.f.now.stack) _ i c.as_slice.result.now (c.as_slice.ensures.value ∙ ap (λ v. v.items) c.deref.ensures)
     ∙ c.if-not-take_args.ensures.no refl s x _
 
 pub returns-in_default : goal.returns-in_default
 returns-in_default c s r x i k e =
     let ns = c.args.site.now.names.now in
-    init_only s (types_of ns c.args.f.now) r e ∙ args_at s ns r c.args.method.now (types_in ns c.args.f.now.stack) _ i c.as_slice.result.now c.as_slice.ensures.value
+    init_only s (types_of ns c.args.f.now) r e ∙ args_at s ns r c.args.method.now (types_in ns c.args.f.now.stack) _ i c.as_slice.result.now (c.as_slice.ensures.value ∙ ap (λ v. v.items) c.deref.ensures)
     ∙ c.if-not-take_args.ensures.yes refl s x _ ∙ c.in_default.ensures.none ns _
 
 pub returns-then-not-fits : goal.returns-then-not-fits
 returns-then-not-fits c s r x i k e =
     let ns = c.args.site.now.names.now in
-    init_only s (types_of ns c.args.f.now) r e ∙ args_at s ns r c.args.method.now (types_in ns c.args.f.now.stack) _ i c.as_slice.result.now c.as_slice.ensures.value
+    init_only s (types_of ns c.args.f.now) r e ∙ args_at s ns r c.args.method.now (types_in ns c.args.f.now.stack) _ i c.as_slice.result.now (c.as_slice.ensures.value ∙ ap (λ v. v.items) c.deref.ensures)
     ∙ c.if-not-take_args.ensures.yes refl s x _ ∙ c.in-Some.ensures.some ns _
     ∙ room_lacks s c.args.site.now r c.args.method.now (λ l. (initialises s (types_of ns c.args.f.now) r l (type_of ns c.in-Some.top))) c.take_any_reference.new.self c.push_result.new.stack x i c.in_ok-push_result.ensures (c.if-not-fits.ensures ns)
 
@@ -43,7 +43,7 @@ returns c =
     IfOk-weaker c.initialise_top.result (λ a. InitialisesIs c.args.site.now c.args.method.now c.in-Some.top (record c.args.f.now { stack = c.push_result.new.stack }) a c.initialise_top.new.f)
     (λ a. SpecialIf true c.args.site.now c.args.method.now c.args.f.now a c.initialise_top.new.f) (λ a h s r x i k e.
     let ns = c.args.site.now.names.now in
-    init_only s (types_of ns c.args.f.now) r e ∙ args_at s ns r c.args.method.now (types_in ns c.args.f.now.stack) _ i c.as_slice.result.now c.as_slice.ensures.value
+    init_only s (types_of ns c.args.f.now) r e ∙ args_at s ns r c.args.method.now (types_in ns c.args.f.now.stack) _ i c.as_slice.result.now (c.as_slice.ensures.value ∙ ap (λ v. v.items) c.deref.ensures)
     ∙ c.if-not-take_args.ensures.yes refl s x _ ∙ c.in-Some.ensures.some ns _
     ∙ room_serves s c.args.site.now r c.args.method.now (λ l. (initialises s (types_of ns c.args.f.now) r l (type_of ns c.in-Some.top))) c.take_any_reference.new.self c.push_result.new.stack x i c.in_ok-push_result.ensures (c.if-not-fits.ensures ns)
     ∙ h s r (types_in ns c.args.f.now.stack) x i k) c.initialise_top.ensures

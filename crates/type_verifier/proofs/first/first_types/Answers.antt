@@ -11,7 +11,7 @@ returns-clause-types c =
     let ns = table.list.items in
     let args = c.in_ok-args.args.items in
     let this = c.receiver-this.result in
-    let name = name_lasts c.args.program.now c.number.new.self table c.in_ok-class.class c.args.name.now c.in_ok-args.ensures.adds c.in_ok-class.ensures.number in
+    let name = name_lasts c.args.program.now c.args.names.now table c.args.class c.args.name.now c.in_ok-args.ensures.adds c.requires.class in
     let kinds = subst (KindsLast ns args) (c.as_slice.ensures ∙ c.deref.ensures) c.in_ok-args.ensures.types in
-    first_made ns c.args.name.now c.in_ok-class.class c.args.method.now this args c.add_all.new.types.items name c.receiver-this.ensures kinds
+    first_made ns c.args.name.now c.args.class c.args.method.now this args c.add_all.new.types.items name c.receiver-this.ensures kinds
     (c.in_ok-add_all.ensures ∙ ap (λ l. l ++ c.deref-2.result.now) c.in_ok-first.ensures ∙ ap (λ l. if_any this ++ l) c.deref-2.ensures.value)

@@ -1,13 +1,18 @@
-use Rattle.std.proofs.Common.{◌≡◌, ◌∙◌, sym, ap}
-use Rattle.vframes.specs.Named.{name_at}
-use Rattle.type_verifier.proofs.Lasting.{added_twice, lasts}
+use Rattle.type_verifier.proofs.Kept.{fields_more, methods_more}
 use Rattle.type_verifier.proofs.pool.class_item.Goals as goal
 
-pub returns-clause-adds : goal.returns-clause-adds
-returns-clause-adds c = added_twice c.args.own.now.program.now c.args.names.now c.number.new.self c.number-2.new.self c.in_ok-class.ensures.adds c.in_ok-array-2.ensures.adds
+pub returns-clause-meanings : goal.returns-clause-meanings
+returns-clause-meanings c =
+    let o = c.args.own.now in
+    let old = c.args.names.now.list.items in
+    let new = c.class_by_text.new.names.list.items in
+    let more = c.in_ok-class.ensures.adds.more in
+    record {
+      classes = c.in_ok-class.ensures.kept;
+      fields = fields_more old new o more c.args.meanings.now.fields c.requires.meanings.fields;
+      methods = methods_more old new o more c.args.meanings.now.methods c.requires.meanings.methods;
+      declared = c.requires.meanings.declared;
+    }
 
 pub returns-clause-item : goal.returns-clause-item
-returns-clause-item c = λ more. (
-  lasts (λ ns. name_at ns c.in_ok-class.class ≡ c.args.name.now) c.number.new.self.list.items c.number-2.new.self.list.items c.in_ok-array-2.ensures.adds.more c.in_ok-class.ensures.number more,
-  c.in_ok-array-2.ensures.number more ∙ c.in_ok-array.ensures,
-)
+returns-clause-item c = λ more. (c.in_ok-class.ensures.class.number more, c.in_ok-class.ensures.class.array more)

@@ -1,10 +1,21 @@
-use Rattle.std.proofs.Common.{sym, subst, ◌++◌}
+use Rattle.std.proofs.Common.{◌∙◌, sym, subst, ◌++◌}
 use Rattle.class_link.specs.Symbols.{IsClass}
 use Rattle.class_link.specs.View.{symbol_of}
 use Rattle.type_rows.specs.Items.{IsItem}
 use Rattle.type_rows.specs.declared.item.Item.TheVariants as item
+use Rattle.type_verifier.specs.Meanings.{EntryTextsOf}
 use Rattle.type_verifier.specs.Pool.{home_of}
 use Rattle.type_verifier.proofs.pool.item_of.Goals as goal
+
+pub class_item-requires-clause-text : goal.class_item-requires-clause-text
+class_item-requires-clause-text c =
+    c.deref.ensures ∙ subst (λ e. EntryTextsOf c.args.own.now e c.args.texts) c.in-Class.is c.requires.texts
+
+pub field_item-requires-clause-texts : goal.field_item-requires-clause-texts
+field_item-requires-clause-texts c = subst (λ e. EntryTextsOf c.args.own.now e c.args.texts) c.in-Field.is c.requires.texts
+
+pub signature_of-requires-clause-texts : goal.signature_of-requires-clause-texts
+signature_of-requires-clause-texts c = subst (λ e. EntryTextsOf c.args.own.now e c.args.texts) c.in-Method.is c.requires.texts
 
 pub returns-in_ok-class_item-in-Class-clause-item : goal.returns-in_ok-class_item-in-Class-clause-item
 returns-in_ok-class_item-in-Class-clause-item c = λ more.

@@ -1,41 +1,51 @@
-use Rattle.std.proofs.Common.{◌≡◌, ◌∙◌, sym, ap, subst, ◌++◌, reverse, map}
+use Rattle.std.proofs.Common.{◌≡◌, ◌∙◌, sym, ap, subst}
 use Rattle.program_rules.specs.Names.{same, instance_initializer}
-use Rattle.type_rules.specs.Frames.{type_of as type_of_kind}
 use Rattle.type_rules.specs.Rows.{is_plain_name}
-use Rattle.class_link.specs.Symbols.{kind_of}
-use Rattle.std.specs.Option.{option_map}
 use Rattle.vframes.specs.Named.{name_at}
-use Rattle.vframes.specs.View.{type_of, types_in}
-use Rattle.vframes.proofs.FreshLaws.{map_turned}
 use Rattle.type_verifier.specs.Pool.{NearIs, InitialisesIs}
 use Rattle.type_verifier.proofs.Lasting.{added_twice, lasts}
-use Rattle.type_verifier.proofs.Owns.{args_turned, map_twice}
+use Rattle.type_verifier.proofs.Kept.{classes_more, fields_more, methods_more}
 use Rattle.type_verifier.proofs.pool.signature_of.Goals as goal
 
+pub class_by_text-requires-clause-text : goal.class_by_text-requires-clause-text
+class_by_text-requires-clause-text c = c.deref.ensures ∙ c.requires.texts.class
+
+pub method_by_text-requires-clause-kept : goal.method_by_text-requires-clause-kept
+method_by_text-requires-clause-kept c =
+    methods_more c.args.names.now.list.items c.class_by_text.new.names.list.items c.args.own.now c.in_ok-class.ensures.adds.more c.args.meanings.now.methods c.requires.meanings.methods
+
+pub method_by_text-requires-clause-text : goal.method_by_text-requires-clause-text
+method_by_text-requires-clause-text c = record { args = c.requires.texts.args; result = c.requires.texts.result }
+
 pub returns-clause-adds : goal.returns-clause-adds
-returns-clause-adds c =
-    added_twice c.args.own.now.program.now c.args.names.now c.number.new.self c.result_type.new.names c.in_ok-class.ensures.adds
-    (added_twice c.args.own.now.program.now c.number.new.self c.kind_types.new.names c.result_type.new.names c.in_ok-args.ensures.adds c.in_ok-given.ensures.adds)
+returns-clause-adds c = added_twice c.args.own.now.program.now c.args.names.now c.class_by_text.new.names c.method_by_text.new.names c.in_ok-class.ensures.adds c.in_ok-stated.ensures.adds
+
+pub returns-clause-meanings : goal.returns-clause-meanings
+returns-clause-meanings c =
+    let o = c.args.own.now in
+    let first = c.args.names.now.list.items in
+    let second = c.class_by_text.new.names.list.items in
+    let third = c.method_by_text.new.names.list.items in
+    record {
+      classes = classes_more second third o c.in_ok-stated.ensures.adds.more c.class_by_text.new.kept c.in_ok-class.ensures.kept;
+      fields = fields_more second third o c.in_ok-stated.ensures.adds.more c.args.meanings.now.fields (fields_more first second o c.in_ok-class.ensures.adds.more c.args.meanings.now.fields c.requires.meanings.fields);
+      methods = c.in_ok-stated.ensures.kept;
+      declared = c.requires.meanings.declared;
+    }
 
 pub returns-clause-method : goal.returns-clause-method
 returns-clause-method c = λ more.
-    let r = c.args.r.now in
-    let a = c.number.new.self.list.items in
-    let b = c.kind_types.new.names.list.items in
-    let d = c.result_type.new.names.list.items in
-    let ns = d ++ more in
-    let types = lasts (λ ns. types_in ns c.in_ok-args.args.items ≡ map (λ k. type_of_kind (kind_of k)) c.as_slice.result.now) b d c.in_ok-given.ensures.adds.more c.in_ok-args.ensures.types more in (
+    let o = c.args.own.now in
+    let class = c.in_ok-class.ensures.class in (
       record {
-        class = lasts (λ ns. name_at ns c.in_ok-class.class ≡ c.deref.result.now) b d c.in_ok-given.ensures.adds.more (lasts (λ ns. name_at ns c.in_ok-class.class ≡ c.deref.result.now) a b c.in_ok-args.ensures.adds.more c.in_ok-class.ensures.number) more ∙ c.deref.ensures;
-        init = ap (λ n. same n instance_initializer) (sym c.deref-4.ensures) ∙ c.called_of.ensures.init;
-        plain = ap is_plain_name (sym c.deref-4.ensures) ∙ c.called_of.ensures.plain;
-        args = args_turned type_of_kind kind_of r.args
-            ∙ ap reverse (sym (types ∙ ap (map (λ k. type_of_kind (kind_of k))) (c.as_slice.ensures ∙ c.deref-2.ensures)))
-            ∙ sym (map_turned (type_of ns) c.in_ok-args.args.items) ∙ ap (types_in ns) (sym c.reverse.ensures.items);
-        result = map_twice type_of_kind kind_of r.result ∙ ap (option_map (λ k. type_of_kind (kind_of k))) (sym c.deref-3.ensures) ∙ c.in_ok-given.ensures.result_ more;
+        class = lasts (λ ns. name_at ns c.in_ok-class.class.number ≡ c.deref.result.now) c.class_by_text.new.names.list.items c.method_by_text.new.names.list.items c.in_ok-stated.ensures.adds.more class.number more ∙ c.deref.ensures;
+        init = ap (λ n. same n instance_initializer) (sym c.deref-2.ensures) ∙ c.called_of.ensures.init;
+        plain = ap is_plain_name (sym c.deref-2.ensures) ∙ c.called_of.ensures.plain;
+        args = c.in_ok-stated.ensures.method.args more;
+        result = c.in_ok-stated.ensures.method.result more;
       },
       record {
-        this = subst (λ n. InitialisesIs c.args.own.now n c.initialises_this.result) c.deref-5.ensures c.initialises_this.ensures;
-        near = subst (λ n. NearIs c.args.own.now n c.is_near.result) c.deref-6.ensures c.is_near.ensures;
+        this = subst (λ n. InitialisesIs o n c.in_ok-class.class.initialises_this) c.deref.ensures class.this;
+        near = subst (λ n. NearIs o n c.in_ok-class.class.is_near) c.deref.ensures class.near;
       },
     )

@@ -1,6 +1,6 @@
 use Rattle.std.proofs.Common.{◌≡◌, ◌∙◌, sym, ap}
 use Rattle.type_verifier.proofs.Owns.{above_interface, above_class, above_none}
-use Rattle.type_verifier.proofs.pool.is_superclass.Goals as goal
+use Rattle.type_verifier.proofs.own.is_superclass.Goals as goal
 
 pub returns-then-is_interface : goal.returns-then-is_interface
 returns-then-is_interface c =

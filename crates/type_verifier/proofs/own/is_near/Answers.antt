@@ -2,7 +2,7 @@ use Rattle.std.proofs.Common.{◌≡◌, ◌∙◌, sym, ap}
 use Rattle.std.specs.List.{list_any}
 use Rattle.program_rules.specs.Names.{same}
 use Rattle.type_verifier.proofs.Owns.{near_same, near_above, near_interface}
-use Rattle.type_verifier.proofs.pool.is_near.Goals as goal
+use Rattle.type_verifier.proofs.own.is_near.Goals as goal
 
 pub returns-then-eq : goal.returns-then-eq
 returns-then-eq c = near_same c.args.own.now c.args.name.now (sym c.eq.ensures ∙ c.if-eq.true)
