@@ -163,6 +163,11 @@ module _ (p : List Info) (m : MethodCode) (class : ℕ) (op : Op) (old : Numbere
   pub left_call : (how : CallUse) (n : ℕ) (w : World) → AreFramesOf p old → MeansIn op (λ named. named (call_of how) n) → Leaves p m class (on_method (call_named how) (symbol_at p class n)) old old w w
   left_call how n w are is = left (on_method (call_named how) (symbol_at p class n)) w are (is m.code.longs.items names ∙ call_names how n)
 
+  pub op_calls : (how : CallUse) (n : ℕ) (t : Turn) (new : NumberedFrames) (w u : World) → MeansIn op (λ named. named (call_of how) n) → TurnsAs p (on_method (call_named how) (symbol_at p class n)) t old new w u → TurnsIn p m (meaning p class m op) t old new w u
+  op_calls how n t new w u is h =
+      subst (λ i. TurnsIn p m i t old new w u) (sym (is m.code.longs.items names ∙ call_names how n))
+      (h (option_map kind_of m.result) m.handlers.initializes)
+
   pub op_returns : (kind : ReturnOp) (t : Turn) (new : NumberedFrames) (w u : World) → MeansIn op (λ named. return_in kind) → TurnsIn p m (return_in kind) t old new w u → TurnsIn p m (meaning p class m op) t old new w u
   op_returns kind t new w u is h = subst (λ i. TurnsIn p m i t old new w u) (sym (is m.code.longs.items names)) h
 

@@ -9,3 +9,5 @@ mod Called
 mod Fielded
 mod Held
 mod Handled
+mod Asked
+mod Further

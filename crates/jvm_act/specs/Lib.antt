@@ -3,6 +3,7 @@ pub mod Standing
 pub mod Methods
 pub mod Codes
 pub mod Groups
+pub mod Asking
 pub mod Acts
 pub mod Laws
 pub mod Calls

@@ -9,6 +9,7 @@ ghost use Rattle.jvm_resolved.specs.References.{IsTableOf};
 ghost use Rattle.jvm_world.specs.Holding.{opened};
 ghost use Rattle.jvm_world.specs.View.{IsWorldOf, IsKept};
 ghost use Rattle.jvm_act.specs.Acts.{TurnsIn, ActsTo, RunsCode, StandsAtOp};
+ghost use Rattle.jvm_act.specs.Asking.{AsksOf};
 ghost use Rattle.jvm_act.specs.Groups.{IsFrameOf};
 ghost use Rattle.jvm_act.specs.Methods.{meaning};
 ghost use Rattle.jvm_act.specs.Standing.{HasNext, AreFramesOf};
@@ -68,7 +69,7 @@ pub fn turn_inside(
     requires table { IsTableOf p.now references.old }
     requires frames { AreFramesOf p.now frames.old }
     requires runs { IsSomeAnd frames.old.frame HasNext }
-    requires few { (x : ℕ) → opened x world.old.monitors + 1 < 2 ^ 64 }
+    requires few { AsksOf group world.old }
     requires group { IsFrameOf op group }
     ensures row { IfOk result (λ t. TurnsIn p.now method.now (meaning p.now class.0 method.now op) t
         frames.old frames.new world.old world.new) }
@@ -84,7 +85,7 @@ pub fn turn_inside(
 }
 
 // The instruction of a method at which the running frame stands.
-#[tactic(auto, using(crate::proofs::Executed::done, crate::proofs::Executed::left_call, crate::proofs::Executed::op_next, crate::proofs::Executed::op_returns))]
+#[tactic(auto, using(crate::proofs::Executed::done, crate::proofs::Executed::left_call, crate::proofs::Executed::op_next, crate::proofs::Executed::op_returns, crate::proofs::Asked::asks_few))]
 fn act_op(
     frames: &mut Frames,
     world: &mut World,

@@ -1,10 +1,10 @@
 //! The instructions by which the running frame stays where it is, or goes on.
 
-ghost use Rattle.std.specs.Prelude.{ℕ, ◌+◌, ◌<◌, ◌^◌, IfOk, IfSome, OnOk};
+ghost use Rattle.std.specs.Prelude.{IfOk, IfSome, OnOk};
 ghost use Rattle.jvm_resolved.specs.References.{IsTableOf};
-ghost use Rattle.jvm_world.specs.Holding.{opened};
 ghost use Rattle.jvm_world.specs.View.{IsWorldOf, IsKept};
 ghost use Rattle.jvm_act.specs.Acts.{RunsWholeAs};
+ghost use Rattle.jvm_act.specs.Asking.{AsksOf};
 ghost use Rattle.jvm_act.specs.Groups.{IsFrameOf};
 ghost use Rattle.jvm_act.specs.Methods.{meaning};
 ghost use Rattle.jvm_act.specs.Standing.{HasNext};
@@ -42,7 +42,7 @@ pub fn act_inside(
     requires world { IsWorldOf p.now world.old }
     requires table { IsTableOf p.now references.old }
     requires next { IfSome frames.old.frame HasNext }
-    requires few { (x : ℕ) → opened x world.old.monitors + 1 < 2 ^ 64 }
+    requires few { AsksOf group world.old }
     requires group { IsFrameOf op group }
     ensures row { IfOk result (λ e. RunsWholeAs p.now (meaning p.now class.0 method.now op) e
         frames.old frames.new world.old world.new) }

@@ -3,6 +3,7 @@
 
 mod acting;
 mod arrays;
+mod beyond;
 mod calls;
 mod classes;
 mod codes;
@@ -20,6 +21,7 @@ mod turning;
 mod unwinding;
 
 pub use acting::{Acted, act};
+pub use beyond::act_beyond;
 pub use calls::take_call;
 pub use codes::Codes;
 pub use groups::{CallUse, FieldUse, FrameOp, Group, MemberOp, ReturnOp, SwitchOp, group_of};

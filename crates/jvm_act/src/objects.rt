@@ -1,9 +1,9 @@
 //! What asks an object alone: the length of an array, `athrow`, monitors.
 
-ghost use Rattle.std.specs.Prelude.{ℕ, ◌+◌, ◌<◌, ◌^◌, IfOk, IfSome, OnOk};
+ghost use Rattle.std.specs.Prelude.{IfOk, IfSome, OnOk};
 ghost use Rattle.jvm_plain_rows.specs.Plain.{RunsAs};
-ghost use Rattle.jvm_world.specs.Holding.{opened};
 ghost use Rattle.jvm_world.specs.View.{IsWorldOf, IsKept};
+ghost use Rattle.jvm_act.specs.Asking.{AsksOfObject};
 ghost use Rattle.jvm_act.specs.Groups.{object_in};
 ghost use Rattle.jvm_act.specs.Standing.{HasNext};
 
@@ -27,7 +27,7 @@ pub fn take_object(
 ) -> Result<Effect, Memory>
     requires world { IsWorldOf p.now world.old }
     requires next { IfSome frames.old.frame HasNext }
-    requires few { (x : ℕ) → opened x world.old.monitors + 1 < 2 ^ 64 }
+    requires few { AsksOfObject op world.old }
     ensures row { IfOk result (λ e. RunsAs p.now (object_in op) e
         frames.old frames.new world.old world.new) }
     ensures kept { OnOk result (IsKept p.now world.old world.new) }
