@@ -74,6 +74,10 @@ abbrev pub state_among : ℕ → List (ℕ × InitState) → InitState
 state_among class [] = Fresh
 state_among class (x ∷ xs) = if nat_eq x.0 class then x.1 else state_among class xs
 
+-- Whether a class has a mark.
+abbrev pub is_begun : ℕ → List (ℕ × InitState) → Bool
+is_begun class marks = list_any (λ x. nat_eq x.0 class) marks
+
 -- The states by number are those of the marks.
 abbrev pub AreStatesOf : List InitState → List (ℕ × InitState) → Type 0
 AreStatesOf states marks = (class : ℕ) → get_or states class Fresh ≡ state_among class marks
