@@ -1,7 +1,7 @@
 //! The table under threads.
 
 ghost use Rattle.std.specs.Prelude.{◌≡◌, ◌↔◌, ◌<◌, ◌+◌, ◌^◌, [], All, IfOk, IfErr, IfSome, IfNone, IsNone, length};
-ghost use Rattle.claim_core.specs.declared.events.Entry.TheVariants.{Looked, Detected};
+ghost use Rattle.claim_core.specs.declared.events.ClaimEntry.TheVariants.{Looked, Detected};
 ghost use Rattle.claim_core.specs.Claims.{no_place};
 ghost use Rattle.mutant_table.specs.Drawing.{Draws, DrawsNoCell, HasRunOut, IsAtMostDetected, Notes, SeesPlace, StaysOrAgrees};
 ghost use Rattle.mutant_table.specs.Entries.{ListAgrees};

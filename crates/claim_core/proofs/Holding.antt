@@ -3,13 +3,13 @@ use Rattle.std.proofs.Common.{◌≡◌, ℕ, zero, suc, ◌+◌, ◌^◌, ◌<�
 use Rattle.std.specs.Prelude.{slice_index_or, slice_set, OnErr, Result, Ok, Err, Some, None, nat_lt, if◌then◌else◌}
 use Rattle.std.proofs.lemmas.List.{map-set, get_or-map, length-map}
 use Rattle.std.proofs.Math.Seq.{map-set_same}
-use Rattle.claim_core.specs.declared.events.Entry.{Entry}
+use Rattle.claim_core.specs.declared.events.ClaimEntry.{ClaimEntry}
 use Rattle.claim_core.specs.declared.state.Worker.{Worker}
 use Rattle.claim_core.specs.Claims.{Claims, no_place, list_of, least_of, is_past, is_exhausted, noted, claimed, IsInRange}
 use Rattle.claim_core.specs.Held.{IsKept, claims_of, entries_of, drained_of, lists_of}
 use Rattle.claim_core.specs.declared.state.ClaimState.TheInside.{Inside}
 use Rattle.std.proofs.lemmas.Grind.{get_or_default_zero}
-use Rattle.claim_core.specs.declared.events.Entry.TheVariants.{Claimed}
+use Rattle.claim_core.specs.declared.events.ClaimEntry.TheVariants.{Claimed}
 use Rattle.claim_core.specs.declared.events.Event.{Event}
 use Rattle.claim_core.specs.declared.events.Reply.TheVariants.{Cell}
 use Rattle.std.proofs.lemmas.Bool.{lt-ltb}
@@ -28,7 +28,7 @@ pub at_lists : (ws : List Worker) (w : ℕ) (d : Worker) → w < length ws → a
 at_lists ws w d lt = get_or-map entries_of ws w d [] lt
 
 -- a worker whose list gets one more entry
-pub lists_noted : (ws : List Worker) (w : ℕ) (e : Entry) (x d : Worker) → w < length ws → entries_of x ≡ entries_of (slice_index_or ws w d) ++ e ∷ [] → lists_of (slice_set ws w x) ≡ noted (lists_of ws) w e
+pub lists_noted : (ws : List Worker) (w : ℕ) (e : ClaimEntry) (x d : Worker) → w < length ws → entries_of x ≡ entries_of (slice_index_or ws w d) ++ e ∷ [] → lists_of (slice_set ws w x) ≡ noted (lists_of ws) w e
 lists_noted ws w e x d lt is = map-set entries_of ws w x ∙ ap (slice_set (lists_of ws) w) (is ∙ ap (λ l. l ++ e ∷ []) (sym (at_lists ws w d lt)))
 
 pub lists_same : (ws : List Worker) (w : ℕ) (x d : Worker) → entries_of x ≡ entries_of (slice_index_or ws w d) → lists_of (slice_set ws w x) ≡ lists_of ws
@@ -46,17 +46,17 @@ knows cells ws w d lt is =
     sym (get_or-map (is_exhausted cells) (lists_of ws) w [] (drained_of d) (omega (arith, lt, length-map ws entries_of))) ∙ ap (λ l. slice_index_or l w (drained_of d)) (sym is) ∙ get_or-map drained_of ws w d (drained_of d) lt
 
 -- an entry that isn't past the cells changes no answer
-pub flags_same : (cells : ℕ) (lists : List (List Entry)) (w : ℕ) (e : Entry) → is_past cells e ≡ false → map (is_exhausted cells) (noted lists w e) ≡ map (is_exhausted cells) lists
+pub flags_same : (cells : ℕ) (lists : List (List ClaimEntry)) (w : ℕ) (e : ClaimEntry) → is_past cells e ≡ false → map (is_exhausted cells) (noted lists w e) ≡ map (is_exhausted cells) lists
 flags_same cells lists w e below = map-set_same (is_exhausted cells) lists w (at lists w ++ e ∷ []) [] (exhausted-same cells (at lists w) e below)
 
 -- one that is past them changes the worker's
-pub flags_past : (cells : ℕ) (lists : List (List Entry)) (w : ℕ) (e : Entry) → is_exhausted cells (at lists w) ≡ false → is_past cells e ≡ true → map (is_exhausted cells) (noted lists w e) ≡ slice_set (map (is_exhausted cells) lists) w true
+pub flags_past : (cells : ℕ) (lists : List (List ClaimEntry)) (w : ℕ) (e : ClaimEntry) → is_exhausted cells (at lists w) ≡ false → is_past cells e ≡ true → map (is_exhausted cells) (noted lists w e) ≡ slice_set (map (is_exhausted cells) lists) w true
 flags_past cells lists w e none past = map-set (is_exhausted cells) lists w (at lists w ++ e ∷ []) ∙ ap (slice_set (map (is_exhausted cells) lists) w) (exhausted-push cells (at lists w) e none ∙ past)
 
-pub drained_noted : (cells : ℕ) (ws vs : List Worker) (w : ℕ) (e : Entry) → is_past cells e ≡ false → lists_of vs ≡ noted (lists_of ws) w e → map drained_of vs ≡ map drained_of ws → map drained_of ws ≡ map (is_exhausted cells) (lists_of ws) → map drained_of vs ≡ map (is_exhausted cells) (lists_of vs)
+pub drained_noted : (cells : ℕ) (ws vs : List Worker) (w : ℕ) (e : ClaimEntry) → is_past cells e ≡ false → lists_of vs ≡ noted (lists_of ws) w e → map drained_of vs ≡ map drained_of ws → map drained_of ws ≡ map (is_exhausted cells) (lists_of ws) → map drained_of vs ≡ map (is_exhausted cells) (lists_of vs)
 drained_noted cells ws vs w e below lists flags is = flags ∙ is ∙ sym (flags_same cells (lists_of ws) w e below) ∙ ap (map (is_exhausted cells)) (sym lists)
 
-pub drained_past : (cells : ℕ) (ws vs us : List Worker) (w : ℕ) (e : Entry) → is_exhausted cells (at (lists_of ws) w) ≡ false → is_past cells e ≡ true
+pub drained_past : (cells : ℕ) (ws vs us : List Worker) (w : ℕ) (e : ClaimEntry) → is_exhausted cells (at (lists_of ws) w) ≡ false → is_past cells e ≡ true
     → lists_of vs ≡ noted (lists_of ws) w e → map drained_of vs ≡ map drained_of ws → lists_of us ≡ lists_of vs → map drained_of us ≡ slice_set (map drained_of vs) w true
     → map drained_of ws ≡ map (is_exhausted cells) (lists_of ws) → map drained_of us ≡ map (is_exhausted cells) (lists_of us)
 drained_past cells ws vs us w e none past lists flags same set is =
@@ -89,7 +89,7 @@ next_fits s w kept lt none =
     omega (arith, room, kept.room, count_by-le-length (is_exhausted s.cells) lists, length-noted (lists_of s.workers.items) w (Claimed s.next), length-map s.workers.items entries_of)
 
 -- the state is kept where a worker notes an entry that isn't past the cells
-pub kept_noted : (s t : Inside) (c : Claims) (w : ℕ) (e : Entry) → IsKept s → ClaimsAgree c → claims_of t ≡ c → t.cells ≡ s.cells → is_past s.cells e ≡ false
+pub kept_noted : (s t : Inside) (c : Claims) (w : ℕ) (e : ClaimEntry) → IsKept s → ClaimsAgree c → claims_of t ≡ c → t.cells ≡ s.cells → is_past s.cells e ≡ false
     → lists_of t.workers.items ≡ noted (lists_of s.workers.items) w e → map drained_of t.workers.items ≡ map drained_of s.workers.items → IsKept t
 kept_noted s t c w e kept agree is cells below lists flags = record {
   agree = subst ClaimsAgree (sym is) agree;
@@ -98,7 +98,7 @@ kept_noted s t c w e kept agree is cells below lists flags = record {
 }
 
 -- and where it draws past them
-pub kept_past : (s t : Inside) (vs : List Worker) (c : Claims) (w : ℕ) (e : Entry) → IsKept s → ClaimsAgree c → claims_of t ≡ c → t.cells ≡ s.cells
+pub kept_past : (s t : Inside) (vs : List Worker) (c : Claims) (w : ℕ) (e : ClaimEntry) → IsKept s → ClaimsAgree c → claims_of t ≡ c → t.cells ≡ s.cells
     → is_exhausted s.cells (at (lists_of s.workers.items) w) ≡ false → is_past s.cells e ≡ true
     → lists_of vs ≡ noted (lists_of s.workers.items) w e → map drained_of vs ≡ map drained_of s.workers.items
     → lists_of t.workers.items ≡ lists_of vs → map drained_of t.workers.items ≡ slice_set (map drained_of vs) w true → IsKept t
@@ -116,7 +116,7 @@ kept_idle s mutants cells workers c n l ls d room = record {
   room = omega (arith, c, room, sym (length-map s.workers.items entries_of), ap length ls, long workers);
 }
   where
-    long : (k : ℕ) → length (replicate k (let e : List Entry = [] in e)) ≡ k
+    long : (k : ℕ) → length (replicate k (let e : List ClaimEntry = [] in e)) ≡ k
     long zero = refl
     long (suc k) = ap suc (long k)
 

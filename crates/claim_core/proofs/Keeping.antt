@@ -6,30 +6,30 @@ use Rattle.std.proofs.lemmas.List.{get_or-set_same, get_or-set_other, length-set
 use Rattle.std.specs.Prelude.{All, AllPairs, Contains, slice_index, slice_index_or, count_by, nat_le}
 use mathlib.Core.Logic.{dite}
 use native.Mathlib.Decide.{ℕ_discrete}
-use Rattle.claim_core.specs.declared.events.Entry.{Entry}
-use Rattle.claim_core.specs.declared.events.Entry.TheVariants.{Claimed, Looked, Detected}
+use Rattle.claim_core.specs.declared.events.ClaimEntry.{ClaimEntry}
+use Rattle.claim_core.specs.declared.events.ClaimEntry.TheVariants.{Claimed, Looked, Detected}
 use Rattle.claim_core.specs.declared.events.Event.{Event}
 use Rattle.claim_core.specs.declared.events.Event.TheVariants.{Claim, Look, Detect}
 use Rattle.claim_core.specs.Claims.{Claims, no_place, list_of, least_of, started, is_past, is_exhausted, noted, claimed, looked, detected, after, IsInRange, after_all}
 use Rattle.claim_core.specs.Agreement.{ClaimsAgree, Ascends, IsFresh}
 use Rattle.claim_core.proofs.Lists.{at, length-noted, contains_kept, contains_new, contains_noted, contains_was, pairs_noted, count-same, count-more, under_cells, one_if}
 
-number_of : Entry → ℕ
+number_of : ClaimEntry → ℕ
 number_of (Claimed n) = n
 number_of (Looked m v) = v
 number_of (Detected m p) = p
 
-mutant_of : Entry → ℕ
+mutant_of : ClaimEntry → ℕ
 mutant_of (Claimed n) = n
 mutant_of (Looked m v) = m
 mutant_of (Detected m p) = m
 
-kind_of : Entry → ℕ
+kind_of : ClaimEntry → ℕ
 kind_of (Claimed n) = 0
 kind_of (Looked m v) = 1
 kind_of (Detected m p) = 2
 
-kinds : (d e : Entry) → kind_of d ≢ kind_of e → d ≡ e → ⊥
+kinds : (d e : ClaimEntry) → kind_of d ≢ kind_of e → d ≡ e → ⊥
 kinds d e n is = n (ap kind_of is)
 
 -- a claim of the next number, by a worker that drew none past the cells
@@ -63,12 +63,12 @@ claimed_agrees c w lt none ok =
         omega (arith, ok.room, count-more c.cells c.lists w (Claimed c.next) lt none, more)
     fits false is = let under = leb-false c.cells c.next is in omega arith
 
-    rises : (d : Entry) → Contains (at c.lists w) d → Ascends c.cells d (Claimed c.next)
+    rises : (d : ClaimEntry) → Contains (at c.lists w) d → Ascends c.cells d (Claimed c.next)
     rises (Claimed a) h = (ok.below w a h, under_cells c.cells (at c.lists w) a none h)
     rises (Looked m v) h = tt
     rises (Detected m p) h = tt
 
-    no_look_back : (d : Entry) → Contains (at c.lists w) d → IsFresh d (Claimed c.next)
+    no_look_back : (d : ClaimEntry) → Contains (at c.lists w) d → IsFresh d (Claimed c.next)
     no_look_back (Claimed a) h = tt
     no_look_back (Looked m v) h = tt
     no_look_back (Detected m p) h = tt
@@ -98,12 +98,12 @@ looked_agrees c w m lt in_least ok =
       room = omega (arith, ok.room, count-same c.cells c.lists w e lt refl);
     }
   where
-    rises : (d : Entry) → Contains (at c.lists w) d → Ascends c.cells d (Looked m (least_of c m))
+    rises : (d : ClaimEntry) → Contains (at c.lists w) d → Ascends c.cells d (Looked m (least_of c m))
     rises (Claimed a) h = tt
     rises (Looked n v) h = tt
     rises (Detected n p) h = tt
 
-    is_fresh : (d : Entry) → Contains (at c.lists w) d → IsFresh d (Looked m (least_of c m))
+    is_fresh : (d : ClaimEntry) → Contains (at c.lists w) d → IsFresh d (Looked m (least_of c m))
     is_fresh (Claimed a) h = tt
     is_fresh (Looked n v) h = tt
     is_fresh (Detected n p) h = λ same. ok.least w m p (subst (λ x. Contains (at c.lists w) (Detected x p)) same h)
@@ -152,12 +152,12 @@ detected_agrees c w m p lt in_least small ok =
         (λ same. subst (λ x. least_of (detected c w m p) x ≤ least_of c x) (sym same) (rw here (min-le_left (least_of c m) p)))
         (λ apart. let x = elsewhere n apart in omega arith)
 
-    rises : (d : Entry) → Contains (at c.lists w) d → Ascends c.cells d (Detected m p)
+    rises : (d : ClaimEntry) → Contains (at c.lists w) d → Ascends c.cells d (Detected m p)
     rises (Claimed a) h = tt
     rises (Looked n v) h = tt
     rises (Detected n q) h = tt
 
-    is_fresh : (d : Entry) → Contains (at c.lists w) d → IsFresh d (Detected m p)
+    is_fresh : (d : ClaimEntry) → Contains (at c.lists w) d → IsFresh d (Detected m p)
     is_fresh (Claimed a) h = tt
     is_fresh (Looked n v) h = tt
     is_fresh (Detected n q) h = tt
@@ -219,13 +219,13 @@ pub first-least : (mutants : ℕ) → length (replicate mutants no_place) ≡ mu
 first-least zero = refl
 first-least (suc n) = ap suc (first-least n)
 
-nothing : (d : Entry) → Contains [] d → ⊥
+nothing : (d : ClaimEntry) → Contains [] d → ⊥
 nothing d c = let lt = c.1 in omega arith
 
 -- the start
 pub started_agrees : (mutants cells workers : ℕ) → ClaimsAgree (started mutants cells workers)
 started_agrees mutants cells workers =
-    let none : (w : ℕ) (d : Entry) → Contains (list_of (started mutants cells workers) w) d → ⊥ = λ w d h. nothing d (subst (λ l. Contains l d) (idle_list workers w) h) in
+    let none : (w : ℕ) (d : ClaimEntry) → Contains (list_of (started mutants cells workers) w) d → ⊥ = λ w d h. nothing d (subst (λ l. Contains l d) (idle_list workers w) h) in
     record {
       claimed = λ n under. absurd (omega arith);
       below = λ w n h. absurd (none w (Claimed n) h);

@@ -5,7 +5,7 @@ use mathlib.Core.Logic.{dite}
 use native.Mathlib.Decide.{ℕ_discrete}
 use Rattle.std.proofs.lemmas.Option.{slice_get-get_or}
 use Rattle.std.proofs.lemmas.List.Elements.{All-contains_itself}
-use Rattle.claim_core.specs.declared.events.Entry.TheVariants.{Detected}
+use Rattle.claim_core.specs.declared.events.ClaimEntry.TheVariants.{Detected}
 use Rattle.claim_core.specs.Claims.{Claims, no_place, place_in, list_of, least_of, started, after_all}
 use Rattle.claim_core.specs.Agreement.{ClaimsAgree, IsUndetected, IsLeastDetected}
 use Rattle.claim_core.specs.Ending.{Cell, Leaves, Settles, IsWholeRun, IsLeastOf, EndsAtLeast}

@@ -2,19 +2,19 @@
 -- own.
 use Rattle.std.specs.Prelude.{◌≡◌, ◌⊎◌, ℕ, ◌+◌, ◌<◌, ◌≤◌}
 use Rattle.std.specs.Prelude.{List, length, All, AllPairs, Contains, count_by}
-use Rattle.claim_core.specs.declared.events.Entry.{Entry}
-use Rattle.claim_core.specs.declared.events.Entry.TheVariants.{Claimed, Looked, Detected}
+use Rattle.claim_core.specs.declared.events.ClaimEntry.{ClaimEntry}
+use Rattle.claim_core.specs.declared.events.ClaimEntry.TheVariants.{Claimed, Looked, Detected}
 use Rattle.claim_core.specs.declared.events.Event.{Event}
 use Rattle.claim_core.specs.Claims.{Claims, list_of, least_of, is_exhausted, no_place}
 use Rattle.claim_core.specs.Claims.{IsInRange, after, after_all, started}
 
 -- of two claims of one list: the later number is the greater, and the earlier one is a cell's
-abbrev pub Ascends : ℕ → Entry → Entry → Type 0
+abbrev pub Ascends : ℕ → ClaimEntry → ClaimEntry → Type 0
 Ascends cells (Claimed a) (Claimed b) = (a < b) × (a < cells)
 Ascends cells d e = Unit {0}
 
 -- a look after a detection of the same mutant shows no greater place
-abbrev pub IsFresh : Entry → Entry → Type 0
+abbrev pub IsFresh : ClaimEntry → ClaimEntry → Type 0
 IsFresh (Detected m p) (Looked n v) = m ≡ n → v ≤ p
 IsFresh d e = Unit {0}
 

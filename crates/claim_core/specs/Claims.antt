@@ -4,8 +4,8 @@ use Rattle.std.specs.Prelude.{Bool, false, if◌then◌else◌, Option, Some, No
 use Rattle.std.specs.Prelude.{List, [], ◌∷◌, ◌++◌, length, replicate}
 use Rattle.std.specs.Prelude.{slice_index, slice_index_or, slice_set}
 use Rattle.std.specs.List.{list_any}
-use Rattle.claim_core.specs.declared.events.Entry.{Entry}
-use Rattle.claim_core.specs.declared.events.Entry.TheVariants.{Claimed, Looked, Detected}
+use Rattle.claim_core.specs.declared.events.ClaimEntry.{ClaimEntry}
+use Rattle.claim_core.specs.declared.events.ClaimEntry.TheVariants.{Claimed, Looked, Detected}
 use Rattle.claim_core.specs.declared.events.Event.{Event}
 use Rattle.claim_core.specs.declared.events.Event.TheVariants.{Claim, Look, Detect}
 use Rattle.claim_core.specs.declared.events.Reply.{Reply}
@@ -21,7 +21,7 @@ pub record Claims : Type 0 where
   pub cells : ℕ
   pub next : ℕ
   pub least : List ℕ
-  pub lists : List (List Entry)
+  pub lists : List (List ClaimEntry)
 
 -- the place that a number stands for, if it stands for one
 abbrev pub place_in : ℕ → Option ℕ
@@ -30,7 +30,7 @@ place_in v = if v == no_place then None else Some v
 abbrev pub least_of : Claims → ℕ → ℕ
 least_of c mutant = slice_index c.least mutant
 
-abbrev pub list_of : Claims → ℕ → List Entry
+abbrev pub list_of : Claims → ℕ → List ClaimEntry
 list_of c worker = slice_index_or c.lists worker []
 
 -- at the start nothing is drawn, and nothing detected
@@ -43,16 +43,16 @@ started mutants cells workers = record {
 }
 
 -- whether a list has drawn a number at or past the cells
-abbrev pub is_past : ℕ → Entry → Bool
+abbrev pub is_past : ℕ → ClaimEntry → Bool
 is_past cells (Claimed n) = nat_le cells n
 is_past cells (Looked m v) = false
 is_past cells (Detected m p) = false
 
-abbrev pub is_exhausted : ℕ → List Entry → Bool
+abbrev pub is_exhausted : ℕ → List ClaimEntry → Bool
 is_exhausted cells entries = list_any (is_past cells) entries
 
 -- the lists, with one more entry at the end of the worker's
-abbrev pub noted : List (List Entry) → ℕ → Entry → List (List Entry)
+abbrev pub noted : List (List ClaimEntry) → ℕ → ClaimEntry → List (List ClaimEntry)
 noted lists worker e = slice_set lists worker (slice_index_or lists worker [] ++ e ∷ [])
 
 -- a worker draws the next number

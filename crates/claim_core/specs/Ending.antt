@@ -1,9 +1,9 @@
 -- Workers that did all cells of a table, and what the least places then are. This project's own.
 use Rattle.std.specs.Prelude.{◌≡◌, ◌≢◌, ◌⊎◌, ℕ, ◌<◌, ◌≤◌, ◌↔◌, Option, Some, None}
 use Rattle.std.specs.Prelude.{List, length, All, Contains, slice_get}
-use Rattle.claim_core.specs.declared.events.Entry.{Entry}
+use Rattle.claim_core.specs.declared.events.ClaimEntry.{ClaimEntry}
 use Rattle.claim_core.specs.declared.events.Event.{Event}
-use Rattle.claim_core.specs.declared.events.Entry.TheVariants.{Claimed, Looked, Detected}
+use Rattle.claim_core.specs.declared.events.ClaimEntry.TheVariants.{Claimed, Looked, Detected}
 use Rattle.claim_core.specs.Agreement.{ClaimsAgree}
 use Rattle.claim_core.specs.Claims.{Claims, list_of, least_of, place_in, no_place}
 use Rattle.claim_core.specs.Claims.{started, after_all, IsInRange}
@@ -14,11 +14,11 @@ pub record Cell : Type 0 where
   pub place : ℕ
 
 -- the worker's reason to leave a cell: a look of its own showed a place below the cell's
-abbrev pub Leaves : List Entry → Cell → Type 0
+abbrev pub Leaves : List ClaimEntry → Cell → Type 0
 Leaves entries cell = (v : ℕ) × Contains entries (Looked cell.mutant v) × (v < cell.place)
 
 -- the worker detects the cell exactly where it is among the detecting ones
-abbrev pub Settles : List Cell → List Entry → Cell → Type 0
+abbrev pub Settles : List Cell → List ClaimEntry → Cell → Type 0
 Settles detecting entries cell =
     Contains entries (Detected cell.mutant cell.place) ↔ Contains detecting cell
 

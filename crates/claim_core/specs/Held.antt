@@ -1,18 +1,18 @@
 -- A held state of claims, as the claims that it stands for.
 use Rattle.std.specs.Prelude.{◌≡◌, ℕ, ◌+◌, ◌<◌, ◌^◌, List, Bool, true, map, length, slice_set}
-use Rattle.claim_core.specs.declared.events.Entry.{Entry}
+use Rattle.claim_core.specs.declared.events.ClaimEntry.{ClaimEntry}
 use Rattle.claim_core.specs.declared.state.Worker.{Worker}
 use Rattle.claim_core.specs.declared.state.ClaimState.TheInside.{Inside}
 use Rattle.claim_core.specs.Claims.{Claims, is_exhausted}
 use Rattle.claim_core.specs.Agreement.{ClaimsAgree}
 
-abbrev pub entries_of : Worker → List Entry
+abbrev pub entries_of : Worker → List ClaimEntry
 entries_of w = w.entries.items
 
 abbrev pub drained_of : Worker → Bool
 drained_of w = w.drained
 
-abbrev pub lists_of : List Worker → List (List Entry)
+abbrev pub lists_of : List Worker → List (List ClaimEntry)
 lists_of workers = map entries_of workers
 
 -- the workers before and after: this one is marked as one that drew a number at or past the cells,

@@ -1,6 +1,6 @@
 /// What a worker noted in its list.
 #[derive(Clone, Copy)]
-pub enum Entry {
+pub enum ClaimEntry {
     /// It drew this number. A number at or past the number of cells stands for no cell.
     Claimed(u64),
     /// It looked at this mutant, and saw this least place, or 65,535 where none was detected.

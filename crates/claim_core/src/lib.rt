@@ -5,6 +5,6 @@ mod events;
 mod laws;
 mod state;
 
-pub use events::{Entry, Event, Reply};
+pub use events::{ClaimEntry, Event, Reply};
 pub use laws::{events_end_at_least, events_keep_agreement, runs_agree, whole_run_is_least};
 pub use state::ClaimState;

@@ -4,7 +4,7 @@ ghost use Rattle.claim_core.specs.Agreement.{ClaimsAgree, IsUndetected, IsLeastD
 ghost use Rattle.claim_core.specs.Ending.{IsLeastOnceDone};
 ghost use Rattle.claim_core.specs.Held.{Drains, drained_of, lists_of};
 
-use crate::events::{Entry, Event, Reply};
+use crate::events::{ClaimEntry, Event, Reply};
 use class_model::Memory;
 use std::alloc::Global;
 use std::marker::Model;
@@ -23,7 +23,7 @@ pub struct ClaimState {
 
 #[derive(Drop)]
 struct Worker {
-    entries: Vec<Entry>,
+    entries: Vec<ClaimEntry>,
     drained: bool,
 }
 
@@ -102,7 +102,7 @@ impl ClaimState {
             return Ok(None);
         }
         let number = self.next;
-        note(&mut self.workers, worker, Entry::Claimed(number))?;
+        note(&mut self.workers, worker, ClaimEntry::Claimed(number))?;
         self.next = number + 1;
         if number < self.cells {
             return Ok(Some(number));
@@ -118,7 +118,7 @@ impl ClaimState {
         ensures err { OnErr result (self.new ≡ self.old) }
     {
         let least = self.least[mutant as usize];
-        note(&mut self.workers, worker, Entry::Looked(mutant, least))?;
+        note(&mut self.workers, worker, ClaimEntry::Looked(mutant, least))?;
         Ok(place_in(least))
     }
 
@@ -127,7 +127,11 @@ impl ClaimState {
         ensures state { OnOk result (self.new ≡ after (Event.Detect worker mutant place) self.old) }
         ensures err { OnErr result (self.new ≡ self.old) }
     {
-        note(&mut self.workers, worker, Entry::Detected(mutant, place))?;
+        note(
+            &mut self.workers,
+            worker,
+            ClaimEntry::Detected(mutant, place),
+        )?;
         let least = &mut self.least[mutant as usize];
         *least = (*least).min(place);
         Ok(())
@@ -170,7 +174,7 @@ fn idle(alloc: Global, workers: u64) -> Result<Vec<Worker>, Memory>
 }
 
 // Appends the entry to the worker's list.
-fn note(workers: &mut [Worker], worker: u64, entry: Entry) -> Result<(), Memory>
+fn note(workers: &mut [Worker], worker: u64, entry: ClaimEntry) -> Result<(), Memory>
     requires { worker < length workers.old }
     ensures ok { OnOk result (lists_of workers.new ≡ noted (lists_of workers.old) worker entry) }
     ensures err { OnErr result (lists_of workers.new ≡ lists_of workers.old) }

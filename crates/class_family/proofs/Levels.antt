@@ -17,13 +17,13 @@ pub map_both : {A B : Type 0} (f : A → B) (xs ys : List A) → map f (xs ++ ys
 map_both f [] ys = refl
 map_both f (x ∷ xs) ys = ap (λ l. f x ∷ l) (map_both f xs ys)
 
-concat_both : {A : Type 0} (go : Name → List A) (xs ys : List Name) → concat_over go (xs ++ ys) ≡ concat_over go xs ++ concat_over go ys
-concat_both go [] ys = refl
-concat_both go (x ∷ xs) ys = ap (λ l. go x ++ l) (concat_both go xs ys) ∙ sym (append_assoc (go x) (concat_over go xs) (concat_over go ys))
+pub concat_both : {A : Type 0} (each : Name → List A) (xs ys : List Name) → concat_over each (xs ++ ys) ≡ concat_over each xs ++ concat_over each ys
+concat_both each [] ys = refl
+concat_both each (x ∷ xs) ys = ap (λ l. each x ++ l) (concat_both each xs ys) ∙ sym (append_assoc (each x) (concat_over each xs) (concat_over each ys))
 
-map_concat : {A B : Type 0} (f : A → B) (go : Name → List A) (ns : List Name) → map f (concat_over go ns) ≡ concat_over (λ n. map f (go n)) ns
-map_concat f go [] = refl
-map_concat f go (n ∷ ns) = map_both f (go n) (concat_over go ns) ∙ ap (λ l. map f (go n) ++ l) (map_concat f go ns)
+map_concat : {A B : Type 0} (f : A → B) (each : Name → List A) (ns : List Name) → map f (concat_over each ns) ≡ concat_over (λ n. map f (each n)) ns
+map_concat f each [] = refl
+map_concat f each (n ∷ ns) = map_both f (each n) (concat_over each ns) ∙ ap (λ l. map f (each n) ++ l) (map_concat f each ns)
 
 pub all_same : {A : Type 0} (f g : Name → List A) (ns : List Name) → ((m : Name) → is_listed m ns ≡ true → f m ≡ g m) → concat_over f ns ≡ concat_over g ns
 all_same f g [] h = refl
@@ -161,9 +161,9 @@ module _ (p : Look) where
   nodes_both : (xs ys : List Node) → AreNodes xs → AreNodes ys → AreNodes (xs ++ ys)
   nodes_both xs ys h k = ap (λ l. l ++ ys) h ∙ ap (λ l. map (node_of p) (names_in xs) ++ l) k ∙ sym (map_both (node_of p) (names_in xs) (names_in ys)) ∙ ap (map (node_of p)) (sym (map_both (λ m. m.name) xs ys))
 
-  nodes_joined : (go : Name → List Node) (ns : List Name) → ((m : Name) → is_listed m ns ≡ true → AreNodes (go m)) → AreNodes (concat_over go ns)
-  nodes_joined go [] h = refl
-  nodes_joined go (n ∷ ns) h = nodes_both (go n) (concat_over go ns) (h n (or_first (same n n) (is_listed n ns) (same_itself n))) (nodes_joined go ns (λ m e. h m (or_second (same n m) (is_listed m ns) e)))
+  nodes_joined : (each : Name → List Node) (ns : List Name) → ((m : Name) → is_listed m ns ≡ true → AreNodes (each m)) → AreNodes (concat_over each ns)
+  nodes_joined each [] h = refl
+  nodes_joined each (n ∷ ns) h = nodes_both (each n) (concat_over each ns) (h n (or_first (same n n) (is_listed n ns) (same_itself n))) (nodes_joined each ns (λ m e. h m (or_second (same n m) (is_listed m ns) e)))
 
   nodes_begun : (b : Bool) (n : Node) (up across : List Node) → AreNodes (n ∷ []) → AreNodes up → AreNodes across → AreNodes ((if b then [] else up) ++ (across ++ n ∷ []))
   nodes_begun true n up across h u a = nodes_both across (n ∷ []) a h

@@ -1,26 +1,23 @@
 -- What stands above any of several classes is found by one walk.
-use Rattle.std.proofs.Common.{◌≡◌, ◌∙◌, sym, refl, ap, subst, ◌⊎◌, inl, inr, ℕ, zero, suc, ◌+◌, ◌<◌, ◌≤◌, Bool, true, false, List, [], ◌∷◌, ◌++◌, map, length, take, Option, None, Some, slice_get, arith, append_assoc}
+use Rattle.std.proofs.Common.{◌≡◌, ◌∙◌, sym, refl, ap, subst, ℕ, zero, suc, ◌+◌, ◌≤◌, Bool, true, false, List, [], ◌∷◌, ◌++◌, map, length, take, Some, slice_get, arith}
 use Rattle.std.specs.Prelude.{◌||◌, if◌then◌else◌}
 use Rattle.std.specs.List.{list_any}
 use Rattle.program_rules.specs.Names.{Name, same, is_listed}
-use Rattle.program_rules.specs.Outlines.{outline_of}
-use Rattle.program_rules.specs.Programs.{Look, Searching, Beginning, nodes, concat_over}
-use Rattle.class_order.proofs.Within.{or_either, or_first, or_second, listed_left, listed_right, listed_either}
+use Rattle.program_rules.specs.Programs.{Searching, Beginning, nodes}
 use Rattle.class_link.specs.Info.{Info}
 use Rattle.class_table.specs.Table.{look, name_at, IsProgram}
-use Rattle.jvm_marks.specs.Marks.{is_among}
 use Rattle.class_family.specs.declared.seen.Seen.{Seen}
 use Rattle.class_family.specs.declared.tasks.Task.{Task}
-use Rattle.class_family.specs.Above.{is_above, is_above_any, AreWithin, AreAbove}
+use Rattle.class_family.specs.Above.{is_above, AreWithin, AreAbove}
 use Rattle.class_family.specs.Once.{each_once}
 use Rattle.class_family.specs.Families.{names_in, AreAcross}
-use Rattle.class_family.specs.Walks.{walks, steps, enters_of, wanted, add_in, AreTasks, names_of, IsSeen, AddsSteps, AddsInterfaces, EntersAbove}
-use Rattle.class_family.proofs.Pushing.{append_nil, enters_both}
-use Rattle.class_family.proofs.Levels.{map_both}
+use Rattle.class_family.specs.Walks.{walks, enters_of, wanted, add_in, AreTasks, names_of, IsSeen, AddsSteps, AddsInterfaces, EntersAbove}
+use Rattle.class_family.proofs.Pushing.{enters_both}
+use Rattle.class_family.proofs.Levels.{concat_both, map_both}
 use Rattle.class_family.proofs.Onces.{add_all}
 use Rattle.class_family.proofs.Numbered.{among_named}
 use Rattle.class_family.proofs.Walking.{wanted_enters, enters_tasks}
-use Rattle.class_family.proofs.Above.{once_listed, steps_above, equal_tests}
+use Rattle.class_family.proofs.Above.{once_listed, steps_above}
 
 pub listed_both : (m : Name) (xs ys : List Name) → is_listed m (xs ++ ys) ≡ (is_listed m xs || is_listed m ys)
 listed_both m [] ys = refl
@@ -38,10 +35,6 @@ any_end f (x ∷ xs) a = by_tests (f x) (f a) (any_end f xs a)
     by_tests true true rest = refl
     by_tests true false rest = refl
     by_tests false t rest = rest
-
-pub concat_joined : {A : Type 0} (go : Name → List A) (xs ys : List Name) → concat_over go (xs ++ ys) ≡ concat_over go xs ++ concat_over go ys
-concat_joined go [] ys = refl
-concat_joined go (x ∷ xs) ys = ap (λ l. go x ++ l) (concat_joined go xs ys) ∙ sym (append_assoc (go x) (concat_over go xs) (concat_over go ys))
 
 pub taken_next : (xs : List ℕ) (i a : ℕ) → slice_get xs i ≡ Some a → take (suc i) xs ≡ take i xs ++ a ∷ []
 taken_next [] i a e = absurd cc
@@ -70,7 +63,7 @@ module _ (p : List Info) (ok : IsProgram p) where
     tasks = adds.tasks ∙ ap (λ l. l ++ enters_of adds.over) h.tasks ∙ sym (enters_both adds.over h.over);
     within = either_within p adds.over h.over adds.within h.within;
     above = λ m.
-        ap (is_listed m) (ap (walks Searching p) (map_both (name_at p) adds.over h.over) ∙ concat_joined (λ n. names_in (nodes Searching (look p) n)) (map (name_at p) adds.over) (map (name_at p) h.over))
+        ap (is_listed m) (ap (walks Searching p) (map_both (name_at p) adds.over h.over) ∙ concat_both (λ n. names_in (nodes Searching (look p) n)) (map (name_at p) adds.over) (map (name_at p) h.over))
         ∙ listed_both m (walks Searching p (map (name_at p) adds.over)) (walks Searching p (map (name_at p) h.over))
         ∙ ap (λ b. b || is_listed m (walks Searching p (map (name_at p) h.over))) (ap (λ l. is_listed m (walks Searching p l)) adds.named ∙ steps_above (look p) ok.ranks (name_at p a) m)
         ∙ ap (λ b. is_above (look p) (name_at p a) m || b) (h.above m)

@@ -23,17 +23,17 @@ first_named : (f : ℕ → Name) (over : List ℕ) (u : ℕ) (m : Name) (ms : Li
 first_named f [] u m ms named e = absurd cc
 first_named f (x ∷ over) u m ms named e = let same : x ≡ u = cc in ap f (sym same) ∙ (let h : f x ≡ m = cc in h)
 
-goes_case : (p : List Info) (ranks : HasRanks (look p)) (a : ℕ) (c : Linked) (over : List ℕ) (u : ℕ) (parent : Option Name) → look p (name_at p a) ≡ Some c → c.parent ≡ parent → is_some parent ≡ true → map (name_at p) over ≡ parents_of (look p (name_at p a)) → slice_get over 0 ≡ Some u → GoesOn p a u
-goes_case p ranks a c over u None e named some over-named there = absurd cc
-goes_case p ranks a c over u (Some m) e named some over-named there =
+goes_on_case : (p : List Info) (ranks : HasRanks (look p)) (a : ℕ) (c : Linked) (over : List ℕ) (u : ℕ) (parent : Option Name) → look p (name_at p a) ≡ Some c → c.parent ≡ parent → is_some parent ≡ true → map (name_at p) over ≡ parents_of (look p (name_at p a)) → slice_get over 0 ≡ Some u → GoesOn p a u
+goes_on_case p ranks a c over u None e named some over-named there = absurd cc
+goes_on_case p ranks a c over u (Some m) e named some over-named there =
     let n = name_at p a in
     let first : name_at p u ≡ m = first_named (name_at p) over u m c.interfaces (over-named ∙ ap parents_of e ∙ ap (λ o. parents_with o c.interfaces) named) there in
     rising_step (look p) ranks n ∙ ap (λ o. node_of (look p) n ∷ concat_over (nodes Rising (look p)) (superclass_in (outline_of o))) e
     ∙ ap (λ o. node_of (look p) n ∷ concat_over (nodes Rising (look p)) (option_list o)) named
     ∙ ap (λ l. node_of (look p) n ∷ l) (append_nil (nodes Rising (look p) m)) ∙ ap (λ x. node_of (look p) n ∷ nodes Rising (look p) x) (sym first)
 
-pub goes : (p : List Info) (a : ℕ) (c : Linked) (over : List ℕ) (u : ℕ) → IsProgram p → look p (name_at p a) ≡ Some c → is_some c.parent ≡ true → map (name_at p) over ≡ parents_of (look p (name_at p a)) → slice_get over 0 ≡ Some u → GoesOn p a u
-goes p a c over u ok e some named there = goes_case p ok.ranks a c over u c.parent e refl some named there
+pub goes_on : (p : List Info) (a : ℕ) (c : Linked) (over : List ℕ) (u : ℕ) → IsProgram p → look p (name_at p a) ≡ Some c → is_some c.parent ≡ true → map (name_at p) over ≡ parents_of (look p (name_at p a)) → slice_get over 0 ≡ Some u → GoesOn p a u
+goes_on p a c over u ok e some named there = goes_on_case p ok.ranks a c over u c.parent e refl some named there
 
 none_case : (f : ℕ → Name) (c : Linked) (over : List ℕ) (parent : Option Name) → c.parent ≡ parent → is_some parent ≡ true → map f over ≡ parents_of (Some c) → slice_get over 0 ≡ None → ⊥
 none_case f c over None e some named none = cc

@@ -11,7 +11,7 @@ use Rattle.class_family.specs.declared.seen.Seen.{Seen}
 use Rattle.class_family.specs.declared.tasks.Task.{Task}
 use Rattle.class_family.specs.declared.tasks.Task.TheVariants.{Enter, Leave}
 use Rattle.class_family.specs.Families.{names_in, classes_of, AreClassesOf}
-use Rattle.class_family.specs.Walks.{before, behind, steps, enters_of, walk, names_of_task, wanted, nobody, add_in, AreThere, IsTask, AreTasks, weight_of, weight, names_of, IsSeen, AddsSteps, walks, Enters, passes, goes, Leaves, Makes}
+use Rattle.class_family.specs.Walks.{before, behind, steps, enters_of, walk, names_of_task, wanted, nobody, add_in, AreThere, IsTask, AreTasks, weight_of, weight, names_of, IsSeen, AddsSteps, walks, Enters, passes, enters, Leaves, Makes}
 use Rattle.class_family.proofs.Pushing.{append_nil}
 use Rattle.class_family.proofs.Levels.{walk_step}
 use Rattle.class_family.proofs.Onces.{add_all}
@@ -103,7 +103,7 @@ module _ (order : Order) (p : List Info) where
       where
         stays : add_in (walk order p a) (names_of p old) ≡ names_of p old
         stays = known_already nobody (walk order p a) (names_of p old) (seen.closed a closed)
-    enter_made a ts more old new seen h (goes closed names adds) = record {
+    enter_made a ts more old new seen h (enters closed names adds) = record {
       tasks = subst (AreTasks order p (names_of p new)) (sym adds.tasks) (tasks_both (ts ++ Leave a ∷ []) (enters_of adds.over) (names_of p new) left (enters_tasks adds.over (names_of p new) adds.within));
       names =
           ap (λ l. add_in (wanted order p l) (names_of p new)) adds.tasks ∙ sym (add_tasks (ts ++ Leave a ∷ []) (enters_of adds.over) (names_of p new))

@@ -188,7 +188,7 @@ pub data Enters (order : Order) (p : List Info) (a : ℕ) (old : Seen) (ts : Lis
   passes :
       is_among a old.closed ≡ true → new ≡ old → more ≡ ts →
       Enters order p a old ts new more
-  goes :
+  enters :
       new.closed ≡ old.closed →
       names_of p new ≡ add_in (before order (name_at p a)) (names_of p old) →
       AddsSteps order p a (ts ++ Leave a ∷ []) more → Enters order p a old ts new more

@@ -321,7 +321,7 @@ impl Walker {
     /// Finds all that stands above any of these classes, each class once, in one walk for all: it
     /// looks at each class and at each super that one names once, however many classes these are.
     /// Where one of them stands above another one, it is found, too.
-    pub fn above(&mut self, program: &Program, classes: &[u32]) -> Result<(), Memory>
+    pub fn find_all_above(&mut self, program: &Program, classes: &[u32]) -> Result<(), Memory>
         requires { AreWithin program.now classes.now }
         ensures { OnOk result (AreAbove program.now classes.now self.new) }
     {

@@ -3,6 +3,7 @@ use Rattle.std.proofs.Common.{◌≡◌, ◌≢◌, inl, inr, ◌∙◌, sym, re
 use Rattle.std.specs.Prelude.{nat_eq, ◌||◌}
 use Rattle.std.specs.List.{list_any}
 use Rattle.std.proofs.lemmas.Option.{slice_get_within, slice_get-get_or}
+use Rattle.std.proofs.lemmas.Bool.{eq-eqb}
 use Rattle.std.proofs.lemmas.Bool.Decides.{nat_tests}
 use Rattle.class_order.specs.declared.links.Links.{Links}
 use Rattle.class_order.specs.declared.walk.Walk.{Walk}
@@ -30,15 +31,12 @@ or_right : (x y : Bool) → (x || y) ≡ false → y ≡ false
 or_right true y e = absurd cc
 or_right false y e = e
 
-equal_itself : (a : ℕ) → nat_eq a a ≡ true
-equal_itself a = grind (arith, nat_tests)
-
 -- a class that isn't named, by the test
 pub unnamed : (a : ℕ) (ns : List ℕ) → list_any (nat_eq a) ns ≡ false → (j : ℕ) → slice_get ns j ≡ Some a → ⊥
 unnamed a [] e j h = absurd cc
 unnamed a (n ∷ ns) e zero h =
     let q : n ≡ a = cc in
-    let r : true ≡ false = sym (equal_itself a) ∙ subst (λ m. nat_eq a m ≡ false) q (or_left (nat_eq a n) (list_any (nat_eq a) ns) e) in
+    let r : true ≡ false = sym (eq-eqb a a refl) ∙ subst (λ m. nat_eq a m ≡ false) q (or_left (nat_eq a n) (list_any (nat_eq a) ns) e) in
     absurd cc
 unnamed a (n ∷ ns) e (suc j) h = unnamed a ns (or_right (nat_eq a n) (list_any (nat_eq a) ns) e) j h
 

@@ -57,8 +57,8 @@ pub fn note_one(search: &mut Search, stamp: u32, class: u32) -> Result<(), Memor
 fn note_parent(search: &mut Search, stamp: u32, parent: Option<u32>) -> Result<(), Memory>
     requires within { IfSome parent (λ p. p < length search.old.marks.items) }
     requires search { IsSearch (length search.old.marks.items) stamp search.old }
-    ensures { OnOk result
-        (Finds (length search.old.marks.items) stamp (with_parent parent []) search.old search.new) }
+    ensures { OnOk result (Finds (length search.old.marks.items) stamp
+        (with_parent parent []) search.old search.new) }
 {
     match parent {
         Some(parent) => note_one(search, stamp, parent),

@@ -1,5 +1,6 @@
 -- What searches find, class by class.
 use Rattle.std.proofs.Common.{◌≡◌, ◌∙◌, sym, refl, ap, subst, ℕ, zero, suc, ◌+◌, ◌<◌, ◌≤◌, List, [], ◌∷◌, map, length, take, drop, Option, None, Some, slice_get, arith}
+use Rattle.std.proofs.lemmas.Simd.{map-map}
 use Rattle.std.specs.Prelude.{if◌then◌else◌, IfSome, IfNone}
 use Rattle.program_rules.specs.Names.{Name}
 use Rattle.program_rules.specs.Faults.{Answer, Found, Fails}
@@ -55,16 +56,12 @@ module _ (p : List Info) (name desc : Name) (ids : List ℕ) where
   pub field_nowhere : (i : ℕ) → length ids ≤ i → ((rising : List Node) → search_field rising name desc (nodes_at p ids) ≡ search rising i) → (rising : List Node) → search_field rising name desc (nodes_at p ids) ≡ Fails NoSuchFieldError
   field_nowhere i le before rising = before rising ∙ ap (λ l. search_field rising name desc (nodes_at p l)) (dropped_past ids i le)
 
-pub map_twice : (f : ℕ → Name) (g : Name → Node) (ids : List ℕ) → map (λ a. g (f a)) ids ≡ map g (map f ids)
-map_twice f g [] = refl
-map_twice f g (a ∷ ids) = ap (λ l. g (f a) ∷ l) (map_twice f g ids)
-
 module _ (p : List Info) (ok : IsProgram p) (a : ℕ) (name desc : Name) (ids : List ℕ) (classes : AreClassesOf Searching p a ids) where
   over_walk : (rising : List Node) → search_field rising name desc (nodes Searching (look p) (name_at p a)) ≡ search_field rising name desc (nodes_at p ids)
   over_walk rising =
       sym (fields (look p) ok.ranks Searching (name_at p a) rising name desc)
       ∙ ap (λ ns. search_field rising name desc (map (node_of (look p)) ns)) (sym classes.named)
-      ∙ ap (search_field rising name desc) (sym (map_twice (name_at p) (node_of (look p)) ids))
+      ∙ ap (search_field rising name desc) (map-map (node_of (look p)) (name_at p) ids)
 
   resolved_as : (answer : Answer FieldAt) → search_field (rising_at p a) name desc (nodes_at p ids) ≡ answer → IsResolvedField p a name desc answer
   unfolding resolve_field family

@@ -1,5 +1,6 @@
 -- The classes that are searched for a method, and what they give to choose from.
 use Rattle.std.proofs.Common.{◌≡◌, ◌∙◌, sym, refl, ap, subst, ℕ, zero, suc, ◌<◌, Bool, true, false, not, cond, List, [], ◌∷◌, ◌++◌, map, length, Option, None, Some, slice_get}
+use Rattle.std.proofs.lemmas.Simd.{map-map}
 use Rattle.std.specs.Prelude.{◌||◌, if◌then◌else◌, ⊤}
 use Rattle.std.specs.List.{filter}
 use Rattle.program_rules.specs.Names.{Name, same, is_listed}
@@ -17,7 +18,6 @@ use Rattle.class_family.proofs.Above.{others_listed}
 use Rattle.class_family.proofs.Searches.{apart, chosen, chosen_once, filter_both}
 use Rattle.jvm_link.specs.Sites.{outline_at, node_at, nodes_at}
 use Rattle.jvm_link.specs.Candidates.{family_at, AreSearched, own_candidate, candidates_of}
-use Rattle.jvm_link.proofs.Found.{map_twice}
 
 -- ---- the highest class
 
@@ -121,5 +121,5 @@ module _ (p : List Info) (name desc : Name) where
       ap (candidates name desc) (family_nodes p a array ok)
       ∙ sym (chosen_once (look p) name desc ns)
       ∙ ap (chosen (look p) name desc) (sym h.named)
-      ∙ ap (candidates name desc) (sym (map_twice (name_at p) (node_of (look p)) ids))
+      ∙ ap (candidates name desc) (map-map (node_of (look p)) (name_at p) ids)
       ∙ flat ids (subst Apart (sym h.named) (once_apart ns))

@@ -178,7 +178,7 @@ fn choose_from(
     requires { AreGiving program.now name.now desc.now found.now found.now }
     ensures { IfOk result (λ c. IsChoiceOf program.now name.now desc.now found.now c) }
 {
-    above.above(program, found)?;
+    above.find_all_above(program, found)?;
     let specific = specific_among(program, above, found, name, desc);
     let first = first_site(program, found, name, desc);
     Ok(Choice { specific, first })

@@ -1,5 +1,5 @@
 -- Field descriptors, and the names that they say.
-use Rattle.std.proofs.lemmas.Bool.{and_parts, eqb-true}
+use Rattle.std.proofs.lemmas.Bool.{and_parts, eq-eqb, eqb-true}
 use Rattle.std.proofs.lemmas.Bool.Decides.{nat_tests}
 use Rattle.std.proofs.Common.{arith, ◌≡◌, ◌∙◌, sym, ap, refl, ℕ, zero, suc, ◌+◌, Bool, true, false, nat_eq, List, [], ◌∷◌, ◌++◌, length, take, drop, None}
 use Rattle.std.specs.Prelude.{◌&&◌, ◌||◌, ◌-◌, ◌≤◌, if◌then◌else◌, codes}
@@ -103,12 +103,9 @@ same_is (x ∷ a) (y ∷ b) e =
     let h = and_parts (nat_eq x y) (same a b) e in
     ap (λ u. u ∷ a) (eqb-true x y h.0) ∙ ap (λ l. y ∷ l) (same_is a b h.1)
 
-nat_same : (n : ℕ) → nat_eq n n ≡ true
-nat_same n = grind (arith, nat_tests)
-
 same_itself : (a : Name) → same a a ≡ true
 same_itself [] = refl
-same_itself (c ∷ cs) = ap (λ b. b && same cs cs) (nat_same c) ∙ same_itself cs
+same_itself (c ∷ cs) = ap (λ b. b && same cs cs) (eq-eqb c c refl) ∙ same_itself cs
 
 never : false ≡ true → ⊥
 never e = absurd cc

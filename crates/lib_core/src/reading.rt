@@ -276,7 +276,8 @@ pub fn needed<'a>(objects: &'a [Object], v: Value) -> Result<&'a Object, Deed>
 
 /// The object that is needed and its number, or what is to be done where there is none.
 pub fn needed_number(objects: &[Object], v: Value) -> Result<(u32, &Object), Deed>
-    ensures ok { IfOk result (λ x. HandsNumbered (λ h. on_needed_number h v) objects.now x.0 x.1.now) }
+    ensures ok { IfOk result (λ x.
+        HandsNumbered (λ h. on_needed_number h v) objects.now x.0 x.1.now) }
     ensures err { IfErr result (λ d. Ends (λ h. on_needed_number h v) objects.now (deed_of d)) }
 {
     match v {

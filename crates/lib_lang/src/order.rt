@@ -17,7 +17,8 @@ use program_rules::{Making, Value};
 // Whether an object is a box of this class that keeps the same int.
 fn is_box_with(known: &Known, making: Making, object: &Object, other: &Object) -> bool
     ensures { (ns : List Name) → IsKnown ns known.now →
-        def.is_box_with making (def.int_in (object_of ns object.now)) (Some (object_of ns other.now)) ≡ result }
+        def.is_box_with making (def.int_in (object_of ns object.now))
+        (Some (object_of ns other.now)) ≡ result }
 {
     known.is_made_of(making, other) && int_in(other) == int_in(object)
 }
@@ -38,7 +39,8 @@ pub fn box_equals(known: &Known, making: Making, objects: &[Object], args: &[Val
 // Whether an object is a Long that keeps the same long.
 fn is_long_with(known: &Known, object: &Object, other: &Object) -> bool
     ensures { (ns : List Name) → IsKnown ns known.now →
-        def.is_long_with (def.long_in (object_of ns object.now)) (Some (object_of ns other.now)) ≡ result }
+        def.is_long_with (def.long_in (object_of ns object.now))
+        (Some (object_of ns other.now)) ≡ result }
 {
     known.is_made_of(Making::Long, other) && long_in(other) == long_in(object)
 }

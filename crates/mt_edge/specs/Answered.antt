@@ -1,4 +1,5 @@
--- What the calls of a tree answer, by the files that it tells; where it tells none, nothing is said. This project's own.
+-- What the calls of a tree answer, by the files that it tells; where it tells none, nothing is
+-- said. This project's own.
 use Rattle.std.specs.Prelude.{◌≡◌, ◌⊎◌, ℕ, List, map, string_bytes, filter, Option, Some, None, IfSome, option_map, Result, IfOk, MatchOption}
 use Rattle.std.specs.Borrow.{Bor}
 use Rattle.std.specs.FinMap.{get, insert, keys}

@@ -1,4 +1,5 @@
--- A tree of files: a map from paths to contents, both lists of bytes, with the paths in byte order. This project's own.
+-- A tree of files: a map from paths to contents, both lists of bytes, with the paths in byte order.
+-- This project's own.
 use Rattle.std.specs.Prelude.{ℕ, List, [], ◌∷◌, ◌++◌, Bool, filter, length, Option, option_map}
 use Rattle.std.specs.Bool.{nat_eq}
 use Rattle.std.specs.Ordering.{nat_cmp}

@@ -20,11 +20,11 @@ abbrev pub tree_files : MemTree → Files
 tree_files t = files_of t.files
 
 -- A tree and a sink in memory tell what they hold.
-abbrev pub told : MemTree → Option Files
-told t = Some (tree_files t)
+abbrev pub tree_holds : MemTree → Option Files
+tree_holds t = Some (tree_files t)
 
-abbrev pub told_bytes : MemSink → Option (List ℕ)
-told_bytes s = Some (sink_bytes s)
+abbrev pub sink_written : MemSink → Option (List ℕ)
+sink_written s = Some (sink_bytes s)
 
 abbrev pub tree_script : MemTree → Script
 tree_script t = t.script

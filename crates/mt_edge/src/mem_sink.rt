@@ -41,15 +41,16 @@ impl MemSink {
 }
 
 impl Sink for MemSink {
-    ghost use Rattle.mt_edge.specs.Shown.{told_bytes, sink_script, sink_faults};
+    ghost use Rattle.mt_edge.specs.Shown.{sink_written, sink_script, sink_faults};
 
-    ghost written = { λ s. told_bytes s };
+    ghost written = { λ s. sink_written s };
 
     ghost faults = { λ s. sink_faults s };
 
     fn put(&mut self, bytes: &[u8]) -> Result<(), EdgeFault>
-        ensures ok { OnOk result (Grows (told_bytes self.old) (told_bytes self.new) bytes.now) }
-        ensures err { OnErr result (GrowsBy (told_bytes self.old) (told_bytes self.new) bytes.now) }
+        ensures ok { OnOk result (Grows (sink_written self.old) (sink_written self.new) bytes.now) }
+        ensures err { OnErr result
+            (GrowsBy (sink_written self.old) (sink_written self.new) bytes.now) }
         ensures cause { HasCause (sink_faults self.old) (sink_faults self.new) result }
         ensures told { IsErrOf result Failed ↔ IsTrue (fails (sink_script self.old)) }
         ensures counted { sink_script self.new ≡ after_call (sink_script self.old) }

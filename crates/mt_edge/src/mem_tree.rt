@@ -40,7 +40,7 @@ fn names(
 }
 
 // The folder with a slash behind it.
-fn opened(alloc: Global, folder: &str) -> Result<String, Memory>
+fn with_slash(alloc: Global, folder: &str) -> Result<String, Memory>
     ensures { IfOk result (λ s. string_bytes s ≡ folder.now ++ slash ∷ []) }
 {
     let mut prefix = String::from_str(alloc, folder)?;
@@ -113,17 +113,17 @@ impl MemTree {
 }
 
 impl Tree for MemTree {
-    ghost use Rattle.mt_edge.specs.Shown.{told, tree_script, tree_reading, tree_writing};
+    ghost use Rattle.mt_edge.specs.Shown.{tree_holds, tree_script, tree_reading, tree_writing};
 
-    ghost holds = { λ t. told t };
+    ghost holds = { λ t. tree_holds t };
 
     ghost reading = { λ t. tree_reading t };
 
     ghost writing = { λ t. tree_writing t };
 
     fn list(&mut self, folder: &str) -> Result<Vec<String>, EdgeFault>
-        ensures names { ListsBelow folder.now (told self.old) result }
-        ensures same { told self.new ≡ told self.old }
+        ensures names { ListsBelow folder.now (tree_holds self.old) result }
+        ensures same { tree_holds self.new ≡ tree_holds self.old }
         ensures cause { HasCause (tree_reading self.old) (tree_reading self.new) result }
         ensures other { tree_writing self.new ≡ tree_writing self.old }
         ensures told { IsErrOf result Failed ↔ IsTrue (fails (tree_script self.old)) }
@@ -133,13 +133,13 @@ impl Tree for MemTree {
             self.reading = self.reading.saturating_add(1);
             return Err(EdgeFault::Failed);
         }
-        let prefix = opened(self.alloc, folder)?;
+        let prefix = with_slash(self.alloc, folder)?;
         Ok(names(self.alloc, &self.files, prefix.as_bytes())?)
     }
 
     fn length(&mut self, path: &str) -> Result<Option<u64>, EdgeFault>
-        ensures length { TellsLength path.now (told self.old) result }
-        ensures same { told self.new ≡ told self.old }
+        ensures length { TellsLength path.now (tree_holds self.old) result }
+        ensures same { tree_holds self.new ≡ tree_holds self.old }
         ensures cause { HasCause (tree_reading self.old) (tree_reading self.new) result }
         ensures other { tree_writing self.new ≡ tree_writing self.old }
         ensures told { IsErrOf result Failed ↔ IsTrue (fails (tree_script self.old)) }
@@ -153,8 +153,8 @@ impl Tree for MemTree {
     }
 
     fn read(&mut self, path: &str) -> Result<Option<Bytes>, EdgeFault>
-        ensures bytes { ReadsAt path.now (told self.old) result }
-        ensures same { told self.new ≡ told self.old }
+        ensures bytes { ReadsAt path.now (tree_holds self.old) result }
+        ensures same { tree_holds self.new ≡ tree_holds self.old }
         ensures cause { HasCause (tree_reading self.old) (tree_reading self.new) result }
         ensures other { tree_writing self.new ≡ tree_writing self.old }
         ensures told { IsErrOf result Failed ↔ IsTrue (fails (tree_script self.old)) }
@@ -168,8 +168,10 @@ impl Tree for MemTree {
     }
 
     fn replace(&mut self, path: &str, bytes: &[u8]) -> Result<(), EdgeFault>
-        ensures ok { OnOk result (IsReplaced path.now bytes.now (told self.old) (told self.new)) }
-        ensures err { OnErr result (OldOrReplaced path.now bytes.now (told self.old) (told self.new)) }
+        ensures ok { OnOk result
+            (IsReplaced path.now bytes.now (tree_holds self.old) (tree_holds self.new)) }
+        ensures err { OnErr result
+            (OldOrReplaced path.now bytes.now (tree_holds self.old) (tree_holds self.new)) }
         ensures cause { HasCause (tree_writing self.old) (tree_writing self.new) result }
         ensures other { tree_reading self.new ≡ tree_reading self.old }
         ensures told { IsErrOf result Failed ↔ IsTrue (fails (tree_script self.old)) }

@@ -81,7 +81,8 @@ pub trait Tree {
     /// Puts the bytes in the place of what the path held; after an error the path holds the old or the new bytes.
     fn replace(&mut self, path: &str, bytes: &[u8]) -> Result<(), EdgeFault>
         ensures ok { OnOk result (IsReplaced path.now bytes.now (holds self.old) (holds self.new)) }
-        ensures err { OnErr result (OldOrReplaced path.now bytes.now (holds self.old) (holds self.new)) }
+        ensures err { OnErr result
+            (OldOrReplaced path.now bytes.now (holds self.old) (holds self.new)) }
         ensures cause { HasCause (writing self.old) (writing self.new) result }
         ensures other { reading self.new ≡ reading self.old };
 }

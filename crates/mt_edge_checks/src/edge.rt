@@ -5,7 +5,7 @@ ghost use Rattle.mt_edge.specs.Answered.{ListsBelow, ReadsAt, IsReplaced, OldOrR
 ghost use Rattle.mt_edge.specs.Causes.{HasCause};
 ghost use Rattle.mt_edge.specs.Held.{fails, after_call};
 ghost use Rattle.mt_edge.specs.Pieces.{Grows, GrowsBy};
-ghost use Rattle.mt_edge.specs.Shown.{told, tree_script, tree_reading, tree_writing, told_bytes, sink_script, sink_faults};
+ghost use Rattle.mt_edge.specs.Shown.{tree_holds, tree_script, tree_reading, tree_writing, sink_written, sink_script, sink_faults};
 ghost use Rattle.mt_edge.specs.declared.outside.EdgeFault.TheVariants.{Failed};
 
 use class_model::Bytes;
@@ -23,8 +23,8 @@ pub fn list<T: Tree>(tree: &mut T, folder: &str) -> Result<Vec<String>, EdgeFaul
 
 /// `MemTree::read`.
 pub fn read(tree: &mut MemTree, path: &str) -> Result<Option<Bytes>, EdgeFault>
-    ensures bytes { ReadsAt path.now (told tree.old) result }
-    ensures same { told tree.new ≡ told tree.old }
+    ensures bytes { ReadsAt path.now (tree_holds tree.old) result }
+    ensures same { tree_holds tree.new ≡ tree_holds tree.old }
     ensures cause { HasCause (tree_reading tree.old) (tree_reading tree.new) result }
     ensures other { tree_writing tree.new ≡ tree_writing tree.old }
     ensures told { IsErrOf result Failed ↔ IsTrue (fails (tree_script tree.old)) }
@@ -35,8 +35,10 @@ pub fn read(tree: &mut MemTree, path: &str) -> Result<Option<Bytes>, EdgeFault>
 
 /// `MemTree::replace`.
 pub fn replace(tree: &mut MemTree, path: &str, bytes: &[u8]) -> Result<(), EdgeFault>
-    ensures ok { OnOk result (IsReplaced path.now bytes.now (told tree.old) (told tree.new)) }
-    ensures err { OnErr result (OldOrReplaced path.now bytes.now (told tree.old) (told tree.new)) }
+    ensures ok { OnOk result
+        (IsReplaced path.now bytes.now (tree_holds tree.old) (tree_holds tree.new)) }
+    ensures err { OnErr result
+        (OldOrReplaced path.now bytes.now (tree_holds tree.old) (tree_holds tree.new)) }
     ensures cause { HasCause (tree_writing tree.old) (tree_writing tree.new) result }
     ensures other { tree_reading tree.new ≡ tree_reading tree.old }
     ensures told { IsErrOf result Failed ↔ IsTrue (fails (tree_script tree.old)) }
@@ -47,8 +49,8 @@ pub fn replace(tree: &mut MemTree, path: &str, bytes: &[u8]) -> Result<(), EdgeF
 
 /// `MemSink::put`.
 pub fn put(sink: &mut MemSink, bytes: &[u8]) -> Result<(), EdgeFault>
-    ensures ok { OnOk result (Grows (told_bytes sink.old) (told_bytes sink.new) bytes.now) }
-    ensures err { OnErr result (GrowsBy (told_bytes sink.old) (told_bytes sink.new) bytes.now) }
+    ensures ok { OnOk result (Grows (sink_written sink.old) (sink_written sink.new) bytes.now) }
+    ensures err { OnErr result (GrowsBy (sink_written sink.old) (sink_written sink.new) bytes.now) }
     ensures cause { HasCause (sink_faults sink.old) (sink_faults sink.new) result }
     ensures told { IsErrOf result Failed ↔ IsTrue (fails (sink_script sink.old)) }
     ensures counted { sink_script sink.new ≡ after_call (sink_script sink.old) }

@@ -6,7 +6,7 @@ use lib.ListN.{get_elem?}
 use Rattle.std.proofs.lemmas.List.{ext_get_or, get_or-map, length-map}
 use Rattle.atomic_table.specs.Table.{State}
 use Rattle.atomic_table.specs.Seated.{TableId}
-use Rattle.claim_core.specs.declared.events.Entry.{Entry}
+use Rattle.claim_core.specs.declared.events.ClaimEntry.{ClaimEntry}
 use Rattle.claim_core.specs.Agreement.{ClaimsAgree}
 use Rattle.mutant_table.specs.declared.rule.View.{View}
 use Rattle.mutant_table.specs.declared.rule.Sizes.{Sizes}
@@ -34,7 +34,7 @@ take_all (x ∷ xs) zero e = absurd (omega arith)
 take_all (x ∷ xs) (suc n) e = ap (λ l. x ∷ l) (take_all xs n (omega arith))
 
 -- the lists that ended are those of the other seats
-pub lists_are : (z : Sizes) (table : TableId) (seats : List ClaimSeat) (lists : List (List Entry)) (views : List View) (v : View) → 0 < z.workers → AreSeatsAt table z seats → IsGathered z seats v
+pub lists_are : (z : Sizes) (table : TableId) (seats : List ClaimSeat) (lists : List (List ClaimEntry)) (views : List View) (v : View) → 0 < z.workers → AreSeatsAt table z seats → IsGathered z seats v
     → length lists ≡ z.workers → v.entries ≡ list_at lists v.worker → LeadsSeats z lists views v → lists ≡ map entries_of seats
 lists_are z table [] lists views v some_worker are g long mine lead = let c = are.count in absurd (omega arith)
 lists_are z table (first ∷ others) lists views v some_worker are g long mine lead =
@@ -49,7 +49,7 @@ lists_are z table (first ∷ others) lists views v some_worker are g long mine l
         let ended : (slice_index_or v.ended j (0, [])).1 ≡ list_at lists (slice_index_or v.ended j (0, [])).0 = (lead.ended j (0, []) (omega (arith, ap length g.ended, length-map others ended_as, under))).1 in
         let at : slice_index_or v.ended j (0, []) ≡ ended_as (slice_index_or others j first) = ap (λ l. slice_index_or l j (0, [])) g.ended ∙ get_or-map ended_as others j first (0, []) under in
         let worker : worker_of (slice_index_or others j first) ≡ suc j = (are.each (suc j) first (omega arith)).1 in
-        sym (get_or-map entries_of others j first [] under ∙ ap (λ (p : ℕ × List Entry). p.1) (sym at) ∙ ended ∙ ap (λ (p : ℕ × List Entry). list_at lists p.0) at ∙ ap (list_at lists) worker)
+        sym (get_or-map entries_of others j first [] under ∙ ap (λ (p : ℕ × List ClaimEntry). p.1) (sym at) ∙ ended ∙ ap (λ (p : ℕ × List ClaimEntry). list_at lists p.0) at ∙ ap (list_at lists) worker)
 
 -- the words and lists at the end are claims that agree
 pub ended_agree : (z : Sizes) (table : TableId) (seats : List ClaimSeat) (s : State ℕ View) (id : ℕ) (v : View) (next : ℕ) (least : List ℕ) → 0 < z.workers → AreSeatsAt table z seats → IsGathered z seats v

@@ -6,8 +6,8 @@ use mathlib.Core.Option.{none}
 use Rattle.std.proofs.lemmas.List.{set-get_or, length-set, length-replicate}
 use Rattle.std.proofs.lemmas.List.Sums.{count_by-le-length}
 use Rattle.atomic_table.specs.Table.{State, Me, keeps, Allows, Splits, Joins, opening, step}
-use Rattle.claim_core.specs.declared.events.Entry.{Entry}
-use Rattle.claim_core.specs.declared.events.Entry.TheVariants.{Claimed, Looked, Detected}
+use Rattle.claim_core.specs.declared.events.ClaimEntry.{ClaimEntry}
+use Rattle.claim_core.specs.declared.events.ClaimEntry.TheVariants.{Claimed, Looked, Detected}
 use Rattle.claim_core.specs.Claims.{Claims, no_place, list_of, least_of, started, noted, claimed, looked, detected, is_exhausted}
 use Rattle.claim_core.specs.Agreement.{ClaimsAgree}
 use Rattle.claim_core.proofs.Lists.{noted_here, length-noted}
@@ -28,9 +28,9 @@ list_agrees c w ok = record {
 }
 
 -- the list of the worker whose view is v, after one more entry
-own_list : (z : Sizes) (c d : Claims) (v : View) (e : Entry) → c.cells ≡ z.cells → d.cells ≡ c.cells → IsWorkersView z c.lists v → v.worker < length c.lists → d.lists ≡ noted c.lists v.worker e → ClaimsAgree d → ListAgrees v.cells (v.entries ++ e ∷ [])
+own_list : (z : Sizes) (c d : Claims) (v : View) (e : ClaimEntry) → c.cells ≡ z.cells → d.cells ≡ c.cells → IsWorkersView z c.lists v → v.worker < length c.lists → d.lists ≡ noted c.lists v.worker e → ClaimsAgree d → ListAgrees v.cells (v.entries ++ e ∷ [])
 own_list z c d v e cells same mine lt lists ok =
-    subst (λ (x : ℕ × List Entry). ListAgrees x.0 x.1)
+    subst (λ (x : ℕ × List ClaimEntry). ListAgrees x.0 x.1)
     (λ i. ((same ∙ cells ∙ sym mine.cells) i, (ap (λ l. list_at l v.worker) lists ∙ noted_here c.lists v.worker e lt ∙ ap (λ l. l ++ e ∷ []) (sym mine.entries)) i))
     (list_agrees d v.worker ok)
 
@@ -154,7 +154,7 @@ begins z words is some_worker room = record {
   words = is;
   cells = refl;
   mutants = length-replicate z.mutants no_place;
-  workers = length-replicate z.workers (let none : List Entry = [] in none);
+  workers = length-replicate z.workers (let none : List ClaimEntry = [] in none);
   room = room;
   seats = seated_first z some_worker (idle_list z.workers);
 }

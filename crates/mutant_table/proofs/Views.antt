@@ -5,25 +5,25 @@ use mathlib.Core.Option.{some, some-injective, some-ne-none}
 use lib.ListN.{get_elem?}
 use Rattle.atomic_table.proofs.Lists.{at_set}
 use Rattle.std.proofs.lemmas.List.Elements.{All-append, All-cons, All-nil}
-use Rattle.claim_core.specs.declared.events.Entry.{Entry}
+use Rattle.claim_core.specs.declared.events.ClaimEntry.{ClaimEntry}
 use Rattle.claim_core.specs.Claims.{noted}
 use Rattle.claim_core.proofs.Lists.{noted_here, noted_else}
 use Rattle.mutant_table.specs.declared.rule.View.{View}
 use Rattle.mutant_table.specs.declared.rule.Sizes.{Sizes}
 use Rattle.mutant_table.specs.Rule.{did, first_view, made_one, seated, taken_in, spent_view, list_at, IsWorkersView, LeadsSeats, AreSeated}
 
-abbrev Apart : View → List (ℕ × List Entry) → Type 0
-Apart u ended = All (λ (p : ℕ × List Entry). p.0 ≢ u.worker) ended
+abbrev Apart : View → List (ℕ × List ClaimEntry) → Type 0
+Apart u ended = All (λ (p : ℕ × List ClaimEntry). p.0 ≢ u.worker) ended
 
-abbrev Knows : ℕ → List (List Entry) → List (ℕ × List Entry) → Type 0
-Knows made lists ended = All (λ (p : ℕ × List Entry). (p.0 < made) × (p.1 ≡ list_at lists p.0)) ended
+abbrev Knows : ℕ → List (List ClaimEntry) → List (ℕ × List ClaimEntry) → Type 0
+Knows made lists ended = All (λ (p : ℕ × List ClaimEntry). (p.0 < made) × (p.1 ≡ list_at lists p.0)) ended
 
 -- the lists that ended aren't the one that has one more entry
-still_ended : (lists : List (List Entry)) (w : ℕ) (e : Entry) (made : ℕ) (ended : List (ℕ × List Entry)) → Knows made lists ended → All (λ (p : ℕ × List Entry). p.0 ≢ w) ended → Knows made (noted lists w e) ended
+still_ended : (lists : List (List ClaimEntry)) (w : ℕ) (e : ClaimEntry) (made : ℕ) (ended : List (ℕ × List ClaimEntry)) → Knows made lists ended → All (λ (p : ℕ × List ClaimEntry). p.0 ≢ w) ended → Knows made (noted lists w e) ended
 still_ended lists w e made ended h other = λ k d lt. let x = h k d lt in (x.0, x.1 ∙ sym (noted_else lists w e (slice_index_or ended k d).0 (other k d lt)))
 
 -- what worker 0 knows stays when the worker of the view v does one thing more
-leads_noted : (z : Sizes) (lists : List (List Entry)) (views : List View) (id : ℕ) (v u : View) (e : Entry) → get_elem? views id ≡ some v → v.live ≡ true
+leads_noted : (z : Sizes) (lists : List (List ClaimEntry)) (views : List View) (id : ℕ) (v u : View) (e : ClaimEntry) → get_elem? views id ≡ some v → v.live ≡ true
     → (t : View) → LeadsSeats z lists views u → t.made ≡ u.made → t.ended ≡ u.ended → LeadsSeats z (noted lists v.worker e) (set views id (did v e)) t
 leads_noted z lists views id v u e at live t h made ended =
     let mine = h.others id v at live in
@@ -37,7 +37,7 @@ leads_noted z lists views id v u e at live t h made ended =
           (at_set views id i (did v e) w there);
     }
 
-pub seated_noted : (z : Sizes) (lists : List (List Entry)) (views : List View) (id : ℕ) (v : View) (e : Entry) → v.worker < length lists → get_elem? views id ≡ some v → v.live ≡ true
+pub seated_noted : (z : Sizes) (lists : List (List ClaimEntry)) (views : List View) (id : ℕ) (v : View) (e : ClaimEntry) → v.worker < length lists → get_elem? views id ≡ some v → v.live ≡ true
     → AreSeated z lists views → AreSeated z (noted lists v.worker e) (set views id (did v e))
 seated_noted z lists views id v e lt at live h =
     let mine = h.each id v at live in
@@ -76,7 +76,7 @@ off : (b : Bool) → b ≡ false → b ≡ true → ⊥
 off b n y = true≢false (sym y ∙ n)
 
 -- the same worker, with another number of seats made or lists taken in
-like : (z : Sizes) (lists : List (List Entry)) (v u : View) → (u.cells ≡ v.cells) → (u.workers ≡ v.workers) → (u.mutants ≡ v.mutants) → (u.worker ≡ v.worker) → (u.entries ≡ v.entries) → IsWorkersView z lists v → IsWorkersView z lists u
+like : (z : Sizes) (lists : List (List ClaimEntry)) (v u : View) → (u.cells ≡ v.cells) → (u.workers ≡ v.workers) → (u.mutants ≡ v.mutants) → (u.worker ≡ v.worker) → (u.entries ≡ v.entries) → IsWorkersView z lists v → IsWorkersView z lists u
 like z lists v u c ws m w e f = record { cells = c ∙ f.cells; workers = ws ∙ f.workers; mutants = m ∙ f.mutants; worker = rw w f.worker; entries = e ∙ f.entries ∙ ap (list_at lists) (sym w) }
 
 -- what a view is after a split: the first seat's, another that stood before, or the new one
@@ -89,7 +89,7 @@ split_case views id v j u C at same old new e = ⊎_elim
     (at_end (set views id (made_one v)) (seated v) u j e)
 
 -- the first seat makes one more
-pub seated_split : (z : Sizes) (lists : List (List Entry)) (views : List View) (id : ℕ) (v : View) → v.live ≡ true → v.worker ≡ 0 → v.made < z.workers → get_elem? views id ≡ some v
+pub seated_split : (z : Sizes) (lists : List (List ClaimEntry)) (views : List View) (id : ℕ) (v : View) → v.live ≡ true → v.worker ≡ 0 → v.made < z.workers → get_elem? views id ≡ some v
     → AreSeated z lists views → AreSeated z lists (set views id (made_one v) ++ seated v ∷ [])
 seated_split z lists views id v live host room at was =
     let mine = was.each id v at live in
@@ -149,7 +149,7 @@ join_case views id other v w j u C on same old e = ⊎_elim
     (at_set (set views id (taken_in v w)) other j spent_view u e)
 
 -- the first seat takes in another
-pub seated_join : (z : Sizes) (lists : List (List Entry)) (views : List View) (id other : ℕ) (v w : View) → v.live ≡ true → v.worker ≡ 0 → w.live ≡ true
+pub seated_join : (z : Sizes) (lists : List (List ClaimEntry)) (views : List View) (id other : ℕ) (v w : View) → v.live ≡ true → v.worker ≡ 0 → w.live ≡ true
     → get_elem? views id ≡ some v → other ≢ id → get_elem? (set views id (taken_in v w)) other ≡ some w
     → AreSeated z lists views → AreSeated z lists (set (set views id (taken_in v w)) other spent_view)
 seated_join z lists views id other v w live host theirs at ne there was =
@@ -159,7 +159,7 @@ seated_join z lists views id other v w live host theirs at ne there was =
     let at' : get_elem? views other ≡ some w = ⊎_elim (λ (t : (other ≡ id) × (taken_in v w ≡ w)). absurd (ne t.0)) (λ (t : (other ≢ id) × (get_elem? views other ≡ some w)). t.1) (at_set views id other (taken_in v w) w there) in
     let his = was.each other w at' theirs in
     let apart_last : (j : ℕ) (u : View) → get_elem? views j ≡ some u → u.live ≡ true → j ≢ other → Apart u ((w.worker, w.entries) ∷ []) =
-    λ j u e on far. All-cons (λ (p : ℕ × List Entry). p.0 ≢ u.worker) (w.worker, w.entries) [] (λ same. far (sym (was.one other j w u at' e theirs on same))) (All-nil (λ (p : ℕ × List Entry). p.0 ≢ u.worker)) in
+    λ j u e on far. All-cons (λ (p : ℕ × List ClaimEntry). p.0 ≢ u.worker) (w.worker, w.entries) [] (λ same. far (sym (was.one other j w u at' e theirs on same))) (All-nil (λ (p : ℕ × List ClaimEntry). p.0 ≢ u.worker)) in
     record {
       each = λ j u e on. join_case views id other v w j u (IsWorkersView z lists u) on
           (λ _ t. subst (IsWorkersView z lists) t (like z lists v (taken_in v w) refl refl refl refl refl mine))
@@ -179,12 +179,12 @@ seated_join z lists views id other v w live host theirs at ne there was =
           (λ a b. subst (LeadsSeats z lists after) b record {
             made = lead.made;
             unmade = lead.unmade;
-            ended = All-append (λ (p : ℕ × List Entry). (p.0 < v.made) × (p.1 ≡ list_at lists p.0)) v.ended ((w.worker, w.entries) ∷ []) lead.ended
-                (All-cons (λ (p : ℕ × List Entry). (p.0 < v.made) × (p.1 ≡ list_at lists p.0)) (w.worker, w.entries) [] ((lead.others other w at' theirs).0, his.entries) (All-nil (λ (p : ℕ × List Entry). (p.0 < v.made) × (p.1 ≡ list_at lists p.0))));
+            ended = All-append (λ (p : ℕ × List ClaimEntry). (p.0 < v.made) × (p.1 ≡ list_at lists p.0)) v.ended ((w.worker, w.entries) ∷ []) lead.ended
+                (All-cons (λ (p : ℕ × List ClaimEntry). (p.0 < v.made) × (p.1 ≡ list_at lists p.0)) (w.worker, w.entries) [] ((lead.others other w at' theirs).0, his.entries) (All-nil (λ (p : ℕ × List ClaimEntry). (p.0 < v.made) × (p.1 ≡ list_at lists p.0))));
             others = λ i x e' on'. join_case views id other v w i x ((x.worker < v.made) × Apart x (v.ended ++ (w.worker, w.entries) ∷ [])) on'
                 (λ c d. subst (λ (y : View). (y.worker < v.made) × Apart y (v.ended ++ (w.worker, w.entries) ∷ [])) d
-                (let y = lead.others id v at live in (y.0, All-append (λ (p : ℕ × List Entry). p.0 ≢ v.worker) v.ended ((w.worker, w.entries) ∷ []) y.1 (apart_last id v at live (λ same. ne (sym same))))))
-                (λ _ c d. let y = lead.others i x d on' in (y.0, All-append (λ (p : ℕ × List Entry). p.0 ≢ x.worker) v.ended ((w.worker, w.entries) ∷ []) y.1 (apart_last i x d on' c)))
+                (let y = lead.others id v at live in (y.0, All-append (λ (p : ℕ × List ClaimEntry). p.0 ≢ v.worker) v.ended ((w.worker, w.entries) ∷ []) y.1 (apart_last id v at live (λ same. ne (sym same))))))
+                (λ _ c d. let y = lead.others i x d on' in (y.0, All-append (λ (p : ℕ × List ClaimEntry). p.0 ≢ x.worker) v.ended ((w.worker, w.entries) ∷ []) y.1 (apart_last i x d on' c)))
                 e';
           })
           (λ a _ b. absurd (a (was.one j id u v b at on live (leads ∙ sym host))))
@@ -199,8 +199,8 @@ seated_first z some_worker idle = record {
   lead = λ id v at on leads. subst (LeadsSeats z (replicate z.workers []) (first_view z ∷ [])) (only id v at).1 record {
     made = omega arith;
     unmade = λ k le. idle k;
-    ended = All-nil (λ (p : ℕ × List Entry). (p.0 < 1) × (p.1 ≡ list_at (replicate z.workers []) p.0));
-    others = λ j u e on'. subst (λ (x : View). (x.worker < 1) × Apart x []) (only j u e).1 (omega arith, All-nil (λ (p : ℕ × List Entry). p.0 ≢ 0));
+    ended = All-nil (λ (p : ℕ × List ClaimEntry). (p.0 < 1) × (p.1 ≡ list_at (replicate z.workers []) p.0));
+    others = λ j u e on'. subst (λ (x : View). (x.worker < 1) × Apart x []) (only j u e).1 (omega arith, All-nil (λ (p : ℕ × List ClaimEntry). p.0 ≢ 0));
   };
 }
   where

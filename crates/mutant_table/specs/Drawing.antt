@@ -1,8 +1,8 @@
 -- What a worker's draw, look and detection make of its seat. This project's own.
 use Rattle.std.specs.Prelude.{◌≡◌, ◌⊎◌, ℕ, ◌<◌, ◌≤◌, [], ◌∷◌, ◌++◌, Contains}
 use Rattle.std.specs.Prelude.{IsSomeAnd, IsTrue, Option}
-use Rattle.claim_core.specs.declared.events.Entry.{Entry}
-use Rattle.claim_core.specs.declared.events.Entry.TheVariants.{Claimed, Looked, Detected}
+use Rattle.claim_core.specs.declared.events.ClaimEntry.{ClaimEntry}
+use Rattle.claim_core.specs.declared.events.ClaimEntry.TheVariants.{Claimed, Looked, Detected}
 use Rattle.claim_core.specs.Claims.{is_exhausted, no_place}
 use Rattle.mutant_table.specs.declared.seat.ClaimSeat.{ClaimSeat}
 use Rattle.mutant_table.specs.declared.table.ClaimTable.{ClaimTable}
@@ -14,7 +14,7 @@ abbrev pub HasRunOut : ClaimTable → ClaimSeat → Type 0
 HasRunOut t s = IsTrue (is_exhausted (cells_of t) (entries_of s))
 
 -- the seat before and after: its list got this entry
-abbrev pub Notes : Entry → ClaimSeat → ClaimSeat → Type 0
+abbrev pub Notes : ClaimEntry → ClaimSeat → ClaimSeat → Type 0
 Notes e before after = entries_of after ≡ entries_of before ++ e ∷ []
 
 -- the number is a cell's, and the worker noted that it drew it

@@ -5,8 +5,8 @@ use Rattle.std.specs.Prelude.{List, [], ◌∷◌, ◌++◌, All, length, slice_
 use mathlib.Core.Option.{some}
 use lib.ListN.{get_elem?}
 use Rattle.atomic_table.specs.Table.{State, Step, Me}
-use Rattle.claim_core.specs.declared.events.Entry.{Entry}
-use Rattle.claim_core.specs.declared.events.Entry.TheVariants.{Claimed, Looked, Detected}
+use Rattle.claim_core.specs.declared.events.ClaimEntry.{ClaimEntry}
+use Rattle.claim_core.specs.declared.events.ClaimEntry.TheVariants.{Claimed, Looked, Detected}
 use Rattle.claim_core.specs.Claims.{Claims}
 use Rattle.claim_core.specs.Agreement.{ClaimsAgree}
 use Rattle.mutant_table.specs.declared.rule.View.{View}
@@ -39,7 +39,7 @@ spent_view = record {
 }
 
 -- the view once the worker did one thing more
-abbrev pub did : View → Entry → View
+abbrev pub did : View → ClaimEntry → View
 did v e = record v { entries = v.entries ++ e ∷ [] }
 
 -- a split: the first seat counts one more, and the new seat has that number and an empty list
@@ -53,11 +53,11 @@ seated v = record v { worker = v.made; entries = []; made = 0; ended = [] }
 abbrev pub taken_in : View → View → View
 taken_in v w = record v { ended = v.ended ++ (w.worker, w.entries) ∷ [] }
 
-abbrev pub list_at : List (List Entry) → ℕ → List Entry
+abbrev pub list_at : List (List ClaimEntry) → ℕ → List ClaimEntry
 list_at lists k = slice_index_or lists k []
 
 -- the view is of a worker, with its list, at a table of these sizes
-pub record IsWorkersView (z : Sizes) (lists : List (List Entry)) (v : View) : Type 0 where
+pub record IsWorkersView (z : Sizes) (lists : List (List ClaimEntry)) (v : View) : Type 0 where
   pub mutants : v.mutants ≡ z.mutants
   pub cells : v.cells ≡ z.cells
   pub workers : v.workers ≡ z.workers
@@ -67,16 +67,16 @@ pub record IsWorkersView (z : Sizes) (lists : List (List Entry)) (v : View) : Ty
 -- what the seat of worker 0 knows of the others: how many seats were made, that the further lists
 -- are empty, and the lists that ended
 pub record LeadsSeats
-    (z : Sizes) (lists : List (List Entry)) (views : List View) (v : View)
+    (z : Sizes) (lists : List (List ClaimEntry)) (views : List View) (v : View)
     : Type 0 where
   pub made : v.made ≤ z.workers
   pub unmade : (k : ℕ) → v.made ≤ k → list_at lists k ≡ []
-  pub ended : All (λ (p : ℕ × List Entry). (p.0 < v.made) × (p.1 ≡ list_at lists p.0)) v.ended
+  pub ended : All (λ (p : ℕ × List ClaimEntry). (p.0 < v.made) × (p.1 ≡ list_at lists p.0)) v.ended
   pub others : (j : ℕ) (u : View) → get_elem? views j ≡ some u → u.live ≡ true →
-      (u.worker < v.made) × All (λ (p : ℕ × List Entry). p.0 ≢ u.worker) v.ended
+      (u.worker < v.made) × All (λ (p : ℕ × List ClaimEntry). p.0 ≢ u.worker) v.ended
 
 -- each view that isn't spent is of a worker, no two of the same one
-pub record AreSeated (z : Sizes) (lists : List (List Entry)) (views : List View) : Type 0 where
+pub record AreSeated (z : Sizes) (lists : List (List ClaimEntry)) (views : List View) : Type 0 where
   pub each : (id : ℕ) (v : View) → get_elem? views id ≡ some v → v.live ≡ true →
       IsWorkersView z lists v
   pub one : (i j : ℕ) (v w : View) → get_elem? views i ≡ some v → get_elem? views j ≡ some w →

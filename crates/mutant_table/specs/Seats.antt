@@ -3,7 +3,7 @@ use Rattle.std.specs.Prelude.{◌≡◌, ℕ, ◌<◌, List, [], length, slice_i
 use Rattle.std.specs.declared.alloc.Global.{Global}
 use Rattle.atomic_table.specs.declared.shared.Seat.{Seat}
 use Rattle.atomic_table.specs.Seated.{TableId}
-use Rattle.claim_core.specs.declared.events.Entry.{Entry}
+use Rattle.claim_core.specs.declared.events.ClaimEntry.{ClaimEntry}
 use Rattle.claim_core.specs.Agreement.{ClaimsAgree}
 use Rattle.claim_core.specs.Claims.{Claims}
 use Rattle.mutant_table.specs.declared.rule.View.{View}
@@ -20,7 +20,7 @@ view_of s = s.seat.me.0
 abbrev pub worker_of : ClaimSeat → ℕ
 worker_of s = (view_of s).worker
 
-abbrev pub entries_of : ClaimSeat → List Entry
+abbrev pub entries_of : ClaimSeat → List ClaimEntry
 entries_of s = (view_of s).entries
 
 abbrev pub mutants_of : ClaimTable → ℕ
@@ -78,7 +78,7 @@ claims_at cells end seats = record {
 abbrev pub AgreesAtEnd : ClaimTable → List ClaimSeat → ClaimEnd → Type 0
 AgreesAtEnd t seats end = ClaimsAgree (claims_at (cells_of t) end seats)
 
-abbrev pub ended_as : ClaimSeat → ℕ × List Entry
+abbrev pub ended_as : ClaimSeat → ℕ × List ClaimEntry
 ended_as s = (worker_of s, entries_of s)
 
 -- the view of worker 0 once it has taken in all others

@@ -1,5 +1,5 @@
 ghost use Rattle.std.specs.Prelude.{◌≡◌, ◌↔◌, ◌<◌, IfSome, IfNone, IsNone};
-ghost use Rattle.claim_core.specs.declared.events.Entry.TheVariants.{Looked, Detected};
+ghost use Rattle.claim_core.specs.declared.events.ClaimEntry.TheVariants.{Looked, Detected};
 ghost use Rattle.claim_core.specs.Claims.{no_place};
 ghost use Rattle.mutant_table.specs.Entries.{ListAgrees};
 ghost use Rattle.mutant_table.specs.Drawing.{Draws, DrawsNoCell, HasRunOut, IsAtMostDetected, Notes, SeesPlace, StaysOrAgrees};

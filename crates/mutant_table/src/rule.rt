@@ -1,6 +1,6 @@
 // The rule of the table, and what its steps tell. No value of a view is ever made: it stands in contracts alone.
 use atomic_table::{Join, Play, Split, TableRule};
-use claim_core::Entry;
+use claim_core::ClaimEntry;
 use std::collections::LinkedList;
 
 // What a worker's seat knows: its number, what it did, and the table's sizes. The seat of worker 0 knows how many seats
@@ -8,12 +8,12 @@ use std::collections::LinkedList;
 pub struct View {
     pub live: bool,
     pub worker: u64,
-    pub entries: LinkedList<Entry>,
+    pub entries: LinkedList<ClaimEntry>,
     pub mutants: u64,
     pub cells: u64,
     pub workers: u64,
     pub made: u64,
-    pub ended: LinkedList<(u64, LinkedList<Entry>)>,
+    pub ended: LinkedList<(u64, LinkedList<ClaimEntry>)>,
 }
 
 #[derive(Drop)]

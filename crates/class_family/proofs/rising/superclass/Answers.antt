@@ -2,7 +2,7 @@ use Rattle.std.proofs.Common.{◌≡◌, ◌∙◌, sym, ap}
 use Rattle.class_link.specs.Info.{class_of}
 use Rattle.class_order.specs.Graph.{supers_of}
 use Rattle.class_table.specs.Table.{look, name_at}
-use Rattle.class_family.proofs.Upwards.{ends, goes, never_none}
+use Rattle.class_family.proofs.Upwards.{ends, goes_on, never_none}
 use Rattle.class_family.proofs.rising.superclass.Goals as goal
 
 pub returns-then-not-names_superclass-clause-ends : goal.returns-then-not-names_superclass-clause-ends
@@ -16,4 +16,4 @@ returns-in_err-first-clause-ends c =
 pub returns-clause-goes_on : goal.returns-clause-goes_on
 returns-clause-goes_on c =
     let p = c.args.program.now in
-    goes p c.args.id.0 (class_of c.info.result.now) (supers_of c.links.result.now) c.in_ok-first.first c.len-len.ensures.form c.info.ensures.class (sym c.names_superclass.ensures ∙ c.if-not-names_superclass.false) c.links.ensures.named (sym c.super_at.ensures ∙ c.in_ok-first.was)
+    goes_on p c.args.id.0 (class_of c.info.result.now) (supers_of c.links.result.now) c.in_ok-first.first c.len-len.ensures.form c.info.ensures.class (sym c.names_superclass.ensures ∙ c.if-not-names_superclass.false) c.links.ensures.named (sym c.super_at.ensures ∙ c.in_ok-first.was)

@@ -6,7 +6,7 @@ use Rattle.std.specs.Prelude.{slice_set, Some, None}
 use Rattle.std.specs.Vec.{with_items}
 use Rattle.claim_core.specs.declared.state.Worker.{Worker}
 use Rattle.claim_core.specs.declared.state.ClaimState.TheInside.{Inside}
-use Rattle.claim_core.specs.declared.events.Entry.TheVariants.{Claimed}
+use Rattle.claim_core.specs.declared.events.ClaimEntry.TheVariants.{Claimed}
 use Rattle.claim_core.specs.declared.events.Event.TheVariants.{Claim}
 use Rattle.claim_core.specs.declared.events.Reply.TheVariants.{Cell}
 use Rattle.claim_core.specs.Claims.{noted, claimed, is_exhausted, list_of}

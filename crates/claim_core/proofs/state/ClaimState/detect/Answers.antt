@@ -1,6 +1,6 @@
 use Rattle.std.proofs.Common.{◌≡◌, refl, sym, ap, ◌∙◌, map, min}
 use Rattle.std.specs.Prelude.{slice_set}
-use Rattle.claim_core.specs.declared.events.Entry.TheVariants.{Detected}
+use Rattle.claim_core.specs.declared.events.ClaimEntry.TheVariants.{Detected}
 use Rattle.claim_core.specs.declared.events.Event.TheVariants.{Detect}
 use Rattle.claim_core.specs.Claims.{noted, detected, least_of}
 use Rattle.std.proofs.lemmas.List.{with_items_is}

@@ -1,5 +1,5 @@
 use Rattle.std.proofs.Common.{◌≡◌, refl, sym, ap, ◌∙◌, map}
-use Rattle.claim_core.specs.declared.events.Entry.TheVariants.{Looked}
+use Rattle.claim_core.specs.declared.events.ClaimEntry.TheVariants.{Looked}
 use Rattle.claim_core.specs.declared.events.Event.TheVariants.{Look}
 use Rattle.claim_core.specs.Claims.{noted, looked, least_of}
 use Rattle.std.proofs.lemmas.List.{with_items_is}
