@@ -4,7 +4,6 @@
 
 mod access;
 mod fields;
-mod held;
 mod instances;
 mod layouts;
 mod sites;
