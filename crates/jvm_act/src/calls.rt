@@ -25,7 +25,7 @@ use class_table::Program;
 use jvm_frames::Frames;
 use jvm_invokes::{Invoked, invoke_static};
 use jvm_natives::{Natives, complete};
-use jvm_receivers::{Lookups, invoke_interface, invoke_special, invoke_virtual};
+use jvm_receivers::{Invocation, Lookups, invoke_on};
 use jvm_resolved::entry;
 use jvm_unwind::Turn;
 use jvm_world::World;
@@ -75,15 +75,24 @@ fn invoke(
 {
     match how {
         CallUse::Virtual => {
-            let left = invoke_virtual(frames, world, alloc, p, lookups, class, index, reference)?;
+            let on = Invocation::Virtual;
+            let left = invoke_on(
+                frames, world, alloc, p, lookups, class, index, reference, on,
+            )?;
             Ok(left)
         }
         CallUse::Interface => {
-            let left = invoke_interface(frames, world, alloc, p, lookups, class, index, reference)?;
+            let on = Invocation::Interface;
+            let left = invoke_on(
+                frames, world, alloc, p, lookups, class, index, reference, on,
+            )?;
             Ok(left)
         }
         CallUse::Special => {
-            let left = invoke_special(frames, world, alloc, p, lookups, class, index, reference)?;
+            let on = Invocation::Special;
+            let left = invoke_on(
+                frames, world, alloc, p, lookups, class, index, reference, on,
+            )?;
             Ok(left)
         }
         CallUse::Static => {

@@ -22,7 +22,7 @@ use class_model::{ClassId, Kind, Memory, Name};
 use class_table::Program;
 use jvm_frames::Frames;
 use jvm_heap_rows::Effect;
-use jvm_member_rows::{check_cast, load_class, make_array, test_instance};
+use jvm_member_rows::{Purpose, check_cast, test_instance};
 use jvm_object_rows::make_primitive_array;
 use jvm_resolved::References;
 use jvm_world::World;
@@ -123,11 +123,17 @@ fn use_named(
 {
     match how {
         ClassUse::Load => {
-            let done = load_class(frames, world, alloc, p, references, class, index, name)?;
+            let to = Purpose::Load;
+            let done = jvm_member_rows::use_class(
+                frames, world, alloc, p, references, class, index, name, to,
+            )?;
             Ok(done)
         }
         ClassUse::MakeArray => {
-            let done = make_array(frames, world, alloc, p, references, class, index, name)?;
+            let to = Purpose::MakeArray;
+            let done = jvm_member_rows::use_class(
+                frames, world, alloc, p, references, class, index, name, to,
+            )?;
             Ok(done)
         }
         ClassUse::MakeArrays(dimensions) => {

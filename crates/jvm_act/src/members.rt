@@ -21,7 +21,7 @@ use class_family::Walker;
 use class_link::FieldRef;
 use class_model::{ClassId, Memory};
 use class_table::Program;
-use jvm_field_rows::{Layouts, Slots, get_field, get_static, make_object, put_field, put_static};
+use jvm_field_rows::{Access, Layouts, Slots, access_field, access_static, make_object};
 use jvm_frames::Frames;
 use jvm_resolved::References;
 use jvm_unwind::Turn;
@@ -59,27 +59,31 @@ fn use_named(
 {
     match how {
         FieldUse::GetStatic => {
-            let turn = get_static(
-                frames, world, alloc, p, references, walker, class, index, reference,
+            let access = Access::Get;
+            let turn = access_static(
+                frames, world, alloc, p, references, walker, class, index, reference, access,
             )?;
             Ok(turn)
         }
         FieldUse::PutStatic => {
-            let turn = put_static(
-                frames, world, alloc, p, references, walker, class, index, reference,
+            let access = Access::Put;
+            let turn = access_static(
+                frames, world, alloc, p, references, walker, class, index, reference, access,
             )?;
             Ok(turn)
         }
         FieldUse::Get => {
-            let done = get_field(
-                frames, world, alloc, p, references, slots, class, index, reference,
+            let access = Access::Get;
+            let done = access_field(
+                frames, world, alloc, p, references, slots, class, index, reference, access,
             )?;
             let turn = turn_of(done);
             Ok(turn)
         }
         FieldUse::Put => {
-            let done = put_field(
-                frames, world, alloc, p, references, slots, class, index, reference,
+            let access = Access::Put;
+            let done = access_field(
+                frames, world, alloc, p, references, slots, class, index, reference, access,
             )?;
             let turn = turn_of(done);
             Ok(turn)

@@ -1,5 +1,5 @@
 -- `getfield` and `putfield`, once the field was resolved.
-use Rattle.std.proofs.Common.{◌≡◌, ◌∙◌, sym, ap, refl, ℕ, ◌<◌, Bool, true, false, List, ◌∷◌, length, Some, inl, inr, Ok, Err}
+use Rattle.std.proofs.Common.{◌≡◌, ◌∙◌, sym, ap, refl, subst, ℕ, ◌<◌, ◌≤◌, ◌^◌, Bool, true, false, List, ◌∷◌, length, Some, inl, inr, Ok, Err}
 use Rattle.std.specs.Prelude.{if◌then◌else◌}
 use Rattle.std.proofs.lemmas.Option.{slice_get_within}
 use Rattle.program_rules.specs.declared.fault.Fault.{Fault}
@@ -10,7 +10,6 @@ use Rattle.program_rules.specs.Outlines.{fields_in, is_static_field}
 use Rattle.program_rules.specs.Programs.{nodes, Rising}
 use Rattle.program_rules.specs.Resolution.{FieldAt, field_at}
 use Rattle.machine_rules.specs.Effects.{throws}
-use Rattle.machine_rules.specs.Fields.{reads_field, writes_field}
 use Rattle.machine_rules.specs.Lookups.{consult}
 use Rattle.class_model.specs.declared.kind.Kind as plain
 use Rattle.class_link.specs.declared.linked.FieldRef.{FieldRef}
@@ -30,9 +29,11 @@ use Rattle.jvm_link.specs.declared.site.Site.{Site}
 use Rattle.jvm_link.specs.Sites.{node_at, outline_at}
 use Rattle.jvm_resolved.specs.References.{IsFieldNamed, ResolvesFieldRef}
 use Rattle.jvm_member_rows.specs.Whole.{RunsWhole}
-use Rattle.jvm_member_rows.proofs.Resolved.{found_field, lost_field}
-use Rattle.jvm_field_rows.specs.Rows.{get_row, get_found, put_row, put_found}
-use Rattle.jvm_field_rows.specs.Sites.{Declares, ResolvesTo, ServesFor}
+use Rattle.jvm_member_rows.proofs.Resolved.{fielding, found_field, lost_field}
+use Rattle.jvm_field_rows.specs.declared.access.Access.{Access}
+use Rattle.jvm_field_rows.specs.declared.access.Access.TheVariants as access
+use Rattle.jvm_field_rows.specs.Rows.{get_found, put_found, instance_row, instance_found, slot_row}
+use Rattle.jvm_field_rows.specs.Sites.{Declares, HasKindAt, ResolvesTo, ServesFor}
 use Rattle.jvm_field_rows.proofs.Past.{at_slot, reads_past, writes_past}
 use Rattle.jvm_field_rows.proofs.Slotted.{found_is}
 
@@ -61,77 +62,62 @@ kind_of_field p r s x l is to there =
     let one : is.field ≡ field_of l = (let e : Some is.field ≡ Some (field_of l) = sym is.there ∙ there in cc) in
     sym (ap (λ (y : FieldAt). y.kind) (found_is p r s x is to)) ∙ ap (λ (f : LinkedField). f.kind) one
 
--- ---- getfield
+-- ---- by the instruction
 
-pub got : (p : List Info) (r : FieldRef) (s : Site) (e : code.Effect) (old new : NumberedFrames) (w m u : World) → ResolvesFieldRef p r (Ok s) → Moves p w m (consult (look p) (class_behind r.class)) → m.limits ≡ w.limits → ((x : FieldAt) → ResolvesTo p r x → Runs p (get_found x) e old new m u) → RunsWhole p (get_row p (field_ref_of r)) e old new w u
-got p r s e old new w m u is moves limits h =
+row_by : (p : List Info) (k : Access) (r : FieldRef) (e : code.Effect) (old new : NumberedFrames) (w u : World) → RunsWhole p (fielding p (field_ref_of r) (instance_found k)) e old new w u → RunsWhole p (instance_row p k (field_ref_of r)) e old new w u
+row_by p access.Get r e old new w u h = h
+row_by p access.Put r e old new w u h = h
+
+pub field_got : (p : List Info) (k : Access) (r : FieldRef) (s : Site) (e : code.Effect) (old new : NumberedFrames) (w m u : World) → ResolvesFieldRef p r (Ok s) → Moves p w m (consult (look p) (class_behind r.class)) → m.limits ≡ w.limits → ((x : FieldAt) → ResolvesTo p r x → Runs p (instance_found k x) e old new m u) → RunsWhole p (instance_row p k (field_ref_of r)) e old new w u
+field_got p k r s e old new w m u is moves limits h =
     let x = field_here p r s is in
-    found_field p (field_ref_of r) x get_found e old new w m u is.found moves limits (h x is.found)
+    row_by p k r e old new w u (found_field p (field_ref_of r) x (instance_found k) e old new w m u is.found moves limits (h x is.found))
 
-pub get_lost : (p : List Info) (r : FieldRef) (fault : Fault) (e : code.Effect) (old new : NumberedFrames) (w m u : World) → ResolvesFieldRef p r (Err fault) → Moves p w m (consult (look p) (class_behind r.class)) → m.limits ≡ w.limits → Runs p (throwing fault) e old new m u → RunsWhole p (get_row p (field_ref_of r)) e old new w u
-get_lost p r fault e old new w m u is moves limits h =
-    lost_field p (field_ref_of r) fault get_found e old new w m u is moves limits h
+pub field_lost : (p : List Info) (k : Access) (r : FieldRef) (fault : Fault) (e : code.Effect) (old new : NumberedFrames) (w m u : World) → ResolvesFieldRef p r (Err fault) → Moves p w m (consult (look p) (class_behind r.class)) → m.limits ≡ w.limits → Runs p (throwing fault) e old new m u → RunsWhole p (instance_row p k (field_ref_of r)) e old new w u
+field_lost p k r fault e old new w m u is moves limits h =
+    row_by p k r e old new w u (lost_field p (field_ref_of r) fault (instance_found k) e old new w m u is moves limits h)
 
-abbrev get_by : FieldAt → Bool → RowOf
-get_by x b = λ q room w f fs. if b then throws q w (f ∷ fs) IncompatibleClassChangeError else reads_field q w f fs room x
+-- ---- once the field was found
 
-get_cases : (p : List Info) (x : FieldAt) (b : Bool) (old : NumberedFrames) (w : World) (e : x.static ≡ b) → SameAt p (get_found x) (get_by x b) old w
-get_cases p x b old w e =
-    each old.frame (λ f. AreSame p (get_found x w.limits f.room) (get_by x b w.limits f.room) f w)
-    (λ f class v fs m.
-    ap (λ t. if t then throws w.limits v (framed class f ∷ fs) IncompatibleClassChangeError else reads_field w.limits v (framed class f) fs f.room x) e)
+-- What is left, by whether the field is static.
+abbrev left_by : Access → FieldAt → Bool → RowOf
+left_by k x b = λ q room w f fs. if b then throws q w (f ∷ fs) IncompatibleClassChangeError else slot_row k x q room w f fs
 
-pub get_static_one : (p : List Info) (r : FieldRef) (s : Site) (x : FieldAt) (b : Bool) (e : code.Effect) (old new : NumberedFrames) (w u : World) → IsFieldNamed p r s → ResolvesTo p r x → TellsStatic p s b → b ≡ true → Runs p (throwing IncompatibleClassChangeError) e old new w u → Runs p (get_found x) e old new w u
-get_static_one p r s x b e old new w u is to told holds_so h =
-    along p (get_found x) (throwing IncompatibleClassChangeError) e old new w u
-    (get_cases p x true old w (static_of p r s x b is to told ∙ holds_so)) h
+found_as : (p : List Info) (k : Access) (x : FieldAt) (old : NumberedFrames) (w : World) → SameAt p (instance_found k x) (left_by k x x.static) old w
+found_as p access.Get x old w =
+    each old.frame (λ f. AreSame p (get_found x w.limits f.room) (left_by access.Get x x.static w.limits f.room) f w) (λ f class v fs m. refl)
+found_as p access.Put x old w =
+    each old.frame (λ f. AreSame p (put_found x w.limits f.room) (left_by access.Put x x.static w.limits f.room) f w) (λ f class v fs m. refl)
 
-pub get_instance : (p : List Info) (r : FieldRef) (s : Site) (x : FieldAt) (b : Bool) (slot : ℕ) (e : code.Effect) (old new : NumberedFrames) (w u : World) → IsWorldOf p w → IsFieldNamed p r s → ResolvesTo p r x → TellsStatic p s b → b ≡ false → ServesFor p r slot → ((y : FieldAt) → y.slot ≡ slot → Runs p (getting y) e old new w u) → Runs p (get_found x) e old new w u
-get_instance p r s x b slot e old new w u here is to told fails_so serves h =
-    along p (get_found x) (getting x) e old new w u
-    (get_cases p x false old w (static_of p r s x b is to told ∙ fails_so))
-    (elim (serves x to) [
-      | inl same ↦ h x same
-      | inr past ↦ along p (getting x) (getting (at_slot slot x)) e old new w u
-          (each old.frame (λ f. AreSame p (getting x w.limits f.room) (getting (at_slot slot x) w.limits f.room) f w)
-          (λ f class v fs m. reads_past p w w.limits v (framed class f) fs f.room slot x here m past.0 past.1))
-          (h (at_slot slot x) refl)
-    ])
+cases : (p : List Info) (k : Access) (x : FieldAt) (b : Bool) (old : NumberedFrames) (w : World) → x.static ≡ b → SameAt p (instance_found k x) (left_by k x b) old w
+cases p k x b old w e = subst (λ c. SameAt p (instance_found k x) (left_by k x c) old w) e (found_as p k x old w)
 
--- ---- putfield
+pub static_one : (p : List Info) (k : Access) (r : FieldRef) (s : Site) (x : FieldAt) (b : Bool) (e : code.Effect) (old new : NumberedFrames) (w u : World) → IsFieldNamed p r s → ResolvesTo p r x → TellsStatic p s b → b ≡ true → Runs p (throwing IncompatibleClassChangeError) e old new w u → Runs p (instance_found k x) e old new w u
+static_one p k r s x b e old new w u is to told holds_so h =
+    along p (instance_found k x) (throwing IncompatibleClassChangeError) e old new w u
+    (cases p k x true old w (static_of p r s x b is to told ∙ holds_so)) h
 
-pub was_put : (p : List Info) (r : FieldRef) (s : Site) (e : code.Effect) (old new : NumberedFrames) (w m u : World) → ResolvesFieldRef p r (Ok s) → Moves p w m (consult (look p) (class_behind r.class)) → m.limits ≡ w.limits → ((x : FieldAt) → ResolvesTo p r x → Runs p (put_found x) e old new m u) → RunsWhole p (put_row p (field_ref_of r)) e old new w u
-was_put p r s e old new w m u is moves limits h =
-    let x = field_here p r s is in
-    found_field p (field_ref_of r) x put_found e old new w m u is.found moves limits (h x is.found)
+-- no object has a slot past 2^31, whatever is done there
+past : (p : List Info) (k : Access) (x : FieldAt) (slot : ℕ) (old : NumberedFrames) (w : World) → IsWorldOf p w → 2 ^ 31 ≤ slot → 2 ^ 31 ≤ x.slot → SameAt p (slot_row k x) (slot_row k (at_slot slot x)) old w
+past p access.Get x slot old w here number high =
+    each old.frame (λ f. AreSame p (getting x w.limits f.room) (getting (at_slot slot x) w.limits f.room) f w)
+    (λ f class v fs m. reads_past p w w.limits v (framed class f) fs f.room slot x here m number high)
+past p access.Put x slot old w here number high =
+    each old.frame (λ f. AreSame p (storing x w.limits f.room) (storing (at_slot slot x) w.limits f.room) f w)
+    (λ f class v fs m. writes_past p w w.limits v (framed class f) fs f.room slot x here m number high)
 
-pub put_lost : (p : List Info) (r : FieldRef) (fault : Fault) (e : code.Effect) (old new : NumberedFrames) (w m u : World) → ResolvesFieldRef p r (Err fault) → Moves p w m (consult (look p) (class_behind r.class)) → m.limits ≡ w.limits → Runs p (throwing fault) e old new m u → RunsWhole p (put_row p (field_ref_of r)) e old new w u
-put_lost p r fault e old new w m u is moves limits h =
-    lost_field p (field_ref_of r) fault put_found e old new w m u is moves limits h
+kind_there : (p : List Info) (r : FieldRef) (s : Site) (x : FieldAt) → IsFieldNamed p r s → ResolvesTo p r x → HasKindAt p s x
+kind_there p r s x is to f there =
+    let one : is.field ≡ f = (let e : Some is.field ≡ Some f = sym is.there ∙ there in cc) in
+    sym (ap (λ (y : FieldAt). y.kind) (found_is p r s x is to)) ∙ ap (λ (g : LinkedField). g.kind) one
 
-abbrev put_by : FieldAt → Bool → RowOf
-put_by x b = λ q room w f fs. if b then throws q w (f ∷ fs) IncompatibleClassChangeError else writes_field q w f fs x
-
-put_cases : (p : List Info) (x : FieldAt) (b : Bool) (old : NumberedFrames) (w : World) (e : x.static ≡ b) → SameAt p (put_found x) (put_by x b) old w
-put_cases p x b old w e =
-    each old.frame (λ f. AreSame p (put_found x w.limits f.room) (put_by x b w.limits f.room) f w)
-    (λ f class v fs m.
-    ap (λ t. if t then throws w.limits v (framed class f ∷ fs) IncompatibleClassChangeError else writes_field w.limits v (framed class f) fs x) e)
-
-pub put_static_one : (p : List Info) (r : FieldRef) (s : Site) (x : FieldAt) (b : Bool) (e : code.Effect) (old new : NumberedFrames) (w u : World) → IsFieldNamed p r s → ResolvesTo p r x → TellsStatic p s b → b ≡ true → Runs p (throwing IncompatibleClassChangeError) e old new w u → Runs p (put_found x) e old new w u
-put_static_one p r s x b e old new w u is to told holds_so h =
-    along p (put_found x) (throwing IncompatibleClassChangeError) e old new w u
-    (put_cases p x true old w (static_of p r s x b is to told ∙ holds_so)) h
-
-pub put_instance : (p : List Info) (r : FieldRef) (s : Site) (x : FieldAt) (b : Bool) (slot : ℕ) (l : code_field.LinkedField) (k : plain.Kind) (e : code.Effect) (old new : NumberedFrames) (w u : World) → k ≡ l.kind → IsWorldOf p w → IsFieldNamed p r s → ResolvesTo p r x → TellsStatic p s b → b ≡ false → ServesFor p r slot → Declares p s (field_of l) → ((y : FieldAt) → y.slot ≡ slot → y.kind ≡ kind_of k → Runs p (storing y) e old new w u) → Runs p (put_found x) e old new w u
-put_instance p r s x b slot l k e old new w u of here is to told fails_so serves there h =
-    let kind : x.kind ≡ kind_of k = kind_of_field p r s x l is to there ∙ ap kind_of (sym of) in
-    along p (put_found x) (storing x) e old new w u
-    (put_cases p x false old w (static_of p r s x b is to told ∙ fails_so))
+pub instance_one : (p : List Info) (k : Access) (r : FieldRef) (s : Site) (x : FieldAt) (b : Bool) (slot : ℕ) (e : code.Effect) (old new : NumberedFrames) (w u : World) → IsWorldOf p w → IsFieldNamed p r s → ResolvesTo p r x → TellsStatic p s b → b ≡ false → ServesFor p r slot → ((y : FieldAt) → y.slot ≡ slot → HasKindAt p s y → Runs p (slot_row k y) e old new w u) → Runs p (instance_found k x) e old new w u
+instance_one p k r s x b slot e old new w u here is to told fails_so serves h =
+    let kind : HasKindAt p s x = kind_there p r s x is to in
+    along p (instance_found k x) (slot_row k x) e old new w u
+    (cases p k x false old w (static_of p r s x b is to told ∙ fails_so))
     (elim (serves x to) [
       | inl same ↦ h x same kind
-      | inr past ↦ along p (storing x) (storing (at_slot slot x)) e old new w u
-          (each old.frame (λ f. AreSame p (storing x w.limits f.room) (storing (at_slot slot x) w.limits f.room) f w)
-          (λ f class v fs m. writes_past p w w.limits v (framed class f) fs f.room slot x here m past.0 past.1))
+      | inr far ↦ along p (slot_row k x) (slot_row k (at_slot slot x)) e old new w u (past p k x slot old w here far.0 far.1)
           (h (at_slot slot x) refl kind)
     ])

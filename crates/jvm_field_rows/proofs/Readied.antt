@@ -23,7 +23,7 @@ use Rattle.jvm_heap_rows.specs.declared.effect.Effect as code
 use Rattle.jvm_heap_rows.specs.Effects.{RowOf, Runs}
 use Rattle.jvm_heap_rows.specs.Rows.{throwing}
 use Rattle.jvm_heap_rows.proofs.Ends.{AreSame, SameAt, each}
-use Rattle.jvm_object_rows.specs.Statics.{IsStaticAt, reading_row, writing_row}
+use Rattle.jvm_object_rows.specs.Statics.{IsStaticAt}
 use Rattle.jvm_unwind.specs.declared.turn.Turn.{Turn}
 use Rattle.jvm_begin.specs.declared.ready.Readied.TheVariants as readied
 use Rattle.jvm_begin.specs.Begins.{StaysOrBegins}
@@ -31,8 +31,10 @@ use Rattle.jvm_link.specs.declared.site.Site.{Site}
 use Rattle.jvm_resolved.specs.References.{IsFieldNamed, ResolvesFieldRef}
 use Rattle.jvm_member_rows.proofs.Wholes.{whole}
 use Rattle.jvm_member_rows.proofs.Resolved.{fielding, field_left, lost_field}
-use Rattle.jvm_field_rows.specs.Rows.{get_static_row, get_static_found, put_static_row, put_static_found, readying}
+use Rattle.jvm_field_rows.specs.Rows.{accessing, static_found, static_row, readying}
 use Rattle.jvm_field_rows.specs.Sites.{Declares, ResolvesTo}
+use Rattle.jvm_field_rows.specs.declared.access.Access.{Access}
+use Rattle.jvm_field_rows.specs.declared.access.Access.TheVariants as access
 use Rattle.jvm_field_rows.specs.Turned.{StaysBeginsOrGoes, TurnsWhole, turn_of}
 use Rattle.jvm_field_rows.proofs.Fielded.{TellsStatic, field_here, kind_of_field, static_of}
 use Rattle.jvm_field_rows.proofs.Slotted.{found_is}
@@ -116,38 +118,14 @@ module _ (p : List Info) (r : FieldRef) (reads : FieldAt → Family → RowOf) w
       let c = family (look p) (name_at p s.class.0) in
       ready_frames p s.class.0 (reads x) e old mid new w m u ready (h x c (static_at_is p r s x place l k of is is.found at there))
 
--- ---- getstatic
+-- ---- the row of an instruction
 
-pub static_got : (p : List Info) (r : FieldRef) (s : Site) (t : Turn) (old new : NumberedFrames) (w m u : World) → ResolvesFieldRef p r (Ok s) → Moves p w m (consult (look p) (class_behind r.class)) → m.limits ≡ w.limits → ((x : FieldAt) → ResolvesTo p r x → TurnsWhole p (get_static_found p x) t old new m u) → TurnsWhole p (get_static_row p (field_ref_of r)) t old new w u
-static_got p r s t old new w m u is moves limits h = row_got p r reading_row s t old new w m u is moves limits h
+by_access : (p : List Info) (k : Access) (r : FieldRef) (t : Turn) (old new : NumberedFrames) (w u : World) → TurnsWhole p (fielding p (field_ref_of r) (found_row p r (accessing k))) t old new w u → TurnsWhole p (static_row p k (field_ref_of r)) t old new w u
+by_access p access.Get r t old new w u h = h
+by_access p access.Put r t old new w u h = h
 
-pub get_lost : (p : List Info) (r : FieldRef) (fault : Fault) (e : code.Effect) (t : Turn) (old new : NumberedFrames) (w m u : World) → ResolvesFieldRef p r (Err fault) → Moves p w m (consult (look p) (class_behind r.class)) → m.limits ≡ w.limits → t ≡ turn_of e → Runs p (throwing fault) e old new m u → TurnsWhole p (get_static_row p (field_ref_of r)) t old new w u
-get_lost p r fault e t old new w m u is moves limits same h = row_lost p r reading_row fault e t old new w m u is moves limits same h
+pub static_got : (p : List Info) (k : Access) (r : FieldRef) (s : Site) (t : Turn) (old new : NumberedFrames) (w m u : World) → ResolvesFieldRef p r (Ok s) → Moves p w m (consult (look p) (class_behind r.class)) → m.limits ≡ w.limits → ((x : FieldAt) → ResolvesTo p r x → TurnsWhole p (static_found p k x) t old new m u) → TurnsWhole p (static_row p k (field_ref_of r)) t old new w u
+static_got p k r s t old new w m u is moves limits h = by_access p k r t old new w u (row_got p r (accessing k) s t old new w m u is moves limits h)
 
-pub get_changed : (p : List Info) (r : FieldRef) (s : Site) (x : FieldAt) (b : Bool) (e : code.Effect) (t : Turn) (old new : NumberedFrames) (w u : World) → IsFieldNamed p r s → ResolvesTo p r x → TellsStatic p s b → b ≡ false → t ≡ turn_of e → Runs p (throwing IncompatibleClassChangeError) e old new w u → TurnsWhole p (get_static_found p x) t old new w u
-get_changed p r s x b e t old new w u is to told fails_so same h = changed p r reading_row s x b is to told e t old new w u fails_so same h
-
-pub get_turned : (p : List Info) (r : FieldRef) (s : Site) (x : FieldAt) (b : Bool) (t : Turn) (old new : NumberedFrames) (w u : World) → IsFieldNamed p r s → ResolvesTo p r x → TellsStatic p s b → b ≡ true → ReadyFor p s.class.0 (readied.Turned t) old new w u → TurnsWhole p (get_static_found p x) t old new w u
-get_turned p r s x b t old new w u is to told holds_so h = turned p r reading_row s x b is to told t old new w u holds_so h
-
-pub get_used : (p : List Info) (r : FieldRef) (s : Site) (x : FieldAt) (b : Bool) (place : ℕ) (l : code_field.LinkedField) (k : plain.Kind) (e : code.Effect) (t : Turn) (old mid new : NumberedFrames) (w m u : World) → k ≡ l.kind → IsFieldNamed p r s → ResolvesTo p r x → TellsStatic p s b → b ≡ true → place ≡ s.place → Declares p s (field_of l) → ReadyFor p s.class.0 readied.Ready old mid w m → m.limits ≡ w.limits → t ≡ turn_of e → ((y : FieldAt) (c : Family) → IsStaticAt p s.class.0 place (kind_of k) y → Runs p (reading_row y c) e mid new m u) → TurnsWhole p (get_static_found p x) t old new w u
-get_used p r s x b place l k e t old mid new w m u of is to told holds_so at there ready limits same h =
-    used p r reading_row s x b is to told place l k e t old mid new w m u of holds_so at there ready limits same h
-
--- ---- putstatic
-
-pub put_got : (p : List Info) (r : FieldRef) (s : Site) (t : Turn) (old new : NumberedFrames) (w m u : World) → ResolvesFieldRef p r (Ok s) → Moves p w m (consult (look p) (class_behind r.class)) → m.limits ≡ w.limits → ((x : FieldAt) → ResolvesTo p r x → TurnsWhole p (put_static_found p x) t old new m u) → TurnsWhole p (put_static_row p (field_ref_of r)) t old new w u
-put_got p r s t old new w m u is moves limits h = row_got p r writing_row s t old new w m u is moves limits h
-
-pub put_lost : (p : List Info) (r : FieldRef) (fault : Fault) (e : code.Effect) (t : Turn) (old new : NumberedFrames) (w m u : World) → ResolvesFieldRef p r (Err fault) → Moves p w m (consult (look p) (class_behind r.class)) → m.limits ≡ w.limits → t ≡ turn_of e → Runs p (throwing fault) e old new m u → TurnsWhole p (put_static_row p (field_ref_of r)) t old new w u
-put_lost p r fault e t old new w m u is moves limits same h = row_lost p r writing_row fault e t old new w m u is moves limits same h
-
-pub put_changed : (p : List Info) (r : FieldRef) (s : Site) (x : FieldAt) (b : Bool) (e : code.Effect) (t : Turn) (old new : NumberedFrames) (w u : World) → IsFieldNamed p r s → ResolvesTo p r x → TellsStatic p s b → b ≡ false → t ≡ turn_of e → Runs p (throwing IncompatibleClassChangeError) e old new w u → TurnsWhole p (put_static_found p x) t old new w u
-put_changed p r s x b e t old new w u is to told fails_so same h = changed p r writing_row s x b is to told e t old new w u fails_so same h
-
-pub put_turned : (p : List Info) (r : FieldRef) (s : Site) (x : FieldAt) (b : Bool) (t : Turn) (old new : NumberedFrames) (w u : World) → IsFieldNamed p r s → ResolvesTo p r x → TellsStatic p s b → b ≡ true → ReadyFor p s.class.0 (readied.Turned t) old new w u → TurnsWhole p (put_static_found p x) t old new w u
-put_turned p r s x b t old new w u is to told holds_so h = turned p r writing_row s x b is to told t old new w u holds_so h
-
-pub put_used : (p : List Info) (r : FieldRef) (s : Site) (x : FieldAt) (b : Bool) (place : ℕ) (l : code_field.LinkedField) (k : plain.Kind) (e : code.Effect) (t : Turn) (old mid new : NumberedFrames) (w m u : World) → k ≡ l.kind → IsFieldNamed p r s → ResolvesTo p r x → TellsStatic p s b → b ≡ true → place ≡ s.place → Declares p s (field_of l) → ReadyFor p s.class.0 readied.Ready old mid w m → m.limits ≡ w.limits → t ≡ turn_of e → ((y : FieldAt) (c : Family) → IsStaticAt p s.class.0 place (kind_of k) y → Runs p (writing_row y c) e mid new m u) → TurnsWhole p (put_static_found p x) t old new w u
-put_used p r s x b place l k e t old mid new w m u of is to told holds_so at there ready limits same h =
-    used p r writing_row s x b is to told place l k e t old mid new w m u of holds_so at there ready limits same h
+pub static_lost : (p : List Info) (k : Access) (r : FieldRef) (fault : Fault) (e : code.Effect) (t : Turn) (old new : NumberedFrames) (w m u : World) → ResolvesFieldRef p r (Err fault) → Moves p w m (consult (look p) (class_behind r.class)) → m.limits ≡ w.limits → t ≡ turn_of e → Runs p (throwing fault) e old new m u → TurnsWhole p (static_row p k (field_ref_of r)) t old new w u
+static_lost p k r fault e t old new w m u is moves limits same h = by_access p k r t old new w u (row_lost p r (accessing k) fault e t old new w m u is moves limits same h)

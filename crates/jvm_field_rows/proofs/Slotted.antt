@@ -18,7 +18,8 @@ use Rattle.jvm_link.specs.Named.{field_named}
 use Rattle.jvm_link.specs.Sites.{node_at}
 use Rattle.jvm_resolved.specs.References.{IsEntry, IsFieldNamed}
 use Rattle.jvm_field_rows.specs.Sites.{ResolvesTo, Serves, ServesIn, ServesFor}
-use Rattle.jvm_field_rows.specs.Slots.{held, Holds, HoldSame, AreSlots}
+use Rattle.jvm_resolved.specs.Holding.{held, Holds, HoldSame}
+use Rattle.jvm_field_rows.specs.Slots.{AreSlots}
 
 -- ---- found
 

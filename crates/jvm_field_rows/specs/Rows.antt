@@ -6,12 +6,16 @@ use Rattle.program_rules.specs.Names.{Name, is_array_name}
 use Rattle.program_rules.specs.Programs.{Family}
 use Rattle.program_rules.specs.Resolution.{FieldAt}
 use Rattle.machine_rules.specs.Effects.{NoRow}
-use Rattle.machine_rules.specs.Fields.{gets_field, puts_field, gets_static, puts_static, instance_at, static_at, reads_field, writes_field, reads_static, writes_static}
+use Rattle.machine_rules.specs.Fields.{gets_field, puts_field, gets_static, puts_static, instance_at, static_at, reads_field, writes_field}
 use Rattle.machine_rules.specs.Initialisation.{when_ready}
 use Rattle.machine_rules.specs.TypeRows.{makes_instance, makes_object}
 use Rattle.class_link.specs.Info.{Info}
 use Rattle.class_table.specs.Table.{look}
 use Rattle.jvm_heap_rows.specs.Effects.{RowOf}
+use Rattle.jvm_heap_rows.specs.Rows.{getting, storing}
+use Rattle.jvm_object_rows.specs.Statics.{reading_row, writing_row}
+use Rattle.jvm_field_rows.specs.declared.access.Access.{Access}
+use Rattle.jvm_field_rows.specs.declared.access.Access.TheVariants as access
 
 -- ---- fields of objects
 
@@ -29,23 +33,41 @@ put_row p r = λ q room w f fs. puts_field (look p) q w f fs r
 abbrev pub put_found : FieldAt → RowOf
 put_found x = λ q room w f fs. instance_at q w f fs (writes_field q w f fs) x
 
+-- The same by the instruction; and what is left of the rows once a slot was found.
+abbrev pub instance_row : List Info → Access → FieldRef → RowOf
+instance_row p access.Get r = get_row p r
+instance_row p access.Put r = put_row p r
+
+abbrev pub instance_found : Access → FieldAt → RowOf
+instance_found access.Get x = get_found x
+instance_found access.Put x = put_found x
+
+abbrev pub slot_row : Access → FieldAt → RowOf
+slot_row access.Get x = getting x
+slot_row access.Put x = storing x
+
 -- ---- static fields
 
--- `getstatic`.
+-- `getstatic` and `putstatic`.
 abbrev pub get_static_row : List Info → FieldRef → RowOf
 get_static_row p r = λ q room w f fs. gets_static (look p) q w f fs room r
 
-abbrev pub get_static_found : List Info → FieldAt → RowOf
-get_static_found p x = λ q room w f fs.
-    static_at (look p) q w f fs (λ y. reads_static f fs room y) x
-
--- `putstatic`.
 abbrev pub put_static_row : List Info → FieldRef → RowOf
 put_static_row p r = λ q room w f fs. puts_static (look p) q w f fs r
 
-abbrev pub put_static_found : List Info → FieldAt → RowOf
-put_static_found p x = λ q room w f fs.
-    static_at (look p) q w f fs (λ y. writes_static f fs y) x
+-- What is left of it once the class of its field is ready.
+abbrev pub accessing : Access → FieldAt → Family → RowOf
+accessing access.Get = reading_row
+accessing access.Put = writing_row
+
+-- The row by the instruction, and what is left of it once its field was found.
+abbrev pub static_row : List Info → Access → FieldRef → RowOf
+static_row p access.Get r = get_static_row p r
+static_row p access.Put r = put_static_row p r
+
+abbrev pub static_found : List Info → Access → FieldAt → RowOf
+static_found p k x = λ q room w f fs.
+    static_at (look p) q w f fs (λ y u c. accessing k y c q room u f fs) x
 
 -- ---- once a class is ready
 

@@ -17,6 +17,10 @@ use Rattle.jvm_link.specs.Sites.{outline_at}
 abbrev pub Declares : List Info → Site → LinkedField → Type 0
 Declares p s f = slice_get (fields_in (outline_at p s.class.0)) s.place ≡ Some f
 
+-- A field of the definitions has the kind of the one that a class declares at a place.
+abbrev pub HasKindAt : List Info → Site → FieldAt → Type 0
+HasKindAt p s x = (f : LinkedField) → Declares p s f → x.kind ≡ f.kind
+
 -- A field of the definitions is the one that a class of the program declares at a place.
 pub record IsFieldAt (p : List Info) (s : Site) (x : FieldAt) : Type 0 where
   pub class : x.class ≡ name_at p s.class.0

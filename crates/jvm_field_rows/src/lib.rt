@@ -2,8 +2,8 @@
 //! the index in the constant pool on.
 #![tactic(auto)]
 
+mod access;
 mod fields;
-mod held;
 mod instances;
 mod layouts;
 mod sites;
@@ -11,9 +11,10 @@ mod slots;
 mod statics;
 mod turning;
 
-pub use fields::{get_field, put_field};
+pub use access::Access;
+pub use fields::access_field;
 pub use instances::make_object;
 pub use layouts::Layouts;
 pub use slots::Slots;
-pub use statics::{get_static, put_static};
+pub use statics::access_static;
 pub use turning::turn_of;

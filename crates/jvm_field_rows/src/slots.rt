@@ -9,12 +9,12 @@ ghost use Rattle.jvm_resolved.specs.References.{IsEntry, IsFieldNamed};
 ghost use Rattle.jvm_field_rows.specs.Sites.{ServesFor, ServesIn};
 ghost use Rattle.jvm_field_rows.specs.Slots.{AreSlots};
 
-use crate::held::{Row, held_at, hold};
 use class_link::FieldRef;
 use class_model::{ClassId, Memory};
 use class_table::Program;
 use jvm_catch::class_behind;
 use jvm_link::Site;
+use jvm_resolved::{Held, held_at, hold};
 use std::alloc::Global;
 use std::marker::Model;
 
@@ -22,7 +22,7 @@ use std::marker::Model;
 /// asked. What is kept depends on the program alone, not on the run.
 #[derive(Drop)]
 pub struct Slots {
-    rows: Vec<Row>,
+    rows: Vec<Held<u32>>,
 }
 
 impl Model for Slots {

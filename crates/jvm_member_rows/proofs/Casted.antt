@@ -28,15 +28,6 @@ use Rattle.jvm_member_rows.proofs.Resolved.{found_class, lost_class}
 
 -- ---- checkcast
 
-abbrev casting : List Info → Name → ℕ → Family → RowOf
-casting p n x c = cast_found_row (look p) n x
-
-pub cast_found : (p : List Info) (n : Name) (x : ℕ) (id : ClassId) (e : code.Effect) (old new : NumberedFrames) (w m u : World) → ResolvesClass p n (Ok id) → Moves p w m (consult (look p) (class_behind n)) → m.limits ≡ w.limits → Runs p (cast_found_row (look p) n x) e old new m u → RunsWhole p (cast_object p n x) e old new w u
-cast_found p n x id e old new w m u is moves limits h = found_class p n id (casting p n x) e old new w m u is moves limits h
-
-pub cast_lost : (p : List Info) (n : Name) (x : ℕ) (fault : Fault) (e : code.Effect) (old new : NumberedFrames) (w m u : World) → ResolvesClass p n (Err fault) → Moves p w m (consult (look p) (class_behind n)) → m.limits ≡ w.limits → Runs p (throwing fault) e old new m u → RunsWhole p (cast_object p n x) e old new w u
-cast_lost p n x fault e old new w m u is moves limits h = lost_class p n fault (casting p n x) e old new w m u is moves limits h
-
 -- What `checkcast` does with a reference.
 abbrev casts_with : List Info → Name → With (Option ℕ)
 casts_with p n = λ q room w f fs o rest. casts_to (look p) q w f fs n o
@@ -60,15 +51,6 @@ cast_null p n o old new w takes is a =
     (each old.frame (AdvancesBy p end 0 w w) (λ f class v fs m. record { world = v; means = m; goes = refl }))))
 
 -- ---- instanceof
-
-abbrev testing : List Info → Name → ℕ → Family → RowOf
-testing p n x c = test_found_row (look p) n x
-
-pub test_found : (p : List Info) (n : Name) (x : ℕ) (id : ClassId) (e : code.Effect) (old new : NumberedFrames) (w m : World) → ResolvesClass p n (Ok id) → Moves p w m (consult (look p) (class_behind n)) → m.limits ≡ w.limits → Runs p (test_found_row (look p) n x) e old new m m → RunsWhole p (test_object p n x) e old new w m
-test_found p n x id e old new w m is moves limits h = found_class p n id (testing p n x) e old new w m m is moves limits h
-
-pub test_lost : (p : List Info) (n : Name) (x : ℕ) (fault : Fault) (e : code.Effect) (old new : NumberedFrames) (w m u : World) → ResolvesClass p n (Err fault) → Moves p w m (consult (look p) (class_behind n)) → m.limits ≡ w.limits → Runs p (throwing fault) e old new m u → RunsWhole p (test_object p n x) e old new w u
-test_lost p n x fault e old new w m u is moves limits h = lost_class p n fault (testing p n x) e old new w m u is moves limits h
 
 -- What `instanceof` does with a reference.
 abbrev tests_with : List Info → Name → With (Option ℕ)

@@ -1,59 +1,23 @@
 //! `checkcast` and `instanceof` (JVMS 6.5). Null passes or is of no class, and then nothing is
 //! resolved.
 
-ghost use Rattle.std.specs.Prelude.{◌+◌, ◌<◌, ◌≤◌, ◌^◌, length, IfOk, IfSome, OnOk};
+ghost use Rattle.std.specs.Prelude.{◌+◌, ◌<◌, ◌^◌, IfOk, IfSome, OnOk};
 ghost use Rattle.class_link.specs.declared.linked.Entry.TheVariants.{Class};
-ghost use Rattle.jvm_frames.specs.Frames.{stack_of};
 ghost use Rattle.jvm_resolved.specs.References.{IsEntry, IsTableOf};
 ghost use Rattle.jvm_world.specs.View.{IsWorldOf, IsKept};
 ghost use Rattle.jvm_member_rows.specs.Whole.{RunsWhole};
-ghost use Rattle.jvm_member_rows.specs.Rows.{cast_whole, cast_object, test_whole, test_object};
+ghost use Rattle.jvm_member_rows.specs.Rows.{cast_whole, test_whole};
 
-use crate::resolving::resolve_class;
+use crate::classes::{Purpose, use_class};
 use class_model::{ClassId, Memory, Name};
 use class_table::Program;
 use jvm_frames::Frames;
-use jvm_heap_rows::{Effect, reference_at, throw};
+use jvm_heap_rows::{Effect, reference_at};
 use jvm_object_rows::put_within;
 use jvm_resolved::References;
 use jvm_type_rows::truth;
 use jvm_world::World;
 use std::alloc::Global;
-
-// `checkcast` of an object.
-#[tactic(auto, using(crate::proofs::Casted::cast_found, crate::proofs::Casted::cast_lost))]
-fn cast_object(
-    frames: &mut Frames,
-    world: &mut World,
-    alloc: Global,
-    p: &Program,
-    references: &mut References,
-    class: ClassId,
-    index: u32,
-    name: &Name,
-    object: u32,
-) -> Result<Effect, Memory>
-    requires world { IsWorldOf p.now world.old }
-    requires table { IsTableOf p.now references.old }
-    requires entry { IsEntry p.now class.0 index (Class name.now) }
-    requires next { IfSome frames.old.frame (λ f. f.at + 1 < 2 ^ 64) }
-    ensures row { IfOk result (λ e. RunsWhole p.now (cast_object p.now name.now object) e
-        frames.old frames.new world.old world.new) }
-    ensures kept { OnOk result (IsKept p.now world.old world.new) }
-    ensures table { IsTableOf p.now references.new }
-{
-    let found = resolve_class(world, p, references, class, index, name)?;
-    match found {
-        Ok(_) => {
-            let done = jvm_type_rows::check_cast(frames, world, alloc, p, name, object)?;
-            Ok(done)
-        }
-        Err(fault) => {
-            let thrown = throw(world, alloc, p, fault)?;
-            Ok(thrown)
-        }
-    }
-}
 
 /// `checkcast` to the class, the interface or the array type at an index of a class's constant
 /// pool.
@@ -82,50 +46,13 @@ pub fn check_cast(
     };
     match reference {
         Some(object) => {
-            let done = cast_object(
-                frames, world, alloc, p, references, class, index, name, object,
-            )?;
+            let how = Purpose::Cast(object);
+            let done = use_class(frames, world, alloc, p, references, class, index, name, how)?;
             Ok(done)
         }
         None => {
             frames.advance(0);
             Ok(Effect::Goes)
-        }
-    }
-}
-
-// `instanceof` of an object.
-#[tactic(auto, using(crate::proofs::Casted::test_found, crate::proofs::Casted::test_lost))]
-fn test_object(
-    frames: &mut Frames,
-    world: &mut World,
-    alloc: Global,
-    p: &Program,
-    references: &mut References,
-    class: ClassId,
-    index: u32,
-    name: &Name,
-    object: u32,
-) -> Result<Effect, Memory>
-    requires world { IsWorldOf p.now world.old }
-    requires table { IsTableOf p.now references.old }
-    requires entry { IsEntry p.now class.0 index (Class name.now) }
-    requires next { IfSome frames.old.frame (λ f. f.at + 1 < 2 ^ 64) }
-    requires there { 1 ≤ length (stack_of frames.old.frame) }
-    ensures row { IfOk result (λ e. RunsWhole p.now (test_object p.now name.now object) e
-        frames.old frames.new world.old world.new) }
-    ensures kept { OnOk result (IsKept p.now world.old world.new) }
-    ensures table { IsTableOf p.now references.new }
-{
-    let found = resolve_class(world, p, references, class, index, name)?;
-    match found {
-        Ok(_) => {
-            let done = jvm_type_rows::test_instance(frames, world, alloc, p, name, object)?;
-            Ok(done)
-        }
-        Err(fault) => {
-            let thrown = throw(world, alloc, p, fault)?;
-            Ok(thrown)
         }
     }
 }
@@ -157,9 +84,8 @@ pub fn test_instance(
     };
     match reference {
         Some(object) => {
-            let done = test_object(
-                frames, world, alloc, p, references, class, index, name, object,
-            )?;
+            let how = Purpose::Test(object);
+            let done = use_class(frames, world, alloc, p, references, class, index, name, how)?;
             Ok(done)
         }
         None => {

@@ -1,4 +1,4 @@
-//! `anewarray`, and `ldc` of a class (JVMS 6.5).
+//! What instructions do with the class that they name (JVMS 6.5).
 
 ghost use Rattle.std.specs.Prelude.{◌≡◌, ◌+◌, ◌<◌, ◌^◌, IfOk, IfSome, OnOk};
 ghost use Rattle.program_rules.specs.Kinds.{OfReference};
@@ -9,14 +9,16 @@ ghost use Rattle.jvm_world.specs.View.{IsWorldOf, IsKept};
 ghost use Rattle.jvm_heap_rows.specs.Effects.{Runs};
 ghost use Rattle.jvm_object_rows.specs.Making.{array_row};
 ghost use Rattle.jvm_member_rows.specs.Whole.{RunsWhole};
-ghost use Rattle.jvm_member_rows.specs.Rows.{array_whole, class_whole};
+ghost use Rattle.jvm_member_rows.specs.Rows.{HasTested, class_row_of, resolved_row};
 
 use crate::resolving::resolve_class;
 use class_model::{ClassId, Kind, Memory, Name};
 use class_table::Program;
 use jvm_frames::Frames;
 use jvm_heap_rows::{Effect, throw};
+use jvm_object_rows::load_class;
 use jvm_resolved::References;
+use jvm_type_rows::{check_cast, test_instance};
 use jvm_world::World;
 use std::alloc::Global;
 
@@ -47,43 +49,59 @@ fn make_references(
     Ok(done)
 }
 
-/// `anewarray` of the class at an index of a class's constant pool.
-#[tactic(auto, using(crate::proofs::Classed::array_made, crate::proofs::Classed::array_lost))]
-pub fn make_array(
+/// What an instruction does with the class that it names, once that is resolved.
+#[derive(Clone, Copy)]
+pub enum Purpose {
+    /// Its object is pushed: `ldc`.
+    Load,
+    /// An array of such elements is made: `anewarray`.
+    MakeArray,
+    /// The object of this number is to be of it: `checkcast`.
+    Cast(u32),
+    /// Whether the object of this number, on the top of the stack, is of it: `instanceof`.
+    Test(u32),
+}
+
+// What is done with a class that is resolved.
+fn use_resolved(
     frames: &mut Frames,
     world: &mut World,
     alloc: Global,
     p: &Program,
-    references: &mut References,
-    class: ClassId,
-    index: u32,
     name: &Name,
+    how: Purpose,
 ) -> Result<Effect, Memory>
     requires world { IsWorldOf p.now world.old }
-    requires table { IsTableOf p.now references.old }
-    requires entry { IsEntry p.now class.0 index (Class name.now) }
     requires next { IfSome frames.old.frame (λ f. f.at + 1 < 2 ^ 64) }
-    ensures row { IfOk result (λ e. RunsWhole p.now (array_whole p.now name.now) e
+    requires there { HasTested how frames.old }
+    ensures row { IfOk result (λ e. Runs p.now (resolved_row p.now name.now how) e
         frames.old frames.new world.old world.new) }
     ensures kept { OnOk result (IsKept p.now world.old world.new) }
-    ensures table { IsTableOf p.now references.new }
 {
-    let found = resolve_class(world, p, references, class, index, name)?;
-    match found {
-        Ok(_) => {
+    match how {
+        Purpose::Load => {
+            let done = load_class(frames, world, alloc, p, name)?;
+            Ok(done)
+        }
+        Purpose::MakeArray => {
             let done = make_references(frames, world, alloc, p, name)?;
             Ok(done)
         }
-        Err(fault) => {
-            let thrown = throw(world, alloc, p, fault)?;
-            Ok(thrown)
+        Purpose::Cast(object) => {
+            let done = check_cast(frames, world, alloc, p, name, object)?;
+            Ok(done)
+        }
+        Purpose::Test(object) => {
+            let done = test_instance(frames, world, alloc, p, name, object)?;
+            Ok(done)
         }
     }
 }
 
-/// `ldc` of the class or the array type at an index of a class's constant pool.
-#[tactic(auto, using(crate::proofs::Classed::class_loaded, crate::proofs::Classed::class_lost))]
-pub fn load_class(
+/// What is done with the class, the interface or the array type at an index of a class's constant
+/// pool: `ldc`, `anewarray`, and `checkcast` and `instanceof` of an object.
+#[tactic(auto, using(crate::proofs::Classed::class_used, crate::proofs::Classed::class_lost))]
+pub fn use_class(
     frames: &mut Frames,
     world: &mut World,
     alloc: Global,
@@ -92,12 +110,14 @@ pub fn load_class(
     class: ClassId,
     index: u32,
     name: &Name,
+    how: Purpose,
 ) -> Result<Effect, Memory>
     requires world { IsWorldOf p.now world.old }
     requires table { IsTableOf p.now references.old }
     requires entry { IsEntry p.now class.0 index (Class name.now) }
     requires next { IfSome frames.old.frame (λ f. f.at + 1 < 2 ^ 64) }
-    ensures row { IfOk result (λ e. RunsWhole p.now (class_whole p.now name.now) e
+    requires there { HasTested how frames.old }
+    ensures row { IfOk result (λ e. RunsWhole p.now (class_row_of p.now name.now how) e
         frames.old frames.new world.old world.new) }
     ensures kept { OnOk result (IsKept p.now world.old world.new) }
     ensures table { IsTableOf p.now references.new }
@@ -105,7 +125,7 @@ pub fn load_class(
     let found = resolve_class(world, p, references, class, index, name)?;
     match found {
         Ok(_) => {
-            let done = jvm_object_rows::load_class(frames, world, alloc, p, name)?;
+            let done = use_resolved(frames, world, alloc, p, name, how)?;
             Ok(done)
         }
         Err(fault) => {

@@ -7,5 +7,5 @@ mod classes;
 mod resolving;
 
 pub use casts::{check_cast, test_instance};
-pub use classes::{load_class, make_array};
+pub use classes::{Purpose, use_class};
 pub use resolving::{resolve_class, resolve_field};

@@ -5,3 +5,4 @@ mod Finding
 mod Absent
 mod VirtualCalls
 mod Instances
+mod Rows

@@ -2,3 +2,4 @@ pub mod Targets
 pub mod Objects
 pub mod Receivers
 pub mod Selected
+pub mod Kinds

@@ -1,36 +1,32 @@
 //! `invokeinterface` (JVMS 6.5).
 
-ghost use Rattle.std.specs.Prelude.{◌≡◌, ◌<◌, ◌||◌, length, true, false, IfOk, IfSome, OnOk};
-ghost use Rattle.program_rules.specs.Linked.{is_private, is_static};
+ghost use Rattle.std.specs.Prelude.{◌≡◌, ◌<◌, length, true, false, IfOk, IfSome, OnOk};
 ghost use Rattle.program_rules.specs.Names.{is_array_name, is_listed};
 ghost use Rattle.program_rules.specs.Objects.{ObjectKind};
 ghost use Rattle.program_rules.specs.Programs.{supers};
-ghost use Rattle.program_rules.specs.Resolution.{MethodAt};
 ghost use Rattle.program_rules.specs.Selection.{select_named};
 ghost use Rattle.class_link.specs.View.{method_ref_of};
 ghost use Rattle.class_link.specs.declared.linked.Entry.TheVariants.{Method as MethodEntry};
 ghost use Rattle.class_table.specs.Table.{look, name_at};
 ghost use Rattle.jvm_frames.specs.Frames.{HasWords};
-ghost use Rattle.jvm_link.specs.Answers.{AnswersCall, IsCallee};
+ghost use Rattle.jvm_link.specs.Answers.{AnswersCall};
 ghost use Rattle.jvm_resolved.specs.References.{IsEntry};
 ghost use Rattle.jvm_type_rows.specs.Instances.{is_kind_within};
 ghost use Rattle.jvm_world.specs.View.{IsWorldOf, IsKept, kind_in};
-ghost use Rattle.jvm_invokes.specs.Calls.{IsThere};
 ghost use Rattle.jvm_invokes.specs.Invoked.{Invokes, StaysOrEnters};
 ghost use Rattle.jvm_receivers.specs.Objects.{AreLookups, FindsReceiver, SelectsFor, interface_in, methods_in};
-ghost use Rattle.jvm_receivers.specs.Receivers.{interface_found, interface_of, interface_on, interface_row};
-ghost use Rattle.jvm_receivers.specs.Targets.{receiving, received};
+ghost use Rattle.jvm_receivers.specs.Receivers.{interface_of, interface_on};
+ghost use Rattle.jvm_receivers.specs.Targets.{received};
 
 use crate::lookups::Lookups;
 use crate::receivers::receiver_of;
-use crate::selected::{call_answered, flags_of};
-use crate::targets::{Taken, take_target};
+use crate::selected::call_answered;
 use class_link::MethodRef;
 use class_model::{ClassId, Memory};
 use class_table::Program;
 use jvm_catch::is_array_name;
 use jvm_frames::{Args, Frames};
-use jvm_invokes::{Invoked, is_private, is_static, resolve, throw};
+use jvm_invokes::Invoked;
 use jvm_link::Callee;
 use jvm_resolved::Receiver;
 use jvm_type_rows::is_kind_within;
@@ -189,9 +185,9 @@ fn select(
     }
 }
 
-// What an object selects is called on it, if it is of the interface.
+/// What an object selects is called on it, if it is of the interface.
 #[tactic(auto, using(jvm_invokes::proofs::Standing::stays))]
-fn call_on(
+pub fn call_interface(
     frames: &mut Frames,
     world: &mut World,
     alloc: Global,
@@ -217,117 +213,4 @@ fn call_on(
     let selected = select(alloc, world, p, lookups, class, index, reference, object)?;
     let done = call_answered(frames, world, alloc, p, selected, args)?;
     Ok(done)
-}
-
-// A method that is neither static nor private is called on the object below the arguments.
-#[tactic(auto, using(jvm_invokes::proofs::Standing::stays))]
-fn call_target(
-    frames: &mut Frames,
-    world: &mut World,
-    alloc: Global,
-    p: &Program,
-    lookups: &mut Lookups,
-    class: ClassId,
-    index: u32,
-    reference: &MethodRef,
-) -> Result<Invoked, Memory>
-    requires world { IsWorldOf p.now world.old }
-    requires lookups { AreLookups p.now lookups.old }
-    requires entry { IsEntry p.now class.0 index (MethodEntry reference.now) }
-    ensures row { IfOk result (λ t. Invokes p.now (method_ref_of reference.now)
-        (receiving (method_ref_of reference.now)
-        (interface_on p.now (method_ref_of reference.now))) t
-        frames.old frames.new world.old world.new) }
-    ensures frames { OnOk result (StaysOrEnters p.now frames.old frames.new) }
-    ensures kept { OnOk result (IsKept p.now world.old world.new) }
-    ensures lookups { AreLookups p.now lookups.new }
-{
-    let taken = take_target(frames, world, alloc, p, reference)?;
-    match taken {
-        Taken::Done(done) => Ok(done),
-        Taken::On(object, args) => {
-            let done = call_on(
-                frames, world, alloc, p, lookups, class, index, reference, object, args,
-            )?;
-            Ok(done)
-        }
-    }
-}
-
-// Whether `invokeinterface` of a method with these flags throws: it is static or private.
-fn is_barred(flags: u16) -> bool
-    ensures { result ≡ (is_static flags || is_private flags) }
-{
-    is_static(flags) || is_private(flags)
-}
-
-// What an object selects is called, if the resolved method is neither static nor private.
-#[tactic(auto, using(jvm_invokes::proofs::Standing::stays))]
-fn call_interface(
-    frames: &mut Frames,
-    world: &mut World,
-    alloc: Global,
-    p: &Program,
-    lookups: &mut Lookups,
-    class: ClassId,
-    index: u32,
-    reference: &MethodRef,
-    callee: Callee,
-) -> Result<Invoked, Memory>
-    requires world { IsWorldOf p.now world.old }
-    requires lookups { AreLookups p.now lookups.old }
-    requires entry { IsEntry p.now class.0 index (MethodEntry reference.now) }
-    requires callee { IsThere p.now callee }
-    ensures row { IfOk result (λ t. (m : MethodAt) → IsCallee p.now m callee →
-        Invokes p.now (method_ref_of reference.now)
-        (interface_found p.now (method_ref_of reference.now) m) t
-        frames.old frames.new world.old world.new) }
-    ensures frames { OnOk result (StaysOrEnters p.now frames.old frames.new) }
-    ensures kept { OnOk result (IsKept p.now world.old world.new) }
-    ensures lookups { AreLookups p.now lookups.new }
-{
-    let flags = flags_of(p, callee);
-    if is_barred(flags) {
-        let thrown = throw(world, alloc, p, Fault::IncompatibleClassChangeError)?;
-        return Ok(thrown);
-    }
-    let done = call_target(frames, world, alloc, p, lookups, class, index, reference)?;
-    Ok(done)
-}
-
-/// `invokeinterface` of the reference at an index of a class's constant pool.
-#[tactic(auto, using(jvm_invokes::proofs::StaticCalls::there_by, jvm_invokes::proofs::Standing::stays))]
-pub fn invoke_interface(
-    frames: &mut Frames,
-    world: &mut World,
-    alloc: Global,
-    p: &Program,
-    lookups: &mut Lookups,
-    class: ClassId,
-    index: u32,
-    reference: &MethodRef,
-) -> Result<Invoked, Memory>
-    requires world { IsWorldOf p.now world.old }
-    requires lookups { AreLookups p.now lookups.old }
-    requires entry { IsEntry p.now class.0 index (MethodEntry reference.now) }
-    ensures row { IfOk result (λ t. Invokes p.now (method_ref_of reference.now)
-        (interface_row p.now (method_ref_of reference.now)) t
-        frames.old frames.new world.old world.new) }
-    ensures frames { OnOk result (StaysOrEnters p.now frames.old frames.new) }
-    ensures kept { OnOk result (IsKept p.now world.old world.new) }
-    ensures lookups { AreLookups p.now lookups.new }
-{
-    let found = resolve(world, p, &mut lookups.references, class, index, reference)?;
-    match found {
-        Ok(callee) => {
-            let done = call_interface(
-                frames, world, alloc, p, lookups, class, index, reference, callee,
-            )?;
-            Ok(done)
-        }
-        Err(fault) => {
-            let thrown = throw(world, alloc, p, fault)?;
-            Ok(thrown)
-        }
-    }
 }

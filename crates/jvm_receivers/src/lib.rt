@@ -3,6 +3,7 @@
 #![tactic(auto)]
 
 mod interfaces;
+mod invoking;
 mod lookups;
 mod receivers;
 mod selected;
@@ -10,8 +11,6 @@ mod special;
 mod targets;
 mod virtuals;
 
-pub use interfaces::invoke_interface;
+pub use invoking::{Invocation, invoke_on};
 pub use lookups::Lookups;
-pub use special::invoke_special;
 pub use targets::{Taken, Target, take_target, target_at};
-pub use virtuals::invoke_virtual;

@@ -16,23 +16,21 @@ ghost use Rattle.jvm_world.specs.View.{IsWorldOf, IsKept};
 ghost use Rattle.jvm_invokes.specs.Calls.{IsThere};
 ghost use Rattle.jvm_invokes.specs.Invoked.{Invokes, StaysOrEnters};
 ghost use Rattle.jvm_receivers.specs.Objects.{AreLookups};
-ghost use Rattle.jvm_receivers.specs.Receivers.{RunsIn, is_own, special_above, special_found, special_looking, special_on, special_row};
-ghost use Rattle.jvm_receivers.specs.Targets.{receiving, received};
+ghost use Rattle.jvm_receivers.specs.Receivers.{RunsIn, is_own, special_above, special_looking, special_on};
+ghost use Rattle.jvm_receivers.specs.Targets.{received};
 
 use crate::lookups::Lookups;
-use crate::selected::{call_selected, flags_of};
-use crate::targets::{Taken, take_target};
+use crate::selected::call_selected;
 use class_family::superclass;
 use class_link::{MethodRef, Shared};
 use class_model::{ClassId, Memory, Name};
 use class_table::Program;
 use jvm_frames::{Args, Frames};
-use jvm_invokes::{Invoked, call_found, is_static, resolve, throw};
+use jvm_invokes::{Invoked, call_found};
 use jvm_link::Callee;
 use jvm_resolved::Receiver;
 use jvm_unwind::Turn;
 use jvm_world::World;
-use program_rules::Fault;
 use std::alloc::Global;
 
 // `<init>`, the name of instance initializers (JVMS 2.9.1).
@@ -166,9 +164,9 @@ fn call_looked(
     Ok(done)
 }
 
-// A method that was found is called on an object.
+/// A method that was found is called on an object.
 #[tactic(auto, using(jvm_invokes::proofs::Standing::stays))]
-fn call_on(
+pub fn call_special(
     frames: &mut Frames,
     world: &mut World,
     alloc: Global,
@@ -203,122 +201,4 @@ fn call_on(
         frames, world, alloc, p, lookups, class, index, reference, callee, args,
     )?;
     Ok(done)
-}
-
-// A method that isn't static is called on the object below the arguments.
-#[tactic(auto, using(jvm_invokes::proofs::Standing::stays))]
-fn call_target(
-    frames: &mut Frames,
-    world: &mut World,
-    alloc: Global,
-    p: &Program,
-    lookups: &mut Lookups,
-    class: ClassId,
-    index: u32,
-    reference: &MethodRef,
-    callee: Callee,
-) -> Result<Invoked, Memory>
-    requires world { IsWorldOf p.now world.old }
-    requires lookups { AreLookups p.now lookups.old }
-    requires entry { IsEntry p.now class.0 index (MethodEntry reference.now) }
-    requires class { class.0 < length p.now }
-    requires runs { RunsIn class.0 frames.old }
-    requires callee { IsThere p.now callee }
-    ensures row { IfOk result (λ t. (m : MethodAt) → IsCallee p.now m callee →
-        Invokes p.now (method_ref_of reference.now)
-        (receiving (method_ref_of reference.now)
-        (special_on p.now (method_ref_of reference.now) m)) t
-        frames.old frames.new world.old world.new) }
-    ensures frames { OnOk result (StaysOrEnters p.now frames.old frames.new) }
-    ensures kept { OnOk result (IsKept p.now world.old world.new) }
-    ensures lookups { AreLookups p.now lookups.new }
-{
-    let taken = take_target(frames, world, alloc, p, reference)?;
-    match taken {
-        Taken::Done(done) => Ok(done),
-        Taken::On(_, args) => {
-            let done = call_on(
-                frames, world, alloc, p, lookups, class, index, reference, callee, args,
-            )?;
-            Ok(done)
-        }
-    }
-}
-
-// A method that was found is called, if it isn't static.
-#[tactic(auto, using(jvm_invokes::proofs::Standing::stays))]
-fn call_special(
-    frames: &mut Frames,
-    world: &mut World,
-    alloc: Global,
-    p: &Program,
-    lookups: &mut Lookups,
-    class: ClassId,
-    index: u32,
-    reference: &MethodRef,
-    callee: Callee,
-) -> Result<Invoked, Memory>
-    requires world { IsWorldOf p.now world.old }
-    requires lookups { AreLookups p.now lookups.old }
-    requires entry { IsEntry p.now class.0 index (MethodEntry reference.now) }
-    requires class { class.0 < length p.now }
-    requires runs { RunsIn class.0 frames.old }
-    requires callee { IsThere p.now callee }
-    ensures row { IfOk result (λ t. (m : MethodAt) → IsCallee p.now m callee →
-        Invokes p.now (method_ref_of reference.now)
-        (special_found p.now (method_ref_of reference.now) m) t
-        frames.old frames.new world.old world.new) }
-    ensures frames { OnOk result (StaysOrEnters p.now frames.old frames.new) }
-    ensures kept { OnOk result (IsKept p.now world.old world.new) }
-    ensures lookups { AreLookups p.now lookups.new }
-{
-    let flags = flags_of(p, callee);
-    if is_static(flags) {
-        let thrown = throw(world, alloc, p, Fault::IncompatibleClassChangeError)?;
-        return Ok(thrown);
-    }
-    let done = call_target(
-        frames, world, alloc, p, lookups, class, index, reference, callee,
-    )?;
-    Ok(done)
-}
-
-/// `invokespecial` of the reference at an index of the constant pool of the class whose method
-/// runs.
-#[tactic(auto, using(jvm_invokes::proofs::StaticCalls::there_by, jvm_invokes::proofs::Standing::stays))]
-pub fn invoke_special(
-    frames: &mut Frames,
-    world: &mut World,
-    alloc: Global,
-    p: &Program,
-    lookups: &mut Lookups,
-    class: ClassId,
-    index: u32,
-    reference: &MethodRef,
-) -> Result<Invoked, Memory>
-    requires world { IsWorldOf p.now world.old }
-    requires lookups { AreLookups p.now lookups.old }
-    requires entry { IsEntry p.now class.0 index (MethodEntry reference.now) }
-    requires class { class.0 < length p.now }
-    requires runs { RunsIn class.0 frames.old }
-    ensures row { IfOk result (λ t. Invokes p.now (method_ref_of reference.now)
-        (special_row p.now (method_ref_of reference.now)) t
-        frames.old frames.new world.old world.new) }
-    ensures frames { OnOk result (StaysOrEnters p.now frames.old frames.new) }
-    ensures kept { OnOk result (IsKept p.now world.old world.new) }
-    ensures lookups { AreLookups p.now lookups.new }
-{
-    let found = resolve(world, p, &mut lookups.references, class, index, reference)?;
-    match found {
-        Ok(callee) => {
-            let done = call_special(
-                frames, world, alloc, p, lookups, class, index, reference, callee,
-            )?;
-            Ok(done)
-        }
-        Err(fault) => {
-            let thrown = throw(world, alloc, p, fault)?;
-            Ok(thrown)
-        }
-    }
 }

@@ -16,19 +16,18 @@ ghost use Rattle.jvm_world.specs.View.{IsWorldOf, IsKept};
 ghost use Rattle.jvm_invokes.specs.Calls.{IsThere};
 ghost use Rattle.jvm_invokes.specs.Invoked.{Invokes, StaysOrEnters};
 ghost use Rattle.jvm_receivers.specs.Objects.{AreLookups, FindsReceiver, SelectsFor, methods_in};
-ghost use Rattle.jvm_receivers.specs.Receivers.{selecting_on, virtual_found, virtual_of, virtual_row};
+ghost use Rattle.jvm_receivers.specs.Receivers.{selecting_on, virtual_of};
 ghost use Rattle.jvm_receivers.specs.Selected.{own_or_none};
-ghost use Rattle.jvm_receivers.specs.Targets.{receiving, received};
+ghost use Rattle.jvm_receivers.specs.Targets.{received};
 
 use crate::lookups::Lookups;
 use crate::receivers::receiver_of;
-use crate::selected::{call_answered, flags_of, is_fixed};
-use crate::targets::{Taken, take_target};
+use crate::selected::{call_answered, is_fixed};
 use class_link::MethodRef;
 use class_model::{ClassId, Memory};
 use class_table::Program;
 use jvm_frames::{Args, Frames};
-use jvm_invokes::{Invoked, is_static, resolve, throw};
+use jvm_invokes::Invoked;
 use jvm_link::Callee;
 use jvm_resolved::Receiver;
 use jvm_world::World;
@@ -111,9 +110,9 @@ fn select(
     }
 }
 
-// What an object selects of the resolved method is called on it.
+/// What an object selects of the resolved method is called on it.
 #[tactic(auto, using(jvm_invokes::proofs::Standing::stays))]
-fn call_on(
+pub fn call_virtual(
     frames: &mut Frames,
     world: &mut World,
     alloc: Global,
@@ -147,119 +146,4 @@ fn call_on(
     )?;
     let done = call_answered(frames, world, alloc, p, selected, args)?;
     Ok(done)
-}
-
-// A method that isn't static is called on the object below the arguments.
-#[tactic(auto, using(jvm_invokes::proofs::Standing::stays))]
-fn call_target(
-    frames: &mut Frames,
-    world: &mut World,
-    alloc: Global,
-    p: &Program,
-    lookups: &mut Lookups,
-    class: ClassId,
-    index: u32,
-    reference: &MethodRef,
-    callee: Callee,
-) -> Result<Invoked, Memory>
-    requires world { IsWorldOf p.now world.old }
-    requires lookups { AreLookups p.now lookups.old }
-    requires entry { IsEntry p.now class.0 index (MethodEntry reference.now) }
-    requires resolved { ResolvesMethodRef p.now reference.now (Ok callee) }
-    requires callee { IsThere p.now callee }
-    ensures row { IfOk result (λ t. (m : MethodAt) → IsCallee p.now m callee →
-        method_named (look p.now) (method_ref_of reference.now) ≡ Found m →
-        Invokes p.now (method_ref_of reference.now)
-        (receiving (method_ref_of reference.now)
-        (selecting_on p.now (virtual_of (method_ref_of reference.now) m))) t
-        frames.old frames.new world.old world.new) }
-    ensures frames { OnOk result (StaysOrEnters p.now frames.old frames.new) }
-    ensures kept { OnOk result (IsKept p.now world.old world.new) }
-    ensures lookups { AreLookups p.now lookups.new }
-{
-    let taken = take_target(frames, world, alloc, p, reference)?;
-    match taken {
-        Taken::Done(done) => Ok(done),
-        Taken::On(object, args) => {
-            let done = call_on(
-                frames, world, alloc, p, lookups, class, index, reference, callee, object, args,
-            )?;
-            Ok(done)
-        }
-    }
-}
-
-// What the resolved method selects is called, if that isn't static.
-#[tactic(auto, using(jvm_invokes::proofs::Standing::stays))]
-fn call_virtual(
-    frames: &mut Frames,
-    world: &mut World,
-    alloc: Global,
-    p: &Program,
-    lookups: &mut Lookups,
-    class: ClassId,
-    index: u32,
-    reference: &MethodRef,
-    callee: Callee,
-) -> Result<Invoked, Memory>
-    requires world { IsWorldOf p.now world.old }
-    requires lookups { AreLookups p.now lookups.old }
-    requires entry { IsEntry p.now class.0 index (MethodEntry reference.now) }
-    requires resolved { ResolvesMethodRef p.now reference.now (Ok callee) }
-    requires callee { IsThere p.now callee }
-    ensures row { IfOk result (λ t. (m : MethodAt) → IsCallee p.now m callee →
-        method_named (look p.now) (method_ref_of reference.now) ≡ Found m →
-        Invokes p.now (method_ref_of reference.now)
-        (virtual_found p.now (method_ref_of reference.now) m) t
-        frames.old frames.new world.old world.new) }
-    ensures frames { OnOk result (StaysOrEnters p.now frames.old frames.new) }
-    ensures kept { OnOk result (IsKept p.now world.old world.new) }
-    ensures lookups { AreLookups p.now lookups.new }
-{
-    let flags = flags_of(p, callee);
-    if is_static(flags) {
-        let thrown = throw(world, alloc, p, Fault::IncompatibleClassChangeError)?;
-        return Ok(thrown);
-    }
-    let done = call_target(
-        frames, world, alloc, p, lookups, class, index, reference, callee,
-    )?;
-    Ok(done)
-}
-
-/// `invokevirtual` of the reference at an index of a class's constant pool.
-#[tactic(auto, using(jvm_invokes::proofs::StaticCalls::there_by, jvm_invokes::proofs::Standing::stays))]
-pub fn invoke_virtual(
-    frames: &mut Frames,
-    world: &mut World,
-    alloc: Global,
-    p: &Program,
-    lookups: &mut Lookups,
-    class: ClassId,
-    index: u32,
-    reference: &MethodRef,
-) -> Result<Invoked, Memory>
-    requires world { IsWorldOf p.now world.old }
-    requires lookups { AreLookups p.now lookups.old }
-    requires entry { IsEntry p.now class.0 index (MethodEntry reference.now) }
-    ensures row { IfOk result (λ t. Invokes p.now (method_ref_of reference.now)
-        (virtual_row p.now (method_ref_of reference.now)) t
-        frames.old frames.new world.old world.new) }
-    ensures frames { OnOk result (StaysOrEnters p.now frames.old frames.new) }
-    ensures kept { OnOk result (IsKept p.now world.old world.new) }
-    ensures lookups { AreLookups p.now lookups.new }
-{
-    let found = resolve(world, p, &mut lookups.references, class, index, reference)?;
-    match found {
-        Ok(callee) => {
-            let done = call_virtual(
-                frames, world, alloc, p, lookups, class, index, reference, callee,
-            )?;
-            Ok(done)
-        }
-        Err(fault) => {
-            let thrown = throw(world, alloc, p, fault)?;
-            Ok(thrown)
-        }
-    }
 }

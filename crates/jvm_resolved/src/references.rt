@@ -7,7 +7,8 @@ ghost use Rattle.class_table.specs.Seen.{IsConsultedOf};
 ghost use Rattle.jvm_link.specs.Named.{Consults, ResolvesClass};
 ghost use Rattle.jvm_resolved.specs.References.{IsEntry, IsTableOf, KeepsClass, KeepsField, KeepsMethod, ResolvesFieldRef, ResolvesMethodRef};
 
-use crate::rows::{Kept, Row, keep, kept_at};
+use crate::held::{Held, held_at};
+use crate::rows::{Kept, keep};
 use crate::search::{class_of, consult, resolve_field, resolve_method};
 use class_link::{FieldRef, MethodRef};
 use class_model::{ClassId, Memory, Name};
@@ -21,15 +22,15 @@ use std::marker::Model;
 /// depends on the program alone, not on the run.
 #[derive(Drop)]
 pub struct References {
-    rows: Vec<Row>,
+    rows: Vec<Held<Kept>>,
     searching: Search,
 }
 
 impl Model for References {
     ghost use Rattle.std.specs.Prelude.{List, Option};
-    ghost use Rattle.jvm_resolved.specs.declared.rows.Kept.{Kept as Held};
+    ghost use Rattle.jvm_resolved.specs.declared.rows.Kept.{Kept as KeptItem};
 
-    ghost Value = { List (List (Option Held)) };
+    ghost Value = { List (List (Option KeptItem)) };
 
     ghost view = { λ t. t.rows.items };
 }
@@ -51,7 +52,7 @@ impl References {
     fn kept_class(&self, class: ClassId, index: u32) -> Option<ClassId>
         ensures { IfSome result (λ id. KeepsClass self.now class.0 index id) }
     {
-        match kept_at(&self.rows, class, index) {
+        match held_at(&self.rows, class, index) {
             Some(Kept::Class(id)) => Some(id),
             _ => None,
         }
@@ -62,7 +63,7 @@ impl References {
     fn kept_field(&self, class: ClassId, index: u32) -> Option<(ClassId, Result<Site, Fault>)>
         ensures { IfSome result (λ k. KeepsField self.now class.0 index k.0 k.1) }
     {
-        match kept_at(&self.rows, class, index) {
+        match held_at(&self.rows, class, index) {
             Some(Kept::Field(id, answer)) => Some((id, answer)),
             _ => None,
         }
@@ -73,7 +74,7 @@ impl References {
     fn kept_method(&self, class: ClassId, index: u32) -> Option<(ClassId, Result<Callee, Fault>)>
         ensures { IfSome result (λ k. KeepsMethod self.now class.0 index k.0 k.1) }
     {
-        match kept_at(&self.rows, class, index) {
+        match held_at(&self.rows, class, index) {
             Some(Kept::Method(id, answer)) => Some((id, answer)),
             _ => None,
         }

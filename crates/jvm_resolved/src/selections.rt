@@ -7,7 +7,8 @@ ghost use Rattle.program_rules.specs.Resolution.{same_bool};
 ghost use Rattle.jvm_resolved.specs.References.{IsEntry, IsTableOf, KeepsNamed, KeepsVirtual, ResolvesMethodRef};
 ghost use Rattle.jvm_resolved.specs.Selecting.{SelectsByName, SelectsVirtual, same_receiver};
 
-use crate::rows::{Kept, Receiver, Row, keep, kept_at};
+use crate::held::{Held, held_at};
+use crate::rows::{Kept, Receiver, keep};
 use class_link::MethodRef;
 use class_model::{ClassId, Memory};
 use class_table::Program;
@@ -20,15 +21,15 @@ use std::marker::Model;
 /// the last object selected there. What is kept depends on the program alone, not on the run.
 #[derive(Drop)]
 pub struct Selections {
-    rows: Vec<Row>,
+    rows: Vec<Held<Kept>>,
     searching: Search,
 }
 
 impl Model for Selections {
     ghost use Rattle.std.specs.Prelude.{List, Option};
-    ghost use Rattle.jvm_resolved.specs.declared.rows.Kept.{Kept as Held};
+    ghost use Rattle.jvm_resolved.specs.declared.rows.Kept.{Kept as KeptItem};
 
-    ghost Value = { List (List (Option Held)) };
+    ghost Value = { List (List (Option KeptItem)) };
 
     ghost view = { λ t. t.rows.items };
 }
@@ -102,7 +103,7 @@ impl Selections {
     ) -> Option<Result<Callee, Fault>>
         ensures { IfSome result (λ a. KeepsVirtual self.now class.0 index to a) }
     {
-        match kept_at(&self.rows, class, index) {
+        match held_at(&self.rows, class, index) {
             Some(Kept::Virtual(of, answer)) => {
                 if are_alike(of, to) {
                     Some(answer)
@@ -119,7 +120,7 @@ impl Selections {
     fn kept_named(&self, class: ClassId, index: u32, to: Receiver) -> Option<Result<Callee, Fault>>
         ensures { IfSome result (λ a. KeepsNamed self.now class.0 index to a) }
     {
-        match kept_at(&self.rows, class, index) {
+        match held_at(&self.rows, class, index) {
             Some(Kept::Named(of, answer)) => {
                 if are_alike(of, to) {
                     Some(answer)

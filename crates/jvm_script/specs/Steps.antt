@@ -18,7 +18,8 @@ use Rattle.machine_rules.specs.Initialisation.{when_ready}
 use Rattle.machine_rules.specs.NewObjects.{new_object}
 use Rattle.machine_rules.specs.Script.{needs_static, calls_next}
 use Rattle.class_link.specs.Info.{Info}
-use Rattle.class_table.specs.Table.{look}
+use Rattle.program_rules.specs.Programs.{family}
+use Rattle.class_table.specs.Table.{look, name_at}
 use Rattle.class_family.specs.Families.{rising_at}
 use Rattle.jvm_frames.specs.Frames.{NumberedFrames, first_frame}
 use Rattle.jvm_world.specs.declared.world.World.{World}
@@ -28,6 +29,8 @@ use Rattle.jvm_begin.specs.Needs.{Use}
 use Rattle.jvm_link.specs.declared.site.Site.{Site}
 use Rattle.jvm_link.specs.Sites.{IsMethod}
 use Rattle.jvm_act.specs.Turned.{TurnedTo}
+use Rattle.jvm_script.specs.declared.calling.ClassUse.{ClassUse}
+use Rattle.jvm_script.specs.declared.calling.ClassUse.TheVariants as how
 
 -- What a step does to a world where no frame runs, within the limits of a run.
 abbrev pub Step : Type 0
@@ -75,6 +78,15 @@ abbrev pub makes : MethodAt → Limits → Use
 makes m q = λ v d.
     unless_full v [] (allocate q v (new_object m.class d.rising) (words_of d.rising))
     (with_made m q)
+
+-- What a call does with a class that is ready.
+abbrev pub uses : ClassUse → MethodAt → Limits → Use
+uses how.CallStatic m = calls_static m
+uses how.MakeInstance m = makes m
+
+-- The same of the class of a site.
+abbrev pub uses_ready : List Info → Site → ClassUse → MethodAt → Step
+uses_ready p s k m = λ q v. uses k m q v (family (look p) (name_at p s.class.0))
 
 -- The class of a method is used, once it is ready.
 abbrev pub readies : List Info → (MethodAt → Limits → Use) → MethodAt → Step

@@ -9,7 +9,7 @@ ghost use Rattle.class_table.specs.Table.{look};
 ghost use Rattle.jvm_begin.specs.Begins.{AreWhole, StaysOrBegins};
 ghost use Rattle.jvm_invokes.specs.Calls.{IsSite};
 ghost use Rattle.jvm_world.specs.View.{IsWorldOf, IsKept};
-ghost use Rattle.jvm_script.specs.Steps.{StepsAt, calls_by, calls_fit, calls_on, calls_static, makes, readies};
+ghost use Rattle.jvm_script.specs.Steps.{StepsAt, calls_by, calls_fit, calls_on, readies, uses, uses_ready};
 
 use crate::entering::enter;
 use crate::making::make;
@@ -73,52 +73,56 @@ fn call_on_instance(
     }
 }
 
-// A static method is called, once its class is ready.
-#[tactic(auto, using(crate::proofs::Readied::ready_used, crate::proofs::Readied::ready_turned, crate::proofs::Readied::ready_same, crate::proofs::Readied::none_still, crate::proofs::Readied::whole_still, crate::proofs::Readied::begins_still))]
-fn call_class(
+/// What a call of the script does with a class, once that is ready.
+#[derive(Clone, Copy)]
+pub enum ClassUse {
+    /// A static method of it is called.
+    CallStatic,
+    /// The instance of the test is made.
+    MakeInstance,
+}
+
+// A class that is ready is used.
+fn use_ready(
     frames: &mut Frames,
     world: &mut World,
     alloc: Global,
     p: &Program,
-    walker: &mut Walker,
     site: Site,
+    how: ClassUse,
 ) -> Result<Turn, Memory>
     requires world { IsWorldOf p.now world.old }
-    requires kinds { HasRightKinds (look p.now) }
     requires none { frames.old.frame ≡ None }
     requires whole { AreWhole frames.old }
     requires site { IsSite p.now site }
-    ensures row { IfOk result (λ t. StepsAt p.now site (readies p.now calls_static) t
+    ensures row { IfOk result (λ t. StepsAt p.now site (uses_ready p.now site how) t
         frames.new world.old world.new) }
     ensures frames { OnOk result (StaysOrBegins p.now frames.old frames.new) }
     ensures kept { OnOk result (IsKept p.now world.old world.new) }
 {
-    let readied = make_ready(frames, world, alloc, p, walker, site.class)?;
-    match readied {
-        Readied::Ready => {
-            let turn = enter(frames, world, alloc, p, site, None)?;
-            Ok(turn)
-        }
-        Readied::Turned(turn) => Ok(turn),
+    match how {
+        ClassUse::CallStatic => enter(frames, world, alloc, p, site, None),
+        ClassUse::MakeInstance => make(frames, world, alloc, p, site),
     }
 }
 
-// The instance of the test is made, once its class is ready.
+// A class is used, once it is ready.
 #[tactic(auto, using(crate::proofs::Readied::ready_used, crate::proofs::Readied::ready_turned, crate::proofs::Readied::ready_same, crate::proofs::Readied::none_still, crate::proofs::Readied::whole_still, crate::proofs::Readied::begins_still))]
-fn make_instance(
+fn use_class(
     frames: &mut Frames,
     world: &mut World,
     alloc: Global,
     p: &Program,
     walker: &mut Walker,
     site: Site,
+    how: ClassUse,
 ) -> Result<Turn, Memory>
     requires world { IsWorldOf p.now world.old }
     requires kinds { HasRightKinds (look p.now) }
     requires none { frames.old.frame ≡ None }
     requires whole { AreWhole frames.old }
     requires site { IsSite p.now site }
-    ensures row { IfOk result (λ t. StepsAt p.now site (readies p.now makes) t
+    ensures row { IfOk result (λ t. StepsAt p.now site (readies p.now (uses how)) t
         frames.new world.old world.new) }
     ensures frames { OnOk result (StaysOrBegins p.now frames.old frames.new) }
     ensures kept { OnOk result (IsKept p.now world.old world.new) }
@@ -126,7 +130,7 @@ fn make_instance(
     let readied = make_ready(frames, world, alloc, p, walker, site.class)?;
     match readied {
         Readied::Ready => {
-            let turn = make(frames, world, alloc, p, site)?;
+            let turn = use_ready(frames, world, alloc, p, site, how)?;
             Ok(turn)
         }
         Readied::Turned(turn) => Ok(turn),
@@ -154,8 +158,14 @@ fn call_by(
     ensures kept { OnOk result (IsKept p.now world.old world.new) }
 {
     match kind {
-        CallKind::ClassWide => call_class(frames, world, alloc, p, walker, site),
-        CallKind::Make => make_instance(frames, world, alloc, p, walker, site),
+        CallKind::ClassWide => {
+            let how = ClassUse::CallStatic;
+            use_class(frames, world, alloc, p, walker, site, how)
+        }
+        CallKind::Make => {
+            let how = ClassUse::MakeInstance;
+            use_class(frames, world, alloc, p, walker, site, how)
+        }
         CallKind::Around => call_on_instance(frames, world, alloc, p, site),
         CallKind::TestMethod => call_on_instance(frames, world, alloc, p, site),
     }

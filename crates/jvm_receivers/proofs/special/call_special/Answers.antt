@@ -1,24 +1,17 @@
 use Rattle.std.proofs.Common.{◌∙◌, sym, ap, true, false}
-use Rattle.program_rules.specs.declared.fault.Fault.TheVariants.{IncompatibleClassChangeError}
-use Rattle.program_rules.specs.Linked.{is_static}
+use Rattle.program_rules.specs.Resolution.{is_initializer_name}
 use Rattle.class_link.specs.View.{method_ref_of}
-use Rattle.jvm_heap_rows.specs.Rows.{throwing}
-use Rattle.jvm_receivers.specs.Receivers.{special_on}
-use Rattle.jvm_receivers.specs.Targets.{receiving}
-use Rattle.jvm_receivers.proofs.Selecting.{chosen}
+use Rattle.jvm_receivers.proofs.SpecialCalls.{on_initializer, on_other}
 use Rattle.jvm_receivers.proofs.special.call_special.Goals as goal
 
-pub returns-then-is_static-clause-row : goal.returns-then-is_static-clause-row
-returns-then-is_static-clause-row c = λ m is.
-    let p = c.args.p.now in
+pub returns-then-is_initializer-clause-row : goal.returns-then-is_initializer-clause-row
+returns-then-is_initializer-clause-row c = λ m x is.
     let r = method_ref_of c.args.reference.now in
-    let old = c.args.frames.now in
-    chosen p r (throwing IncompatibleClassChangeError) (receiving r (special_on p r m)) (is_static m.flags) true c.in_ok-thrown.thrown old old c.args.world.now c.throw.new.world
-    (ap is_static (c.flags_of-flags.ensures m is) ∙ sym c.is_static.ensures ∙ c.if-is_static.true) (c.in_ok-thrown.ensures.throws old r)
+    on_initializer c.args.p.now r m x c.args.args.count c.in_ok-done.done c.args.frames.now c.call_found.new.frames c.args.world.now c.call_found.new.world
+    (ap is_initializer_name (sym c.deref.ensures) ∙ sym c.is_initializer.ensures ∙ c.if-is_initializer.true) (c.in_ok-done.ensures.row m r is)
 
 pub returns-clause-row : goal.returns-clause-row
-returns-clause-row c = λ m is.
-    let p = c.args.p.now in
+returns-clause-row c = λ m x is.
     let r = method_ref_of c.args.reference.now in
-    chosen p r (throwing IncompatibleClassChangeError) (receiving r (special_on p r m)) (is_static m.flags) false c.in_ok-done.done c.args.frames.now c.call_target.new.frames c.args.world.now c.call_target.new.world
-    (ap is_static (c.flags_of-flags.ensures m is) ∙ sym c.is_static.ensures ∙ c.if-is_static.false) (c.in_ok-done.ensures.row m is)
+    on_other c.args.p.now r m x c.args.args.count c.in_ok-done-2.done c.args.frames.now c.call_looked.new.frames c.args.world.now c.call_looked.new.world
+    (ap is_initializer_name (sym c.deref.ensures) ∙ sym c.is_initializer.ensures ∙ c.if-is_initializer.false) (c.in_ok-done-2.ensures.row m is)
