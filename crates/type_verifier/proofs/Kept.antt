@@ -32,7 +32,6 @@ class_more old new o n c more is = record {
   array = lasts (λ ns. name_at ns c.array ≡ array_of n) old new more is.array;
   own = is.own;
   this = is.this;
-  near = is.near;
 }
 
 pub use_more : (old new : List Named) (args : List Kind) (result : Option Kind) (m : MethodUse) → Continues old new → UseIs old args result m → UseIs new args result m

@@ -12,5 +12,4 @@ returns-clause-class c = record {
   array = λ more. c.in_ok-array.ensures.number more ∙ c.in_ok-array_text.ensures;
   own = sym c.eq-is_own.ensures;
   this = c.initialises_this.ensures;
-  near = c.is_near.ensures;
 }
