@@ -8,7 +8,7 @@ ghost use Rattle.type_rules.specs.Rows.{declares};
 ghost use Rattle.class_link.specs.View.{field_of};
 ghost use Rattle.type_verifier.specs.Tables.{IsTable, Adds};
 ghost use Rattle.type_verifier.specs.Pool.{IsOwn, KindIfAny, DeclaredIs, NearIs};
-ghost use Rattle.type_verifier.specs.Meanings.{ClassUseIs, ClassIs, KindUseIs, RefUseIs, DeclaresIs, ClassesKept, NearKept, FieldsKept, MethodsKept, DeclaredKept, KeepNothing, IsTextOf, StatesKind, StatesMethod, NamesPair};
+ghost use Rattle.type_verifier.specs.Meanings.{ClassIs, KindUseIs, RefUseIs, DeclaresIs, ClassesKept, NearKept, FieldsKept, MethodsKept, DeclaredKept, KeepNothing, IsTextOf, StatesKind, StatesMethod, NamesPair};
 
 use crate::names::Names;
 use crate::own::{Own, initialises_this, is_near};

@@ -1,4 +1,4 @@
-use Rattle.std.proofs.Common.{◌≡◌, ◌∙◌, sym, ap}
+use Rattle.std.proofs.Common.{◌≡◌, ◌∙◌, sym}
 use Rattle.vframes.specs.Named.{name_at}
 use Rattle.type_verifier.proofs.Lasting.{added_twice, lasts}
 use Rattle.type_verifier.proofs.meanings.class_use.Goals as goal
