@@ -1,5 +1,5 @@
 #!/usr/bin/env python3
-"""Writes class files of up to 4 MiB that are hostile to a reader, below the folder that is named: one kind each, at the largest size that the format lets stand."""
+"""Writes class files of up to 4 MiB below the folder that is named, one kind each, at the largest size that the format lets stand: some that are hostile to a reader, and below folders `c`, each with a folder `t` without a test beside it, some that are hostile to the checker of types."""
 import os, struct, sys
 out = sys.argv[1] if len(sys.argv) > 1 else '.'
 u1, u2, u4 = (lambda n: struct.pack('>B', n)), (lambda n: struct.pack('>H', n)), (lambda n: struct.pack('>I', n))
@@ -82,3 +82,39 @@ put('calls', klass(p, methods=[member(p, f'm{i}', '()V', 9, [body]) for i in ran
 p = Pool(); big = p.text('[' * 60000 + 'I')
 for _ in range(65000): p.add(u1(7) + u2(big))
 put('entries', klass(p))
+
+
+def put_run(name, data):
+    put(os.path.join(name, 'c'), data)
+    os.makedirs(os.path.join(out, name, 't'), exist_ok=True)
+    open(os.path.join(out, name, 't', 'README'), 'wb').close()
+
+
+UNITS = 65535
+
+# 65,000 class entries of one text
+p = Pool(); big = p.text('x' * UNITS)
+for _ in range(65000): p.add(u1(7) + u2(big))
+put_run('class-entries', klass(p))
+
+# 65,000 field entries of one long class
+p = Pool(); owner, pair = p.name('x' * UNITS), p.pair('f', 'I')
+for _ in range(65000): p.add(u1(9) + u2(owner) + u2(pair))
+put_run('field-classes', klass(p))
+
+# 65,000 entries of one field of the class itself, with a long name and a long descriptor
+p = Pool(); name, desc = 'n' * UNITS, 'L' + 'x' * (UNITS - 2) + ';'
+owner, pair = p.name('A'), p.pair(name, desc)
+for _ in range(65000): p.add(u1(9) + u2(owner) + u2(pair))
+put_run('own-fields', klass(p, fields=[member(p, name, desc, 9)]))
+
+# 65,000 method entries of one long class
+p = Pool(); owner, pair = p.name('x' * UNITS), p.pair('m', '()V')
+for _ in range(65000): p.add(u1(10) + u2(owner) + u2(pair))
+put_run('method-classes', klass(p))
+
+# 65,000 method entries of one descriptor with a long class, and as many of one with many arguments
+p = Pool(); owner = p.name('A')
+pairs = [p.pair('m', '(L' + 'x' * (UNITS - 6) + ';)V'), p.pair('m', '(' + 'I' * (UNITS - 3) + ')V')]
+for at in range(65000): p.add(u1(10) + u2(owner) + u2(pairs[at % 2]))
+put_run('method-types', klass(p))

@@ -1,6 +1,6 @@
 #!/bin/bash
-# hostile.sh [PROGRAM] [FOLDER]: writes hostile class files below a folder and lists each with 2 s and 512 MB; prints the time, the memory, the status and the last line.
-# With a folder of cases that has `c` and `t` in them as CASES, runs those too.
+# hostile.sh [PROGRAM] [FOLDER]: writes hostile class files below a folder and lists each with 2 s and 512 MB, and runs those below `c` with the tests below `t` beside it; prints the time, the memory, the status and the last line.
+# With a folder of such cases as CASES, lists and runs those too.
 here=$(cd "$(dirname "$0")" && pwd)
 program=${1:-$here/../mutest}
 folder=${2:-$(mktemp -d)}
@@ -11,13 +11,21 @@ measure() { # NAME, WORDS..
     shift
     local got
     got=$( (ulimit -v 524288; /usr/bin/time -o "$folder/time" -f '%e %M' timeout 2 "$program" "$@" > "$folder/said" 2> "$folder/told"; echo $?) 2> /dev/null)
-    printf '%-16s status %-4s %6s s %8s KB  %s\n' "$name" "$got" $(tail -1 "$folder/time") "$(tail -q -n 1 "$folder/said" "$folder/told" | tail -1 | cut -c1-60)"
+    printf '%-4s %-24s status %-4s %6s s %8s KB  %s\n' "$1" "$name" "$got" $(tail -1 "$folder/time") "$(tail -q -n 1 "$folder/said" "$folder/told" | tail -1 | cut -c1-60)"
     case $got in 0 | 1 | 2 | 3 | 4 | 5 | 6 | 7 | 8 | 9 | 10 | 11 | 12 | 13 | 15) ;; *) worst=1 ;; esac
 }
-for class in "$folder"/*/A.class; do
-    measure "$(basename "$(dirname "$class")")" list "$class"
-done
-for class in "$CASES"/*/A.class "$CASES"/*/?/A.class; do
-    [ -f "$class" ] && measure "${class#"$CASES"/}" list "$class"
+list_all() { # FOLDER
+    for class in "$1"/*/A.class "$1"/*/?/A.class; do
+        [ -f "$class" ] && measure "$(dirname "${class#"$1"/}")" list "$class"
+    done
+}
+run_all() { # FOLDER
+    for one in "$1"/*; do
+        [ -d "$one/c" ] && [ -d "$one/t" ] && measure "${one#"$1"/}" run --classes "$one/c" --tests "$one/t" --report "$folder/report.json"
+    done
+}
+for cases in "$folder" ${CASES:+"$CASES"}; do
+    list_all "$cases"
+    run_all "$cases"
 done
 exit $worst

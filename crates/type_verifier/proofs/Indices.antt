@@ -10,7 +10,7 @@ use Rattle.class_link.specs.declared.loaded.ClassBody.TheVariants as body
 use Rattle.class_link.specs.declared.linked.Entry.{Entry}
 use Rattle.class_link.specs.Info.{HasEntries}
 use Rattle.class_link.specs.Switches.{AreEntries}
-use Rattle.class_link.specs.Symbols.{Symbol, kind_of, kind_stated, type_stated, name_or_empty, class_named, text_named, symbol_or_other}
+use Rattle.class_link.specs.Symbols.{kind_of, kind_stated, type_stated, name_or_empty, class_named, text_named, symbol_or_other}
 use Rattle.class_link.specs.View.{symbol_of, entry_symbol}
 use Rattle.class_link.proofs.Resolved.{meaning_same}
 use Rattle.type_verifier.specs.PoolTexts.{pool_in, index_or_none, pair_or_none, class_text, pair_texts, texts_in, SymbolTexts, EntryTexts}

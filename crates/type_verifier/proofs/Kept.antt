@@ -1,5 +1,5 @@
 -- What is kept of texts stays right while names are added, and while more is kept.
-use Rattle.std.proofs.Common.{◌≡◌, ◌∙◌, refl, sym, ap, subst, ℕ, Bool, true, false, List, [], ◌++◌, map, Option, Some, None}
+use Rattle.std.proofs.Common.{◌≡◌, ◌∙◌, refl, sym, ap, subst, ℕ, Bool, true, false, List, [], map, Option, Some}
 use Rattle.std.specs.Prelude.{nat_eq, cond, ◌&&◌}
 use Rattle.std.specs.Option.{option_map}
 use Rattle.std.specs.HashMap.{HashMap, get}
@@ -9,7 +9,6 @@ use Rattle.program_rules.specs.Kinds.{Kind, reversed_onto}
 use Rattle.type_rules.specs.References.{array_of}
 use Rattle.type_rules.specs.Frames.{type_of as type_of_kind}
 use Rattle.class_model.specs.declared.constant.Const.{Const}
-use Rattle.class_model.specs.declared.kind.Kind.{Kind as KindStated}
 use Rattle.class_link.specs.Symbols.{kind_of, kind_stated, type_stated, text_named}
 use Rattle.class_link.specs.declared.linked.MethodRef.{MethodRef}
 use Rattle.vframes.specs.declared.named.Named.{Named}
@@ -19,9 +18,9 @@ use Rattle.vframes.specs.View.{type_of, types_in}
 use Rattle.type_verifier.specs.declared.meanings.ClassUse.{ClassUse}
 use Rattle.type_verifier.specs.declared.meanings.MethodUse.{MethodUse}
 use Rattle.type_verifier.specs.declared.own.Own.{Own}
-use Rattle.type_verifier.specs.Tables.{Continues, KindLasts}
+use Rattle.type_verifier.specs.Tables.{Continues}
 use Rattle.type_verifier.specs.PoolTexts.{pool_in}
-use Rattle.type_verifier.specs.Meanings.{ClassUseIs, FieldUseIs, UseIs, MethodUseIs, same_pair, AreKept, ArePairsKept, ClassesKept, FieldsKept, MethodsKept, StatesKind, StatesMethod}
+use Rattle.type_verifier.specs.Meanings.{ClassUseIs, UseIs, MethodUseIs, same_pair, AreKept, ArePairsKept, ClassesKept, FieldsKept, MethodsKept, StatesMethod}
 use Rattle.type_verifier.proofs.Lasting.{lasts}
 
 -- ---- more names
@@ -32,7 +31,6 @@ class_more old new o n c more is = record {
   array = lasts (λ ns. name_at ns c.array ≡ array_of n) old new more is.array;
   own = is.own;
   this = is.this;
-  near = is.near;
 }
 
 pub use_more : (old new : List Named) (args : List Kind) (result : Option Kind) (m : MethodUse) → Continues old new → UseIs old args result m → UseIs new args result m

@@ -30,13 +30,12 @@ use Rattle.type_verifier.specs.Pool.{InitialisesIs, NearIs}
 -- ---- one text, however many names are added
 
 -- A name of a class: its number and that of the array of such components, whether it is the own
--- one's, and what a special call may do by it.
+-- one's, and whether its `<init>` initialises `this`.
 pub record ClassUseIs (ns : List Named) (o : Own) (n : Name) (c : ClassUse) : Type 0 where
   pub number : NameLasts ns c.number n
   pub array : NameLasts ns c.array (array_of n)
   pub own : same n o.name.now ≡ c.is_own
   pub this : InitialisesIs o n c.initialises_this
-  pub near : NearIs o n c.is_near
 
 -- A descriptor of a field: the type of what the field holds.
 abbrev pub FieldUseIs : List Named → Name → SlotType → Type 0
@@ -78,6 +77,9 @@ module _ {S : Type 0} where
   abbrev pub ClassesKept : List Named → Own → HashMap ℕ ClassUse S → Type 0
   ClassesKept ns o kept = AreKept (ClassUseIs ns o) (pool_in o.body.now) kept
 
+  abbrev pub NearKept : Own → HashMap ℕ Bool S → Type 0
+  NearKept o kept = AreKept (NearIs o) (pool_in o.body.now) kept
+
   abbrev pub FieldsKept : List Named → Own → HashMap ℕ SlotType S → Type 0
   FieldsKept ns o kept = AreKept (FieldUseIs ns) (pool_in o.body.now) kept
 
@@ -90,6 +92,7 @@ module _ {S : Type 0} where
 -- All that is kept of a class's constant pool is right, however many names are added.
 pub record AreMeanings (ns : List Named) (o : Own) (m : Meanings) : Type 0 where
   pub classes : ClassesKept ns o m.classes
+  pub near : NearKept o m.near
   pub fields : FieldsKept ns o m.fields
   pub methods : MethodsKept ns o m.methods
   pub declared : DeclaredKept o m.declared

@@ -7,8 +7,8 @@ ghost use Rattle.type_rules.specs.References.{array_of};
 ghost use Rattle.type_rules.specs.Rows.{declares};
 ghost use Rattle.class_link.specs.View.{field_of};
 ghost use Rattle.type_verifier.specs.Tables.{IsTable, Adds};
-ghost use Rattle.type_verifier.specs.Pool.{IsOwn, KindIfAny, DeclaredIs};
-ghost use Rattle.type_verifier.specs.Meanings.{ClassUseIs, ClassIs, KindUseIs, RefUseIs, DeclaresIs, ClassesKept, FieldsKept, MethodsKept, DeclaredKept, KeepNothing, IsTextOf, StatesKind, StatesMethod, NamesPair};
+ghost use Rattle.type_verifier.specs.Pool.{IsOwn, KindIfAny, DeclaredIs, NearIs};
+ghost use Rattle.type_verifier.specs.Meanings.{ClassIs, KindUseIs, RefUseIs, DeclaresIs, ClassesKept, NearKept, FieldsKept, MethodsKept, DeclaredKept, KeepNothing, IsTextOf, StatesKind, StatesMethod, NamesPair};
 
 use crate::names::Names;
 use crate::own::{Own, initialises_this, is_near};
@@ -22,15 +22,13 @@ use std::collections::HashMap;
 use vframes::SlotType;
 
 /// What a name of a class is to a class: its number and that of the array of such components,
-/// whether it is the class's own, whether its `<init>` initialises `this`, and whether a special
-/// call may name it.
+/// whether it is the class's own, and whether its `<init>` initialises `this`.
 #[derive(Clone, Copy)]
 pub struct ClassUse {
     pub number: usize,
     pub array: usize,
     pub is_own: bool,
     pub initialises_this: bool,
-    pub is_near: bool,
 }
 
 /// What a descriptor of a method states: the arguments, the last one first, and the result.
@@ -40,12 +38,13 @@ pub struct MethodUse {
     pub result: Option<SlotType>,
 }
 
-/// What the texts of a class's constant pool mean, by their indices: the names of classes, the
-/// descriptors of fields and those of methods; and, by the name and the descriptor, whether the
-/// class declares a field.
+/// What the texts of a class's constant pool mean, by their indices: the names of classes; the same
+/// of the classes of methods, whether a special call may name them; the descriptors of fields and
+/// those of methods; and, by the name and the descriptor, whether the class declares a field.
 #[derive(Drop)]
 pub struct Meanings {
     pub classes: HashMap<u16, ClassUse>,
+    pub near: HashMap<u16, bool>,
     pub fields: HashMap<u16, SlotType>,
     pub methods: HashMap<u16, MethodUse>,
     pub declared: HashMap<(u16, u16), bool>,
@@ -106,7 +105,6 @@ fn class_use(names: &mut Names, own: &Own, name: &Name) -> Result<ClassUse, Memo
         array,
         is_own,
         initialises_this: initialises_this(own, name),
-        is_near: is_near(own, name),
     })
 }
 
@@ -132,6 +130,27 @@ pub fn class_by_text(
     let class = class_use(names, own, name)?;
     kept.insert(text, class)?;
     Ok(class)
+}
+
+/// Whether a special call may name the class whose name is the text of this index.
+pub fn near_by_text(
+    own: &Own,
+    kept: &mut HashMap<u16, bool>,
+    text: u16,
+    name: &Name,
+) -> Result<bool, Memory>
+    requires own { IsOwn own.now }
+    requires kept { NearKept own.now kept.old }
+    requires text { IsTextOf own.now text name.now }
+    ensures kept { OnOk result (NearKept own.now kept.new) }
+    ensures near { IfOk result (λ b. NearIs own.now name.now b) }
+{
+    if let Some(near) = kept.get(&text) {
+        return Ok(*near);
+    }
+    let near = is_near(own, name);
+    kept.insert(text, near)?;
+    Ok(near)
 }
 
 /// The type of what a field holds of this kind, which the text of this index states.
@@ -282,6 +301,7 @@ pub fn no_meanings(alloc: Global) -> Meanings
 {
     Meanings {
         classes: HashMap::new(alloc),
+        near: HashMap::new(alloc),
         fields: HashMap::new(alloc),
         methods: HashMap::new(alloc),
         declared: HashMap::new(alloc),

@@ -9,7 +9,7 @@ ghost use Rattle.type_verifier.specs.Pool.{IsOwn, home_of, FieldLasts, ClassLast
 ghost use Rattle.type_verifier.specs.Meanings.{MeaningsAre, IsTextOf, FieldTextsOf, MethodTextsOf, EntryTextsOf};
 
 use crate::meanings::{
-    Meanings, class_by_text, field_by_text, is_declared, method_by_text, no_meanings,
+    Meanings, class_by_text, field_by_text, is_declared, method_by_text, near_by_text, no_meanings,
 };
 use crate::names::Names;
 use crate::own::Own;
@@ -93,6 +93,7 @@ fn signature_of(
     ensures method { IfOk result (λ m. MethodIs names.new own.now r.now m) }
 {
     let class = class_by_text(names, own, &mut meanings.classes, texts.class, &r.class)?;
+    let near = near_by_text(own, &mut meanings.near, texts.class, &r.class)?;
     let stated = method_by_text(names, own, &mut meanings.methods, texts.desc, r)?;
     Ok(Signature {
         class: class.number,
@@ -100,7 +101,7 @@ fn signature_of(
         args: stated.args,
         result: stated.result,
         initialises_this: class.initialises_this,
-        is_near: class.is_near,
+        is_near: near,
     })
 }
 

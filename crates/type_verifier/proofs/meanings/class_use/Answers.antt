@@ -1,4 +1,4 @@
-use Rattle.std.proofs.Common.{◌≡◌, ◌∙◌, sym, ap}
+use Rattle.std.proofs.Common.{◌≡◌, ◌∙◌, sym}
 use Rattle.vframes.specs.Named.{name_at}
 use Rattle.type_verifier.proofs.Lasting.{added_twice, lasts}
 use Rattle.type_verifier.proofs.meanings.class_use.Goals as goal
@@ -12,5 +12,4 @@ returns-clause-class c = record {
   array = λ more. c.in_ok-array.ensures.number more ∙ c.in_ok-array_text.ensures;
   own = sym c.eq-is_own.ensures;
   this = c.initialises_this.ensures;
-  near = c.is_near.ensures;
 }

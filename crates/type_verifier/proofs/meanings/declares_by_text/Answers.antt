@@ -1,4 +1,4 @@
-use Rattle.std.proofs.Common.{◌≡◌, ◌∙◌, Some, sym, ap, subst, rules, map}
+use Rattle.std.proofs.Common.{◌≡◌, ◌∙◌, Some, sym, ap, rules, map}
 use Rattle.std.specs.HashMap.{get}
 use Rattle.class_link.specs.Symbols.{text_named}
 use Rattle.class_link.specs.View.{field_of}

@@ -1,8 +1,7 @@
-use Rattle.std.proofs.Common.{◌≡◌, ◌∙◌, Some, sym, ap, subst, rules}
+use Rattle.std.proofs.Common.{◌≡◌, ◌∙◌, Some, sym, ap, rules}
 use Rattle.std.specs.Prelude.{nat_eq}
 use Rattle.std.specs.HashMap.{get}
 use Rattle.type_rules.specs.Frames.{type_of as type_of_kind}
-use Rattle.class_link.specs.Symbols.{kind_of, kind_stated, text_named}
 use Rattle.type_verifier.specs.PoolTexts.{pool_in}
 use Rattle.type_verifier.specs.Meanings.{FieldUseIs}
 use Rattle.type_verifier.proofs.Kept.{fields_more, one_kept}

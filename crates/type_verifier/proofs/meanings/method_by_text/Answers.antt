@@ -1,8 +1,8 @@
-use Rattle.std.proofs.Common.{◌≡◌, ◌∙◌, Some, sym, ap, subst, rules, map}
+use Rattle.std.proofs.Common.{◌≡◌, Some, sym, subst, rules, map}
 use Rattle.std.specs.Prelude.{nat_eq}
 use Rattle.std.specs.Option.{option_map}
 use Rattle.std.specs.HashMap.{get}
-use Rattle.class_link.specs.Symbols.{kind_of, type_stated, text_named}
+use Rattle.class_link.specs.Symbols.{kind_of, text_named}
 use Rattle.type_verifier.specs.PoolTexts.{pool_in}
 use Rattle.type_verifier.specs.Meanings.{UseIs, MethodUseIs}
 use Rattle.type_verifier.proofs.Lasting.{same_table}

@@ -11,6 +11,7 @@ returns-clause-meanings c =
       classes = c.in_ok-class.ensures.kept;
       fields = fields_more old new o more c.args.meanings.now.fields c.requires.meanings.fields;
       methods = methods_more old new o more c.args.meanings.now.methods c.requires.meanings.methods;
+      near = c.requires.meanings.near;
       declared = c.requires.meanings.declared;
     }
 

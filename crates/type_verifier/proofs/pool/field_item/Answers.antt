@@ -36,6 +36,7 @@ returns-clause-meanings c =
       classes = classes_more second third o c.in_ok-held.ensures.adds.more c.class_by_text.new.kept c.in_ok-class.ensures.kept;
       fields = c.in_ok-held.ensures.kept;
       methods = methods_more second third o c.in_ok-held.ensures.adds.more c.args.meanings.now.methods (methods_more first second o c.in_ok-class.ensures.adds.more c.args.meanings.now.methods c.requires.meanings.methods);
+      near = c.requires.meanings.near;
       declared = c.in_ok-declared.ensures.kept;
     }
 

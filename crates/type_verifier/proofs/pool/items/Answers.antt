@@ -1,10 +1,10 @@
-use Rattle.std.proofs.Common.{◌≡◌, ◌∙◌, refl, sym, ap, subst, ◌+◌, ◌∷◌, ◌++◌, [], List, Some, take, length, map, arith}
+use Rattle.std.proofs.Common.{◌≡◌, ◌∙◌, refl, sym, ap, subst, ◌+◌, ◌∷◌, ◌++◌, [], Some, take, length, arith}
 use Rattle.std.specs.Prelude.{slice_get}
 use Rattle.std.proofs.lemmas.Grind.{common_steps}
 use Rattle.std.proofs.lemmas.List.{length-append}
 use Rattle.std.proofs.lemmas.Option.{slice_get_read}
 use Rattle.type_rows.specs.Items.{AreItemsOf}
-use Rattle.type_verifier.specs.Pool.{home_of, ItemsLast}
+use Rattle.type_verifier.specs.Pool.{home_of}
 use Rattle.type_verifier.specs.Meanings.{EntryTextsOf}
 use Rattle.type_verifier.proofs.Lasting.{same_table, added_twice, lasts}
 use Rattle.type_verifier.proofs.Owns.{items_pushed}

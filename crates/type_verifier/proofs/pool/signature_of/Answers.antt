@@ -10,6 +10,9 @@ use Rattle.type_verifier.proofs.pool.signature_of.Goals as goal
 pub class_by_text-requires-clause-text : goal.class_by_text-requires-clause-text
 class_by_text-requires-clause-text c = c.deref.ensures ∙ c.requires.texts.class
 
+pub near_by_text-requires-clause-text : goal.near_by_text-requires-clause-text
+near_by_text-requires-clause-text c = c.deref-2.ensures ∙ c.requires.texts.class
+
 pub method_by_text-requires-clause-kept : goal.method_by_text-requires-clause-kept
 method_by_text-requires-clause-kept c =
     methods_more c.args.names.now.list.items c.class_by_text.new.names.list.items c.args.own.now c.in_ok-class.ensures.adds.more c.args.meanings.now.methods c.requires.meanings.methods
@@ -30,6 +33,7 @@ returns-clause-meanings c =
       classes = classes_more second third o c.in_ok-stated.ensures.adds.more c.class_by_text.new.kept c.in_ok-class.ensures.kept;
       fields = fields_more second third o c.in_ok-stated.ensures.adds.more c.args.meanings.now.fields (fields_more first second o c.in_ok-class.ensures.adds.more c.args.meanings.now.fields c.requires.meanings.fields);
       methods = c.in_ok-stated.ensures.kept;
+      near = c.in_ok-near.ensures.kept;
       declared = c.requires.meanings.declared;
     }
 
@@ -39,13 +43,13 @@ returns-clause-method c = λ more.
     let class = c.in_ok-class.ensures.class in (
       record {
         class = lasts (λ ns. name_at ns c.in_ok-class.class.number ≡ c.deref.result.now) c.class_by_text.new.names.list.items c.method_by_text.new.names.list.items c.in_ok-stated.ensures.adds.more class.number more ∙ c.deref.ensures;
-        init = ap (λ n. same n instance_initializer) (sym c.deref-2.ensures) ∙ c.called_of.ensures.init;
-        plain = ap is_plain_name (sym c.deref-2.ensures) ∙ c.called_of.ensures.plain;
+        init = ap (λ n. same n instance_initializer) (sym c.deref-3.ensures) ∙ c.called_of.ensures.init;
+        plain = ap is_plain_name (sym c.deref-3.ensures) ∙ c.called_of.ensures.plain;
         args = c.in_ok-stated.ensures.method.args more;
         result = c.in_ok-stated.ensures.method.result more;
       },
       record {
         this = subst (λ n. InitialisesIs o n c.in_ok-class.class.initialises_this) c.deref.ensures class.this;
-        near = subst (λ n. NearIs o n c.in_ok-class.class.is_near) c.deref.ensures class.near;
+        near = subst (λ n. NearIs o n c.in_ok-near.near) c.deref-2.ensures c.in_ok-near.ensures.near;
       },
     )
