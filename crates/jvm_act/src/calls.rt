@@ -232,6 +232,7 @@ fn call_method(
 
 /// Calls the method that the frame's class names at an index (JVMS 6.5).
 #[tactic(auto, using(crate::proofs::Called::calls_named, crate::proofs::Called::no_method))]
+#[inline(always)]
 pub fn take_call(
     frames: &mut Frames,
     world: &mut World,

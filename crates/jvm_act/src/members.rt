@@ -170,6 +170,7 @@ fn make_at(
 
 /// Uses a field, or makes an object. Where a class has to begin first, that is the turn, and the
 /// instruction stays.
+#[inline(always)]
 pub fn take_member(
     frames: &mut Frames,
     world: &mut World,

@@ -17,6 +17,7 @@ use jvm_world::World;
 
 /// Returns from the running frame, which is of this method.
 #[tactic(auto, using(crate::proofs::Returned::has_caller, crate::proofs::Returned::within, crate::proofs::Returned::int_turned, crate::proofs::Returned::long_turned, crate::proofs::Returned::reference_turned, crate::proofs::Returned::plain_turned, crate::proofs::Framed::returns_keep_frames))]
+#[inline(always)]
 pub fn take_return(
     frames: &mut Frames,
     world: &mut World,

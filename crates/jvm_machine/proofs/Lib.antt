@@ -9,3 +9,4 @@ pub mod Going
 pub mod Stepped
 pub mod Ran
 pub mod Stays
+pub mod Passes

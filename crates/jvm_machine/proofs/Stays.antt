@@ -89,16 +89,19 @@ world_same : (b : Bool) (class : Name) (line : ℕ) (v : def.World) → IsReache
 world_same true class line v h = ap (λ rs. record v { reached = rs }) (reach_known class line v.reached (is_reached class line v.reached) h)
 world_same false class line v h = refl
 
+pub reached_same : (p : List Info) (w : World) (f : NumberedFrame) (v : def.World) → IsLineReached p f.class f.method f.at (lines_of p w) → Means p w v → reaches (look p) (frame_of p f) v ≡ v
+reached_same p w f v reached m =
+    world_same (is_from_file (look p (name_at p f.class))) (name_at p f.class) (line_of (look p) (frame_of p f)) v
+    (subst (IsReachedIf (is_from_file (look p (name_at p f.class))) (name_at p f.class) (line_of (look p) (frame_of p f))) (sym (lines_are p w m.past v m.world))
+    reached)
+
 module _ (p : List Info) (w : World) (callers : List NumberedFrame) (code : MethodCode) (marks : List Bool) (lives : w.over ≡ None) where
   -- The machine with a frame over these.
   abbrev pub machine_of : NumberedFrame → Machine
   machine_of f = record { frames = record { frame = Some f; callers = callers }; thrown = None; world = w }
 
   reaches_same : (f : NumberedFrame) (v : def.World) → AreReached p f.class f.method marks (lines_of p w) → slice_get marks f.at ≡ Some true → Means p w v → reaches (look p) (frame_of p f) v ≡ v
-  reaches_same f v right marked m =
-      world_same (is_from_file (look p (name_at p f.class))) (name_at p f.class) (line_of (look p) (frame_of p f)) v
-      (subst (IsReachedIf (is_from_file (look p (name_at p f.class))) (name_at p f.class) (line_of (look p) (frame_of p f))) (sym (lines_are p w m.past v m.world))
-      (right f.at (has_mark marks f.at marked)))
+  reaches_same f v right marked m = reached_same p w f v (right f.at (has_mark marks f.at marked)) m
 
   goes_alone : (f g : NumberedFrame) (v : def.World) → IsCodeOf p f.class f.method code → IsOfMethod p f → AreReached p f.class f.method marks (lines_of p w) → StepsAlone code.code.ops.items code.code.longs.items marks f g → Means p w v → going p w.limits None (machine_of f).frames v ≡ goes_with v (frames_of p (machine_of g).frames)
   goes_alone f g v is of right s m =

@@ -6,3 +6,4 @@ pub mod Ending
 pub mod Result
 pub mod Running
 pub mod Marking
+pub mod Passing

@@ -7,6 +7,7 @@ mod finish;
 mod machine;
 mod marking;
 mod outcome;
+mod passing;
 mod places;
 mod reaching;
 mod result;

@@ -38,8 +38,8 @@ fn place_of(class: ClassId, method: u32) -> usize {
     (class.0 % 8 * 8 + method % 8) as usize
 }
 
-// Whether there is a mark.
-fn is_marked(marks: &[bool], at: usize) -> bool
+/// Whether there is a mark.
+pub fn is_marked(marks: &[bool], at: usize) -> bool
     ensures { result ≡ get_or marks.now at false }
 {
     match marks.get(at) {

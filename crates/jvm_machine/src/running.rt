@@ -88,7 +88,10 @@ fn run(
                 done += n;
             }
             Went::Ended(outcome) => return Ok((End::With(outcome), done)),
-            Went::Stuck => return Ok((End::Stuck, done)),
+            Went::Stuck(n) => {
+                tick_all(part, n);
+                return Ok((End::Stuck, done + n));
+            }
         }
     }
     let outcome = outcome_at_limit(p, m);

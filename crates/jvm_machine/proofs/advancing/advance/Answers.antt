@@ -1,23 +1,50 @@
-use Rattle.std.proofs.Common.{◌≡◌, subst, sym, arith}
-use Rattle.jvm_machine.specs.declared.machine.Step.TheVariants as step
-use Rattle.jvm_machine.specs.Machines.{Answers, HasMeaning, IsMachineStill}
-use Rattle.jvm_machine.proofs.Stays.{marked_behind, one_taken}
+use Rattle.std.proofs.Common.{◌≡◌, ◌∙◌, ap, subst, sym, arith}
+use Rattle.jvm_machine.specs.declared.passing.Taken.TheVariants as taken
+use Rattle.jvm_machine.specs.Machines.{Answers, HasFewMonitors, IsMachineStill}
+use Rattle.jvm_machine.specs.Marking.{IsWithin, StaysMachine, StaysMarked, WentTo}
+use Rattle.jvm_machine.specs.Passing.{Took, went_of}
+use Rattle.jvm_machine.proofs.Passes.{machine_by, marked_by, went_on, within_by}
 use Rattle.jvm_machine.proofs.advancing.advance.Goals as goal
 
-pub returns-in-Next-clause-went : goal.returns-in-Next-clause-went
-returns-in-Next-clause-went c =
-    let p = c.args.p.now in
-    let none : c.in_ok-taken.taken ≡ 0 = omega (arith, c.if-taken-gt0.false) in
-    let same : c.stay.new.m ≡ c.args.m.now = c.in_ok-taken.ensures.same none in
-    let answer = subst (λ r. Answers p r c.stay.new.m c.step.new.m) c.in-Next.is c.in_ok-stepped.ensures.step in
-    one_taken p c.args.m.now c.step.new.m (subst (λ m. Answers p step.Next m c.step.new.m) same answer)
-    (subst (λ m. IsMachineStill p m c.step.new.m) same c.in_ok-stepped.ensures.still)
+pub step-requires-clause-machine : goal.step-requires-clause-machine
+step-requires-clause-machine c = c.in_ok-taken.ensures.took.machine
 
-pub returns-in-Next-clause-marked : goal.returns-in-Next-clause-marked
-returns-in-Next-clause-marked c =
+pub step-requires-clause-few : goal.step-requires-clause-few
+step-requires-clause-few c =
+    let none : c.in-Steps.n ≡ 0 = omega (arith, c.if-n-gt0.false) in
+    let same = c.in_ok-taken.ensures.took.same (c.in-Steps.is ∙ ap taken.Steps none) in
+    subst (λ m. HasFewMonitors m.world) (sym same) c.requires.few
+
+pub step-requires-clause-meaning : goal.step-requires-clause-meaning
+step-requires-clause-meaning c =
     let p = c.args.p.now in
-    let none : c.in_ok-taken.taken ≡ 0 = omega (arith, c.if-taken-gt0.false) in
-    let same : c.stay.new.m ≡ c.args.m.now = c.in_ok-taken.ensures.same none in
-    let answer = subst (λ r. Answers p r c.stay.new.m c.step.new.m) c.in-Next.is c.in_ok-stepped.ensures.step in
-    marked_behind p c.stay.new.marks.items c.stay.new.m c.step.new.m
-    (subst (λ m. HasMeaning p m.world) (sym same) c.requires.meaning) answer c.in_ok-taken.ensures.marked
+    let took = subst (Took p c.args.limit c.args.m.now c.pass_on.new.m) c.in-Steps.is c.in_ok-taken.ensures.took in
+    took.ready.0
+
+pub returns-in_ok-stepped-in-Steps-clause-within : goal.returns-in_ok-stepped-in-Steps-clause-within
+returns-in_ok-stepped-in-Steps-clause-within c =
+    subst (IsWithin c.args.limit) (sym c.went_by-went.ensures) (within_by c.args.limit c.in_ok-stepped-in-Steps.stepped c.requires.limit)
+
+pub returns-in_ok-stepped-in-Steps-clause-went : goal.returns-in_ok-stepped-in-Steps-clause-went
+returns-in_ok-stepped-in-Steps-clause-went c =
+    let p = c.args.p.now in
+    let r = c.in_ok-stepped-in-Steps.stepped in
+    let none : c.in-Steps.n ≡ 0 = omega (arith, c.if-n-gt0.false) in
+    let same = c.in_ok-taken.ensures.took.same (c.in-Steps.is ∙ ap taken.Steps none) in
+    subst (λ w. WentTo p w c.args.m.now c.step.new.m) (sym c.went_by-went.ensures)
+    (went_on p c.args.m.now c.step.new.m r (subst (λ m. Answers p r m c.step.new.m) same c.in_ok-stepped-in-Steps.ensures.step)
+    (subst (λ m. IsMachineStill p m c.step.new.m) same c.in_ok-stepped-in-Steps.ensures.still))
+
+pub returns-in_ok-stepped-in-Steps-clause-marked : goal.returns-in_ok-stepped-in-Steps-clause-marked
+returns-in_ok-stepped-in-Steps-clause-marked c =
+    let p = c.args.p.now in
+    let ms = c.pass_on.new.marks.items in
+    let took = subst (Took p c.args.limit c.args.m.now c.pass_on.new.m) c.in-Steps.is c.in_ok-taken.ensures.took in
+    subst (λ w. StaysMarked p w ms c.step.new.m) (sym c.went_by-went.ensures)
+    (marked_by p ms c.pass_on.new.m c.step.new.m c.in_ok-stepped-in-Steps.stepped took.ready.0 c.in_ok-stepped-in-Steps.ensures.step
+    (subst (λ t. StaysMarked p (went_of t) ms c.pass_on.new.m) c.in-Steps.is c.in_ok-taken.ensures.marked))
+
+pub returns-in_ok-stepped-in-Steps-clause-machine : goal.returns-in_ok-stepped-in-Steps-clause-machine
+returns-in_ok-stepped-in-Steps-clause-machine c =
+    subst (λ w. StaysMachine c.args.p.now w c.step.new.m) (sym c.went_by-went.ensures)
+    (machine_by c.args.p.now c.step.new.m c.in_ok-stepped-in-Steps.stepped c.in_ok-stepped-in-Steps.ensures.still.machine)

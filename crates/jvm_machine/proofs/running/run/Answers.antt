@@ -27,9 +27,16 @@ returns-in-Ended-clause-run c =
 pub returns-in-Stuck-clause-run : goal.returns-in-Stuck-clause-run
 returns-in-Stuck-clause-run c =
     let p = c.args.p.now in
-    let lt : c.loop-done.done < c.args.limit = omega arith in
-    stuck p c.args.m.now.world.limits c.args.limit c.loop-done.done (start_of p c.args.test.now) c.loop-done.m c.advance.new.m lt c.loop-done.invariant.run
-    (subst (λ r. WentTo p r c.loop-done.m c.advance.new.m) c.in-Stuck.is c.in_ok-went.ensures.went)
+    let q = c.args.m.now.world.limits in
+    let l = c.loop-done in
+    let n = c.in-Stuck.n in
+    let bound : IsWithin (c.args.limit - l.done) (went.Stuck n) = subst (IsWithin (c.args.limit - l.done)) c.in-Stuck.is c.in_ok-went.ensures.within in
+    let lt : l.done + n < c.args.limit = omega (arith, bound, l.invariant.within) in
+    let last = subst (λ r. WentTo p r l.m c.advance.new.m) c.in-Stuck.is c.in_ok-went.ensures.went q c.args.limit l.done (start_of p c.args.test.now) l.invariant.run lt in
+    stuck p q c.args.limit (l.done + n) (start_of p c.args.test.now) last.0 c.advance.new.m lt last.1 last.2
+
+pub returns-in-Stuck-clause-steps : goal.returns-in-Stuck-clause-steps
+returns-in-Stuck-clause-steps c = omega (arith, c.loop-done.invariant.ticks, c.tick_all-in-Stuck.ensures)
 
 pub returns-in-Ended-clause-machine : goal.returns-in-Ended-clause-machine
 returns-in-Ended-clause-machine c =

@@ -1,0 +1,17 @@
+use Rattle.std.proofs.Common.{◌-◌, ◌≤◌}
+use Rattle.jvm_machine.specs.declared.passing.Taken.TheVariants as taken
+use Rattle.jvm_machine.specs.Marking.{AreMarkedRight, lines_of}
+use Rattle.jvm_machine.specs.Passing.{Took}
+use Rattle.jvm_machine.specs.Tables.{AreTablesOf}
+use Rattle.jvm_machine.proofs.passing.pass_on.Given as goal
+
+abbrev pub invariant-loop-done : goal.invariant-loop-done
+invariant-loop-done l = record {
+  within : l.done ≤ l.limit;
+  took : Took l.p l.limit l.fn.m l.m (taken.Steps l.done);
+  marked : AreMarkedRight l.p l.marks.items (lines_of l.p l.m.world);
+  tables : AreTablesOf l.p l.tables;
+}
+
+abbrev pub decreases-loop-done : goal.decreases-loop-done
+decreases-loop-done l = l.limit - l.done
