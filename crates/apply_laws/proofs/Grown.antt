@@ -46,8 +46,8 @@ use Rattle.mt_attrs.specs.Naming.{IsNamedLine, IsNamedRow, IsNamedVItem, IsNamed
 use Rattle.mt_attrs.specs.declared.owner.Owner.{Owner}
 use Rattle.mt_attrs.specs.declared.kinds.Known.{Known}
 use Rattle.mt_attrs.specs.declared.kinds.Known.TheVariants as known
-use Rattle.mt_attrs.specs.declared.kinds.Table.{Table}
-use Rattle.mt_attrs.specs.declared.kinds.Table.TheVariants as table
+use Rattle.mt_attrs.specs.declared.kinds.CodeTable.{CodeTable}
+use Rattle.mt_attrs.specs.declared.kinds.CodeTable.TheVariants as table
 use Rattle.mt_attrs.specs.declared.kinds.Unseen.{Unseen}
 use Rattle.class_reader.specs.Indices.{names_class, names_this, names_parent, names_name, names_desc, is_read}
 use Rattle.class_reader.specs.Spells.{IsInterface}
@@ -164,7 +164,7 @@ module _ (pool more : List Const) where
   shape_grows (shape.Append items) q = items_grow items q
   shape_grows (shape.Full locals stack) q = (items_grow locals q.0, items_grow stack q.1)
 
-  table_body_grows : (kind : Option Table) (b : Body-F Body Attr Code) → IsNamedTableBody pool kind b → IsNamedTableBody longer kind b
+  table_body_grows : (kind : Option CodeTable) (b : Body-F Body Attr Code) → IsNamedTableBody pool kind b → IsNamedTableBody longer kind b
   table_body_grows (Some table.Lines) (Body-F.Lines lines) q = q
   table_body_grows (Some table.Frames) (Body-F.Frames frames) q = each_map (IsNamedFrame pool) (IsNamedFrame longer) (λ frame k. shape_grows frame.shape k) frames q
   table_body_grows None (Body-F.Raw bytes) q = tt
@@ -180,8 +180,8 @@ module _ (pool more : List Const) where
       let same = sym (same_table (name_of attr) q.name) in
       record {
         name = index_grows is_text (name_of attr) q.name;
-        free = subst (λ (k : Option Table). is_table_free unseen k ≡ true) same q.free;
-        content = subst (λ (k : Option Table). IsNamedTableBody longer k (body_of attr)) same (table_body_grows (table_of pool (name_of attr)) (body_of attr) q.content);
+        free = subst (λ (k : Option CodeTable). is_table_free unseen k ≡ true) same q.free;
+        content = subst (λ (k : Option CodeTable). IsNamedTableBody longer k (body_of attr)) same (table_body_grows (table_of pool (name_of attr)) (body_of attr) q.content);
       }
 
   tables_grow : (unseen : Bool) (attrs : List Attr) → AllBy (IsNamedTable pool) (table_after pool) unseen attrs → AllBy (IsNamedTable longer) (table_after longer) unseen attrs

@@ -50,8 +50,8 @@ use Rattle.mt_attrs.specs.declared.owner.Owner.{Owner}
 use Rattle.mt_attrs.specs.declared.owner.Owner.TheVariants.{OfClass, OfField, OfMethod}
 use Rattle.mt_attrs.specs.declared.kinds.Known.{Known}
 use Rattle.mt_attrs.specs.declared.kinds.Known.TheVariants as known
-use Rattle.mt_attrs.specs.declared.kinds.Table.{Table}
-use Rattle.mt_attrs.specs.declared.kinds.Table.TheVariants as table
+use Rattle.mt_attrs.specs.declared.kinds.CodeTable.{CodeTable}
+use Rattle.mt_attrs.specs.declared.kinds.CodeTable.TheVariants as table
 use Rattle.mt_attrs.specs.declared.kinds.Unseen.{Unseen}
 use Rattle.class_reader.specs.Indices.{names_class}
 use Rattle.class_writer.specs.Writing.{IsNamedField, IsNamedMethod, IsNamedClass, HasClassForm, SpelledIsWritten, WrittenIsSpelled}
@@ -221,18 +221,18 @@ module _ (pool : List Const) (mv : ℕ → ℕ) (starts : List ℕ) where
         subst (λ (n : ℕ). AreTables (without_table unseen (table_of pool n)) rest) (sym name) later,
       )
 
-  lines_kind : (kind : Option Table) (lines : List (ℕ × ℕ)) → IsNamedTableBody pool kind (Body-F.Lines lines) → IsNamedTableBody pool kind (Body-F.Lines (map (moved_line mv) lines))
+  lines_kind : (kind : Option CodeTable) (lines : List (ℕ × ℕ)) → IsNamedTableBody pool kind (Body-F.Lines lines) → IsNamedTableBody pool kind (Body-F.Lines (map (moved_line mv) lines))
   lines_kind (Some table.Lines) lines q = all_map IsNamedLine IsNamedLine (moved_line mv) (λ line k. k) lines q
   lines_kind (Some table.Frames) lines q = absurd q
   lines_kind None lines q = absurd q
 
-  frames_kind : (kind : Option Table) (frames : List Frame) → IsNamedTableBody pool kind (Body-F.Frames frames) → IsNamedTableBody pool kind (Body-F.Frames (moved_frames mv starts 0 frames))
+  frames_kind : (kind : Option CodeTable) (frames : List Frame) → IsNamedTableBody pool kind (Body-F.Frames frames) → IsNamedTableBody pool kind (Body-F.Frames (moved_frames mv starts 0 frames))
   frames_kind (Some table.Frames) frames q = frames_named 0 frames q
   frames_kind (Some table.Lines) frames q = absurd q
   frames_kind None frames q = absurd q
 
   -- what isn't a table changes nothing in which tables were seen
-  carried : (unseen : Bool) (kind : Option Table) (bytes : List ℕ) → IsNamedTableBody pool kind (Body-F.Raw bytes) → without_table unseen kind ≡ unseen
+  carried : (unseen : Bool) (kind : Option CodeTable) (bytes : List ℕ) → IsNamedTableBody pool kind (Body-F.Raw bytes) → without_table unseen kind ≡ unseen
   carried unseen None bytes q = refl
   carried unseen (Some table.Lines) bytes q = absurd q
   carried unseen (Some table.Frames) bytes q = absurd q
@@ -250,25 +250,25 @@ module _ (pool : List Const) (mv : ℕ → ℕ) (starts : List ℕ) where
       subst (λ (s : Bool). AreTables s rest) (carried unseen (table_of pool (name_of attr)) bytes (subst (IsNamedTableBody pool (table_of pool (name_of attr))) is q.content)) later
   attr_case unseen attr (Body-F.Code c) rest is q later = absurd (never (table_of pool (name_of attr)) (subst (IsNamedTableBody pool (table_of pool (name_of attr))) is q.content))
     where
-      never : (kind : Option Table) → IsNamedTableBody pool kind (Body-F.Code c) → ⊥
+      never : (kind : Option CodeTable) → IsNamedTableBody pool kind (Body-F.Code c) → ⊥
       never (Some table.Lines) h = h
       never (Some table.Frames) h = h
       never None h = h
   attr_case unseen attr (Body-F.Source i) rest is q later = absurd (never (table_of pool (name_of attr)) (subst (IsNamedTableBody pool (table_of pool (name_of attr))) is q.content))
     where
-      never : (kind : Option Table) → IsNamedTableBody pool kind (Body-F.Source i) → ⊥
+      never : (kind : Option CodeTable) → IsNamedTableBody pool kind (Body-F.Source i) → ⊥
       never (Some table.Lines) h = h
       never (Some table.Frames) h = h
       never None h = h
   attr_case unseen attr (Body-F.Value i) rest is q later = absurd (never (table_of pool (name_of attr)) (subst (IsNamedTableBody pool (table_of pool (name_of attr))) is q.content))
     where
-      never : (kind : Option Table) → IsNamedTableBody pool kind (Body-F.Value i) → ⊥
+      never : (kind : Option CodeTable) → IsNamedTableBody pool kind (Body-F.Value i) → ⊥
       never (Some table.Lines) h = h
       never (Some table.Frames) h = h
       never None h = h
   attr_case unseen attr (Body-F.Notes notes) rest is q later = absurd (never (table_of pool (name_of attr)) (subst (IsNamedTableBody pool (table_of pool (name_of attr))) is q.content))
     where
-      never : (kind : Option Table) → IsNamedTableBody pool kind (Body-F.Notes notes) → ⊥
+      never : (kind : Option CodeTable) → IsNamedTableBody pool kind (Body-F.Notes notes) → ⊥
       never (Some table.Lines) h = h
       never (Some table.Frames) h = h
       never None h = h

@@ -35,8 +35,8 @@ use Rattle.mt_attrs.specs.declared.owner.Owner.{Owner}
 use Rattle.mt_attrs.specs.declared.owner.Owner.TheVariants.{OfClass, OfField, OfMethod}
 use Rattle.mt_attrs.specs.declared.kinds.Known.{Known}
 use Rattle.mt_attrs.specs.declared.kinds.Known.TheVariants as known
-use Rattle.mt_attrs.specs.declared.kinds.Table.{Table}
-use Rattle.mt_attrs.specs.declared.kinds.Table.TheVariants as table
+use Rattle.mt_attrs.specs.declared.kinds.CodeTable.{CodeTable}
+use Rattle.mt_attrs.specs.declared.kinds.CodeTable.TheVariants as table
 use Rattle.mt_attrs.specs.declared.kinds.Unseen.{Unseen}
 use Rattle.class_reader.specs.Spells.{IsMember}
 use Rattle.class_writer.specs.Writing.{IsNamedMember}
@@ -117,7 +117,7 @@ shape_named pool starts (shape.Full locals stack) q = (vitems_named pool starts 
 
 -- ---- the attributes inside Code
 
-table_body_named : (pool : List Const) (starts : List ℕ) (kind : Option Table) (b : Body-F Body Attr Code) → IsTableBody pool starts kind b → IsNamedTableBody pool kind b
+table_body_named : (pool : List Const) (starts : List ℕ) (kind : Option CodeTable) (b : Body-F Body Attr Code) → IsTableBody pool starts kind b → IsNamedTableBody pool kind b
 table_body_named pool starts (Some table.Lines) (Body-F.Lines lines) q = each_map (IsLine starts) IsNamedLine (λ line k. k.1) lines q.1
 table_body_named pool starts (Some table.Frames) (Body-F.Frames frames) q = by_each (IsFrame pool starts) (IsNamedFrame pool) (next_behind starts) (λ next frame k. shape_named pool starts frame.shape k.1) 0 frames q.1
 table_body_named pool starts None (Body-F.Raw bytes) q = tt

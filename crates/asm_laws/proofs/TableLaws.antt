@@ -25,8 +25,8 @@ use Rattle.mt_attrs.specs.CodeParts.{attr_of, table_after}
 use Rattle.mt_attrs.specs.Naming.{IsNamedLine, IsNamedRow, IsNamedFrame, IsNamedTable, IsNamedTableBody, AreNamedParts, IsNamedBody}
 use Rattle.mt_attrs.specs.declared.owner.Owner.TheVariants as owner
 use Rattle.mt_attrs.specs.declared.kinds.Known.TheVariants as known
-use Rattle.mt_attrs.specs.declared.kinds.Table.{Table}
-use Rattle.mt_attrs.specs.declared.kinds.Table.TheVariants as table
+use Rattle.mt_attrs.specs.declared.kinds.CodeTable.{CodeTable}
+use Rattle.mt_attrs.specs.declared.kinds.CodeTable.TheVariants as table
 use Rattle.class_asm.specs.Numbering.{text_index, behind}
 use Rattle.class_asm.specs.File.{with_pool, insns_of, frames_of, rows_of, starts_of}
 use Rattle.class_asm.specs.ClassFile.{with_lines, with_frames, framed, code_by, code_attr}
@@ -71,12 +71,12 @@ record AreLines (pool : List Const) (attrs : List Attr) : Type 0 where
 abbrev pub AreNamedTables : List Const → List Attr → Type 0
 AreNamedTables pool attrs = AllBy (IsNamedTable pool) (table_after pool) true attrs
 
-table_named : (pool : List Const) (kind : Table) (units : List ℕ) (index : ℕ) (b : Body) → IsNumberOf pool (const.Utf8 units) index → table_of pool index ≡ Some kind → IsNamedTableBody pool (Some kind) (out-Body b)
+table_named : (pool : List Const) (kind : CodeTable) (units : List ℕ) (index : ℕ) (b : Body) → IsNumberOf pool (const.Utf8 units) index → table_of pool index ≡ Some kind → IsNamedTableBody pool (Some kind) (out-Body b)
     → (unseen : Bool) → is_table_free unseen (Some kind) ≡ true → IsNamedTable pool unseen (attr_of index b)
 table_named pool kind units index b n is content unseen free = record {
   name = names_is_text pool units index n;
   free = ap (is_table_free unseen) is ∙ free;
-  content = subst (λ (k : Option Table). IsNamedTableBody pool k (out-Body b)) (sym is) content;
+  content = subst (λ (k : Option CodeTable). IsNamedTableBody pool k (out-Body b)) (sym is) content;
 }
 
 lines_table : (pool : List Const) (index : ℕ) → text_of pool index ≡ Some (codes "LineNumberTable") → table_of pool index ≡ Some table.Lines

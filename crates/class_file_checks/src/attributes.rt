@@ -10,7 +10,7 @@ ghost use Rattle.mt_bytes.specs.Items.{ReadsItem};
 ghost use Rattle.mt_attrs.specs.Attributes.{attrs_at, attrs_bytes, AreAttrs};
 ghost use Rattle.mt_attrs.specs.Layout.{attrs_layout, HasAttrForm};
 
-use class_model::{Attr, Bytes, ClassFault, Judged, LayoutFault, Seq};
+use class_model::{Attr, Bytes, CheckedPool, ClassFault, LayoutFault, Seq};
 use mt_attrs::Owner;
 use mt_bytes::Cursor;
 use std::alloc::Global;
@@ -20,10 +20,16 @@ pub fn read_attrs(
     alloc: Global,
     cur: &mut Cursor,
     owner: Owner,
-    pool: &Judged,
+    pool: &CheckedPool,
 ) -> Result<Seq<Attr>, ClassFault>
-    ensures found { IfOk result (λ attrs. AreAttrs pool.now owner attrs × (cur.old.bytes ≡ attrs_bytes attrs ++ cur.new.bytes) × (cur.new.at ≡ cur.old.at + length (attrs_bytes attrs))) }
-    ensures only { (attrs : List Attr) (behind : List ℕ) → AreAttrs pool.now owner attrs → cur.old.bytes ≡ attrs_bytes attrs ++ behind → Reads fault.Memory (λ i. Ok (attrs, input_at (cur.old.at + length (attrs_bytes attrs)) behind)) cur.old cur.new result }
+    ensures found { IfOk result (λ attrs.
+        AreAttrs pool.now owner attrs × (cur.old.bytes ≡ attrs_bytes attrs ++ cur.new.bytes)
+        × (cur.new.at ≡ cur.old.at + length (attrs_bytes attrs))) }
+    ensures only { (attrs : List Attr) (behind : List ℕ) → AreAttrs pool.now owner attrs →
+        cur.old.bytes ≡ attrs_bytes attrs ++ behind →
+        Reads fault.Memory
+        (λ i. Ok (attrs, input_at (cur.old.at + length (attrs_bytes attrs)) behind))
+        cur.old cur.new result }
     ensures exact { ReadsItem (attrs_at owner pool.now) cur.old cur.new result }
 {
     mt_attrs::read_attrs(alloc, cur, owner, pool)
@@ -33,7 +39,8 @@ pub fn read_attrs(
 pub fn write_attrs(attrs: &Seq<Attr>, out: &mut Bytes) -> Result<(), LayoutFault>
     requires { All HasAttrForm attrs.now }
     ensures ok { OnOk result (out.new ≡ out.old ++ attrs_bytes attrs.now) }
-    ensures exact { Gives layout_fault.Memory (λ _. attrs_bytes attrs.now) (attrs_layout attrs.now) result }
+    ensures exact { Gives layout_fault.Memory (λ _. attrs_bytes attrs.now) (attrs_layout attrs.now)
+        result }
 {
     mt_attrs::write_attrs(attrs, out)
 }

@@ -14,7 +14,8 @@ use std::alloc::Global;
 /// `read_class`.
 pub fn read_class(alloc: Global, bytes: &[u8]) -> Result<Class, ClassFault>
     ensures found { IfOk result (λ class. Spells bytes.now class) }
-    ensures only { (class : Class) → Spells bytes.now class → MatchResult result (λ c. c ≡ class) (λ e. e ≡ fault.Memory) }
+    ensures only { (class : Class) → Spells bytes.now class →
+        MatchResult result (λ c. c ≡ class) (λ e. e ≡ fault.Memory) }
     ensures exact { Gives fault.Memory (λ class. class) (class_of_file bytes.now) result }
 {
     class_reader::read_class(alloc, bytes)

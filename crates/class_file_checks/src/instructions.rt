@@ -8,7 +8,7 @@ ghost use Rattle.codec_rules.specs.Meets.{Gives};
 ghost use Rattle.mt_insn.specs.Code.{IsCode, HasForm, HasTargets, code, layout};
 ghost use Rattle.mt_insn.specs.Targets.{code_at};
 
-use class_model::{Bytes, ClassFault, Insn, Judged, LayoutFault, Seq};
+use class_model::{Bytes, CheckedPool, ClassFault, Insn, LayoutFault, Seq};
 use std::alloc::Global;
 
 /// `read_insns`.
@@ -16,11 +16,12 @@ pub fn read_insns(
     alloc: Global,
     bytes: &[u8],
     base: u64,
-    pool: &Judged,
+    pool: &CheckedPool,
 ) -> Result<Seq<Insn>, ClassFault>
     requires { base + length bytes.now < 2 ^ 64 }
     ensures found { IfOk result (λ insns. IsCode pool.now insns × (bytes.now ≡ code insns)) }
-    ensures only { (insns : List Insn) → IsCode pool.now insns → bytes.now ≡ code insns → Gives fault.Memory (λ read. read) (Ok insns) result }
+    ensures only { (insns : List Insn) → IsCode pool.now insns → bytes.now ≡ code insns →
+        Gives fault.Memory (λ read. read) (Ok insns) result }
     ensures exact { Gives fault.Memory (λ insns. insns) (code_at base pool.now bytes.now) result }
 {
     mt_insn::read_insns(alloc, bytes, base, pool)

@@ -18,8 +18,10 @@ use std::alloc::Global;
 /// `read_pool`.
 pub fn read_pool(alloc: Global, cur: &mut Cursor) -> Result<Seq<Const>, ClassFault>
     ensures found { IfOk result (λ pool. IsPoolRead cur.old pool cur.new) }
-    ensures only { (pool : List Const) (rest : List ℕ) → IsPool pool → cur.old.bytes ≡ pool_bytes pool ++ rest
-        → ReadsItem (λ input. Ok (pool, input_at (input.at + length (pool_bytes pool)) rest)) cur.old cur.new result }
+    ensures only { (pool : List Const) (rest : List ℕ) → IsPool pool →
+        cur.old.bytes ≡ pool_bytes pool ++ rest →
+        ReadsItem (λ input. Ok (pool, input_at (input.at + length (pool_bytes pool)) rest))
+        cur.old cur.new result }
     ensures exact { ReadsItem pool_at cur.old cur.new result }
 {
     mt_pool::read_pool(alloc, cur)

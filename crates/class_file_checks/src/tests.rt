@@ -1,5 +1,6 @@
-//! The tests of the layer, each family as one table. They name what no clause says: that the definitions are the standard's, by its own vectors and by what `javac` wrote, and that
-//! each call succeeds.
+//! The tests of the layer, each family as one table. They name what no clause says: that the
+//! definitions are the standard's, by its own vectors and by what `javac` wrote, and that each call
+//! succeeds.
 
 mod attributes;
 mod code;

@@ -4,13 +4,13 @@ ghost use Rattle.std.specs.Prelude.{◌≡◌, ◌≢◌, List, ℕ, Some, None,
 ghost use Rattle.class_model.specs.Text.{IsUnits, IsFirstBad, text, units_of};
 ghost use Rattle.class_model.specs.Descriptor.{FieldType, MethodDescriptor, IsFieldDescriptor, IsMethodDescriptor, MeansField, MeansMethod};
 ghost use Rattle.class_model.specs.DescriptorReading.{field_kind, method_kinds};
-ghost use Rattle.class_model.specs.Judged.{verdict_of};
+ghost use Rattle.class_model.specs.TextVerdicts.{verdict_of};
 ghost use Rattle.class_model.specs.Pool.{text_of};
 ghost use Rattle.class_model.specs.declared.fault.TextFault.TheVariants as text_fault;
 ghost use Rattle.class_model.specs.declared.fault.DescFault.TheVariants as desc_fault;
 
 use class_model::{
-    Copied, DescFault, Judged, Kind, Memory, MethodType, Name, Seq, TextFault, Verdict,
+    CheckedPool, Copied, DescFault, Kind, Memory, MethodType, Name, Seq, TextFault, Verdict,
 };
 use std::alloc::Global;
 
@@ -41,7 +41,8 @@ pub fn parse_field(alloc: Global, desc: &Name) -> Result<Kind, DescFault>
 pub fn parse_method(alloc: Global, desc: &Name) -> Result<MethodType, DescFault>
     ensures found { IfOk result (λ types. MeansMethod desc.now (Some types)) }
     ensures float { result ≡ Err desc_fault.Float → MeansMethod desc.now None }
-    ensures bad { result ≡ Err desc_fault.Bad → (m : MethodDescriptor) → ¬ IsMethodDescriptor desc.now m }
+    ensures bad { result ≡ Err desc_fault.Bad → (m : MethodDescriptor) →
+        ¬ IsMethodDescriptor desc.now m }
     ensures exact { MatchResult result (λ meant. method_kinds desc.now ≡ Ok meant)
         (λ fault. fault ≢ desc_fault.Memory → method_kinds desc.now ≡ Err fault) }
 {
@@ -55,9 +56,10 @@ pub fn copy<T: Copied + Drop>(list: &Seq<T>) -> Result<Seq<T>, Memory>
     list.copy()
 }
 
-/// `Judged::text`.
-pub fn verdict_on<'a>(pool: &'a Judged, index: u16) -> Option<(&'a Name, Verdict)>
-    ensures { MatchOption result (text_of pool.now index ≡ None) (λ x. (text_of pool.now index ≡ Some x.0.now) × (x.1 ≡ verdict_of x.0.now)) }
+/// `CheckedPool::text`.
+pub fn verdict_on<'a>(pool: &'a CheckedPool, index: u16) -> Option<(&'a Name, Verdict)>
+    ensures { MatchOption result (text_of pool.now index ≡ None) (λ x.
+        (text_of pool.now index ≡ Some x.0.now) × (x.1 ≡ verdict_of x.0.now)) }
 {
     let (text, verdict) = pool.text(index)?;
     let field = verdict.field;

@@ -2,7 +2,7 @@
 use Rattle.std.proofs.Common.{◌≡◌, ℕ, List, Option, Some, None, Ok, IsSome, refl, sym, ap, subst, ◌∙◌}
 use Rattle.std.specs.Option.{ok_or}
 use Rattle.class_model.specs.Descriptor.{kind_of, method_type}
-use Rattle.class_model.specs.DescriptorReading.{judged, field_type_of, method_descriptor_of, field_kind, method_kinds}
+use Rattle.class_model.specs.DescriptorReading.{meaning_or_fault, field_type_of, method_descriptor_of, field_kind, method_kinds}
 use Rattle.class_model.specs.Pool.{HasKind, HasMethodType}
 use Rattle.class_model.specs.declared.kind.Kind.{Kind}
 use Rattle.class_model.specs.declared.kind.MethodType.{MethodType}
@@ -23,8 +23,8 @@ gives : {K : Type 0} (o : Option K) → IsSome o → Gives o
 gives (Some k) h = record { value = k; is = refl }
 gives None h = absurd cc
 
-judged_ok : {T K : Type 0} (meaning : T → Option K) (o : Option T) (t : T) (k : K) → o ≡ Some t → meaning t ≡ Some k → judged meaning o ≡ Ok k
-judged_ok meaning o t k is means = ap (judged meaning) is ∙ ap (λ m. ok_or m desc_fault.Float) means
+meaning_ok : {T K : Type 0} (meaning : T → Option K) (o : Option T) (t : T) (k : K) → o ≡ Some t → meaning t ≡ Some k → meaning_or_fault meaning o ≡ Ok k
+meaning_ok meaning o t k is means = ap (meaning_or_fault meaning) is ∙ ap (λ m. ok_or m desc_fault.Float) means
 
 pub HasKind-from_read : (desc : List ℕ) (kind : Kind) → field_kind desc ≡ Ok kind → HasKind desc
 HasKind-from_read desc kind e = let m = read_field_means desc kind e in record { tree = m.tree; spelled = m.spelled; floatless = is_some_of (kind_of m.tree) kind m.means }
@@ -32,7 +32,7 @@ HasKind-from_read desc kind e = let m = read_field_means desc kind e in record {
 pub read_from_HasKind : (desc : List ℕ) → HasKind desc → (kind : Kind) × (field_kind desc ≡ Ok kind)
 read_from_HasKind desc h =
     let k = gives (kind_of h.tree) h.floatless in
-    (k.value, judged_ok kind_of (field_type_of desc) h.tree k.value (field_again desc h.tree h.spelled) k.is)
+    (k.value, meaning_ok kind_of (field_type_of desc) h.tree k.value (field_again desc h.tree h.spelled) k.is)
 
 pub HasMethodType-from_read : (desc : List ℕ) (types : MethodType) → method_kinds desc ≡ Ok types → HasMethodType desc
 HasMethodType-from_read desc types e = let m = read_method_means desc types e in record { tree = m.tree; spelled = m.spelled; floatless = is_some_of (method_type m.tree) types m.means }
@@ -40,4 +40,4 @@ HasMethodType-from_read desc types e = let m = read_method_means desc types e in
 pub read_from_HasMethodType : (desc : List ℕ) → HasMethodType desc → (types : MethodType) × (method_kinds desc ≡ Ok types)
 read_from_HasMethodType desc h =
     let k = gives (method_type h.tree) h.floatless in
-    (k.value, judged_ok method_type (method_descriptor_of desc) h.tree k.value (method_again desc h.tree h.spelled) k.is)
+    (k.value, meaning_ok method_type (method_descriptor_of desc) h.tree k.value (method_again desc h.tree h.spelled) k.is)

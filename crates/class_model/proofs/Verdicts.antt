@@ -2,7 +2,7 @@
 use Rattle.std.proofs.Common.{◌≡◌, ◌≢◌, ℕ, List, Option, Some, None, Result, Ok, Err, MatchResult, IfOk, refl, sym, ap, ◌∙◌}
 use Rattle.std.specs.Option.{ok_or}
 use Rattle.class_model.specs.Descriptor.{FieldType, MethodDescriptor, IsFieldDescriptor, IsMethodDescriptor, MeansField, MeansMethod, kind_of, method_type}
-use Rattle.class_model.specs.DescriptorReading.{judged, field_type_of, method_descriptor_of, field_kind, method_kinds}
+use Rattle.class_model.specs.DescriptorReading.{meaning_or_fault, field_type_of, method_descriptor_of, field_kind, method_kinds}
 use Rattle.class_model.specs.declared.kind.Kind.{Kind}
 use Rattle.class_model.specs.declared.kind.MethodType.{MethodType}
 use Rattle.class_model.specs.declared.fault.DescFault.{DescFault}
@@ -17,25 +17,25 @@ bad_is_not_memory : desc_fault.Bad ≢ desc_fault.Memory
 bad_is_not_memory e = absurd cc
 
 -- a tree with what it means
-pub record Judged {T K : Type 0} (meaning : T → Option K) (o : Option T) (value : Option K) : Type 0 where
+pub record HasMeaning {T K : Type 0} (meaning : T → Option K) (o : Option T) (value : Option K) : Type 0 where
   pub tree : T
   pub is : o ≡ Some tree
   pub means : meaning tree ≡ value
 
 module _ {T K : Type 0} (meaning : T → Option K) where
-  ok_by : (o : Option T) (t : T) (m : Option K) (k : K) → o ≡ Some t → meaning t ≡ m → ok_or m desc_fault.Float ≡ Ok k → Judged meaning o (Some k)
+  ok_by : (o : Option T) (t : T) (m : Option K) (k : K) → o ≡ Some t → meaning t ≡ m → ok_or m desc_fault.Float ≡ Ok k → HasMeaning meaning o (Some k)
   ok_by o t (Some j) k is means e = let same : Some j ≡ Some k = cc in record { tree = t; is = is; means = means ∙ same }
   ok_by o t None k is means e = absurd cc
 
-  ok_from : (o : Option T) (k : K) → judged meaning o ≡ Ok k → Judged meaning o (Some k)
+  ok_from : (o : Option T) (k : K) → meaning_or_fault meaning o ≡ Ok k → HasMeaning meaning o (Some k)
   ok_from None k e = absurd cc
   ok_from (Some t) k e = ok_by (Some t) t (meaning t) k refl refl e
 
-  float_by : (o : Option T) (t : T) (m : Option K) → o ≡ Some t → meaning t ≡ m → ok_or m desc_fault.Float ≡ Err desc_fault.Float → Judged meaning o None
+  float_by : (o : Option T) (t : T) (m : Option K) → o ≡ Some t → meaning t ≡ m → ok_or m desc_fault.Float ≡ Err desc_fault.Float → HasMeaning meaning o None
   float_by o t (Some j) is means e = absurd cc
   float_by o t None is means e = record { tree = t; is = is; means = means }
 
-  float_from : (o : Option T) → judged meaning o ≡ Err desc_fault.Float → Judged meaning o None
+  float_from : (o : Option T) → meaning_or_fault meaning o ≡ Err desc_fault.Float → HasMeaning meaning o None
   float_from None e = absurd cc
   float_from (Some t) e = float_by (Some t) t (meaning t) refl refl e
 
@@ -43,7 +43,7 @@ module _ {T K : Type 0} (meaning : T → Option K) where
   bad_by (Some j) e = absurd cc
   bad_by None e = absurd cc
 
-  bad_from : (o : Option T) (t : T) → judged meaning o ≡ Err desc_fault.Bad → o ≡ Some t → ⊥
+  bad_from : (o : Option T) (t : T) → meaning_or_fault meaning o ≡ Err desc_fault.Bad → o ≡ Some t → ⊥
   bad_from None t e is = absurd cc
   bad_from (Some s) t e is = bad_by (meaning s) e
 
@@ -61,7 +61,7 @@ module _ {T K : Type 0} (meaning : T → Option K) where
 
 -- ---- fields
 
-means_field : (desc : List ℕ) (value : Option Kind) → Judged kind_of (field_type_of desc) value → MeansField desc value
+means_field : (desc : List ℕ) (value : Option Kind) → HasMeaning kind_of (field_type_of desc) value → MeansField desc value
 means_field desc value j = record { tree = j.tree; spelled = field_takes desc j.tree j.is; means = j.means }
 
 pub read_field_means : (desc : List ℕ) (kind : Kind) → field_kind desc ≡ Ok kind → MeansField desc (Some kind)
@@ -79,7 +79,7 @@ field_bad desc r h e t is = bad_from kind_of (field_type_of desc) t (answered_ba
 
 -- ---- methods
 
-means_method : (desc : List ℕ) (value : Option MethodType) → Judged method_type (method_descriptor_of desc) value → MeansMethod desc value
+means_method : (desc : List ℕ) (value : Option MethodType) → HasMeaning method_type (method_descriptor_of desc) value → MeansMethod desc value
 means_method desc value j = record { tree = j.tree; spelled = method_takes desc j.tree j.is; means = j.means }
 
 pub read_method_means : (desc : List ℕ) (types : MethodType) → method_kinds desc ≡ Ok types → MeansMethod desc (Some types)

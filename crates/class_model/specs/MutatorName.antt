@@ -1,4 +1,5 @@
--- The names of the mutators, as identifiers and reports print them (this project's own, in the manner of PIT).
+-- The names of the mutators, as identifiers and reports print them (this project's own, in the
+-- manner of PIT).
 use Rattle.std.specs.Prelude.{ℕ, List, codes}
 use Rattle.class_model.specs.declared.mutator.Mutator.{Mutator}
 use Rattle.class_model.specs.declared.mutator.Mutator.TheVariants as mutator

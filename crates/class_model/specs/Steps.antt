@@ -1,4 +1,5 @@
--- What the private parts of the readers answer (this project's own). No public clause cites these: the rules are those of the other files.
+-- What the private parts of the readers answer (this project's own). No public clause cites these:
+-- the rules are those of the other files.
 use Rattle.std.specs.Prelude.{ℕ, ◌&&◌, ◌==◌, nat_lt, nat_le, List, [], ◌∷◌, ◌++◌, length, Option, Some, None, option_and_then, if◌then◌else◌}
 use Rattle.std.specs.Option.{option_map}
 use Rattle.std.specs.Char.Utf16.{is_high_surrogate, is_low_surrogate}
@@ -6,7 +7,8 @@ use Rattle.class_model.specs.Descriptor.{FieldType, base_kind, kind_of, kinds_of
 use Rattle.class_model.specs.DescriptorReading.{base_of, object_at, element_at, field_type_at, parameters_at, return_type_of}
 use Rattle.class_model.specs.declared.kind.Kind.{Kind}
 
--- What stands behind the character at the front. There is none in an empty name, and none where a surrogate without a partner is at the front.
+-- What stands behind the character at the front. There is none in an empty name, and none where a
+-- surrogate without a partner is at the front.
 abbrev pub behind_char : List ℕ → Option (List ℕ)
 behind_char [] = None
 behind_char (first ∷ []) = if nat_le 0xD800 first && nat_lt first 0xE000 then None else Some []
@@ -15,7 +17,8 @@ behind_char (first ∷ second ∷ rest) =
     else if nat_le 0xD800 first && nat_lt first 0xE000 then None
     else Some (second ∷ rest)
 
--- ---- Descriptors, with the kind in place of the tree, and none where it is or holds a float or a double.
+-- ---- Descriptors, with the kind in place of the tree, and none where it is or holds a float or a
+-- double.
 
 abbrev pub as_kind : FieldType × List ℕ → Option Kind × List ℕ
 as_kind x = (kind_of x.0, x.1)
@@ -43,7 +46,9 @@ with_last others last = option_and_then (λ ks. option_map (λ k. ks ++ k ∷ []
 -- A parameter, or none where a closing parenthesis stands, and what stands behind.
 abbrev pub parameter_at : List ℕ → Option (Option (Option Kind) × List ℕ)
 parameter_at [] = None
-parameter_at (first ∷ units) = if first == 41 then Some (None, units) else option_map (λ x. (Some x.0, x.1)) (kind_at (first ∷ units))
+parameter_at (first ∷ units) =
+    if first == 41 then Some (None, units)
+    else option_map (λ x. (Some x.0, x.1)) (kind_at (first ∷ units))
 
 abbrev pub as_kinds : List FieldType × List ℕ → Option (List Kind) × List ℕ
 as_kinds x = (kinds_of x.0, x.1)

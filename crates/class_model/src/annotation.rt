@@ -1,5 +1,5 @@
-//! Annotations, flat: what stands in one is a list of tokens, so however deep arrays stand in one another, copying, comparing
-//! and dropping are loops.
+//! Annotations, flat: what stands in one is a list of tokens, so however deep arrays stand in one
+//! another, copying, comparing and dropping are loops.
 
 ghost use Rattle.std.specs.Prelude.{◌≡◌, ◌+◌, ◌*◌, ◌≤◌, IfOk, None};
 ghost use Rattle.class_model.specs.OwnElements.{opened_by, own_elements};
@@ -9,8 +9,8 @@ use crate::list::Seq;
 use crate::memory::Memory;
 use std::alloc::Global;
 
-/// An annotation (JVMS 4.7.16): the index of its type, how many elements it has, and all that stands in them, in the order of
-/// the file.
+/// An annotation (JVMS 4.7.16): the index of its type, how many elements it has, and all that
+/// stands in them, in the order of the file.
 #[derive(Drop)]
 pub struct Note {
     pub kind: u16,
@@ -18,8 +18,8 @@ pub struct Note {
     pub tokens: Seq<Token>,
 }
 
-/// What stands in an annotation: the name of an element, or the front of an element's value (JVMS 4.7.16.1). What stands in an
-/// annotation or an array comes right behind its token.
+/// What stands in an annotation: the name of an element, or the front of an element's value (JVMS
+/// 4.7.16.1). What stands in an annotation or an array comes right behind its token.
 #[derive(Clone, Copy)]
 pub enum Token {
     /// The index of an element's name. The value of the element is what comes next.
@@ -36,7 +36,8 @@ pub enum Token {
     Many(u16),
 }
 
-// How many tokens a token opens right behind it: a name and the front of a value for each element, the front of each value.
+// How many tokens a token opens right behind it: a name and the front of a value for each element,
+// the front of each value.
 fn opened_by(token: Token) -> u128
     ensures value { result ≡ opened_by token }
     ensures small { result ≤ 131070 }
@@ -82,7 +83,8 @@ impl Note {
         })
     }
 
-    /// The annotation's own elements, none of one that stands in it: the index of each name, and the front of the value.
+    /// The annotation's own elements, none of one that stands in it: the index of each name, and
+    /// the front of the value.
     pub fn own_elements(&self) -> Result<Seq<(u16, Token)>, Memory>
         ensures { IfOk result (λ own. own ≡ own_elements None 0 self.now.tokens) }
     {

@@ -45,8 +45,8 @@ pub struct Code {
     pub attrs: Seq<Attr>,
 }
 
-/// A row of the exception table (JVMS 4.7.3): the first instruction that it covers, the first behind them, the handler,
-/// and the index of the class that is caught, or 0 for every class.
+/// A row of the exception table (JVMS 4.7.3): the first instruction that it covers, the first
+/// behind them, the handler, and the index of the class that is caught, or 0 for every class.
 #[derive(Clone, Copy)]
 pub struct Row {
     pub start: u32,

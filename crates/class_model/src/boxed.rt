@@ -4,8 +4,8 @@ use crate::memory::Memory;
 use std::alloc::Global;
 use std::marker::Model;
 
-/// A value that takes one word where it stands, for what few of many have: so an instruction that is no switch isn't as
-/// large as one that is. Contracts see it as the value.
+/// A value that takes one word where it stands, for what few of many have: so an instruction that
+/// is no switch isn't as large as one that is. Contracts see it as the value.
 #[derive(Drop)]
 pub struct Boxed<T> {
     value: Box<T>,

@@ -22,7 +22,8 @@ pub struct Class {
     pub attrs: Seq<Attr>,
 }
 
-/// A field or a method (JVMS 4.5, 4.6): its access flags and the indices of its name and its descriptor.
+/// A field or a method (JVMS 4.5, 4.6): its access flags and the indices of its name and its
+/// descriptor.
 #[derive(Drop)]
 pub struct Member {
     pub flags: u16,

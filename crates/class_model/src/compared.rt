@@ -1,8 +1,9 @@
-//! Lists are equal, ordered and hashed as their slices are, item by item. So a name is a key of any map.
+//! Lists are equal, ordered and hashed as their slices are, item by item. So a name is a key of any
+//! map.
 //!
-//! Names are thus ordered by their code units. That is neither the order of their modified UTF-8, where unit 0 comes behind
-//! the units below 0x80, nor that of their UTF-8, where a surrogate pair comes behind every other unit: sort by the bytes
-//! where one of those is wanted.
+//! Names are thus ordered by their code units. That is neither the order of their modified UTF-8,
+//! where unit 0 comes behind the units below 0x80, nor that of their UTF-8, where a surrogate pair
+//! comes behind every other unit: sort by the bytes where one of those is wanted.
 
 ghost use Rattle.std.specs.Prelude.{◌≡◌};
 ghost use Rattle.std.specs.Cmp.Lexicographic.{pointwise, slice_cmp, slice_partial_cmp, lists_agrees, lists_equiv, lists_per, lists_po, lists_ties, lists_total};

@@ -25,7 +25,8 @@ pub enum Const {
     Field(u16, u16),
     /// A class's method by the indices of its class and its pair: tag 10.
     Method(u16, u16),
-    /// An interface's method by the indices of its class and its pair, CONSTANT_InterfaceMethodref: tag 11.
+    /// An interface's method by the indices of its class and its pair, CONSTANT_InterfaceMethodref:
+    /// tag 11.
     IMethod(u16, u16),
     /// A name and a descriptor by their indices, CONSTANT_NameAndType: tag 12.
     Pair(u16, u16),
@@ -33,7 +34,8 @@ pub enum Const {
     Handle(u8, u16),
     /// A method type by the index of its descriptor, CONSTANT_MethodType: tag 16.
     MethodKind(u16),
-    /// A dynamic call site, by the number of its bootstrap method and the index of its pair: tag 18.
+    /// A dynamic call site, by the number of its bootstrap method and the index of its pair: tag
+    /// 18.
     Dynamic(u16, u16),
     /// The place behind a `Long` or a `Double`, which nothing may use.
     Second,

@@ -25,9 +25,11 @@ fn is_low_surrogate(unit: u16) -> bool
     0xDC00 <= unit && unit < 0xE000
 }
 
-/// What stands behind the character at the front, where none is a surrogate without a partner there.
+/// What stands behind the character at the front, where none is a surrogate without a partner
+/// there.
 fn behind_char(name: &[u16]) -> Option<&[u16]>
-    ensures { MatchOption result (behind_char name.now ≡ None) (λ rest. behind_char name.now ≡ Some rest.now) }
+    ensures { MatchOption result (behind_char name.now ≡ None) (λ rest.
+        behind_char name.now ≡ Some rest.now) }
 {
     match name {
         [first, second, rest @ ..] if is_high_surrogate(*first) && is_low_surrogate(*second) => {

@@ -44,7 +44,8 @@ const BOOLEAN: u16 = b'Z' as u16;
 /// The class behind an `L`, and what stands behind its semicolon.
 fn object_at(alloc: Global, units: &[u16]) -> Result<(Option<Kind>, &[u16]), DescFault>
     ensures found { MatchResult result (λ x. object_kind units.now ≡ Some (x.0, x.1.now))
-        (λ fault. fault ≢ desc_fault.Memory → (fault ≡ desc_fault.Bad) × (object_kind units.now ≡ None)) }
+        (λ fault. fault ≢ desc_fault.Memory →
+        (fault ≡ desc_fault.Bad) × (object_kind units.now ≡ None)) }
     ensures shorter { IfOk result (λ x. length x.1.now ≤ length units.now) }
 {
     match parted_at(units, SEMICOLON) {
@@ -74,7 +75,8 @@ fn base_of(letter: u16) -> Option<Option<Kind>>
 /// The base type or the class whose first unit is known, and what stands behind it.
 fn element_at(alloc: Global, first: u16, units: &[u16]) -> Result<(Option<Kind>, &[u16]), DescFault>
     ensures found { MatchResult result (λ x. element_kind first units.now ≡ Some (x.0, x.1.now))
-        (λ fault. fault ≢ desc_fault.Memory → (fault ≡ desc_fault.Bad) × (element_kind first units.now ≡ None)) }
+        (λ fault. fault ≢ desc_fault.Memory →
+        (fault ≡ desc_fault.Bad) × (element_kind first units.now ≡ None)) }
     ensures shorter { IfOk result (λ x. length x.1.now ≤ length units.now) }
 {
     if first == OBJECT {
@@ -86,7 +88,8 @@ fn element_at(alloc: Global, first: u16, units: &[u16]) -> Result<(Option<Kind>,
     }
 }
 
-/// The array whose text begins with the descriptor, and what stands behind it. Its component stands behind the first bracket.
+/// The array whose text begins with the descriptor, and what stands behind it. Its component stands
+/// behind the first bracket.
 fn array_at<'a>(
     alloc: Global,
     desc: &'a [u16],
@@ -94,7 +97,8 @@ fn array_at<'a>(
 ) -> Result<(Option<Kind>, &'a [u16]), DescFault>
     requires { desc.now ≡ 91 ∷ component.now }
     ensures found { MatchResult result (λ x. kind_at desc.now ≡ Some (x.0, x.1.now))
-        (λ fault. fault ≢ desc_fault.Memory → (fault ≡ desc_fault.Bad) × (kind_at desc.now ≡ None)) }
+        (λ fault. fault ≢ desc_fault.Memory →
+        (fault ≡ desc_fault.Bad) × (kind_at desc.now ≡ None)) }
     ensures shorter { IfOk result (λ x. length x.1.now < length desc.now) }
 {
     let mut component = component;
@@ -115,7 +119,8 @@ fn array_at<'a>(
 /// The field type at the front, and what stands behind it.
 fn kind_at(alloc: Global, units: &[u16]) -> Result<(Option<Kind>, &[u16]), DescFault>
     ensures found { MatchResult result (λ x. kind_at units.now ≡ Some (x.0, x.1.now))
-        (λ fault. fault ≢ desc_fault.Memory → (fault ≡ desc_fault.Bad) × (kind_at units.now ≡ None)) }
+        (λ fault. fault ≢ desc_fault.Memory →
+        (fault ≡ desc_fault.Bad) × (kind_at units.now ≡ None)) }
     ensures shorter { IfOk result (λ x. length x.1.now < length units.now) }
 {
     match units {
@@ -149,10 +154,12 @@ fn with_last(kinds: Option<Seq<Kind>>, last: Option<Kind>) -> Result<Option<Seq<
     }
 }
 
-/// The kind of the parameter at the front, or none where a closing parenthesis stands there, and what stands behind.
+/// The kind of the parameter at the front, or none where a closing parenthesis stands there, and
+/// what stands behind.
 fn parameter_at(alloc: Global, units: &[u16]) -> Result<(Option<Option<Kind>>, &[u16]), DescFault>
     ensures found { MatchResult result (λ x. parameter_at units.now ≡ Some (x.0, x.1.now))
-        (λ fault. fault ≢ desc_fault.Memory → (fault ≡ desc_fault.Bad) × (parameter_at units.now ≡ None)) }
+        (λ fault. fault ≢ desc_fault.Memory →
+        (fault ≡ desc_fault.Bad) × (parameter_at units.now ≡ None)) }
     ensures shorter { IfOk result (λ x. length x.1.now < length units.now) }
 {
     match units {
@@ -168,7 +175,8 @@ fn parameter_at(alloc: Global, units: &[u16]) -> Result<(Option<Option<Kind>>, &
 #[tactic(auto, using(crate::proofs::ParameterLaws::begins, crate::proofs::ParameterLaws::misses))]
 fn parameters_at(alloc: Global, units: &[u16]) -> Result<(Option<Seq<Kind>>, &[u16]), DescFault>
     ensures { MatchResult result (λ x. kinds_at units.now ≡ Some (x.0, x.1.now))
-        (λ fault. fault ≢ desc_fault.Memory → (fault ≡ desc_fault.Bad) × (kinds_at units.now ≡ None)) }
+        (λ fault. fault ≢ desc_fault.Memory →
+        (fault ≡ desc_fault.Bad) × (kinds_at units.now ≡ None)) }
 {
     let mut kinds = Some(Seq::new(alloc));
     let mut rest = units;
@@ -182,10 +190,12 @@ fn parameters_at(alloc: Global, units: &[u16]) -> Result<(Option<Seq<Kind>>, &[u
     }
 }
 
-/// What the whole text says of a result: `Some(None)` for void, and none where it is or holds a float or a double.
+/// What the whole text says of a result: `Some(None)` for void, and none where it is or holds a
+/// float or a double.
 fn returned_kind(alloc: Global, units: &[u16]) -> Result<Option<Option<Kind>>, DescFault>
     ensures { MatchResult result (λ x. returned_kind units.now ≡ Some x)
-        (λ fault. fault ≢ desc_fault.Memory → (fault ≡ desc_fault.Bad) × (returned_kind units.now ≡ None)) }
+        (λ fault. fault ≢ desc_fault.Memory →
+        (fault ≡ desc_fault.Bad) × (returned_kind units.now ≡ None)) }
 {
     if let [VOID] = units {
         return Ok(Some(None));
@@ -212,8 +222,8 @@ fn read_method(alloc: Global, desc: &[u16]) -> Result<MethodType, DescFault>
     }
 }
 
-/// What a field of this descriptor holds. `Bad` comes exactly where the text is outside the grammar, and `Float` exactly where it is
-/// in the grammar and has a float or a double as a kind.
+/// What a field of this descriptor holds. `Bad` comes exactly where the text is outside the
+/// grammar, and `Float` exactly where it is in the grammar and has a float or a double as a kind.
 pub fn parse_field(alloc: Global, desc: &Name) -> Result<Kind, DescFault>
     ensures found { IfOk result (λ kind. MeansField desc.now (Some kind)) }
     ensures float { result ≡ Err desc_fault.Float → MeansField desc.now None }
@@ -230,7 +240,8 @@ pub fn parse_field(alloc: Global, desc: &Name) -> Result<Kind, DescFault>
 pub fn parse_method(alloc: Global, desc: &Name) -> Result<MethodType, DescFault>
     ensures found { IfOk result (λ types. MeansMethod desc.now (Some types)) }
     ensures float { result ≡ Err desc_fault.Float → MeansMethod desc.now None }
-    ensures bad { result ≡ Err desc_fault.Bad → (m : MethodDescriptor) → ¬ IsMethodDescriptor desc.now m }
+    ensures bad { result ≡ Err desc_fault.Bad → (m : MethodDescriptor) →
+        ¬ IsMethodDescriptor desc.now m }
 
     // the same as a function of the text, for definitions that go on from it
     ensures exact { MatchResult result (λ meant. method_kinds desc.now ≡ Ok meant)

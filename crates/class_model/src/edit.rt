@@ -5,8 +5,8 @@ use crate::instruction::Insn;
 use crate::list::{Name, Seq};
 use crate::memory::Memory;
 
-/// The replacement of one instruction of a class: the number of its method, its own number there, what stands in its place,
-/// and by how many words the method's stack may grow higher.
+/// The replacement of one instruction of a class: the number of its method, its own number there,
+/// what stands in its place, and by how many words the method's stack may grow higher.
 #[derive(Drop)]
 pub struct Edit {
     pub method: u32,

@@ -11,7 +11,8 @@ pub struct Frame {
     pub shape: Shape,
 }
 
-/// How a frame differs from the one before it. A flag says that the longer form was used, which has two bytes for the offset.
+/// How a frame differs from the one before it. A flag says that the longer form was used, which has
+/// two bytes for the offset.
 #[derive(Drop)]
 pub enum Shape {
     /// The same locals and no stack: types 0 to 63, or 251.

@@ -6,7 +6,8 @@ use crate::copies::Copied;
 use crate::list::Seq;
 use crate::memory::Memory;
 
-/// An instruction (JVMS 6.5). It keeps the opcode as read, so a list of instructions has one spelling.
+/// An instruction (JVMS 6.5). It keeps the opcode as read, so a list of instructions has one
+/// spelling.
 #[derive(Drop)]
 pub struct Insn {
     pub op: u8,
@@ -29,7 +30,8 @@ pub enum Arg {
     Inc(u16, i16),
     /// Where a jump goes.
     To(u32),
-    /// A `tableswitch`: where the default goes; the lowest key, and where each key from there on goes.
+    /// A `tableswitch`: where the default goes; the lowest key, and where each key from there on
+    /// goes.
     Table(u32, Boxed<(i32, Seq<u32>)>),
     /// A `lookupswitch`: where the default goes, and each key with where it goes.
     Lookup(u32, Boxed<Seq<(i32, u32)>>),

@@ -1,9 +1,11 @@
-//! The plain types that every other crate names: lists, names, the parts of a class file, and the faults.
+//! The plain types that every other crate names: lists, names, the parts of a class file, and the
+//! faults.
 #![tactic(auto)]
 
 mod annotation;
 mod attribute;
 mod boxed;
+mod checked_pool;
 mod class;
 mod compared;
 mod constant;
@@ -14,7 +16,6 @@ mod edit;
 mod fault;
 mod frame;
 mod instruction;
-mod judged;
 mod kind;
 mod list;
 mod memory;
@@ -25,6 +26,7 @@ mod text;
 pub use annotation::{Note, Token};
 pub use attribute::{Attr, Body, Code, Row};
 pub use boxed::Boxed;
+pub use checked_pool::{CheckedPool, Verdict};
 pub use class::{Class, ClassId, Member};
 pub use constant::Const;
 pub use copies::Copied;
@@ -34,7 +36,6 @@ pub use edit::{Edit, NewInsn};
 pub use fault::{Bound, ClassFault, DescFault, LayoutFault, TextFault};
 pub use frame::{Frame, Shape, VItem};
 pub use instruction::{Arg, Insn};
-pub use judged::{Judged, Verdict};
 pub use kind::{Kind, MethodType};
 pub use list::{Bytes, Name, Seq};
 pub use memory::Memory;

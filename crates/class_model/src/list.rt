@@ -6,7 +6,8 @@ use crate::memory::Memory;
 use std::alloc::Global;
 use std::marker::Model;
 
-/// A list of values. Contracts see it as the list: no capacity, pointer or allocator is part of its value.
+/// A list of values. Contracts see it as the list: no capacity, pointer or allocator is part of its
+/// value.
 #[derive(Drop, Debug)]
 pub struct Seq<T> {
     items: Vec<T>,
@@ -65,7 +66,8 @@ impl<T> Seq<T> {
         items
     }
 
-    /// The allocator that the list keeps, for what is made beside it. There is one global allocator, so nothing is said of it.
+    /// The allocator that the list keeps, for what is made beside it. There is one global
+    /// allocator, so nothing is said of it.
     pub fn allocator(&self) -> Global {
         *self.items.allocator()
     }

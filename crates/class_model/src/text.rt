@@ -43,7 +43,8 @@ fn is_three(a: u8, b: u8, c: u8) -> bool
 
 /// The unit at the front, and the bytes behind it.
 fn first_unit(bytes: &[u8]) -> Option<(u16, &[u8])>
-    ensures { MatchOption result (unit_at bytes.now ≡ None) (λ x. unit_at bytes.now ≡ Some (x.0, x.1.now)) }
+    ensures { MatchOption result (unit_at bytes.now ≡ None) (λ x.
+        unit_at bytes.now ≡ Some (x.0, x.1.now)) }
 {
     match bytes {
         [a, rest @ ..] if 0 < *a && *a < 0x80 => Some((u16::from(*a), rest)),
@@ -60,7 +61,8 @@ fn first_unit(bytes: &[u8]) -> Option<(u16, &[u8])>
     }
 }
 
-/// The code units that the bytes spell. The fault names the first place where no unit begins: each has one spelling, its shortest.
+/// The code units that the bytes spell. The fault names the first place where no unit begins: each
+/// has one spelling, its shortest.
 pub fn read_text(alloc: Global, bytes: &[u8]) -> Result<Name, TextFault>
     ensures found { IfOk result (λ name. IsUnits name × (bytes.now ≡ text name)) }
     ensures only { (name : List ℕ) → IsUnits name → bytes.now ≡ text name

@@ -2,13 +2,13 @@
 use Rattle.std.proofs.Common.{◌≡◌, ℕ, List, Option, Some, None, Result, Ok, Err}
 use Rattle.std.specs.Prelude.{ok_or}
 use Rattle.class_model.specs.Descriptor.{kind_of, method_type}
-use Rattle.class_model.specs.DescriptorReading.{judged, field_kind, field_type_of, method_kinds, method_descriptor_of}
-use Rattle.class_model.specs.Judged.{outcome, arg_words}
+use Rattle.class_model.specs.DescriptorReading.{meaning_or_fault, field_kind, field_type_of, method_kinds, method_descriptor_of}
+use Rattle.class_model.specs.TextVerdicts.{outcome, arg_words}
 use Rattle.class_model.specs.declared.fault.DescFault.{DescFault}
 use Rattle.class_model.specs.declared.fault.DescFault.TheVariants as desc_fault
 use Rattle.class_model.specs.declared.kind.MethodType.{MethodType}
 
-never : {T K : Type 0} (meaning : T → Option K) (o : Option T) → judged meaning o ≡ Err desc_fault.Memory → ⊥
+never : {T K : Type 0} (meaning : T → Option K) (o : Option T) → meaning_or_fault meaning o ≡ Err desc_fault.Memory → ⊥
 never meaning None e = absurd cc
 never {T} {K} meaning (Some t) e = by (meaning t) e
   where

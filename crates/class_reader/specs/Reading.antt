@@ -1,4 +1,5 @@
--- A class file (JVMS 4.1) read item by item in the order of the file, up to the first fault (this project's own).
+-- A class file (JVMS 4.1) read item by item in the order of the file, up to the first fault (this
+-- project's own).
 use Rattle.std.specs.Prelude.{ℕ, Bool, ◌||◌, ◌==◌, List, length, Result, Ok, Err, if◌then◌else◌}
 use Rattle.class_model.specs.DeclaredName.{is_field_name, is_method_name}
 use Rattle.class_model.specs.DescriptorReading.{field_kind, method_kinds}
@@ -29,12 +30,15 @@ abbrev pub is_major : ℕ → Bool
 is_major major = major == 51 || major == 52
 
 unfoldable pub major_at : ItemReader ℕ
-major_at input = u2_at input >>= λ major. if is_major major.0 then Ok major else Err (fault.BadVersion major.0)
+major_at input =
+    u2_at input >>= λ major. if is_major major.0 then Ok major else Err (fault.BadVersion major.0)
 
 -- ---- fields and methods (JVMS 4.5, 4.6)
 
 -- A member whose name and whose descriptor pass a test.
-unfoldable pub member_at : Owner → (ℕ → Bool) → (ℕ → ℕ → ClassFault) → (ℕ → Bool) → (ℕ → ℕ → ClassFault) → List Const → ItemReader Member
+unfoldable pub member_at :
+    Owner → (ℕ → Bool) → (ℕ → ℕ → ClassFault) → (ℕ → Bool) → (ℕ → ℕ → ClassFault) → List Const →
+    ItemReader Member
 member_at owner is_name no_name is_desc no_desc pool input = do
   flags ← u2_at input
   name ← index_at is_name no_name flags.1
@@ -43,10 +47,14 @@ member_at owner is_name no_name is_desc no_desc pool input = do
   Ok (record { flags = flags.0; name = name.0; desc = desc.0; attrs = attrs.0 }, attrs.1)
 
 abbrev pub field_at : List Const → ItemReader Member
-field_at pool = member_at OfField (names_name is_field_name pool) (no_name pool) (names_desc field_kind pool) (no_desc field_kind pool) pool
+field_at pool =
+    member_at OfField (names_name is_field_name pool) (no_name pool) (names_desc field_kind pool)
+    (no_desc field_kind pool) pool
 
 abbrev pub method_at : List Const → ItemReader Member
-method_at pool = member_at OfMethod (names_name is_method_name pool) (no_name pool) (names_desc method_kinds pool) (no_desc method_kinds pool) pool
+method_at pool =
+    member_at OfMethod (names_name is_method_name pool) (no_name pool)
+    (names_desc method_kinds pool) (no_desc method_kinds pool) pool
 
 -- ---- a count, and so many values
 
@@ -70,7 +78,21 @@ class_at input = do
   fields ← counted_at (field_at pool.0) interfaces.1
   methods ← counted_at (method_at pool.0) fields.1
   attrs ← attrs_at OfClass pool.0 methods.1
-  Ok (record { minor = minor.0; major = major.0; pool = pool.0; flags = flags.0; this = this.0; parent = parent.0; interfaces = interfaces.0; fields = fields.0; methods = methods.0; attrs = attrs.0 }, attrs.1)
+  Ok (
+    record {
+      minor = minor.0;
+      major = major.0;
+      pool = pool.0;
+      flags = flags.0;
+      this = this.0;
+      parent = parent.0;
+      interfaces = interfaces.0;
+      fields = fields.0;
+      methods = methods.0;
+      attrs = attrs.0;
+    },
+    attrs.1,
+  )
 
 -- The class that the bytes of a file are, or the first fault.
 unfoldable pub class_of_file : List ℕ → Result Class ClassFault

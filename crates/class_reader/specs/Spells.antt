@@ -1,4 +1,5 @@
--- What a class file is (JVMS 4.1): a class of the profile, and its bytes. Each item has one case, and nothing here tells how a file is read.
+-- What a class file is (JVMS 4.1): a class of the profile, and its bytes. Each item has one case,
+-- and nothing here tells how a file is read.
 use Rattle.std.specs.Prelude.{◌≡◌, ℕ, ◌<◌, ◌^◌, Bool, IsTrue, List, ◌++◌, length}
 use Rattle.std.specs.Int.{w16, w32, to_be_bytes}
 use Rattle.std.specs.List.{flat_map, AllByRecursion}
@@ -24,7 +25,8 @@ member_bytes member =
     ++ (to_be_bytes w16 member.desc
     ++ attrs_bytes member.attrs))
 
-pub record IsMember (owner : Owner) (is_name is_desc : ℕ → Bool) (pool : List Const) (member : Member) : Type 0 where
+pub record IsMember (owner : Owner) (is_name is_desc : ℕ → Bool) (pool : List Const)
+    (member : Member) : Type 0 where
   pub flags : member.flags < 2 ^ 16
   pub name : member.name < 2 ^ 16
   pub named : IsTrue (is_name member.name)
@@ -36,7 +38,8 @@ abbrev pub IsField : List Const → Member → Type 0
 IsField pool = IsMember OfField (names_name is_field_name pool) (names_desc field_kind pool) pool
 
 abbrev pub IsMethod : List Const → Member → Type 0
-IsMethod pool = IsMember OfMethod (names_name is_method_name pool) (names_desc method_kinds pool) pool
+IsMethod pool =
+    IsMember OfMethod (names_name is_method_name pool) (names_desc method_kinds pool) pool
 
 -- ---- a count, and so many values
 

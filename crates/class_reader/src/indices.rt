@@ -6,9 +6,9 @@ ghost use Rattle.class_model.specs.DescriptorReading.{field_kind, method_kinds};
 ghost use Rattle.class_model.specs.declared.fault.ClassFault.TheVariants as fault;
 ghost use Rattle.codec_rules.specs.Meets.{Gives};
 ghost use Rattle.mt_bytes.specs.Items.{ReadsItem};
-ghost use Rattle.class_reader.specs.Indices.{judged, index_at, names_class as is_class, no_class, names_this as is_this, no_this, names_parent as is_parent, names_name, no_name, names_desc, no_desc};
+ghost use Rattle.class_reader.specs.Indices.{index_or_fault, index_at, names_class as is_class, no_class, names_this as is_this, no_this, names_parent as is_parent, names_name, no_name, names_desc, no_desc};
 
-use class_model::{ClassFault, Const, DescFault, Judged, is_class_name};
+use class_model::{CheckedPool, ClassFault, Const, DescFault, is_class_name};
 use mt_bytes::Cursor;
 use mt_pool::{class_name_of, names_class, text_of};
 
@@ -95,7 +95,7 @@ fn no_name(pool: &[Const], index: u16, at: u64) -> ClassFault
     }
 }
 
-fn names_field_name(pool: &Judged, index: u16) -> bool
+fn names_field_name(pool: &CheckedPool, index: u16) -> bool
     ensures { result ≡ names_name is_named_as_field pool.now index }
 {
     match pool.text(index) {
@@ -104,7 +104,7 @@ fn names_field_name(pool: &Judged, index: u16) -> bool
     }
 }
 
-fn names_method_name(pool: &Judged, index: u16) -> bool
+fn names_method_name(pool: &CheckedPool, index: u16) -> bool
     ensures { result ≡ names_name is_named_as_method pool.now index }
 {
     match pool.text(index) {
@@ -114,8 +114,9 @@ fn names_method_name(pool: &Judged, index: u16) -> bool
 }
 
 /// The index of the name that a field has.
-pub fn field_name(pool: &Judged, cur: &mut Cursor) -> Result<u16, ClassFault>
-    ensures { ReadsItem (index_at (names_name is_named_as_field pool.now) (no_name pool.now)) cur.old cur.new result }
+pub fn field_name(pool: &CheckedPool, cur: &mut Cursor) -> Result<u16, ClassFault>
+    ensures { ReadsItem (index_at (names_name is_named_as_field pool.now) (no_name pool.now))
+        cur.old cur.new result }
 {
     let at = cur.at();
     let index = cur.u2()?;
@@ -127,8 +128,9 @@ pub fn field_name(pool: &Judged, cur: &mut Cursor) -> Result<u16, ClassFault>
 }
 
 /// The index of the name that a method has.
-pub fn method_name(pool: &Judged, cur: &mut Cursor) -> Result<u16, ClassFault>
-    ensures { ReadsItem (index_at (names_name is_named_as_method pool.now) (no_name pool.now)) cur.old cur.new result }
+pub fn method_name(pool: &CheckedPool, cur: &mut Cursor) -> Result<u16, ClassFault>
+    ensures { ReadsItem (index_at (names_name is_named_as_method pool.now) (no_name pool.now))
+        cur.old cur.new result }
 {
     let at = cur.at();
     let index = cur.u2()?;
@@ -140,8 +142,10 @@ pub fn method_name(pool: &Judged, cur: &mut Cursor) -> Result<u16, ClassFault>
 }
 
 #[tactic(auto, using(crate::proofs::VerdictLaws::no_field_memory))]
-fn judge_field_desc(pool: &Judged, index: u16, at: u64) -> Result<u16, ClassFault>
-    ensures { Gives fault.Memory (λ index. index) (judged (names_desc field_kind pool.now) (no_desc field_kind pool.now) at index) result }
+fn field_desc_index(pool: &CheckedPool, index: u16, at: u64) -> Result<u16, ClassFault>
+    ensures { Gives fault.Memory (λ index. index)
+        (index_or_fault (names_desc field_kind pool.now) (no_desc field_kind pool.now) at index)
+        result }
 {
     let Some((_, verdict)) = pool.text(index) else {
         return Err(ClassFault::BadIndex { at });
@@ -155,8 +159,10 @@ fn judge_field_desc(pool: &Judged, index: u16, at: u64) -> Result<u16, ClassFaul
 }
 
 #[tactic(auto, using(crate::proofs::VerdictLaws::no_method_memory))]
-fn judge_method_desc(pool: &Judged, index: u16, at: u64) -> Result<u16, ClassFault>
-    ensures { Gives fault.Memory (λ index. index) (judged (names_desc method_kinds pool.now) (no_desc method_kinds pool.now) at index) result }
+fn method_desc_index(pool: &CheckedPool, index: u16, at: u64) -> Result<u16, ClassFault>
+    ensures { Gives fault.Memory (λ index. index)
+        (index_or_fault (names_desc method_kinds pool.now) (no_desc method_kinds pool.now) at index)
+        result }
 {
     let Some((_, verdict)) = pool.text(index) else {
         return Err(ClassFault::BadIndex { at });
@@ -170,21 +176,24 @@ fn judge_method_desc(pool: &Judged, index: u16, at: u64) -> Result<u16, ClassFau
 }
 
 /// The index of the descriptor that a field has.
-pub fn field_desc(pool: &Judged, cur: &mut Cursor) -> Result<u16, ClassFault>
-    ensures { ReadsItem (index_at (names_desc field_kind pool.now) (no_desc field_kind pool.now)) cur.old cur.new result }
+pub fn field_desc(pool: &CheckedPool, cur: &mut Cursor) -> Result<u16, ClassFault>
+    ensures { ReadsItem (index_at (names_desc field_kind pool.now) (no_desc field_kind pool.now))
+        cur.old cur.new result }
 {
     let at = cur.at();
     let index = cur.u2()?;
-    let judged = judge_field_desc(pool, index, at)?;
-    Ok(judged)
+    let found = field_desc_index(pool, index, at)?;
+    Ok(found)
 }
 
 /// The index of the descriptor that a method has.
-pub fn method_desc(pool: &Judged, cur: &mut Cursor) -> Result<u16, ClassFault>
-    ensures { ReadsItem (index_at (names_desc method_kinds pool.now) (no_desc method_kinds pool.now)) cur.old cur.new result }
+pub fn method_desc(pool: &CheckedPool, cur: &mut Cursor) -> Result<u16, ClassFault>
+    ensures { ReadsItem
+        (index_at (names_desc method_kinds pool.now) (no_desc method_kinds pool.now))
+        cur.old cur.new result }
 {
     let at = cur.at();
     let index = cur.u2()?;
-    let judged = judge_method_desc(pool, index, at)?;
-    Ok(judged)
+    let found = method_desc_index(pool, index, at)?;
+    Ok(found)
 }

@@ -1,6 +1,7 @@
 //! A class file (JVMS 4.1), read.
 //!
-//! What a class file is stands in `specs/Spells.antt`, apart from how one is read; `specs/Reading.antt` says which fault is the first.
+//! What a class file is stands in `specs/Spells.antt`, apart from how one is read;
+//! `specs/Reading.antt` says which fault is the first.
 #![tactic(auto)]
 
 mod indices;

@@ -7,13 +7,13 @@ ghost use Rattle.class_reader.specs.Indices.{index_at, names_class, no_class};
 ghost use Rattle.class_reader.specs.Reading.{field_at, method_at, counted_at};
 
 use crate::indices::{class_index, field_desc, field_name, method_desc, method_name};
-use class_model::{ClassFault, Const, Judged, Member, Seq};
+use class_model::{CheckedPool, ClassFault, Const, Member, Seq};
 use mt_attrs::{Owner, read_attrs};
 use mt_bytes::Cursor;
 use std::alloc::Global;
 
 #[tactic(auto, unfolding(crate::specs::Reading::member_at))]
-fn read_field(alloc: Global, pool: &Judged, cur: &mut Cursor) -> Result<Member, ClassFault>
+fn read_field(alloc: Global, pool: &CheckedPool, cur: &mut Cursor) -> Result<Member, ClassFault>
     ensures { ReadsItem (field_at pool.now) cur.old cur.new result }
 {
     let flags = cur.u2()?;
@@ -29,7 +29,7 @@ fn read_field(alloc: Global, pool: &Judged, cur: &mut Cursor) -> Result<Member, 
 }
 
 #[tactic(auto, unfolding(crate::specs::Reading::member_at))]
-fn read_method(alloc: Global, pool: &Judged, cur: &mut Cursor) -> Result<Member, ClassFault>
+fn read_method(alloc: Global, pool: &CheckedPool, cur: &mut Cursor) -> Result<Member, ClassFault>
     ensures { ReadsItem (method_at pool.now) cur.old cur.new result }
 {
     let flags = cur.u2()?;
@@ -50,7 +50,8 @@ fn read_so_many_interfaces(
     count: u16,
     cur: &mut Cursor,
 ) -> Result<Seq<u16>, ClassFault>
-    ensures { ReadsItem (many_at (index_at (names_class pool.now) no_class) count) cur.old cur.new result }
+    ensures { ReadsItem (many_at (index_at (names_class pool.now) no_class) count)
+        cur.old cur.new result }
 {
     let mut interfaces = Seq::new(alloc);
     for _ in 0..count {
@@ -62,7 +63,7 @@ fn read_so_many_interfaces(
 
 fn read_so_many_fields(
     alloc: Global,
-    pool: &Judged,
+    pool: &CheckedPool,
     count: u16,
     cur: &mut Cursor,
 ) -> Result<Seq<Member>, ClassFault>
@@ -78,7 +79,7 @@ fn read_so_many_fields(
 
 fn read_so_many_methods(
     alloc: Global,
-    pool: &Judged,
+    pool: &CheckedPool,
     count: u16,
     cur: &mut Cursor,
 ) -> Result<Seq<Member>, ClassFault>
@@ -99,7 +100,8 @@ pub fn read_interfaces(
     pool: &[Const],
     cur: &mut Cursor,
 ) -> Result<Seq<u16>, ClassFault>
-    ensures { ReadsItem (counted_at (index_at (names_class pool.now) no_class)) cur.old cur.new result }
+    ensures { ReadsItem (counted_at (index_at (names_class pool.now) no_class))
+        cur.old cur.new result }
 {
     let count = cur.u2()?;
     let interfaces = read_so_many_interfaces(alloc, pool, count, cur)?;
@@ -109,7 +111,7 @@ pub fn read_interfaces(
 #[tactic(auto, unfolding(crate::specs::Reading::counted_at))]
 pub fn read_fields(
     alloc: Global,
-    pool: &Judged,
+    pool: &CheckedPool,
     cur: &mut Cursor,
 ) -> Result<Seq<Member>, ClassFault>
     ensures { ReadsItem (counted_at (field_at pool.now)) cur.old cur.new result }
@@ -122,7 +124,7 @@ pub fn read_fields(
 #[tactic(auto, unfolding(crate::specs::Reading::counted_at))]
 pub fn read_methods(
     alloc: Global,
-    pool: &Judged,
+    pool: &CheckedPool,
     cur: &mut Cursor,
 ) -> Result<Seq<Member>, ClassFault>
     ensures { ReadsItem (counted_at (method_at pool.now)) cur.old cur.new result }

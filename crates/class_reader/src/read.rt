@@ -9,7 +9,7 @@ ghost use Rattle.class_reader.specs.Spells.{Spells};
 
 use crate::indices::{parent_index, this_index};
 use crate::members::{read_fields, read_interfaces, read_methods};
-use class_model::{Class, ClassFault, Judged};
+use class_model::{CheckedPool, Class, ClassFault};
 use mt_attrs::{Owner, read_attrs};
 use mt_bytes::Cursor;
 use mt_pool::read_pool;
@@ -53,11 +53,11 @@ fn read_items(alloc: Global, cur: &mut Cursor) -> Result<Class, ClassFault>
     let this = this_index(pool.as_slice(), cur)?;
     let parent = parent_index(pool.as_slice(), this, cur)?;
     let interfaces = read_interfaces(alloc, pool.as_slice(), cur)?;
-    let judged = Judged::new(alloc, pool.as_slice())?;
-    let fields = read_fields(alloc, &judged, cur)?;
-    let methods = read_methods(alloc, &judged, cur)?;
-    let attrs = read_attrs(alloc, cur, Owner::OfClass, &judged)?;
-    drop(judged);
+    let checked = CheckedPool::new(alloc, pool.as_slice())?;
+    let fields = read_fields(alloc, &checked, cur)?;
+    let methods = read_methods(alloc, &checked, cur)?;
+    let attrs = read_attrs(alloc, cur, Owner::OfClass, &checked)?;
+    drop(checked);
     Ok(Class {
         minor,
         major,
@@ -72,14 +72,16 @@ fn read_items(alloc: Global, cur: &mut Cursor) -> Result<Class, ClassFault>
     })
 }
 
-/// The class that the bytes of a file are (JVMS 4), or the first fault in the order of the file. A place in a fault is a byte offset from the front of the file.
+/// The class that the bytes of a file are (JVMS 4), or the first fault in the order of the file. A
+/// place in a fault is a byte offset from the front of the file.
 #[tactic(auto, unfolding(crate::specs::Reading::class_of_file))]
 pub fn read_class(alloc: Global, bytes: &[u8]) -> Result<Class, ClassFault>
     // The bytes are the class file of what is answered.
     ensures found { IfOk result (λ class. Spells bytes.now class) }
 
     // The class of which the bytes are the file is answered, unless memory runs out.
-    ensures only { (class : Class) → Spells bytes.now class → MatchResult result (λ c. c ≡ class) (λ e. e ≡ fault.Memory) }
+    ensures only { (class : Class) → Spells bytes.now class →
+        MatchResult result (λ c. c ≡ class) (λ e. e ≡ fault.Memory) }
 
     // Which fault it is.
     ensures exact { Gives fault.Memory (λ class. class) (class_of_file bytes.now) result }

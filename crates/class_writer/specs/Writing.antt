@@ -1,4 +1,5 @@
--- Writing a class file (JVMS 4.1): its bytes, or the bound that is passed first in the order of the file (JVMS 4.11).
+-- Writing a class file (JVMS 4.1): its bytes, or the bound that is passed first in the order of the
+-- file (JVMS 4.11).
 use Rattle.std.specs.Prelude.{◌≡◌, ℕ, ◌<◌, ◌^◌, Bool, IsTrue, List, length, All, Option, Result, Ok}
 use Rattle.std.specs.List.{AllByRecursion}
 use Rattle.std.specs.Option.{option_map}
@@ -41,7 +42,8 @@ class_bound class =
 abbrev pub layout : Class → Result (List ℕ) LayoutFault
 layout class = unless (option_map layout_fault.TooLarge (class_bound class)) (class_bytes class)
 
--- The form of what may be written: that of what is read, but for sizes. What an index names in the pool is not asked.
+-- The form of what may be written: that of what is read, but for sizes. What an index names in the
+-- pool is not asked.
 abbrev pub HasMemberForm : Member → Type 0
 HasMemberForm member = All HasAttrForm member.attrs
 
@@ -50,12 +52,17 @@ pub record HasClassForm (class : Class) : Type 0 where
   pub methods : All HasMemberForm class.methods
   pub attrs : All HasAttrForm class.attrs
 
--- What was read is written as it was: a class that has a spelling is one that `write_class` takes, and it gives that spelling.
+-- What was read is written as it was: a class that has a spelling is one that `write_class` takes,
+-- and it gives that spelling.
 abbrev pub SpelledIsWritten : Type 0
-SpelledIsWritten = (bytes : List ℕ) (class : Class) → Spells bytes class → HasClassForm class × (layout class ≡ Ok bytes)
+SpelledIsWritten =
+    (bytes : List ℕ) (class : Class) → Spells bytes class →
+    HasClassForm class × (layout class ≡ Ok bytes)
 
--- What a class needs beside its form and room to have a spelling: its indices name what they have to, and its numbers are in the ranges of their fields.
-pub record IsNamedMember (owner : Owner) (is_name is_desc : ℕ → Bool) (pool : List Const) (member : Member) : Type 0 where
+-- What a class needs beside its form and room to have a spelling: its indices name what they have
+-- to, and its numbers are in the ranges of their fields.
+pub record IsNamedMember (owner : Owner) (is_name is_desc : ℕ → Bool) (pool : List Const)
+    (member : Member) : Type 0 where
   pub flags : member.flags < 2 ^ 16
   pub name : member.name < 2 ^ 16
   pub named : IsTrue (is_name member.name)
@@ -64,10 +71,12 @@ pub record IsNamedMember (owner : Owner) (is_name is_desc : ℕ → Bool) (pool 
   pub attrs : AreNamed pool owner member.attrs
 
 abbrev pub IsNamedField : List Const → Member → Type 0
-IsNamedField pool = IsNamedMember OfField (names_name is_field_name pool) (names_desc field_kind pool) pool
+IsNamedField pool =
+    IsNamedMember OfField (names_name is_field_name pool) (names_desc field_kind pool) pool
 
 abbrev pub IsNamedMethod : List Const → Member → Type 0
-IsNamedMethod pool = IsNamedMember OfMethod (names_name is_method_name pool) (names_desc method_kinds pool) pool
+IsNamedMethod pool =
+    IsNamedMember OfMethod (names_name is_method_name pool) (names_desc method_kinds pool) pool
 
 pub record IsNamedClass (class : Class) : Type 0 where
   pub minor : class.minor < 2 ^ 16
@@ -83,6 +92,9 @@ pub record IsNamedClass (class : Class) : Type 0 where
   pub methods : AllByRecursion (IsNamedMethod class.pool) class.methods
   pub attrs : AreNamed class.pool OfClass class.attrs
 
--- What was written is read again: a class that is named so and has room is spelled by what `write_class` gives.
+-- What was written is read again: a class that is named so and has room is spelled by what
+-- `write_class` gives.
 abbrev pub WrittenIsSpelled : Type 0
-WrittenIsSpelled = (bytes : List ℕ) (class : Class) → IsNamedClass class → HasClassForm class → layout class ≡ Ok bytes → Spells bytes class
+WrittenIsSpelled =
+    (bytes : List ℕ) (class : Class) → IsNamedClass class → HasClassForm class →
+    layout class ≡ Ok bytes → Spells bytes class

@@ -31,7 +31,8 @@ fn put_count(out: &mut Bytes, count: usize) -> Result<(), LayoutFault>
 }
 
 fn put_interfaces(out: &mut Bytes, interfaces: &[u16]) -> Result<(), LayoutFault>
-    ensures { Writes (count_bound (length interfaces.now)) (counted_bytes (to_be_bytes w16) interfaces.now) out.old out.new result }
+    ensures { Writes (count_bound (length interfaces.now))
+        (counted_bytes (to_be_bytes w16) interfaces.now) out.old out.new result }
 {
     put_count(out, interfaces.len())?;
     put_indices(out, interfaces)?;
@@ -68,7 +69,8 @@ fn put_member(out: &mut Bytes, member: &Member) -> Result<(), LayoutFault>
 
 fn put_each(out: &mut Bytes, members: &[Member]) -> Result<(), LayoutFault>
     requires { All HasMemberForm members.now }
-    ensures { Writes (first_of member_bound members.now) (flat_map member_bytes members.now) out.old out.new result }
+    ensures { Writes (first_of member_bound members.now) (flat_map member_bytes members.now)
+        out.old out.new result }
 {
     for member in members {
         put_member(out, member)?;
@@ -78,7 +80,8 @@ fn put_each(out: &mut Bytes, members: &[Member]) -> Result<(), LayoutFault>
 
 fn put_members(out: &mut Bytes, members: &[Member]) -> Result<(), LayoutFault>
     requires { All HasMemberForm members.now }
-    ensures { Writes (members_bound members.now) (counted_bytes member_bytes members.now) out.old out.new result }
+    ensures { Writes (members_bound members.now) (counted_bytes member_bytes members.now)
+        out.old out.new result }
 {
     put_count(out, members.len())?;
     put_each(out, members)?;
@@ -110,7 +113,8 @@ fn put_class(out: &mut Bytes, class: &Class) -> Result<(), LayoutFault>
     Ok(())
 }
 
-/// The class file of a class. `TooLarge` comes exactly where a part of it is too large, and names the bound that the first such part passes in the order of the file.
+/// The class file of a class. `TooLarge` comes exactly where a part of it is too large, and names
+/// the bound that the first such part passes in the order of the file.
 pub fn write_class(alloc: Global, class: &Class) -> Result<Bytes, LayoutFault>
     requires { HasClassForm class.now }
     ensures { Gives layout_fault.Memory (λ bytes. bytes) (layout class.now) result }

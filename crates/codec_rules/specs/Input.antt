@@ -1,7 +1,8 @@
 -- What is left of an input, and its place (this project's own).
 use Rattle.std.specs.Prelude.{ℕ, ◌+◌, ◌<◌, ◌^◌, List, length, drop, slice_index}
 
--- The bytes that are left, and the place of the first of them: a byte offset from the front of a file, where it is 0.
+-- The bytes that are left, and the place of the first of them: a byte offset from the front of a
+-- file, where it is 0.
 pub record Input : Type 0 where
   pub at : ℕ
   pub bytes : List ℕ

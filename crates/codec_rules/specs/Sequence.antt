@@ -1,4 +1,5 @@
--- Steps one after the other, up to the first fault (this project's own). The type of the faults is the caller's.
+-- Steps one after the other, up to the first fault (this project's own). The type of the faults is
+-- the caller's.
 use Rattle.std.specs.Prelude.{Bool, Option, Some, None, Result, Ok, Err, if◌then◌else◌}
 
 -- A step, and behind it another that is told what the first one gave; the first fault ends both.

@@ -1,8 +1,10 @@
-//! How bytes are read and written: what is left of an input, reading functions that answer a value and the rest or the first fault, and the laws by which they and the
-//! spellings of values compose. It stands on no crate, so that every format can cite it.
+//! How bytes are read and written: what is left of an input, reading functions that answer a value
+//! and the rest or the first fault, and the laws by which they and the spellings of values compose.
+//! It stands on no crate, so that every format can cite it.
 //!
-//! Nothing here runs. The definitions are in `specs/` and the laws in `proofs/`; each function below has one family of laws as its contract. A format adds an item by a
-//! spelling, a reading function of the same shape, and one term of these laws, which proves that they undo each other.
+//! Nothing here runs. The definitions are in `specs/` and the laws in `proofs/`; each function
+//! below has one family of laws as its contract. A format adds an item by a spelling, a reading
+//! function of the same shape, and one term of these laws, which proves that they undo each other.
 #![tactic(auto)]
 
 ghost use Rattle.std.specs.Int.{w8, w16, w32, w64};
@@ -34,7 +36,8 @@ pub fn signed_numbers_are_read_as_spelled<F>()
     ensures w64 { SignedNumberComposes F w64 }
 {}
 
-/// A value and what stands behind it are read as they are spelled, where each part is. Length prefixes, tags and fields are chains.
+/// A value and what stands behind it are read as they are spelled, where each part is. Length
+/// prefixes, tags and fields are chains.
 pub fn chains_are_read_as_spelled<F, A: Spelled, B: Spelled>()
     ensures { ChainComposes F A B A.Fits B.Fits }
 {}
@@ -49,7 +52,8 @@ pub fn tested_values_are_read_as_spelled<F, A: Spelled>()
     ensures { TestedComposes F A A.Fits }
 {}
 
-/// A value that is read in one of several ways, as by its tag, is read as it is spelled, where it is in each of them.
+/// A value that is read in one of several ways, as by its tag, is read as it is spelled, where it
+/// is in each of them.
 pub fn choices_are_read_as_spelled<F, A: Spelled>()
     ensures either { EitherComposes F A A.Fits }
     ensures nothing { NothingComposes F A A.Fits }
@@ -67,7 +71,8 @@ pub fn whole_inputs_are_read_as_spelled<F, A: Spelled>()
     ensures again { WholeIsReadAgain F A A.Fits }
 {}
 
-/// A value that fills a part of a stated length, as the content of an attribute, is read as it is spelled.
+/// A value that fills a part of a stated length, as the content of an attribute, is read as it is
+/// spelled.
 pub fn parts_of_a_stated_length_are_read_as_spelled<F, A: Spelled>()
     ensures { FillingComposes F A A.Fits }
 {}

@@ -33,8 +33,8 @@ use Rattle.mt_attrs.specs.Rows.{rows_at, row_bytes, AreRows}
 use Rattle.mt_attrs.specs.Frames.{frames_at, frames_bytes, AreFrames}
 use Rattle.mt_attrs.specs.Kinds.{table_of, is_table_free}
 use Rattle.mt_attrs.specs.CodeParts.{name_at, attr_of, name_of, body_of, table_body_at, table_at, table_after, tables_at, is_code_length, code_length_at, insns_at, code_content_at, table_content, table_bytes, parts_bytes, code_content, IsTableBody, IsTable, AreTables, AreParts, IsCodeBody}
-use Rattle.mt_attrs.specs.declared.kinds.Table.{Table}
-use Rattle.mt_attrs.specs.declared.kinds.Table.TheVariants as table
+use Rattle.mt_attrs.specs.declared.kinds.CodeTable.{CodeTable}
+use Rattle.mt_attrs.specs.declared.kinds.CodeTable.TheVariants as table
 use Rattle.mt_attrs.specs.declared.fault.ItemFault.{ItemFault}
 use Rattle.mt_attrs.specs.declared.fault.ItemFault.TheVariants as item_fault
 use Rattle.mt_attrs.proofs.Codecs.{two_codec, four_codec, tested_at, index_codec, made_by, content_codec, carried_codec, by_codec, spelled_alike}
@@ -102,10 +102,10 @@ raw_parts pool starts (Body-F.Raw bytes) q = (bytes, tt, refl)
 raw_parts pool starts other q = absurd q
 
 -- the body of a table of this kind
-abbrev TableBody : List Const → List ℕ → Option Table → Body → Type 0
+abbrev TableBody : List Const → List ℕ → Option CodeTable → Body → Type 0
 TableBody pool starts kind b = IsTableBody pool starts kind (out-Body b) × (length (table_content starts (out-Body b)) < 2 ^ 32)
 
-table_body_codec : (file_end : ℕ) (pool : List Const) (starts : List ℕ) (first : ℕ) → Ascends starts → (kind : Option Table) → IsCodecAt (table_body_at file_end pool starts first kind) (λ at b. sized (table_content starts (out-Body b))) (TableBody pool starts kind)
+table_body_codec : (file_end : ℕ) (pool : List Const) (starts : List ℕ) (first : ℕ) → Ascends starts → (kind : Option CodeTable) → IsCodecAt (table_body_at file_end pool starts first kind) (λ at b. sized (table_content starts (out-Body b))) (TableBody pool starts kind)
 table_body_codec file_end pool starts first ascends (Some table.Lines) =
     body_codec (content file_end first (lines_at starts)) (lines_bytes starts) (AreLines starts) body.Lines (λ lines. Body-F.Lines lines) (table_content starts) (IsTableBody pool starts (Some table.Lines))
     (content_codec file_end first (lines_at starts) (lines_bytes starts) (AreLines starts) (lines_codec starts ascends))

@@ -2,7 +2,7 @@
 use Rattle.std.proofs.Common.{◌≡◌, ℕ, true, false, List, Option, Some, None, Result, Ok, Err, refl, sym, ap, subst, ◌∙◌}
 use Rattle.std.specs.Option.{option_map}
 use Rattle.class_model.specs.DescriptorReading.{field_kind}
-use Rattle.class_model.specs.Judged.{outcome}
+use Rattle.class_model.specs.TextVerdicts.{outcome}
 use Rattle.class_model.specs.declared.kind.Kind.{Kind}
 use Rattle.class_model.specs.declared.fault.DescFault.{DescFault}
 use Rattle.class_model.specs.declared.fault.DescFault.TheVariants as desc_fault

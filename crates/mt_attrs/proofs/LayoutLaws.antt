@@ -30,8 +30,8 @@ use Rattle.mt_attrs.specs.Layout.{or_bound, count_bound, first_of, list_bound, s
 use Rattle.mt_attrs.specs.declared.owner.Owner.{Owner}
 use Rattle.mt_attrs.specs.declared.kinds.Known.{Known}
 use Rattle.mt_attrs.specs.declared.kinds.Known.TheVariants as known
-use Rattle.mt_attrs.specs.declared.kinds.Table.{Table}
-use Rattle.mt_attrs.specs.declared.kinds.Table.TheVariants as table
+use Rattle.mt_attrs.specs.declared.kinds.CodeTable.{CodeTable}
+use Rattle.mt_attrs.specs.declared.kinds.CodeTable.TheVariants as table
 
 -- ---- lists
 
@@ -97,7 +97,7 @@ shape_form pool starts (shape.Full locals stack) q = (
 
 -- ---- the attributes inside Code
 
-table_free : (pool : List Const) (starts : List ℕ) (kind : Option Table) (b : Body-F Body Attr Code) → IsTableBody pool starts kind b → HasTableForm starts b × (table_bound b ≡ None)
+table_free : (pool : List Const) (starts : List ℕ) (kind : Option CodeTable) (b : Body-F Body Attr Code) → IsTableBody pool starts kind b → HasTableForm starts b × (table_bound b ≡ None)
 table_free pool starts (Some table.Lines) (Body-F.Lines lines) q = (all_map (IsLine starts) (HasLineForm starts) (λ line k. k.0.0) lines q.1, count_free _ q.0)
 table_free pool starts (Some table.Frames) (Body-F.Frames frames) q = (
   by_map (IsFrame pool starts) (HasFrameForm starts) (next_behind starts) (λ next f k. (k.0, (shape_form pool starts f.shape k.1).0)) 0 frames q.1,

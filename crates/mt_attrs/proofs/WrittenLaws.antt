@@ -39,8 +39,8 @@ use Rattle.mt_attrs.specs.Naming.{IsNamedLine, IsNamedRow, IsNamedVItem, IsNamed
 use Rattle.mt_attrs.specs.declared.owner.Owner.{Owner}
 use Rattle.mt_attrs.specs.declared.kinds.Known.{Known}
 use Rattle.mt_attrs.specs.declared.kinds.Known.TheVariants as known
-use Rattle.mt_attrs.specs.declared.kinds.Table.{Table}
-use Rattle.mt_attrs.specs.declared.kinds.Table.TheVariants as table
+use Rattle.mt_attrs.specs.declared.kinds.CodeTable.{CodeTable}
+use Rattle.mt_attrs.specs.declared.kinds.CodeTable.TheVariants as table
 use Rattle.mt_attrs.specs.declared.kinds.Unseen.{Unseen}
 use Rattle.mt_attrs.proofs.LayoutLaws.{Free}
 use Rattle.mt_attrs.proofs.Starts.{takes}
@@ -149,7 +149,7 @@ notes_of pool notes n e = (few_of (length notes) e, n)
 
 -- ---- the attributes inside Code
 
-table_is : (pool : List Const) (starts : List ℕ) (end : ℕ) → Small starts end → (kind : Option Table) (b : Body-F Body Attr Code) → HasTableForm starts b → IsNamedTableBody pool kind b → table_bound b ≡ None → IsTableBody pool starts kind b
+table_is : (pool : List Const) (starts : List ℕ) (end : ℕ) → Small starts end → (kind : Option CodeTable) (b : Body-F Body Attr Code) → HasTableForm starts b → IsNamedTableBody pool kind b → table_bound b ≡ None → IsTableBody pool starts kind b
 table_is pool starts end small (Some table.Lines) (Body-F.Lines lines) f n e = (few_of _ e, each_two (HasLineForm starts) IsNamedLine (IsLine starts) (λ line a b. (place_of starts end line.0 small a, b)) lines (each_of (HasLineForm starts) lines f) n)
 table_is pool starts end small (Some table.Frames) (Body-F.Frames frames) f n e =
     let k = list_of frame_bound frames e in

@@ -26,12 +26,21 @@ use Rattle.mt_attrs.specs.declared.fault.ItemFault.TheVariants as item_fault
 
 -- what stands behind the name of an attribute that begins at `first`
 abbrev pub body_at : ℕ → List Const → ℕ → Option Known → PartReader Body
-body_at file_end pool first (Some known.Code) input = content file_end first (code_content_at file_end pool first) input >>= λ c. Ok (body.Code c.0, c.1)
-body_at file_end pool first (Some known.Source) input = content file_end first (index_at is_text pool) input >>= λ index. Ok (body.Source index.0, index.1)
-body_at file_end pool first (Some known.Value) input = content file_end first (index_at is_value pool) input >>= λ index. Ok (body.Value index.0, index.1)
-body_at file_end pool first (Some known.Visible) input = content file_end first (notes_at pool) input >>= λ notes. Ok (body.Notes notes.0, notes.1)
-body_at file_end pool first (Some known.Invisible) input = content file_end first (notes_at pool) input >>= λ notes. Ok (body.Notes notes.0, notes.1)
-body_at file_end pool first None input = carried_at input >>= λ bytes. Ok (body.Raw bytes.0, bytes.1)
+body_at file_end pool first (Some known.Code) input =
+    content file_end first (code_content_at file_end pool first) input >>= λ c.
+    Ok (body.Code c.0, c.1)
+body_at file_end pool first (Some known.Source) input =
+    content file_end first (index_at is_text pool) input >>= λ index.
+    Ok (body.Source index.0, index.1)
+body_at file_end pool first (Some known.Value) input =
+    content file_end first (index_at is_value pool) input >>= λ index.
+    Ok (body.Value index.0, index.1)
+body_at file_end pool first (Some known.Visible) input =
+    content file_end first (notes_at pool) input >>= λ notes. Ok (body.Notes notes.0, notes.1)
+body_at file_end pool first (Some known.Invisible) input =
+    content file_end first (notes_at pool) input >>= λ notes. Ok (body.Notes notes.0, notes.1)
+body_at file_end pool first None input =
+    carried_at input >>= λ bytes. Ok (body.Raw bytes.0, bytes.1)
 
 unfoldable pub attr_at : ℕ → List Const → Owner → Unseen → PartReader Attr
 attr_at file_end pool owner unseen input = do
@@ -44,7 +53,9 @@ attr_after pool owner unseen attr = without unseen (known_of pool owner (name_of
 
 -- the attributes from their count on, in a file that ends at `file_end`
 abbrev pub all_at : ℕ → List Const → Owner → PartReader (List Attr)
-all_at file_end pool owner input = number w16 input >>= λ count. many_by (attr_at file_end pool owner) (attr_after pool owner) all_unseen count.0 count.1
+all_at file_end pool owner input =
+    number w16 input >>= λ count.
+    many_by (attr_at file_end pool owner) (attr_after pool owner) all_unseen count.0 count.1
 
 -- An item that no attribute's end cuts is cut by the file's.
 abbrev pub fault_of : ItemFault → ClassFault
@@ -53,7 +64,8 @@ fault_of (item_fault.Bad e) = e
 
 -- The attributes of an owner from their count on, in a file that ends where the input does.
 abbrev pub attrs_at : Owner → List Const → ItemReader (List Attr)
-attrs_at owner pool input = or_fault fault_of (all_at (input.at + length input.bytes) pool owner input)
+attrs_at owner pool input =
+    or_fault fault_of (all_at (input.at + length input.bytes) pool owner input)
 
 -- ---- bytes
 
@@ -93,4 +105,5 @@ pub record IsAttr (pool : List Const) (owner : Owner) (unseen : Unseen) (attr : 
 
 -- The attributes have a spelling at this owner.
 abbrev pub AreAttrs : List Const → Owner → List Attr → Type 0
-AreAttrs pool owner attrs = (length attrs < 2 ^ 16) × AllBy (IsAttr pool owner) (attr_after pool owner) all_unseen attrs
+AreAttrs pool owner attrs =
+    (length attrs < 2 ^ 16) × AllBy (IsAttr pool owner) (attr_after pool owner) all_unseen attrs

@@ -19,15 +19,17 @@ use Rattle.mt_attrs.specs.Lines.{lines_at, lines_bytes, AreLines}
 use Rattle.mt_attrs.specs.Rows.{rows_at, row_bytes, AreRows}
 use Rattle.mt_attrs.specs.Frames.{frames_at, frames_bytes, AreFrames}
 use Rattle.mt_attrs.specs.Kinds.{table_of, is_table_free, without_table}
-use Rattle.mt_attrs.specs.declared.kinds.Table.{Table}
-use Rattle.mt_attrs.specs.declared.kinds.Table.TheVariants as table
+use Rattle.mt_attrs.specs.declared.kinds.CodeTable.{CodeTable}
+use Rattle.mt_attrs.specs.declared.kinds.CodeTable.TheVariants as table
 use Rattle.mt_attrs.specs.declared.fault.ItemFault.TheVariants as item_fault
 
 -- ---- the name of an attribute
 
 -- The index of a name, of which an attribute may stand here; else it is told at its first byte.
 abbrev pub name_at : List Const → (ℕ → Bool) → PartReader ℕ
-name_at pool free input = index_at is_text pool input >>= λ name. if free name.0 then Ok name else Err (item_fault.Bad (fault.BadLength input.at))
+name_at pool free input =
+    index_at is_text pool input >>= λ name.
+    if free name.0 then Ok name else Err (item_fault.Bad (fault.BadLength input.at))
 
 abbrev pub attr_of : ℕ → Body → Attr
 attr_of name b = roll-Attr (record { name = name; body = b })
@@ -41,10 +43,14 @@ body_of attr = out-Body (out-Attr attr).body
 -- ---- the attributes inside Code
 
 -- what stands behind the name of an attribute that begins at `first`
-abbrev pub table_body_at : ℕ → List Const → List ℕ → ℕ → Option Table → PartReader Body
-table_body_at file_end pool starts first (Some table.Lines) input = content file_end first (lines_at starts) input >>= λ lines. Ok (body.Lines lines.0, lines.1)
-table_body_at file_end pool starts first (Some table.Frames) input = content file_end first (frames_at pool starts) input >>= λ frames. Ok (body.Frames frames.0, frames.1)
-table_body_at file_end pool starts first None input = carried_at input >>= λ bytes. Ok (body.Raw bytes.0, bytes.1)
+abbrev pub table_body_at : ℕ → List Const → List ℕ → ℕ → Option CodeTable → PartReader Body
+table_body_at file_end pool starts first (Some table.Lines) input =
+    content file_end first (lines_at starts) input >>= λ lines. Ok (body.Lines lines.0, lines.1)
+table_body_at file_end pool starts first (Some table.Frames) input =
+    content file_end first (frames_at pool starts) input >>= λ frames.
+    Ok (body.Frames frames.0, frames.1)
+table_body_at file_end pool starts first None input =
+    carried_at input >>= λ bytes. Ok (body.Raw bytes.0, bytes.1)
 
 unfoldable pub table_at : ℕ → List Const → List ℕ → Bool → PartReader Attr
 table_at file_end pool starts unseen input = do
@@ -56,7 +62,9 @@ abbrev pub table_after : List Const → Bool → Attr → Bool
 table_after pool unseen attr = without_table unseen (table_of pool (name_of attr))
 
 abbrev pub tables_at : ℕ → List Const → List ℕ → PartReader (List Attr)
-tables_at file_end pool starts input = number w16 input >>= λ count. many_by (table_at file_end pool starts) (table_after pool) true count.0 count.1
+tables_at file_end pool starts input =
+    number w16 input >>= λ count.
+    many_by (table_at file_end pool starts) (table_after pool) true count.0 count.1
 
 -- ---- Code
 
@@ -65,11 +73,15 @@ abbrev pub is_code_length : ℕ → Bool
 is_code_length len = nat_lt 0 len && nat_lt len (2 ^ 16)
 
 abbrev pub code_length_at : ℕ → PartReader ℕ
-code_length_at first input = number w32 input >>= λ len. if is_code_length len.0 then Ok len else Err (item_fault.Bad (fault.BadLength first))
+code_length_at first input =
+    number w32 input >>= λ len.
+    if is_code_length len.0 then Ok len else Err (item_fault.Bad (fault.BadLength first))
 
 -- The instructions that are so many bytes, which are one item.
 abbrev pub insns_at : List Const → ℕ → PartReader (List Insn)
-insns_at pool len input = some_bytes len input >>= λ bytes. or_fault item_fault.Bad (code_at input.at pool bytes.0) >>= λ insns. Ok (insns, bytes.1)
+insns_at pool len input =
+    some_bytes len input >>= λ bytes.
+    or_fault item_fault.Bad (code_at input.at pool bytes.0) >>= λ insns. Ok (insns, bytes.1)
 
 unfoldable pub code_content_at : ℕ → List Const → ℕ → PartReader Code
 code_content_at file_end pool first input = do
@@ -79,7 +91,17 @@ code_content_at file_end pool first input = do
   insns ← insns_at pool len.0 len.1
   rows ← rows_at pool (places insns.0) len.0 insns.1
   attrs ← tables_at file_end pool (places insns.0) rows.1
-  Ok (roll-Code (record { max_stack = stack.0; max_locals = locals.0; insns = insns.0; rows = rows.0; attrs = attrs.0 }), attrs.1)
+  Ok (
+    roll-Code
+        (record {
+          max_stack = stack.0;
+          max_locals = locals.0;
+          insns = insns.0;
+          rows = rows.0;
+          attrs = attrs.0;
+        }),
+    attrs.1,
+  )
 
 -- ---- bytes
 
@@ -109,20 +131,22 @@ code_content c = parts_bytes (out-Code c)
 -- ---- which of them have bytes
 
 -- the content of an attribute of this kind, or of one that is carried
-abbrev pub IsTableBody : List Const → List ℕ → Option Table → Body-F Body Attr Code → Type 0
+abbrev pub IsTableBody : List Const → List ℕ → Option CodeTable → Body-F Body Attr Code → Type 0
 IsTableBody pool starts (Some table.Lines) (Body-F.Lines lines) = AreLines starts lines
 IsTableBody pool starts (Some table.Frames) (Body-F.Frames frames) = AreFrames pool starts frames
 IsTableBody pool starts None (Body-F.Raw bytes) = Unit {0}
 IsTableBody pool starts kind other = ⊥
 
-pub record IsTable (pool : List Const) (starts : List ℕ) (unseen : Bool) (attr : Attr) : Type 0 where
+pub record IsTable (pool : List Const) (starts : List ℕ) (unseen : Bool) (attr : Attr) :
+    Type 0 where
   pub name : IsIndex (names is_text pool) (name_of attr)
   pub free : is_table_free unseen (table_of pool (name_of attr)) ≡ true
   pub content : IsTableBody pool starts (table_of pool (name_of attr)) (body_of attr)
   pub size : length (table_content starts (body_of attr)) < 2 ^ 32
 
 abbrev pub AreTables : List Const → List ℕ → List Attr → Type 0
-AreTables pool starts attrs = (length attrs < 2 ^ 16) × AllBy (IsTable pool starts) (table_after pool) true attrs
+AreTables pool starts attrs =
+    (length attrs < 2 ^ 16) × AllBy (IsTable pool starts) (table_after pool) true attrs
 
 pub record AreParts (pool : List Const) (c : Code-F Body Attr Code) : Type 0 where
   pub stack : c.max_stack < 2 ^ 16

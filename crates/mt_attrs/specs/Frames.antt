@@ -1,4 +1,5 @@
--- StackMapTable (JVMS 4.7.4). A frame whose place, or whose `new` places, are no instructions is told at its first byte; its place is tested before its verification types.
+-- StackMapTable (JVMS 4.7.4). A frame whose place, or whose `new` places, are no instructions is
+-- told at its first byte; its place is tested before its verification types.
 use Rattle.std.specs.Prelude.{ℕ, ◌+◌, ◌-◌, ◌≤◌, ◌<◌, ◌^◌, nat_lt, true, false, ◌||◌, ◌==◌, List, [], ◌++◌, length, Ok, Err, if◌then◌else◌}
 use Rattle.std.specs.Int.{w8, w16}
 use Rattle.std.specs.List.{flat_map, AllByRecursion}
@@ -29,7 +30,8 @@ tagged_at pool starts first at tag input =
     else if tag == 4 then Ok (vitem.Long, input)
     else if tag == 5 then Ok (vitem.Null, input)
     else if tag == 6 then Ok (vitem.UninitializedThis, input)
-    else if tag == 7 then (index_at is_class pool input >>= λ index. Ok (vitem.Object index.0, index.1))
+    else if tag == 7
+    then (index_at is_class pool input >>= λ index. Ok (vitem.Object index.0, index.1))
     else if tag == 8 then (place_at first starts input >>= λ n. Ok (vitem.Uninitialized n.0, n.1))
     else Err (item_fault.Bad (fault.BadTag at tag))
 
@@ -38,7 +40,8 @@ vitem_at pool starts first input = do
   tag ← number w8 input
   tagged_at pool starts first input.at tag.0 tag.1
 
--- ---- frames. `next` is 0 for the first frame, and else one behind the place of the frame before it.
+-- ---- frames. `next` is 0 for the first frame, and else one behind the place of the frame before
+-- it.
 
 abbrev pub frame_of : ℕ → Shape → Frame
 frame_of n s = record { at = n; shape = s }
@@ -53,10 +56,13 @@ full_at pool starts first input = do
 -- what stands behind the place of a frame of the types 247 to 255
 abbrev pub shape_at : List Const → List ℕ → ℕ → ℕ → PartReader Shape
 shape_at pool starts first kind input =
-    if kind == 247 then (vitem_at pool starts first input >>= λ item. Ok (shape.One true item.0, item.1))
+    if kind == 247
+    then (vitem_at pool starts first input >>= λ item. Ok (shape.One true item.0, item.1))
     else if nat_lt kind 251 then Ok (shape.Chop (251 - kind), input)
     else if kind == 251 then Ok (shape.Same true, input)
-    else if nat_lt kind 255 then (many_at (vitem_at pool starts first) (kind - 251) input >>= λ items. Ok (shape.Append items.0, items.1))
+    else if nat_lt kind 255
+    then (many_at (vitem_at pool starts first) (kind - 251) input >>= λ items.
+    Ok (shape.Append items.0, items.1))
     else full_at pool starts first input
 
 unfoldable pub far_at : List Const → List ℕ → ℕ → ℕ → ℕ → PartReader Frame
@@ -93,7 +99,9 @@ abbrev pub next_behind : List ℕ → ℕ → Frame → ℕ
 next_behind starts next frame = start_of starts frame.at + 1
 
 abbrev pub frames_at : List Const → List ℕ → PartReader (List Frame)
-frames_at pool starts input = number w16 input >>= λ count. many_by (frame_at pool starts) (next_behind starts) 0 count.0 count.1
+frames_at pool starts input =
+    number w16 input >>= λ count.
+    many_by (frame_at pool starts) (next_behind starts) 0 count.0 count.1
 
 -- ---- bytes
 
@@ -130,7 +138,8 @@ shape_bytes starts (shape.Same far) = []
 shape_bytes starts (shape.One far item) = vitem_bytes starts item
 shape_bytes starts (shape.Chop count) = []
 shape_bytes starts (shape.Append items) = flat_map (vitem_bytes starts) items
-shape_bytes starts (shape.Full locals stack) = counted (vitem_bytes starts) locals ++ counted (vitem_bytes starts) stack
+shape_bytes starts (shape.Full locals stack) =
+    counted (vitem_bytes starts) locals ++ counted (vitem_bytes starts) stack
 
 -- the place, where the type doesn't tell it
 abbrev pub delta_bytes : ℕ → Shape → List ℕ
@@ -142,10 +151,13 @@ abbrev pub delta_of : List ℕ → ℕ → Frame → ℕ
 delta_of starts next frame = start_of starts frame.at - next
 
 abbrev pub frame_bytes : List ℕ → ℕ → Frame → List ℕ
-frame_bytes starts next frame = u1 (kind_of (delta_of starts next frame) frame.shape) ++ (delta_bytes (delta_of starts next frame) frame.shape ++ shape_bytes starts frame.shape)
+frame_bytes starts next frame =
+    u1 (kind_of (delta_of starts next frame) frame.shape) ++
+    (delta_bytes (delta_of starts next frame) frame.shape ++ shape_bytes starts frame.shape)
 
 abbrev pub frames_bytes : List ℕ → List Frame → List ℕ
-frames_bytes starts frames = u2 (length frames) ++ spelled_by (frame_bytes starts) (next_behind starts) 0 frames
+frames_bytes starts frames =
+    u2 (length frames) ++ spelled_by (frame_bytes starts) (next_behind starts) 0 frames
 
 -- ---- which frames have bytes
 
@@ -164,11 +176,16 @@ abbrev pub IsShape : List Const → List ℕ → Shape → Type 0
 IsShape pool starts (shape.Same far) = Unit {0}
 IsShape pool starts (shape.One far item) = IsVItem pool starts item
 IsShape pool starts (shape.Chop count) = (0 < count) × (count ≤ 3)
-IsShape pool starts (shape.Append items) = (0 < length items) × (length items ≤ 3) × AllByRecursion (IsVItem pool starts) items
-IsShape pool starts (shape.Full locals stack) = ((length locals < 2 ^ 16) × AllByRecursion (IsVItem pool starts) locals) × ((length stack < 2 ^ 16) × AllByRecursion (IsVItem pool starts) stack)
+IsShape pool starts (shape.Append items) =
+    (0 < length items) × (length items ≤ 3) × AllByRecursion (IsVItem pool starts) items
+IsShape pool starts (shape.Full locals stack) =
+    ((length locals < 2 ^ 16) × AllByRecursion (IsVItem pool starts) locals)
+    × ((length stack < 2 ^ 16) × AllByRecursion (IsVItem pool starts) stack)
 
 abbrev pub IsFrame : List Const → List ℕ → ℕ → Frame → Type 0
-IsFrame pool starts next frame = IsBehind starts next (room_of frame.shape) frame.at × IsShape pool starts frame.shape
+IsFrame pool starts next frame =
+    IsBehind starts next (room_of frame.shape) frame.at × IsShape pool starts frame.shape
 
 abbrev pub AreFrames : List Const → List ℕ → List Frame → Type 0
-AreFrames pool starts frames = (length frames < 2 ^ 16) × AllBy (IsFrame pool starts) (next_behind starts) 0 frames
+AreFrames pool starts frames =
+    (length frames < 2 ^ 16) × AllBy (IsFrame pool starts) (next_behind starts) 0 frames

@@ -1,4 +1,5 @@
--- Writing attributes: what has no room, and what is written (JVMS 4.7). A list has at most 65,535 items, a code 65,535 bytes, and an attribute's content fewer than 2^32 bytes.
+-- Writing attributes: what has no room, and what is written (JVMS 4.7). A list has at most 65,535
+-- items, a code 65,535 bytes, and an attribute's content fewer than 2^32 bytes.
 use Rattle.std.specs.Prelude.{◌≡◌, ◌≢◌, ℕ, ◌≤◌, ◌<◌, ◌^◌, nat_lt, List, [], ◌∷◌, ◌++◌, length, All, Option, Some, None, Result, Ok, Err, if◌then◌else◌}
 use Rattle.std.specs.Option.{option_map}
 use Rattle.class_model.specs.declared.attribute.Row.{Row}
@@ -51,7 +52,8 @@ abbrev pub content_bound : Option Bound → List ℕ → Option Bound
 content_bound passed bytes = or_bound passed (size_bound bytes)
 
 abbrev pub shape_bound : Shape → Option Bound
-shape_bound (shape.Full locals stack) = or_bound (count_bound (length locals)) (count_bound (length stack))
+shape_bound (shape.Full locals stack) =
+    or_bound (count_bound (length locals)) (count_bound (length stack))
 shape_bound other = None
 
 abbrev pub frame_bound : Frame → Option Bound
@@ -72,10 +74,13 @@ table_bound other = None
 
 -- of an attribute inside Code
 abbrev pub inner_bound : List ℕ → Attr → Option Bound
-inner_bound starts attr = content_bound (table_bound (body_of attr)) (table_content starts (body_of attr))
+inner_bound starts attr =
+    content_bound (table_bound (body_of attr)) (table_content starts (body_of attr))
 
 abbrev pub parts_bound : Code-F Body Attr Code → Option Bound
-parts_bound c = or_bound (insns_bound c.insns) (or_bound (count_bound (length c.rows)) (list_bound (inner_bound (places c.insns)) c.attrs))
+parts_bound c =
+    or_bound (insns_bound c.insns)
+    (or_bound (count_bound (length c.rows)) (list_bound (inner_bound (places c.insns)) c.attrs))
 
 abbrev pub body_bound : Body-F Body Attr Code → Option Bound
 body_bound (Body-F.Code c) = parts_bound (out-Code c)
@@ -91,16 +96,20 @@ attrs_bound attrs = list_bound attr_bound attrs
 
 -- The bytes of attributes that have room, or the bound that is passed first.
 abbrev pub attrs_layout : List Attr → Result (List ℕ) LayoutFault
-attrs_layout attrs = unless (option_map layout_fault.TooLarge (attrs_bound attrs)) (attrs_bytes attrs)
+attrs_layout attrs =
+    unless (option_map layout_fault.TooLarge (attrs_bound attrs)) (attrs_bytes attrs)
 
 -- ---- what a call writes
 
--- The call adds these bytes, where no bound is passed, or tells the one that is, or runs out of memory.
+-- The call adds these bytes, where no bound is passed, or tells the one that is, or runs out of
+-- memory.
 abbrev pub Writes : Option Bound → List ℕ → List ℕ → List ℕ → Result Unit LayoutFault → Type 0
 Writes passed bytes old new (Ok value) = (passed ≡ None) × (new ≡ old ++ bytes)
-Writes passed bytes old new (Err e) = e ≢ layout_fault.Memory → option_map layout_fault.TooLarge passed ≡ Some e
+Writes passed bytes old new (Err e) =
+    e ≢ layout_fault.Memory → option_map layout_fault.TooLarge passed ≡ Some e
 
--- ---- the form of what may be written: that of what is read, but for sizes. What an index names in a pool is not asked.
+-- ---- the form of what may be written: that of what is read, but for sizes. What an index names in
+-- a pool is not asked.
 
 abbrev pub HasLineForm : List ℕ → ℕ × ℕ → Type 0
 HasLineForm starts line = line.0 < length starts
@@ -118,8 +127,10 @@ abbrev pub HasShapeForm : List ℕ → Shape → Type 0
 HasShapeForm starts (shape.Same far) = Unit {0}
 HasShapeForm starts (shape.One far item) = HasVItemForm starts item
 HasShapeForm starts (shape.Chop count) = (0 < count) × (count ≤ 3)
-HasShapeForm starts (shape.Append items) = (0 < length items) × (length items ≤ 3) × All (HasVItemForm starts) items
-HasShapeForm starts (shape.Full locals stack) = All (HasVItemForm starts) locals × All (HasVItemForm starts) stack
+HasShapeForm starts (shape.Append items) =
+    (0 < length items) × (length items ≤ 3) × All (HasVItemForm starts) items
+HasShapeForm starts (shape.Full locals stack) =
+    All (HasVItemForm starts) locals × All (HasVItemForm starts) stack
 
 -- the part of it that the type of a frame asks for
 abbrev pub HasSize : Shape → Type 0
@@ -128,11 +139,13 @@ HasSize (shape.Append items) = (0 < length items) × (length items ≤ 3)
 HasSize other = Unit {0}
 
 abbrev pub HasFrameForm : List ℕ → ℕ → Frame → Type 0
-HasFrameForm starts next frame = IsBehind starts next (room_of frame.shape) frame.at × HasShapeForm starts frame.shape
+HasFrameForm starts next frame =
+    IsBehind starts next (room_of frame.shape) frame.at × HasShapeForm starts frame.shape
 
 abbrev pub HasTableForm : List ℕ → Body-F Body Attr Code → Type 0
 HasTableForm starts (Body-F.Lines lines) = All (HasLineForm starts) lines
-HasTableForm starts (Body-F.Frames frames) = AllBy (HasFrameForm starts) (next_behind starts) 0 frames
+HasTableForm starts (Body-F.Frames frames) =
+    AllBy (HasFrameForm starts) (next_behind starts) 0 frames
 HasTableForm starts (Body-F.Raw bytes) = Unit {0}
 HasTableForm starts other = ⊥
 
@@ -156,6 +169,9 @@ HasAttrForm attr = HasBodyForm (body_of attr)
 
 -- ---- both ways
 
--- Attributes that have a spelling are in the form that writing asks for, and are written as they are spelled.
+-- Attributes that have a spelling are in the form that writing asks for, and are written as they
+-- are spelled.
 abbrev pub SpelledIsWritten : Type 0
-SpelledIsWritten = (pool : List Const) (owner : Owner) (attrs : List Attr) → AreAttrs pool owner attrs → All HasAttrForm attrs × (attrs_layout attrs ≡ Ok (attrs_bytes attrs))
+SpelledIsWritten =
+    (pool : List Const) (owner : Owner) (attrs : List Attr) → AreAttrs pool owner attrs →
+    All HasAttrForm attrs × (attrs_layout attrs ≡ Ok (attrs_bytes attrs))

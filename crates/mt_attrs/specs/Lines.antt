@@ -1,4 +1,5 @@
--- LineNumberTable (JVMS 4.7.12): where each line begins, and the line. A row whose start is no instruction is told at its first byte.
+-- LineNumberTable (JVMS 4.7.12): where each line begins, and the line. A row whose start is no
+-- instruction is told at its first byte.
 use Rattle.std.specs.Prelude.{ℕ, ◌<◌, ◌^◌, List, ◌++◌, length, Ok}
 use Rattle.std.specs.Int.{w16}
 use Rattle.std.specs.List.{AllByRecursion}

@@ -1,4 +1,5 @@
--- What an index in an attribute may name in the constant pool (JVMS 4.7), and what it is told where it names something else (this project's own).
+-- What an index in an attribute may name in the constant pool (JVMS 4.7), and what it is told where
+-- it names something else (this project's own).
 use Rattle.std.specs.Prelude.{◌≡◌, ◌≢◌, ℕ, ◌<◌, ◌^◌, Bool, true, false, ◌||◌, ◌==◌, nat_eq, List, codes, Option, Some, None, Result, Ok, Err}
 use Rattle.std.specs.Int.{w16}
 use Rattle.std.specs.Cmp.Lexicographic.{pointwise}
@@ -21,7 +22,8 @@ abbrev pub is_text : Const → Bool
 is_text (const.Utf8 units) = true
 is_text other = false
 
--- The value of a constant field (JVMS 4.7.2), whatever the field's type, which is this project's own choice.
+-- The value of a constant field (JVMS 4.7.2), whatever the field's type, which is this project's
+-- own choice.
 abbrev pub is_value : Const → Bool
 is_value (const.Integer n) = true
 is_value (const.Float bits) = true
@@ -32,7 +34,8 @@ is_value other = false
 
 -- The constant of an annotation's element by the element's tag (JVMS 4.7.16.1).
 abbrev pub is_constant : ℕ → Const → Bool
-is_constant tag (const.Integer n) = tag == 66 || (tag == 67 || (tag == 73 || (tag == 83 || tag == 90)))
+is_constant tag (const.Integer n) =
+    tag == 66 || (tag == 67 || (tag == 73 || (tag == 83 || tag == 90)))
 is_constant tag (const.Double bits) = tag == 68
 is_constant tag (const.Float bits) = tag == 70
 is_constant tag (const.Long n) = tag == 74
@@ -49,7 +52,8 @@ abbrev pub is_described : Option (Result Kind DescFault) → Bool
 is_described (Some (Ok kind)) = true
 is_described other = false
 
--- An index that names no text; a text that is in the grammar and has a float as a kind; and any other text.
+-- An index that names no text; a text that is in the grammar and has a float as a kind; and any
+-- other text.
 abbrev pub described_refusal : ℕ → Option (Result Kind DescFault) → ClassFault
 described_refusal at None = fault.BadIndex at
 described_refusal at (Some (Err desc_fault.Float)) = fault.FloatUsed at
@@ -101,7 +105,9 @@ result_at pool input = number_where w16 (names_result pool) (type_refusal pool) 
 abbrev pub IsIndex : (ℕ → Bool) → ℕ → Type 0
 IsIndex test index = (index < 2 ^ 16) × (test index ≡ true)
 
--- A call told whether a descriptor that stands at a place is one without floats, or ran out of memory.
+-- A call told whether a descriptor that stands at a place is one without floats, or ran out of
+-- memory.
 abbrev pub Described : ℕ → Option (Result Kind DescFault) → Result Unit ClassFault → Type 0
 Described at desc (Ok value) = is_described desc ≡ true
-Described at desc (Err e) = e ≢ fault.Memory → (is_described desc ≡ false) × (described_refusal at desc ≡ e)
+Described at desc (Err e) =
+    e ≢ fault.Memory → (is_described desc ≡ false) × (described_refusal at desc ≡ e)

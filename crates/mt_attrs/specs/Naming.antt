@@ -1,4 +1,6 @@
--- What attributes need beside their form and room to have a spelling under a pool: their indices name what they may, their kinds stand in their places and at most once, a row covers an instruction, a code isn't empty, and their numbers are in the ranges of their fields.
+-- What attributes need beside their form and room to have a spelling under a pool: their indices
+-- name what they may, their kinds stand in their places and at most once, a row covers an
+-- instruction, a code isn't empty, and their numbers are in the ranges of their fields.
 use Rattle.std.specs.Prelude.{◌≡◌, ℕ, ◌<◌, ◌^◌, Bool, true, List, length, All, Option, Some, None, Ok}
 use Rattle.std.specs.List.{AllByRecursion}
 use Rattle.class_model.specs.declared.constant.Const.{Const}
@@ -24,8 +26,8 @@ use Rattle.mt_attrs.specs.Layout.{attrs_layout, HasAttrForm}
 use Rattle.mt_attrs.specs.declared.owner.Owner.{Owner}
 use Rattle.mt_attrs.specs.declared.kinds.Known.{Known}
 use Rattle.mt_attrs.specs.declared.kinds.Known.TheVariants as known
-use Rattle.mt_attrs.specs.declared.kinds.Table.{Table}
-use Rattle.mt_attrs.specs.declared.kinds.Table.TheVariants as table
+use Rattle.mt_attrs.specs.declared.kinds.CodeTable.{CodeTable}
+use Rattle.mt_attrs.specs.declared.kinds.CodeTable.TheVariants as table
 use Rattle.mt_attrs.specs.declared.kinds.Unseen.{Unseen}
 
 abbrev pub IsNamedLine : ℕ × ℕ → Type 0
@@ -44,16 +46,18 @@ IsNamedShape pool (shape.Same far) = Unit {0}
 IsNamedShape pool (shape.One far item) = IsNamedVItem pool item
 IsNamedShape pool (shape.Chop count) = Unit {0}
 IsNamedShape pool (shape.Append items) = AllByRecursion (IsNamedVItem pool) items
-IsNamedShape pool (shape.Full locals stack) = AllByRecursion (IsNamedVItem pool) locals × AllByRecursion (IsNamedVItem pool) stack
+IsNamedShape pool (shape.Full locals stack) =
+    AllByRecursion (IsNamedVItem pool) locals × AllByRecursion (IsNamedVItem pool) stack
 
 abbrev pub IsNamedFrame : List Const → Frame → Type 0
 IsNamedFrame pool frame = IsNamedShape pool frame.shape
 
 -- ---- attributes
 
-abbrev pub IsNamedTableBody : List Const → Option Table → Body-F Body Attr Code → Type 0
+abbrev pub IsNamedTableBody : List Const → Option CodeTable → Body-F Body Attr Code → Type 0
 IsNamedTableBody pool (Some table.Lines) (Body-F.Lines lines) = AllByRecursion IsNamedLine lines
-IsNamedTableBody pool (Some table.Frames) (Body-F.Frames frames) = AllByRecursion (IsNamedFrame pool) frames
+IsNamedTableBody pool (Some table.Frames) (Body-F.Frames frames) =
+    AllByRecursion (IsNamedFrame pool) frames
 IsNamedTableBody pool None (Body-F.Raw bytes) = Unit {0}
 IsNamedTableBody pool kind other = ⊥
 
@@ -79,7 +83,8 @@ IsNamedBody pool (Some known.Invisible) (Body-F.Notes notes) = AllByRecursion (I
 IsNamedBody pool None (Body-F.Raw bytes) = Unit {0}
 IsNamedBody pool kind other = ⊥
 
-pub record IsNamedAttr (pool : List Const) (owner : Owner) (unseen : Unseen) (attr : Attr) : Type 0 where
+pub record IsNamedAttr (pool : List Const) (owner : Owner) (unseen : Unseen) (attr : Attr) :
+    Type 0 where
   pub name : IsIndex (names is_text pool) (name_of attr)
   pub free : is_free unseen (known_of pool owner (name_of attr)) ≡ true
   pub content : IsNamedBody pool (known_of pool owner (name_of attr)) (body_of attr)
@@ -89,4 +94,7 @@ AreNamed pool owner attrs = AllBy (IsNamedAttr pool owner) (attr_after pool owne
 
 -- Attributes that are written have a spelling, where they are named so.
 abbrev pub WrittenIsSpelled : Type 0
-WrittenIsSpelled = (pool : List Const) (owner : Owner) (attrs : List Attr) (bytes : List ℕ) → AreNamed pool owner attrs → All HasAttrForm attrs → attrs_layout attrs ≡ Ok bytes → AreAttrs pool owner attrs × (bytes ≡ attrs_bytes attrs)
+WrittenIsSpelled =
+    (pool : List Const) (owner : Owner) (attrs : List Attr) (bytes : List ℕ) →
+    AreNamed pool owner attrs → All HasAttrForm attrs → attrs_layout attrs ≡ Ok bytes →
+    AreAttrs pool owner attrs × (bytes ≡ attrs_bytes attrs)

@@ -1,4 +1,5 @@
--- The exception table (JVMS 4.7.3). A row whose start or handler is no instruction, or whose end is neither a later instruction nor the code's end, is told at its first byte.
+-- The exception table (JVMS 4.7.3). A row whose start or handler is no instruction, or whose end is
+-- neither a later instruction nor the code's end, is told at its first byte.
 use Rattle.std.specs.Prelude.{ℕ, ◌<◌, ◌^◌, List, ◌++◌, length, Ok}
 use Rattle.std.specs.List.{AllByRecursion}
 use Rattle.class_model.specs.declared.attribute.Row.{Row}
@@ -20,7 +21,9 @@ abbrev pub rows_at : List Const → List ℕ → ℕ → PartReader (List Row)
 rows_at pool starts end input = counted_at (row_at pool starts end) input
 
 abbrev pub row_bytes : List ℕ → ℕ → Row → List ℕ
-row_bytes starts end row = u2 (start_of starts row.start) ++ (u2 (bound_of starts end row.end) ++ (u2 (start_of starts row.handler) ++ u2 row.catch))
+row_bytes starts end row =
+    u2 (start_of starts row.start) ++
+    (u2 (bound_of starts end row.end) ++ (u2 (start_of starts row.handler) ++ u2 row.catch))
 
 pub record IsRow (pool : List Const) (starts : List ℕ) (end : ℕ) (row : Row) : Type 0 where
   pub start : IsPlace starts row.start

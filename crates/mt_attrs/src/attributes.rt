@@ -19,12 +19,18 @@ use crate::kinds::{Known, Unseen, all_unseen, is_free, known_of, without};
 use crate::named::{read_text, read_value};
 use crate::notes::read_notes;
 use crate::owner::Owner;
-use class_model::{Attr, Body, ClassFault, Judged, Note, Seq};
+use class_model::{Attr, Body, CheckedPool, ClassFault, Note, Seq};
 use mt_bytes::Cursor;
 use std::alloc::Global;
 
-fn read_source(pool: &Judged, file_end: u64, first: u64, cur: &mut Cursor) -> Result<u16, ItemFault>
-    ensures { ReadsPart (content file_end first (index_at is_text pool.now)) cur.old cur.new result }
+fn read_source(
+    pool: &CheckedPool,
+    file_end: u64,
+    first: u64,
+    cur: &mut Cursor,
+) -> Result<u16, ItemFault>
+    ensures { ReadsPart (content file_end first (index_at is_text pool.now))
+        cur.old cur.new result }
 {
     let len = u4(cur)?;
     let part = opened(cur, len);
@@ -34,12 +40,13 @@ fn read_source(pool: &Judged, file_end: u64, first: u64, cur: &mut Cursor) -> Re
 }
 
 fn read_constant_value(
-    pool: &Judged,
+    pool: &CheckedPool,
     file_end: u64,
     first: u64,
     cur: &mut Cursor,
 ) -> Result<u16, ItemFault>
-    ensures { ReadsPart (content file_end first (index_at is_value pool.now)) cur.old cur.new result }
+    ensures { ReadsPart (content file_end first (index_at is_value pool.now))
+        cur.old cur.new result }
 {
     let len = u4(cur)?;
     let part = opened(cur, len);
@@ -50,7 +57,7 @@ fn read_constant_value(
 
 fn read_annotations(
     alloc: Global,
-    pool: &Judged,
+    pool: &CheckedPool,
     file_end: u64,
     first: u64,
     cur: &mut Cursor,
@@ -67,7 +74,7 @@ fn read_annotations(
 /// What stands behind the name of an attribute that begins at `first`.
 fn read_body(
     alloc: Global,
-    pool: &Judged,
+    pool: &CheckedPool,
     file_end: u64,
     first: u64,
     known: Option<Known>,
@@ -101,12 +108,13 @@ fn read_body(
 
 /// The index of the name of an attribute.
 fn read_name(
-    pool: &Judged,
+    pool: &CheckedPool,
     owner: Owner,
     unseen: Unseen,
     cur: &mut Cursor,
 ) -> Result<u16, ItemFault>
-    ensures { ReadsPart (name_at pool.now (λ name. is_free unseen (known_of pool.now owner name))) cur.old cur.new result }
+    ensures { ReadsPart (name_at pool.now (λ name. is_free unseen (known_of pool.now owner name)))
+        cur.old cur.new result }
 {
     let first = cur.at();
     let name = read_text(pool, cur)?;
@@ -119,7 +127,7 @@ fn read_name(
 #[tactic(auto, unfolding(crate::specs::Attributes::attr_at))]
 fn read_attr(
     alloc: Global,
-    pool: &Judged,
+    pool: &CheckedPool,
     owner: Owner,
     file_end: u64,
     unseen: Unseen,
@@ -140,7 +148,7 @@ fn read_attr(
     Ok(Attr { name, body })
 }
 
-fn attr_after(pool: &Judged, owner: Owner, unseen: Unseen, attr: &Attr) -> Unseen
+fn attr_after(pool: &CheckedPool, owner: Owner, unseen: Unseen, attr: &Attr) -> Unseen
     ensures { result ≡ attr_after pool.now owner unseen attr.now }
 {
     without(unseen, known_of(pool, owner, attr.name))
@@ -148,13 +156,15 @@ fn attr_after(pool: &Judged, owner: Owner, unseen: Unseen, attr: &Attr) -> Unsee
 
 fn read_counted_attrs(
     alloc: Global,
-    pool: &Judged,
+    pool: &CheckedPool,
     owner: Owner,
     file_end: u64,
     count: u16,
     cur: &mut Cursor,
 ) -> Result<Seq<Attr>, ItemFault>
-    ensures { ReadsPart (many_by (attr_at file_end pool.now owner) (attr_after pool.now owner) all_unseen count) cur.old cur.new result }
+    ensures { ReadsPart
+        (many_by (attr_at file_end pool.now owner) (attr_after pool.now owner) all_unseen count)
+        cur.old cur.new result }
 {
     let mut attrs = Seq::new(alloc);
     let mut unseen = all_unseen();
@@ -169,7 +179,7 @@ fn read_counted_attrs(
 /// The attributes in a file that ends at `file_end`.
 fn read_all(
     alloc: Global,
-    pool: &Judged,
+    pool: &CheckedPool,
     owner: Owner,
     file_end: u64,
     cur: &mut Cursor,
@@ -193,7 +203,7 @@ fn fault_of(fault: ItemFault) -> ClassFault
 /// The attributes in a file that ends where the cursor does.
 pub fn read_whole(
     alloc: Global,
-    pool: &Judged,
+    pool: &CheckedPool,
     owner: Owner,
     cur: &mut Cursor,
 ) -> Result<Seq<Attr>, ClassFault>

@@ -13,11 +13,11 @@ use crate::content::{closed, opened};
 use crate::fault::ItemFault;
 use crate::frames::read_frames;
 use crate::item::{read_carried, take, u2, u4};
-use crate::kinds::{Table, is_table_free, table_of, without_table};
+use crate::kinds::{CodeTable, is_table_free, table_of, without_table};
 use crate::lines::read_lines;
 use crate::named::read_text;
 use crate::rows::read_rows;
-use class_model::{Attr, Body, ClassFault, Code, Frame, Insn, Judged, Seq};
+use class_model::{Attr, Body, CheckedPool, ClassFault, Code, Frame, Insn, Seq};
 use mt_bytes::Cursor;
 use mt_insn::{places, read_insns};
 use std::alloc::Global;
@@ -43,7 +43,7 @@ fn read_line_table(
 
 fn read_stack_map(
     alloc: Global,
-    pool: &Judged,
+    pool: &CheckedPool,
     starts: &[u32],
     file_end: u64,
     first: u64,
@@ -51,7 +51,8 @@ fn read_stack_map(
 ) -> Result<Seq<Frame>, ItemFault>
     requires ascends { Ascends starts.now }
     requires near { AreNear starts.now }
-    ensures { ReadsPart (content file_end first (frames_at pool.now starts.now)) cur.old cur.new result }
+    ensures { ReadsPart (content file_end first (frames_at pool.now starts.now))
+        cur.old cur.new result }
 {
     let len = u4(cur)?;
     let part = opened(cur, len);
@@ -63,23 +64,24 @@ fn read_stack_map(
 /// What stands behind the name of an attribute that begins at `first`.
 fn read_table_body(
     alloc: Global,
-    pool: &Judged,
+    pool: &CheckedPool,
     starts: &[u32],
     file_end: u64,
     first: u64,
-    table: Option<Table>,
+    table: Option<CodeTable>,
     cur: &mut Cursor,
 ) -> Result<Body, ItemFault>
     requires ascends { Ascends starts.now }
     requires near { AreNear starts.now }
-    ensures { ReadsPart (table_body_at file_end pool.now starts.now first table) cur.old cur.new result }
+    ensures { ReadsPart (table_body_at file_end pool.now starts.now first table)
+        cur.old cur.new result }
 {
     match table {
-        Some(Table::Lines) => {
+        Some(CodeTable::Lines) => {
             let lines = read_line_table(alloc, starts, file_end, first, cur)?;
             Ok(Body::Lines(lines))
         }
-        Some(Table::Frames) => {
+        Some(CodeTable::Frames) => {
             let frames = read_stack_map(alloc, pool, starts, file_end, first, cur)?;
             Ok(Body::Frames(frames))
         }
@@ -91,8 +93,9 @@ fn read_table_body(
 }
 
 /// The index of the name of an attribute inside Code.
-fn read_table_name(pool: &Judged, unseen: bool, cur: &mut Cursor) -> Result<u16, ItemFault>
-    ensures { ReadsPart (name_at pool.now (λ name. is_table_free unseen (table_of pool.now name))) cur.old cur.new result }
+fn read_table_name(pool: &CheckedPool, unseen: bool, cur: &mut Cursor) -> Result<u16, ItemFault>
+    ensures { ReadsPart (name_at pool.now (λ name. is_table_free unseen (table_of pool.now name)))
+        cur.old cur.new result }
 {
     let first = cur.at();
     let name = read_text(pool, cur)?;
@@ -106,7 +109,7 @@ fn read_table_name(pool: &Judged, unseen: bool, cur: &mut Cursor) -> Result<u16,
 #[tactic(auto, unfolding(crate::specs::CodeParts::table_at))]
 fn read_table(
     alloc: Global,
-    pool: &Judged,
+    pool: &CheckedPool,
     starts: &[u32],
     file_end: u64,
     unseen: bool,
@@ -130,7 +133,7 @@ fn read_table(
     Ok(Attr { name, body })
 }
 
-fn table_after(pool: &Judged, unseen: bool, attr: &Attr) -> bool
+fn table_after(pool: &CheckedPool, unseen: bool, attr: &Attr) -> bool
     ensures { result ≡ table_after pool.now unseen attr.now }
 {
     without_table(unseen, table_of(pool, attr.name))
@@ -138,7 +141,7 @@ fn table_after(pool: &Judged, unseen: bool, attr: &Attr) -> bool
 
 fn read_counted_tables(
     alloc: Global,
-    pool: &Judged,
+    pool: &CheckedPool,
     starts: &[u32],
     file_end: u64,
     count: u16,
@@ -146,7 +149,9 @@ fn read_counted_tables(
 ) -> Result<Seq<Attr>, ItemFault>
     requires ascends { Ascends starts.now }
     requires near { AreNear starts.now }
-    ensures { ReadsPart (many_by (table_at file_end pool.now starts.now) (table_after pool.now) true count) cur.old cur.new result }
+    ensures { ReadsPart
+        (many_by (table_at file_end pool.now starts.now) (table_after pool.now) true count)
+        cur.old cur.new result }
 {
     let mut attrs = Seq::new(alloc);
     let mut unseen = true;
@@ -160,7 +165,7 @@ fn read_counted_tables(
 
 fn read_tables(
     alloc: Global,
-    pool: &Judged,
+    pool: &CheckedPool,
     starts: &[u32],
     file_end: u64,
     cur: &mut Cursor,
@@ -196,7 +201,7 @@ fn read_code_length(first: u64, cur: &mut Cursor) -> Result<u32, ItemFault>
 /// The instructions that are so many bytes.
 fn read_code_bytes(
     alloc: Global,
-    pool: &Judged,
+    pool: &CheckedPool,
     len: u32,
     cur: &mut Cursor,
 ) -> Result<Seq<Insn>, ItemFault>
@@ -211,7 +216,7 @@ fn read_code_bytes(
 #[tactic(auto, unfolding(crate::specs::CodeParts::code_content_at))]
 fn read_code_content(
     alloc: Global,
-    pool: &Judged,
+    pool: &CheckedPool,
     file_end: u64,
     first: u64,
     cur: &mut Cursor,
@@ -237,12 +242,13 @@ fn read_code_content(
 /// The content of a Code attribute that begins at `first`, behind its length.
 pub fn read_code(
     alloc: Global,
-    pool: &Judged,
+    pool: &CheckedPool,
     file_end: u64,
     first: u64,
     cur: &mut Cursor,
 ) -> Result<Code, ItemFault>
-    ensures { ReadsPart (content file_end first (code_content_at file_end pool.now first)) cur.old cur.new result }
+    ensures { ReadsPart (content file_end first (code_content_at file_end pool.now first))
+        cur.old cur.new result }
 {
     let len = u4(cur)?;
     let part = opened(cur, len);

@@ -56,8 +56,9 @@ fn crosses(at: u64, need: u64, start: u64, len: u32, file_end: u64) -> bool
     }
 }
 
-/// What was read of the content, of which `left` bytes are left, and which has to end where its length says. An item that crosses that end and stands whole in the file is
-/// told at the first byte of the attribute.
+/// What was read of the content, of which `left` bytes are left, and which has to end where its
+/// length says. An item that crosses that end and stands whole in the file is told at the first
+/// byte of the attribute.
 pub fn closed<T: Drop>(
     read: Result<T, ItemFault>,
     left: u64,
@@ -65,7 +66,8 @@ pub fn closed<T: Drop>(
     file_end: u64,
     first: u64,
 ) -> Result<T, ItemFault>
-    ensures { result ≡ closing file_end first (part.entry.at + part.entry.len) part.entry.whole left read }
+    ensures { result ≡ closing file_end first (part.entry.at + part.entry.len) part.entry.whole left
+        read }
 {
     match read {
         Ok(value) => {

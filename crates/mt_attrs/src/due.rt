@@ -7,8 +7,8 @@ use class_model::{Memory, Token};
 use std::alloc::Global;
 use std::marker::Model;
 
-/// An annotation or an array that is open: so many of its items are still due, each with its name in front where `named` says
-/// so, and so many more annotations may be opened in it.
+/// An annotation or an array that is open: so many of its items are still due, each with its name
+/// in front where `named` says so, and so many more annotations may be opened in it.
 #[derive(Clone, Copy)]
 pub struct Due {
     pub named: bool,
@@ -66,7 +66,8 @@ impl Dues {
         self.push(due)
     }
 
-    /// Puts what is due behind a token in front of what was due around it, where so many more annotations may be opened.
+    /// Puts what is due behind a token in front of what was due around it, where so many more
+    /// annotations may be opened.
     fn put_behind(&mut self, token: Token, depth: u8) -> Result<(), Memory>
         ensures { OnOk result (self.new ≡ due_behind token depth self.old) }
     {

@@ -10,7 +10,8 @@ use class_model::{ClassFault, Memory};
 /// The first fault that reading meets. A place is a byte offset in the file, from 0.
 #[derive(Clone, Copy)]
 pub enum ItemFault {
-    /// Fewer than `need` bytes are left for the item that begins at `at`: the file or an attribute ends there.
+    /// Fewer than `need` bytes are left for the item that begins at `at`: the file or an attribute
+    /// ends there.
     Short { at: u64, need: u64 },
     Bad(ClassFault),
 }

@@ -10,7 +10,7 @@ use crate::fault::ItemFault;
 use crate::item::{u1, u2};
 use crate::named::read_class;
 use crate::place::{behind_start, number_of, read_delta, read_place};
-use class_model::{ClassFault, Frame, Judged, Seq, Shape, VItem};
+use class_model::{CheckedPool, ClassFault, Frame, Seq, Shape, VItem};
 use mt_bytes::Cursor;
 use std::alloc::Global;
 
@@ -18,7 +18,7 @@ use std::alloc::Global;
 
 /// What stands behind a tag at a place, in a frame that begins at `first`.
 fn read_tagged(
-    pool: &Judged,
+    pool: &CheckedPool,
     starts: &[u32],
     first: u64,
     at: u64,
@@ -49,7 +49,7 @@ fn read_tagged(
 
 #[tactic(auto, unfolding(crate::specs::Frames::vitem_at))]
 fn read_vitem(
-    pool: &Judged,
+    pool: &CheckedPool,
     starts: &[u32],
     first: u64,
     cur: &mut Cursor,
@@ -64,14 +64,15 @@ fn read_vitem(
 
 fn read_vitems(
     alloc: Global,
-    pool: &Judged,
+    pool: &CheckedPool,
     starts: &[u32],
     first: u64,
     count: u16,
     cur: &mut Cursor,
 ) -> Result<Seq<VItem>, ItemFault>
     requires { Ascends starts.now }
-    ensures { ReadsPart (many_at (vitem_at pool.now starts.now first) count) cur.old cur.new result }
+    ensures { ReadsPart (many_at (vitem_at pool.now starts.now first) count)
+        cur.old cur.new result }
 {
     let mut items = Seq::new(alloc);
     for _ in 0..count {
@@ -83,7 +84,7 @@ fn read_vitems(
 
 fn read_counted_vitems(
     alloc: Global,
-    pool: &Judged,
+    pool: &CheckedPool,
     starts: &[u32],
     first: u64,
     cur: &mut Cursor,
@@ -100,7 +101,7 @@ fn read_counted_vitems(
 #[tactic(auto, unfolding(crate::specs::Frames::full_at))]
 fn read_full(
     alloc: Global,
-    pool: &Judged,
+    pool: &CheckedPool,
     starts: &[u32],
     first: u64,
     cur: &mut Cursor,
@@ -116,7 +117,7 @@ fn read_full(
 /// What stands behind the place of a frame of the types 247 to 255.
 fn read_shape(
     alloc: Global,
-    pool: &Judged,
+    pool: &CheckedPool,
     starts: &[u32],
     first: u64,
     kind: u8,
@@ -144,7 +145,7 @@ fn read_shape(
 #[tactic(auto, unfolding(crate::specs::Frames::far_at))]
 fn read_far(
     alloc: Global,
-    pool: &Judged,
+    pool: &CheckedPool,
     starts: &[u32],
     next: u32,
     first: u64,
@@ -184,7 +185,7 @@ fn same_frame(
 
 #[tactic(auto, unfolding(crate::specs::Frames::one_at))]
 fn read_one(
-    pool: &Judged,
+    pool: &CheckedPool,
     starts: &[u32],
     next: u32,
     first: u64,
@@ -208,7 +209,7 @@ fn read_one(
 /// What stands behind the type of a frame that begins at `first`.
 fn read_kind(
     alloc: Global,
-    pool: &Judged,
+    pool: &CheckedPool,
     starts: &[u32],
     next: u32,
     first: u64,
@@ -237,7 +238,7 @@ fn read_kind(
 #[tactic(auto, unfolding(crate::specs::Frames::frame_at))]
 fn read_frame(
     alloc: Global,
-    pool: &Judged,
+    pool: &CheckedPool,
     starts: &[u32],
     next: u32,
     cur: &mut Cursor,
@@ -253,14 +254,15 @@ fn read_frame(
 
 fn read_counted_frames(
     alloc: Global,
-    pool: &Judged,
+    pool: &CheckedPool,
     starts: &[u32],
     count: u16,
     cur: &mut Cursor,
 ) -> Result<Seq<Frame>, ItemFault>
     requires ascends { Ascends starts.now }
     requires near { AreNear starts.now }
-    ensures { ReadsPart (many_by (frame_at pool.now starts.now) (next_behind starts.now) 0 count) cur.old cur.new result }
+    ensures { ReadsPart (many_by (frame_at pool.now starts.now) (next_behind starts.now) 0 count)
+        cur.old cur.new result }
 {
     let mut frames = Seq::new(alloc);
     let mut next = 0;
@@ -275,7 +277,7 @@ fn read_counted_frames(
 /// The frames of a code.
 pub fn read_frames(
     alloc: Global,
-    pool: &Judged,
+    pool: &CheckedPool,
     starts: &[u32],
     cur: &mut Cursor,
 ) -> Result<Seq<Frame>, ItemFault>

@@ -6,7 +6,7 @@ ghost use Rattle.mt_attrs.specs.Kinds.{known_of, is_free, without, all_unseen, t
 
 use crate::named::names_text;
 use crate::owner::Owner;
-use class_model::Judged;
+use class_model::CheckedPool;
 
 /// A known attribute of a class, a field or a method.
 #[derive(Clone, Copy)]
@@ -18,9 +18,9 @@ pub enum Known {
     Invisible,
 }
 
-/// A known attribute of a Code attribute.
+/// A known attribute of a Code attribute: each is a table.
 #[derive(Clone, Copy)]
-pub enum Table {
+pub enum CodeTable {
     Lines,
     Frames,
 }
@@ -73,7 +73,7 @@ fn own_kind(owner: Owner) -> Known
 }
 
 /// The index names the attribute that this owner alone may have.
-fn names_own(pool: &Judged, owner: Owner, name: u16) -> bool
+fn names_own(pool: &CheckedPool, owner: Owner, name: u16) -> bool
     ensures { result ≡ names_text pool.now name (own_name owner) }
 {
     match owner {
@@ -84,7 +84,7 @@ fn names_own(pool: &Judged, owner: Owner, name: u16) -> bool
 }
 
 /// The known attribute of the name that an index names.
-pub fn known_of(pool: &Judged, owner: Owner, name: u16) -> Option<Known>
+pub fn known_of(pool: &CheckedPool, owner: Owner, name: u16) -> Option<Known>
     ensures { result ≡ known_of pool.now owner name }
 {
     if names_own(pool, owner, name) {
@@ -145,34 +145,34 @@ pub fn without(unseen: Unseen, known: Option<Known>) -> Unseen
 }
 
 /// The known attribute of the name that an index names, inside Code.
-pub fn table_of(pool: &Judged, name: u16) -> Option<Table>
+pub fn table_of(pool: &CheckedPool, name: u16) -> Option<CodeTable>
     ensures { result ≡ table_of pool.now name }
 {
     if names_text(pool, name, &LINE_NUMBER_TABLE) {
-        Some(Table::Lines)
+        Some(CodeTable::Lines)
     } else if names_text(pool, name, &STACK_MAP_TABLE) {
-        Some(Table::Frames)
+        Some(CodeTable::Frames)
     } else {
         None
     }
 }
 
 /// The attribute may stand here. `unseen` says that no StackMapTable has stood yet.
-pub fn is_table_free(unseen: bool, table: Option<Table>) -> bool
+pub fn is_table_free(unseen: bool, table: Option<CodeTable>) -> bool
     ensures { result ≡ is_table_free unseen table }
 {
     match table {
-        Some(Table::Frames) => unseen,
-        Some(Table::Lines) | None => true,
+        Some(CodeTable::Frames) => unseen,
+        Some(CodeTable::Lines) | None => true,
     }
 }
 
 /// Whether no StackMapTable has stood yet behind the attribute.
-pub fn without_table(unseen: bool, table: Option<Table>) -> bool
+pub fn without_table(unseen: bool, table: Option<CodeTable>) -> bool
     ensures { result ≡ without_table unseen table }
 {
     match table {
-        Some(Table::Frames) => false,
-        Some(Table::Lines) | None => unseen,
+        Some(CodeTable::Frames) => false,
+        Some(CodeTable::Lines) | None => unseen,
     }
 }

@@ -9,11 +9,11 @@ ghost use Rattle.mt_attrs.specs.Named.{is_text, is_value, is_constant, is_caught
 
 use crate::fault::ItemFault;
 use crate::item::u2;
-use class_model::{ClassFault, Const, DescFault, Judged, Name};
+use class_model::{CheckedPool, ClassFault, Const, DescFault, Name};
 use mt_bytes::Cursor;
 
 /// The entry of an index: it counts the entries from 1.
-fn entry<'a>(pool: &'a Judged, index: u16) -> Option<&'a Const>
+fn entry<'a>(pool: &'a CheckedPool, index: u16) -> Option<&'a Const>
     ensures { option_copied result ≡ entry_of pool.now index }
 {
     if index == 0 {
@@ -22,7 +22,7 @@ fn entry<'a>(pool: &'a Judged, index: u16) -> Option<&'a Const>
     pool.entries().get(usize::from(index) - 1)
 }
 
-fn text_of<'a>(pool: &'a Judged, index: u16) -> Option<&'a Name>
+fn text_of<'a>(pool: &'a CheckedPool, index: u16) -> Option<&'a Name>
     ensures { option_copied result ≡ text_of pool.now index }
 {
     match entry(pool, index) {
@@ -32,7 +32,7 @@ fn text_of<'a>(pool: &'a Judged, index: u16) -> Option<&'a Name>
 }
 
 /// The index names this text.
-pub fn names_text(pool: &Judged, index: u16, name: &[u16]) -> bool
+pub fn names_text(pool: &CheckedPool, index: u16, name: &[u16]) -> bool
     ensures { result ≡ names_text pool.now index name.now }
 {
     match text_of(pool, index) {
@@ -41,20 +41,20 @@ pub fn names_text(pool: &Judged, index: u16, name: &[u16]) -> bool
     }
 }
 
-fn is_text(pool: &Judged, index: u16) -> bool
+fn is_text(pool: &CheckedPool, index: u16) -> bool
     ensures { result ≡ names is_text pool.now index }
 {
     matches!(entry(pool, index), Some(Const::Utf8(_)))
 }
 
-fn is_class(pool: &Judged, index: u16) -> bool
+fn is_class(pool: &CheckedPool, index: u16) -> bool
     ensures { result ≡ names is_class pool.now index }
 {
     matches!(entry(pool, index), Some(Const::Class(_)))
 }
 
 /// The index names what a constant field may have.
-fn is_value(pool: &Judged, index: u16) -> bool
+fn is_value(pool: &CheckedPool, index: u16) -> bool
     ensures { result ≡ names is_value pool.now index }
 {
     matches!(
@@ -66,7 +66,7 @@ fn is_value(pool: &Judged, index: u16) -> bool
 }
 
 /// The index names a constant of an annotation's element with this tag.
-fn is_constant(pool: &Judged, tag: u8, index: u16) -> bool
+fn is_constant(pool: &CheckedPool, tag: u8, index: u16) -> bool
     ensures { result ≡ names (is_constant tag) pool.now index }
 {
     match entry(pool, index) {
@@ -79,7 +79,7 @@ fn is_constant(pool: &Judged, tag: u8, index: u16) -> bool
     }
 }
 
-fn is_caught(pool: &Judged, index: u16) -> bool
+fn is_caught(pool: &CheckedPool, index: u16) -> bool
     ensures { result ≡ is_caught pool.now index }
 {
     index == 0 || is_class(pool, index)
@@ -87,7 +87,7 @@ fn is_caught(pool: &Judged, index: u16) -> bool
 
 /// The text that an index at a place names has to be a field's descriptor without floats.
 #[tactic(auto, using(crate::proofs::Described::described_ok, crate::proofs::Described::described_bad))]
-fn described(pool: &Judged, at: u64, index: u16) -> Result<(), ClassFault>
+fn described(pool: &CheckedPool, at: u64, index: u16) -> Result<(), ClassFault>
     ensures { Described at (described_by pool.now index) result }
 {
     let Some((_, verdict)) = pool.text(index) else {
@@ -101,7 +101,7 @@ fn described(pool: &Judged, at: u64, index: u16) -> Result<(), ClassFault>
 }
 
 /// The index of a text.
-pub fn read_text(pool: &Judged, cur: &mut Cursor) -> Result<u16, ItemFault>
+pub fn read_text(pool: &CheckedPool, cur: &mut Cursor) -> Result<u16, ItemFault>
     ensures { ReadsPart (index_at is_text pool.now) cur.old cur.new result }
 {
     let at = cur.at();
@@ -113,7 +113,7 @@ pub fn read_text(pool: &Judged, cur: &mut Cursor) -> Result<u16, ItemFault>
 }
 
 /// The index of a class.
-pub fn read_class(pool: &Judged, cur: &mut Cursor) -> Result<u16, ItemFault>
+pub fn read_class(pool: &CheckedPool, cur: &mut Cursor) -> Result<u16, ItemFault>
     ensures { ReadsPart (index_at is_class pool.now) cur.old cur.new result }
 {
     let at = cur.at();
@@ -125,7 +125,7 @@ pub fn read_class(pool: &Judged, cur: &mut Cursor) -> Result<u16, ItemFault>
 }
 
 /// The index of the value of a constant field.
-pub fn read_value(pool: &Judged, cur: &mut Cursor) -> Result<u16, ItemFault>
+pub fn read_value(pool: &CheckedPool, cur: &mut Cursor) -> Result<u16, ItemFault>
     ensures { ReadsPart (index_at is_value pool.now) cur.old cur.new result }
 {
     let at = cur.at();
@@ -137,7 +137,7 @@ pub fn read_value(pool: &Judged, cur: &mut Cursor) -> Result<u16, ItemFault>
 }
 
 /// The index of the constant of an annotation's element with this tag.
-pub fn read_constant(pool: &Judged, tag: u8, cur: &mut Cursor) -> Result<u16, ItemFault>
+pub fn read_constant(pool: &CheckedPool, tag: u8, cur: &mut Cursor) -> Result<u16, ItemFault>
     ensures { ReadsPart (index_at (is_constant tag) pool.now) cur.old cur.new result }
 {
     let at = cur.at();
@@ -149,7 +149,7 @@ pub fn read_constant(pool: &Judged, tag: u8, cur: &mut Cursor) -> Result<u16, It
 }
 
 /// The index of the class that a handler catches, or 0.
-pub fn read_caught(pool: &Judged, cur: &mut Cursor) -> Result<u16, ItemFault>
+pub fn read_caught(pool: &CheckedPool, cur: &mut Cursor) -> Result<u16, ItemFault>
     ensures { ReadsPart (caught_at pool.now) cur.old cur.new result }
 {
     let at = cur.at();
@@ -161,7 +161,7 @@ pub fn read_caught(pool: &Judged, cur: &mut Cursor) -> Result<u16, ItemFault>
 }
 
 /// The index of a field's descriptor.
-pub fn read_type(pool: &Judged, cur: &mut Cursor) -> Result<u16, ItemFault>
+pub fn read_type(pool: &CheckedPool, cur: &mut Cursor) -> Result<u16, ItemFault>
     ensures { ReadsPart (type_at pool.now) cur.old cur.new result }
 {
     let at = cur.at();
@@ -174,7 +174,7 @@ pub fn read_type(pool: &Judged, cur: &mut Cursor) -> Result<u16, ItemFault>
 const VOID: [u16; 1] = [86];
 
 /// The index of a result's descriptor.
-pub fn read_result(pool: &Judged, cur: &mut Cursor) -> Result<u16, ItemFault>
+pub fn read_result(pool: &CheckedPool, cur: &mut Cursor) -> Result<u16, ItemFault>
     ensures { ReadsPart (result_at pool.now) cur.old cur.new result }
 {
     let at = cur.at();

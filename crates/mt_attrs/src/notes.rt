@@ -1,4 +1,5 @@
-//! RuntimeVisibleAnnotations and RuntimeInvisibleAnnotations (JVMS 4.7.16, 4.7.17), read without recursion.
+//! RuntimeVisibleAnnotations and RuntimeInvisibleAnnotations (JVMS 4.7.16, 4.7.17), read without
+//! recursion.
 
 ghost use Rattle.std.specs.Prelude.{◌≡◌};
 ghost use Rattle.codec_rules.specs.Reading.{many_at};
@@ -9,7 +10,7 @@ use crate::due::{Due, Dues};
 use crate::fault::ItemFault;
 use crate::item::{u1, u2};
 use crate::named::{read_constant, read_result, read_text, read_type};
-use class_model::{ClassFault, Judged, Note, Seq, Token};
+use class_model::{CheckedPool, ClassFault, Note, Seq, Token};
 use mt_bytes::Cursor;
 use std::alloc::Global;
 
@@ -21,7 +22,7 @@ fn is_constant_tag(tag: u8) -> bool
 }
 
 #[tactic(auto, unfolding(crate::specs::Notes::enum_at))]
-fn read_enum(pool: &Judged, cur: &mut Cursor) -> Result<Token, ItemFault>
+fn read_enum(pool: &CheckedPool, cur: &mut Cursor) -> Result<Token, ItemFault>
     ensures { ReadsPart (enum_at pool.now) cur.old cur.new result }
 {
     let kind = read_type(pool, cur)?;
@@ -30,7 +31,7 @@ fn read_enum(pool: &Judged, cur: &mut Cursor) -> Result<Token, ItemFault>
 }
 
 /// An annotation where so many more may be opened.
-fn read_inner(pool: &Judged, depth: u8, cur: &mut Cursor) -> Result<Token, ItemFault>
+fn read_inner(pool: &CheckedPool, depth: u8, cur: &mut Cursor) -> Result<Token, ItemFault>
     ensures { ReadsPart (inner_at pool.now depth) cur.old cur.new result }
 {
     if depth == 0 {
@@ -45,7 +46,7 @@ fn read_inner(pool: &Judged, depth: u8, cur: &mut Cursor) -> Result<Token, ItemF
 
 /// What stands behind a tag at a place.
 fn read_value(
-    pool: &Judged,
+    pool: &CheckedPool,
     depth: u8,
     at: u64,
     tag: u8,
@@ -73,7 +74,7 @@ fn read_value(
 
 /// The front of a value.
 #[tactic(auto, unfolding(crate::specs::Notes::front_at))]
-fn read_front(pool: &Judged, depth: u8, cur: &mut Cursor) -> Result<Token, ItemFault>
+fn read_front(pool: &CheckedPool, depth: u8, cur: &mut Cursor) -> Result<Token, ItemFault>
     ensures { ReadsPart (front_at pool.now depth) cur.old cur.new result }
 {
     let at = cur.at();
@@ -83,7 +84,7 @@ fn read_front(pool: &Judged, depth: u8, cur: &mut Cursor) -> Result<Token, ItemF
 
 /// The next token of what is due.
 #[tactic(auto, unfolding(crate::specs::Notes::token_at))]
-fn read_token(pool: &Judged, due: Due, cur: &mut Cursor) -> Result<Token, ItemFault>
+fn read_token(pool: &CheckedPool, due: Due, cur: &mut Cursor) -> Result<Token, ItemFault>
     ensures { ReadsPart (token_at pool.now due) cur.old cur.new result }
 {
     if due.named {
@@ -96,7 +97,7 @@ fn read_token(pool: &Judged, due: Due, cur: &mut Cursor) -> Result<Token, ItemFa
 /// The tokens of all that is due, in so many turns.
 fn read_turns(
     alloc: Global,
-    pool: &Judged,
+    pool: &CheckedPool,
     turns: u128,
     dues: &mut Dues,
     cur: &mut Cursor,
@@ -118,7 +119,7 @@ fn read_turns(
 /// The tokens of an annotation with so many elements.
 fn read_tokens(
     alloc: Global,
-    pool: &Judged,
+    pool: &CheckedPool,
     count: u16,
     cur: &mut Cursor,
 ) -> Result<Seq<Token>, ItemFault>
@@ -135,7 +136,7 @@ fn read_tokens(
 }
 
 #[tactic(auto, unfolding(crate::specs::Notes::note_at))]
-fn read_note(alloc: Global, pool: &Judged, cur: &mut Cursor) -> Result<Note, ItemFault>
+fn read_note(alloc: Global, pool: &CheckedPool, cur: &mut Cursor) -> Result<Note, ItemFault>
     ensures { ReadsPart (note_at pool.now) cur.old cur.new result }
 {
     let kind = read_type(pool, cur)?;
@@ -150,7 +151,7 @@ fn read_note(alloc: Global, pool: &Judged, cur: &mut Cursor) -> Result<Note, Ite
 
 fn read_counted_notes(
     alloc: Global,
-    pool: &Judged,
+    pool: &CheckedPool,
     count: u16,
     cur: &mut Cursor,
 ) -> Result<Seq<Note>, ItemFault>
@@ -165,7 +166,11 @@ fn read_counted_notes(
 }
 
 /// The annotations of an attribute.
-pub fn read_notes(alloc: Global, pool: &Judged, cur: &mut Cursor) -> Result<Seq<Note>, ItemFault>
+pub fn read_notes(
+    alloc: Global,
+    pool: &CheckedPool,
+    cur: &mut Cursor,
+) -> Result<Seq<Note>, ItemFault>
     ensures { ReadsPart (notes_at pool.now) cur.old cur.new result }
 {
     let count = u2(cur)?;

@@ -11,7 +11,8 @@ use crate::item::u2;
 use class_model::ClassFault;
 use mt_bytes::Cursor;
 
-/// The number of the instruction that begins at a place, where the starts of all instructions are given in their order.
+/// The number of the instruction that begins at a place, where the starts of all instructions are
+/// given in their order.
 pub fn number_of(starts: &[u32], place: u32) -> Option<u32>
     requires { Ascends starts.now }
     ensures { result ≡ number_of starts.now place }

@@ -9,12 +9,17 @@ use crate::fault::ItemFault;
 use crate::item::u2;
 use crate::named::read_caught;
 use crate::place::{read_end, read_place};
-use class_model::{Judged, Row, Seq};
+use class_model::{CheckedPool, Row, Seq};
 use mt_bytes::Cursor;
 use std::alloc::Global;
 
 #[tactic(auto, unfolding(crate::specs::Rows::row_at))]
-fn read_row(pool: &Judged, starts: &[u32], end: u32, cur: &mut Cursor) -> Result<Row, ItemFault>
+fn read_row(
+    pool: &CheckedPool,
+    starts: &[u32],
+    end: u32,
+    cur: &mut Cursor,
+) -> Result<Row, ItemFault>
     requires { Ascends starts.now }
     ensures { ReadsPart (row_at pool.now starts.now end) cur.old cur.new result }
 {
@@ -33,7 +38,7 @@ fn read_row(pool: &Judged, starts: &[u32], end: u32, cur: &mut Cursor) -> Result
 
 fn read_counted_rows(
     alloc: Global,
-    pool: &Judged,
+    pool: &CheckedPool,
     starts: &[u32],
     end: u32,
     count: u16,
@@ -53,7 +58,7 @@ fn read_counted_rows(
 /// The rows of a code that ends at `end`.
 pub fn read_rows(
     alloc: Global,
-    pool: &Judged,
+    pool: &CheckedPool,
     starts: &[u32],
     end: u32,
     cur: &mut Cursor,

@@ -24,7 +24,8 @@ use mt_insn::{places, write_insns};
 fn write_table_body(starts: &[u32], body: &Body, out: &mut Bytes) -> Result<(), LayoutFault>
     requires form { HasTableForm starts.now (out-Body body.now) }
     requires near { AreNear starts.now }
-    ensures { Writes (table_bound (out-Body body.now)) (table_content starts.now (out-Body body.now)) out.old out.new result }
+    ensures { Writes (table_bound (out-Body body.now))
+        (table_content starts.now (out-Body body.now)) out.old out.new result }
 {
     match body {
         Body::Lines(lines) => write_lines(starts, lines.as_slice(), out),
@@ -40,7 +41,8 @@ fn write_table_body(starts: &[u32], body: &Body, out: &mut Bytes) -> Result<(), 
 fn write_table(starts: &[u32], attr: &Attr, out: &mut Bytes) -> Result<(), LayoutFault>
     requires form { HasTableForm starts.now (body_of attr.now) }
     requires near { AreNear starts.now }
-    ensures { Writes (inner_bound starts.now attr.now) (table_bytes starts.now attr.now) out.old out.new result }
+    ensures { Writes (inner_bound starts.now attr.now) (table_bytes starts.now attr.now)
+        out.old out.new result }
 {
     put_u2(out, attr.name)?;
     let mut content = out.empty();
@@ -51,7 +53,8 @@ fn write_table(starts: &[u32], attr: &Attr, out: &mut Bytes) -> Result<(), Layou
 fn write_each_table(starts: &[u32], attrs: &[Attr], out: &mut Bytes) -> Result<(), LayoutFault>
     requires forms { All (λ attr. HasTableForm starts.now (body_of attr)) attrs.now }
     requires near { AreNear starts.now }
-    ensures { Writes (first_of (inner_bound starts.now) attrs.now) (flat_map (table_bytes starts.now) attrs.now) out.old out.new result }
+    ensures { Writes (first_of (inner_bound starts.now) attrs.now)
+        (flat_map (table_bytes starts.now) attrs.now) out.old out.new result }
 {
     for attr in attrs {
         write_table(starts, attr, out)?;
@@ -62,7 +65,8 @@ fn write_each_table(starts: &[u32], attrs: &[Attr], out: &mut Bytes) -> Result<(
 fn write_tables(starts: &[u32], attrs: &[Attr], out: &mut Bytes) -> Result<(), LayoutFault>
     requires forms { All (λ attr. HasTableForm starts.now (body_of attr)) attrs.now }
     requires near { AreNear starts.now }
-    ensures { Writes (list_bound (inner_bound starts.now) attrs.now) (counted (table_bytes starts.now) attrs.now) out.old out.new result }
+    ensures { Writes (list_bound (inner_bound starts.now) attrs.now)
+        (counted (table_bytes starts.now) attrs.now) out.old out.new result }
 {
     write_count(attrs.len(), out)?;
     write_each_table(starts, attrs, out)
@@ -73,7 +77,8 @@ fn write_tables(starts: &[u32], attrs: &[Attr], out: &mut Bytes) -> Result<(), L
 /// The content of a Code attribute.
 fn write_code(code: &Code, out: &mut Bytes) -> Result<(), LayoutFault>
     requires { HasCodeForm (out-Code code.now) }
-    ensures { Writes (parts_bound (out-Code code.now)) (parts_bytes (out-Code code.now)) out.old out.new result }
+    ensures { Writes (parts_bound (out-Code code.now)) (parts_bytes (out-Code code.now))
+        out.old out.new result }
 {
     put_u2(out, code.max_stack)?;
     put_u2(out, code.max_locals)?;
@@ -92,7 +97,8 @@ fn write_code(code: &Code, out: &mut Bytes) -> Result<(), LayoutFault>
 /// The content of an attribute of a class, a field or a method.
 fn write_body(body: &Body, out: &mut Bytes) -> Result<(), LayoutFault>
     requires { HasBodyForm (out-Body body.now) }
-    ensures { Writes (body_bound (out-Body body.now)) (body_content (out-Body body.now)) out.old out.new result }
+    ensures { Writes (body_bound (out-Body body.now)) (body_content (out-Body body.now))
+        out.old out.new result }
 {
     match body {
         Body::Code(code) => write_code(code, out),
@@ -124,7 +130,8 @@ fn write_attr(attr: &Attr, out: &mut Bytes) -> Result<(), LayoutFault>
 
 fn write_each_attr(attrs: &[Attr], out: &mut Bytes) -> Result<(), LayoutFault>
     requires { All HasAttrForm attrs.now }
-    ensures { Writes (first_of attr_bound attrs.now) (flat_map attr_bytes attrs.now) out.old out.new result }
+    ensures { Writes (first_of attr_bound attrs.now) (flat_map attr_bytes attrs.now)
+        out.old out.new result }
 {
     for attr in attrs {
         write_attr(attr, out)?;

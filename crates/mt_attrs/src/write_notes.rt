@@ -67,7 +67,8 @@ fn put_each_note(notes: &[Note], out: &mut Bytes) -> Result<(), Memory>
 
 /// The annotations of an attribute.
 pub fn write_notes(notes: &[Note], out: &mut Bytes) -> Result<(), LayoutFault>
-    ensures { Writes (count_bound (length notes.now)) (notes_bytes notes.now) out.old out.new result }
+    ensures { Writes (count_bound (length notes.now)) (notes_bytes notes.now)
+        out.old out.new result }
 {
     write_count(notes.len(), out)?;
     put_each_note(notes, out)?;

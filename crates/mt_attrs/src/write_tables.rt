@@ -51,7 +51,8 @@ pub fn write_rows(
     requires forms { All (HasRowForm starts.now) rows.now }
     requires near { AreNear starts.now }
     requires short { end < 2 ^ 16 }
-    ensures { Writes (count_bound (length rows.now)) (counted (row_bytes starts.now end) rows.now) out.old out.new result }
+    ensures { Writes (count_bound (length rows.now)) (counted (row_bytes starts.now end) rows.now)
+        out.old out.new result }
 {
     write_count(rows.len(), out)?;
     write_each_row(starts, end, rows, out)?;
@@ -84,7 +85,8 @@ fn write_each_line(starts: &[u32], lines: &[(u32, u16)], out: &mut Bytes) -> Res
 pub fn write_lines(starts: &[u32], lines: &[(u32, u16)], out: &mut Bytes) -> Result<(), LayoutFault>
     requires forms { All (HasLineForm starts.now) lines.now }
     requires near { AreNear starts.now }
-    ensures { Writes (count_bound (length lines.now)) (lines_bytes starts.now lines.now) out.old out.new result }
+    ensures { Writes (count_bound (length lines.now)) (lines_bytes starts.now lines.now)
+        out.old out.new result }
 {
     write_count(lines.len(), out)?;
     write_each_line(starts, lines, out)?;
@@ -142,7 +144,8 @@ fn write_vitems(starts: &[u32], items: &[VItem], out: &mut Bytes) -> Result<(), 
 fn write_counted_vitems(starts: &[u32], items: &[VItem], out: &mut Bytes) -> Result<(), LayoutFault>
     requires forms { All (HasVItemForm starts.now) items.now }
     requires near { AreNear starts.now }
-    ensures { Writes (count_bound (length items.now)) (counted (vitem_bytes starts.now) items.now) out.old out.new result }
+    ensures { Writes (count_bound (length items.now)) (counted (vitem_bytes starts.now) items.now)
+        out.old out.new result }
 {
     write_count(items.len(), out)?;
     write_vitems(starts, items, out)?;
@@ -181,7 +184,8 @@ fn write_delta(delta: u16, shape: &Shape, out: &mut Bytes) -> Result<(), Memory>
 fn write_shape(starts: &[u32], shape: &Shape, out: &mut Bytes) -> Result<(), LayoutFault>
     requires form { HasShapeForm starts.now shape.now }
     requires near { AreNear starts.now }
-    ensures { Writes (shape_bound shape.now) (shape_bytes starts.now shape.now) out.old out.new result }
+    ensures { Writes (shape_bound shape.now) (shape_bytes starts.now shape.now)
+        out.old out.new result }
 {
     match shape {
         Shape::Same(_) | Shape::Chop(_) => Ok(()),
@@ -213,7 +217,8 @@ fn delta_of(starts: &[u32], next: u32, frame: &Frame) -> u16
 fn write_frame(starts: &[u32], next: u32, frame: &Frame, out: &mut Bytes) -> Result<(), LayoutFault>
     requires form { HasFrameForm starts.now next frame.now }
     requires near { AreNear starts.now }
-    ensures { Writes (frame_bound frame.now) (frame_bytes starts.now next frame.now) out.old out.new result }
+    ensures { Writes (frame_bound frame.now) (frame_bytes starts.now next frame.now)
+        out.old out.new result }
 {
     let delta = delta_of(starts, next, frame);
     put_u1(out, kind_of(delta, &frame.shape))?;
@@ -224,7 +229,9 @@ fn write_frame(starts: &[u32], next: u32, frame: &Frame, out: &mut Bytes) -> Res
 fn write_each_frame(starts: &[u32], frames: &[Frame], out: &mut Bytes) -> Result<(), LayoutFault>
     requires forms { AllBy (HasFrameForm starts.now) (next_behind starts.now) 0 frames.now }
     requires near { AreNear starts.now }
-    ensures { Writes (first_of frame_bound frames.now) (spelled_by (frame_bytes starts.now) (next_behind starts.now) 0 frames.now) out.old out.new result }
+    ensures { Writes (first_of frame_bound frames.now)
+        (spelled_by (frame_bytes starts.now) (next_behind starts.now) 0 frames.now)
+        out.old out.new result }
 {
     let mut next = 0;
     for frame in frames {
@@ -238,7 +245,8 @@ fn write_each_frame(starts: &[u32], frames: &[Frame], out: &mut Bytes) -> Result
 pub fn write_frames(starts: &[u32], frames: &[Frame], out: &mut Bytes) -> Result<(), LayoutFault>
     requires forms { AllBy (HasFrameForm starts.now) (next_behind starts.now) 0 frames.now }
     requires near { AreNear starts.now }
-    ensures { Writes (list_bound frame_bound frames.now) (frames_bytes starts.now frames.now) out.old out.new result }
+    ensures { Writes (list_bound frame_bound frames.now) (frames_bytes starts.now frames.now)
+        out.old out.new result }
 {
     write_count(frames.len(), out)?;
     write_each_frame(starts, frames, out)

@@ -1,4 +1,6 @@
--- The items that a class file is made of (JVMS 4): unsigned numbers of one, two and four bytes, most significant byte first, and runs of bytes. An item of which too few bytes remain is Truncated, at its first byte.
+-- The items that a class file is made of (JVMS 4): unsigned numbers of one, two and four bytes,
+-- most significant byte first, and runs of bytes. An item of which too few bytes remain is
+-- Truncated, at its first byte.
 use Rattle.std.specs.Prelude.{ℕ, List, Result}
 use Rattle.std.specs.Int.{w8, w16, w32}
 use Rattle.class_model.specs.declared.fault.ClassFault.{ClassFault}

@@ -14,7 +14,8 @@ pub fn put_u1(out: &mut Bytes, v: u8) -> Result<(), Memory>
     out.extend_from_slice(&bytes)
 }
 
-/// Adds a number of two bytes at the end, most significant first. Where memory runs out the list is unchanged.
+/// Adds a number of two bytes at the end, most significant first. Where memory runs out the list is
+/// unchanged.
 pub fn put_u2(out: &mut Bytes, v: u16) -> Result<(), Memory>
     ensures ok { OnOk result (out.new ≡ out.old ++ to_be_bytes w16 v) }
     ensures err { OnErr result (out.new ≡ out.old) }
@@ -23,7 +24,8 @@ pub fn put_u2(out: &mut Bytes, v: u16) -> Result<(), Memory>
     out.extend_from_slice(&bytes)
 }
 
-/// Adds a number of four bytes at the end, most significant first. Where memory runs out the list is unchanged.
+/// Adds a number of four bytes at the end, most significant first. Where memory runs out the list
+/// is unchanged.
 pub fn put_u4(out: &mut Bytes, v: u32) -> Result<(), Memory>
     ensures ok { OnOk result (out.new ≡ out.old ++ to_be_bytes w32 v) }
     ensures err { OnErr result (out.new ≡ out.old) }
@@ -32,7 +34,8 @@ pub fn put_u4(out: &mut Bytes, v: u32) -> Result<(), Memory>
     out.extend_from_slice(&bytes)
 }
 
-/// Adds a number of eight bytes at the end, most significant first. Where memory runs out the list is unchanged.
+/// Adds a number of eight bytes at the end, most significant first. Where memory runs out the list
+/// is unchanged.
 pub fn put_u8(out: &mut Bytes, v: u64) -> Result<(), Memory>
     ensures ok { OnOk result (out.new ≡ out.old ++ to_be_bytes w64 v) }
     ensures err { OnErr result (out.new ≡ out.old) }

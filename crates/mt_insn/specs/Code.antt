@@ -1,4 +1,5 @@
--- The code of a method (JVMS 4.7.3, 6.5): its instructions one after the other, and what bounds it has.
+-- The code of a method (JVMS 4.7.3, 6.5): its instructions one after the other, and what bounds it
+-- has.
 use Rattle.std.specs.Prelude.{◌≡◌, ℕ, ◌+◌, ◌*◌, ◌<◌, ◌^◌, nat_lt, ℤ, pos, negsuc, ◌-ℤ◌, FitsSigned, Bool, true, false, ◌&&◌, List, [], ◌∷◌, length, map, slice_index, All, Option, Some, None, Result, Ok, Err, if◌then◌else◌}
 use Rattle.std.specs.Int.{w8, w16, w32}
 use Rattle.std.specs.Int.RustNames.{int_le, int_lt}
@@ -32,7 +33,8 @@ abbrev pub lookup_keys : Arg → ℕ
 lookup_keys (arg.Lookup default pairs) = length pairs
 lookup_keys other = 0
 
--- How many bytes stand behind an opcode that ends at a place in the code. An opcode that is refused has no instruction, so none are said of it.
+-- How many bytes stand behind an opcode that ends at a place in the code. An opcode that is refused
+-- has no instruction, so none are said of it.
 abbrev pub operand_size : Form → ℕ → Arg → ℕ
 operand_size form.Plain place a = 0
 operand_size form.Float place a = 0
@@ -69,7 +71,9 @@ formed_size (Some form) false place a = operand_size form place a
 
 -- How many bytes an instruction that begins at a place takes.
 abbrev pub size_at : ℕ → Insn → ℕ
-size_at place insn = if insn.wide then 2 + formed_size (form_of insn.op) true (place + 2) insn.arg else 1 + formed_size (form_of insn.op) false (place + 1) insn.arg
+size_at place insn =
+    if insn.wide then 2 + formed_size (form_of insn.op) true (place + 2) insn.arg
+    else 1 + formed_size (form_of insn.op) false (place + 1) insn.arg
 
 -- Where each instruction begins, and where the last one ends.
 abbrev pub places_from : ℕ → List Insn → List ℕ
@@ -95,16 +99,21 @@ offset starts place number = pos (slice_index starts number) -ℤ pos place
 
 abbrev pub operand_of : List ℕ → ℕ → Arg → Operand
 operand_of starts place (arg.To n) = operand.To (offset starts place n)
-operand_of starts place (arg.Table n (low, ns)) = operand.Table (offset starts place n) low (map (offset starts place) ns)
-operand_of starts place (arg.Lookup n pairs) = operand.Lookup (offset starts place n) (map (λ pair. (pair.0, offset starts place pair.1)) pairs)
+operand_of starts place (arg.Table n (low, ns)) =
+    operand.Table (offset starts place n) low (map (offset starts place) ns)
+operand_of starts place (arg.Lookup n pairs) =
+    operand.Lookup (offset starts place n)
+    (map (λ pair. (pair.0, offset starts place pair.1)) pairs)
 operand_of starts place other = operand.Done other
 
 abbrev pub raw_of : List ℕ → ℕ → Insn → RawInsn
-raw_of starts place insn = record { op = insn.op; wide = insn.wide; operand = operand_of starts place insn.arg }
+raw_of starts place insn =
+    record { op = insn.op; wide = insn.wide; operand = operand_of starts place insn.arg }
 
 abbrev pub raws_from : List ℕ → ℕ → List Insn → List RawInsn
 raws_from starts place [] = []
-raws_from starts place (insn ∷ insns) = raw_of starts place insn ∷ raws_from starts (place + size_at place insn) insns
+raws_from starts place (insn ∷ insns) =
+    raw_of starts place insn ∷ raws_from starts (place + size_at place insn) insns
 
 -- The instructions with offsets for their targets.
 abbrev pub raws : List Insn → List RawInsn
@@ -127,7 +136,9 @@ targets_in other = []
 abbrev pub HasTargets : ℕ → Insn → Type 0
 HasTargets count insn = AllByRecursion (λ n. (n < count) × (n < 2 ^ 32)) (targets_in insn.arg)
 
--- The instructions have a spelling: each has an operand of the form of its opcode, its index names what the opcode may name in the pool, its targets are instructions of the code, and their offsets fit.
+-- The instructions have a spelling: each has an operand of the form of its opcode, its index names
+-- what the opcode may name in the pool, its targets are instructions of the code, and their offsets
+-- fit.
 pub record IsCode (pool : List Const) (insns : List Insn) : Type 0 where
   pub formed : AllByRecursion (IsRaw pool) (raws insns)
   pub targets : AllByRecursion (HasTargets (length insns)) insns
@@ -161,35 +172,62 @@ abbrev pub keys_ascend : List (ℤ × ℕ) → Bool
 keys_ascend [] = true
 keys_ascend (pair ∷ pairs) = keys_rise_above pair.0 pairs
 
--- An operand is one of the form of an opcode: it has the parts of that form and no others, and its numbers are in their ranges. What its index names, and where it leads, is said elsewhere.
+-- An operand is one of the form of an opcode: it has the parts of that form and no others, and its
+-- numbers are in their ranges. What its index names, and where it leads, is said elsewhere.
 abbrev pub IsArg : Form → Arg → Type 0
 IsArg form.Plain a = a ≡ arg.None
 IsArg form.Float a = ⊥
 IsArg form.FloatLocal a = ⊥
-IsArg form.SmallNumber a = (a ≡ arg.Number (number_in (operand.Done a))) × FitsSigned w8 (number_in (operand.Done a))
-IsArg form.Number a = (a ≡ arg.Number (number_in (operand.Done a))) × FitsSigned w16 (number_in (operand.Done a))
-IsArg form.SmallConstant a = (a ≡ arg.Pool (index_in (operand.Done a))) × (index_in (operand.Done a) < 2 ^ 8)
-IsArg form.Local a = (a ≡ arg.Local (local_in (operand.Done a))) × (local_in (operand.Done a) < 2 ^ 8)
-IsArg form.Increment a = (a ≡ arg.Inc (local_in (operand.Done a)) (number_in (operand.Done a))) × (local_in (operand.Done a) < 2 ^ 8) × FitsSigned w8 (number_in (operand.Done a))
+IsArg form.SmallNumber a =
+    (a ≡ arg.Number (number_in (operand.Done a))) × FitsSigned w8 (number_in (operand.Done a))
+IsArg form.Number a =
+    (a ≡ arg.Number (number_in (operand.Done a))) × FitsSigned w16 (number_in (operand.Done a))
+IsArg form.SmallConstant a =
+    (a ≡ arg.Pool (index_in (operand.Done a))) × (index_in (operand.Done a) < 2 ^ 8)
+IsArg form.Local a =
+    (a ≡ arg.Local (local_in (operand.Done a))) × (local_in (operand.Done a) < 2 ^ 8)
+IsArg form.Increment a =
+    (a ≡ arg.Inc (local_in (operand.Done a)) (number_in (operand.Done a)))
+    × (local_in (operand.Done a) < 2 ^ 8) × FitsSigned w8 (number_in (operand.Done a))
 IsArg form.Jump a = a ≡ arg.To (target_in a)
 IsArg form.FarJump a = a ≡ arg.To (target_in a)
-IsArg form.Table a = (a ≡ arg.Table (target_in a) (arg_low a, arg_targets a)) × FitsSigned w32 (arg_low a) × (0 < length (arg_targets a)) × FitsSigned w32 (highest (arg_low a) (length (arg_targets a)))
-IsArg form.Lookup a = (a ≡ arg.Lookup (target_in a) (arg_pairs a)) × AllByRecursion (λ pair. FitsSigned w32 pair.0) (arg_pairs a) × (keys_ascend (arg_pairs a) ≡ true)
-IsArg form.Interface a = (a ≡ arg.Multi (index_in (operand.Done a)) (count_in (operand.Done a))) × (index_in (operand.Done a) < 2 ^ 16) × (count_in (operand.Done a) < 2 ^ 8)
+IsArg form.Table a =
+    (a ≡ arg.Table (target_in a) (arg_low a, arg_targets a)) × FitsSigned w32 (arg_low a)
+    × (0 < length (arg_targets a)) × FitsSigned w32 (highest (arg_low a) (length (arg_targets a)))
+IsArg form.Lookup a =
+    (a ≡ arg.Lookup (target_in a) (arg_pairs a))
+    × AllByRecursion (λ pair. FitsSigned w32 pair.0) (arg_pairs a)
+    × (keys_ascend (arg_pairs a) ≡ true)
+IsArg form.Interface a =
+    (a ≡ arg.Multi (index_in (operand.Done a)) (count_in (operand.Done a)))
+    × (index_in (operand.Done a) < 2 ^ 16) × (count_in (operand.Done a) < 2 ^ 8)
 IsArg form.Dynamic a = ⊥
-IsArg form.Array a = (a ≡ arg.Kind (kind_in (operand.Done a))) × (kind_in (operand.Done a) < 2 ^ 8) × (is_array_kind (kind_in (operand.Done a)) ≡ true)
-IsArg form.Dimensions a = (a ≡ arg.Multi (index_in (operand.Done a)) (count_in (operand.Done a))) × (index_in (operand.Done a) < 2 ^ 16) × (count_in (operand.Done a) < 2 ^ 8)
-IsArg form.Constant a = (a ≡ arg.Pool (index_in (operand.Done a))) × (index_in (operand.Done a) < 2 ^ 16)
-IsArg form.LongConstant a = (a ≡ arg.Pool (index_in (operand.Done a))) × (index_in (operand.Done a) < 2 ^ 16)
-IsArg form.Field a = (a ≡ arg.Pool (index_in (operand.Done a))) × (index_in (operand.Done a) < 2 ^ 16)
-IsArg form.Method a = (a ≡ arg.Pool (index_in (operand.Done a))) × (index_in (operand.Done a) < 2 ^ 16)
-IsArg form.AnyMethod a = (a ≡ arg.Pool (index_in (operand.Done a))) × (index_in (operand.Done a) < 2 ^ 16)
-IsArg form.Class a = (a ≡ arg.Pool (index_in (operand.Done a))) × (index_in (operand.Done a) < 2 ^ 16)
+IsArg form.Array a =
+    (a ≡ arg.Kind (kind_in (operand.Done a))) × (kind_in (operand.Done a) < 2 ^ 8)
+    × (is_array_kind (kind_in (operand.Done a)) ≡ true)
+IsArg form.Dimensions a =
+    (a ≡ arg.Multi (index_in (operand.Done a)) (count_in (operand.Done a)))
+    × (index_in (operand.Done a) < 2 ^ 16) × (count_in (operand.Done a) < 2 ^ 8)
+IsArg form.Constant a =
+    (a ≡ arg.Pool (index_in (operand.Done a))) × (index_in (operand.Done a) < 2 ^ 16)
+IsArg form.LongConstant a =
+    (a ≡ arg.Pool (index_in (operand.Done a))) × (index_in (operand.Done a) < 2 ^ 16)
+IsArg form.Field a =
+    (a ≡ arg.Pool (index_in (operand.Done a))) × (index_in (operand.Done a) < 2 ^ 16)
+IsArg form.Method a =
+    (a ≡ arg.Pool (index_in (operand.Done a))) × (index_in (operand.Done a) < 2 ^ 16)
+IsArg form.AnyMethod a =
+    (a ≡ arg.Pool (index_in (operand.Done a))) × (index_in (operand.Done a) < 2 ^ 16)
+IsArg form.Class a =
+    (a ≡ arg.Pool (index_in (operand.Done a))) × (index_in (operand.Done a) < 2 ^ 16)
 
 -- The same behind wide.
 abbrev pub IsWideArg : Form → Arg → Type 0
-IsWideArg form.Local a = (a ≡ arg.Local (local_in (operand.Done a))) × (local_in (operand.Done a) < 2 ^ 16)
-IsWideArg form.Increment a = (a ≡ arg.Inc (local_in (operand.Done a)) (number_in (operand.Done a))) × (local_in (operand.Done a) < 2 ^ 16) × FitsSigned w16 (number_in (operand.Done a))
+IsWideArg form.Local a =
+    (a ≡ arg.Local (local_in (operand.Done a))) × (local_in (operand.Done a) < 2 ^ 16)
+IsWideArg form.Increment a =
+    (a ≡ arg.Inc (local_in (operand.Done a)) (number_in (operand.Done a)))
+    × (local_in (operand.Done a) < 2 ^ 16) × FitsSigned w16 (number_in (operand.Done a))
 IsWideArg other a = ⊥
 
 abbrev pub IsFormedArg : Option Form → Bool → Arg → Type 0
@@ -214,20 +252,27 @@ jump_fits other wide z = true
 
 abbrev pub jumps_fit : List ℕ → ℕ → List Insn → Bool
 jumps_fit starts place [] = true
-jumps_fit starts place (insn ∷ insns) = jump_fits (form_of insn.op) insn.wide (offset starts place (target_in insn.arg)) && jumps_fit starts (place + size_at place insn) insns
+jumps_fit starts place (insn ∷ insns) =
+    jump_fits (form_of insn.op) insn.wide (offset starts place (target_in insn.arg))
+    && jumps_fit starts (place + size_at place insn) insns
 
--- The bytes of a code of 65,535 bytes at most, whose jumps' offsets have room; a code that is too long is told before a jump that leads too far.
+-- The bytes of a code of 65,535 bytes at most, whose jumps' offsets have room; a code that is too
+-- long is told before a jump that leads too far.
 abbrev pub layout : List Insn → Result (List ℕ) LayoutFault
 layout insns =
     if nat_lt (code_length insns) (2 ^ 16)
-    then (if jumps_fit (places insns) 0 insns then Ok (code insns) else Err (layout_fault.TooLarge bound.Jump))
+    then (if jumps_fit (places insns) 0 insns then Ok (code insns)
+    else Err (layout_fault.TooLarge bound.Jump))
     else Err (layout_fault.TooLarge bound.Code)
 
 -- ---- both ways
 
--- Instructions that have a spelling are in the form that writing asks for, and are written as they are spelled, where they take at most 65,535 bytes.
+-- Instructions that have a spelling are in the form that writing asks for, and are written as they
+-- are spelled, where they take at most 65,535 bytes.
 abbrev pub SpelledIsWritten : Type 0
-SpelledIsWritten = (pool : List Const) (insns : List Insn) → IsCode pool insns → length (code insns) < 2 ^ 16 → All HasForm insns × All (HasTargets (length insns)) insns × (layout insns ≡ Ok (code insns))
+SpelledIsWritten =
+    (pool : List Const) (insns : List Insn) → IsCode pool insns → length (code insns) < 2 ^ 16 →
+    All HasForm insns × All (HasTargets (length insns)) insns × (layout insns ≡ Ok (code insns))
 
 -- What an operand names in the pool is what an opcode of its form may name.
 abbrev pub HasNames : List Const → Form → Arg → Type 0
@@ -237,7 +282,9 @@ HasNames pool form.LongConstant a = names is_long pool (index_in (operand.Done a
 HasNames pool form.Field a = names is_field pool (index_in (operand.Done a)) ≡ true
 HasNames pool form.Method a = names is_method pool (index_in (operand.Done a)) ≡ true
 HasNames pool form.AnyMethod a = names is_any_method pool (index_in (operand.Done a)) ≡ true
-HasNames pool form.Interface a = (names is_interface_method pool (index_in (operand.Done a)) ≡ true) × (is_counted pool (index_in (operand.Done a)) (count_in (operand.Done a)) ≡ true)
+HasNames pool form.Interface a =
+    (names is_interface_method pool (index_in (operand.Done a)) ≡ true)
+    × (is_counted pool (index_in (operand.Done a)) (count_in (operand.Done a)) ≡ true)
 HasNames pool form.Class a = names is_class pool (index_in (operand.Done a)) ≡ true
 HasNames pool form.Dimensions a = names is_class pool (index_in (operand.Done a)) ≡ true
 HasNames pool other a = Unit {0}
@@ -252,4 +299,7 @@ NamesRight pool insn = HasFormedNames pool (form_of insn.op) insn.wide insn.arg
 
 -- Instructions that are written have a spelling, where they name what their opcodes may name.
 abbrev pub WrittenIsSpelled : Type 0
-WrittenIsSpelled = (pool : List Const) (insns : List Insn) (bytes : List ℕ) → All HasForm insns → All (NamesRight pool) insns → All (HasTargets (length insns)) insns → layout insns ≡ Ok bytes → IsCode pool insns × (bytes ≡ code insns)
+WrittenIsSpelled =
+    (pool : List Const) (insns : List Insn) (bytes : List ℕ) → All HasForm insns →
+    All (NamesRight pool) insns → All (HasTargets (length insns)) insns → layout insns ≡ Ok bytes →
+    IsCode pool insns × (bytes ≡ code insns)

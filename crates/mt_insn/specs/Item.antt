@@ -1,4 +1,7 @@
--- The items that instructions are made of (JVMS 6.5): numbers, most significant byte first, unsigned or in two's complement, and runs of bytes. `at` is the place in the file of the instruction's first byte: where the code ends inside an item, the instruction passes the code's end, which is told there.
+-- The items that instructions are made of (JVMS 6.5): numbers, most significant byte first,
+-- unsigned or in two's complement, and runs of bytes. `at` is the place in the file of the
+-- instruction's first byte: where the code ends inside an item, the instruction passes the code's
+-- end, which is told there.
 use Rattle.std.specs.Prelude.{◌≡◌, ℕ, ℤ, List, Result, Ok, Err}
 use Rattle.std.specs.Int.{w8, w16, w32, cast_signed}
 use Rattle.class_model.specs.declared.fault.ClassFault.{ClassFault}
@@ -41,6 +44,7 @@ abbrev pub ReadsCode : {A : Type 0} → CodeReader A → Input → Input → Res
 ReadsCode read old new result = Reads fault.Memory read old new result
 
 -- The same of a call that lends the bytes.
-abbrev pub ReadsBytes : {X : Type 0} → (X → List ℕ) → CodeReader (List ℕ) → Input → Input → Result X ClassFault → Type 0
+abbrev pub ReadsBytes :
+    {X : Type 0} → (X → List ℕ) → CodeReader (List ℕ) → Input → Input → Result X ClassFault → Type 0
 ReadsBytes view read old new (Ok bytes) = read old ≡ Ok (view bytes, new)
 ReadsBytes view read old new (Err e) = Fails fault.Memory e (read old)

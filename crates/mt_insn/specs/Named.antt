@@ -1,8 +1,9 @@
--- What an instruction may name in the constant pool (JVMS 6.5), and what it is told where it names something else (this project's own).
+-- What an instruction may name in the constant pool (JVMS 6.5), and what it is told where it names
+-- something else (this project's own).
 use Rattle.std.specs.Prelude.{ℕ, ◌+◌, Bool, true, false, ◌||◌, ◌==◌, Option, Some, None, Result, Ok, Err, List, sum_by, if◌then◌else◌}
 use Rattle.class_model.specs.Pool.{entry_of, pair_desc_of}
 use Rattle.class_model.specs.DescriptorReading.{method_kinds}
-use Rattle.class_model.specs.Judged.{words}
+use Rattle.class_model.specs.TextVerdicts.{words}
 use Rattle.class_model.specs.declared.constant.Const.{Const}
 use Rattle.class_model.specs.declared.constant.Const.TheVariants as const
 use Rattle.class_model.specs.declared.kind.MethodType.{MethodType}
@@ -33,7 +34,8 @@ abbrev pub is_method : Const → Bool
 is_method (const.Method class pair) = true
 is_method other = false
 
--- What invokespecial and invokestatic call: a method of a class or of an interface, under either major version, which is this project's own choice.
+-- What invokespecial and invokestatic call: a method of a class or of an interface, under either
+-- major version, which is this project's own choice.
 abbrev pub is_any_method : Const → Bool
 is_any_method (const.Method class pair) = true
 is_any_method (const.IMethod class pair) = true
@@ -85,7 +87,8 @@ desc_counted count (Some desc) = counted count (method_kinds desc)
 desc_counted count None = false
 
 abbrev pub entry_counted : List Const → ℕ → Option Const → Bool
-entry_counted pool count (Some (const.IMethod class pair)) = desc_counted count (pair_desc_of pool pair)
+entry_counted pool count (Some (const.IMethod class pair)) =
+    desc_counted count (pair_desc_of pool pair)
 entry_counted pool count other = false
 
 -- The count is that of the method that the index names.
@@ -95,8 +98,10 @@ is_counted pool index count = entry_counted pool count (entry_of pool index)
 -- ---- what an array of newarray holds: boolean, char, byte, short, int, long
 
 abbrev pub is_array_kind : ℕ → Bool
-is_array_kind kind = kind == 4 || (kind == 5 || (kind == 8 || (kind == 9 || (kind == 10 || kind == 11))))
+is_array_kind kind =
+    kind == 4 || (kind == 5 || (kind == 8 || (kind == 9 || (kind == 10 || kind == 11))))
 
 -- 6 and 7 are float and double.
 abbrev pub array_refusal : ℕ → ℕ → ClassFault
-array_refusal place kind = if kind == 6 || kind == 7 then fault.FloatUsed place else fault.BadTag place kind
+array_refusal place kind =
+    if kind == 6 || kind == 7 then fault.FloatUsed place else fault.BadTag place kind

@@ -1,5 +1,7 @@
--- Reading what stands behind an opcode (JVMS 6.5), and the first fault. `at` is the place in the file of the instruction's first byte.
--- All items of the instruction are read first, so that passing the code's end comes before every other fault; then they are judged in the order in which they stand.
+-- Reading what stands behind an opcode (JVMS 6.5), and the first fault. `at` is the place in the
+-- file of the instruction's first byte. All items of the instruction are read first, so that
+-- passing the code's end comes before every other fault; then they are judged in the order in which
+-- they stand.
 use Rattle.std.specs.Prelude.{ℕ, ◌+◌, ◌-◌, ◌%◌, ◌==◌, ◌&&◌, ℤ, pos, negsuc, ◌-ℤ◌, Bool, true, false, not, List, [], ◌∷◌, position, Option, Some, None, Ok, Err, if◌then◌else◌}
 use Rattle.std.specs.Int.RustNames.{int_le, int_lt}
 use Rattle.class_model.specs.Pool.{entry_of}
@@ -30,17 +32,20 @@ wide_number_at at input = do
 unfoldable pub small_constant_at : List Const → ℕ → CodeReader Operand
 small_constant_at pool at input = do
   index ← u1_in at input
-  if names is_loaded pool index.0 then Ok (operand.Done (arg.Pool index.0), index.1) else Err (loaded_refusal (at + 1) (entry_of pool index.0))
+  if names is_loaded pool index.0 then Ok (operand.Done (arg.Pool index.0), index.1)
+      else Err (loaded_refusal (at + 1) (entry_of pool index.0))
 
 unfoldable pub constant_at : List Const → ℕ → CodeReader Operand
 constant_at pool at input = do
   index ← u2_in at input
-  if names is_loaded pool index.0 then Ok (operand.Done (arg.Pool index.0), index.1) else Err (loaded_refusal (at + 1) (entry_of pool index.0))
+  if names is_loaded pool index.0 then Ok (operand.Done (arg.Pool index.0), index.1)
+      else Err (loaded_refusal (at + 1) (entry_of pool index.0))
 
 unfoldable pub long_constant_at : List Const → ℕ → CodeReader Operand
 long_constant_at pool at input = do
   index ← u2_in at input
-  if names is_long pool index.0 then Ok (operand.Done (arg.Pool index.0), index.1) else Err (long_refusal (at + 1) (entry_of pool index.0))
+  if names is_long pool index.0 then Ok (operand.Done (arg.Pool index.0), index.1)
+      else Err (long_refusal (at + 1) (entry_of pool index.0))
 
 -- loads, stores, iinc
 unfoldable pub local_at : ℕ → CodeReader Operand
@@ -81,7 +86,8 @@ far_jump_at at input = do
 unfoldable pub named_at : (Const → Bool) → List Const → ℕ → CodeReader Operand
 named_at kind pool at input = do
   index ← u2_in at input
-  if names kind pool index.0 then Ok (operand.Done (arg.Pool index.0), index.1) else Err (fault.BadIndex (at + 1))
+  if names kind pool index.0 then Ok (operand.Done (arg.Pool index.0), index.1)
+      else Err (fault.BadIndex (at + 1))
 
 -- invokeinterface: the index, the count, which is kept since it is the method's, and a byte 0
 unfoldable pub interface_at : List Const → ℕ → CodeReader Operand
@@ -89,20 +95,26 @@ interface_at pool at input = do
   index ← u2_in at input
   count ← u1_in at index.1
   last ← u1_in at count.1
-  if names is_interface_method pool index.0 then (if is_counted pool index.0 count.0 && last.0 == 0 then Ok (operand.Done (arg.Multi index.0 count.0), last.1) else Err (fault.BadLength at)) else Err (fault.BadIndex (at + 1))
+  if names is_interface_method pool index.0
+      then (if is_counted pool index.0 count.0 && last.0 == 0
+      then Ok (operand.Done (arg.Multi index.0 count.0), last.1)
+      else Err (fault.BadLength at))
+      else Err (fault.BadIndex (at + 1))
 
 -- newarray
 unfoldable pub array_at : ℕ → CodeReader Operand
 array_at at input = do
   kind ← u1_in at input
-  if is_array_kind kind.0 then Ok (operand.Done (arg.Kind kind.0), kind.1) else Err (array_refusal (at + 1) kind.0)
+  if is_array_kind kind.0 then Ok (operand.Done (arg.Kind kind.0), kind.1)
+      else Err (array_refusal (at + 1) kind.0)
 
 -- multianewarray
 unfoldable pub dimensions_at : List Const → ℕ → CodeReader Operand
 dimensions_at pool at input = do
   index ← u2_in at input
   count ← u1_in at index.1
-  if names is_class pool index.0 then Ok (operand.Done (arg.Multi index.0 count.0), count.1) else Err (fault.BadIndex (at + 1))
+  if names is_class pool index.0 then Ok (operand.Done (arg.Multi index.0 count.0), count.1)
+      else Err (fault.BadIndex (at + 1))
 
 -- So many bytes stand behind an opcode that is refused.
 unfoldable pub refused_at : ClassFault → ℕ → ℕ → CodeReader Operand
@@ -125,7 +137,8 @@ used_padding place (Some i) = Some (fault.Padding (place + i))
 -- Padding, and what stands behind it. `base` is the place in the file of the code's first byte.
 abbrev pub padded : {A : Type 0} → ℕ → ℕ → CodeReader A → CodeReader A
 padded base at body input =
-    bytes_in at (padding input.at) input >>= λ bytes. body bytes.1 >>= λ x. unless (used_padding (base + input.at) (position is_used bytes.0)) x
+    bytes_in at (padding input.at) input >>= λ bytes.
+    body bytes.1 >>= λ x. unless (used_padding (base + input.at) (position is_used bytes.0)) x
 
 -- How many keys lie from a lowest to a highest, both included.
 abbrev pub from_zero : ℤ → ℕ
@@ -147,7 +160,9 @@ table_items_at at input = do
 unfoldable pub table_at : ℕ → ℕ → CodeReader Operand
 table_at base at input = do
   items ← padded base at (table_items_at at) input
-  if int_le items.0.low items.0.high then Ok (operand.Table items.0.default items.0.low items.0.offsets, items.1) else Err (fault.BadLength at)
+  if int_le items.0.low items.0.high
+      then Ok (operand.Table items.0.default items.0.low items.0.offsets, items.1)
+      else Err (fault.BadLength at)
 
 -- a key and its offset
 unfoldable pub pair_at : ℕ → CodeReader (ℤ × ℤ)

@@ -1,4 +1,5 @@
--- Reading instructions (JVMS 6.5), and the first fault. `base` is the place in the file of the code's first byte; a place of an input counts from that byte.
+-- Reading instructions (JVMS 6.5), and the first fault. `base` is the place in the file of the
+-- code's first byte; a place of an input counts from that byte.
 use Rattle.std.specs.Prelude.{ℕ, ◌+◌, ◌==◌, Bool, true, false, List, Option, Some, None, Ok, Err, if◌then◌else◌}
 use Rattle.class_model.specs.declared.constant.Const.{Const}
 use Rattle.class_model.specs.declared.instruction.Arg.TheVariants as arg
@@ -39,7 +40,8 @@ operand_at base pool at form.Class input = named_at is_class pool at input
 operand_at base pool at form.Array input = array_at at input
 operand_at base pool at form.Dimensions input = dimensions_at pool at input
 
--- What stands behind wide and an opcode at the next place (JVMS 6.5, wide). An opcode that has no wider form is told at its own place.
+-- What stands behind wide and an opcode at the next place (JVMS 6.5, wide). An opcode that has no
+-- wider form is told at its own place.
 abbrev pub widened_at : ℕ → ℕ → Option Form → CodeReader Operand
 widened_at at op (Some form.Local) input = wide_local_at at input
 widened_at at op (Some form.Increment) input = wide_increment_at at input
@@ -59,10 +61,12 @@ wide_at at input = do
 -- An instruction by its opcode.
 unfoldable pub formed_at : ℕ → List Const → ℕ → ℕ → Option Form → CodeReader RawInsn
 formed_at base pool at op None input = Err (fault.BadOpcode at op)
-formed_at base pool at op (Some form) input = operand_at base pool at form input >>= λ o. Ok (insn op false o.0, o.1)
+formed_at base pool at op (Some form) input =
+    operand_at base pool at form input >>= λ o. Ok (insn op false o.0, o.1)
 
 -- An instruction at the front of the code.
 unfoldable pub insn_at : ℕ → List Const → CodeReader RawInsn
 insn_at base pool input = do
   op ← u1_in (base + input.at) input
-  if op.0 == 0xc4 then wide_at (base + input.at) op.1 else formed_at base pool (base + input.at) op.0 (form_of op.0) op.1
+  if op.0 == 0xc4 then wide_at (base + input.at) op.1
+      else formed_at base pool (base + input.at) op.0 (form_of op.0) op.1

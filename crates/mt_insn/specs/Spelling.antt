@@ -1,4 +1,5 @@
--- The bytes of an instruction (JVMS 6.5), with offsets for targets, and which instructions have bytes.
+-- The bytes of an instruction (JVMS 6.5), with offsets for targets, and which instructions have
+-- bytes.
 use Rattle.std.specs.Prelude.{◌≡◌, ℕ, ◌+◌, ◌-◌, ◌<◌, ◌^◌, ℤ, pos, ◌+ℤ◌, FitsSigned, Bool, true, false, List, [], ◌++◌, length, replicate, Option, Some, None, if◌then◌else◌}
 use Rattle.std.specs.Int.{w8, w16, w32, to_be_bytes, cast_unsigned}
 use Rattle.std.specs.List.{flat_map, AllByRecursion}
@@ -63,7 +64,13 @@ abbrev pub highest : ℤ → ℕ → ℤ
 highest low count = low +ℤ pos (count - 1)
 
 abbrev pub items_in : Operand → TableItems
-items_in o = record { default = offset_in o; low = low_in o; high = highest (low_in o) (length (offsets_in o)); offsets = offsets_in o }
+items_in o =
+    record {
+      default = offset_in o;
+      low = low_in o;
+      high = highest (low_in o) (length (offsets_in o));
+      offsets = offsets_in o;
+    }
 
 -- ---- bytes
 
@@ -92,12 +99,14 @@ abbrev pub padding_bytes : ℕ → List ℕ
 padding_bytes place = replicate (padding place) 0
 
 abbrev pub table_bytes : TableItems → List ℕ
-table_bytes items = s4 items.default ++ (s4 items.low ++ (s4 items.high ++ flat_map s4 items.offsets))
+table_bytes items =
+    s4 items.default ++ (s4 items.low ++ (s4 items.high ++ flat_map s4 items.offsets))
 
 abbrev pub lookup_bytes : Operand → List ℕ
 lookup_bytes o = s4 (offset_in o) ++ (u4 (length (pairs_in o)) ++ flat_map pair_bytes (pairs_in o))
 
--- What stands behind an opcode without targets. An opcode that is refused is never spelled, and those with targets are spelled below.
+-- What stands behind an opcode without targets. An opcode that is refused is never spelled, and
+-- those with targets are spelled below.
 abbrev pub fixed_bytes : Form → Operand → List ℕ
 fixed_bytes form.SmallNumber o = s1 (number_in o)
 fixed_bytes form.Number o = s2 (number_in o)
@@ -141,7 +150,10 @@ formed_bytes (Some form) true at o = wide_bytes form o
 formed_bytes (Some form) false at o = operand_bytes form at o
 
 abbrev pub raw_bytes : ℕ → RawInsn → List ℕ
-raw_bytes at insn = if insn.wide then u1 0xc4 ++ (u1 insn.op ++ formed_bytes (form_of insn.op) true (at + 2) insn.operand) else u1 insn.op ++ formed_bytes (form_of insn.op) false (at + 1) insn.operand
+raw_bytes at insn =
+    if insn.wide
+    then u1 0xc4 ++ (u1 insn.op ++ formed_bytes (form_of insn.op) true (at + 2) insn.operand)
+    else u1 insn.op ++ formed_bytes (form_of insn.op) false (at + 1) insn.operand
 
 -- ---- which operands have bytes
 
@@ -150,37 +162,61 @@ IsPair pair = FitsSigned w32 pair.0 × FitsSigned w32 pair.1
 
 -- An index of an entry of a kind.
 abbrev pub IsNamed : (Const → Bool) → List Const → Operand → Type 0
-IsNamed kind pool o = (o ≡ operand.Done (arg.Pool (index_in o))) × (index_in o < 2 ^ 16) × (names kind pool (index_in o) ≡ true)
+IsNamed kind pool o =
+    (o ≡ operand.Done (arg.Pool (index_in o))) × (index_in o < 2 ^ 16)
+    × (names kind pool (index_in o) ≡ true)
 
--- The operand is one of the form: it has the parts of that form and no others, its numbers are in their ranges, and its index names what the form may name.
+-- The operand is one of the form: it has the parts of that form and no others, its numbers are in
+-- their ranges, and its index names what the form may name.
 abbrev pub IsOperand : List Const → Form → Operand → Type 0
 IsOperand pool form.Plain o = o ≡ operand.Done arg.None
 IsOperand pool form.Float o = ⊥
 IsOperand pool form.FloatLocal o = ⊥
-IsOperand pool form.SmallNumber o = (o ≡ operand.Done (arg.Number (number_in o))) × FitsSigned w8 (number_in o)
-IsOperand pool form.Number o = (o ≡ operand.Done (arg.Number (number_in o))) × FitsSigned w16 (number_in o)
-IsOperand pool form.SmallConstant o = (o ≡ operand.Done (arg.Pool (index_in o))) × (index_in o < 2 ^ 8) × (names is_loaded pool (index_in o) ≡ true)
+IsOperand pool form.SmallNumber o =
+    (o ≡ operand.Done (arg.Number (number_in o))) × FitsSigned w8 (number_in o)
+IsOperand pool form.Number o =
+    (o ≡ operand.Done (arg.Number (number_in o))) × FitsSigned w16 (number_in o)
+IsOperand pool form.SmallConstant o =
+    (o ≡ operand.Done (arg.Pool (index_in o))) × (index_in o < 2 ^ 8)
+    × (names is_loaded pool (index_in o) ≡ true)
 IsOperand pool form.Constant o = IsNamed is_loaded pool o
 IsOperand pool form.LongConstant o = IsNamed is_long pool o
 IsOperand pool form.Local o = (o ≡ operand.Done (arg.Local (local_in o))) × (local_in o < 2 ^ 8)
-IsOperand pool form.Increment o = (o ≡ operand.Done (arg.Inc (local_in o) (number_in o))) × (local_in o < 2 ^ 8) × FitsSigned w8 (number_in o)
+IsOperand pool form.Increment o =
+    (o ≡ operand.Done (arg.Inc (local_in o) (number_in o))) × (local_in o < 2 ^ 8)
+    × FitsSigned w8 (number_in o)
 IsOperand pool form.Jump o = (o ≡ operand.To (offset_in o)) × FitsSigned w16 (offset_in o)
 IsOperand pool form.FarJump o = (o ≡ operand.To (offset_in o)) × FitsSigned w32 (offset_in o)
-IsOperand pool form.Table o = (o ≡ operand.Table (offset_in o) (low_in o) (offsets_in o)) × FitsSigned w32 (offset_in o) × FitsSigned w32 (low_in o) × AllByRecursion (FitsSigned w32) (offsets_in o) × (0 < length (offsets_in o)) × FitsSigned w32 (highest (low_in o) (length (offsets_in o)))
-IsOperand pool form.Lookup o = (o ≡ operand.Lookup (offset_in o) (pairs_in o)) × FitsSigned w32 (offset_in o) × (length (pairs_in o) < 2 ^ 32) × AllByRecursion IsPair (pairs_in o) × (ascend (pairs_in o) ≡ true)
+IsOperand pool form.Table o =
+    (o ≡ operand.Table (offset_in o) (low_in o) (offsets_in o)) × FitsSigned w32 (offset_in o)
+    × FitsSigned w32 (low_in o) × AllByRecursion (FitsSigned w32) (offsets_in o)
+    × (0 < length (offsets_in o)) × FitsSigned w32 (highest (low_in o) (length (offsets_in o)))
+IsOperand pool form.Lookup o =
+    (o ≡ operand.Lookup (offset_in o) (pairs_in o)) × FitsSigned w32 (offset_in o)
+    × (length (pairs_in o) < 2 ^ 32) × AllByRecursion IsPair (pairs_in o)
+    × (ascend (pairs_in o) ≡ true)
 IsOperand pool form.Field o = IsNamed is_field pool o
 IsOperand pool form.Method o = IsNamed is_method pool o
 IsOperand pool form.AnyMethod o = IsNamed is_any_method pool o
-IsOperand pool form.Interface o = (o ≡ operand.Done (arg.Multi (index_in o) (count_in o))) × (index_in o < 2 ^ 16) × (count_in o < 2 ^ 8) × (names is_interface_method pool (index_in o) ≡ true) × (is_counted pool (index_in o) (count_in o) ≡ true)
+IsOperand pool form.Interface o =
+    (o ≡ operand.Done (arg.Multi (index_in o) (count_in o))) × (index_in o < 2 ^ 16)
+    × (count_in o < 2 ^ 8) × (names is_interface_method pool (index_in o) ≡ true)
+    × (is_counted pool (index_in o) (count_in o) ≡ true)
 IsOperand pool form.Dynamic o = ⊥
 IsOperand pool form.Class o = IsNamed is_class pool o
-IsOperand pool form.Array o = (o ≡ operand.Done (arg.Kind (kind_in o))) × (kind_in o < 2 ^ 8) × (is_array_kind (kind_in o) ≡ true)
-IsOperand pool form.Dimensions o = (o ≡ operand.Done (arg.Multi (index_in o) (count_in o))) × (index_in o < 2 ^ 16) × (count_in o < 2 ^ 8) × (names is_class pool (index_in o) ≡ true)
+IsOperand pool form.Array o =
+    (o ≡ operand.Done (arg.Kind (kind_in o))) × (kind_in o < 2 ^ 8)
+    × (is_array_kind (kind_in o) ≡ true)
+IsOperand pool form.Dimensions o =
+    (o ≡ operand.Done (arg.Multi (index_in o) (count_in o))) × (index_in o < 2 ^ 16)
+    × (count_in o < 2 ^ 8) × (names is_class pool (index_in o) ≡ true)
 
 -- The same behind wide.
 abbrev pub IsWideOperand : Form → Operand → Type 0
 IsWideOperand form.Local o = (o ≡ operand.Done (arg.Local (local_in o))) × (local_in o < 2 ^ 16)
-IsWideOperand form.Increment o = (o ≡ operand.Done (arg.Inc (local_in o) (number_in o))) × (local_in o < 2 ^ 16) × FitsSigned w16 (number_in o)
+IsWideOperand form.Increment o =
+    (o ≡ operand.Done (arg.Inc (local_in o) (number_in o))) × (local_in o < 2 ^ 16)
+    × FitsSigned w16 (number_in o)
 IsWideOperand other o = ⊥
 
 abbrev pub IsFormed : List Const → Option Form → Bool → Operand → Type 0

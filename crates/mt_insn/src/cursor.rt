@@ -7,9 +7,11 @@ ghost use Rattle.mt_insn.specs.Item.{ReadsCode, ReadsBytes, bytes_in, u1_in, u2_
 use class_model::ClassFault;
 use std::marker::Model;
 
-/// A place in the code of a method, counted from its first instruction, and the bytes from there on.
+/// A place in the code of a method, counted from its first instruction, and the bytes from there
+/// on.
 ///
-/// Each call is told the place in the file of the instruction that it reads from. Where the code ends inside an item, that instruction passes the code's end.
+/// Each call is told the place in the file of the instruction that it reads from. Where the code
+/// ends inside an item, that instruction passes the code's end.
 #[derive(Drop)]
 pub struct CodeCursor<'a> {
     rest: &'a [u8],

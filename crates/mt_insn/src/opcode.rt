@@ -1,4 +1,5 @@
-//! What stands behind each opcode. A new opcode is one row of the table here and of the one in `specs/Opcode.antt`.
+//! What stands behind each opcode. A new opcode is one row of the table here and of the one in
+//! `specs/Opcode.antt`.
 
 ghost use Rattle.std.specs.Prelude.{◌≡◌};
 ghost use Rattle.mt_insn.specs.Opcode.{form_of, low_form, middle_form, high_form};

@@ -1,4 +1,5 @@
-//! Reading what stands behind an opcode. All items are read before any is judged, so that passing the code's end is told first.
+//! Reading what stands behind an opcode. All items are read before any is judged, so that passing
+//! the code's end is told first.
 
 ghost use Rattle.std.specs.Prelude.{◌≡◌, ◌+◌, ◌<◌, ◌^◌};
 ghost use Rattle.mt_insn.specs.Item.{ReadsCode};
@@ -12,7 +13,7 @@ use crate::named::{
 };
 use crate::raw::Operand;
 use crate::words::is_counted;
-use class_model::{Arg, ClassFault, Judged};
+use class_model::{Arg, CheckedPool, ClassFault};
 use std::alloc::Global;
 
 #[tactic(auto, unfolding(crate::specs::Operands::small_number_at))]
@@ -33,7 +34,7 @@ pub fn read_number(at: u64, code: &mut CodeCursor) -> Result<Operand, ClassFault
 
 #[tactic(auto, unfolding(crate::specs::Operands::small_constant_at))]
 pub fn read_small_constant(
-    pool: &Judged,
+    pool: &CheckedPool,
     at: u64,
     code: &mut CodeCursor,
 ) -> Result<Operand, ClassFault>
@@ -48,7 +49,11 @@ pub fn read_small_constant(
 }
 
 #[tactic(auto, unfolding(crate::specs::Operands::constant_at))]
-pub fn read_constant(pool: &Judged, at: u64, code: &mut CodeCursor) -> Result<Operand, ClassFault>
+pub fn read_constant(
+    pool: &CheckedPool,
+    at: u64,
+    code: &mut CodeCursor,
+) -> Result<Operand, ClassFault>
     requires { at + 1 < 2 ^ 64 }
     ensures { ReadsCode (constant_at pool.now at) code.old code.new result }
 {
@@ -61,7 +66,7 @@ pub fn read_constant(pool: &Judged, at: u64, code: &mut CodeCursor) -> Result<Op
 
 #[tactic(auto, unfolding(crate::specs::Operands::long_constant_at))]
 pub fn read_long_constant(
-    pool: &Judged,
+    pool: &CheckedPool,
     at: u64,
     code: &mut CodeCursor,
 ) -> Result<Operand, ClassFault>
@@ -126,7 +131,7 @@ pub fn read_far_jump(at: u64, code: &mut CodeCursor) -> Result<Operand, ClassFau
 }
 
 #[tactic(auto, unfolding(crate::specs::Operands::named_at))]
-pub fn read_field(pool: &Judged, at: u64, code: &mut CodeCursor) -> Result<Operand, ClassFault>
+pub fn read_field(pool: &CheckedPool, at: u64, code: &mut CodeCursor) -> Result<Operand, ClassFault>
     requires { at + 1 < 2 ^ 64 }
     ensures { ReadsCode (named_at is_field pool.now at) code.old code.new result }
 {
@@ -138,7 +143,11 @@ pub fn read_field(pool: &Judged, at: u64, code: &mut CodeCursor) -> Result<Opera
 }
 
 #[tactic(auto, unfolding(crate::specs::Operands::named_at))]
-pub fn read_method(pool: &Judged, at: u64, code: &mut CodeCursor) -> Result<Operand, ClassFault>
+pub fn read_method(
+    pool: &CheckedPool,
+    at: u64,
+    code: &mut CodeCursor,
+) -> Result<Operand, ClassFault>
     requires { at + 1 < 2 ^ 64 }
     ensures { ReadsCode (named_at is_method pool.now at) code.old code.new result }
 {
@@ -150,7 +159,11 @@ pub fn read_method(pool: &Judged, at: u64, code: &mut CodeCursor) -> Result<Oper
 }
 
 #[tactic(auto, unfolding(crate::specs::Operands::named_at))]
-pub fn read_any_method(pool: &Judged, at: u64, code: &mut CodeCursor) -> Result<Operand, ClassFault>
+pub fn read_any_method(
+    pool: &CheckedPool,
+    at: u64,
+    code: &mut CodeCursor,
+) -> Result<Operand, ClassFault>
     requires { at + 1 < 2 ^ 64 }
     ensures { ReadsCode (named_at is_any_method pool.now at) code.old code.new result }
 {
@@ -162,7 +175,7 @@ pub fn read_any_method(pool: &Judged, at: u64, code: &mut CodeCursor) -> Result<
 }
 
 #[tactic(auto, unfolding(crate::specs::Operands::named_at))]
-pub fn read_class(pool: &Judged, at: u64, code: &mut CodeCursor) -> Result<Operand, ClassFault>
+pub fn read_class(pool: &CheckedPool, at: u64, code: &mut CodeCursor) -> Result<Operand, ClassFault>
     requires { at + 1 < 2 ^ 64 }
     ensures { ReadsCode (named_at is_class pool.now at) code.old code.new result }
 {
@@ -175,7 +188,11 @@ pub fn read_class(pool: &Judged, at: u64, code: &mut CodeCursor) -> Result<Opera
 
 /// `invokeinterface`. Its count is kept, since it is that of the method that the index names.
 #[tactic(auto, unfolding(crate::specs::Operands::interface_at))]
-pub fn read_interface(pool: &Judged, at: u64, code: &mut CodeCursor) -> Result<Operand, ClassFault>
+pub fn read_interface(
+    pool: &CheckedPool,
+    at: u64,
+    code: &mut CodeCursor,
+) -> Result<Operand, ClassFault>
     requires { at + 1 < 2 ^ 64 }
     ensures { ReadsCode (interface_at pool.now at) code.old code.new result }
 {
@@ -204,7 +221,11 @@ pub fn read_array(at: u64, code: &mut CodeCursor) -> Result<Operand, ClassFault>
 }
 
 #[tactic(auto, unfolding(crate::specs::Operands::dimensions_at))]
-pub fn read_dimensions(pool: &Judged, at: u64, code: &mut CodeCursor) -> Result<Operand, ClassFault>
+pub fn read_dimensions(
+    pool: &CheckedPool,
+    at: u64,
+    code: &mut CodeCursor,
+) -> Result<Operand, ClassFault>
     requires { at + 1 < 2 ^ 64 }
     ensures { ReadsCode (dimensions_at pool.now at) code.old code.new result }
 {

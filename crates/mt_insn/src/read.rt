@@ -15,14 +15,15 @@ use crate::operand::{
 };
 use crate::raw::{Operand, RawInsn};
 use crate::switch::{read_lookup, read_table};
-use class_model::{Arg, ClassFault, Judged};
+use class_model::{Arg, CheckedPool, ClassFault};
 use std::alloc::Global;
 
-/// What stands behind an opcode of a form. `base` is the place in the file of the code's first byte, `at` that of the instruction's.
+/// What stands behind an opcode of a form. `base` is the place in the file of the code's first
+/// byte, `at` that of the instruction's.
 fn read_operand(
     alloc: Global,
     base: u64,
-    pool: &Judged,
+    pool: &CheckedPool,
     at: u64,
     form: Form,
     code: &mut CodeCursor,
@@ -89,7 +90,7 @@ fn read_wide(at: u64, code: &mut CodeCursor) -> Result<RawInsn, ClassFault>
 fn read_formed(
     alloc: Global,
     base: u64,
-    pool: &Judged,
+    pool: &CheckedPool,
     at: u64,
     op: u8,
     code: &mut CodeCursor,
@@ -116,7 +117,7 @@ fn read_formed(
 pub fn read_insn(
     alloc: Global,
     base: u64,
-    pool: &Judged,
+    pool: &CheckedPool,
     code: &mut CodeCursor,
 ) -> Result<RawInsn, ClassFault>
     requires some { 0 < length code.old.bytes }

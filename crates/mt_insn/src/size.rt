@@ -28,7 +28,8 @@ fn lookup_keys(arg: &Arg) -> usize
     }
 }
 
-/// The bytes behind an opcode that ends at a place. 128 bits hold the size of every list of targets.
+/// The bytes behind an opcode that ends at a place. 128 bits hold the size of every list of
+/// targets.
 fn operand_size(form: Form, place: u64, arg: &Arg) -> u128
     ensures size { result ≡ operand_size form place arg.now }
     ensures bound { result < 2 ^ 68 }

@@ -23,7 +23,8 @@ fn first_used(bytes: &[u8]) -> Option<usize>
     bytes.iter().position(|byte| *byte != 0)
 }
 
-/// The fault of the first padding byte that isn't 0, where the padding begins at a place in the file.
+/// The fault of the first padding byte that isn't 0, where the padding begins at a place in the
+/// file.
 fn used_padding(bytes: &[u8], place: u64) -> Option<ClassFault>
     requires { place + length bytes.now < 2 ^ 64 }
     ensures { result ≡ used_padding place (position is_used bytes.now) }

@@ -9,7 +9,8 @@ use crate::raw::Operand;
 use class_model::{Arg, Memory, Seq};
 use std::alloc::Global;
 
-/// The number of the instruction that begins at a place, where the starts of all instructions are given in their order.
+/// The number of the instruction that begins at a place, where the starts of all instructions are
+/// given in their order.
 fn number_of(starts: &[u64], place: u64) -> Option<u32>
     requires { Ascends starts.now }
     ensures { result ≡ number_of starts.now place }
@@ -78,7 +79,8 @@ fn table_arg(
     offsets: &[i32],
 ) -> Result<Option<Arg>, Memory>
     requires { Ascends starts.now }
-    ensures { IfOk result (λ o. o ≡ arg_of starts.now place (operand.Table default low offsets.now)) }
+    ensures { IfOk result (λ o.
+        o ≡ arg_of starts.now place (operand.Table default low offsets.now)) }
 {
     let Some(default) = target(starts, place, default) else {
         return Ok(None);
@@ -108,7 +110,8 @@ fn lookup_arg(
     }
 }
 
-/// The operand with numbers for its offsets; none where one of them leads elsewhere than to the start of an instruction.
+/// The operand with numbers for its offsets; none where one of them leads elsewhere than to the
+/// start of an instruction.
 pub fn arg_of(
     alloc: Global,
     starts: &[u64],

@@ -13,18 +13,20 @@ use crate::cursor::CodeCursor;
 use crate::raw::{Placed, RawInsn};
 use crate::read::read_insn;
 use crate::target::arg_of;
-use class_model::{ClassFault, Insn, Judged, Memory, Seq};
+use class_model::{CheckedPool, ClassFault, Insn, Memory, Seq};
 use std::alloc::Global;
 
-/// The instructions up to the last byte, with their places. `base` is the place in the file of the first byte.
+/// The instructions up to the last byte, with their places. `base` is the place in the file of the
+/// first byte.
 fn read_placed(
     alloc: Global,
     bytes: &[u8],
     base: u64,
-    pool: &Judged,
+    pool: &CheckedPool,
 ) -> Result<Seq<Placed>, ClassFault>
     requires { base + length bytes.now < 2 ^ 64 }
-    ensures { Gives fault.Memory (λ x. x) (until_end (placed_at base pool.now) (input_at 0 bytes.now)) result }
+    ensures { Gives fault.Memory (λ x. x)
+        (until_end (placed_at base pool.now) (input_at 0 bytes.now)) result }
 {
     let mut code = CodeCursor::new(bytes);
     let mut all = Seq::new(alloc);
@@ -69,12 +71,13 @@ fn resolve(
     Ok(all)
 }
 
-/// The instructions that are the whole of a code. `base` is the place in the file of its first byte.
+/// The instructions that are the whole of a code. `base` is the place in the file of its first
+/// byte.
 pub fn read_code(
     alloc: Global,
     bytes: &[u8],
     base: u64,
-    pool: &Judged,
+    pool: &CheckedPool,
 ) -> Result<Seq<Insn>, ClassFault>
     requires { base + length bytes.now < 2 ^ 64 }
     ensures { Gives fault.Memory (λ x. x) (code_at base pool.now bytes.now) result }

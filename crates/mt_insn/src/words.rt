@@ -4,7 +4,7 @@ ghost use Rattle.std.specs.Prelude.{◌≡◌};
 ghost use Rattle.mt_insn.specs.Named.{is_counted, words_counted};
 
 use crate::named::entry;
-use class_model::{Const, DescFault, Judged};
+use class_model::{CheckedPool, Const, DescFault};
 
 /// So many words are those of the arguments and of a receiver.
 fn is_sum(count: u8, args: Result<u128, DescFault>) -> bool
@@ -16,9 +16,10 @@ fn is_sum(count: u8, args: Result<u128, DescFault>) -> bool
     }
 }
 
-/// The count is that of the interface's method that an index names: the words of its arguments and of its receiver.
+/// The count is that of the interface's method that an index names: the words of its arguments and
+/// of its receiver.
 #[tactic(auto, using(crate::proofs::Counted::by_words))]
-pub fn is_counted(pool: &Judged, index: u16, count: u8) -> bool
+pub fn is_counted(pool: &CheckedPool, index: u16, count: u8) -> bool
     ensures { result ≡ is_counted pool.now index count }
 {
     let Some(Const::IMethod(_, pair)) = entry(pool, index) else {

@@ -89,7 +89,8 @@ fn write_offsets(starts: &[u32], place: u32, targets: &[u32], out: &mut Bytes) -
     requires known { AreBelow (length starts.now) targets.now }
     requires near { AreNear starts.now }
     requires here { place < 2 ^ 16 }
-    ensures { OnOk result (out.new ≡ out.old ++ flat_map s4 (map (offset starts.now place) targets.now)) }
+    ensures { OnOk result (
+        out.new ≡ out.old ++ flat_map s4 (map (offset starts.now place) targets.now)) }
 {
     for target in targets {
         put_s4(out, offset(starts, place, *target))?;
@@ -101,7 +102,8 @@ fn write_pair(starts: &[u32], place: u32, pair: &(i32, u32), out: &mut Bytes) ->
     requires known { pair.now.1 < length starts.now }
     requires near { AreNear starts.now }
     requires here { place < 2 ^ 16 }
-    ensures { OnOk result (out.new ≡ out.old ++ pair_bytes (pair.now.0, offset starts.now place pair.now.1)) }
+    ensures { OnOk result (
+        out.new ≡ out.old ++ pair_bytes (pair.now.0, offset starts.now place pair.now.1)) }
 {
     put_s4(out, pair.0)?;
     put_s4(out, offset(starts, place, pair.1))
@@ -116,7 +118,9 @@ fn write_pairs(
     requires known { All (λ pair. pair.1 < length starts.now) pairs.now }
     requires near { AreNear starts.now }
     requires here { place < 2 ^ 16 }
-    ensures { OnOk result (out.new ≡ out.old ++ flat_map pair_bytes (map (λ pair. (pair.0, offset starts.now place pair.1)) pairs.now)) }
+    ensures { OnOk result (
+        out.new ≡ out.old ++
+        flat_map pair_bytes (map (λ pair. (pair.0, offset starts.now place pair.1)) pairs.now)) }
 {
     for pair in pairs {
         write_pair(starts, place, pair, out)?;
@@ -192,7 +196,13 @@ fn write_table(
     requires fits { FitsSigned w32 (highest low (length targets.now)) }
     requires near { AreNear starts.now }
     requires here { place < 2 ^ 16 }
-    ensures { OnOk result (out.new ≡ out.old ++ (padding_bytes (place + 1) ++ (s4 (offset starts.now place default) ++ (s4 low ++ (s4 (highest low (length targets.now)) ++ flat_map s4 (map (offset starts.now place) targets.now)))))) }
+    ensures { OnOk result (
+        out.new ≡ out.old ++
+        (padding_bytes (place + 1) ++
+        (s4 (offset starts.now place default) ++
+        (s4 low ++
+        (s4 (highest low (length targets.now)) ++
+        flat_map s4 (map (offset starts.now place) targets.now)))))) }
 {
     put_padding(out, u64::from(place) + 1)?;
     put_s4(out, offset(starts, place, default))?;
@@ -213,7 +223,13 @@ fn write_lookup(
     requires few { length pairs.now < 2 ^ 32 }
     requires near { AreNear starts.now }
     requires here { place < 2 ^ 16 }
-    ensures { OnOk result (out.new ≡ out.old ++ (padding_bytes (place + 1) ++ (s4 (offset starts.now place default) ++ (u4 (length pairs.now) ++ flat_map pair_bytes (map (λ pair. (pair.0, offset starts.now place pair.1)) pairs.now))))) }
+    ensures { OnOk result (
+        out.new ≡ out.old ++
+        (padding_bytes (place + 1) ++
+        (s4 (offset starts.now place default) ++
+        (u4 (length pairs.now) ++
+        flat_map pair_bytes
+        (map (λ pair. (pair.0, offset starts.now place pair.1)) pairs.now))))) }
 {
     put_padding(out, u64::from(place) + 1)?;
     put_s4(out, offset(starts, place, default))?;
@@ -274,12 +290,15 @@ fn write_operand(
     out: &mut Bytes,
 ) -> Result<(), Memory>
     requires form { IsArg form arg.now }
-    requires known { AllByRecursion (λ n. (n < length starts.now) × (n < 2 ^ 32)) (targets_in arg.now) }
+    requires known { AllByRecursion (λ n. (n < length starts.now) × (n < 2 ^ 32))
+        (targets_in arg.now) }
     requires few { lookup_keys arg.now < 2 ^ 32 }
-    requires short { jump_fits (Some form) false (offset starts.now place (target_in arg.now)) ≡ true }
+    requires short { jump_fits (Some form) false (offset starts.now place (target_in arg.now)) ≡
+        true }
     requires near { AreNear starts.now }
     requires here { place < 2 ^ 16 }
-    ensures { OnOk result (out.new ≡ out.old ++ operand_bytes form (place + 1) (operand_of starts.now place arg.now)) }
+    ensures { OnOk result (
+        out.new ≡ out.old ++ operand_bytes form (place + 1) (operand_of starts.now place arg.now)) }
 {
     match form {
         Form::Jump => put_s2(out, offset(starts, place, target(arg)) as i16),
@@ -302,10 +321,12 @@ fn write_insn(starts: &[u32], place: u32, insn: &Insn, out: &mut Bytes) -> Resul
     requires form { HasForm insn.now }
     requires known { HasTargets (length starts.now) insn.now }
     requires few { lookup_keys insn.now.arg < 2 ^ 32 }
-    requires short { jump_fits (form_of insn.now.op) insn.now.wide (offset starts.now place (target_in insn.now.arg)) ≡ true }
+    requires short { jump_fits (form_of insn.now.op) insn.now.wide
+        (offset starts.now place (target_in insn.now.arg)) ≡ true }
     requires near { AreNear starts.now }
     requires here { place < 2 ^ 16 }
-    ensures { OnOk result (out.new ≡ out.old ++ raw_bytes place (raw_of starts.now place insn.now)) }
+    ensures { OnOk result (
+        out.new ≡ out.old ++ raw_bytes place (raw_of starts.now place insn.now)) }
 {
     match form_of(insn.op) {
         Some(form) if insn.wide => {
@@ -333,7 +354,8 @@ fn jump_fits(starts: &[u32], place: u32, insn: &Insn) -> bool
     requires known { HasTargets (length starts.now) insn.now }
     requires near { AreNear starts.now }
     requires here { place < 2 ^ 16 }
-    ensures { result ≡ jump_fits (form_of insn.now.op) insn.now.wide (offset starts.now place (target_in insn.now.arg)) }
+    ensures { result ≡ jump_fits (form_of insn.now.op) insn.now.wide
+        (offset starts.now place (target_in insn.now.arg)) }
 {
     match form_of(insn.op) {
         Some(Form::Jump) if !insn.wide => { is_short(offset(starts, place, target(&insn.arg))) }
@@ -366,7 +388,8 @@ fn write_all(starts: &[u32], insns: &[Insn], out: &mut Bytes) -> Result<(), Memo
     requires near { AreNear starts.now }
     requires room { code_length insns.now < 2 ^ 16 }
     requires short { jumps_fit starts.now 0 insns.now ≡ true }
-    ensures { OnOk result (out.new ≡ out.old ++ spelled_from raw_bytes 0 (raws_from starts.now 0 insns.now)) }
+    ensures { OnOk result (
+        out.new ≡ out.old ++ spelled_from raw_bytes 0 (raws_from starts.now 0 insns.now)) }
 {
     let mut place = 0;
     for insn in insns {

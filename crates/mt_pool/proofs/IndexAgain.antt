@@ -15,7 +15,7 @@ use Rattle.class_model.proofs.PoolLaws.{read_from_HasKind, read_from_HasMethodTy
 use Rattle.codec_rules.specs.Sequence.{◌>>=◌}
 use Rattle.mt_pool.specs.Spelling.{entry_bytes}
 use Rattle.mt_pool.specs.Reading.{is_handle_kind}
-use Rattle.mt_pool.specs.Indices.{Verdict, judged, either_judged, method_text_fault, member_text_fault, class_text_fault, any_text_fault, text_fault, class_fault, is_of_field, is_of_method, is_some_and, pair_fault, member_fault, entry_fault, first_fault}
+use Rattle.mt_pool.specs.Indices.{Verdict, desc_verdict, either_desc_verdict, method_text_fault, member_text_fault, class_text_fault, any_text_fault, text_fault, class_fault, is_of_field, is_of_method, is_some_and, pair_fault, member_fault, entry_fault, first_fault}
 use Rattle.mt_pool.proofs.PlaceLaws.{HoldsFit}
 use Rattle.mt_pool.proofs.IndexLaws.{good, some_from, some_and, then_some, below, no_field, no_method}
 
@@ -34,13 +34,13 @@ any_again place (Some units) h = refl
 any_again place None h = absurd cc
 
 method_text_again : (place : ℕ) (desc : List ℕ) → HasMethodType desc → method_text_fault place desc ≡ good
-method_text_again place desc h = ap (judged place) (read_from_HasMethodType desc h).1
+method_text_again place desc h = ap (desc_verdict place) (read_from_HasMethodType desc h).1
 
 class_text_again : (place : ℕ) (name : List ℕ) → IsClassEntryName name → class_text_fault place name ≡ good
 class_text_again place name h = by (starts_with nat_eq name (codes "[")) refl
   where
     by : (test : Bool) → starts_with nat_eq name (codes "[") ≡ test → class_text_fault place name ≡ good
-    by true is = let same : class_text_fault place name ≡ judged place (field_kind name) = rw is refl in same ∙ ap (judged place) (read_from_HasKind name (h is)).1
+    by true is = let same : class_text_fault place name ≡ desc_verdict place (field_kind name) = rw is refl in same ∙ ap (desc_verdict place) (read_from_HasKind name (h is)).1
     by false is = rw is refl
 
 -- a method's descriptor is outside the grammar of field descriptors
@@ -49,10 +49,10 @@ bad_outside desc (Some t) e none = absurd cc
 bad_outside desc None e none = rw e refl
 
 member_again : (place : ℕ) (desc : List ℕ) → HasKind desc ⊎ HasMethodType desc → member_text_fault place desc ≡ good
-member_again place desc (inl h) = ap (λ (r : Result Kind DescFault). either_judged place r (method_kinds desc)) (read_from_HasKind desc h).1
+member_again place desc (inl h) = ap (λ (r : Result Kind DescFault). either_desc_verdict place r (method_kinds desc)) (read_from_HasKind desc h).1
 member_again place desc (inr h) =
     let bad : field_kind desc ≡ Err desc_fault.Bad = bad_outside desc (field_type_of desc) refl (no_field desc h (field_type_of desc) refl) in
-    ap (λ (r : Result Kind DescFault). either_judged place r (method_kinds desc)) bad ∙ method_text_again place desc h
+    ap (λ (r : Result Kind DescFault). either_desc_verdict place r (method_kinds desc)) bad ∙ method_text_again place desc h
 
 -- a class's name is there, so the class is
 class_named : (pool : List Const) (o : Option ℕ) → IsSome (option_and_then (text_of pool) o) → is_some o ≡ true

@@ -18,7 +18,7 @@ use Rattle.class_model.proofs.MethodLaws.{method_again}
 use Rattle.class_model.proofs.PoolLaws.{HasKind-from_read, HasMethodType-from_read}
 use Rattle.codec_rules.proofs.Sequence.{bind_ok}
 use Rattle.mt_pool.specs.Spelling.{entry_bytes}
-use Rattle.mt_pool.specs.Indices.{Verdict, asked, judged, either_judged, method_text_fault, member_text_fault, class_text_fault, any_text_fault, text_fault, class_fault, is_of_field, is_of_method, is_some_and, pair_fault, member_fault, entry_fault, first_fault}
+use Rattle.mt_pool.specs.Indices.{Verdict, required, desc_verdict, either_desc_verdict, method_text_fault, member_text_fault, class_text_fault, any_text_fault, text_fault, class_fault, is_of_field, is_of_method, is_some_and, pair_fault, member_fault, entry_fault, first_fault}
 use Rattle.mt_pool.proofs.PlaceLaws.{HoldsFit}
 
 abbrev pub good : Verdict
@@ -26,7 +26,7 @@ good = Ok tt
 
 -- ---- what passed
 
-passed : (test : Bool) (fault : ClassFault) → asked test fault ≡ good → test ≡ true
+passed : (test : Bool) (fault : ClassFault) → required test fault ≡ good → test ≡ true
 passed true fault e = refl
 passed false fault e = absurd cc
 
@@ -34,13 +34,13 @@ text_passed : (judge : ℕ → List ℕ → Verdict) (place : ℕ) (o : Option (
 text_passed judge place (Some units) e = (units, refl, e)
 text_passed judge place None e = absurd cc
 
-judge_passed : {K : Type 0} (place : ℕ) (r : Result K DescFault) → judged place r ≡ good → (k : K) × (r ≡ Ok k)
-judge_passed place (Ok k) e = (k, refl)
-judge_passed place (Err x) e = absurd cc
+desc_passed : {K : Type 0} (place : ℕ) (r : Result K DescFault) → desc_verdict place r ≡ good → (k : K) × (r ≡ Ok k)
+desc_passed place (Ok k) e = (k, refl)
+desc_passed place (Err x) e = absurd cc
 
-one_passed : {K M : Type 0} (place : ℕ) (field : Result K DescFault) (method : Result M DescFault) → either_judged place field method ≡ good → ((k : K) × (field ≡ Ok k)) ⊎ ((m : M) × (method ≡ Ok m))
+one_passed : {K M : Type 0} (place : ℕ) (field : Result K DescFault) (method : Result M DescFault) → either_desc_verdict place field method ≡ good → ((k : K) × (field ≡ Ok k)) ⊎ ((m : M) × (method ≡ Ok m))
 one_passed place (Ok k) method e = inl (k, refl)
-one_passed place (Err desc_fault.Bad) method e = inr (judge_passed place method e)
+one_passed place (Err desc_fault.Bad) method e = inr (desc_passed place method e)
 one_passed place (Err desc_fault.Float) method e = absurd cc
 one_passed place (Err desc_fault.Memory) method e = absurd cc
 
@@ -138,8 +138,8 @@ only_method desc (inr h) e = h
 
 class_text_passed : (place : ℕ) (name : List ℕ) → class_text_fault place name ≡ good → IsClassEntryName name
 class_text_passed place name e array =
-    let same : class_text_fault place name ≡ judged place (field_kind name) = rw array refl in
-    let k = judge_passed place (field_kind name) (sym same ∙ e) in
+    let same : class_text_fault place name ≡ desc_verdict place (field_kind name) = rw array refl in
+    let k = desc_passed place (field_kind name) (sym same ∙ e) in
     HasKind-from_read name k.0 k.1
 
 -- ---- an entry of which nothing is told has right indices, where nothing is told of the others
@@ -214,7 +214,7 @@ module _ (pool : List Const) (all : AllByRecursion (Checked pool) pool) where
   entry_good (const.Handle kind member) f k = handle_good kind (entry_of pool member) (passed (is_some_and (is_handle kind) (entry_of pool member)) (fault.BadIndex (k.0 + 2)) k.1)
   entry_good (const.MethodKind desc) f k =
       let t = text_passed method_text_fault (k.0 + 1) (text_of pool desc) k.1 in
-      let m = judge_passed (k.0 + 1) (method_kinds t.0) t.2 in
+      let m = desc_passed (k.0 + 1) (method_kinds t.0) t.2 in
       and_some (text_of pool desc) HasMethodType t.0 t.1 (HasMethodType-from_read t.0 m.0 m.1)
   entry_good (const.Dynamic bootstrap pair) f k = (f.0, pair_kept is_of_field HasMethodType only_method (k.0 + 3) pair k.1)
   entry_good const.Second f k = tt

@@ -1,4 +1,5 @@
--- A constant pool read entry by entry, up to the first fault (JVMS 4.4). Each number is an item, and so are the bytes of a text.
+-- A constant pool read entry by entry, up to the first fault (JVMS 4.4). Each number is an item,
+-- and so are the bytes of a text.
 use Rattle.std.specs.Prelude.{ℕ, zero, suc, ◌+◌, ◌*◌, ◌^◌, ◌==◌, ◌&&◌, Bool, true, false, not, nat_le, List, [], ◌∷◌, Result, Ok, Err, if◌then◌else◌}
 use Rattle.std.specs.Int.{w32, w64, cast_signed}
 use Rattle.std.specs.Option.{ok_or}
@@ -15,7 +16,8 @@ use Rattle.mt_bytes.specs.Items.{ItemReader, u1_at, u2_at, u4_at, take_at}
 abbrev pub units_or : ℕ → List ℕ → Result (List ℕ) ClassFault
 units_or place bytes = ok_or (units_of bytes) (fault.BadText place)
 
--- A text: the number of its bytes, and its bytes in modified UTF-8. A wrong one is named by the place of its entry.
+-- A text: the number of its bytes, and its bytes in modified UTF-8. A wrong one is named by the
+-- place of its entry.
 unfoldable pub text_at : ℕ → ItemReader Const
 text_at place input = do
   len ← u2_at input
@@ -68,7 +70,9 @@ abbrev pub is_handle_kind : ℕ → Bool
 is_handle_kind kind = nat_le 1 kind && nat_le kind 9
 
 unfoldable pub handle_kind_at : ItemReader ℕ
-handle_kind_at input = u1_at input >>= λ kind. if is_handle_kind kind.0 then Ok kind else Err (fault.BadTag input.at kind.0)
+handle_kind_at input =
+    u1_at input >>= λ kind.
+    if is_handle_kind kind.0 then Ok kind else Err (fault.BadTag input.at kind.0)
 
 unfoldable pub handle_at : ItemReader Const
 handle_at input = do
@@ -104,10 +108,13 @@ entry_at input = do
 abbrev pub has_room : Bool → Const → Bool
 has_room last entry = not (last && is_wide entry)
 
--- A place of the pool, which may be the last one and may stand behind an entry that takes two. That one's second place has no bytes; where none is left for it, the fault is at the entry.
+-- A place of the pool, which may be the last one and may stand behind an entry that takes two. That
+-- one's second place has no bytes; where none is left for it, the fault is at the entry.
 unfoldable pub place_at : Bool → Bool → ItemReader Const
 place_at last true input = Ok (const.Second, input)
-place_at last false input = entry_at input >>= λ entry. if has_room last entry.0 then Ok entry else Err (fault.BadIndex input.at)
+place_at last false input =
+    entry_at input >>= λ entry.
+    if has_room last entry.0 then Ok entry else Err (fault.BadIndex input.at)
 
 -- So many places.
 unfoldable pub places_at : ℕ → Bool → ItemReader (List Const)

@@ -63,6 +63,7 @@ abbrev pub entry_bytes : Const → List ℕ
 entry_bytes const.Second = []
 entry_bytes other = u1 (tag_of other) ++ content other
 
--- The bytes of a pool: constant_pool_count, which is one more than the number of places, and the entries.
+-- The bytes of a pool: constant_pool_count, which is one more than the number of places, and the
+-- entries.
 abbrev pub pool_bytes : List Const → List ℕ
 pool_bytes pool = u2 (length pool + 1) ++ flat_map entry_bytes pool

@@ -24,7 +24,8 @@ pool_at input = do
   good ← first_fault entries.0 count.1.at entries.0
   Ok entries
 
--- What was read: a pool, and its bytes stood there. An empty pool may have had the count 0, which isn't how it is written.
+-- What was read: a pool, and its bytes stood there. An empty pool may have had the count 0, which
+-- isn't how it is written.
 pub record IsPoolRead (input : Input) (pool : List Const) (rest : Input) : Type 0 where
   pub form : IsPool pool
   pub taken : Takes input (pool_bytes pool) rest ⊎ (pool ≡ []) × Takes input (u2 0) rest
@@ -40,13 +41,17 @@ has_text_size other = true
 abbrev pub layout : List Const → Result (List ℕ) LayoutFault
 layout pool =
     if nat_lt (length pool + 1) (2 ^ 16)
-    then (if list_all has_text_size pool then Ok (pool_bytes pool) else Err (layout_fault.TooLarge bound.Text))
+    then (if list_all has_text_size pool then Ok (pool_bytes pool)
+    else Err (layout_fault.TooLarge bound.Text))
     else Err (layout_fault.TooLarge bound.Pool)
 
 -- What was read is written as it was.
 abbrev pub ReadIsWritten : Type 0
-ReadIsWritten = (pool : List Const) → IsPool pool → IsPoolForm pool × (layout pool ≡ Ok (pool_bytes pool))
+ReadIsWritten =
+    (pool : List Const) → IsPool pool → IsPoolForm pool × (layout pool ≡ Ok (pool_bytes pool))
 
 -- What was written is read again.
 abbrev pub WrittenIsRead : Type 0
-WrittenIsRead = (pool : List Const) (bytes : List ℕ) → IsPoolForm pool → layout pool ≡ Ok bytes → IsPool pool × (bytes ≡ pool_bytes pool)
+WrittenIsRead =
+    (pool : List Const) (bytes : List ℕ) → IsPoolForm pool → layout pool ≡ Ok bytes →
+    IsPool pool × (bytes ≡ pool_bytes pool)

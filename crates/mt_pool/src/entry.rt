@@ -205,7 +205,8 @@ fn is_wide(entry: &Const) -> bool
     matches!(entry, Const::Long(_) | Const::Double(_))
 }
 
-/// What a place of the pool holds: the entry at the cursor, or `Second` behind an entry that takes two.
+/// What a place of the pool holds: the entry at the cursor, or `Second` behind an entry that takes
+/// two.
 #[tactic(auto, unfolding(crate::specs::Reading::place_at))]
 fn read_place(
     alloc: Global,

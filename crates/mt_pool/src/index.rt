@@ -4,22 +4,22 @@ ghost use Rattle.std.specs.Prelude.{◌≡◌, ◌+◌, ◌<◌, ◌^◌, length
 ghost use Rattle.std.specs.List.{flat_map};
 ghost use Rattle.class_model.specs.Pool.{entry_of, text_of, pair_in, is_handle};
 ghost use Rattle.class_model.specs.DescriptorReading.{field_kind, method_kinds};
-ghost use Rattle.class_model.specs.Judged.{outcome, arg_words, verdict_of};
+ghost use Rattle.class_model.specs.TextVerdicts.{outcome, arg_words, verdict_of};
 ghost use Rattle.class_model.specs.declared.fault.ClassFault.TheVariants as fault;
 ghost use Rattle.codec_rules.specs.Meets.{Gives};
 ghost use Rattle.mt_pool.specs.Spelling.{entry_bytes};
-ghost use Rattle.mt_pool.specs.Indices.{asked, told, judged, method_text_fault, member_text_fault, class_text_fault, any_text_fault, is_of_field, is_of_method, text_fault, class_fault, pair_fault, member_fault, is_some_and, entry_fault, first_fault};
+ghost use Rattle.mt_pool.specs.Indices.{required, desc_fault_at, desc_verdict, method_text_fault, member_text_fault, class_text_fault, any_text_fault, is_of_field, is_of_method, text_fault, class_fault, pair_fault, member_fault, is_some_and, entry_fault, first_fault};
 
 use crate::named::{entry_of, names_class, pair_of};
 use crate::size::size;
-use class_model::{ClassFault, Const, DescFault, Judged, Name, Verdict};
+use class_model::{CheckedPool, ClassFault, Const, DescFault, Name, Verdict};
 use std::alloc::Global;
 
 const ARRAY: u16 = b'[' as u16;
 
-/// What is told of a descriptor.
-fn told(at: u64, fault: DescFault) -> ClassFault
-    ensures { result ≡ told at fault }
+/// The fault of a class file for that of a descriptor, at the index that uses it.
+fn desc_fault_at(at: u64, fault: DescFault) -> ClassFault
+    ensures { result ≡ desc_fault_at at fault }
 {
     match fault {
         DescFault::Bad => ClassFault::BadText { at },
@@ -31,11 +31,11 @@ fn told(at: u64, fault: DescFault) -> ClassFault
 // What is asked of a field's descriptor, by the outcome of reading it.
 fn check_field_text(at: u64, desc: &Name, field: Result<(), DescFault>) -> Result<(), ClassFault>
     requires { field ≡ outcome (field_kind desc.now) }
-    ensures { Gives fault.Memory (λ u. u) (judged at (field_kind desc.now)) result }
+    ensures { Gives fault.Memory (λ u. u) (desc_verdict at (field_kind desc.now)) result }
 {
     match field {
         Ok(()) => Ok(()),
-        Err(fault) => Err(told(at, fault)),
+        Err(fault) => Err(desc_fault_at(at, fault)),
     }
 }
 
@@ -50,7 +50,7 @@ fn check_method_text(
 {
     match method {
         Ok(_) => Ok(()),
-        Err(fault) => Err(told(at, fault)),
+        Err(fault) => Err(desc_fault_at(at, fault)),
     }
 }
 
@@ -62,7 +62,7 @@ fn check_member_text(at: u64, desc: &Name, verdict: Verdict) -> Result<(), Class
     match verdict.field {
         Ok(()) => Ok(()),
         Err(DescFault::Bad) => check_method_text(at, desc, verdict.method),
-        Err(fault) => Err(told(at, fault)),
+        Err(fault) => Err(desc_fault_at(at, fault)),
     }
 }
 
@@ -79,8 +79,9 @@ fn check_class_text(at: u64, name: &Name, verdict: Verdict) -> Result<(), ClassF
 }
 
 /// The index at a place has to name a text.
-fn check_text(pool: &Judged, at: u64, index: u16) -> Result<(), ClassFault>
-    ensures { Gives fault.Memory (λ u. u) (text_fault any_text_fault at (text_of pool.now index)) result }
+fn check_text(pool: &CheckedPool, at: u64, index: u16) -> Result<(), ClassFault>
+    ensures { Gives fault.Memory (λ u. u) (text_fault any_text_fault at (text_of pool.now index))
+        result }
 {
     match pool.text(index) {
         Some(_) => Ok(()),
@@ -89,8 +90,9 @@ fn check_text(pool: &Judged, at: u64, index: u16) -> Result<(), ClassFault>
 }
 
 /// The index at a place has to name a class's name.
-fn check_class_name(pool: &Judged, at: u64, index: u16) -> Result<(), ClassFault>
-    ensures { Gives fault.Memory (λ u. u) (text_fault class_text_fault at (text_of pool.now index)) result }
+fn check_class_name(pool: &CheckedPool, at: u64, index: u16) -> Result<(), ClassFault>
+    ensures { Gives fault.Memory (λ u. u) (text_fault class_text_fault at (text_of pool.now index))
+        result }
 {
     match pool.text(index) {
         Some((name, verdict)) => check_class_text(at, name, verdict),
@@ -99,8 +101,9 @@ fn check_class_name(pool: &Judged, at: u64, index: u16) -> Result<(), ClassFault
 }
 
 /// The index at a place has to name a method's descriptor.
-fn check_method_type(pool: &Judged, at: u64, index: u16) -> Result<(), ClassFault>
-    ensures { Gives fault.Memory (λ u. u) (text_fault method_text_fault at (text_of pool.now index)) result }
+fn check_method_type(pool: &CheckedPool, at: u64, index: u16) -> Result<(), ClassFault>
+    ensures { Gives fault.Memory (λ u. u) (text_fault method_text_fault at (text_of pool.now index))
+        result }
 {
     match pool.text(index) {
         Some((desc, verdict)) => check_method_text(at, desc, verdict.method),
@@ -109,8 +112,9 @@ fn check_method_type(pool: &Judged, at: u64, index: u16) -> Result<(), ClassFaul
 }
 
 /// The index at a place has to name a member's descriptor.
-fn check_descriptor(pool: &Judged, at: u64, index: u16) -> Result<(), ClassFault>
-    ensures { Gives fault.Memory (λ u. u) (text_fault member_text_fault at (text_of pool.now index)) result }
+fn check_descriptor(pool: &CheckedPool, at: u64, index: u16) -> Result<(), ClassFault>
+    ensures { Gives fault.Memory (λ u. u) (text_fault member_text_fault at (text_of pool.now index))
+        result }
 {
     match pool.text(index) {
         Some((desc, verdict)) => check_member_text(at, desc, verdict),
@@ -119,7 +123,7 @@ fn check_descriptor(pool: &Judged, at: u64, index: u16) -> Result<(), ClassFault
 }
 
 /// The index at a place has to name a class.
-fn check_class(pool: &Judged, at: u64, index: u16) -> Result<(), ClassFault>
+fn check_class(pool: &CheckedPool, at: u64, index: u16) -> Result<(), ClassFault>
     ensures { Gives fault.Memory (λ u. u) (class_fault pool.now at index) result }
 {
     if names_class(pool.entries(), index) {
@@ -152,8 +156,10 @@ fn is_of_method(desc: &Name, method: Result<u128, DescFault>) -> bool
 }
 
 /// The index at a place has to name a pair that isn't a method's.
-fn check_field_pair(pool: &Judged, at: u64, index: u16) -> Result<(), ClassFault>
-    ensures { Gives fault.Memory (λ u. u) (pair_fault is_of_method pool.now at (option_and_then pair_in (entry_of pool.now index))) result }
+fn check_field_pair(pool: &CheckedPool, at: u64, index: u16) -> Result<(), ClassFault>
+    ensures { Gives fault.Memory (λ u. u)
+        (pair_fault is_of_method pool.now at (option_and_then pair_in (entry_of pool.now index)))
+        result }
 {
     let Some((_, desc)) = pair_of(pool.entries(), index) else {
         return Err(ClassFault::BadIndex { at });
@@ -167,8 +173,10 @@ fn check_field_pair(pool: &Judged, at: u64, index: u16) -> Result<(), ClassFault
 }
 
 /// The index at a place has to name a pair that isn't a field's.
-fn check_method_pair(pool: &Judged, at: u64, index: u16) -> Result<(), ClassFault>
-    ensures { Gives fault.Memory (λ u. u) (pair_fault is_of_field pool.now at (option_and_then pair_in (entry_of pool.now index))) result }
+fn check_method_pair(pool: &CheckedPool, at: u64, index: u16) -> Result<(), ClassFault>
+    ensures { Gives fault.Memory (λ u. u)
+        (pair_fault is_of_field pool.now at (option_and_then pair_in (entry_of pool.now index)))
+        result }
 {
     let Some((_, desc)) = pair_of(pool.entries(), index) else {
         return Err(ClassFault::BadIndex { at });
@@ -194,8 +202,10 @@ fn is_handle(kind: u8, entry: &Const) -> bool
 }
 
 /// The index at a place has to name what a handle of a kind may name.
-fn check_handle(pool: &Judged, at: u64, kind: u8, index: u16) -> Result<(), ClassFault>
-    ensures { Gives fault.Memory (λ u. u) (asked (is_some_and (is_handle kind) (entry_of pool.now index)) (fault.BadIndex at)) result }
+fn check_handle(pool: &CheckedPool, at: u64, kind: u8, index: u16) -> Result<(), ClassFault>
+    ensures { Gives fault.Memory (λ u. u)
+        (required (is_some_and (is_handle kind) (entry_of pool.now index)) (fault.BadIndex at))
+        result }
 {
     match entry_of(pool.entries(), index) {
         Some(member) if is_handle(kind, member) => Ok(()),
@@ -204,7 +214,7 @@ fn check_handle(pool: &Judged, at: u64, kind: u8, index: u16) -> Result<(), Clas
 }
 
 /// The indices of an entry that begins at a place.
-fn check_entry(pool: &Judged, at: u64, entry: &Const) -> Result<(), ClassFault>
+fn check_entry(pool: &CheckedPool, at: u64, entry: &Const) -> Result<(), ClassFault>
     requires { at + length (entry_bytes entry.now) < 2 ^ 64 }
     ensures { Gives fault.Memory (λ u. u) (entry_fault pool.now at entry.now) result }
 {
@@ -236,7 +246,7 @@ fn check_entry(pool: &Judged, at: u64, entry: &Const) -> Result<(), ClassFault>
 }
 
 // The indices of entries, the first of which begins at a place.
-fn check_each(pool: &Judged, entries: &[Const], start: u64) -> Result<(), ClassFault>
+fn check_each(pool: &CheckedPool, entries: &[Const], start: u64) -> Result<(), ClassFault>
     requires { start + length (flat_map entry_bytes entries.now) < 2 ^ 64 }
     ensures { Gives fault.Memory (λ u. u) (first_fault pool.now start entries.now) result }
 {
@@ -253,6 +263,6 @@ pub fn check_entries(alloc: Global, pool: &[Const], start: u64) -> Result<(), Cl
     requires { start + length (flat_map entry_bytes pool.now) < 2 ^ 64 }
     ensures { Gives fault.Memory (λ u. u) (first_fault pool.now start pool.now) result }
 {
-    let judged = Judged::new(alloc, pool)?;
-    check_each(&judged, pool, start)
+    let checked = CheckedPool::new(alloc, pool)?;
+    check_each(&checked, pool, start)
 }

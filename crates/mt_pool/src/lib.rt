@@ -5,8 +5,10 @@
 //! - `specs/Reading.antt`: what is read behind the tag (`tagged_at`);
 //! - `specs/Indices.antt`: what is told of its indices, if it has any (`entry_fault`);
 //!
-//! and an arm in `src/entry.rt`, `src/index.rt`, `src/size.rt` and `src/put.rt`, with a case in `Fits` and a line in `tagged_codec` of `proofs/EntryLaws.antt`, and one in
-//! `entry_good` and `entry_again` of `proofs/IndexLaws.antt` and `proofs/IndexAgain.antt`. Which entries are right is `IsEntry` of `class_model`.
+//! and an arm in `src/entry.rt`, `src/index.rt`, `src/size.rt` and `src/put.rt`, with a case in
+//! `Fits` and a line in `tagged_codec` of `proofs/EntryLaws.antt`, and one in `entry_good` and
+//! `entry_again` of `proofs/IndexLaws.antt` and `proofs/IndexAgain.antt`. Which entries are right
+//! is `IsEntry` of `class_model`.
 #![tactic(auto)]
 
 ghost use Rattle.std.specs.Prelude.{◌≡◌, ◌++◌, ◌+◌, List, ℕ, length, IfOk, OnOk, Ok};
@@ -33,20 +35,24 @@ mod whole;
 pub use named::{class_name_of, entry_of, names_class, pair_of, text_of};
 use whole::{read_whole, write_whole};
 
-/// The pool at the cursor: its count, its entries and then the indices inside them, in the order of the entries. The first fault is answered. A count of 0 is read as that
-/// of an empty pool.
+/// The pool at the cursor: its count, its entries and then the indices inside them, in the order of
+/// the entries. The first fault is answered. A count of 0 is read as that of an empty pool.
 ///
-/// `Truncated`: too few bytes remain for the item that begins there. `BadTag`: a tag or the kind of a handle isn't one of the standard's. `BadText`: a text isn't modified
-/// UTF-8 in its shortest form, told at its entry; or a text that an index uses as a descriptor is outside the grammar, or is one of the other kind of member, told at the
-/// index. `FloatUsed`: a descriptor has a float or a double, told at the index. `BadIndex`: an index is 0, past the pool, or on an entry of the wrong kind; or no place is
-/// left for the second half of a long or a double, told at its entry.
+/// `Truncated`: too few bytes remain for the item that begins there. `BadTag`: a tag or the kind of
+/// a handle isn't one of the standard's. `BadText`: a text isn't modified UTF-8 in its shortest
+/// form, told at its entry; or a text that an index uses as a descriptor is outside the grammar, or
+/// is one of the other kind of member, told at the index. `FloatUsed`: a descriptor has a float or
+/// a double, told at the index. `BadIndex`: an index is 0, past the pool, or on an entry of the
+/// wrong kind; or no place is left for the second half of a long or a double, told at its entry.
 pub fn read_pool(alloc: Global, cur: &mut Cursor) -> Result<Seq<Const>, ClassFault>
     // The bytes spell what is answered, but that an empty pool may have the count 0.
     ensures found { IfOk result (λ pool. IsPoolRead cur.old pool cur.new) }
 
     // What the bytes spell is answered, unless memory runs out.
-    ensures only { (pool : List Const) (rest : List ℕ) → IsPool pool → cur.old.bytes ≡ pool_bytes pool ++ rest
-        → ReadsItem (λ input. Ok (pool, input_at (input.at + length (pool_bytes pool)) rest)) cur.old cur.new result }
+    ensures only { (pool : List Const) (rest : List ℕ) → IsPool pool →
+        cur.old.bytes ≡ pool_bytes pool ++ rest →
+        ReadsItem (λ input. Ok (pool, input_at (input.at + length (pool_bytes pool)) rest))
+        cur.old cur.new result }
 
     // Which fault it is.
     ensures exact { ReadsItem pool_at cur.old cur.new result }
@@ -54,8 +60,9 @@ pub fn read_pool(alloc: Global, cur: &mut Cursor) -> Result<Seq<Const>, ClassFau
     read_whole(alloc, cur)
 }
 
-/// Adds the bytes of the pool at the end. `Pool` is too large exactly where it has more than 65,534 places, and else `Text` exactly where one of its texts has more than
-/// 65,535 bytes; then the list is unchanged.
+/// Adds the bytes of the pool at the end. `Pool` is too large exactly where it has more than 65,534
+/// places, and else `Text` exactly where one of its texts has more than 65,535 bytes; then the list
+/// is unchanged.
 pub fn write_pool(pool: &Seq<Const>, out: &mut Bytes) -> Result<(), LayoutFault>
     ensures ok { OnOk result (out.new ≡ out.old ++ pool_bytes pool.now) }
 
@@ -66,12 +73,14 @@ pub fn write_pool(pool: &Seq<Const>, out: &mut Bytes) -> Result<(), LayoutFault>
     write_whole(pool.as_slice(), out)
 }
 
-/// What was read is written as it was: `write_pool` takes each pool that has a spelling, and gives that spelling.
+/// What was read is written as it was: `write_pool` takes each pool that has a spelling, and gives
+/// that spelling.
 pub fn what_is_read_is_written()
     ensures { ReadIsWritten }
 {}
 
-/// What was written is read again: the bytes that `write_pool` gives for a pool of the form are its spelling.
+/// What was written is read again: the bytes that `write_pool` gives for a pool of the form are its
+/// spelling.
 pub fn what_is_written_is_read()
     ensures { WrittenIsRead }
 {}

@@ -48,8 +48,8 @@ use Rattle.mt_attrs.specs.Layout.{HasAttrForm, HasBodyForm, HasCodeForm}
 use Rattle.mt_attrs.specs.Naming.{IsNamedRow, IsNamedVItem, IsNamedShape, IsNamedFrame, IsNamedTableBody, IsNamedTable, AreNamedParts, IsNamedBody, IsNamedAttr}
 use Rattle.mt_attrs.specs.declared.kinds.Known.{Known}
 use Rattle.mt_attrs.specs.declared.kinds.Known.TheVariants as known
-use Rattle.mt_attrs.specs.declared.kinds.Table.{Table}
-use Rattle.mt_attrs.specs.declared.kinds.Table.TheVariants as table
+use Rattle.mt_attrs.specs.declared.kinds.CodeTable.{CodeTable}
+use Rattle.mt_attrs.specs.declared.kinds.CodeTable.TheVariants as table
 use Rattle.mt_attrs.specs.declared.kinds.Unseen.{Unseen}
 use Rattle.mt_attrs.specs.declared.owner.Owner.{Owner}
 use Rattle.class_reader.specs.Indices.{names_name}
@@ -177,7 +177,7 @@ module _ (pool more : List Const) (formed_pool : IsPoolForm pool) where
   frame_same : (f : file.Frame) → IsNamedFrame pool f → frame_in longer f ≡ frame_in pool f
   frame_same f q = ap (λ s. record { at = f.at; shape = s }) (shape_same f.shape q)
 
-  table_same : (kind : Option Table) (b : Body-F Body Attr Code) → IsNamedTableBody pool kind b → frames_of longer b ≡ frames_of pool b
+  table_same : (kind : Option CodeTable) (b : Body-F Body Attr Code) → IsNamedTableBody pool kind b → frames_of longer b ≡ frames_of pool b
   table_same (Some table.Frames) (Body-F.Frames frames) q = each_same (IsNamedFrame pool) (frame_in longer) (frame_in pool) frame_same frames q
   table_same (Some table.Lines) (Body-F.Lines lines) q = refl
   table_same None (Body-F.Raw bytes) q = refl

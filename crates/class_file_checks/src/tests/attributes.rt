@@ -2,14 +2,15 @@
 
 ghost use Rattle.std.specs.Prelude.{◌<◌};
 
-use class_model::{Bytes, ClassFault, Const, Judged, Seq};
+use class_model::{Bytes, CheckedPool, ClassFault, Const, Seq};
 use mt_attrs::{Owner, read_attrs, write_attrs};
 use mt_bytes::{Cursor, put_u4};
 use mt_pool::read_pool;
 use std::alloc::Global;
 use std::test::Fail;
 
-/// Code, LineNumberTable, StackMapTable, SourceFile, RuntimeVisibleAnnotations, LT;, T.java, Signature, an int, a class, ConstantValue.
+/// Code, LineNumberTable, StackMapTable, SourceFile, RuntimeVisibleAnnotations, LT;, T.java,
+/// Signature, an int, a class, ConstantValue.
 const POOL: &[u8] =
     b"\x00\x0c\x01\x00\x04Code\x01\x00\x0fLineNumberTable\x01\x00\x0dStackMapTable\x01\x00\x0aSourceFile\x01\x00\x19RuntimeVisibleAnnotations\x01\x00\x03LT;\x01\x00\x06T.java\x01\x00\x09Signature\x03\x00\x00\x00\x07\x07\x00\x01\x01\x00\x0dConstantValue";
 
@@ -20,7 +21,7 @@ fn pool(alloc: Global) -> Result<Seq<Const>, ClassFault> {
 /// Whether an owner's attributes are written as they were read, and are copied.
 fn comes_back(alloc: Global, owner: Owner, bytes: &[u8]) -> Result<bool, Fail> {
     let entries = pool(alloc)?;
-    let pool = Judged::new(alloc, entries.as_slice())?;
+    let pool = CheckedPool::new(alloc, entries.as_slice())?;
     let mut cur = Cursor::new(bytes, 0);
     let attrs = read_attrs(alloc, &mut cur, owner, &pool)?;
     let mut out: Bytes = Seq::new(alloc);
@@ -51,7 +52,8 @@ fn attributes_come_back(rt: HostRuntime) -> Result<(), Fail> {
                 247, 0, 0, 6,
             ],
         ),
-        // SourceFile; annotations with an array of an annotation, a class, an enum and an int; a carried attribute
+        // SourceFile; annotations with an array of an annotation, a class, an enum and an int; a
+        // carried attribute
         (
             Owner::OfClass,
             &[
@@ -95,7 +97,7 @@ fn faults_of_lengths_and_names(rt: HostRuntime) -> Result<(), Fail> {
         (&[0, 1, 0, 9, 0, 0, 0, 0], ClassFault::BadIndex { at: 102 }),
     ];
     let pool = pool(rt.alloc())?;
-    let pool = Judged::new(rt.alloc(), pool.as_slice())?;
+    let pool = CheckedPool::new(rt.alloc(), pool.as_slice())?;
     for (bytes, fault) in all {
         assert!(rt; bytes.len() < 100, "{bytes:?}");
         let mut cur = Cursor::new(bytes, 100);

@@ -2,14 +2,15 @@
 
 ghost use Rattle.std.specs.Prelude.{◌<◌, ◌^◌, length};
 
-use class_model::{Bytes, ClassFault, Const, Judged, Seq};
+use class_model::{Bytes, CheckedPool, ClassFault, Const, Seq};
 use mt_bytes::Cursor;
 use mt_insn::{places, read_insns, write_insns};
 use mt_pool::read_pool;
 use std::alloc::Global;
 use std::test::Fail;
 
-/// A text, a class by it, an int, a float, the descriptor `(IJ)V`, the pair of both, an interface's method, and a handle of that.
+/// A text, a class by it, an int, a float, the descriptor `(IJ)V`, the pair of both, an interface's
+/// method, and a handle of that.
 const POOL: [u8; 41] = [
     0, 9, 1, 0, 1, b'm', 7, 0, 1, 3, 0, 0, 0, 7, 4, 0, 0, 0, 0, 1, 0, 5, b'(', b'I', b'J', b')',
     b'V', 12, 0, 1, 0, 5, 11, 0, 2, 0, 6, 15, 9, 0, 7,
@@ -19,12 +20,13 @@ fn pool(alloc: Global) -> Result<Seq<Const>, ClassFault> {
     read_pool(alloc, &mut Cursor::new(&POOL, 0))
 }
 
-/// Whether the instructions begin at these places and are written as they were read, and are copied.
+/// Whether the instructions begin at these places and are written as they were read, and are
+/// copied.
 fn comes_back(alloc: Global, bytes: &[u8], starts: &[u32]) -> Result<bool, Fail>
     requires { length bytes.now < 2 ^ 16 }
 {
     let entries = pool(alloc)?;
-    let pool = Judged::new(alloc, entries.as_slice())?;
+    let pool = CheckedPool::new(alloc, entries.as_slice())?;
     let insns = read_insns(alloc, bytes, 0, &pool)?;
     let found = places(alloc, &insns)?;
     let mut out: Bytes = Seq::new(alloc);
@@ -57,7 +59,8 @@ fn codes_come_back(rt: HostRuntime) -> Result<(), Fail> {
             ],
             &[0, 28],
         ),
-        // invokeinterface with the words of its receiver, its int and its long; ldc of the int; newarray of int
+        // invokeinterface with the words of its receiver, its int and its long; ldc of the int;
+        // newarray of int
         (&[0xb9, 0, 7, 4, 0, 0x12, 3, 0xbc, 10], &[0, 5, 7]),
     ];
     for (bytes, starts) in codes {
@@ -81,7 +84,8 @@ fn the_first_fault_is_told(rt: HostRuntime) -> Result<(), Fail> {
             ],
             Some(ClassFault::BadLength { at: 1001 }),
         ),
-        // iconst_0; tableswitch at 1: padding 0 and 1, then 0 and 0, default 19, keys 0 to 0, one offset 19
+        // iconst_0; tableswitch at 1: padding 0 and 1, then 0 and 0, default 19, keys 0 to 0, one
+        // offset 19
         (
             &[
                 0x03, 0xaa, 0, 1, 0, 0, 0, 19, 0, 0, 0, 0, 0, 0, 0, 0, 0, 0, 0, 19, 0xb1,
@@ -144,7 +148,7 @@ fn the_first_fault_is_told(rt: HostRuntime) -> Result<(), Fail> {
         (&[0xb9, 0, 2, 3, 1], Some(ClassFault::BadIndex { at: 1001 })),
     ];
     let pool = pool(rt.alloc())?;
-    let pool = Judged::new(rt.alloc(), pool.as_slice())?;
+    let pool = CheckedPool::new(rt.alloc(), pool.as_slice())?;
     for (bytes, fault) in codes {
         assert!(rt; bytes.len() < 100, "{bytes:?}");
         assert!(rt;

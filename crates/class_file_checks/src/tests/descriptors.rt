@@ -4,8 +4,8 @@ use class_model::{DescFault, Kind, TextFault, parse_field, parse_method, read_te
 use std::alloc::Global;
 use std::test::Fail;
 
-/// Whether a kind is the one that a word stands for in these tables: a letter, or else the name of a class or the text of
-/// an array.
+/// Whether a kind is the one that a word stands for in these tables: a letter, or else the name of
+/// a class or the text of an array.
 fn is_kind(alloc: Global, kind: &Kind, word: &str) -> Result<bool, TextFault> {
     let name = read_text(alloc, word.as_bytes())?;
     Ok(match kind {

@@ -1,4 +1,5 @@
-//! The constant pool, read and written, and the first fault of a damaged one. Each pool stands behind the eight bytes of magic and version.
+//! The constant pool, read and written, and the first fault of a damaged one. Each pool stands
+//! behind the eight bytes of magic and version.
 
 use class_model::{Bytes, ClassFault, Const, Seq};
 use mt_bytes::Cursor;

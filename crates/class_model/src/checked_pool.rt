@@ -1,8 +1,8 @@
-//! A constant pool whose texts are judged once each, however many indices use them.
+//! A constant pool whose texts are looked at once each, however many indices use them.
 
 ghost use Rattle.std.specs.Prelude.{◌≡◌, ◌+◌, ◌*◌, ◌≤◌, [], length, sum_by, IfOk, MatchOption, None, Some};
 ghost use Rattle.class_model.specs.DescriptorReading.{field_kind, method_kinds};
-ghost use Rattle.class_model.specs.Judged.{outcome, words, arg_words, verdict_of, units_in, verdicts_of};
+ghost use Rattle.class_model.specs.TextVerdicts.{outcome, words, arg_words, verdict_of, units_in, verdicts_of};
 ghost use Rattle.class_model.specs.Pool.{text_of};
 
 use crate::constant::Const;
@@ -30,21 +30,21 @@ pub struct Verdict {
 
 /// A constant pool with a verdict on each of its texts. Contracts see the entries.
 #[derive(Drop)]
-pub struct Judged<'a> {
+pub struct CheckedPool<'a> {
     pool: &'a [Const],
     verdicts: Vec<Verdict>,
 }
 
-impl<'a> Model for Judged<'a> {
+impl<'a> Model for CheckedPool<'a> {
     ghost use Rattle.std.specs.Prelude.{List, ◌≡◌};
     ghost use Rattle.class_model.specs.declared.constant.Const.{Const};
-    ghost use Rattle.class_model.specs.Judged.{verdicts_of};
+    ghost use Rattle.class_model.specs.TextVerdicts.{verdicts_of};
 
     ghost Value = { List Const };
 
-    ghost view = { λ j. j.pool.now };
+    ghost view = { λ p. p.pool.now };
 
-    ghost invariant = { λ j. j.verdicts.items ≡ verdicts_of j.pool.now };
+    ghost invariant = { λ p. p.verdicts.items ≡ verdicts_of p.pool.now };
 }
 
 // A long takes two words.
@@ -68,7 +68,7 @@ fn words_of(args: &[Kind]) -> u128
     sum
 }
 
-fn judge_field(alloc: Global, text: &Name) -> Result<Result<(), DescFault>, Memory>
+fn field_verdict(alloc: Global, text: &Name) -> Result<Result<(), DescFault>, Memory>
     ensures { IfOk result (λ v. v ≡ outcome (field_kind text.now)) }
 {
     match parse_field(alloc, text) {
@@ -78,7 +78,7 @@ fn judge_field(alloc: Global, text: &Name) -> Result<Result<(), DescFault>, Memo
     }
 }
 
-fn judge_method(alloc: Global, text: &Name) -> Result<Result<u128, DescFault>, Memory>
+fn method_verdict(alloc: Global, text: &Name) -> Result<Result<u128, DescFault>, Memory>
     ensures { IfOk result (λ v. v ≡ arg_words (method_kinds text.now)) }
 {
     match parse_method(alloc, text) {
@@ -88,46 +88,46 @@ fn judge_method(alloc: Global, text: &Name) -> Result<Result<u128, DescFault>, M
     }
 }
 
-fn judge(alloc: Global, text: &Name) -> Result<Verdict, Memory>
+fn verdict_of(alloc: Global, text: &Name) -> Result<Verdict, Memory>
     ensures { IfOk result (λ v. v ≡ verdict_of text.now) }
 {
     Ok(Verdict {
-        field: judge_field(alloc, text)?,
-        method: judge_method(alloc, text)?,
+        field: field_verdict(alloc, text)?,
+        method: method_verdict(alloc, text)?,
         names_field: is_field_name(text.as_slice()),
         names_method: is_method_name(text.as_slice()),
     })
 }
 
 // An entry that is no text has the verdict on the empty text, which nothing asks for.
-fn judge_entry(alloc: Global, none: &Name, entry: &Const) -> Result<Verdict, Memory>
+fn entry_verdict(alloc: Global, none: &Name, entry: &Const) -> Result<Verdict, Memory>
     requires { none.now ≡ [] }
     ensures { IfOk result (λ v. v ≡ verdict_of (units_in entry.now)) }
 {
     match entry {
-        Const::Utf8(text) => judge(alloc, text),
-        _ => judge(alloc, none),
+        Const::Utf8(text) => verdict_of(alloc, text),
+        _ => verdict_of(alloc, none),
     }
 }
 
-fn judge_all(alloc: Global, pool: &[Const]) -> Result<Vec<Verdict>, Memory>
+fn verdicts_of(alloc: Global, pool: &[Const]) -> Result<Vec<Verdict>, Memory>
     ensures { IfOk result (λ vs. vs.items ≡ verdicts_of pool.now) }
 {
     let none = Seq::new(alloc);
     let mut verdicts = Vec::with_capacity(alloc, pool.len())?;
     for entry in pool {
-        verdicts.push(judge_entry(alloc, &none, entry)?)?;
+        verdicts.push(entry_verdict(alloc, &none, entry)?)?;
     }
     Ok(verdicts)
 }
 
-impl<'a> Judged<'a> {
-    /// Judges each text of a pool, which takes about as much work as the texts are long.
-    pub fn new(alloc: Global, pool: &'a [Const]) -> Result<Judged<'a>, Memory>
-        ensures { IfOk result (λ j. j ≡ pool.entry.now) }
+impl<'a> CheckedPool<'a> {
+    /// The pool, with a verdict on each of its texts: about as much work as the texts are long.
+    pub fn new(alloc: Global, pool: &'a [Const]) -> Result<CheckedPool<'a>, Memory>
+        ensures { IfOk result (λ p. p ≡ pool.entry.now) }
     {
-        let verdicts = judge_all(alloc, pool)?;
-        Ok(Judged { pool, verdicts })
+        let verdicts = verdicts_of(alloc, pool)?;
+        Ok(CheckedPool { pool, verdicts })
     }
 
     /// The entries of the pool.
@@ -139,7 +139,8 @@ impl<'a> Judged<'a> {
 
     /// The text that an index names, and the verdict on it.
     pub fn text(&self, index: u16) -> Option<(&Name, Verdict)>
-        ensures { MatchOption result (text_of self.now index ≡ None) (λ x. (text_of self.now index ≡ Some x.0.now) × (x.1 ≡ verdict_of x.0.now)) }
+        ensures { MatchOption result (text_of self.now index ≡ None) (λ x.
+            (text_of self.now index ≡ Some x.0.now) × (x.1 ≡ verdict_of x.0.now)) }
     {
         if index == 0 {
             return None;

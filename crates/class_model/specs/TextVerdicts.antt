@@ -1,4 +1,5 @@
--- What a text of a constant pool is as a descriptor and as a declared name: all that the indices which use it ask of it (JVMS 4.2.2, 4.3). It is found once a text, however many indices use it.
+-- What a text of a constant pool is as a descriptor and as a declared name: all that the indices
+-- which use it ask of it (JVMS 4.2.2, 4.3). It is found once a text, however many indices use it.
 use Rattle.std.specs.Prelude.{ℕ, ◌+◌, List, [], map, sum_by, Option, Some, None, Result, Ok, Err}
 use Rattle.class_model.specs.DeclaredName.{is_field_name, is_method_name}
 use Rattle.class_model.specs.DescriptorReading.{field_kind, method_kinds}
@@ -8,7 +9,7 @@ use Rattle.class_model.specs.declared.kind.Kind.{Kind}
 use Rattle.class_model.specs.declared.kind.Kind.TheVariants as kind
 use Rattle.class_model.specs.declared.kind.MethodType.{MethodType}
 use Rattle.class_model.specs.declared.fault.DescFault.{DescFault}
-use Rattle.class_model.specs.declared.judged.Verdict.{Verdict}
+use Rattle.class_model.specs.declared.checked_pool.Verdict.{Verdict}
 
 -- whether it was read, or why not
 abbrev pub outcome : {K : Type 0} → Result K DescFault → Result Unit DescFault
