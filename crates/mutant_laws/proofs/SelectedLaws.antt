@@ -14,7 +14,7 @@ use Rattle.class_link.specs.Info.{Info}
 use Rattle.mutator_ops.specs.declared.mutant.Mutant.{Mutant}
 use Rattle.mutator_ops.specs.declared.mutant.State.{State}
 use Rattle.mutant_runs.specs.Runs.{timed, runs_on, reaches, detected}
-use Rattle.mutant_runs.specs.Verdicts.{covering, killer, verdict_by, judged, not_viable, verdict_of}
+use Rattle.mutant_runs.specs.Verdicts.{covering, killer, verdict_by, verdict_of_runs, not_viable, verdict_of}
 use Rattle.mutant_laws.specs.Covered.{original_run, edited_run, UnreachedIsAlike, NotStuckThere, ReachingIsAlike, CoveringIsAlike, runs_of, SelectedSuffice}
 
 -- ---- lists of runs
@@ -81,7 +81,7 @@ module _ (p : List Info) (m : Mutant) (p' : Look) (q : Limits) (limit : ℕ) whe
   each_way (t ∷ tests) h pass = (h t (subst HasEnded (sym pass.0) tt), each_way tests h pass.1)
 
 pub selected_suffice : UnreachedIsAlike → ReachingIsAlike → CoveringIsAlike → SelectedSuffice
-unfolding verdict_of judged
+unfolding verdict_of verdict_of_runs
 selected_suffice unreached reaching covers p m p' q limit tests y accepted whole pass smooth =
     let all = recursion_from_All (λ t. (original_run p t q limit).ending ≡ With Passed) tests pass in
     let alike : AllByRecursion (Alike p m p' q limit) tests =
@@ -89,6 +89,6 @@ selected_suffice unreached reaching covers p m p' q limit tests y accepted whole
     (λ past. both_ways p m p' q limit tests (λ t h. (reaching p m p' t q limit y whole h).1) all (recursion_from_All (GoesPast p m p' q limit) tests past)) smooth in
     let same : (t : Test) → HasEnded (original_run p t q limit).ending → reaches m (original_run p t q limit) ≡ false → edited_run p p' t q limit ≡ original_run p t q limit = λ t h. unreached p m p' t q limit y whole h in
     let timed_tests = timed tests (map (λ t. (original_run p t q limit).steps) tests) in
-    ap (λ o. option_map_or (judged m) (option_map (λ made. runs_on q made timed_tests) o) not_viable) accepted
+    ap (λ o. option_map_or (verdict_of_runs m) (option_map (λ made. runs_on q made timed_tests) o) not_viable) accepted
     ∙ ap (λ ns. verdict_by ns (killer (enumerate_from 0 (runs_on q p' timed_tests)))) (covering_is p m p' q limit same 0 tests alike)
     ∙ ap (verdict_by _) (killer_is p m p' q limit same 0 tests all)

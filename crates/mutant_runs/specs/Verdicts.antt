@@ -28,8 +28,8 @@ verdict_by (n ∷ ns) None = record { state = state.Survived; killer = None; cov
 verdict_by (n ∷ ns) (Some first) = record { state = first.1; killer = Some first.0; covering = n ∷ ns }
 
 -- The verdict by the runs of all tests, which are numbered from 0.
-unfoldable pub judged : Mutant → List Ran → Verdict
-judged m runs = verdict_by (covering m (enumerate_from 0 runs)) (killer (enumerate_from 0 runs))
+unfoldable pub verdict_of_runs : Mutant → List Ran → Verdict
+verdict_of_runs m runs = verdict_by (covering m (enumerate_from 0 runs)) (killer (enumerate_from 0 runs))
 
 -- The verdict on a mutant whose edited class has no layout or is refused: no test is run.
 abbrev pub not_viable : Verdict
@@ -40,4 +40,4 @@ abbrev pub mutant_runs : Limits → ClassFiles → Look → List Timed → Mutan
 mutant_runs q files p tests m = option_map (λ made. runs_on q made tests) (viable files p m)
 
 unfoldable pub verdict_of : Limits → ClassFiles → Look → List Timed → Mutant → Verdict
-verdict_of q files p tests m = option_map_or (judged m) (mutant_runs q files p tests m) not_viable
+verdict_of q files p tests m = option_map_or (verdict_of_runs m) (mutant_runs q files p tests m) not_viable

@@ -36,7 +36,7 @@ use Rattle.mutant_runs.specs.Needed.{up_to_detecting, needed_runs, needed_on, ne
 use Rattle.mutant_runs.specs.Programs.{files_of, edited, with_accepted, viable}
 use Rattle.mutant_runs.specs.Promises.{covering_at}
 use Rattle.mutant_runs.specs.Runs.{Timed, timed, mutant_run, runs_on, steps_in, is_at, reaches}
-use Rattle.mutant_runs.specs.Verdicts.{killer, verdict_by, judged, not_viable, verdict_of}
+use Rattle.mutant_runs.specs.Verdicts.{killer, verdict_by, verdict_of_runs, not_viable, verdict_of}
 use Rattle.mutant_laws.specs.Accepted.{IsSafe, IsSafeMutant, FitsProgram, ViableAreNeverStuck, SelectedAlwaysSuffice}
 use Rattle.mutant_laws.specs.Covered.{original_run, edited_run, NotStuckThere, ReachingIsAlike, runs_of}
 use Rattle.mutant_laws.specs.Edited.{IsMutated, ListedAreMutated}
@@ -205,11 +205,11 @@ module _ (mutated : ListedAreMutated) (reaching_law : ReachingIsAlike) (never : 
     unfolding verdict_picked steps_by needed_on verdict_of
     none_needed m ks none = record {
       verdict = ap (λ o. option_map_or (λ made. verdict_by ks (killer (runs_picked q made all_timed ks))) o not_viable) none
-          ∙ sym (ap (λ o. option_map_or (judged m) (option_map (λ made. runs_on q made all_timed) o) not_viable) none);
+          ∙ sym (ap (λ o. option_map_or (verdict_of_runs m) (option_map (λ made. runs_on q made all_timed) o) not_viable) none);
       steps = ap (λ o. option_map_or (λ made. steps_picked (runs_picked q made all_timed ks)) o 0) none
           ∙ sym (ap (λ o. option_map_or (λ runs. steps_in (needed_runs m runs)) (option_map (λ made. runs_on q made all_timed) o) 0) none);
       cells = ap (λ o. length (if is_some o then ks else [])) none
-          ∙ sym (ap (λ o. length (option_map_or (judged m) (option_map (λ made. runs_on q made all_timed) o) not_viable).covering) none);
+          ∙ sym (ap (λ o. length (option_map_or (verdict_of_runs m) (option_map (λ made. runs_on q made all_timed) o) not_viable).covering) none);
     }
 
     one_case : (m : Mutant) (listed : IsListed p m) (o : Option Look) → viable (files_of p) (look p) m ≡ o → IsNeeded q p all_timed (covering_tests q limit p m safe listed ts) m
