@@ -13,12 +13,12 @@ use Rattle.mutant_runs.specs.Programs.{files_of, viable, IsMutantOf}
 use Rattle.mutant_runs.specs.Promises.{AreViable, AreVerdicts, steps_for_all}
 use Rattle.mutator_ops.specs.declared.mutant.Mutant.{Mutant}
 use Rattle.mutator_ops.specs.declared.mutant.Verdict.{Verdict}
-use Rattle.needed_laws.specs.Tested.{ArePlaces, IsListed}
+use Rattle.needed_laws.specs.Tested.{ArePlaces, IsListed, IsPlace}
 use Rattle.test_select.specs.Cells.{cells}
 use Rattle.test_select.specs.declared.mutant.MutantPlace.{MutantPlace}
 use Rattle.class_table.specs.declared.scripted.Test.{Test}
-use Rattle.mutest_engine.specs.Mutation.{verdicts_by, few_cells, IsPlace, IsCellCount, AreCovered, cells_few_in, needed_in}
-use Rattle.mutest_engine.specs.Originals.{usual, original_steps}
+use Rattle.mutest_engine.specs.Mutation.{verdicts_by, refuse_many_cells, IsCellCount, AreCovered, cells_few_in, needed_in}
+use Rattle.mutest_engine.specs.Originals.{run_limits, original_steps}
 use Rattle.mutest_engine.specs.declared.refusal.Refusal.{Refusal}
 use Rattle.mutest_engine.specs.declared.stop.Stop.TheVariants as stop
 use Rattle.mutest_engine.proofs.CountLaws.{same_cells}
@@ -58,29 +58,29 @@ pub counted : (p : List Info) (ms : List Mutant) (bs : List Bool) (cover : Cover
 counted p ms bs cover places slice n is at count = (slice, subst (ArePlaces p ms) (sym is) at, count)
 
 -- The count says whether cells are few as the definition does.
-pub are_few : (p : List Info) (ts : List Test) (ms : List Mutant) (cover : Covered) (bs : List Bool) (count : ℕ) → AreCovered p ts ms cover → AreViable p ms bs → IsCellCount p ms bs cover count → few_cells count ≡ cells_few_in p ts ms
+pub are_few : (p : List Info) (ts : List Test) (ms : List Mutant) (cover : Covered) (bs : List Bool) (count : ℕ) → AreCovered p ts ms cover → AreViable p ms bs → IsCellCount p ms bs cover count → refuse_many_cells count ≡ cells_few_in p ts ms
 are_few p ts ms cover bs count covered told counted =
-    same_cells count (length (cells counted.0 bs cover)) counted.2 ∙ ap few_cells (covered.cells counted.0 bs counted.1 told)
+    same_cells count (length (cells counted.0 bs cover)) counted.2 ∙ ap refuse_many_cells (covered.cells counted.0 bs counted.1 told)
 
 -- The same with the program behind the call that tells which mutants are viable, and its answer as a slice.
-pub count_is : (p after : List Info) (ts : List Test) (ms : List Mutant) (cover : Covered) (bs told : List Bool) (count : ℕ) → after ≡ p → told ≡ bs → AreCovered p ts ms cover → AreViable p ms bs → IsCellCount after ms told cover count → few_cells count ≡ cells_few_in p ts ms
+pub count_is : (p after : List Info) (ts : List Test) (ms : List Mutant) (cover : Covered) (bs told : List Bool) (count : ℕ) → after ≡ p → told ≡ bs → AreCovered p ts ms cover → AreViable p ms bs → IsCellCount after ms told cover count → refuse_many_cells count ≡ cells_few_in p ts ms
 count_is p after ts ms cover bs told count same slice covered viable counted =
     are_few p ts ms cover bs count covered viable
     (subst (λ l. IsCellCount p ms l cover count) slice (subst (λ (q : List Info). IsCellCount q ms told cover count) same counted))
 
-pub are_refused : (p : List Info) (ts : List Test) (ms : List Mutant) (count : ℕ) (r told : Refusal) → few_cells count ≡ cells_few_in p ts ms → Err r ≡ few_cells count → stop.Refused r ≡ stop.Refused told → cells_few_in p ts ms ≡ Err told
+pub are_refused : (p : List Info) (ts : List Test) (ms : List Mutant) (count : ℕ) (r told : Refusal) → refuse_many_cells count ≡ cells_few_in p ts ms → Err r ≡ refuse_many_cells count → stop.Refused r ≡ stop.Refused told → cells_few_in p ts ms ≡ Err told
 are_refused p ts ms count r told is many e =
     let same : r ≡ told = cc in
     sym is ∙ sym many ∙ ap (λ x. Err x) same
 
 -- ---- the runs on mutants
 
-pub verdicts_are : (p after : List Info) (ts : List Test) (steps : List ℕ) (ms : List Mutant) (cover : Covered) (vs : List Verdict) → after ≡ p → steps ≡ original_steps (look p) ts → AreCovered p ts ms cover → AreVerdicts usual after ts steps cover ms vs
+pub verdicts_are : (p after : List Info) (ts : List Test) (steps : List ℕ) (ms : List Mutant) (cover : Covered) (vs : List Verdict) → after ≡ p → steps ≡ original_steps (look p) ts → AreCovered p ts ms cover → AreVerdicts run_limits after ts steps cover ms vs
     → verdicts_by (files_of p) (look p) ts ms ≡ vs
 verdicts_are p after ts steps ms cover vs same counts covered told =
     covered.verdicts
-    ∙ sym (subst (λ ns. AreVerdicts usual p ts ns cover ms vs) counts (subst (λ (q : List Info). AreVerdicts usual q ts steps cover ms vs) same told))
+    ∙ sym (subst (λ ns. AreVerdicts run_limits p ts ns cover ms vs) counts (subst (λ (q : List Info). AreVerdicts run_limits q ts steps cover ms vs) same told))
 
-pub steps_are : (p after : List Info) (ts : List Test) (steps : List ℕ) (ms : List Mutant) (cover : Covered) → after ≡ p → steps ≡ original_steps (look p) ts → AreCovered p ts ms cover → steps_for_all usual after ts steps cover ms ≡ needed_in p ts ms
+pub steps_are : (p after : List Info) (ts : List Test) (steps : List ℕ) (ms : List Mutant) (cover : Covered) → after ≡ p → steps ≡ original_steps (look p) ts → AreCovered p ts ms cover → steps_for_all run_limits after ts steps cover ms ≡ needed_in p ts ms
 steps_are p after ts steps ms cover same counts covered =
-    ap (λ (q : List Info). steps_for_all usual q ts steps cover ms) same ∙ ap (λ ns. steps_for_all usual p ts ns cover ms) counts ∙ covered.steps
+    ap (λ (q : List Info). steps_for_all run_limits q ts steps cover ms) same ∙ ap (λ ns. steps_for_all run_limits p ts ns cover ms) counts ∙ covered.steps

@@ -4,7 +4,7 @@ mod CountLaws
 mod Ends
 mod FaultLaws
 mod FitLaws
-mod JudgeLaws
+mod MutationLaws
 mod MadeLaws
 mod NeededLaws
 mod NumberLaws

@@ -20,7 +20,7 @@ use Rattle.needed_laws.specs.Suites.{SuitesAreSafe, FoundTestsFit}
 use Rattle.needed_laws.specs.Tested.{AreNeeded, CoveringTestsAreNeeded}
 use Rattle.program_rules.specs.Programs.{Look}
 use Rattle.mutest_engine.specs.Mutation.{verdicts_by, AreCovered, SuitesAreCovered}
-use Rattle.mutest_engine.specs.Originals.{usual, original_run, run_ending, run_settled, settled, with_first, all_settled, all_passed, green, AreMeasured, IsRunOf, MeasuresRun}
+use Rattle.mutest_engine.specs.Originals.{run_limits, original_run, run_ending, run_failure, failure_of, with_first, failures_of, all_passed, originals_pass, AreMeasured, IsRunOf, MeasuresRun}
 use Rattle.mutest_engine.specs.Steps.{and_then}
 use Rattle.mutest_engine.specs.declared.refusal.Refusal.{Refusal}
 
@@ -42,7 +42,7 @@ unfolding AreMeasured
 none_measured p cover h = record { runs = []; covers = h; reached = tt }
 
 abbrev Reaches : List Info → Test → List (ClassId × ℕ) → Type 0
-Reaches p t run = map (λ x. named p (x.0.0, x.1)) run ≡ (run_on p t usual 10000000).reached
+Reaches p t run = map (λ x. named p (x.0.0, x.1)) run ≡ (run_on p t run_limits 10000000).reached
 
 reached : (p : List Info) (t : Test) (r : RunResult) → IsRunOf p t r → Reaches p t r.reached
 unfolding original_run
@@ -81,7 +81,7 @@ measured_more p ts i t old new lt is adds h = subst (λ l. AreMeasured p l new) 
 abbrev Told : Type 0
 Told = List ℕ × Outcome
 
-passed : (t : Test) (e : Ending) → settled t e ≡ Ok None → e ≡ With outcome.Passed
+passed : (t : Test) (e : Ending) → failure_of t e ≡ Ok None → e ≡ With outcome.Passed
 passed t (With outcome.Passed) h = refl
 passed t (With outcome.Failed) h = absurd cc
 passed t (With outcome.TimedOut) h = absurd cc
@@ -94,10 +94,10 @@ none_told (Ok (Some x)) (Ok others) h = absurd cc
 none_told (Ok o) (Err q) h = absurd cc
 none_told (Err q) b h = absurd cc
 
-each_passed : (p : Look) (ts : List Test) → all_settled p ts ≡ Ok [] → AllByRecursion (λ t. run_ending p t ≡ With outcome.Passed) ts
+each_passed : (p : Look) (ts : List Test) → failures_of p ts ≡ Ok [] → AllByRecursion (λ t. run_ending p t ≡ With outcome.Passed) ts
 each_passed p [] h = tt
 each_passed p (t ∷ ts) h =
-    let both = none_told (run_settled p t) (all_settled p ts) h in
+    let both = none_told (run_failure p t) (failures_of p ts) h in
     (passed t (run_ending p t) both.0, each_passed p ts both.1)
 
 none_failed : (r : Result (List Told) Refusal) → and_then r all_passed ≡ Ok tt → r ≡ Ok []
@@ -105,13 +105,13 @@ none_failed (Ok []) h = refl
 none_failed (Ok (x ∷ xs)) h = absurd cc
 none_failed (Err q) h = absurd cc
 
-all_pass : (p : List Info) (ts : List Test) → green (look p) ts ≡ Ok tt → AllPass p usual 10000000 ts
+all_pass : (p : List Info) (ts : List Test) → originals_pass (look p) ts ≡ Ok tt → AllPass p run_limits 10000000 ts
 unfolding original_run
-all_pass p ts h = All-from_recursion (λ t. run_ending (look p) t ≡ With outcome.Passed) ts (each_passed (look p) ts (none_failed (all_settled (look p) ts) h))
+all_pass p ts h = All-from_recursion (λ t. run_ending (look p) t ≡ With outcome.Passed) ts (each_passed (look p) ts (none_failed (failures_of (look p) ts) h))
 
 -- ---- the tests that cover a mutant
 
-covered : (p : List Info) (ts : List Test) (ms : List Mutant) (cover : Covered) → AreNeeded p usual 10000000 ts ms cover → AreCovered p ts ms cover
+covered : (p : List Info) (ts : List Test) (ms : List Mutant) (cover : Covered) → AreNeeded p run_limits 10000000 ts ms cover → AreCovered p ts ms cover
 unfolding original_run verdicts_by
 covered p ts ms cover h = record { verdicts = h.verdicts; steps = h.steps; cells = h.cells }
 
@@ -119,7 +119,7 @@ pub suites_are_covered : SuitesAreSafe → FoundTestsFit → CoveringTestsAreNee
 unfolding AreMeasured
 suites_are_covered are_safe fit needed p ts ms cover suite ok measured =
     let both = are_safe suite.classes p suite.program in
-    covered p ts ms cover (needed p usual 10000000 ts ms cover (record {
+    covered p ts ms cover (needed p run_limits 10000000 ts ms cover (record {
       safe = both.0;
       whole = both.1;
       fits = fit suite.classes p suite.most suite.names ts suite.program suite.found;

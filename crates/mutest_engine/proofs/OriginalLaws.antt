@@ -12,12 +12,12 @@ use Rattle.machine_rules.specs.Runs.{Ending, With, StuckAt, Ran, then_run, run_f
 use Rattle.class_table.specs.declared.scripted.Test.{Test}
 use Rattle.jvm_world.specs.View.{test_of}
 use Rattle.mutest_engine.specs.Steps.{and_then}
-use Rattle.mutest_engine.specs.Originals.{usual, original_run, run_ending, run_steps, settled, run_settled, with_first, all_settled, unless_stuck, steps_made}
+use Rattle.mutest_engine.specs.Originals.{run_limits, original_run, run_ending, run_steps, failure_of, run_failure, with_first, failures_of, unless_stuck, steps_made}
 use Rattle.mutest_engine.specs.declared.refusal.Refusal.{Refusal}
 
 -- ---- one run
 
-original_is : (p : Look) (t : Test) → run_of p (test_of t) usual 10000000 ≡ original_run p t
+original_is : (p : Look) (t : Test) → run_of p (test_of t) run_limits 10000000 ≡ original_run p t
 unfolding original_run
 original_is p t = refl
 
@@ -34,7 +34,7 @@ pub of_most : (p : Look) (q : Limits) (t : Test) (limit : ℕ) → (run_of p (te
 of_most p q t limit = let most = run_most p q limit (start p (test_of t)) 0 in omega (arith, most)
 
 pub original_most : (p : Look) (t : Test) → (original_run p t).steps ≤ 10000000
-original_most p t = rw (sym (original_is p t)) (of_most p usual t 10000000)
+original_most p t = rw (sym (original_is p t)) (of_most p run_limits t 10000000)
 
 pub at_most : (a b : ℕ) → a ≡ b → a ≤ b
 at_most a b e = omega (arith, e)
@@ -52,7 +52,7 @@ made_most p (t ∷ ts) =
     let rest = unless_most (original_run p t).ending (steps_made p ts) (length ts * 10000000) (made_most p ts) in
     omega (arith, first, rest)
 
-stuck_steps : (t : Test) (e : Ending) (s : Refusal) (n : ℕ) → settled t e ≡ Err s → unless_stuck e n ≡ 0
+stuck_steps : (t : Test) (e : Ending) (s : Refusal) (n : ℕ) → failure_of t e ≡ Err s → unless_stuck e n ≡ 0
 stuck_steps t (With outcome.Passed) s n h = absurd cc
 stuck_steps t (With outcome.Failed) s n h = absurd cc
 stuck_steps t (With outcome.TimedOut) s n h = absurd cc
@@ -82,19 +82,19 @@ told_by old ended (Ok others) = ap (λ l. Ok l) (noted old ended others)
 told_by old ended (Err q) = refl
 
 pub told_more : (p : Look) (ts : List Test) (i : ℕ) (t : Test) (old new : List Told) (ended : Option Told) (all : Result (List Told) Refusal) → i < length ts → t ≡ get_or ts i t
-    → new ≡ old ++ with_first ended [] → run_settled p t ≡ Ok ended → with_values old (all_settled p (drop i ts)) ≡ all → with_values new (all_settled p (drop (i + 1) ts)) ≡ all
+    → new ≡ old ++ with_first ended [] → run_failure p t ≡ Ok ended → with_values old (failures_of p (drop i ts)) ≡ all → with_values new (failures_of p (drop (i + 1) ts)) ≡ all
 told_more p ts i t old new ended all lt e is ok so_far =
-    ap (λ l. with_values l (all_settled p (drop (i + 1) ts))) is
-    ∙ sym (told_by old ended (all_settled p (drop (i + 1) ts)))
-    ∙ ap (λ (x : Result (Option Told) Refusal). with_values old (and_then x (λ first. and_then (all_settled p (drop (i + 1) ts)) (λ others. Ok (with_first first others))))) (sym ok)
-    ∙ ap (λ l. with_values old (all_settled p l)) (sym (at_item p ts i t lt e))
+    ap (λ l. with_values l (failures_of p (drop (i + 1) ts))) is
+    ∙ sym (told_by old ended (failures_of p (drop (i + 1) ts)))
+    ∙ ap (λ (x : Result (Option Told) Refusal). with_values old (and_then x (λ first. and_then (failures_of p (drop (i + 1) ts)) (λ others. Ok (with_first first others))))) (sym ok)
+    ∙ ap (λ l. with_values old (failures_of p l)) (sym (at_item p ts i t lt e))
     ∙ so_far
 
-unstuck : (t : Test) (e : Ending) (o : Option Told) (n : ℕ) → settled t e ≡ Ok o → unless_stuck e n ≡ n
+unstuck : (t : Test) (e : Ending) (o : Option Told) (n : ℕ) → failure_of t e ≡ Ok o → unless_stuck e n ≡ n
 unstuck t (With outcome) o n h = refl
 unstuck t (StuckAt place) o n h = absurd cc
 
-pub steps_more : (p : Look) (ts : List Test) (i : ℕ) (t : Test) (part new total : ℕ) (ended : Option Told) → i < length ts → t ≡ get_or ts i t → new ≡ part + run_steps p t → run_settled p t ≡ Ok ended
+pub steps_more : (p : Look) (ts : List Test) (i : ℕ) (t : Test) (part new total : ℕ) (ended : Option Told) → i < length ts → t ≡ get_or ts i t → new ≡ part + run_steps p t → run_failure p t ≡ Ok ended
     → part + steps_made p (drop i ts) ≡ total → new + steps_made p (drop (i + 1) ts) ≡ total
 steps_more p ts i t part new total ended lt e here ok so_far =
     let whole : part + (run_steps p t + unless_stuck (run_ending p t) (steps_made p (drop (i + 1) ts))) ≡ total = ap (λ l. part + steps_made p l) (sym (at_item p ts i t lt e)) ∙ so_far in
@@ -102,16 +102,16 @@ steps_more p ts i t part new total ended lt e here ok so_far =
     omega (arith, here, whole, rest)
 
 -- A run that is stuck is told in place of all.
-pub told_end : (p : Look) (ts : List Test) (i : ℕ) (t : Test) (old : List Told) (all : Result (List Told) Refusal) (r : Refusal) → i < length ts → t ≡ get_or ts i t → run_settled p t ≡ Err r
-    → with_values old (all_settled p (drop i ts)) ≡ all → all ≡ Err r
+pub told_end : (p : Look) (ts : List Test) (i : ℕ) (t : Test) (old : List Told) (all : Result (List Told) Refusal) (r : Refusal) → i < length ts → t ≡ get_or ts i t → run_failure p t ≡ Err r
+    → with_values old (failures_of p (drop i ts)) ≡ all → all ≡ Err r
 told_end p ts i t old all r lt e stuck so_far =
     sym so_far
-    ∙ ap (λ l. with_values old (all_settled p l)) (at_item p ts i t lt e)
-    ∙ ap (λ (x : Result (Option Told) Refusal). with_values old (and_then x (λ first. and_then (all_settled p (drop (i + 1) ts)) (λ others. Ok (with_first first others))))) stuck
+    ∙ ap (λ l. with_values old (failures_of p l)) (at_item p ts i t lt e)
+    ∙ ap (λ (x : Result (Option Told) Refusal). with_values old (and_then x (λ first. and_then (failures_of p (drop (i + 1) ts)) (λ others. Ok (with_first first others))))) stuck
 
 -- The steps that are counted where a run ends all.
 pub exact_end : (p : Look) (ts : List Test) (i : ℕ) (t : Test) (part new total : ℕ) (r : Refusal) → i < length ts → t ≡ get_or ts i t → part + steps_made p (drop i ts) ≡ total
-    → settled t (original_run p t).ending ≡ Err r → new ≡ part + (original_run p t).steps → new ≡ total
+    → failure_of t (original_run p t).ending ≡ Err r → new ≡ part + (original_run p t).steps → new ≡ total
 exact_end p ts i t part new total r lt e so_far stuck here =
     let none = stuck_steps t (original_run p t).ending r (steps_made p (drop (suc i) ts)) stuck in
     let whole : part + ((original_run p t).steps + unless_stuck (original_run p t).ending (steps_made p (drop (suc i) ts))) ≡ total = ap (λ l. part + steps_made p l) (sym (drop_at ts i t lt e)) ∙ so_far in

@@ -15,9 +15,9 @@ use Rattle.mutest_engine.specs.Steps.{and_then}
 use Rattle.suite_program.specs.Faults as program_faults
 use Rattle.suite_program.specs.Programs.{classes_in, class_file, names_in}
 use Rattle.suite_program.specs.declared.fault.ProgramFault.{ProgramFault}
-use Rattle.mutest_engine.specs.Originals.{test_text, all_classes, unless_fault, accepted, settled, run_ending, run_settled, all_settled, all_passed, green}
-use Rattle.mutest_engine.specs.Discovered.{or_bad_test, few_of, few_tests, few_found, tests_named, tests_of}
-use Rattle.mutest_engine.specs.Mutation.{few_mutants, verdicts_by, cells_in, few_cells, testable, tested, judged, linked, suite_files, program, mutants_of}
+use Rattle.mutest_engine.specs.Originals.{test_text, all_classes, unless_fault, accepted, failure_of, run_ending, run_failure, failures_of, all_passed, originals_pass}
+use Rattle.mutest_engine.specs.Discovered.{or_bad_test, few_of, refuse_many_tests, few_found, tests_named, tests_of}
+use Rattle.mutest_engine.specs.Mutation.{refuse_many_mutants, verdicts_by, cells_in, refuse_many_cells, testable, tested, report_input, linked, suite_files, program, mutants_of}
 use Rattle.class_model.specs.declared.class.Class.{Class}
 use Rattle.class_link.specs.Info.{own_name}
 use Rattle.test_discovery.specs.declared.fault.Rule.{Rule}
@@ -48,35 +48,35 @@ no_ok x r P h = absurd cc
 abbrev pub IsOfRuns : Refusal → Type 0
 IsOfRuns r = IsOfSuite r × (IsBeforeRuns r → ⊥)
 
-of_settled : (t : Test) (e : Ending) (r : Refusal) → settled t e ≡ Err r → IsOfRuns r
+of_settled : (t : Test) (e : Ending) (r : Refusal) → failure_of t e ≡ Err r → IsOfRuns r
 of_settled t (With outcome.Passed) r h = absurd cc
 of_settled t (With outcome.Failed) r h = absurd cc
 of_settled t (With outcome.TimedOut) r h = absurd cc
 of_settled t (With outcome.MemoryOut) r h = absurd cc
 of_settled t (StuckAt place) r h = let e : MachineCheck (test_text t) place.class place.method place.at ≡ r = cc in subst IsOfRuns e (tt, λ before. before)
 
-of_all : (p : Look) (ts : List Test) (r : Refusal) → all_settled p ts ≡ Err r → IsOfRuns r
+of_all : (p : Look) (ts : List Test) (r : Refusal) → failures_of p ts ≡ Err r → IsOfRuns r
 of_all p [] r h = absurd cc
 of_all p (t ∷ ts) r h =
-    and_err (run_settled p t) _ r IsOfRuns (of_settled t (run_ending p t) r)
-    (λ first rest. and_err (all_settled p ts) _ r IsOfRuns (of_all p ts r) (λ others none. no_ok _ r (IsOfRuns r) none) rest) h
+    and_err (run_failure p t) _ r IsOfRuns (of_settled t (run_ending p t) r)
+    (λ first rest. and_err (failures_of p ts) _ r IsOfRuns (of_all p ts r) (λ others none. no_ok _ r (IsOfRuns r) none) rest) h
 
 of_passed : (tests : List (List ℕ × Outcome)) (r : Refusal) → all_passed tests ≡ Err r → IsOfRuns r
 of_passed [] r h = absurd cc
 of_passed (t ∷ ts) r h = let e : NotGreen (t ∷ ts) ≡ r = cc in subst IsOfRuns e (tt, λ before. before)
 
-of_green : (p : Look) (ts : List Test) (r : Refusal) → green p ts ≡ Err r → IsOfRuns r
-of_green p ts r h = and_err (all_settled p ts) all_passed r IsOfRuns (of_all p ts r) (λ tests. of_passed tests r) h
+of_green : (p : Look) (ts : List Test) (r : Refusal) → originals_pass p ts ≡ Err r → IsOfRuns r
+of_green p ts r h = and_err (failures_of p ts) all_passed r IsOfRuns (of_all p ts r) (λ tests. of_passed tests r) h
 
 too_many_cells : {X : Type 0} (b : Bool) (x : X) (r : Refusal) → (if b then Err (TooMany limit.Cells 4194305) else Ok x) ≡ Err r → IsOfRuns r
 too_many_cells true x r h = let e : TooMany limit.Cells 4194305 ≡ r = cc in subst IsOfRuns e (refl, λ before. before)
 too_many_cells false x r h = absurd cc
 
-of_cells : (count : ℕ) (r : Refusal) → few_cells count ≡ Err r → IsOfRuns r
+of_cells : (count : ℕ) (r : Refusal) → refuse_many_cells count ≡ Err r → IsOfRuns r
 of_cells count r h = too_many_cells (nat_lt 4194304 count) tt r h
 
 pub of_testable : (files : ClassFiles) (p : Look) (ts : List Test) (ms : List Mutant) (r : Refusal) → testable files p ts ms ≡ Err r → IsOfRuns r
-of_testable files p ts ms r h = and_err (green p ts) _ r IsOfRuns (of_green p ts r) (λ ok. of_cells (cells_in (verdicts_by files p ts ms)) r) h
+of_testable files p ts ms r h = and_err (originals_pass p ts) _ r IsOfRuns (of_green p ts r) (λ ok. of_cells (cells_in (verdicts_by files p ts ms)) r) h
 
 -- ---- before them
 
@@ -119,7 +119,7 @@ of_fault (Some f) ts r told h = let e : BadTest f ≡ r = cc in subst IsOfSuite 
 of_found_tests : (found : List (List Class)) (r : Refusal) → few_found (tests_among found) ≡ Err r → IsOfSuite r
 of_found_tests found r h =
     and_err (or_bad_test (tests_among found)) few_of r IsOfSuite (of_fault (first_fault class_fault found) (flat_map tests_in_class found) r (first_told class_fault found class_told))
-    (λ ts. and_err (few_tests (length ts)) _ r IsOfSuite (over (nat_lt 65535 (length ts)) limit.Tests 65536 tt r refl) (λ ok none. no_ok _ r (IsOfSuite r) none)) h
+    (λ ts. and_err (refuse_many_tests (length ts)) _ r IsOfSuite (over (nat_lt 65535 (length ts)) limit.Tests 65536 tt r refl) (λ ok none. no_ok _ r (IsOfSuite r) none)) h
 
 of_tests : (most : ℕ) (files : Files) (ns : List Name) (r : Refusal) → tests_named most files ns ≡ Err r → IsOfSuite r
 unfolding tests_named
@@ -128,7 +128,7 @@ of_tests most files ns r h = of_found_tests (risings most files (in_order ns)) r
 of_tested : (files : ClassFiles) (p : Look) (ts : List Test) (ms : List Mutant) (r : Refusal) → tested files p ts ms ≡ Err r → IsOfSuite r
 unfolding tested
 of_tested files p ts ms r h =
-    and_err (few_mutants (length ms)) _ r IsOfSuite (over (nat_lt 262144 (length ms)) limit.Mutants 262145 tt r refl)
+    and_err (refuse_many_mutants (length ms)) _ r IsOfSuite (over (nat_lt 262144 (length ms)) limit.Mutants 262145 tt r refl)
     (λ ok rest. and_err (testable files p ts ms) _ r IsOfSuite (λ is. (of_testable files p ts ms r is).0) (λ ok none. no_ok _ r (IsOfSuite r) none) rest) h
 
 of_fault_found : (o : Option ProgramFault) (r : Refusal) → unless_fault o ≡ Err r → IsOfSuite r
@@ -138,8 +138,8 @@ of_fault_found (Some f) r h = let e : BadProgram f ≡ r = cc in subst IsOfSuite
 of_accepted : (classes : List Class) (r : Refusal) → accepted classes ≡ Err r → IsOfSuite r
 of_accepted classes r h = of_fault_found (program_faults.first_fault classes) r h
 
-pub of_judged : (s : LoadedSuite) (r : Refusal) → judged s ≡ Err r → IsOfSuite r
-of_judged s r h =
+pub of_report_input : (s : LoadedSuite) (r : Refusal) → report_input s ≡ Err r → IsOfSuite r
+of_report_input s r h =
     and_err (linked s) _ r IsOfSuite (of_accepted (classes_in (all_classes s)) r)
     (λ ok. and_err (tests_of s) _ r IsOfSuite (of_tests (length (names_in (classes_in (all_classes s)))) (class_file (classes_in (all_classes s))) (map own_name (classes_in s.tests)) r)
     (λ ts. of_tested (suite_files s) (program s) ts (mutants_of s) r)) h

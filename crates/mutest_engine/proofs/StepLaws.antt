@@ -17,8 +17,8 @@ use Rattle.mutant_runs.specs.Programs.{ClassFiles, files_of, viable}
 use Rattle.mutant_runs.specs.Needed.{up_to_detecting, needed_runs, needed_on, needed_of_all}
 use Rattle.mutant_runs.specs.Runs.{timed, mutant_run, runs_on, steps_in, reaches, detected, most_steps}
 use Rattle.mutest_engine.specs.Steps.{and_then}
-use Rattle.mutest_engine.specs.Originals.{usual, original_steps, green, green_steps, steps_made}
-use Rattle.mutest_engine.specs.Mutation.{timed_tests, verdicts_by, cells_in, few_cells, testable, if_so, all_steps, verdicts_in, steps_on_all, cells_few_in, covered_in, needed_in, covered_steps_in}
+use Rattle.mutest_engine.specs.Originals.{run_limits, original_steps, originals_pass, steps_if_passed, steps_made}
+use Rattle.mutest_engine.specs.Mutation.{timed_tests, verdicts_by, cells_in, refuse_many_cells, testable, if_so, all_steps, verdicts_in, steps_on_all, cells_few_in, covered_in, needed_in, covered_steps_in}
 use Rattle.mutest_engine.specs.declared.refusal.Refusal.{Refusal}
 use Rattle.mutest_engine.proofs.OriginalLaws.{of_most, original_most, made_most}
 
@@ -118,9 +118,9 @@ pub all_most : (files : ClassFiles) (p : Look) (ts : List Test) (ms : List Mutan
 unfolding all_steps
 all_most files p ts ms tests mutants =
     let originals = made_most p ts in
-    let others = all_mutants_most usual files p ts (original_steps p ts) ms (few_by_test p ts) tests in
-    let some : needed_of_all usual files p (timed_tests p ts) ms ≤ 216463048704000000 = omega (arith, others, mutants) in
-    let rest = if_so_most (testable files p ts ms) (needed_of_all usual files p (timed_tests p ts) ms) 216463048704000000 some in
+    let others = all_mutants_most run_limits files p ts (original_steps p ts) ms (few_by_test p ts) tests in
+    let some : needed_of_all run_limits files p (timed_tests p ts) ms ≤ 216463048704000000 = omega (arith, others, mutants) in
+    let rest = if_so_most (testable files p ts ms) (needed_of_all run_limits files p (timed_tests p ts) ms) 216463048704000000 some in
     omega (arith, originals, tests, rest)
 
 pub originals_most : (files : ClassFiles) (p : Look) (ts : List Test) (ms : List Mutant) → steps_made p ts ≤ all_steps files p ts ms
@@ -133,12 +133,12 @@ not_green : {X : Type 0} (r : Result (Unit {0}) Refusal) (x : X) (s : Refusal) �
 not_green (Ok ok) x s h = absurd cc
 not_green (Err e) x s h = cc
 
-not_testable : (files : ClassFiles) (p : Look) (ts : List Test) (ms : List Mutant) (r : Refusal) → green_steps p ts ≡ Err r → testable files p ts ms ≡ Err r
+not_testable : (files : ClassFiles) (p : Look) (ts : List Test) (ms : List Mutant) (r : Refusal) → steps_if_passed p ts ≡ Err r → testable files p ts ms ≡ Err r
 not_testable files p ts ms r is =
-    ap (λ (g : Result (Unit {0}) Refusal). and_then g (λ ok. few_cells (cells_in (verdicts_by files p ts ms)))) (not_green (green p ts) (original_steps p ts) r is)
+    ap (λ (g : Result (Unit {0}) Refusal). and_then g (λ ok. refuse_many_cells (cells_in (verdicts_by files p ts ms)))) (not_green (originals_pass p ts) (original_steps p ts) r is)
 
 -- No verdict is told.
-pub no_verdicts : (p : List Info) (ts : List Test) (ms : List Mutant) (r : Refusal) → green_steps (look p) ts ≡ Err r → verdicts_in p ts ms ≡ Err r
+pub no_verdicts : (p : List Info) (ts : List Test) (ms : List Mutant) (r : Refusal) → steps_if_passed (look p) ts ≡ Err r → verdicts_in p ts ms ≡ Err r
 no_verdicts p ts ms r is =
     ap (λ (g : Result (Unit {0}) Refusal). and_then g (λ ok. Ok (verdicts_by (files_of p) (look p) ts ms))) (not_testable (files_of p) (look p) ts ms r is)
 
@@ -147,10 +147,10 @@ nothing_more (Ok ok) s n h = absurd cc
 nothing_more (Err e) s n h = refl
 
 -- The steps that are counted then.
-pub originals_end : (files : ClassFiles) (p : Look) (ts : List Test) (ms : List Mutant) (part : ℕ) (r : Refusal) → green_steps p ts ≡ Err r → part ≡ steps_made p ts → part ≡ all_steps files p ts ms
+pub originals_end : (files : ClassFiles) (p : Look) (ts : List Test) (ms : List Mutant) (part : ℕ) (r : Refusal) → steps_if_passed p ts ≡ Err r → part ≡ steps_made p ts → part ≡ all_steps files p ts ms
 unfolding all_steps
 originals_end files p ts ms part r is made =
-    let none = nothing_more (testable files p ts ms) r (needed_of_all usual files p (timed_tests p ts) ms) (not_testable files p ts ms r is) in
+    let none = nothing_more (testable files p ts ms) r (needed_of_all run_limits files p (timed_tests p ts) ms) (not_testable files p ts ms r is) in
     omega (arith, made, none)
 
 -- ---- where all tests pass on the program as it is
@@ -159,20 +159,20 @@ green_then : {X : Type 0} (r : Result (Unit {0}) Refusal) (x y : X) → and_then
 green_then (Ok ok) x y h = (refl, cc)
 green_then (Err e) x y h = absurd cc
 
-pub is_green : (p : Look) (ts : List Test) (counts : List ℕ) → green_steps p ts ≡ Ok counts → green p ts ≡ Ok tt
-is_green p ts counts h = (green_then (green p ts) (original_steps p ts) counts h).0
+pub is_green : (p : Look) (ts : List Test) (counts : List ℕ) → steps_if_passed p ts ≡ Ok counts → originals_pass p ts ≡ Ok tt
+is_green p ts counts h = (green_then (originals_pass p ts) (original_steps p ts) counts h).0
 
 -- The counts that these runs give.
-pub counts_are : (p : Look) (ts : List Test) (counts : List ℕ) → green_steps p ts ≡ Ok counts → original_steps p ts ≡ counts
-counts_are p ts counts h = (green_then (green p ts) (original_steps p ts) counts h).1
+pub counts_are : (p : Look) (ts : List Test) (counts : List ℕ) → steps_if_passed p ts ≡ Ok counts → original_steps p ts ≡ counts
+counts_are p ts counts h = (green_then (originals_pass p ts) (original_steps p ts) counts h).1
 
 -- The steps of all runs, and the verdicts.
-pub steps_then : (p : List Info) (ts : List Test) (ms : List Mutant) → green (look p) ts ≡ Ok tt → steps_made (look p) ts + covered_steps_in p ts ms ≡ steps_on_all p ts ms
+pub steps_then : (p : List Info) (ts : List Test) (ms : List Mutant) → originals_pass (look p) ts ≡ Ok tt → steps_made (look p) ts + covered_steps_in p ts ms ≡ steps_on_all p ts ms
 unfolding all_steps
 steps_then p ts ms ok =
     ap (λ (g : Result (Unit {0}) Refusal). steps_made (look p) ts + if_so (and_then g (λ ok. cells_few_in p ts ms)) (needed_in p ts ms)) (sym ok)
 
-pub verdicts_then : (p : List Info) (ts : List Test) (ms : List Mutant) → green (look p) ts ≡ Ok tt → covered_in p ts ms ≡ verdicts_in p ts ms
+pub verdicts_then : (p : List Info) (ts : List Test) (ms : List Mutant) → originals_pass (look p) ts ≡ Ok tt → covered_in p ts ms ≡ verdicts_in p ts ms
 verdicts_then p ts ms ok =
     ap (λ (g : Result (Unit {0}) Refusal). and_then (and_then g (λ ok. cells_few_in p ts ms)) (λ ok. Ok (verdicts_by (files_of p) (look p) ts ms))) (sym ok)
 

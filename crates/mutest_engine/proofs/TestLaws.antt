@@ -18,7 +18,7 @@ use Rattle.mutest_engine.specs.Steps.{and_then, Refuses}
 use Rattle.mutest_engine.specs.Numbers.{numbers_from, numbers_of}
 use Rattle.suite_program.specs.Programs.{classes_in, class_file, names_in}
 use Rattle.mutest_engine.specs.Originals.{all_classes}
-use Rattle.mutest_engine.specs.Discovered.{IsStopOfTest, few_tests, few_found, tests_named, tests_of, tests_from}
+use Rattle.mutest_engine.specs.Discovered.{IsStopOfTest, refuse_many_tests, few_found, tests_named, tests_of, tests_from}
 use Rattle.mutest_engine.specs.declared.suite.LoadedSuite.{LoadedSuite}
 use Rattle.mutest_engine.specs.declared.refusal.Limit.TheVariants as limit
 use Rattle.mutest_engine.specs.declared.refusal.Refusal.{Refusal}
@@ -62,11 +62,11 @@ by_fault found (fault.BadTest class method rule) s told is = λ r e. told_as fou
 by_fault found (fault.RunnerUsed class) s told is = λ r e. told_as found (fault.RunnerUsed class) s r (is (λ q. absurd cc)) told e
 by_fault found fault.Memory s told is = λ r e. let both : stop.WantOfMemory ≡ stop.Refused r = sym told ∙ e in absurd cc
 
-many : (found : Result (List Test) TestFault) (n : ℕ) (r : Refusal) → counted found ≡ Ok n → few_tests n ≡ Err r → few_found found ≡ Err r
+many : (found : Result (List Test) TestFault) (n : ℕ) (r : Refusal) → counted found ≡ Ok n → refuse_many_tests n ≡ Err r → few_found found ≡ Err r
 many (Ok ts) n r h is = let e : n ≡ u64_saturate (length ts) = cc in ap (λ (x : Result (Unit {0}) Refusal). and_then x (λ few. Ok ts)) (sym (same_tests n (length ts) e) ∙ is)
 many (Err f) n r h is = absurd cc
 
-few : (found : Result (List Test) TestFault) (ts : List Test) (n : ℕ) (u : Unit {0}) → counted found ≡ Ok n → few_tests n ≡ Ok u → found ≡ Ok ts → few_found found ≡ Ok ts
+few : (found : Result (List Test) TestFault) (ts : List Test) (n : ℕ) (u : Unit {0}) → counted found ≡ Ok n → refuse_many_tests n ≡ Ok u → found ≡ Ok ts → few_found found ≡ Ok ts
 few found ts n u h is found_is =
     let both : counted (Ok ts) ≡ Ok n = ap counted (sym found_is) ∙ h in
     let e : n ≡ u64_saturate (length ts) = cc in
@@ -79,12 +79,12 @@ module _ (p : List Info) (ids : List ClassId) (first count : ℕ) (are : numbers
   pub tests_refused : (f : TestFault) (s : Stop) → IsStopOfTest f s → (f ≢ fault.Memory → program_tests p ids ≡ Err f) → Refuses (λ r. tests_from p first count ≡ Err r) s
   tests_refused f s told is = λ r e. sym (found_by p ids first count are) ∙ by_fault (program_tests p ids) f s told is r e
 
-  pub too_many_tests : (n : ℕ) (r told : Refusal) → counted (program_tests p ids) ≡ Ok n → Err r ≡ few_tests n → stop.Refused r ≡ stop.Refused told → tests_from p first count ≡ Err told
+  pub too_many_tests : (n : ℕ) (r told : Refusal) → counted (program_tests p ids) ≡ Ok n → Err r ≡ refuse_many_tests n → stop.Refused r ≡ stop.Refused told → tests_from p first count ≡ Err told
   too_many_tests n r told h is e =
       let same : r ≡ told = cc in
       sym (found_by p ids first count are) ∙ many (program_tests p ids) n r h (sym is) ∙ ap (λ x. Err x) same
 
-  pub few_tests_found : (ts : List Test) (n : ℕ) (u : Unit {0}) → counted (program_tests p ids) ≡ Ok n → Ok u ≡ few_tests n → program_tests p ids ≡ Ok ts → tests_from p first count ≡ Ok ts
+  pub few_tests_found : (ts : List Test) (n : ℕ) (u : Unit {0}) → counted (program_tests p ids) ≡ Ok n → Ok u ≡ refuse_many_tests n → program_tests p ids ≡ Ok ts → tests_from p first count ≡ Ok ts
   few_tests_found ts n u h is found = sym (found_by p ids first count are) ∙ few (program_tests p ids) ts n u h (sym is) found
 
 -- ---- a suite

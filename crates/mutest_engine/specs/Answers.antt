@@ -21,7 +21,8 @@ pub record Write : Type 0 where
   pub path : List ℕ
   pub bytes : List ℕ
 
--- What a command does where nothing fails: the files that it replaces, in order, and then the text that it puts.
+-- What a command does where nothing fails: the files that it replaces, in order, and then the text
+-- that it puts.
 pub record Answered : Type 0 where
   pub writes : List Write
   pub text : List ℕ
@@ -47,12 +48,12 @@ made a = (answered a).writes
 
 -- ---- files
 
--- a file has at most 4,194,304 bytes
-abbrev pub few_bytes : ℕ → Result (Unit {0}) Refusal
-few_bytes count = if nat_lt 4194304 count then Err (TooMany limit.Class count) else Ok tt
+-- a file of more than 4,194,304 bytes is refused
+abbrev pub refuse_long_file : ℕ → Result (Unit {0}) Refusal
+refuse_long_file count = if nat_lt 4194304 count then Err (TooMany limit.Class count) else Ok tt
 
 abbrev pub within_limit : List ℕ → Result (List ℕ) Refusal
-within_limit bytes = and_then (few_bytes (length bytes)) (λ few. Ok bytes)
+within_limit bytes = and_then (refuse_long_file (length bytes)) (λ few. Ok bytes)
 
 abbrev pub held_at : List ℕ → Option (List ℕ) → Result (List ℕ) Refusal
 held_at path None = Err (NotFound path)

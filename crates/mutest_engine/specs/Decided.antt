@@ -1,4 +1,5 @@
--- What the words of the command line and the files that are held decide: each command's answer, and the steps that it takes (this project's own).
+-- What the words of the command line and the files that are held decide: each command's answer, and
+-- the steps that it takes (this project's own).
 use Rattle.std.specs.Prelude.{◌≡◌, ℕ, List, [], ◌∷◌, Result, Ok, Err}
 use Rattle.class_model.specs.declared.class.Class.{Class}
 use Rattle.class_reader.specs.Spells.{class_bytes, IsClass}
@@ -11,13 +12,13 @@ use Rattle.mutator_ops.specs.Printing.{id_lines}
 use Rattle.report_schema.specs.Report.{ReportText}
 use Rattle.report_schema.specs.Summary.{Summary}
 use Rattle.report_schema.specs.declared.input.ReportInput.{ReportInput}
-use Rattle.mutest_words.specs.Words.{Command, list_class, run_suite, assemble_class, AsmOptions, RunOptions, run_asked}
+use Rattle.mutest_words.specs.Words.{Command, list_class, run_suite, assemble_class, AsmOptions, RunOptions, as_run_options}
 use Rattle.mutest_engine.specs.Words.{words_of}
 use Rattle.mutest_engine.specs.Answers.{Answered, file_of, spelled_class}
 use Rattle.mutest_engine.specs.Refusals.{MayRefuse}
 use Rattle.mutest_engine.specs.Steps.{and_then}
 use Rattle.mutest_engine.specs.SuiteFiles.{suite_of}
-use Rattle.mutest_engine.specs.Mutation.{judged, suite_steps}
+use Rattle.mutest_engine.specs.Mutation.{report_input, suite_steps}
 use Rattle.mutest_words.specs.declared.command.RunOptions.{RunOptions as FoundRun}
 use Rattle.mutest_engine.specs.declared.answer.Product.TheVariants.{Report, Assembled}
 use Rattle.mutest_engine.specs.declared.suite.LoadedSuite.{LoadedSuite}
@@ -45,7 +46,7 @@ report_answer path input = record {
 abbrev pub run_answer : RunOptions → Files → Result Answered Refusal
 run_answer options files =
     and_then (suite_of options.classes options.tests files) (λ loaded.
-    and_then (judged loaded) (λ input. Ok (report_answer options.report input)))
+    and_then (report_input loaded) (λ input. Ok (report_answer options.report input)))
 
 -- The class that a text states, or its first line at fault. Want of memory is no fault of a text.
 abbrev pub or_refused : Result Class AsmFault → Result Class Refusal
@@ -88,11 +89,12 @@ abbrev pub IsAssembledTo : List ℕ → List ℕ → Type 0
 IsAssembledTo text bytes =
     (class : Class) × (AssembledClass text ≡ Ok class) × IsClass class × (bytes ≡ class_bytes class)
 
--- The answer is that of some class, of some suite whose tests pass, or of some text that states a class.
+-- The answer is that of some class, of some suite whose tests pass, or of some text that states a
+-- class.
 abbrev pub CanAnswer : Command → Answered → Type 0
 CanAnswer (list_class path) a = (class : Class) × (a ≡ listing class)
 CanAnswer (run_suite options) a =
-    (s : LoadedSuite) × (input : ReportInput) × (judged s ≡ Ok input)
+    (s : LoadedSuite) × (input : ReportInput) × (report_input s ≡ Ok input)
     × (a ≡ report_answer options.report input)
 CanAnswer (assemble_class options) a =
     (text : List ℕ) × (class : Class) × (AssembledClass text ≡ Ok class) × IsClass class
@@ -113,8 +115,8 @@ steps_with (Err refusal) = 0
 abbrev pub steps_of_run : RunOptions → Files → ℕ
 steps_of_run options files = steps_with (suite_of options.classes options.tests files)
 
-abbrev pub steps_asked : FoundRun → Files → ℕ
-steps_asked options files = steps_of_run (run_asked options) files
+abbrev pub steps_of_options : FoundRun → Files → ℕ
+steps_of_options options files = steps_of_run (as_run_options options) files
 
 -- The steps of the runs that a command makes.
 abbrev pub steps_to : Result Command Refusal → Files → ℕ

@@ -33,12 +33,12 @@ abbrev pub IsStopOfTest : TestFault → Stop → Type 0
 IsStopOfTest fault.Memory s = s ≡ stop.WantOfMemory
 IsStopOfTest f s = s ≡ stop.Refused (BadTest f)
 
--- So many tests are at most 65,535.
-abbrev pub few_tests : ℕ → Result (Unit {0}) Refusal
-few_tests count = if nat_lt 65535 count then Err (TooMany limit.Tests 65536) else Ok tt
+-- More than 65,535 tests are refused.
+abbrev pub refuse_many_tests : ℕ → Result (Unit {0}) Refusal
+refuse_many_tests count = if nat_lt 65535 count then Err (TooMany limit.Tests 65536) else Ok tt
 
 abbrev pub few_of : List Test → Result (List Test) Refusal
-few_of tests = and_then (few_tests (length tests)) (λ few. Ok tests)
+few_of tests = and_then (refuse_many_tests (length tests)) (λ few. Ok tests)
 
 -- What a search found: a fault of a class is told before their number.
 abbrev pub few_found : Result (List Test) TestFault → Result (List Test) Refusal

@@ -1,9 +1,10 @@
--- How a call may end: each status with its number and its line, when it comes, what it leaves in the sink and in the tree, and the meter (this project's own).
+-- How a call may end: each status with its number and its line, when it comes, what it leaves in
+-- the sink and in the tree, and the meter (this project's own).
 use Rattle.std.specs.Prelude.{◌≡◌, ◌⊎◌, ℕ, ◌+◌, ◌≤◌, List, [], ◌∷◌, Option, IfSome, Result, Ok, Err, MatchResult, ◌++◌, map, option_map, codes}
 use Rattle.mutest_words.specs.Words.{Command}
 use Rattle.mutest_engine.specs.Answers.{Answered, Write, answered, write_of}
 use Rattle.mutest_engine.specs.Refusals.{MayRefuse, refusal_line, refusal_number}
-use Rattle.mutest_engine.specs.Decided.{CanAnswer, steps_asked, steps_of}
+use Rattle.mutest_engine.specs.Decided.{CanAnswer, steps_of_options, steps_of}
 use Rattle.mutest_engine.specs.Mutation.{Stays}
 use Rattle.mutest_engine.specs.Steps.{Failed, ReadsBy, RefusesReading}
 use Rattle.mt_edge.specs.Files.{Files}
@@ -104,7 +105,8 @@ CarriedOut a WantOfMemory = Unit {0}
 
 -- ---- the status
 
--- The status is the stated one. In its place there may be a fault of reading or want of memory, and a fault of writing where the command is carried out.
+-- The status is the stated one. In its place there may be a fault of reading or want of memory, and
+-- a fault of writing where the command is carried out.
 abbrev pub Agrees : Result Answered Refusal → Status → Type 0
 Agrees (Ok a) (ReadFault faults) = Unit {0}
 Agrees (Ok a) s = CarriedOut a s
@@ -141,12 +143,14 @@ MayAnswer command result =
 
 abbrev pub AnswersUntold : Result Command Refusal → Result Answer Halt → Type 0
 AnswersUntold words result =
-    MatchResult result (λ a. (command : Command) × (words ≡ Ok command) × CanAnswer command (answered a))
+    MatchResult result
+    (λ a. (command : Command) × (words ≡ Ok command) × CanAnswer command (answered a))
     (HaltsUntold words)
 
 -- ---- faults
 
--- A fault comes only where calls of its kind failed, and they are as many as are told, by the object's count before and after: reading of the tree,
+-- A fault comes only where calls of its kind failed, and they are as many as are told, by the
+-- object's count before and after: reading of the tree,
 abbrev pub ReadsFailed : ℕ → ℕ → Status → Type 0
 ReadsFailed before after (ReadFault faults) = Failed before after faults
 ReadsFailed before after s = Unit {0}
@@ -163,7 +167,8 @@ PutsFailed before after s = Unit {0}
 
 -- ---- the meter
 
--- The meter rose by exactly these steps. A fault of reading comes before all runs, and memory may run out before or among them.
+-- The meter rose by exactly these steps. A fault of reading comes before all runs, and memory may
+-- run out before or among them.
 abbrev pub MeterRose : ℕ → ℕ → ℕ → Status → Type 0
 MeterRose before after steps (ReadFault faults) = after ≡ before
 MeterRose before after steps WantOfMemory = (before ≤ after) × (after ≤ before + steps)
@@ -189,7 +194,8 @@ HaltStays before after h =
     × ((faults : ℕ) → h ≡ halt.ReadFault faults → after ≡ before)
 
 -- What a step answers, where these are the files that the tree tells.
-abbrev pub AnswersHeld : Option Files → (Files → Result Answered Refusal) → Result Answer Halt → Type 0
+abbrev pub AnswersHeld :
+    Option Files → (Files → Result Answered Refusal) → Result Answer Halt → Type 0
 AnswersHeld held stated result = IfSome held (λ files. ReadsBy answered (stated files) result)
 
 abbrev pub AnswerMeters : ℕ → ℕ → ℕ → Result Answer Halt → Type 0
@@ -202,7 +208,8 @@ MetersHeld held before after steps result =
 
 -- the same of a suite, and of what the words ask for
 abbrev pub MetersRun : Option Files → ℕ → ℕ → FoundRun → Result Answer Halt → Type 0
-MetersRun held before after options result = MetersHeld held before after (steps_asked options) result
+MetersRun held before after options result =
+    MetersHeld held before after (steps_of_options options) result
 
 abbrev pub MetersWords : Option Files → ℕ → ℕ → List (List ℕ) → Result Answer Halt → Type 0
 MetersWords held before after words result = MetersHeld held before after (steps_of words) result
@@ -237,14 +244,16 @@ HalfTold [] before after = ⊥
 HalfTold (w ∷ ws) before after =
     GrowsBy before after (line_of (WriteFault (File w.product) 1)) ⊎ HalfTold ws before after
 
--- a text was broken off, where there is one, and behind it there may be a beginning of the line of a failed output
+-- a text was broken off, where there is one, and behind it there may be a beginning of the line of
+-- a failed output
 abbrev pub BrokenOff : List ℕ → Option (List ℕ) → Option (List ℕ) → Type 0
 BrokenOff [] before after = ⊥
 BrokenOff (byte ∷ bytes) before after =
     Broken before after (byte ∷ bytes) (line_of (WriteFault Text 1))
 
--- Memory ran out: a beginning of what would have been said. That is the text of the command, with the line of a failed output behind it; the line of a file that couldn't be replaced; that of the stated
--- refusal; or that of a fault of reading.
+-- Memory ran out: a beginning of what would have been said. That is the text of the command, with
+-- the line of a failed output behind it; the line of a file that couldn't be replaced; that of the
+-- stated refusal; or that of a fault of reading.
 abbrev pub Interrupted : Result Answered Refusal → Option (List ℕ) → Option (List ℕ) → Type 0
 Interrupted (Ok a) before after =
     BrokenOff a.text before after
@@ -252,8 +261,8 @@ Interrupted (Ok a) before after =
 Interrupted (Err r) before after =
     GrowsBy before after (refusal_line r) ⊎ GrowsBy before after (line_of (ReadFault 1))
 
--- What a status leaves in the sink where this answer is stated. A failed output leaves a beginning of
--- the text before its line; a file that couldn't be replaced leaves its line alone.
+-- What a status leaves in the sink where this answer is stated. A failed output leaves a beginning
+-- of the text before its line; a file that couldn't be replaced leaves its line alone.
 abbrev pub PrintsAnswer : ℕ → ℕ → Option (List ℕ) → Option (List ℕ) → Answered → Status → Type 0
 PrintsAnswer put0 put1 before after a Done = Grows before after a.text
 PrintsAnswer put0 put1 before after a (Refused r) = ⊥

@@ -1,12 +1,13 @@
--- The mutants of a suite, every test on every mutant, and what is written of them (this project's own).
-use Rattle.std.specs.Prelude.{◌≡◌, ℕ, ◌+◌, ◌≤◌, nat_lt, List, [], map, length, sum_by, Bool, All, Some, Result, Ok, Err, if◌then◌else◌}
+-- The mutants of a suite, every test on every mutant, and what is written of them (this project's
+-- own).
+use Rattle.std.specs.Prelude.{◌≡◌, ℕ, ◌+◌, ◌≤◌, nat_lt, List, [], map, length, sum_by, Bool, All, Result, Ok, Err, if◌then◌else◌}
 use Rattle.std.specs.Io.Iter.{u64_saturate}
 use Rattle.class_model.specs.declared.class.Class.{Class}
 use Rattle.class_model.specs.declared.class.ClassId.{ClassId}
 use Rattle.program_rules.specs.Names.{Name}
 use Rattle.program_rules.specs.Programs.{Look}
 use Rattle.class_link.specs.Info.{Info}
-use Rattle.class_table.specs.Table.{look, number_of}
+use Rattle.class_table.specs.Table.{look}
 use Rattle.class_table.specs.declared.scripted.Test.{Test}
 use Rattle.line_coverage.specs.Coverage.{Covered}
 use Rattle.test_discovery.specs.Discovery.{Tests}
@@ -28,7 +29,7 @@ use Rattle.mutest_engine.specs.Refusals.{IsBeforeRuns}
 use Rattle.mutest_engine.specs.Steps.{and_then, Counts}
 use Rattle.mutest_engine.specs.Numbers.{numbers_from, numbers_of}
 use Rattle.suite_program.specs.Programs.{classes_in, class_file, program_of}
-use Rattle.mutest_engine.specs.Originals.{all_classes, accepted, usual, green, original_steps, steps_made, AreMeasured}
+use Rattle.mutest_engine.specs.Originals.{all_classes, accepted, run_limits, originals_pass, original_steps, steps_made, AreMeasured}
 use Rattle.mutest_engine.specs.Discovered.{tests_of}
 use Rattle.mutest_engine.specs.declared.suite.LoadedSuite.{LoadedSuite}
 use Rattle.mutest_engine.specs.declared.refusal.Refusal.{Refusal}
@@ -47,14 +48,15 @@ AreFirstMutants p count ms =
 abbrev pub mutants_of : LoadedSuite → List Mutant
 mutants_of s = mutants_among (classes_in s.classes)
 
--- So many mutants are at most 262,144.
-abbrev pub few_mutants : ℕ → Result (Unit {0}) Refusal
-few_mutants count = if nat_lt 262144 count then Err (TooMany limit.Mutants 262145) else Ok tt
+-- More than 262,144 mutants are refused.
+abbrev pub refuse_many_mutants : ℕ → Result (Unit {0}) Refusal
+refuse_many_mutants count =
+    if nat_lt 262144 count then Err (TooMany limit.Mutants 262145) else Ok tt
 
 -- The first class files of a program have too many mutants.
 abbrev pub HasTooMany : List Info → ℕ → Refusal → Type 0
 HasTooMany p count r =
-    (ms : List Mutant) × AreFirstMutants p count ms × (few_mutants (length ms) ≡ Err r)
+    (ms : List Mutant) × AreFirstMutants p count ms × (refuse_many_mutants (length ms) ≡ Err r)
 
 -- ---- every test on every mutant
 
@@ -71,25 +73,26 @@ timed_tests p ts = timed ts (original_steps p ts)
 
 -- The verdict on each mutant, by a run of each test on it.
 unfoldable pub verdicts_by : ClassFiles → Look → List Test → List Mutant → List Verdict
-verdicts_by files p ts ms = map (verdict_of usual files p (timed_tests p ts)) ms
+verdicts_by files p ts ms = map (verdict_of run_limits files p (timed_tests p ts)) ms
 
 -- The cells are the mutants that are viable with the tests that cover them: one for each covering
 -- test of each verdict.
 abbrev pub cells_in : List Verdict → ℕ
 cells_in verdicts = sum_by (λ v. length v.covering) verdicts
 
--- So many cells are at most 4,194,304.
-abbrev pub few_cells : ℕ → Result (Unit {0}) Refusal
-few_cells count = if nat_lt 4194304 count then Err (TooMany limit.Cells 4194305) else Ok tt
+-- More than 4,194,304 cells are refused.
+abbrev pub refuse_many_cells : ℕ → Result (Unit {0}) Refusal
+refuse_many_cells count = if nat_lt 4194304 count then Err (TooMany limit.Cells 4194305) else Ok tt
 
 -- All tests pass on the program as it is, and there are not too many cells.
 abbrev pub testable : ClassFiles → Look → List Test → List Mutant → Result (Unit {0}) Refusal
 testable files p ts ms =
-    and_then (green p ts) (λ ok. few_cells (cells_in (verdicts_by files p ts ms)))
+    and_then (originals_pass p ts) (λ ok. refuse_many_cells (cells_in (verdicts_by files p ts ms)))
 
 -- The verdicts, where it is so.
-abbrev pub green_verdicts : ClassFiles → Look → List Test → List Mutant → Result (List Verdict) Refusal
-green_verdicts files p ts ms =
+abbrev pub verdicts_if_passed :
+    ClassFiles → Look → List Test → List Mutant → Result (List Verdict) Refusal
+verdicts_if_passed files p ts ms =
     and_then (testable files p ts ms) (λ ok. Ok (verdicts_by files p ts ms))
 
 abbrev pub if_so : Result (Unit {0}) Refusal → ℕ → ℕ
@@ -102,11 +105,12 @@ if_so (Err refusal) steps = 0
 unfoldable pub all_steps : ClassFiles → Look → List Test → List Mutant → ℕ
 all_steps files p ts ms =
     steps_made p ts
-    + if_so (testable files p ts ms) (needed_of_all usual files p (timed_tests p ts) ms)
+    + if_so (testable files p ts ms) (needed_of_all run_limits files p (timed_tests p ts) ms)
 
 -- ---- the tests and mutants of a program
 
--- What the report is made of. Each mutant has a key, by its class; no test has one, and no source is read yet.
+-- What the report is made of. Each mutant has a key, by its class; no test has one, and no source
+-- is read yet.
 abbrev pub input_of : List Test → List Mutant → List Verdict → ReportInput
 input_of ts ms verdicts = record {
   mutants = ms;
@@ -121,12 +125,12 @@ input_of ts ms verdicts = record {
 -- or there are too many cells.
 unfoldable pub tested : ClassFiles → Look → List Test → List Mutant → Result ReportInput Refusal
 tested files p ts ms =
-    and_then (few_mutants (length ms)) (λ ok.
+    and_then (refuse_many_mutants (length ms)) (λ ok.
     and_then (testable files p ts ms) (λ ok. Ok (input_of ts ms (verdicts_by files p ts ms))))
 
 -- The steps of the runs that are needed.
 unfoldable pub tested_steps : ClassFiles → Look → List Test → List Mutant → ℕ
-tested_steps files p ts ms = if_so (few_mutants (length ms)) (all_steps files p ts ms)
+tested_steps files p ts ms = if_so (refuse_many_mutants (length ms)) (all_steps files p ts ms)
 
 -- ---- a suite
 
@@ -135,8 +139,8 @@ abbrev pub linked : LoadedSuite → Result (Unit {0}) Refusal
 linked s = accepted (classes_in (all_classes s))
 
 -- What is reported of a suite. Its tests are looked for once its classes are a program.
-abbrev pub judged : LoadedSuite → Result ReportInput Refusal
-judged s =
+abbrev pub report_input : LoadedSuite → Result ReportInput Refusal
+report_input s =
     and_then (linked s) (λ ok.
     and_then (tests_of s) (λ ts. tested (suite_files s) (program s) ts (mutants_of s)))
 
@@ -154,7 +158,7 @@ suite_steps s =
 -- ---- of a program by its classes' numbers
 
 abbrev pub verdicts_in : List Info → List Test → List Mutant → Result (List Verdict) Refusal
-verdicts_in p ts ms = green_verdicts (files_of p) (look p) ts ms
+verdicts_in p ts ms = verdicts_if_passed (files_of p) (look p) ts ms
 
 abbrev pub steps_on_all : List Info → List Test → List Mutant → ℕ
 steps_on_all p ts ms = all_steps (files_of p) (look p) ts ms
@@ -162,14 +166,14 @@ steps_on_all p ts ms = all_steps (files_of p) (look p) ts ms
 -- Where all tests pass: the verdicts, unless there are too many cells, and the steps of the runs
 -- that mutants need.
 abbrev pub cells_few_in : List Info → List Test → List Mutant → Result (Unit {0}) Refusal
-cells_few_in p ts ms = few_cells (cells_in (verdicts_by (files_of p) (look p) ts ms))
+cells_few_in p ts ms = refuse_many_cells (cells_in (verdicts_by (files_of p) (look p) ts ms))
 
 abbrev pub covered_in : List Info → List Test → List Mutant → Result (List Verdict) Refusal
 covered_in p ts ms =
     and_then (cells_few_in p ts ms) (λ ok. Ok (verdicts_by (files_of p) (look p) ts ms))
 
 abbrev pub needed_in : List Info → List Test → List Mutant → ℕ
-needed_in p ts ms = needed_of_all usual (files_of p) (look p) (timed_tests (look p) ts) ms
+needed_in p ts ms = needed_of_all run_limits (files_of p) (look p) (timed_tests (look p) ts) ms
 
 abbrev pub covered_steps_in : List Info → List Test → List Mutant → ℕ
 covered_steps_in p ts ms = if_so (cells_few_in p ts ms) (needed_in p ts ms)
@@ -197,10 +201,10 @@ pub record AreOfSuite (p : List Info) (ts : List Test) (ms : List Mutant) : Type
 pub record AreCovered (p : List Info) (ts : List Test) (ms : List Mutant) (cover : Covered) :
     Type 0 where
   pub verdicts :
-      AreVerdicts usual p ts (original_steps (look p) ts) cover ms
+      AreVerdicts run_limits p ts (original_steps (look p) ts) cover ms
       (verdicts_by (files_of p) (look p) ts ms)
   pub steps :
-      steps_for_all usual p ts (original_steps (look p) ts) cover ms ≡ needed_in p ts ms
+      steps_for_all run_limits p ts (original_steps (look p) ts) cover ms ≡ needed_in p ts ms
   pub cells :
       (places : List MutantPlace) (bs : List Bool) → ArePlaces p ms places → AreViable p ms bs →
       length (cells places bs cover) ≡ cells_in (verdicts_by (files_of p) (look p) ts ms)
@@ -209,12 +213,8 @@ pub record AreCovered (p : List Info) (ts : List Test) (ms : List Mutant) (cover
 abbrev pub SuitesAreCovered : Type 0
 SuitesAreCovered =
     (p : List Info) (ts : List Test) (ms : List Mutant) (cover : Covered) →
-    AreOfSuite p ts ms → green (look p) ts ≡ Ok tt → AreMeasured p ts cover →
+    AreOfSuite p ts ms → originals_pass (look p) ts ≡ Ok tt → AreMeasured p ts cover →
     AreCovered p ts ms cover
-
--- The place of a mutant is its class by number, and its line.
-abbrev pub IsPlace : List Info → Mutant → MutantPlace → Type 0
-IsPlace p m place = (number_of p m.class ≡ Some place.class.0) × (place.line ≡ m.line)
 
 -- So many cells there are by the mutants' places, or 2^64 - 1 where they are more.
 abbrev pub IsCellCount : List Info → List Mutant → List Bool → Covered → ℕ → Type 0

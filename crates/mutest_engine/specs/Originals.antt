@@ -1,4 +1,5 @@
--- Whether the classes of a suite are a program, and the runs of tests on the program as it is (this project's own).
+-- Whether the classes of a suite are a program, and the runs of tests on the program as it is (this
+-- project's own).
 use Rattle.std.specs.Prelude.{◌≡◌, ℕ, ◌+◌, List, [], ◌∷◌, ◌++◌, codes, map, Option, Some, None, Result, Ok, Err}
 use Rattle.class_model.specs.declared.class.Class.{Class}
 use Rattle.machine_rules.specs.declared.machine.Limits.{Limits}
@@ -50,12 +51,12 @@ IsStopOfProgram end.Memory s = s ≡ stop.WantOfMemory
 -- ---- the original runs
 
 -- What a run may use: 4,194,304 words of heap and 1,024 frames.
-abbrev pub usual : Limits
-usual = record { heap = 4194304; depth = 1024 }
+abbrev pub run_limits : Limits
+run_limits = record { heap = 4194304; depth = 1024 }
 
 -- The run of a test on the program as it is, of 10,000,000 steps at most.
 unfoldable pub original_run : Look → Test → Ran
-original_run p t = run_of p (test_of t) usual 10000000
+original_run p t = run_of p (test_of t) run_limits 10000000
 
 abbrev pub run_ending : Look → Test → Ending
 run_ending p t = (original_run p t).ending
@@ -67,44 +68,45 @@ run_steps p t = (original_run p t).steps
 abbrev pub test_text : Test → List ℕ
 test_text t = printed t.class ++ codes "." ++ printed t.method
 
--- What is told of a test whose run came to this end: nothing where it passed, its outcome, or where the machine is stuck.
-abbrev pub settled : Test → Ending → Result (Option (List ℕ × Outcome)) Refusal
-settled t (With outcome.Passed) = Ok None
-settled t (With outcome.Failed) = Ok (Some (test_text t, outcome.Failed))
-settled t (With outcome.TimedOut) = Ok (Some (test_text t, outcome.TimedOut))
-settled t (With outcome.MemoryOut) = Ok (Some (test_text t, outcome.MemoryOut))
-settled t (StuckAt place) = Err (MachineCheck (test_text t) place.class place.method place.at)
+-- What is told of a test whose run came to this end: nothing where it passed, its outcome, or where
+-- the machine is stuck.
+abbrev pub failure_of : Test → Ending → Result (Option (List ℕ × Outcome)) Refusal
+failure_of t (With outcome.Passed) = Ok None
+failure_of t (With outcome.Failed) = Ok (Some (test_text t, outcome.Failed))
+failure_of t (With outcome.TimedOut) = Ok (Some (test_text t, outcome.TimedOut))
+failure_of t (With outcome.MemoryOut) = Ok (Some (test_text t, outcome.MemoryOut))
+failure_of t (StuckAt place) = Err (MachineCheck (test_text t) place.class place.method place.at)
 
 -- the same of its run on the program as it is
-abbrev pub run_settled : Look → Test → Result (Option (List ℕ × Outcome)) Refusal
-run_settled p t = settled t (run_ending p t)
+abbrev pub run_failure : Look → Test → Result (Option (List ℕ × Outcome)) Refusal
+run_failure p t = failure_of t (run_ending p t)
 
 abbrev pub with_first : {X : Type 0} → Option X → List X → List X
 with_first None xs = xs
 with_first (Some x) xs = x ∷ xs
 
 -- The tests that didn't pass, or the first one that is stuck.
-abbrev pub all_settled : Look → List Test → Result (List (List ℕ × Outcome)) Refusal
-all_settled p [] = Ok []
-all_settled p (t ∷ ts) =
-    and_then (run_settled p t) (λ first.
-    and_then (all_settled p ts) (λ others. Ok (with_first first others)))
+abbrev pub failures_of : Look → List Test → Result (List (List ℕ × Outcome)) Refusal
+failures_of p [] = Ok []
+failures_of p (t ∷ ts) =
+    and_then (run_failure p t) (λ first.
+    and_then (failures_of p ts) (λ others. Ok (with_first first others)))
 
 abbrev pub all_passed : List (List ℕ × Outcome) → Result (Unit {0}) Refusal
 all_passed [] = Ok tt
 all_passed (test ∷ tests) = Err (NotGreen (test ∷ tests))
 
 -- All tests pass on the program as it is.
-abbrev pub green : Look → List Test → Result (Unit {0}) Refusal
-green p ts = and_then (all_settled p ts) all_passed
+abbrev pub originals_pass : Look → List Test → Result (Unit {0}) Refusal
+originals_pass p ts = and_then (failures_of p ts) all_passed
 
 -- The steps of each test's run on the program as it is.
 abbrev pub original_steps : Look → List Test → List ℕ
 original_steps p ts = map (run_steps p) ts
 
 -- The same, where all tests pass.
-abbrev pub green_steps : Look → List Test → Result (List ℕ) Refusal
-green_steps p ts = and_then (green p ts) (λ ok. Ok (original_steps p ts))
+abbrev pub steps_if_passed : Look → List Test → Result (List ℕ) Refusal
+steps_if_passed p ts = and_then (originals_pass p ts) (λ ok. Ok (original_steps p ts))
 
 -- No test is run behind one that is stuck.
 abbrev pub unless_stuck : Ending → ℕ → ℕ
@@ -124,7 +126,7 @@ IsRunOf p t r = map (named p) (pairs_of r) ≡ (original_run (look p) t).reached
 
 -- The coverage is that of these tests' runs on the program as it is.
 unfoldable pub AreMeasured : List Info → List Test → Covered → Type 0
-AreMeasured p ts cover = IsMeasured p usual 10000000 ts cover
+AreMeasured p ts cover = IsMeasured p run_limits 10000000 ts cover
 
 -- The run of one test more is counted in the coverage.
 abbrev pub MeasuresRun : List Info → Test → Covered → Covered → Type 0

@@ -1,4 +1,5 @@
--- What is promised of a tree and of a sink, by what is told of them before and after (this project's own).
+-- What is promised of a tree and of a sink, by what is told of them before and after (this
+-- project's own).
 use Rattle.std.specs.Prelude.{◌≡◌, ◌⊎◌, ℕ, ◌+◌, List, Option, Some, IfSome, Result, Ok, MatchResult}
 use Rattle.std.specs.Global.{Vec, Global}
 use Rattle.std.specs.declared.string.String.{String}

@@ -1,4 +1,5 @@
--- What is told of each refusal, its number and its line, and which command it may refuse (this project's own).
+-- What is told of each refusal, its number and its line, and which command it may refuse (this
+-- project's own).
 use Rattle.std.specs.Prelude.{◌≡◌, ℕ, ◌<◌, List, [], ◌++◌, codes, decimal, Err}
 use Rattle.program_rules.specs.Names.{Name}
 use Rattle.mutator_ops.specs.Printing.{printed}

@@ -1,4 +1,5 @@
--- What the steps of a call answer: their result, or a refusal that the words and the files decide (this project's own).
+-- What the steps of a call answer: their result, or a refusal that the words and the files decide
+-- (this project's own).
 use Rattle.std.specs.Prelude.{◌≡◌, ℕ, ◌+◌, ◌-◌, ◌^◌, ◌<◌, ◌≤◌, min, Option, IfSome, IfErr, Result, Ok, Err, MatchResult}
 use Rattle.mt_edge.specs.Files.{Files}
 use Rattle.mutest_engine.specs.declared.refusal.Refusal.{Refusal}
@@ -20,7 +21,8 @@ Refuses P s = (r : Refusal) → s ≡ stop.Refused r → P r
 
 -- The result is the stated one, seen by `view`, or the refusal is, unless memory ran out.
 abbrev pub GivesBy : {X Y : Type 0} → (X → Y) → Result Y Refusal → Result X Stop → Type 0
-GivesBy view stated result = MatchResult result (λ x. stated ≡ Ok (view x)) (Refuses (λ r. stated ≡ Err r))
+GivesBy view stated result =
+    MatchResult result (λ x. stated ≡ Ok (view x)) (Refuses (λ r. stated ≡ Err r))
 
 abbrev pub Gives : {X : Type 0} → Result X Refusal → Result X Stop → Type 0
 Gives stated result = MatchResult result (λ x. stated ≡ Ok x) (Refuses (λ r. stated ≡ Err r))
@@ -45,7 +47,8 @@ IsNoFault h = (faults : ℕ) → h ≡ halt.ReadFault faults → ⊥
 abbrev pub RefusesReading : (Refusal → Type 0) → Halt → Type 0
 RefusesReading P h = (r : Refusal) → h ≡ halt.Refused r → P r
 
--- The result is the stated one, seen by `view`, or the refusal is, unless a call of the tree failed or memory ran out.
+-- The result is the stated one, seen by `view`, or the refusal is, unless a call of the tree failed
+-- or memory ran out.
 abbrev pub ReadsBy : {X Y : Type 0} → (X → Y) → Result Y Refusal → Result X Halt → Type 0
 ReadsBy view stated result =
     MatchResult result (λ x. stated ≡ Ok (view x)) (RefusesReading (λ r. stated ≡ Err r))
@@ -54,7 +57,8 @@ abbrev pub Reads : {X : Type 0} → Result X Refusal → Result X Halt → Type 
 Reads stated result = MatchResult result (λ x. stated ≡ Ok x) (RefusesReading (λ r. stated ≡ Err r))
 
 -- The same of what the files decide that a tree tells to hold.
-abbrev pub ReadsHeld : {X : Type 0} → Option Files → (Files → Result X Refusal) → Result X Halt → Type 0
+abbrev pub ReadsHeld :
+    {X : Type 0} → Option Files → (Files → Result X Refusal) → Result X Halt → Type 0
 ReadsHeld held stated result = IfSome held (λ files. Reads (stated files) result)
 
 -- A step halts with no other refusal than the stated one.
@@ -65,7 +69,8 @@ HaltsHeld held stated h = IfSome held (λ files. RefusesReading (λ r. stated fi
 abbrev pub Failed : ℕ → ℕ → ℕ → Type 0
 Failed before now faults = (0 < faults) × (min (before + faults) (2 ^ 64 - 1) ≤ now)
 
--- Where calls of the tree are told to have failed, they did, by its count of faults before and after.
+-- Where calls of the tree are told to have failed, they did, by its count of faults before and
+-- after.
 abbrev pub FailsReading : ℕ → ℕ → Halt → Type 0
 FailsReading before now h = (faults : ℕ) → h ≡ halt.ReadFault faults → Failed before now faults
 

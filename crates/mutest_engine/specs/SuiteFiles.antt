@@ -1,4 +1,5 @@
--- What the command `run` reads: the class files of two folders, in the order in which refusals come (this project's own).
+-- What the command `run` reads: the class files of two folders, in the order in which refusals come
+-- (this project's own).
 use Rattle.std.specs.Prelude.{ℕ, ◌+◌, List, [], ◌∷◌, Bool, nat_lt, ◌==◌, if◌then◌else◌, length, filter, sum_by, codes, map, string_bytes, All, Option, IfSome, Result, Ok, Err}
 use Rattle.std.specs.Global.{Vec, Global}
 use Rattle.std.specs.declared.string.String.{String}
@@ -32,15 +33,16 @@ is_class_path path = ends_in path (codes ".class")
 abbrev pub class_paths : List (List ℕ) → List (List ℕ)
 class_paths paths = filter is_class_path paths
 
--- So many class files are at most 20,000.
-abbrev pub few_classes : ℕ → Result (Unit {0}) Refusal
-few_classes count = if nat_lt 20000 count then Err (TooMany limit.Classes 20001) else Ok tt
+-- More than 20,000 class files are refused.
+abbrev pub refuse_many_classes : ℕ → Result (Unit {0}) Refusal
+refuse_many_classes count = if nat_lt 20000 count then Err (TooMany limit.Classes 20001) else Ok tt
 
 -- the class files among the paths of both folders
 abbrev pub both_of : List (List ℕ) → List (List ℕ) → Result (List (List ℕ) × List (List ℕ)) Refusal
 both_of classes tests =
-    and_then (few_classes (length (class_paths classes) + length (class_paths tests))) (λ few.
-    Ok (class_paths classes, class_paths tests))
+    and_then
+    (refuse_many_classes (length (class_paths classes) + length (class_paths tests)))
+    (λ few. Ok (class_paths classes, class_paths tests))
 
 -- the class files of both folders, each folder's in the order of their paths
 abbrev pub both_listed : List ℕ → List ℕ → Files → Result (List (List ℕ) × List (List ℕ)) Refusal
@@ -124,9 +126,11 @@ suite_of classes_folder tests_folder files =
     both_read paths.0 paths.1 files)
 
 -- The code reads the suite at these paths.
-abbrev pub ReadsBoth : Option Files → List (String Global) → List (String Global) → Result LoadedSuite Halt → Type 0
+abbrev pub ReadsBoth :
+    Option Files → List (String Global) → List (String Global) → Result LoadedSuite Halt → Type 0
 ReadsBoth held classes tests result =
-    IfSome held (λ files. Reads (both_read (map string_bytes classes) (map string_bytes tests) files) result)
+    IfSome held (λ files.
+    Reads (both_read (map string_bytes classes) (map string_bytes tests) files) result)
 
 -- The code loads the suite of the files that a tree tells.
 abbrev pub LoadsHeld : Option Files → List ℕ → List ℕ → Result LoadedSuite Halt → Type 0

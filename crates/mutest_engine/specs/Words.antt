@@ -1,4 +1,5 @@
--- What the words of the command line decide alone: the command that they are, or a refusal (this project's own).
+-- What the words of the command line decide alone: the command that they are, or a refusal (this
+-- project's own).
 use Rattle.std.specs.Prelude.{◌≡◌, ℕ, List, true, if◌then◌else◌, Option, None, Some, Result, Ok, Err}
 use Rattle.mutest_words.specs.Words.{Command, list_class, run_suite, assemble_class, command_of, is_archive}
 use Rattle.mutest_engine.specs.declared.refusal.Refusal.{Refusal}

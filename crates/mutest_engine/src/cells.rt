@@ -3,8 +3,8 @@
 
 ghost use Rattle.std.specs.Prelude.{◌≡◌, All, IfOk};
 ghost use Rattle.mutant_runs.specs.Promises.{AreViable};
-ghost use Rattle.needed_laws.specs.Tested.{ArePlaces, IsListed};
-ghost use Rattle.mutest_engine.specs.Mutation.{few_cells, IsPlace, IsCellCount};
+ghost use Rattle.needed_laws.specs.Tested.{ArePlaces, IsListed, IsPlace};
+ghost use Rattle.mutest_engine.specs.Mutation.{refuse_many_cells, IsCellCount};
 
 use crate::refusal::{Limit, Refusal};
 use class_model::{Memory, Seq};
@@ -16,9 +16,9 @@ use test_select::{MutantPlace, count_cells};
 
 const CELLS_LIMIT: u64 = 4_194_304;
 
-/// So many cells are few enough.
-pub fn few_cells(count: u64) -> Result<(), Refusal>
-    ensures { result ≡ few_cells count }
+/// Refuses so many cells where they are past the limit.
+pub fn refuse_many_cells(count: u64) -> Result<(), Refusal>
+    ensures { result ≡ refuse_many_cells count }
 {
     if count > CELLS_LIMIT {
         return Err(Refusal::TooMany {

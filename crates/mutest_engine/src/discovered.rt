@@ -2,7 +2,7 @@
 //! is made.
 
 ghost use Rattle.std.specs.Prelude.{◌≡◌, ◌+◌, ◌≤◌, length};
-ghost use Rattle.mutest_engine.specs.Discovered.{few_tests, tests_from};
+ghost use Rattle.mutest_engine.specs.Discovered.{refuse_many_tests, tests_from};
 ghost use Rattle.mutest_engine.specs.Steps.{Gives};
 
 use crate::numbers::numbers_from;
@@ -15,9 +15,9 @@ use test_discovery::{count_tests, tests};
 
 const TESTS_LIMIT: u64 = 65_535;
 
-// So many tests are few enough.
-fn few_tests(count: u64) -> Result<(), Refusal>
-    ensures { result ≡ few_tests count }
+// Refuses so many tests where they are past the limit.
+fn refuse_many_tests(count: u64) -> Result<(), Refusal>
+    ensures { result ≡ refuse_many_tests count }
 {
     if count > TESTS_LIMIT {
         return Err(Refusal::TooMany {
@@ -42,7 +42,7 @@ pub fn tests_from(
     let _all = program.len();
     let ids = numbers_from(alloc, first as u32, count as u32)?;
     let number = count_tests(alloc, program, &ids)?;
-    few_tests(number)?;
+    refuse_many_tests(number)?;
     let found = tests(alloc, program, &ids)?;
     Ok(found)
 }

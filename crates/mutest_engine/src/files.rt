@@ -1,7 +1,7 @@
 //! A class file that is held: its bytes within the limit, and the class that they spell.
 
 ghost use Rattle.std.specs.Prelude.{◌≡◌, ℕ, List, IfOk, IfErr};
-ghost use Rattle.mutest_engine.specs.Answers.{few_bytes, within_limit as within, file_of, spelled_class};
+ghost use Rattle.mutest_engine.specs.Answers.{refuse_long_file, within_limit as within, file_of, spelled_class};
 ghost use Rattle.mutest_engine.specs.Refusals.{IsClassFault, IsOfFile, IsOfSuite, IsUnheld};
 ghost use Rattle.mutest_engine.specs.SuiteFiles.{IsSpelled};
 ghost use Rattle.mutest_engine.specs.Steps.{Asks, Gives, ReadsHeld, HaltsHeld, Refuses, RefusesReading};
@@ -18,9 +18,9 @@ use std::alloc::Global;
 
 const CLASS_LIMIT: u64 = 4_194_304;
 
-// A file of so many bytes is within the limit.
-fn few_bytes(length: u64) -> Result<(), Refusal>
-    ensures value { result ≡ few_bytes length }
+// Refuses a file of so many bytes where they are past the limit.
+fn refuse_long_file(length: u64) -> Result<(), Refusal>
+    ensures value { result ≡ refuse_long_file length }
     ensures refusal { IfErr result (λ r. (path : List ℕ) → IsUnheld path r) }
 {
     if length > CLASS_LIMIT {
@@ -37,7 +37,7 @@ fn within_limit(bytes: Bytes) -> Result<Bytes, Refusal>
     ensures value { result ≡ within bytes }
     ensures refusal { IfErr result (λ r. (path : List ℕ) → IsUnheld path r) }
 {
-    match few_bytes(bytes.len() as u64) {
+    match refuse_long_file(bytes.len() as u64) {
         Ok(()) => Ok(bytes),
         Err(refusal) => Err(refusal),
     }
@@ -60,7 +60,7 @@ fn check_length<T: Tree>(alloc: Global, tree: &mut T, path: &str) -> Result<(), 
     ensures tree { Asks T.holds T.writing T.reading (IsUnheld path.now) tree.old tree.new result }
 {
     match tree.length(path) {
-        Ok(Some(length)) => Ok(few_bytes(length)?),
+        Ok(Some(length)) => Ok(refuse_long_file(length)?),
         Ok(None) => Err(not_found(alloc, path)),
         Err(EdgeFault::Failed) => Err(Halt::ReadFault { faults: 1 }),
         Err(EdgeFault::Memory) => Err(Halt::WantOfMemory),

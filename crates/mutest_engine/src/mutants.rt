@@ -2,7 +2,7 @@
 //! are counted before one is made.
 
 ghost use Rattle.std.specs.Prelude.{◌≡◌, ◌≤◌, length, Ok, IfOk, IfErr};
-ghost use Rattle.mutest_engine.specs.Mutation.{AreFirstMutants, few_mutants, HasTooMany};
+ghost use Rattle.mutest_engine.specs.Mutation.{AreFirstMutants, refuse_many_mutants, HasTooMany};
 ghost use Rattle.mutest_engine.specs.Steps.{Refuses};
 
 use crate::numbers::numbers_from;
@@ -15,9 +15,9 @@ use std::alloc::Global;
 
 const MUTANTS_LIMIT: u64 = 262_144;
 
-// So many mutants are few enough.
-fn few_mutants(count: u64) -> Result<(), Refusal>
-    ensures { result ≡ few_mutants count }
+// Refuses so many mutants where they are past the limit.
+fn refuse_many_mutants(count: u64) -> Result<(), Refusal>
+    ensures { result ≡ refuse_many_mutants count }
 {
     if count > MUTANTS_LIMIT {
         return Err(Refusal::TooMany {
@@ -34,12 +34,12 @@ fn few_mutants(count: u64) -> Result<(), Refusal>
 pub fn first_mutants(alloc: Global, program: &Program, count: usize) -> Result<Seq<Mutant>, Stop>
     requires { count ≤ length program.now }
     ensures found { IfOk result (AreFirstMutants program.now count) }
-    ensures few { IfOk result (λ ms. few_mutants (length ms) ≡ Ok tt) }
+    ensures few { IfOk result (λ ms. refuse_many_mutants (length ms) ≡ Ok tt) }
     ensures many { IfErr result (Refuses (HasTooMany program.now count)) }
 {
     let _all = program.len();
     let ids = numbers_from(alloc, 0, count as u32)?;
     let number = count_all(alloc, program, &ids)?;
-    few_mutants(number)?;
+    refuse_many_mutants(number)?;
     Ok(mutants(alloc, program, &ids)?)
 }

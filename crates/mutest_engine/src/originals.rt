@@ -3,7 +3,7 @@
 ghost use Rattle.std.specs.Prelude.{◌≡◌, ◌+◌, ◌<◌, ◌≤◌, ◌^◌, ◌++◌, [], length, IfOk, OnOk};
 ghost use Rattle.class_table.specs.Table.{look};
 ghost use Rattle.mutest_engine.specs.Steps.{Gives, GivesBy, Counts};
-ghost use Rattle.mutest_engine.specs.Originals.{test_text, settled, run_ending, run_steps, run_settled, with_first, all_settled, all_passed, green_steps, original_steps, steps_made};
+ghost use Rattle.mutest_engine.specs.Originals.{test_text, failure_of, run_ending, run_steps, run_failure, with_first, failures_of, all_passed, steps_if_passed, original_steps, steps_made};
 ghost use Rattle.mutest_engine.specs.Originals.{AreMeasured, IsRunOf, MeasuresRun};
 ghost use Rattle.jvm_machine.specs.Ending.{ending_of};
 ghost use Rattle.jvm_machine.specs.Programs.{IsRunnable};
@@ -23,7 +23,7 @@ use mutant_runs::ready_may_run;
 use std::alloc::Global;
 
 /// What a run may use.
-pub const USUAL: Limits = Limits {
+pub const RUN_LIMITS: Limits = Limits {
     heap: 4_194_304,
     depth: 1_024,
 };
@@ -52,8 +52,8 @@ fn test_text(alloc: Global, test: &Test) -> Result<Bytes, Memory>
 
 // A test whose run came to this end: nothing where it passed, its outcome, or where the machine is
 // stuck.
-fn settled(alloc: Global, test: &Test, outcome: Outcome) -> Result<Option<(Bytes, Ended)>, Stop>
-    ensures { Gives (settled test.now (ending_of outcome)) result }
+fn failure_of(alloc: Global, test: &Test, outcome: Outcome) -> Result<Option<(Bytes, Ended)>, Stop>
+    ensures { Gives (failure_of test.now (ending_of outcome)) result }
 {
     let ended = match outcome {
         Outcome::Passed => return Ok(None),
@@ -92,7 +92,7 @@ fn run_of(
     ensures most { part.new ≤ part.old + run_steps (look program.now) test.now }
     ensures tables { AreTablesOf program.now tables.new }
 {
-    let run = execute(alloc, program, tables, test, USUAL, STEPS, part)?;
+    let run = execute(alloc, program, tables, test, RUN_LIMITS, STEPS, part)?;
     Ok(run)
 }
 
@@ -125,7 +125,7 @@ fn original(
     requires tables { AreTablesOf program.now tables.old }
     requires room { part.old + 10000000 < 2 ^ 64 }
     requires counted { cover.old.tests + 1 < 2 ^ 64 }
-    ensures value { GivesBy (λ run. run.0) (run_settled (look program.now) test.now) result }
+    ensures value { GivesBy (λ run. run.0) (run_failure (look program.now) test.now) result }
     ensures count { IfOk result (λ run. run.1 ≡ run_steps (look program.now) test.now) }
     ensures most { part.new ≤ part.old + run_steps (look program.now) test.now }
     ensures exact { Counts part.new (part.old + run_steps (look program.now) test.now) result }
@@ -134,7 +134,7 @@ fn original(
 {
     let run = run_of(alloc, program, tables, test, part)?;
     add_run(cover, program, test, &run)?;
-    let ended = settled(alloc, test, run.outcome)?;
+    let ended = failure_of(alloc, test, run.outcome)?;
     Ok((ended, run.steps))
 }
 
@@ -150,7 +150,7 @@ fn note(failed: &mut Seq<(Bytes, Ended)>, ended: Option<(Bytes, Ended)>) -> Resu
 
 // The tests that didn't pass, and the steps of each run. They are counted in the part, and each run
 // is added to the coverage.
-fn all_settled(
+fn failures_of(
     alloc: Global,
     program: &Program,
     tables: &mut Tables,
@@ -163,7 +163,7 @@ fn all_settled(
     requires few { length tests.now ≤ 65535 }
     requires start { part.old ≡ 0 }
     requires none { AreMeasured program.now [] cover.old }
-    ensures value { GivesBy (λ runs. runs.0) (all_settled (look program.now) tests.now) result }
+    ensures value { GivesBy (λ runs. runs.0) (failures_of (look program.now) tests.now) result }
     ensures counts { IfOk result (λ runs. runs.1 ≡ original_steps (look program.now) tests.now) }
     ensures cover { OnOk result (AreMeasured program.now tests.now cover.new) }
     ensures most { part.new ≤ steps_made (look program.now) tests.now }
@@ -190,7 +190,7 @@ fn all_passed(tests: Seq<(Bytes, Ended)>) -> Result<(), Refusal>
 }
 
 // The same, with what the machine looks up found once for all runs.
-fn settled_runs(
+fn find_failures(
     alloc: Global,
     program: &Program,
     tests: &[Test],
@@ -201,7 +201,7 @@ fn settled_runs(
     requires few { length tests.now ≤ 65535 }
     requires start { part.old ≡ 0 }
     requires none { AreMeasured program.now [] cover.old }
-    ensures value { GivesBy (λ runs. runs.0) (all_settled (look program.now) tests.now) result }
+    ensures value { GivesBy (λ runs. runs.0) (failures_of (look program.now) tests.now) result }
     ensures counts { IfOk result (λ runs. runs.1 ≡ original_steps (look program.now) tests.now) }
     ensures cover { OnOk result (AreMeasured program.now tests.now cover.new) }
     ensures most { part.new ≤ steps_made (look program.now) tests.now }
@@ -213,12 +213,12 @@ fn settled_runs(
     let Some(mut tables) = Tables::find(alloc, program)? else {
         unreachable!()
     };
-    all_settled(alloc, program, &mut tables, tests, cover, part)
+    failures_of(alloc, program, &mut tables, tests, cover, part)
 }
 
 /// All tests pass on the program as it is: the steps of each run, and which of them reach a line.
 /// The steps are counted in the part.
-pub fn green(
+pub fn run_originals(
     alloc: Global,
     program: &Program,
     tests: &[Test],
@@ -227,13 +227,14 @@ pub fn green(
     requires ready { IsReady program.now }
     requires few { length tests.now ≤ 65535 }
     requires start { part.old ≡ 0 }
-    ensures value { GivesBy (λ runs. runs.steps) (green_steps (look program.now) tests.now) result }
+    ensures value { GivesBy (λ runs. runs.steps)
+        (steps_if_passed (look program.now) tests.now) result }
     ensures cover { IfOk result (λ runs. AreMeasured program.now tests.now runs.cover) }
     ensures most { part.new ≤ steps_made (look program.now) tests.now }
     ensures exact { Counts part.new (steps_made (look program.now) tests.now) result }
 {
     let mut cover = Coverage::new(alloc);
-    let (failed, steps) = settled_runs(alloc, program, tests, &mut cover, part)?;
+    let (failed, steps) = find_failures(alloc, program, tests, &mut cover, part)?;
     all_passed(failed)?;
     Ok(OriginalRuns { steps, cover })
 }

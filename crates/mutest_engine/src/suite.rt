@@ -3,7 +3,7 @@
 ghost use Rattle.std.specs.Prelude.{◌≡◌, ◌+◌, ◌≤◌, length, map, string_bytes, All, IfSome, IfOk, IfErr};
 ghost use Rattle.mutest_engine.specs.Refusals.{IsOfSuite};
 ghost use Rattle.mutest_engine.specs.Steps.{Asks, Gives, ReadsBy, ReadsHeld, IsNoFault, Refuses, RefusesReading};
-ghost use Rattle.mutest_engine.specs.SuiteFiles.{texts, both_texts, some_of, both_of, Lists, ListsBoth, is_class_path, class_paths, few_classes, within_sum, read_one, FilesHeld, bytes_in, loaded, all_loaded, both_loaded, ReadsBoth, LoadsHeld, IsSpelled, IsFormed};
+ghost use Rattle.mutest_engine.specs.SuiteFiles.{texts, both_texts, some_of, both_of, Lists, ListsBoth, is_class_path, class_paths, refuse_many_classes, within_sum, read_one, FilesHeld, bytes_in, loaded, all_loaded, both_loaded, ReadsBoth, LoadsHeld, IsSpelled, IsFormed};
 
 use crate::files::{not_found, read_file, spelled_class};
 use crate::refusal::{Limit, Refusal};
@@ -72,8 +72,9 @@ fn class_paths(mut paths: Vec<String>) -> Vec<String>
     paths
 }
 
-fn few_classes(count: usize) -> Result<(), Refusal>
-    ensures value { result ≡ few_classes count }
+// Refuses so many classes where they are past the limit.
+fn refuse_many_classes(count: usize) -> Result<(), Refusal>
+    ensures value { result ≡ refuse_many_classes count }
     ensures refusal { IfErr result IsOfSuite }
 {
     if count > CLASSES_LIMIT {
@@ -93,7 +94,7 @@ fn both_paths(classes: Vec<String>, tests: Vec<String>) -> Result<(Vec<String>, 
 {
     let classes = class_paths(classes);
     let tests = class_paths(tests);
-    match few_classes(classes.len().saturating_add(tests.len())) {
+    match refuse_many_classes(classes.len().saturating_add(tests.len())) {
         Ok(()) => Ok((classes, tests)),
         Err(refusal) => Err(Halt::Refused(refusal)),
     }

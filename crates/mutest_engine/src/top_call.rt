@@ -3,7 +3,7 @@
 ghost use Rattle.std.specs.Prelude.{◌≡◌, ◌⊎◌, ◌<◌, ◌≤◌, ◌^◌, IfOk, IfErr, OnOk, Ok};
 ghost use Rattle.mutest_engine.specs.declared.status.Status.TheVariants.{WantOfMemory};
 ghost use Rattle.mutest_engine.specs.Ends.{line_of, status_of, unwritten_status, CarriedOut, TextEnds, AgreesUntold, MayAnswer, AnswersUntold, AnswersHeld, MetersRun, MetersWords, Makes, Finished, ReadsFailed, WritesFailed, PutsFailed, MeterStays, HaltStays, Wrote, WroteAll, LeavesOne, LeavesAll, FailsWriting, FilesAfter};
-ghost use Rattle.mutest_words.specs.Words.{list_class, run_asked, asm_asked, asked_run, asked_asm};
+ghost use Rattle.mutest_words.specs.Words.{list_class, as_run_options, as_asm_options, as_run_command, as_asm_command};
 ghost use Rattle.mutest_engine.specs.Words.{words_of};
 ghost use Rattle.mutest_engine.specs.Decided.{listing, list_answer, report_answer, run_answer, written_class, asm_answer, answer_of};
 ghost use Rattle.mutest_engine.specs.Answers.{answered, one_write, writes_of, made, one};
@@ -14,7 +14,7 @@ ghost use Rattle.mutest_engine.specs.Promises.{Tells, PrintsMade, PrintsOf, Puts
 use crate::answer::{Answer, Product, Write};
 use crate::assembling::class_file_of;
 use crate::files::{read_file, spelled_class};
-use crate::judged::judge;
+use crate::mutation::report_input;
 use crate::status::{Output, Status};
 use crate::stop::Halt;
 use crate::suite::load_suite;
@@ -80,7 +80,7 @@ fn report_answer<'a>(alloc: Global, path: &'a str, input: &ReportInput) -> Resul
 }
 
 // The report on a suite and its summary. The meter rises by the steps of all runs.
-#[tactic(auto, using(crate::proofs::RefusalLaws::of_judged))]
+#[tactic(auto, using(crate::proofs::RefusalLaws::of_report_input))]
 fn run_answer<'a, T: Tree>(
     alloc: Global,
     tree: &mut T,
@@ -88,15 +88,16 @@ fn run_answer<'a, T: Tree>(
     meter: &mut Meter,
 ) -> Result<Answer<'a>, Halt>
     requires { meter.old < 2 ^ 63 }
-    ensures value { AnswersHeld (T.holds tree.old) (run_answer (run_asked options.entry)) result }
-    ensures answer { MayAnswer (asked_run options.entry) result }
+    ensures value { AnswersHeld (T.holds tree.old)
+        (run_answer (as_run_options options.entry)) result }
+    ensures answer { MayAnswer (as_run_command options.entry) result }
     ensures meter { MetersRun (T.holds tree.old) meter.old meter.new options.entry result }
     ensures stays { IfErr result (HaltStays meter.old meter.new) }
     ensures later { meter.old ≤ meter.new }
     ensures tree { OnlyReads T.holds T.writing T.reading tree.old tree.new result }
 {
     let loaded = load_suite(alloc, tree, options.classes, options.tests)?;
-    let input = judge(alloc, loaded, meter)?;
+    let input = report_input(alloc, loaded, meter)?;
     report_answer(alloc, options.report, &input)
 }
 
@@ -117,8 +118,9 @@ fn asm_answer<'a, T: Tree>(
     tree: &mut T,
     options: AsmOptions<'a>,
 ) -> Result<Answer<'a>, Halt>
-    ensures value { AnswersHeld (T.holds tree.old) (asm_answer (asm_asked options.entry)) result }
-    ensures answer { MayAnswer (asked_asm options.entry) result }
+    ensures value { AnswersHeld (T.holds tree.old)
+        (asm_answer (as_asm_options options.entry)) result }
+    ensures answer { MayAnswer (as_asm_command options.entry) result }
     ensures tree { OnlyReads T.holds T.writing T.reading tree.old tree.new result }
 {
     let text = read_file(alloc, tree, options.text)?;

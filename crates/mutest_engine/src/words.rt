@@ -1,7 +1,7 @@
 //! What the words decide alone: the command that they are, or why they are refused.
 
 ghost use Rattle.std.specs.Prelude.{◌≡◌, false, map, string_bytes, OnOk, IfErr};
-ghost use Rattle.mutest_words.specs.Words.{is_archive, asked};
+ghost use Rattle.mutest_words.specs.Words.{is_archive, as_command};
 ghost use Rattle.mutest_engine.specs.Steps.{GivesBy, Refuses};
 ghost use Rattle.mutest_engine.specs.Words.{IsArchived, words_of};
 
@@ -24,7 +24,7 @@ fn no_archive(alloc: Global, folder: &str) -> Result<(), Stop>
 
 /// The command that the words are, unless one of its folders is an archive.
 pub fn read_words<'a>(alloc: Global, words: &'a Vec<String>) -> Result<Command<'a>, Stop>
-    ensures { GivesBy asked (words_of (map string_bytes words.now.items)) result }
+    ensures { GivesBy as_command (words_of (map string_bytes words.now.items)) result }
 {
     match command_of(alloc, words.as_slice())? {
         None => Err(Stop::Refused(Refusal::Usage)),

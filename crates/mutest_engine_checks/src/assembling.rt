@@ -1,8 +1,9 @@
 //! Texts that are assembled.
 
-use crate::calls::{A, call};
+use crate::calls::call;
 use class_model::Bytes;
 use mt_edge::MemTree;
+use sample_classes::A;
 use std::alloc::Global;
 use std::test::Fail;
 

@@ -1,8 +1,9 @@
 //! Class files that are listed.
 
-use crate::calls::{A, A_BARE, T, call, damaged};
+use crate::calls::{call, damaged};
 use class_model::Bytes;
 use mt_edge::MemTree;
+use sample_classes::{A, A_BARE, T};
 use std::alloc::Global;
 use std::test::Fail;
 

@@ -1,8 +1,9 @@
 //! The steps that a suite takes: those of the runs that its mutants need.
 
-use crate::calls::{A, T, call};
+use crate::calls::call;
 use class_model::Bytes;
 use mt_edge::MemTree;
+use sample_classes::{A, T};
 use std::alloc::Global;
 use std::test::Fail;
 

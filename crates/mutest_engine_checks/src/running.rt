@@ -1,9 +1,10 @@
 //! Suites: what `run` tells, writes and counts.
 
-use crate::calls::{A, T, call, damaged};
+use crate::calls::{call, damaged};
 use class_model::Bytes;
 use mt_edge::MemTree;
 use mutest_engine::{Halt, Refusal, load_suite};
+use sample_classes::{A, T};
 use std::alloc::Global;
 use std::test::Fail;
 

@@ -107,23 +107,24 @@ is_archive folder =
 
 -- ---- the command that the code has
 
-abbrev pub run_asked : FoundRun → RunOptions
-run_asked o = record { classes = o.classes.now; tests = o.tests.now; report = o.report.now }
+abbrev pub as_run_options : FoundRun → RunOptions
+as_run_options o = record { classes = o.classes.now; tests = o.tests.now; report = o.report.now }
 
-abbrev pub asm_asked : FoundAsm → AsmOptions
-asm_asked o = record { text = o.text.now; out = o.out.now }
+abbrev pub as_asm_options : FoundAsm → AsmOptions
+as_asm_options o = record { text = o.text.now; out = o.out.now }
 
-abbrev pub asked_run : FoundRun → Command
-asked_run o = run_suite (run_asked o)
+abbrev pub as_run_command : FoundRun → Command
+as_run_command o = run_suite (as_run_options o)
 
-abbrev pub asked_asm : FoundAsm → Command
-asked_asm o = assemble_class (asm_asked o)
+abbrev pub as_asm_command : FoundAsm → Command
+as_asm_command o = assemble_class (as_asm_options o)
 
-abbrev pub asked : Found → Command
-asked (found.List file) = list_class file.now
-asked (found.Run options) = asked_run options
-asked (found.Assemble options) = asked_asm options
+abbrev pub as_command : Found → Command
+as_command (found.List file) = list_class file.now
+as_command (found.Run options) = as_run_command options
+as_command (found.Assemble options) = as_asm_command options
 
 -- The code finds the stated command, if there is one.
 abbrev pub Finds : Option Command → Option Found → Type 0
-Finds stated result = MatchOption result (stated ≡ None) (λ command. stated ≡ Some (asked command))
+Finds stated result =
+    MatchOption result (stated ≡ None) (λ command. stated ≡ Some (as_command command))

@@ -2,7 +2,7 @@
 
 ghost use Rattle.std.specs.Prelude.{◌≡◌, map, option_map, string_bytes, IfOk};
 ghost use Rattle.mutest_words.specs.Options.{given_in};
-ghost use Rattle.mutest_words.specs.Words.{folder_of, is_archive, list_of, run_options, run_of, asm_of, named_command, command_of, run_asked, Finds};
+ghost use Rattle.mutest_words.specs.Words.{folder_of, is_archive, list_of, run_options, run_of, asm_of, named_command, command_of, as_run_options, Finds};
 
 use crate::options::Given;
 use class_model::Memory;
@@ -61,7 +61,7 @@ fn list_command<'a>(given: &Given<'a>) -> Option<Command<'a>>
 
 // The options of `run`, as far as all that it needs stand there.
 fn run_options<'a>(given: &Given<'a>) -> Option<RunOptions<'a>>
-    ensures { option_map run_asked result ≡ run_options (given_in given.now).options }
+    ensures { option_map as_run_options result ≡ run_options (given_in given.now).options }
 {
     Some(RunOptions {
         classes: folder(given.value("--classes")?),

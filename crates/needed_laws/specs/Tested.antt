@@ -63,10 +63,13 @@ abbrev pub all_verdicts : List Info → Limits → ℕ → List Test → List Mu
 all_verdicts p q limit ts ms =
     map (verdict_of q (files_of p) (look p) (timed_of p q limit ts)) ms
 
--- Each mutant's place: its class by number, and its line.
+-- The place of a mutant is its class by number, and its line.
+abbrev pub IsPlace : List Info → Mutant → MutantPlace → Type 0
+IsPlace p m place = (number_of p m.class ≡ Some place.class.0) × (place.line ≡ m.line)
+
+-- The same of each mutant.
 abbrev pub ArePlaces : List Info → List Mutant → List MutantPlace → Type 0
-ArePlaces p ms places =
-    AllZip (λ m place. (number_of p m.class ≡ Some place.class.0) × (place.line ≡ m.line)) ms places
+ArePlaces p ms places = AllZip (IsPlace p) ms places
 
 -- The verdicts by the tests that cover each mutant are those by all tests; the steps of their runs
 -- are those of the runs that are needed; and there are as many cells as covering tests of verdicts.

@@ -1,4 +1,5 @@
--- Which classes have supers that aren't as they have to be, as names among all names (JVMS 4.1, 5.3.5), and the least of names with something.
+-- Which classes have supers that aren't as they have to be, as names among all names (JVMS 4.1,
+-- 5.3.5), and the least of names with something.
 use Rattle.std.specs.Prelude.{ℕ, zero, suc, Bool, false, ◌||◌, List, filter, length, Option}
 use Rattle.std.specs.List.{list_any}
 use Rattle.program_rules.specs.Names.{Name, same}

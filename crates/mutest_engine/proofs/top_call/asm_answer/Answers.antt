@@ -2,7 +2,7 @@ use Rattle.std.proofs.Common.{◌≡◌, ◌∙◌, ℕ, List, Option, None, Som
 use Rattle.std.specs.Prelude.{IfSome}
 use Rattle.class_model.specs.declared.class.Class.{Class}
 use Rattle.mt_edge.specs.Files.{Files}
-use Rattle.mutest_words.specs.Words.{asm_asked, asked_asm}
+use Rattle.mutest_words.specs.Words.{as_asm_options, as_asm_command}
 use Rattle.mutest_engine.specs.Answers.{Answered, file_of}
 use Rattle.mutest_engine.specs.Decided.{IsAssembledTo, or_refused, stated_class, written_class, assembly, asm_answer}
 use Rattle.mutest_engine.specs.Steps.{and_then}
@@ -32,14 +32,14 @@ returns-clause-value g c =
     let bytes = c.in_ok-bytes.bytes in
     let is = subst (λ (t : List ℕ). IsAssembledTo t bytes) c.as_slice.ensures c.in_ok-bytes.ensures.bytes in
     let read = assembled held c.args.options.text.now out c.in_ok-text.text bytes c.in_ok-text.ensures.value is in
-    made_held held (λ files. asm_answer (asm_asked c.args.options) files) (written_class out bytes) c.written_class.result read c.written_class.ensures
+    made_held held (λ files. asm_answer (as_asm_options c.args.options) files) (written_class out bytes) c.written_class.result read c.written_class.ensures
 
 pub returns-clause-answer : goal.returns-clause-answer
 returns-clause-answer g c =
     let out = c.args.options.out.now in
     let bytes = c.in_ok-bytes.bytes in
     let is = c.in_ok-bytes.ensures.bytes in
-    made_may (asked_asm c.args.options) (written_class out bytes) c.written_class.result (c.as_slice.result.now, is.0, is.1, is.2, ap (written_class out) is.3) c.written_class.ensures
+    made_may (as_asm_command c.args.options) (written_class out bytes) c.written_class.result (c.as_slice.result.now, is.0, is.1, is.2, ap (written_class out) is.3) c.written_class.ensures
 
 pub returns-clause-tree : goal.returns-clause-tree
 returns-clause-tree g c = (c.in_ok-text.ensures.tree.0, made_reads (g.T.Tree.reading c.args.tree.now) (g.T.Tree.reading c.read_file.new.tree) (written_class c.args.options.out.now c.in_ok-bytes.bytes) c.written_class.result c.written_class.ensures)

@@ -1,4 +1,4 @@
-use Rattle.mutest_engine.proofs.files.few_bytes.Goals as goal
+use Rattle.mutest_engine.proofs.files.refuse_long_file.Goals as goal
 
 pub returns-then-length-gt-CLASS_LIMIT-clause-refusal : goal.returns-then-length-gt-CLASS_LIMIT-clause-refusal
 returns-then-length-gt-CLASS_LIMIT-clause-refusal c =

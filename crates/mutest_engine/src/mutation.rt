@@ -7,14 +7,14 @@ ghost use Rattle.needed_laws.specs.Tested.{IsListed};
 ghost use Rattle.report_schema.specs.FileKey.{file_key};
 ghost use Rattle.mutest_engine.specs.Steps.{Gives, Refuses, Counts};
 ghost use Rattle.mutest_engine.specs.SuiteFiles.{IsFormed};
-ghost use Rattle.mutest_engine.specs.Mutation.{verdicts_in, steps_on_all, input_of, tested_in, tested_steps_in, judged, suite_steps, Stays, Meters, MetersRuns};
+ghost use Rattle.mutest_engine.specs.Mutation.{verdicts_in, steps_on_all, input_of, tested_in, tested_steps_in, report_input, suite_steps, Stays, Meters, MetersRuns};
 ghost use Rattle.mutest_engine.specs.Mutation.{covered_in, covered_steps_in, AreOfSuite, AreCovered, SuitesAreCovered};
 ghost use Rattle.mutest_engine.specs.Originals.{original_steps};
 
-use crate::cells::{cell_count, few_cells};
+use crate::cells::{cell_count, refuse_many_cells};
 use crate::discovered::tests_from;
 use crate::mutants::first_mutants;
-use crate::originals::{USUAL, green};
+use crate::originals::{RUN_LIMITS, run_originals};
 use crate::stop::Stop;
 use crate::suite::LoadedSuite;
 use class_model::{Memory, Name, Seq};
@@ -64,7 +64,7 @@ fn covered_runs(
 {
     let viable = viable(alloc, program, mutants)?;
     let count = cell_count(alloc, program, mutants, viable.as_slice(), cover)?;
-    few_cells(count)?;
+    refuse_many_cells(count)?;
     let verdicts = verdicts(
         alloc,
         program,
@@ -73,7 +73,7 @@ fn covered_runs(
         cover,
         mutants,
         viable.as_slice(),
-        USUAL,
+        RUN_LIMITS,
         part,
     )?;
     Ok(verdicts)
@@ -96,7 +96,7 @@ fn all_runs(
     ensures most { part.new ≤ steps_on_all program.old tests.now mutants.now }
     ensures exact { Counts part.new (steps_on_all program.old tests.now mutants.now) result }
 {
-    let runs = green(alloc, program, tests, part)?;
+    let runs = run_originals(alloc, program, tests, part)?;
     suites_are_covered();
     let verdicts = covered_runs(
         alloc,
@@ -196,10 +196,14 @@ fn all_classes(classes: Seq<Loaded>, tests: Seq<Loaded>) -> Result<Seq<Loaded>, 
 
 /// What is reported of a suite whose tests all pass on the program as it is. The meter rises by the
 /// steps of the runs that are needed.
-pub fn judge(alloc: Global, suite: LoadedSuite, meter: &mut Meter) -> Result<ReportInput, Stop>
+pub fn report_input(
+    alloc: Global,
+    suite: LoadedSuite,
+    meter: &mut Meter,
+) -> Result<ReportInput, Stop>
     requires room { meter.old < 2 ^ 63 }
     requires form { IsFormed suite }
-    ensures value { Gives (judged suite) result }
+    ensures value { Gives (report_input suite) result }
     ensures meter { Meters meter.old meter.new (suite_steps suite) result }
     ensures stays { IfErr result (Refuses (Stays meter.old meter.new)) }
 {

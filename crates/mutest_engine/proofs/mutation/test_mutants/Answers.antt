@@ -4,10 +4,10 @@ use Rattle.class_table.specs.Table.{look}
 use Rattle.class_table.specs.declared.scripted.Test.{Test}
 use Rattle.mutator_ops.specs.declared.mutant.Mutant.{Mutant}
 use Rattle.mutant_runs.specs.Programs.{files_of}
-use Rattle.mutest_engine.specs.Mutation.{green_verdicts, AreOfSuite}
-use Rattle.mutest_engine.proofs.JudgeLaws.{all_inputs, few_is, counted_steps, tested_refused, refused_stays, tested_ok}
+use Rattle.mutest_engine.specs.Mutation.{verdicts_if_passed, AreOfSuite}
+use Rattle.mutest_engine.proofs.MutationLaws.{all_inputs, few_is, counted_steps, tested_refused, refused_stays, tested_ok}
 use Rattle.mutest_engine.proofs.StepLaws.{all_verdicts}
-use Rattle.mutest_engine.proofs.judged.test_mutants.Goals as goal
+use Rattle.mutest_engine.proofs.mutation.test_mutants.Goals as goal
 
 pub metered_runs-requires-clause-suite : goal.metered_runs-requires-clause-suite
 metered_runs-requires-clause-suite c =
@@ -20,7 +20,7 @@ returns-in_err-verdicts-clause-value c =
     let files = files_of c.args.program.now in
     let p = look c.args.program.now in
     let q = err_from_is_err_and c.from_residual.result c.from_residual.ensures.1 in
-    rw (q.1, q.2) (λ r is. tested_refused files p c.args.tests c.args.mutants r ready (subst (λ (ts : List Test). green_verdicts files p ts c.args.mutants ≡ Err r) c.as_slice.ensures (subst (λ (ms : List Mutant). green_verdicts files p c.as_slice.result.now ms ≡ Err r) c.as_slice-2.ensures (c.in_err-verdicts.ensures.value r is))))
+    rw (q.1, q.2) (λ r is. tested_refused files p c.args.tests c.args.mutants r ready (subst (λ (ts : List Test). verdicts_if_passed files p ts c.args.mutants ≡ Err r) c.as_slice.ensures (subst (λ (ms : List Mutant). verdicts_if_passed files p c.as_slice.result.now ms ≡ Err r) c.as_slice-2.ensures (c.in_err-verdicts.ensures.value r is))))
 
 pub returns-in_err-verdicts-clause-stays : goal.returns-in_err-verdicts-clause-stays
 returns-in_err-verdicts-clause-stays c =
@@ -34,7 +34,7 @@ returns-clause-value c =
     let ready = few_is c.args.mutants c.requires.few_mutants in
     let files = files_of c.args.program.now in
     let p = look c.args.program.now in
-    tested_ok files p c.args.tests c.args.mutants c.in_ok-verdicts.verdicts ready (subst (λ (ts : List Test). green_verdicts files p ts c.args.mutants ≡ all_verdicts c.in_ok-verdicts.verdicts) c.as_slice.ensures (subst (λ (ms : List Mutant). green_verdicts files p c.as_slice.result.now ms ≡ all_verdicts c.in_ok-verdicts.verdicts) c.as_slice-2.ensures c.in_ok-verdicts.ensures.value))
+    tested_ok files p c.args.tests c.args.mutants c.in_ok-verdicts.verdicts ready (subst (λ (ts : List Test). verdicts_if_passed files p ts c.args.mutants ≡ all_verdicts c.in_ok-verdicts.verdicts) c.as_slice.ensures (subst (λ (ms : List Mutant). verdicts_if_passed files p c.as_slice.result.now ms ≡ all_verdicts c.in_ok-verdicts.verdicts) c.as_slice-2.ensures c.in_ok-verdicts.ensures.value))
     ∙ ap all_inputs (sym c.in_ok-input_of.ensures)
 
 pub returns-in_err-verdicts-clause-meter : goal.returns-in_err-verdicts-clause-meter

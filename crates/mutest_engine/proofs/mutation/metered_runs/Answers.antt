@@ -2,7 +2,7 @@ use Rattle.std.proofs.Common.{arith}
 use Rattle.class_table.specs.Table.{look}
 use Rattle.mutant_runs.specs.Programs.{files_of}
 use Rattle.mutest_engine.proofs.StepLaws.{all_most}
-use Rattle.mutest_engine.proofs.judged.metered_runs.Goals as goal
+use Rattle.mutest_engine.proofs.mutation.metered_runs.Goals as goal
 
 pub join-requires : goal.join-requires
 join-requires c =

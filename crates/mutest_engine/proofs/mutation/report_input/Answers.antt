@@ -9,9 +9,9 @@ use Rattle.mutest_engine.specs.Mutation.{Meters}
 use Rattle.mutest_engine.specs.Steps.{Gives}
 use Rattle.mutest_engine.specs.declared.refusal.Refusal.{Refusal}
 use Rattle.mutest_engine.proofs.FitLaws.{all_spelled}
-use Rattle.mutest_engine.proofs.JudgeLaws.{is_accepted, program_refused, is_linked, mutants_are, enough, are_of_suite, judged_is, suite_steps_are, tests_refused, mutants_refused, counts_none}
+use Rattle.mutest_engine.proofs.MutationLaws.{is_accepted, program_refused, is_linked, mutants_are, enough, are_of_suite, report_input_is, suite_steps_are, tests_refused, mutants_refused, counts_none}
 use Rattle.mutest_engine.proofs.TestLaws.{of_suite, all_enough, tests_few}
-use Rattle.mutest_engine.proofs.judged.judge.Goals as goal
+use Rattle.mutest_engine.proofs.mutation.report_input.Goals as goal
 
 pub program_of-requires : goal.program_of-requires
 program_of-requires c = all_spelled c.args.suite c.in_ok-classes.classes c.requires.form c.in_ok-classes.ensures
@@ -71,7 +71,7 @@ returns-clause-value c =
     let tests : tests_of c.args.suite ≡ Ok c.in_ok-tests.tests = sym (of_suite c.args.suite c.in_ok-program.program c.in_ok-classes.classes c.len-own.result c.len-of_tests.result c.in_ok-program.ensures.names c.in_ok-program.ensures.files c.in_ok-classes.ensures c.len-own.ensures c.len-of_tests.ensures) ∙ c.in_ok-tests.ensures in
     let mutants = mutants_are c.args.suite c.in_ok-program.program c.in_ok-classes.classes c.len-own.result c.in_ok-mutants.mutants c.in_ok-program.ensures.numbered c.in_ok-classes.ensures c.len-own.ensures c.in_ok-mutants.ensures.found in
     let found = is_linked c.args.suite (files_of c.in_ok-program.program) (look c.in_ok-program.program) c.in_ok-classes.classes c.in_ok-tests.tests c.in_ok-mutants.mutants (is_accepted c.in_ok-classes.classes c.in_ok-program.ensures.accepted) c.in_ok-program.ensures.files c.in_ok-program.ensures.program c.in_ok-classes.ensures tests mutants in
-    subst (λ (x : Result ReportInput Refusal). Gives x c.test_mutants.result) (judged_is c.args.suite (files_of c.in_ok-program.program) (look c.in_ok-program.program) c.in_ok-tests.tests c.in_ok-mutants.mutants found) c.test_mutants.ensures.value
+    subst (λ (x : Result ReportInput Refusal). Gives x c.test_mutants.result) (report_input_is c.args.suite (files_of c.in_ok-program.program) (look c.in_ok-program.program) c.in_ok-tests.tests c.in_ok-mutants.mutants found) c.test_mutants.ensures.value
 
 pub returns-clause-meter : goal.returns-clause-meter
 returns-clause-meter c =

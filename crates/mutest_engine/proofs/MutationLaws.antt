@@ -25,8 +25,8 @@ use Rattle.suite_program.specs.declared.fault.ProgramEnd.{ProgramEnd}
 use Rattle.suite_program.specs.declared.fault.ProgramEnd.TheVariants as end
 use Rattle.mutest_engine.specs.Originals.{all_classes, unless_fault, accepted, IsStopOfProgram}
 use Rattle.mutest_engine.specs.Numbers.{numbers_from}
-use Rattle.mutest_engine.specs.Discovered.{few_tests, few_found, tests_named, tests_of, tests_from}
-use Rattle.mutest_engine.specs.Mutation.{suite_files, program, mutants_of, AreFirstMutants, linked, judged, if_found, suite_steps, few_mutants, HasTooMany, verdicts_by, testable, green_verdicts, input_of, if_so, all_steps, tested, tested_steps, AreOfSuite, Stays}
+use Rattle.mutest_engine.specs.Discovered.{refuse_many_tests, few_found, tests_named, tests_of, tests_from}
+use Rattle.mutest_engine.specs.Mutation.{suite_files, program, mutants_of, AreFirstMutants, linked, report_input, if_found, suite_steps, refuse_many_mutants, HasTooMany, verdicts_by, testable, verdicts_if_passed, input_of, if_so, all_steps, tested, tested_steps, AreOfSuite, Stays}
 use Rattle.mutest_engine.specs.declared.suite.LoadedSuite.{LoadedSuite}
 use Rattle.mutest_engine.specs.declared.refusal.Limit.TheVariants as limit
 use Rattle.mutest_engine.specs.declared.refusal.Refusal.{Refusal}
@@ -45,19 +45,19 @@ bounded limit n r true e h = absurd cc
 bounded limit n r false e h = ltb-false limit n e
 
 -- Mutants are few enough.
-pub few_is : (ms : List Mutant) → length ms ≤ 262144 → few_mutants (length ms) ≡ Ok tt
+pub few_is : (ms : List Mutant) → length ms ≤ 262144 → refuse_many_mutants (length ms) ≡ Ok tt
 few_is ms mutants = ap (within (TooMany limit.Mutants 262145)) (le-ltb 262144 (length ms) mutants)
 
-tested_is : (files : ClassFiles) (p : Look) (ts : List Test) (ms : List Mutant) → few_mutants (length ms) ≡ Ok tt → tested files p ts ms ≡ and_then (testable files p ts ms) (λ ok. Ok (input_of ts ms (verdicts_by files p ts ms)))
+tested_is : (files : ClassFiles) (p : Look) (ts : List Test) (ms : List Mutant) → refuse_many_mutants (length ms) ≡ Ok tt → tested files p ts ms ≡ and_then (testable files p ts ms) (λ ok. Ok (input_of ts ms (verdicts_by files p ts ms)))
 unfolding tested
 tested_is files p ts ms ready = ap (λ x. and_then x (λ ok. and_then (testable files p ts ms) (λ ok. Ok (input_of ts ms (verdicts_by files p ts ms))))) ready
 
-steps_are : (files : ClassFiles) (p : Look) (ts : List Test) (ms : List Mutant) → few_mutants (length ms) ≡ Ok tt → tested_steps files p ts ms ≡ all_steps files p ts ms
+steps_are : (files : ClassFiles) (p : Look) (ts : List Test) (ms : List Mutant) → refuse_many_mutants (length ms) ≡ Ok tt → tested_steps files p ts ms ≡ all_steps files p ts ms
 unfolding tested_steps
 steps_are files p ts ms ready = ap (λ x. if_so x (all_steps files p ts ms)) ready
 
 -- the same, with the tests and the mutants as slices
-pub counted_steps : (files : ClassFiles) (p : Look) (ts : List Test) (ms : List Mutant) (ts' : List Test) (ms' : List Mutant) → few_mutants (length ms) ≡ Ok tt → ts' ≡ ts → ms' ≡ ms → all_steps files p ts' ms' ≡ tested_steps files p ts ms
+pub counted_steps : (files : ClassFiles) (p : Look) (ts : List Test) (ms : List Mutant) (ts' : List Test) (ms' : List Mutant) → refuse_many_mutants (length ms) ≡ Ok tt → ts' ≡ ts → ms' ≡ ms → all_steps files p ts' ms' ≡ tested_steps files p ts ms
 counted_steps files p ts ms ts' ms' ready t m = ap (λ l. all_steps files p l ms') t ∙ ap (λ l. all_steps files p ts l) m ∙ sym (steps_are files p ts ms ready)
 
 abbrev pub all_inputs : ReportInput → Result ReportInput Refusal
@@ -67,7 +67,7 @@ refused_by : {X Y : Type 0} (g : Result (Unit {0}) Refusal) (x : X) (y : Y) (r :
 refused_by (Ok ok) x y r h = absurd cc
 refused_by (Err q) x y r h = (cc, cc)
 
-pub tested_refused : (files : ClassFiles) (p : Look) (ts : List Test) (ms : List Mutant) (r : Refusal) → few_mutants (length ms) ≡ Ok tt → green_verdicts files p ts ms ≡ Err r → tested files p ts ms ≡ Err r
+pub tested_refused : (files : ClassFiles) (p : Look) (ts : List Test) (ms : List Mutant) (r : Refusal) → refuse_many_mutants (length ms) ≡ Ok tt → verdicts_if_passed files p ts ms ≡ Err r → tested files p ts ms ≡ Err r
 tested_refused files p ts ms r ready is =
     tested_is files p ts ms ready ∙ (refused_by (testable files p ts ms) (verdicts_by files p ts ms) (input_of ts ms (verdicts_by files p ts ms)) r is).1
 
@@ -75,7 +75,7 @@ no_case : (P : Type 0) → ⊥ → P
 no_case P q = absurd q
 
 -- Among the runs, a refusal comes not before the first one.
-pub refused_stays : (files : ClassFiles) (p : Look) (ts : List Test) (ms : List Mutant) (r : Refusal) (before after : ℕ) → before ≤ after → green_verdicts files p ts ms ≡ Err r → Stays before after r
+pub refused_stays : (files : ClassFiles) (p : Look) (ts : List Test) (ms : List Mutant) (r : Refusal) (before after : ℕ) → before ≤ after → verdicts_if_passed files p ts ms ≡ Err r → Stays before after r
 refused_stays files p ts ms r before after le is =
     (le, λ early. no_case _ ((of_testable files p ts ms r (refused_by (testable files p ts ms) (verdicts_by files p ts ms) (verdicts_by files p ts ms) r is).0).1 early))
 
@@ -83,14 +83,14 @@ passed_by : {X Y : Type 0} (g : Result (Unit {0}) Refusal) (x y : X) (f : X → 
 passed_by (Ok ok) x y f h = let e : x ≡ y = cc in (λ i. Ok (f (e i)))
 passed_by (Err q) x y f h = absurd cc
 
-pub tested_ok : (files : ClassFiles) (p : Look) (ts : List Test) (ms : List Mutant) (vs : List Verdict) → few_mutants (length ms) ≡ Ok tt → green_verdicts files p ts ms ≡ Ok vs → tested files p ts ms ≡ Ok (input_of ts ms vs)
+pub tested_ok : (files : ClassFiles) (p : Look) (ts : List Test) (ms : List Mutant) (vs : List Verdict) → refuse_many_mutants (length ms) ≡ Ok tt → verdicts_if_passed files p ts ms ≡ Ok vs → tested files p ts ms ≡ Ok (input_of ts ms vs)
 tested_ok files p ts ms vs ready is = tested_is files p ts ms ready ∙ passed_by (testable files p ts ms) (verdicts_by files p ts ms) vs (input_of ts ms) is
 
 -- ---- a suite
 
 -- These are the class files, the program, the tests and the mutants of a suite whose classes make a program.
 pub record IsLinked (s : LoadedSuite) (files : ClassFiles) (p : Look) (ts : List Test) (ms : List Mutant) : Type 0 where
-  pub asked : linked s ≡ Ok tt
+  pub of_program : linked s ≡ Ok tt
   pub by_file : files ≡ suite_files s
   pub by_name : p ≡ program s
   pub of_tests : tests_of s ≡ Ok ts
@@ -118,39 +118,39 @@ enough s p all count is len many =
 pub is_linked : (s : LoadedSuite) (files : ClassFiles) (p : Look) (all : List Loaded) (ts : List Test) (ms : List Mutant) → accepted (classes_in all) ≡ Ok tt → files ≡ class_file (classes_in all)
     → p ≡ program_of (classes_in all) → all ≡ all_classes s → tests_of s ≡ Ok ts → ms ≡ mutants_of s → IsLinked s files p ts ms
 is_linked s files p all ts ms acc fs look is t m = record {
-  asked = ap (λ l. accepted (classes_in l)) (sym is) ∙ acc;
+  of_program = ap (λ l. accepted (classes_in l)) (sym is) ∙ acc;
   by_file = fs ∙ ap (λ l. class_file (classes_in l)) is;
   by_name = look ∙ ap (λ l. program_of (classes_in l)) is;
   of_tests = t;
   of_mutants = m;
 }
 
-pub mutants_few : (ms : List Mutant) → few_mutants (length ms) ≡ Ok tt → length ms ≤ 262144
+pub mutants_few : (ms : List Mutant) → refuse_many_mutants (length ms) ≡ Ok tt → length ms ≤ 262144
 mutants_few ms few = bounded 262144 (length ms) (TooMany limit.Mutants 262145) (ltb 262144 (length ms)) refl few
 
 -- A fault of tests, and too many tests or mutants, are told before a run.
 pub record IsRefused (s : LoadedSuite) (r : Refusal) : Type 0 where
-  pub stated : judged s ≡ Err r
+  pub stated : report_input s ≡ Err r
   pub unrun : suite_steps s ≡ 0
 
-tested_refused_by : (files : ClassFiles) (p : Look) (ts : List Test) (ms : List Mutant) (r : Refusal) → few_mutants (length ms) ≡ Err r → tested files p ts ms ≡ Err r
+tested_refused_by : (files : ClassFiles) (p : Look) (ts : List Test) (ms : List Mutant) (r : Refusal) → refuse_many_mutants (length ms) ≡ Err r → tested files p ts ms ≡ Err r
 unfolding tested
 tested_refused_by files p ts ms r h = ap (λ x. and_then x (λ ok. and_then (testable files p ts ms) (λ ok. Ok (input_of ts ms (verdicts_by files p ts ms))))) h
 
-none_run : (files : ClassFiles) (p : Look) (ts : List Test) (ms : List Mutant) (r : Refusal) → few_mutants (length ms) ≡ Err r → tested_steps files p ts ms ≡ 0
+none_run : (files : ClassFiles) (p : Look) (ts : List Test) (ms : List Mutant) (r : Refusal) → refuse_many_mutants (length ms) ≡ Err r → tested_steps files p ts ms ≡ 0
 unfolding tested_steps
 none_run files p ts ms r h = ap (λ x. if_so x (all_steps files p ts ms)) h
 
 -- What is reported, and the steps of the runs, by the tests that were found.
-abbrev judged_by : LoadedSuite → Result (List Test) Refusal → Result ReportInput Refusal
-judged_by s found = and_then found (λ ts. tested (suite_files s) (program s) ts (mutants_of s))
+abbrev report_input_by : LoadedSuite → Result (List Test) Refusal → Result ReportInput Refusal
+report_input_by s found = and_then found (λ ts. tested (suite_files s) (program s) ts (mutants_of s))
 
 abbrev steps_by : LoadedSuite → Result (List Test) Refusal → ℕ
 steps_by s found = if_found found (λ ts. tested_steps (suite_files s) (program s) ts (mutants_of s))
 
-by_found : (s : LoadedSuite) (found : Result (List Test) Refusal) → linked s ≡ Ok tt → tests_of s ≡ found → (judged s ≡ judged_by s found) × (suite_steps s ≡ steps_by s found)
+by_found : (s : LoadedSuite) (found : Result (List Test) Refusal) → linked s ≡ Ok tt → tests_of s ≡ found → (report_input s ≡ report_input_by s found) × (suite_steps s ≡ steps_by s found)
 by_found s found ok is = (
-  ap (λ x. and_then x (λ ok. judged_by s (tests_of s))) ok ∙ ap (judged_by s) is,
+  ap (λ x. and_then x (λ ok. report_input_by s (tests_of s))) ok ∙ ap (report_input_by s) is,
   ap (λ x. if_so x (steps_by s (tests_of s))) ok ∙ ap (steps_by s) is,
 )
 
@@ -178,7 +178,7 @@ pub program_refused : {X : Type 0} (s : LoadedSuite) (all : List Loaded) (e : Pr
 program_refused s all e told is first by = λ r h.
     let by_classes : linked s ≡ Err r = ap (λ l. accepted (classes_in l)) (sym is) ∙ refused_first all e told first by r h in
     record {
-      stated = ap (λ x. and_then x (λ ok. judged_by s (tests_of s))) by_classes;
+      stated = ap (λ x. and_then x (λ ok. report_input_by s (tests_of s))) by_classes;
       unrun = ap (λ x. if_so x (steps_by s (tests_of s))) by_classes;
     }
 
@@ -193,7 +193,7 @@ pub mutants_refused : (s : LoadedSuite) (p : List Info) (all : List Loaded) (ts 
     → HaveFirstNumbers p (classes_in all) → count ≡ length s.classes → HasTooMany p count r → IsRefused s r
 mutants_refused s p all ts count r acc is found numbered len many =
     let ms : many.0 ≡ mutants_of s = mutants_are s p all count many.0 numbered is len many.1 in
-    let own : few_mutants (length (mutants_of s)) ≡ Err r = ap (λ l. few_mutants (length l)) (sym ms) ∙ many.2 in
+    let own : refuse_many_mutants (length (mutants_of s)) ≡ Err r = ap (λ l. refuse_many_mutants (length l)) (sym ms) ∙ many.2 in
     let by = by_found s (Ok ts) (is_program s all acc is) found in
     record {
       stated = by.0 ∙ tested_refused_by (suite_files s) (program s) ts (mutants_of s) r own;
@@ -206,7 +206,7 @@ found_so (Ok ok) x y h = cc
 found_so (Err q) x y h = absurd cc
 
 all_found : (found : Result (List Test) TestFault) (ts : List Test) → few_found found ≡ Ok ts → found ≡ Ok ts
-all_found (Ok all) ts h = ap (λ l. Ok l) (found_so (few_tests (length all)) all ts h)
+all_found (Ok all) ts h = ap (λ l. Ok l) (found_so (refuse_many_tests (length all)) all ts h)
 all_found (Err fault) ts h = absurd cc
 
 tests_found : (p : List Info) (own count : ℕ) (ts : List Test) → tests_from p own count ≡ Ok ts → Tests (length p) (files_of p) (map (name_at p) (numbers_from own count)) ≡ Ok ts
@@ -229,17 +229,17 @@ are_of_suite fit s p all ts ms own count formed spelled program ready looks file
   most = length p;
   names = map (name_at p) (numbers_from own count);
   found = tests_found p own count ts found;
-  mutants = subst (All (IsListed p)) (sym linked.of_mutants) (all_listed fit s p formed linked.asked linked.by_file);
+  mutants = subst (All (IsListed p)) (sym linked.of_mutants) (all_listed fit s p formed linked.of_program linked.by_file);
 }
 
 all_tested : (s : LoadedSuite) (files : ClassFiles) (p : Look) (ts : List Test) (ms : List Mutant) → IsLinked s files p ts ms → tested files p ts ms ≡ tested (suite_files s) (program s) ts (mutants_of s)
 all_tested s files p ts ms h =
     ap (λ f. tested f p ts ms) h.by_file ∙ ap (λ q. tested (suite_files s) q ts ms) h.by_name ∙ ap (λ l. tested (suite_files s) (program s) ts l) h.of_mutants
 
-pub judged_is : (s : LoadedSuite) (files : ClassFiles) (p : Look) (ts : List Test) (ms : List Mutant) → IsLinked s files p ts ms → tested files p ts ms ≡ judged s
-judged_is s files p ts ms h = all_tested s files p ts ms h ∙ sym (by_found s (Ok ts) h.asked h.of_tests).0
+pub report_input_is : (s : LoadedSuite) (files : ClassFiles) (p : Look) (ts : List Test) (ms : List Mutant) → IsLinked s files p ts ms → tested files p ts ms ≡ report_input s
+report_input_is s files p ts ms h = all_tested s files p ts ms h ∙ sym (by_found s (Ok ts) h.of_program h.of_tests).0
 
 pub suite_steps_are : (s : LoadedSuite) (files : ClassFiles) (p : Look) (ts : List Test) (ms : List Mutant) → IsLinked s files p ts ms → tested_steps files p ts ms ≡ suite_steps s
 suite_steps_are s files p ts ms h =
     ap (λ f. tested_steps f p ts ms) h.by_file ∙ ap (λ q. tested_steps (suite_files s) q ts ms) h.by_name ∙ ap (λ l. tested_steps (suite_files s) (program s) ts l) h.of_mutants
-    ∙ sym (by_found s (Ok ts) h.asked h.of_tests).1
+    ∙ sym (by_found s (Ok ts) h.of_program h.of_tests).1

@@ -5,7 +5,7 @@ use Rattle.mutant_runs.specs.Programs.{files_of}
 use Rattle.mutest_engine.proofs.NeededLaws.{tests_counted}
 use Rattle.mutest_engine.proofs.OriginalLaws.{made_most}
 use Rattle.mutest_engine.proofs.StepLaws.{originals_most, originals_end, no_verdicts, is_green, counts_are, steps_then, verdicts_then}
-use Rattle.mutest_engine.proofs.judged.all_runs.Goals as goal
+use Rattle.mutest_engine.proofs.mutation.all_runs.Goals as goal
 
 pub returns-in_err-runs-clause-value : goal.returns-in_err-runs-clause-value
 returns-in_err-runs-clause-value c =
@@ -21,7 +21,7 @@ returns-in_err-runs-clause-most c =
 pub returns-in_err-runs-clause-exact : goal.returns-in_err-runs-clause-exact
 returns-in_err-runs-clause-exact c =
     let p = err_from_is_err_and c.from_residual.result c.from_residual.ensures.1 in
-    rw (p.1, p.2) (λ r is. originals_end (files_of c.args.program.now) (look c.args.program.now) c.args.tests.now c.args.mutants.now c.green.new.part r (c.in_err-runs.ensures.value r is) (c.in_err-runs.ensures.exact r is))
+    rw (p.1, p.2) (λ r is. originals_end (files_of c.args.program.now) (look c.args.program.now) c.args.tests.now c.args.mutants.now c.run_originals.new.part r (c.in_err-runs.ensures.value r is) (c.in_err-runs.ensures.exact r is))
 
 pub covered_runs-requires-clause-ready : goal.covered_runs-requires-clause-ready
 covered_runs-requires-clause-ready c = c.requires.suite.program.ready
