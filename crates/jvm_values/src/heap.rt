@@ -60,7 +60,8 @@ impl Heap {
     pub fn object(&mut self, class: ClassId, fields: &Seq<Kind>) -> Result<u32, HeapFault>
         ensures number { IfOk result (λ number. number ≡ next_number self.old) }
         ensures heap { OnOk result (self.new ≡ with_new_object self.old class.0 fields.now) }
-        ensures full { (result ≡ Err HeapFault.Full) ↔ IsPassedBy self.old (object_words fields.now) }
+        ensures full { (result ≡ Err HeapFault.Full)
+            ↔ IsPassedBy self.old (object_words fields.now) }
         ensures err { OnErr result (self.new ≡ self.old) }
     {
         let words = words_with(self.words, self.limit, 1, fields.len())?;
