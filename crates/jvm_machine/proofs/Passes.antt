@@ -258,6 +258,10 @@ pub marked_more : (p : List Info) (limit n : ℕ) (ms : List Marked) (m new : Ma
 marked_more p limit n ms m new r is took right =
     stays.marked_on p ms (lines_of p m.world) (lines_of p new.world) (subst (Took p limit m new) is took).ready.1 right
 
+-- Lines that were reached stay so.
+pub reached_more : (p : List Info) (limit n class method : ℕ) (marks : List Bool) (m new : Machine) → Took p limit m new (taken.Steps n) → AreReached p class method marks (lines_of p m.world) → AreReached p class method marks (lines_of p new.world)
+reached_more p limit n class method marks m new took reached = λ at is. stays.reached_on _ _ _ (lines_of p m.world) (lines_of p new.world) took.ready.1 (reached at is)
+
 pub fits : (k a limit : ℕ) (r : Taken) → IsUpTo k r → a + k ≤ limit → limit < 2 ^ 64 → Fits a r
 fits k a limit (taken.Steps n) h lt small = omega (arith, h, lt, small)
 fits k a limit (taken.Stuck n) h lt small = omega (arith, h, lt, small)
@@ -271,6 +275,12 @@ runs_reached p m class method at code marks is of reached =
       reached = subst (λ n. AreReached p n f.method marks (lines_of p m.world)) (sym k.class)
           (subst (λ n. AreReached p class n marks (lines_of p m.world)) (sym k.method) reached);
     }) is
+
+pub runs_in : (p : List Info) (m : Machine) (class method at k n : ℕ) (code : MethodCode) (marks : List Bool) → IsSomeAnd m.frames.frame (IsAt class method at) → class ≡ k → method ≡ n → IsCodeOf p k n code → AreReached p k n marks (lines_of p m.world) → RunsReached p code marks m
+runs_in p m class method at k n code marks is same place of reached =
+    runs_reached p m class method at code marks is
+    (subst (λ i. IsCodeOf p i method code) (sym same) (subst (λ i. IsCodeOf p k i code) (sym place) of))
+    (subst (λ i. AreReached p i method marks (lines_of p m.world)) (sym same) (subst (λ i. AreReached p k i marks (lines_of p m.world)) (sym place) reached))
 
 -- ---- the running frame alone
 

@@ -63,7 +63,7 @@ keeps p m new h answer =
     let behind = lines_are p new.world to.stands.world.past to.state.world to.stands.world.world in
     subst (λ rs. KeepsLines rs (lines_of p new.world)) before (subst (KeepsLines h.world.reached) behind law)
 
-reached_on : (b : Bool) (class : Name) (line : ℕ) (rs ts : List (Name × ℕ)) → KeepsLines rs ts → IsReachedIf b class line rs → IsReachedIf b class line ts
+pub reached_on : (b : Bool) (class : Name) (line : ℕ) (rs ts : List (Name × ℕ)) → KeepsLines rs ts → IsReachedIf b class line rs → IsReachedIf b class line ts
 reached_on true class line rs ts k h = k class line h
 reached_on false class line rs ts k h = tt
 

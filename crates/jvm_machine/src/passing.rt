@@ -4,13 +4,14 @@ ghost use Rattle.std.specs.Prelude.{◌≡◌, ◌+◌, ◌≤◌, ◌<◌, ◌^
 ghost use Rattle.class_table.specs.Faults.{HasRightKinds};
 ghost use Rattle.class_table.specs.Table.{look};
 ghost use Rattle.jvm_act.specs.Acts.{RunsCode, acting};
+ghost use Rattle.jvm_act.specs.Methods.{IsCodeOf};
 ghost use Rattle.jvm_act.specs.Standing.{AreFramesOf};
 ghost use Rattle.jvm_act.specs.Turned.{Turned};
 ghost use Rattle.jvm_field_rows.specs.Layouts.{AreLayouts};
 ghost use Rattle.jvm_field_rows.specs.Slots.{AreSlots};
 ghost use Rattle.jvm_frames.specs.Staying.{StayOn};
 ghost use Rattle.jvm_machine.specs.Machines.{HasMeaning, IsMachineOf};
-ghost use Rattle.jvm_machine.specs.Marking.{AreMarkedRight, StaysMarked, lines_of};
+ghost use Rattle.jvm_machine.specs.Marking.{AreMarkedRight, AreReached, StaysMarked, lines_of};
 ghost use Rattle.jvm_machine.specs.Passing.{Fits, HasMark, IsCalm, RunsReached, Took, plus, went_of};
 ghost use Rattle.jvm_machine.specs.Programs.{IsRunnable};
 ghost use Rattle.jvm_machine.specs.Tables.{AreTablesOf};
@@ -22,11 +23,11 @@ use crate::machine::Machine;
 use crate::marking::{MethodMarks, is_marked, marks_of, note_line};
 use crate::tables::Tables;
 use class_family::Walker;
-use class_model::Memory;
+use class_model::{ClassId, Memory};
 use class_table::Program;
 use jvm_act::{MethodCode, act_beyond};
 use jvm_field_rows::{Layouts, Slots};
-use jvm_frames::Frames;
+use jvm_frames::{Frames, Place};
 use jvm_natives::Natives;
 use jvm_receivers::Lookups;
 use jvm_state::Op;
@@ -309,8 +310,125 @@ fn take_steps(
     Ok(all)
 }
 
-// Takes steps of instructions of the running frame whose lines were reached, so many at most, up to
-// one that goes beyond it.
+// Whether a frame is of a method.
+fn is_of(place: Place, class: ClassId, number: u32) -> bool
+    ensures class { result ≡ true → place.class.0 ≡ class.0 }
+    ensures number { result ≡ true → place.method ≡ number }
+{
+    place.class.0 == class.0 && place.method == number
+}
+
+// Takes steps while the frame that runs is of a method with this code and these marks, up to an
+// instruction that goes beyond it.
+#[tactic(auto, using(crate::proofs::Passes::took_none))]
+fn take_in_method(
+    m: &mut Machine,
+    alloc: Global,
+    p: &Program,
+    method: &MethodCode,
+    marks: &[bool],
+    natives: &Natives,
+    lookups: &mut Lookups,
+    slots: &mut Slots,
+    layouts: &mut Layouts,
+    walker: &mut Walker,
+    class: ClassId,
+    number: u32,
+    limit: u64,
+) -> Result<Taken, Memory>
+    requires machine { IsMachineOf p.now m.old }
+    requires code { IsCodeOf p.now class.0 number method.now }
+    requires reached { AreReached p.now class.0 number marks.now (lines_of p.now m.old.world) }
+    requires meaning { HasMeaning p.now m.old.world }
+    requires kinds { HasRightKinds (look p.now) }
+    requires natives { AreNatives p.now natives.now }
+    requires lookups { AreLookups p.now lookups.old }
+    requires slots { AreSlots p.now slots.old }
+    requires layouts { AreLayouts p.now layouts.old }
+    ensures took { IfOk result (Took p.now limit m.old m.new) }
+    ensures lookups { AreLookups p.now lookups.new }
+    ensures slots { AreSlots p.now slots.new }
+    ensures layouts { AreLayouts p.now layouts.new }
+{
+    if !is_calm(m) {
+        return Ok(Taken::Steps(0));
+    }
+    let Some(place) = m.frames.place() else {
+        return Ok(Taken::Steps(0));
+    };
+    if !is_of(place, class, number) {
+        return Ok(Taken::Steps(0));
+    }
+    let taken = take_steps(
+        m, alloc, p, method, marks, natives, lookups, slots, layouts, walker, place.at, limit,
+    )?;
+    Ok(taken)
+}
+
+// Goes on, by so many steps at most, while the frame that runs is of a method with this code and
+// these marks.
+#[tactic(auto, using(crate::proofs::Passes::took_more))]
+fn stay_in_method(
+    m: &mut Machine,
+    alloc: Global,
+    p: &Program,
+    method: &MethodCode,
+    marks: &[bool],
+    natives: &Natives,
+    lookups: &mut Lookups,
+    slots: &mut Slots,
+    layouts: &mut Layouts,
+    walker: &mut Walker,
+    class: ClassId,
+    number: u32,
+    limit: u64,
+) -> Result<Taken, Memory>
+    requires machine { IsMachineOf p.now m.old }
+    requires code { IsCodeOf p.now class.0 number method.now }
+    requires reached { AreReached p.now class.0 number marks.now (lines_of p.now m.old.world) }
+    requires meaning { HasMeaning p.now m.old.world }
+    requires kinds { HasRightKinds (look p.now) }
+    requires natives { AreNatives p.now natives.now }
+    requires lookups { AreLookups p.now lookups.old }
+    requires slots { AreSlots p.now slots.old }
+    requires layouts { AreLayouts p.now layouts.old }
+    ensures took { IfOk result (Took p.now limit m.old m.new) }
+    ensures lookups { AreLookups p.now lookups.new }
+    ensures slots { AreSlots p.now slots.new }
+    ensures layouts { AreLayouts p.now layouts.new }
+{
+    let mut done = 0;
+    while done < limit {
+        let taken = take_in_method(
+            m,
+            alloc,
+            p,
+            method,
+            marks,
+            natives,
+            lookups,
+            slots,
+            layouts,
+            walker,
+            class,
+            number,
+            limit - done,
+        )?;
+        match taken {
+            Taken::Steps(n) => {
+                done += n;
+                if n == 0 {
+                    return Ok(Taken::Steps(done));
+                }
+            }
+            Taken::Stuck(n) => return Ok(Taken::Stuck(done + n)),
+        }
+    }
+    Ok(Taken::Steps(done))
+}
+
+// Takes steps of instructions of the running frame's method whose lines were reached, so many at
+// most, while frames of it run.
 #[tactic(auto, using(crate::proofs::Passes::took_none))]
 fn pass(
     m: &mut Machine,
@@ -330,9 +448,6 @@ fn pass(
         AreMarkedRight p.now marks.new.items (lines_of p.now m.old.world)) }
     ensures tables { AreTablesOf p.now tables.new }
 {
-    if !is_calm(m) {
-        return Ok(Taken::Steps(0));
-    }
     let Some(place) = m.frames.place() else {
         return Ok(Taken::Steps(0));
     };
@@ -343,7 +458,7 @@ fn pass(
     let Some(here) = marks_of(marks, place.class, place.method) else {
         return Ok(Taken::Steps(0));
     };
-    let taken = take_steps(
+    let taken = stay_in_method(
         m,
         alloc,
         p,
@@ -354,7 +469,8 @@ fn pass(
         &mut tables.slots,
         &mut tables.layouts,
         &mut tables.walker,
-        place.at,
+        place.class,
+        place.method,
         limit,
     )?;
     Ok(taken)
