@@ -8,9 +8,11 @@ use class_asm::AsmFault;
 use class_model::Bytes;
 use std::alloc::Global;
 
-/// The class file of the class that a text states. `Line` comes exactly where the text states none, and names the first line at fault.
+/// The class file of the class that a text states. `Line` comes exactly where the text states none,
+/// and names the first line at fault.
 pub fn assemble(alloc: Global, text: &[u8]) -> Result<Bytes, AsmFault>
-    ensures { MatchResult result (λ bytes. IsAssembled text.now bytes) (λ fault. fault ≢ asm_fault.Memory → AssembledClass text.now ≡ Err fault) }
+    ensures { MatchResult result (λ bytes. IsAssembled text.now bytes)
+        (λ fault. fault ≢ asm_fault.Memory → AssembledClass text.now ≡ Err fault) }
 {
     class_asm::assemble(alloc, text)
 }

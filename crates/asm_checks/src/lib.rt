@@ -1,4 +1,7 @@
-//! The calls of the assembler's crates under their own contracts, and the tests of these crates. Wrong bodies of the calls stand in `must-fail`: a contract that refuses one here refuses it in the crate that has the call, since the texts of both contracts are the same and the body that is proved here is that call.
+//! The calls of the assembler's crates under their own contracts, and the tests of these crates.
+//! Wrong bodies of the calls stand in `must-fail`: a contract that refuses one here refuses it in
+//! the crate that has the call, since the texts of both contracts are the same and the body that is
+//! proved here is that call.
 #![tactic(auto)]
 
 mod assembling;

@@ -27,15 +27,15 @@ use Rattle.asm_insns.specs.Insns.{plain, operand_of, plain_insn, wide_arg, wide_
 use Rattle.asm_insns.specs.Stated.{insn_with, IsOperand, IsStatedInsn}
 use Rattle.asm_words.specs.declared.line.Line.{Line}
 use Rattle.asm_insns.specs.declared.stated.StatedInsn.{StatedInsn}
-use Rattle.asm_insns.specs.declared.stated.Entry.{Entry}
-use Rattle.asm_insns.specs.declared.stated.Entry.TheVariants as entry
+use Rattle.asm_insns.specs.declared.stated.StatedConstant.{StatedConstant}
+use Rattle.asm_insns.specs.declared.stated.StatedConstant.TheVariants as entry
 use Rattle.class_model.specs.declared.kind.MethodType.{MethodType}
 use Rattle.class_model.specs.declared.fault.DescFault.{DescFault}
 use Rattle.class_model.specs.DescriptorReading.{field_kind, method_kinds}
 use Rattle.std.specs.Result.{is_ok}
 use Rattle.std.specs.Prelude.{Result, Ok, Err, sum_by}
 use Rattle.std.proofs.lemmas.Bool.{ltb-true}
-use Rattle.class_model.specs.Judged.{words as words_of_kind}
+use Rattle.class_model.specs.TextVerdicts.{words as words_of_kind}
 use Rattle.asm_words.specs.declared.labels.Labels.{Labels}
 use Rattle.asm_insns.specs.declared.stated.Operand.{Operand}
 use Rattle.asm_insns.specs.declared.stated.Operand.TheVariants as operand
@@ -205,7 +205,7 @@ plain_is total op words lt is = of_if (length words == 0) (Some (operand.Done ar
 abbrev HasIndex : Form → Type 0
 HasIndex f = (index : ℕ) → index < 2 ^ 16 → IsArg f (arg.Pool index)
 
-named_is : {A : Type 0} → (total op : ℕ) (f : Form) (make : A → Entry) (o : Option A) → op < 2 ^ 8 → form_of op ≡ Some f → HasIndex f → IfSome (option_map (λ x. operand.Named (make x)) o) (IsOperand total op false)
+named_is : {A : Type 0} → (total op : ℕ) (f : Form) (make : A → StatedConstant) (o : Option A) → op < 2 ^ 8 → form_of op ≡ Some f → HasIndex f → IfSome (option_map (λ x. operand.Named (make x)) o) (IsOperand total op false)
 named_is {A} total op f make o lt is h =
     of_map (λ (x : A). operand.Named (make x)) o (IsOperand total op false) (always o (λ x. IsOperand total op false (operand.Named (make x))) (λ x index few. has_form op f (arg.Pool index) lt is (h index few)))
 
@@ -213,10 +213,10 @@ long_is : (total op : ℕ) (words : List (List ℕ)) → op < 2 ^ 8 → form_of 
 long_is total op words lt is = of_only (λ word. option_map (λ n. operand.Named (entry.Long n)) (between 0x7FFF_FFFF_FFFF_FFFF word)) words (IsOperand total op false)
     (λ word. named_is total op form.LongConstant entry.Long (between 0x7FFF_FFFF_FFFF_FFFF word) lt is (λ index few. (refl, few)))
 
-near_is : (total op : ℕ) (o : Option Entry) → op < 2 ^ 8 → form_of op ≡ Some form.SmallConstant → IfSome (option_map operand.Near o) (IsOperand total op false)
+near_is : (total op : ℕ) (o : Option StatedConstant) → op < 2 ^ 8 → form_of op ≡ Some form.SmallConstant → IfSome (option_map operand.Near o) (IsOperand total op false)
 near_is total op o lt is = of_map operand.Near o (IsOperand total op false) (always o (λ e. IsOperand total op false (operand.Near e)) (λ e index few. has_form op form.SmallConstant (arg.Pool index) lt is (refl, few)))
 
-far_is : (total op : ℕ) (f : Form) (o : Option Entry) → op < 2 ^ 8 → form_of op ≡ Some f → HasIndex f → IfSome (option_map operand.Named o) (IsOperand total op false)
+far_is : (total op : ℕ) (f : Form) (o : Option StatedConstant) → op < 2 ^ 8 → form_of op ≡ Some f → HasIndex f → IfSome (option_map operand.Named o) (IsOperand total op false)
 far_is total op f o lt is h = of_map operand.Named o (IsOperand total op false) (always o (λ e. IsOperand total op false (operand.Named e)) (λ e index few. has_form op f (arg.Pool index) lt is (h index few)))
 
 field_is : (total op : ℕ) (words : List (List ℕ)) → op < 2 ^ 8 → form_of op ≡ Some form.Field → IfSome (field words) (IsOperand total op false)

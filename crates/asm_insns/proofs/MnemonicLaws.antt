@@ -4,7 +4,7 @@ use Rattle.std.specs.Prelude.{nat_lt, IfSome}
 use Rattle.std.specs.List.{list_all}
 use Rattle.std.proofs.lemmas.Bool.{ltb-true}
 use Rattle.asm_words.specs.Words.{says}
-use Rattle.asm_insns.specs.Mnemonics.{looked_up as row_in, rows_from_00, rows_from_11, rows_from_1f, rows_from_35, rows_from_4b, rows_from_59, rows_from_69, rows_from_7d, rows_from_93, rows_from_a3, rows_from_b3, rows_from_c0, opcodes_from_00, opcodes_from_11, opcodes_from_1f, opcodes_from_35, opcodes_from_4b, opcodes_from_59, opcodes_from_69, opcodes_from_7d, opcodes_from_93, opcodes_from_a3, opcodes_from_b3, opcodes_from_c0, opcode_of}
+use Rattle.asm_insns.specs.Mnemonics.{looked_up as row_in, rows_from_nop, rows_from_sipush, rows_from_lload_1, rows_from_saload, rows_from_astore_0, rows_from_dup, rows_from_lmul, rows_from_lushr, rows_from_i2s, rows_from_if_icmpgt, rows_from_putstatic, rows_from_checkcast, opcode_from_nop_on, opcode_from_sipush_on, opcode_from_lload_1_on, opcode_from_saload_on, opcode_from_astore_0_on, opcode_from_dup_on, opcode_from_lmul_on, opcode_from_lushr_on, opcode_from_i2s_on, opcode_from_if_icmpgt_on, opcode_from_putstatic_on, opcode_from_checkcast_on, opcode_of}
 use Rattle.asm_words.proofs.IfSome.{of_else}
 use Rattle.asm_words.proofs.NumberLaws.{and_left, and_right}
 
@@ -14,53 +14,53 @@ row_is word (row ∷ rows) other small h =
     of_else (says word row.0) (Some row.1) (row_in word rows other) (λ op. op < 2 ^ 8) (ltb-true row.1 256 (and_left (nat_lt row.1 256) (list_all (λ (row : List ℕ × ℕ). nat_lt row.1 256) rows) small))
     (row_is word rows other (and_right (nat_lt row.1 256) (list_all (λ (row : List ℕ × ℕ). nat_lt row.1 256) rows) small) h)
 
-opcodes_from_c0_is : (word : List ℕ) → IfSome (opcodes_from_c0 word) (λ op. op < 2 ^ 8)
-unfolding opcodes_from_c0
-opcodes_from_c0_is word = row_is word rows_from_c0 None refl tt
+opcode_from_checkcast_on_is : (word : List ℕ) → IfSome (opcode_from_checkcast_on word) (λ op. op < 2 ^ 8)
+unfolding opcode_from_checkcast_on
+opcode_from_checkcast_on_is word = row_is word rows_from_checkcast None refl tt
 
-opcodes_from_b3_is : (word : List ℕ) → IfSome (opcodes_from_b3 word) (λ op. op < 2 ^ 8)
-unfolding opcodes_from_b3
-opcodes_from_b3_is word = row_is word rows_from_b3 (opcodes_from_c0 word) refl (opcodes_from_c0_is word)
+opcode_from_putstatic_on_is : (word : List ℕ) → IfSome (opcode_from_putstatic_on word) (λ op. op < 2 ^ 8)
+unfolding opcode_from_putstatic_on
+opcode_from_putstatic_on_is word = row_is word rows_from_putstatic (opcode_from_checkcast_on word) refl (opcode_from_checkcast_on_is word)
 
-opcodes_from_a3_is : (word : List ℕ) → IfSome (opcodes_from_a3 word) (λ op. op < 2 ^ 8)
-unfolding opcodes_from_a3
-opcodes_from_a3_is word = row_is word rows_from_a3 (opcodes_from_b3 word) refl (opcodes_from_b3_is word)
+opcode_from_if_icmpgt_on_is : (word : List ℕ) → IfSome (opcode_from_if_icmpgt_on word) (λ op. op < 2 ^ 8)
+unfolding opcode_from_if_icmpgt_on
+opcode_from_if_icmpgt_on_is word = row_is word rows_from_if_icmpgt (opcode_from_putstatic_on word) refl (opcode_from_putstatic_on_is word)
 
-opcodes_from_93_is : (word : List ℕ) → IfSome (opcodes_from_93 word) (λ op. op < 2 ^ 8)
-unfolding opcodes_from_93
-opcodes_from_93_is word = row_is word rows_from_93 (opcodes_from_a3 word) refl (opcodes_from_a3_is word)
+opcode_from_i2s_on_is : (word : List ℕ) → IfSome (opcode_from_i2s_on word) (λ op. op < 2 ^ 8)
+unfolding opcode_from_i2s_on
+opcode_from_i2s_on_is word = row_is word rows_from_i2s (opcode_from_if_icmpgt_on word) refl (opcode_from_if_icmpgt_on_is word)
 
-opcodes_from_7d_is : (word : List ℕ) → IfSome (opcodes_from_7d word) (λ op. op < 2 ^ 8)
-unfolding opcodes_from_7d
-opcodes_from_7d_is word = row_is word rows_from_7d (opcodes_from_93 word) refl (opcodes_from_93_is word)
+opcode_from_lushr_on_is : (word : List ℕ) → IfSome (opcode_from_lushr_on word) (λ op. op < 2 ^ 8)
+unfolding opcode_from_lushr_on
+opcode_from_lushr_on_is word = row_is word rows_from_lushr (opcode_from_i2s_on word) refl (opcode_from_i2s_on_is word)
 
-opcodes_from_69_is : (word : List ℕ) → IfSome (opcodes_from_69 word) (λ op. op < 2 ^ 8)
-unfolding opcodes_from_69
-opcodes_from_69_is word = row_is word rows_from_69 (opcodes_from_7d word) refl (opcodes_from_7d_is word)
+opcode_from_lmul_on_is : (word : List ℕ) → IfSome (opcode_from_lmul_on word) (λ op. op < 2 ^ 8)
+unfolding opcode_from_lmul_on
+opcode_from_lmul_on_is word = row_is word rows_from_lmul (opcode_from_lushr_on word) refl (opcode_from_lushr_on_is word)
 
-opcodes_from_59_is : (word : List ℕ) → IfSome (opcodes_from_59 word) (λ op. op < 2 ^ 8)
-unfolding opcodes_from_59
-opcodes_from_59_is word = row_is word rows_from_59 (opcodes_from_69 word) refl (opcodes_from_69_is word)
+opcode_from_dup_on_is : (word : List ℕ) → IfSome (opcode_from_dup_on word) (λ op. op < 2 ^ 8)
+unfolding opcode_from_dup_on
+opcode_from_dup_on_is word = row_is word rows_from_dup (opcode_from_lmul_on word) refl (opcode_from_lmul_on_is word)
 
-opcodes_from_4b_is : (word : List ℕ) → IfSome (opcodes_from_4b word) (λ op. op < 2 ^ 8)
-unfolding opcodes_from_4b
-opcodes_from_4b_is word = row_is word rows_from_4b (opcodes_from_59 word) refl (opcodes_from_59_is word)
+opcode_from_astore_0_on_is : (word : List ℕ) → IfSome (opcode_from_astore_0_on word) (λ op. op < 2 ^ 8)
+unfolding opcode_from_astore_0_on
+opcode_from_astore_0_on_is word = row_is word rows_from_astore_0 (opcode_from_dup_on word) refl (opcode_from_dup_on_is word)
 
-opcodes_from_35_is : (word : List ℕ) → IfSome (opcodes_from_35 word) (λ op. op < 2 ^ 8)
-unfolding opcodes_from_35
-opcodes_from_35_is word = row_is word rows_from_35 (opcodes_from_4b word) refl (opcodes_from_4b_is word)
+opcode_from_saload_on_is : (word : List ℕ) → IfSome (opcode_from_saload_on word) (λ op. op < 2 ^ 8)
+unfolding opcode_from_saload_on
+opcode_from_saload_on_is word = row_is word rows_from_saload (opcode_from_astore_0_on word) refl (opcode_from_astore_0_on_is word)
 
-opcodes_from_1f_is : (word : List ℕ) → IfSome (opcodes_from_1f word) (λ op. op < 2 ^ 8)
-unfolding opcodes_from_1f
-opcodes_from_1f_is word = row_is word rows_from_1f (opcodes_from_35 word) refl (opcodes_from_35_is word)
+opcode_from_lload_1_on_is : (word : List ℕ) → IfSome (opcode_from_lload_1_on word) (λ op. op < 2 ^ 8)
+unfolding opcode_from_lload_1_on
+opcode_from_lload_1_on_is word = row_is word rows_from_lload_1 (opcode_from_saload_on word) refl (opcode_from_saload_on_is word)
 
-opcodes_from_11_is : (word : List ℕ) → IfSome (opcodes_from_11 word) (λ op. op < 2 ^ 8)
-unfolding opcodes_from_11
-opcodes_from_11_is word = row_is word rows_from_11 (opcodes_from_1f word) refl (opcodes_from_1f_is word)
+opcode_from_sipush_on_is : (word : List ℕ) → IfSome (opcode_from_sipush_on word) (λ op. op < 2 ^ 8)
+unfolding opcode_from_sipush_on
+opcode_from_sipush_on_is word = row_is word rows_from_sipush (opcode_from_lload_1_on word) refl (opcode_from_lload_1_on_is word)
 
-opcodes_from_00_is : (word : List ℕ) → IfSome (opcodes_from_00 word) (λ op. op < 2 ^ 8)
-unfolding opcodes_from_00
-opcodes_from_00_is word = row_is word rows_from_00 (opcodes_from_11 word) refl (opcodes_from_11_is word)
+opcode_from_nop_on_is : (word : List ℕ) → IfSome (opcode_from_nop_on word) (λ op. op < 2 ^ 8)
+unfolding opcode_from_nop_on
+opcode_from_nop_on_is word = row_is word rows_from_nop (opcode_from_sipush_on word) refl (opcode_from_sipush_on_is word)
 
 pub opcode_is : (word : List ℕ) → IfSome (opcode_of word) (λ op. op < 2 ^ 8)
-opcode_is word = opcodes_from_00_is word
+opcode_is word = opcode_from_nop_on_is word

@@ -6,7 +6,8 @@ use Rattle.mt_insn.specs.declared.opcode.Form.TheVariants as form
 use Rattle.asm_insns.specs.declared.operand_form.OperandForm.{OperandForm}
 use Rattle.asm_insns.specs.declared.operand_form.OperandForm.TheVariants as words
 
--- What words stand behind a mnemonic by what stands behind its opcode: none behind an opcode that is refused.
+-- What words stand behind a mnemonic by what stands behind its opcode: none behind an opcode that
+-- is refused.
 abbrev pub usable : Form → Option OperandForm
 usable form.Plain = Some words.Plain
 usable form.Float = None

@@ -45,7 +45,12 @@ operand_of labels form.Dimensions words line = dimensions words
 
 abbrev pub plain_insn : Labels → List ℕ → List ℕ → List (List ℕ) → Option StatedInsn
 plain_insn labels line mnemonic words =
-    option_and_then (λ op. option_and_then (λ form. option_map (λ o. record { op = op; wide = false; operand = o }) (operand_of labels form words line)) (operand_form op)) (opcode_of mnemonic)
+    option_and_then
+    (λ op.
+    option_and_then
+    (λ form.
+    option_map (λ o. record { op = op; wide = false; operand = o })
+    (operand_of labels form words line)) (operand_form op)) (opcode_of mnemonic)
 
 abbrev pub wide_arg : OperandForm → List (List ℕ) → Option Arg
 wide_arg form.Local words = wide_local words
@@ -54,12 +59,19 @@ wide_arg other words = None
 
 abbrev pub wide_insn : List ℕ → List (List ℕ) → Option StatedInsn
 wide_insn mnemonic words =
-    option_and_then (λ op. option_and_then (λ form. option_map (λ a. record { op = op; wide = true; operand = operand.Done a }) (wide_arg form words)) (operand_form op)) (opcode_of mnemonic)
+    option_and_then
+    (λ op.
+    option_and_then
+    (λ form.
+    option_map (λ a. record { op = op; wide = true; operand = operand.Done a })
+    (wide_arg form words)) (operand_form op)) (opcode_of mnemonic)
 
 abbrev pub insn_by : Labels → List ℕ → List (List ℕ) → Option StatedInsn
 insn_by labels line [] = None
 insn_by labels line (mnemonic ∷ []) = plain_insn labels line mnemonic []
-insn_by labels line (first ∷ second ∷ words) = if says first (codes "wide") then wide_insn second words else plain_insn labels line first (second ∷ words)
+insn_by labels line (first ∷ second ∷ words) =
+    if says first (codes "wide") then wide_insn second words
+    else plain_insn labels line first (second ∷ words)
 
 -- the instruction that a line states
 abbrev pub insn_of : Labels → Line → Option StatedInsn

@@ -23,12 +23,17 @@ use Rattle.asm_insns.specs.declared.stated.StatedClass.{StatedClass}
 abbrev pub insn_with : ℕ → Bool → Arg → Insn
 insn_with op wide a = record { op = op; wide = wide; arg = a }
 
--- Whatever index an instruction's entry has, it has the form of its opcode, and it leads to one of so many instructions.
+-- Whatever index an instruction's entry has, it has the form of its opcode, and it leads to one of
+-- so many instructions.
 abbrev pub IsOperand : ℕ → ℕ → Bool → Operand → Type 0
-IsOperand total op wide (operand.Done a) = HasForm (insn_with op wide a) × HasTargets total (insn_with op wide a)
-IsOperand total op wide (operand.Named e) = (index : ℕ) → index < 2 ^ 16 → HasForm (insn_with op wide (arg.Pool index))
-IsOperand total op wide (operand.Near e) = (index : ℕ) → index < 2 ^ 8 → HasForm (insn_with op wide (arg.Pool index))
-IsOperand total op wide (operand.Counted e count) = (index : ℕ) → index < 2 ^ 16 → HasForm (insn_with op wide (arg.Multi index count))
+IsOperand total op wide (operand.Done a) =
+    HasForm (insn_with op wide a) × HasTargets total (insn_with op wide a)
+IsOperand total op wide (operand.Named e) =
+    (index : ℕ) → index < 2 ^ 16 → HasForm (insn_with op wide (arg.Pool index))
+IsOperand total op wide (operand.Near e) =
+    (index : ℕ) → index < 2 ^ 8 → HasForm (insn_with op wide (arg.Pool index))
+IsOperand total op wide (operand.Counted e count) =
+    (index : ℕ) → index < 2 ^ 16 → HasForm (insn_with op wide (arg.Multi index count))
 
 abbrev pub IsStatedInsn : ℕ → StatedInsn → Type 0
 IsStatedInsn total insn = IsOperand total insn.op insn.wide insn.operand
@@ -45,12 +50,15 @@ abbrev pub IsStatedShape : ℕ → StatedShape → Type 0
 IsStatedShape total shape.Same = Unit {0}
 IsStatedShape total (shape.One i) = IsStatedItem total i
 IsStatedShape total (shape.Chop count) = (0 < count) × (count ≤ 3)
-IsStatedShape total (shape.Append items) = (0 < length items) × (length items ≤ 3) × All (IsStatedItem total) items
-IsStatedShape total (shape.Full locals stack) = All (IsStatedItem total) locals × All (IsStatedItem total) stack
+IsStatedShape total (shape.Append items) =
+    (0 < length items) × (length items ≤ 3) × All (IsStatedItem total) items
+IsStatedShape total (shape.Full locals stack) =
+    All (IsStatedItem total) locals × All (IsStatedItem total) stack
 
 -- A frame stands for an instruction from this one on.
 abbrev pub IsStatedFrame : ℕ → ℕ → StatedFrame → Type 0
-IsStatedFrame total least frame = (least ≤ frame.at) × (frame.at < total) × (frame.at < 2 ^ 32) × IsStatedShape total frame.shape
+IsStatedFrame total least frame =
+    (least ≤ frame.at) × (frame.at < total) × (frame.at < 2 ^ 32) × IsStatedShape total frame.shape
 
 abbrev pub least_behind : ℕ → StatedFrame → ℕ
 least_behind least frame = frame.at + 1

@@ -8,7 +8,7 @@ ghost use Rattle.asm_insns.specs.Insns.{plain, operand_of, plain_insn, wide_arg,
 use crate::mnemonic::opcode_of;
 use crate::named;
 use crate::operand_form::{OperandForm, operand_form};
-use crate::stated::{Entry, Operand, StatedInsn};
+use crate::stated::{Operand, StatedConstant, StatedInsn};
 use asm_words::{Labels, Line, operand, says};
 use class_model::{Arg, Memory, Name};
 use std::alloc::Global;
@@ -19,13 +19,13 @@ fn done(arg: Option<Arg>) -> Option<Operand>
     Some(Operand::Done(arg?))
 }
 
-fn near(entry: Option<Entry>) -> Option<Operand>
+fn near(entry: Option<StatedConstant>) -> Option<Operand>
     ensures { result ≡ option_map operand.Near entry }
 {
     Some(Operand::Near(entry?))
 }
 
-fn far(entry: Option<Entry>) -> Option<Operand>
+fn far(entry: Option<StatedConstant>) -> Option<Operand>
     ensures { result ≡ option_map operand.Named entry }
 {
     Some(Operand::Named(entry?))

@@ -1,14 +1,14 @@
 //! The second half of the table of mnemonics (JVMS 6.5, 7).
 
 ghost use Rattle.std.specs.Prelude.{◌≡◌};
-ghost use Rattle.asm_insns.specs.Mnemonics.{opcodes_from_69, opcodes_from_7d, opcodes_from_93, opcodes_from_a3, opcodes_from_b3, opcodes_from_c0};
+ghost use Rattle.asm_insns.specs.Mnemonics.{opcode_from_lmul_on, opcode_from_lushr_on, opcode_from_i2s_on, opcode_from_if_icmpgt_on, opcode_from_putstatic_on, opcode_from_checkcast_on};
 
 use asm_words::says;
 use class_model::Name;
 
-#[tactic(auto, unfolding(crate::specs::Mnemonics::opcodes_from_69))]
-pub fn opcodes_from_69(word: &Name) -> Option<u8>
-    ensures { result ≡ opcodes_from_69 word.now }
+#[tactic(auto, unfolding(crate::specs::Mnemonics::opcode_from_lmul_on))]
+pub fn opcode_from_lmul_on(word: &Name) -> Option<u8>
+    ensures { result ≡ opcode_from_lmul_on word.now }
 {
     if says(word, "lmul") {
         Some(0x69)
@@ -35,13 +35,13 @@ pub fn opcodes_from_69(word: &Name) -> Option<u8>
     } else if says(word, "iushr") {
         Some(0x7c)
     } else {
-        opcodes_from_7d(word)
+        opcode_from_lushr_on(word)
     }
 }
 
-#[tactic(auto, unfolding(crate::specs::Mnemonics::opcodes_from_7d))]
-fn opcodes_from_7d(word: &Name) -> Option<u8>
-    ensures { result ≡ opcodes_from_7d word.now }
+#[tactic(auto, unfolding(crate::specs::Mnemonics::opcode_from_lushr_on))]
+fn opcode_from_lushr_on(word: &Name) -> Option<u8>
+    ensures { result ≡ opcode_from_lushr_on word.now }
 {
     if says(word, "lushr") {
         Some(0x7d)
@@ -68,13 +68,13 @@ fn opcodes_from_7d(word: &Name) -> Option<u8>
     } else if says(word, "i2c") {
         Some(0x92)
     } else {
-        opcodes_from_93(word)
+        opcode_from_i2s_on(word)
     }
 }
 
-#[tactic(auto, unfolding(crate::specs::Mnemonics::opcodes_from_93))]
-fn opcodes_from_93(word: &Name) -> Option<u8>
-    ensures { result ≡ opcodes_from_93 word.now }
+#[tactic(auto, unfolding(crate::specs::Mnemonics::opcode_from_i2s_on))]
+fn opcode_from_i2s_on(word: &Name) -> Option<u8>
+    ensures { result ≡ opcode_from_i2s_on word.now }
 {
     if says(word, "i2s") {
         Some(0x93)
@@ -101,13 +101,13 @@ fn opcodes_from_93(word: &Name) -> Option<u8>
     } else if says(word, "if_icmpge") {
         Some(0xa2)
     } else {
-        opcodes_from_a3(word)
+        opcode_from_if_icmpgt_on(word)
     }
 }
 
-#[tactic(auto, unfolding(crate::specs::Mnemonics::opcodes_from_a3))]
-fn opcodes_from_a3(word: &Name) -> Option<u8>
-    ensures { result ≡ opcodes_from_a3 word.now }
+#[tactic(auto, unfolding(crate::specs::Mnemonics::opcode_from_if_icmpgt_on))]
+fn opcode_from_if_icmpgt_on(word: &Name) -> Option<u8>
+    ensures { result ≡ opcode_from_if_icmpgt_on word.now }
 {
     if says(word, "if_icmpgt") {
         Some(0xa3)
@@ -134,13 +134,13 @@ fn opcodes_from_a3(word: &Name) -> Option<u8>
     } else if says(word, "getstatic") {
         Some(0xb2)
     } else {
-        opcodes_from_b3(word)
+        opcode_from_putstatic_on(word)
     }
 }
 
-#[tactic(auto, unfolding(crate::specs::Mnemonics::opcodes_from_b3))]
-fn opcodes_from_b3(word: &Name) -> Option<u8>
-    ensures { result ≡ opcodes_from_b3 word.now }
+#[tactic(auto, unfolding(crate::specs::Mnemonics::opcode_from_putstatic_on))]
+fn opcode_from_putstatic_on(word: &Name) -> Option<u8>
+    ensures { result ≡ opcode_from_putstatic_on word.now }
 {
     if says(word, "putstatic") {
         Some(0xb3)
@@ -167,13 +167,13 @@ fn opcodes_from_b3(word: &Name) -> Option<u8>
     } else if says(word, "athrow") {
         Some(0xbf)
     } else {
-        opcodes_from_c0(word)
+        opcode_from_checkcast_on(word)
     }
 }
 
-#[tactic(auto, unfolding(crate::specs::Mnemonics::opcodes_from_c0))]
-fn opcodes_from_c0(word: &Name) -> Option<u8>
-    ensures { result ≡ opcodes_from_c0 word.now }
+#[tactic(auto, unfolding(crate::specs::Mnemonics::opcode_from_checkcast_on))]
+fn opcode_from_checkcast_on(word: &Name) -> Option<u8>
+    ensures { result ≡ opcode_from_checkcast_on word.now }
 {
     if says(word, "checkcast") {
         Some(0xc0)

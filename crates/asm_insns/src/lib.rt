@@ -13,6 +13,6 @@ pub use entry::{is_class_entry, is_field_desc, is_method_desc, is_result_desc};
 pub use instruction::insn_of;
 pub use named::class_in;
 pub use stated::{
-    Entry, MemberName, Operand, StatedClass, StatedCode, StatedFrame, StatedInsn, StatedItem,
-    StatedMember, StatedNote, StatedRow, StatedShape,
+    MemberName, Operand, StatedClass, StatedCode, StatedConstant, StatedFrame, StatedInsn,
+    StatedItem, StatedMember, StatedNote, StatedRow, StatedShape,
 };

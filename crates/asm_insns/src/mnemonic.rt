@@ -1,9 +1,9 @@
 //! Opcodes by their mnemonics (JVMS 6.5, 7).
 
 ghost use Rattle.std.specs.Prelude.{◌≡◌};
-ghost use Rattle.asm_insns.specs.Mnemonics.{opcodes_from_00, opcodes_from_11, opcodes_from_1f, opcodes_from_35, opcodes_from_4b, opcodes_from_59, opcodes_from_69, opcode_of};
+ghost use Rattle.asm_insns.specs.Mnemonics.{opcode_from_nop_on, opcode_from_sipush_on, opcode_from_lload_1_on, opcode_from_saload_on, opcode_from_astore_0_on, opcode_from_dup_on, opcode_from_lmul_on, opcode_of};
 
-use crate::later_mnemonic::opcodes_from_69;
+use crate::later_mnemonic::opcode_from_lmul_on;
 use asm_words::says;
 use class_model::Name;
 
@@ -11,12 +11,12 @@ use class_model::Name;
 pub fn opcode_of(word: &Name) -> Option<u8>
     ensures { result ≡ opcode_of word.now }
 {
-    opcodes_from_00(word)
+    opcode_from_nop_on(word)
 }
 
-#[tactic(auto, unfolding(crate::specs::Mnemonics::opcodes_from_00))]
-fn opcodes_from_00(word: &Name) -> Option<u8>
-    ensures { result ≡ opcodes_from_00 word.now }
+#[tactic(auto, unfolding(crate::specs::Mnemonics::opcode_from_nop_on))]
+fn opcode_from_nop_on(word: &Name) -> Option<u8>
+    ensures { result ≡ opcode_from_nop_on word.now }
 {
     if says(word, "nop") {
         Some(0x00)
@@ -43,13 +43,13 @@ fn opcodes_from_00(word: &Name) -> Option<u8>
     } else if says(word, "bipush") {
         Some(0x10)
     } else {
-        opcodes_from_11(word)
+        opcode_from_sipush_on(word)
     }
 }
 
-#[tactic(auto, unfolding(crate::specs::Mnemonics::opcodes_from_11))]
-fn opcodes_from_11(word: &Name) -> Option<u8>
-    ensures { result ≡ opcodes_from_11 word.now }
+#[tactic(auto, unfolding(crate::specs::Mnemonics::opcode_from_sipush_on))]
+fn opcode_from_sipush_on(word: &Name) -> Option<u8>
+    ensures { result ≡ opcode_from_sipush_on word.now }
 {
     if says(word, "sipush") {
         Some(0x11)
@@ -76,13 +76,13 @@ fn opcodes_from_11(word: &Name) -> Option<u8>
     } else if says(word, "lload_0") {
         Some(0x1e)
     } else {
-        opcodes_from_1f(word)
+        opcode_from_lload_1_on(word)
     }
 }
 
-#[tactic(auto, unfolding(crate::specs::Mnemonics::opcodes_from_1f))]
-fn opcodes_from_1f(word: &Name) -> Option<u8>
-    ensures { result ≡ opcodes_from_1f word.now }
+#[tactic(auto, unfolding(crate::specs::Mnemonics::opcode_from_lload_1_on))]
+fn opcode_from_lload_1_on(word: &Name) -> Option<u8>
+    ensures { result ≡ opcode_from_lload_1_on word.now }
 {
     if says(word, "lload_1") {
         Some(0x1f)
@@ -109,13 +109,13 @@ fn opcodes_from_1f(word: &Name) -> Option<u8>
     } else if says(word, "caload") {
         Some(0x34)
     } else {
-        opcodes_from_35(word)
+        opcode_from_saload_on(word)
     }
 }
 
-#[tactic(auto, unfolding(crate::specs::Mnemonics::opcodes_from_35))]
-fn opcodes_from_35(word: &Name) -> Option<u8>
-    ensures { result ≡ opcodes_from_35 word.now }
+#[tactic(auto, unfolding(crate::specs::Mnemonics::opcode_from_saload_on))]
+fn opcode_from_saload_on(word: &Name) -> Option<u8>
+    ensures { result ≡ opcode_from_saload_on word.now }
 {
     if says(word, "saload") {
         Some(0x35)
@@ -142,13 +142,13 @@ fn opcodes_from_35(word: &Name) -> Option<u8>
     } else if says(word, "lstore_3") {
         Some(0x42)
     } else {
-        opcodes_from_4b(word)
+        opcode_from_astore_0_on(word)
     }
 }
 
-#[tactic(auto, unfolding(crate::specs::Mnemonics::opcodes_from_4b))]
-fn opcodes_from_4b(word: &Name) -> Option<u8>
-    ensures { result ≡ opcodes_from_4b word.now }
+#[tactic(auto, unfolding(crate::specs::Mnemonics::opcode_from_astore_0_on))]
+fn opcode_from_astore_0_on(word: &Name) -> Option<u8>
+    ensures { result ≡ opcode_from_astore_0_on word.now }
 {
     if says(word, "astore_0") {
         Some(0x4b)
@@ -175,13 +175,13 @@ fn opcodes_from_4b(word: &Name) -> Option<u8>
     } else if says(word, "pop2") {
         Some(0x58)
     } else {
-        opcodes_from_59(word)
+        opcode_from_dup_on(word)
     }
 }
 
-#[tactic(auto, unfolding(crate::specs::Mnemonics::opcodes_from_59))]
-fn opcodes_from_59(word: &Name) -> Option<u8>
-    ensures { result ≡ opcodes_from_59 word.now }
+#[tactic(auto, unfolding(crate::specs::Mnemonics::opcode_from_dup_on))]
+fn opcode_from_dup_on(word: &Name) -> Option<u8>
+    ensures { result ≡ opcode_from_dup_on word.now }
 {
     if says(word, "dup") {
         Some(0x59)
@@ -208,6 +208,6 @@ fn opcodes_from_59(word: &Name) -> Option<u8>
     } else if says(word, "imul") {
         Some(0x68)
     } else {
-        opcodes_from_69(word)
+        opcode_from_lmul_on(word)
     }
 }

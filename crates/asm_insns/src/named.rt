@@ -4,7 +4,7 @@ ghost use Rattle.std.specs.Prelude.{◌≡◌, IfOk};
 ghost use Rattle.asm_insns.specs.Named.{constant, long_constant, field, method, any_method, interface, class, dimensions, class_in, interface_method, class_entry};
 
 use crate::entry::{call_words_of, is_class_entry, is_field_desc, is_method_desc, member_name};
-use crate::stated::{Entry, Operand};
+use crate::stated::{Operand, StatedConstant};
 use asm_words::{is_quoted, quoted_in, s4, s8, says, u1};
 use class_model::{Memory, Name};
 use std::alloc::Global;
@@ -19,28 +19,32 @@ pub fn class_in(alloc: Global, word: &Name) -> Result<Option<Name>, Memory>
     Ok(Some(word.copy()?))
 }
 
-fn class_entry(alloc: Global, word: &Name) -> Result<Option<Entry>, Memory>
+fn class_entry(alloc: Global, word: &Name) -> Result<Option<StatedConstant>, Memory>
     ensures { IfOk result (λ o. o ≡ class_entry word.now) }
 {
     match class_in(alloc, word)? {
-        Some(name) => Ok(Some(Entry::Class(name))),
+        Some(name) => Ok(Some(StatedConstant::Class(name))),
         None => Ok(None),
     }
 }
 
 /// `ldc` and `ldc_w`: a number, a class, or a text that ends the line.
-pub fn constant(alloc: Global, words: &[Name], line: &[u16]) -> Result<Option<Entry>, Memory>
+pub fn constant(
+    alloc: Global,
+    words: &[Name],
+    line: &[u16],
+) -> Result<Option<StatedConstant>, Memory>
     ensures { IfOk result (λ o. o ≡ constant words.now line.now) }
 {
     if is_quoted(words) {
         return match quoted_in(alloc, line)? {
-            Some(text) => Ok(Some(Entry::Text(text))),
+            Some(text) => Ok(Some(StatedConstant::Text(text))),
             None => Ok(None),
         };
     }
     match words {
         [number] => match s4(number.as_slice()) {
-            Some(value) => Ok(Some(Entry::Integer(value))),
+            Some(value) => Ok(Some(StatedConstant::Integer(value))),
             None => Ok(None),
         },
         [keyword, name] if says(keyword, "class") => class_entry(alloc, name),
@@ -53,7 +57,7 @@ pub fn long_constant(words: &[Name]) -> Option<Operand>
     ensures { result ≡ long_constant words.now }
 {
     match words {
-        [word] => Some(Operand::Named(Entry::Long(s8(word)?))),
+        [word] => Some(Operand::Named(StatedConstant::Long(s8(word)?))),
         _ => None,
     }
 }
@@ -69,7 +73,7 @@ pub fn field(alloc: Global, words: &[Name]) -> Result<Option<Operand>, Memory>
         return Ok(None);
     }
     match member_name(alloc, word, desc)? {
-        Some(member) => Ok(Some(Operand::Named(Entry::Field(member)))),
+        Some(member) => Ok(Some(Operand::Named(StatedConstant::Field(member)))),
         None => Ok(None),
     }
 }
@@ -85,19 +89,23 @@ pub fn method(alloc: Global, words: &[Name]) -> Result<Option<Operand>, Memory>
         return Ok(None);
     }
     match member_name(alloc, word, desc)? {
-        Some(member) => Ok(Some(Operand::Named(Entry::Method(member)))),
+        Some(member) => Ok(Some(Operand::Named(StatedConstant::Method(member)))),
         None => Ok(None),
     }
 }
 
-fn interface_method(alloc: Global, word: &Name, desc: &Name) -> Result<Option<Entry>, Memory>
+fn interface_method(
+    alloc: Global,
+    word: &Name,
+    desc: &Name,
+) -> Result<Option<StatedConstant>, Memory>
     ensures { IfOk result (λ o. o ≡ interface_method word.now desc.now) }
 {
     if !is_method_desc(alloc, desc)? {
         return Ok(None);
     }
     match member_name(alloc, word, desc)? {
-        Some(member) => Ok(Some(Entry::InterfaceMethod(member))),
+        Some(member) => Ok(Some(StatedConstant::InterfaceMethod(member))),
         None => Ok(None),
     }
 }
@@ -157,7 +165,7 @@ pub fn dimensions(alloc: Global, words: &[Name]) -> Result<Option<Operand>, Memo
         return Ok(None);
     };
     match class_in(alloc, word)? {
-        Some(name) => Ok(Some(Operand::Counted(Entry::Class(name), count))),
+        Some(name) => Ok(Some(Operand::Counted(StatedConstant::Class(name), count))),
         None => Ok(None),
     }
 }

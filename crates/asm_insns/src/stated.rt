@@ -12,7 +12,7 @@ pub struct MemberName {
 
 /// An entry of the constant pool by what it says.
 #[derive(Drop)]
-pub enum Entry {
+pub enum StatedConstant {
     Integer(i32),
     Long(i64),
     Class(Name),
@@ -27,11 +27,11 @@ pub enum Entry {
 pub enum Operand {
     /// It names no entry.
     Done(Arg),
-    Named(Entry),
+    Named(StatedConstant),
     /// An entry whose index has to fit one byte.
-    Near(Entry),
+    Near(StatedConstant),
     /// An entry, and a count of one byte.
-    Counted(Entry, u8),
+    Counted(StatedConstant, u8),
 }
 
 /// An instruction by its opcode (JVMS 6.5), after `wide` or not, and what stands behind it.
@@ -75,7 +75,8 @@ pub struct StatedRow {
     pub catch: Option<Name>,
 }
 
-/// A code: places are numbers of instructions, counted from 0, and `end` of a row may be one past the last. A line is an instruction and its line in the source.
+/// A code: places are numbers of instructions, counted from 0, and `end` of a row may be one past
+/// the last. A line is an instruction and its line in the source.
 #[derive(Drop)]
 pub struct StatedCode {
     pub max_stack: u16,

@@ -7,8 +7,8 @@ use Rattle.class_model.specs.declared.constant.Const.{Const}
 use Rattle.class_model.specs.declared.constant.Const.TheVariants as const
 use Rattle.class_asm.specs.Numbering.{text_index, class_index, string_index, pair_index, member_index, entry_index}
 use Rattle.asm_insns.specs.declared.stated.MemberName.{MemberName}
-use Rattle.asm_insns.specs.declared.stated.Entry.{Entry}
-use Rattle.asm_insns.specs.declared.stated.Entry.TheVariants as entry
+use Rattle.asm_insns.specs.declared.stated.StatedConstant.{StatedConstant}
+use Rattle.asm_insns.specs.declared.stated.StatedConstant.TheVariants as entry
 use Rattle.asm_laws.specs.Fit.{IsFitName, IsFitPart, IsFitEntry, SaysClass, SaysText, SaysPart, Says}
 use Rattle.asm_laws.proofs.PoolLaws.{IsIn, IsNumberOf, IsOfWidth, IsFormed, interned_is, wide_interned_is}
 use Rattle.asm_laws.proofs.Numbered.{IsNumbered}
@@ -36,7 +36,7 @@ desc_at : (pool : List Const) (desc : List ℕ) (n d index : ℕ) → entry_of p
 desc_at pool desc n d index e t = ap (λ (o : Option Const). option_and_then (λ pair. text_of pool pair.1) (option_and_then pair_in o)) e ∙ t
 
 -- an index of two bytes that says an entry
-abbrev pub IsIndexOf : List Const → Entry → ℕ → Type 0
+abbrev pub IsIndexOf : List Const → StatedConstant → ℕ → Type 0
 IsIndexOf pool e index = (index < 2 ^ 16) × Says pool e index
 
 pub record IsPairOf (pool : List Const) (name desc : List ℕ) (index : ℕ) : Type 0 where
@@ -119,7 +119,7 @@ module _ (pool : List Const) (few : length pool + 1 < 2 ^ 16) where
             ((part.0.fits, record { class = c.0; pair = p.0; is = part.0.names; owner = owner; name = paired.0.says_name; desc = paired.0.says_desc }), part.1);
       }
 
-  pub entry_numbered : (e : Entry) (list : List Const) → IsFitEntry e → Numbers (IsIndexOf pool e) list (entry_index e list)
+  pub entry_numbered : (e : StatedConstant) (list : List Const) → IsFitEntry e → Numbers (IsIndexOf pool e) list (entry_index e list)
   entry_numbered (entry.Integer value) list fit =
       let number = interned_is pool (const.Integer value) list few (record { unlike = λ e. cc; width = refl }) in
       record { back = number.back; right = λ e f. let x = number.right e f fit in ((x.0.fits, x.0.names), x.1) }

@@ -15,7 +15,7 @@ use Rattle.asm_words.specs.Labels.{start_in, end_in, is_instruction}
 use Rattle.asm_insns.specs.Named.{class_in}
 use Rattle.asm_insns.specs.Insns.{insn_of}
 use Rattle.asm_text.specs.Frames.{known_item, object_item, known_or_object, item_of, new_item, item_at, items_from, items_in, one_item, few, few_items, slash, full_shape, chopped, chop_shape, same_shape, shape_by, shape_of}
-use Rattle.asm_text.specs.Codes.{here, line_in, numbered, is_behind, with_frame, framed, caught, row_of, row_in, guarded, instructed, is_first_label}
+use Rattle.asm_text.specs.Codes.{here, line_in, numbered, is_behind, with_frame, framed, caught, row_of, row_in, guarded, with_insn, is_first_label}
 use Rattle.asm_text.specs.Members.{code_by}
 use Rattle.asm_words.specs.declared.keyword.LineKind.{LineKind}
 use Rattle.asm_words.specs.declared.keyword.LineKind.TheVariants as kind
@@ -189,8 +189,8 @@ guarded_is labels code line h fits = of_map (λ row. record code { rows = code.r
     (weaker (row_in labels line.words) IsFitRow (λ row. After code 0 (record code { rows = code.rows ++ row ∷ [] }))
     (λ row is. (record { stack = fits.stack; locals = fits.locals; insns = fits.insns; rows = All-push IsFitRow code.rows row fits.rows is; lines = fits.lines; frames = fits.frames }, omega arith)) (row_is labels line.words h.words))
 
-instructed_is : (labels : Labels) (code : StatedCode) (line : Line) → IsUnitLine line → Fits code → IfSome (instructed labels code line) (After code 1)
-instructed_is labels code line h fits = of_map (λ insn. record code { insns = code.insns ++ insn ∷ [] }) (insn_of labels line) (After code 1)
+with_insn_is : (labels : Labels) (code : StatedCode) (line : Line) → IsUnitLine line → Fits code → IfSome (with_insn labels code line) (After code 1)
+with_insn_is labels code line h fits = of_map (λ insn. record code { insns = code.insns ++ insn ∷ [] }) (insn_of labels line) (After code 1)
     (weaker (insn_of labels line) IsFitInsn (λ insn. After code 1 (record code { insns = code.insns ++ insn ∷ [] }))
     (λ insn is. (record { stack = fits.stack; locals = fits.locals; insns = All-push IsFitInsn code.insns insn fits.insns is; rows = fits.rows; lines = fits.lines; frames = fits.frames }, length-append code.insns (insn ∷ []))) (insn_is labels line h))
 
@@ -198,6 +198,6 @@ pub code_by_is : (labels : Labels) (code : StatedCode) (line : Line) (k : LineKi
 code_by_is labels code line kind.LineNumber h fits = numbered_is labels code line h fits
 code_by_is labels code line kind.Frame h fits = framed_is labels code line h fits
 code_by_is labels code line kind.Handler h fits = guarded_is labels code line h fits
-code_by_is labels code line kind.Instruction h fits = instructed_is labels code line h fits
+code_by_is labels code line kind.Instruction h fits = with_insn_is labels code line h fits
 code_by_is labels code line kind.Label h fits = of_if (is_first_label labels line) (Some code) (After code 0) (λ e. (fits, omega arith))
 code_by_is labels code line other h fits = tt

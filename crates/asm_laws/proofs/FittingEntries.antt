@@ -11,7 +11,7 @@ use Rattle.class_model.specs.declared.constant.Const.{Const}
 use Rattle.class_model.specs.declared.constant.Const.TheVariants as const
 use Rattle.class_model.specs.declared.kind.MethodType.{MethodType}
 use Rattle.class_model.specs.declared.fault.DescFault.{DescFault}
-use Rattle.class_model.specs.Judged.{words as words_of_kind}
+use Rattle.class_model.specs.TextVerdicts.{words as words_of_kind}
 use Rattle.mt_insn.specs.Named.{names, is_some_and, is_loaded, is_field, is_interface_method, counted, desc_counted, entry_counted, is_counted}
 use Rattle.asm_words.specs.Words.{says, last_parted}
 use Rattle.asm_words.specs.Numbers.{between}
@@ -19,8 +19,8 @@ use Rattle.asm_insns.specs.Entries.{is_class_entry, member_name, fits_byte, call
 use Rattle.asm_insns.specs.Named.{class_in, class_entry, plain_constant, constant, interface_method}
 use Rattle.asm_words.specs.Quoted.{is_quoted, quoted_in}
 use Rattle.asm_insns.specs.declared.stated.MemberName.{MemberName}
-use Rattle.asm_insns.specs.declared.stated.Entry.{Entry}
-use Rattle.asm_insns.specs.declared.stated.Entry.TheVariants as entry
+use Rattle.asm_insns.specs.declared.stated.StatedConstant.{StatedConstant}
+use Rattle.asm_insns.specs.declared.stated.StatedConstant.TheVariants as entry
 use Rattle.asm_words.proofs.IfSome.{of_map, of_then, of_if, of_else, weaker}
 use Rattle.asm_words.proofs.NumberLaws.{between_is, IsBetween, fits_four}
 use Rattle.asm_laws.specs.Fit.{IsFitName, IsFitPart, IsFitEntry, Says, SaysPart}
@@ -28,7 +28,7 @@ use Rattle.asm_laws.proofs.FittingUnits.{AreUnits, BothUnits, last_parts_are, qu
 use Rattle.asm_laws.proofs.FittingNames.{has_method_type, fit_name, class_in_is}
 
 -- An entry fits, and wherever a pool has it, its index names an entry of a kind.
-pub record IsNamed (kind : Const → Bool) (e : Entry) : Type 0 where
+pub record IsNamed (kind : Const → Bool) (e : StatedConstant) : Type 0 where
   pub fits : IsFitEntry e
   pub names : (pool : List Const) (index : ℕ) → Says pool e index → names kind pool index ≡ true
 
@@ -70,14 +70,14 @@ call_words_are (Ok type) = fits_byte_is (1 + sum_by words_of_kind type.args) (1 
 call_words_are (Err e) = tt
 
 -- an interface's method, whose call takes words as its descriptor says
-pub record IsCalled (desc : List ℕ) (e : Entry) : Type 0 where
+pub record IsCalled (desc : List ℕ) (e : StatedConstant) : Type 0 where
   pub named : IsNamed is_interface_method e
   pub takes : (pool : List Const) (index count : ℕ) → Says pool e index → counted count (method_kinds desc) ≡ true → is_counted pool index count ≡ true
 
 takes_words : (desc : List ℕ) (member : MemberName) (pool : List Const) (index count : ℕ) → member.desc ≡ desc → SaysPart pool const.IMethod member index → counted count (method_kinds desc) ≡ true → is_counted pool index count ≡ true
 takes_words desc member pool index count same s e = ap (entry_counted pool count) s.is ∙ ap (desc_counted count) s.desc ∙ ap (λ (d : List ℕ). counted count (method_kinds d)) same ∙ e
 
-pub interface_method_is : (word desc : List ℕ) (P : Entry → Type 0) → IsUnits word → IsUnits desc → ((member : MemberName) → IsFitPart HasMethodType member → member.desc ≡ desc → P (entry.InterfaceMethod member)) → IfSome (interface_method word desc) P
+pub interface_method_is : (word desc : List ℕ) (P : StatedConstant → Type 0) → IsUnits word → IsUnits desc → ((member : MemberName) → IsFitPart HasMethodType member → member.desc ≡ desc → P (entry.InterfaceMethod member)) → IfSome (interface_method word desc) P
 interface_method_is word desc P units others make =
     of_if (is_ok (method_kinds desc)) (option_map entry.InterfaceMethod (member_name word desc)) P
     (λ e. of_map entry.InterfaceMethod (member_name word desc) P

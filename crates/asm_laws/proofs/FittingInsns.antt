@@ -26,8 +26,8 @@ use Rattle.asm_insns.specs.Insns.{plain, operand_of, plain_insn, wide_arg, wide_
 use Rattle.asm_insns.specs.Stated.{insn_with}
 use Rattle.asm_words.specs.declared.line.Line.{Line}
 use Rattle.asm_words.specs.declared.labels.Labels.{Labels}
-use Rattle.asm_insns.specs.declared.stated.Entry.{Entry}
-use Rattle.asm_insns.specs.declared.stated.Entry.TheVariants as entry
+use Rattle.asm_insns.specs.declared.stated.StatedConstant.{StatedConstant}
+use Rattle.asm_insns.specs.declared.stated.StatedConstant.TheVariants as entry
 use Rattle.asm_insns.specs.declared.stated.Operand.{Operand}
 use Rattle.asm_insns.specs.declared.stated.Operand.TheVariants as operand
 use Rattle.asm_insns.specs.declared.stated.StatedInsn.{StatedInsn}
@@ -65,13 +65,13 @@ plain_is op words is = of_if (length words == 0) (Some (operand.Done arg.None)) 
 abbrev IsKindOf : (Const → Bool) → Form → Type 0
 IsKindOf kind f = (pool : List Const) (index : ℕ) → names kind pool index ≡ true → HasNames pool f (arg.Pool index)
 
-named_fits : (op : ℕ) (f : Form) (kind : Const → Bool) (e : Entry) → form_of op ≡ Some f → IsKindOf kind f → IsNamed kind e → IsFitOperand op false (operand.Named e)
+named_fits : (op : ℕ) (f : Form) (kind : Const → Bool) (e : StatedConstant) → form_of op ≡ Some f → IsKindOf kind f → IsNamed kind e → IsFitOperand op false (operand.Named e)
 named_fits op f kind e is has h = (h.fits, λ pool index lt s. right pool op f (arg.Pool index) is (has pool index (h.names pool index s)))
 
-named_is : (op : ℕ) (f : Form) (kind : Const → Bool) (o : Option Entry) → form_of op ≡ Some f → IsKindOf kind f → IfSome o (IsNamed kind) → IfSome (option_map operand.Named o) (IsFitOperand op false)
+named_is : (op : ℕ) (f : Form) (kind : Const → Bool) (o : Option StatedConstant) → form_of op ≡ Some f → IsKindOf kind f → IfSome o (IsNamed kind) → IfSome (option_map operand.Named o) (IsFitOperand op false)
 named_is op f kind o is has h = of_map operand.Named o (IsFitOperand op false) (weaker o (IsNamed kind) (λ e. IsFitOperand op false (operand.Named e)) (λ e n. named_fits op f kind e is has n) h)
 
-near_is : (op : ℕ) (o : Option Entry) → form_of op ≡ Some form.SmallConstant → IfSome o (IsNamed is_loaded) → IfSome (option_map operand.Near o) (IsFitOperand op false)
+near_is : (op : ℕ) (o : Option StatedConstant) → form_of op ≡ Some form.SmallConstant → IfSome o (IsNamed is_loaded) → IfSome (option_map operand.Near o) (IsFitOperand op false)
 near_is op o is h = of_map operand.Near o (IsFitOperand op false)
     (weaker o (IsNamed is_loaded) (λ e. IsFitOperand op false (operand.Near e)) (λ e n. (n.fits, λ pool index lt s. right pool op form.SmallConstant (arg.Pool index) is (n.names pool index s))) h)
 
@@ -114,7 +114,7 @@ any_method_is op (keyword ∷ word ∷ desc ∷ []) is h = of_if (says keyword (
 any_method_is op (keyword ∷ word ∷ desc ∷ other ∷ words) is h = tt
 
 -- invokeinterface, with the words of its call
-called_is : (op count : ℕ) (desc : List ℕ) (e : Entry) → form_of op ≡ Some form.Interface → counted count (method_kinds desc) ≡ true → IsCalled desc e → IsFitOperand op false (operand.Counted e count)
+called_is : (op count : ℕ) (desc : List ℕ) (e : StatedConstant) → form_of op ≡ Some form.Interface → counted count (method_kinds desc) ≡ true → IsCalled desc e → IsFitOperand op false (operand.Counted e count)
 called_is op count desc e is c h = (h.named.fits, λ pool index lt s. right pool op form.Interface (arg.Multi index count) is (h.named.names pool index s, h.takes pool index count s c))
 
 interface_is : (op : ℕ) (words : List (List ℕ)) → form_of op ≡ Some form.Interface → AreUnits words → IfSome (interface words) (IsFitOperand op false)

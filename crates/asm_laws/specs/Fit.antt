@@ -15,8 +15,8 @@ use Rattle.class_reader.specs.Reading.{is_major}
 use Rattle.asm_insns.specs.Entries.{is_result_desc}
 use Rattle.asm_insns.specs.Stated.{insn_with}
 use Rattle.asm_insns.specs.declared.stated.MemberName.{MemberName}
-use Rattle.asm_insns.specs.declared.stated.Entry.{Entry}
-use Rattle.asm_insns.specs.declared.stated.Entry.TheVariants as entry
+use Rattle.asm_insns.specs.declared.stated.StatedConstant.{StatedConstant}
+use Rattle.asm_insns.specs.declared.stated.StatedConstant.TheVariants as entry
 use Rattle.asm_insns.specs.declared.stated.Operand.{Operand}
 use Rattle.asm_insns.specs.declared.stated.Operand.TheVariants as operand
 use Rattle.asm_insns.specs.declared.stated.StatedInsn.{StatedInsn}
@@ -45,7 +45,7 @@ pub record IsFitPart (IsDesc : List ℕ → Type 0) (member : MemberName) : Type
   pub desc : IsUnits member.desc
   pub typed : IsDesc member.desc
 
-abbrev pub IsFitEntry : Entry → Type 0
+abbrev pub IsFitEntry : StatedConstant → Type 0
 IsFitEntry (entry.Integer value) = FitsSigned w32 value
 IsFitEntry (entry.Long value) = FitsSigned w64 value
 IsFitEntry (entry.Class name) = IsFitName name
@@ -75,7 +75,7 @@ pub record SaysPart (pool : List Const) (make : ℕ → ℕ → Const) (member :
   pub desc : pair_desc_of pool pair ≡ Some member.desc
 
 -- The entry at an index is what is stated.
-abbrev pub Says : List Const → Entry → ℕ → Type 0
+abbrev pub Says : List Const → StatedConstant → ℕ → Type 0
 Says pool (entry.Integer value) index = entry_of pool index ≡ Some (const.Integer value)
 Says pool (entry.Long value) index = entry_of pool index ≡ Some (const.Long value)
 Says pool (entry.Class name) index = SaysClass pool name index

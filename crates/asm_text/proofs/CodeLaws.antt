@@ -11,7 +11,7 @@ use Rattle.asm_words.specs.Labels.{start_in, end_in, insns_in, labels_of, weight
 use Rattle.asm_insns.specs.Named.{class_in}
 use Rattle.asm_insns.specs.Insns.{insn_of}
 use Rattle.asm_text.specs.Frames.{known_item, object_item, known_or_object, item_of, new_item, item_at, items_from, items_in, one_item, few, few_items, slash, full_shape, chopped, chop_shape, same_shape, shape_by, shape_of}
-use Rattle.asm_text.specs.Codes.{here, line_in, numbered, is_behind, is_before, with_frame, framed, caught, row_of, row_in, guarded, instructed, is_first_label}
+use Rattle.asm_text.specs.Codes.{here, line_in, numbered, is_behind, is_before, with_frame, framed, caught, row_of, row_in, guarded, with_insn, is_first_label}
 use Rattle.asm_text.specs.Members.{code_by, code_step, noting, noted, is_over, coded, is_note, note_in, body_step, beginning, body_from, code_of, empty_code, code_in, named_member, field_by, field_in, method_by, method_in, notes_of, field_of, with_code, with_lines, method_of}
 use Rattle.asm_words.specs.declared.keyword.LineKind.{LineKind}
 use Rattle.asm_words.specs.declared.keyword.LineKind.TheVariants as kind
@@ -214,8 +214,8 @@ guarded_is labels code line k = of_map (λ row. record code { rows = code.rows +
     (weaker (row_in labels line.words) (IsStatedRow labels.total) (λ row. After labels.total code 0 (record code { rows = code.rows ++ row ∷ [] }))
     (λ row is. (record { insns = k.insns; rows = All-push (IsStatedRow labels.total) code.rows row k.rows is; lines = k.lines; frames = k.frames }, omega arith)) (row_is labels line.words))
 
-instructed_is : (labels : Labels) (code : StatedCode) (line : Line) → Keeps labels.total code → IfSome (instructed labels code line) (After labels.total code 1)
-instructed_is labels code line k = of_map (λ insn. record code { insns = code.insns ++ insn ∷ [] }) (insn_of labels line) (After labels.total code 1)
+with_insn_is : (labels : Labels) (code : StatedCode) (line : Line) → Keeps labels.total code → IfSome (with_insn labels code line) (After labels.total code 1)
+with_insn_is labels code line k = of_map (λ insn. record code { insns = code.insns ++ insn ∷ [] }) (insn_of labels line) (After labels.total code 1)
     (weaker (insn_of labels line) (IsStatedInsn labels.total) (λ insn. After labels.total code 1 (record code { insns = code.insns ++ insn ∷ [] }))
     (λ insn is. (record { insns = All-push (IsStatedInsn labels.total) code.insns insn k.insns is; rows = k.rows; lines = k.lines; frames = k.frames }, length-append code.insns (insn ∷ []))) (insn_is labels line))
 
@@ -225,7 +225,7 @@ code_by_is : (labels : Labels) (code : StatedCode) (line : Line) (k : LineKind) 
 code_by_is labels code line kind.LineNumber keeps = numbered_is labels code line keeps
 code_by_is labels code line kind.Frame keeps = framed_is labels code line keeps
 code_by_is labels code line kind.Handler keeps = guarded_is labels code line keeps
-code_by_is labels code line kind.Instruction keeps = instructed_is labels code line keeps
+code_by_is labels code line kind.Instruction keeps = with_insn_is labels code line keeps
 code_by_is labels code line kind.Label keeps = of_if (is_first_label labels line) (Some code) (After labels.total code 0) (λ e. (keeps, omega arith))
 code_by_is labels code line other keeps = tt
 

@@ -25,7 +25,9 @@ known_item word =
 
 -- `new` and `/` stand for no type.
 abbrev pub object_item : List ℕ → Option StatedItem
-object_item word = if says word (codes "new") || says word (codes "/") then None else option_map item.Object (class_in word)
+object_item word =
+    if says word (codes "new") || says word (codes "/") then None
+    else option_map item.Object (class_in word)
 
 abbrev pub known_or_object : List ℕ → Option VItem → Option StatedItem
 known_or_object word (Some known) = Some (item.Done known)
@@ -47,7 +49,9 @@ abbrev pub items_from : Labels → Bool → List (List ℕ) → Option (List Sta
 items_from labels is_new [] = if is_new then None else Some []
 items_from labels is_new (word ∷ words) =
     if not is_new && says word (codes "new") then items_from labels true words
-    else option_and_then (λ first. option_map (λ items. first ∷ items) (items_from labels false words)) (item_at labels is_new word)
+    else option_and_then
+    (λ first. option_map (λ items. first ∷ items) (items_from labels false words))
+    (item_at labels is_new word)
 
 -- the types that words state
 abbrev pub items_in : Labels → List (List ℕ) → Option (List StatedItem)
@@ -57,7 +61,8 @@ items_in labels words = items_from labels false words
 abbrev pub one_item : Labels → List (List ℕ) → Option StatedItem
 one_item labels [] = None
 one_item labels (word ∷ []) = item_of word
-one_item labels (keyword ∷ label ∷ []) = if says keyword (codes "new") then new_item labels label else None
+one_item labels (keyword ∷ label ∷ []) =
+    if says keyword (codes "new") then new_item labels label else None
 one_item labels (keyword ∷ label ∷ other ∷ words) = None
 
 abbrev pub few : List StatedItem → Option (List StatedItem)
@@ -72,7 +77,11 @@ slash words = position (λ word. says word (codes "/")) words
 -- locals and a stack, which a slash parts
 abbrev pub full_shape : Labels → List (List ℕ) → Option StatedShape
 full_shape labels words =
-    option_and_then (λ place. option_and_then (λ locals. option_map (shape.Full locals) (items_in labels (drop (place + 1) words))) (items_in labels (take place words))) (slash words)
+    option_and_then
+    (λ place.
+    option_and_then
+    (λ locals. option_map (shape.Full locals) (items_in labels (drop (place + 1) words)))
+    (items_in labels (take place words))) (slash words)
 
 abbrev pub chopped : ℕ → Option StatedShape
 chopped count = if count == 0 || nat_lt 3 count then None else Some (shape.Chop count)

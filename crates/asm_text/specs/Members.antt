@@ -1,4 +1,5 @@
--- Fields and methods, with the lines behind theirs (this project's own). The notes of a method with code stand before its code or behind it.
+-- Fields and methods, with the lines behind theirs (this project's own). The notes of a method with
+-- code stand before its code or behind it.
 use Rattle.std.specs.Prelude.{ℕ, ◌==◌, Bool, true, false, ◌&&◌, List, [], ◌∷◌, ◌++◌, codes, Option, Some, None, ok_or, option_and_then, Result, Ok, Err, if◌then◌else◌}
 use Rattle.std.specs.Option.{option_map}
 use Rattle.codec_rules.specs.Sequence.{◌>>=◌}
@@ -11,7 +12,7 @@ use Rattle.asm_words.specs.Keywords.{line_kind}
 use Rattle.asm_words.specs.Labels.{insns_in, labels_of}
 use Rattle.asm_insns.specs.Entries.{is_result_desc}
 use Rattle.asm_words.specs.Operands.{both}
-use Rattle.asm_text.specs.Codes.{numbered, framed, guarded, instructed, is_first_label}
+use Rattle.asm_text.specs.Codes.{numbered, framed, guarded, with_insn, is_first_label}
 use Rattle.asm_words.specs.declared.line.Line.{Line}
 use Rattle.asm_words.specs.declared.labels.Labels.{Labels}
 use Rattle.asm_words.specs.declared.keyword.LineKind.{LineKind}
@@ -30,7 +31,8 @@ use Rattle.asm_text.specs.declared.member.Progress.{Progress}
 -- ---- notes
 
 abbrev pub plain_note : List ℕ → Option StatedNote
-plain_note desc = if is_ok (field_kind desc) then Some (record { kind = desc; expected = None }) else None
+plain_note desc =
+    if is_ok (field_kind desc) then Some (record { kind = desc; expected = None }) else None
 
 -- an annotation without elements
 abbrev pub class_note_in : List (List ℕ) → Option StatedNote
@@ -38,7 +40,9 @@ class_note_in words = both (λ keyword desc. plain_note desc) words
 
 abbrev pub expecting_note : List ℕ → List ℕ → List ℕ → Option StatedNote
 expecting_note desc keyword expected =
-    if says keyword (codes "expected") && is_ok (field_kind desc) && is_result_desc expected then Some (record { kind = desc; expected = Some expected }) else None
+    if says keyword (codes "expected") && is_ok (field_kind desc) && is_result_desc expected
+    then Some (record { kind = desc; expected = Some expected })
+    else None
 
 -- an annotation, which may have a class as its element `expected`
 abbrev pub note_in : List (List ℕ) → Option StatedNote
@@ -48,18 +52,31 @@ note_in words = class_note_in words
 -- ---- the first lines of members
 
 abbrev pub named_member : ℕ → List ℕ → List ℕ → Option StatedCode → StatedMember
-named_member flags name desc code = record { flags = flags; name = name; desc = desc; code = code; notes = [] }
+named_member flags name desc code =
+    record { flags = flags; name = name; desc = desc; code = code; notes = [] }
 
 abbrev pub field_by : List ℕ → List ℕ → List ℕ → Option StatedMember
 field_by flags name desc =
-    option_and_then (λ n. if is_field_name name then (if is_ok (field_kind desc) then Some (named_member n name desc None) else None) else None) (up_to 0xFFFF flags)
+    option_and_then
+    (λ n.
+    if is_field_name name
+    then (if is_ok (field_kind desc) then Some (named_member n name desc None) else None)
+    else None) (up_to 0xFFFF flags)
 
 abbrev pub field_in : List (List ℕ) → Option StatedMember
 field_in (keyword ∷ flags ∷ name ∷ desc ∷ []) = field_by flags name desc
 field_in other = None
 
 abbrev pub empty_code : ℕ → ℕ → StatedCode
-empty_code stack locals = record { max_stack = stack; max_locals = locals; insns = []; rows = []; lines = []; frames = [] }
+empty_code stack locals =
+    record {
+      max_stack = stack;
+      max_locals = locals;
+      insns = [];
+      rows = [];
+      lines = [];
+      frames = [];
+    }
 
 abbrev pub sized : Sizes → StatedCode
 sized sizes = empty_code sizes.max_stack sizes.max_locals
@@ -77,16 +94,22 @@ abbrev pub code_in : List (List ℕ) → Option (Option StatedCode)
 code_in [] = Some None
 code_in (first ∷ stack ∷ second ∷ locals ∷ []) =
     if says first (codes "stack") && says second (codes "locals")
-    then option_and_then (λ s. option_map (λ l. Some (empty_code s l)) (up_to 0xFFFF locals)) (up_to 0xFFFF stack)
+    then option_and_then (λ s. option_map (λ l. Some (empty_code s l)) (up_to 0xFFFF locals))
+    (up_to 0xFFFF stack)
     else None
 code_in other = None
 
 abbrev pub method_by : List ℕ → List ℕ → List ℕ → Option StatedCode → Option StatedMember
 method_by flags name desc code =
-    option_and_then (λ n. if is_method_name name then (if is_ok (method_kinds desc) then Some (named_member n name desc code) else None) else None) (up_to 0xFFFF flags)
+    option_and_then
+    (λ n.
+    if is_method_name name
+    then (if is_ok (method_kinds desc) then Some (named_member n name desc code) else None)
+    else None) (up_to 0xFFFF flags)
 
 abbrev pub method_in : List (List ℕ) → Option StatedMember
-method_in (keyword ∷ flags ∷ name ∷ desc ∷ sizes) = option_and_then (method_by flags name desc) (code_in sizes)
+method_in (keyword ∷ flags ∷ name ∷ desc ∷ sizes) =
+    option_and_then (method_by flags name desc) (code_in sizes)
 method_in other = None
 
 -- ---- the lines of a method with code
@@ -99,7 +122,7 @@ abbrev pub code_by : Labels → StatedCode → Line → LineKind → Option Stat
 code_by labels code line kind.LineNumber = numbered labels code line
 code_by labels code line kind.Frame = framed labels code line
 code_by labels code line kind.Handler = guarded labels code line
-code_by labels code line kind.Instruction = instructed labels code line
+code_by labels code line kind.Instruction = with_insn labels code line
 code_by labels code line kind.Label = labelled labels code line
 code_by labels code line other = None
 
@@ -112,7 +135,14 @@ noting stage.Inside = stage.Behind
 noting stage.Behind = stage.Behind
 
 abbrev pub noted : Progress → Line → Option Progress
-noted progress line = option_map (λ note. record { code = progress.code; notes = progress.notes ++ note ∷ []; stage = noting progress.stage }) (note_in line.words)
+noted progress line =
+    option_map
+    (λ note.
+    record {
+      code = progress.code;
+      notes = progress.notes ++ note ∷ [];
+      stage = noting progress.stage;
+    }) (note_in line.words)
 
 abbrev pub is_over : Stage → Bool
 is_over stage.Behind = true
@@ -120,14 +150,17 @@ is_over other = false
 
 abbrev pub coded : Labels → Progress → Line → Option Progress
 coded labels progress line =
-    if is_over progress.stage then None else option_map (λ code. record { code = code; notes = progress.notes; stage = stage.Inside }) (code_step labels progress.code line)
+    if is_over progress.stage then None
+    else option_map (λ code. record { code = code; notes = progress.notes; stage = stage.Inside })
+    (code_step labels progress.code line)
 
 abbrev pub is_note : LineKind → Bool
 is_note kind.Note = true
 is_note other = false
 
 abbrev pub body_step : Labels → Progress → Line → Option Progress
-body_step labels progress line = if is_note (line_kind line) then noted progress line else coded labels progress line
+body_step labels progress line =
+    if is_note (line_kind line) then noted progress line else coded labels progress line
 
 abbrev pub beginning : StatedCode → Progress
 beginning code = record { code = code; notes = []; stage = stage.Before }
@@ -135,11 +168,15 @@ beginning code = record { code = code; notes = []; stage = stage.Before }
 -- the lines of a method with code, up to the first that is wrong
 abbrev pub body_from : Labels → Progress → List Line → Result Progress AsmFault
 body_from labels progress [] = Ok progress
-body_from labels progress (line ∷ lines) = ok_or (body_step labels progress line) (asm_fault.Line line.number) >>= λ next. body_from labels next lines
+body_from labels progress (line ∷ lines) =
+    ok_or (body_step labels progress line) (asm_fault.Line line.number) >>= λ next.
+    body_from labels next lines
 
 -- A method with code has an instruction; else its own line is wrong.
 abbrev pub code_of : ℕ → StatedCode → List Line → Result Progress AsmFault
-code_of number code lines = if insns_in lines == 0 then Err (asm_fault.Line number) else body_from (labels_of lines) (beginning code) lines
+code_of number code lines =
+    if insns_in lines == 0 then Err (asm_fault.Line number)
+    else body_from (labels_of lines) (beginning code) lines
 
 -- ---- members
 
@@ -151,7 +188,8 @@ add_note notes line = option_map (λ note. notes ++ note ∷ []) (note_of line)
 
 abbrev pub notes_from : List StatedNote → List Line → Result (List StatedNote) AsmFault
 notes_from notes [] = Ok notes
-notes_from notes (line ∷ lines) = ok_or (add_note notes line) (asm_fault.Line line.number) >>= λ next. notes_from next lines
+notes_from notes (line ∷ lines) =
+    ok_or (add_note notes line) (asm_fault.Line line.number) >>= λ next. notes_from next lines
 
 -- the lines of a member without code, which are notes
 abbrev pub notes_of : List Line → Result (List StatedNote) AsmFault
@@ -159,15 +197,23 @@ notes_of lines = notes_from [] lines
 
 -- a field by its line and the lines behind it
 abbrev pub field_of : Line → List Line → Result StatedMember AsmFault
-field_of first lines = ok_or (field_in first.words) (asm_fault.Line first.number) >>= λ field. notes_of lines >>= λ notes. Ok (record field { notes = notes })
+field_of first lines =
+    ok_or (field_in first.words) (asm_fault.Line first.number) >>= λ field.
+    notes_of lines >>= λ notes. Ok (record field { notes = notes })
 
-abbrev pub with_code : StatedMember → ℕ → List Line → Option StatedCode → Result StatedMember AsmFault
-with_code method number lines None = notes_of lines >>= λ notes. Ok (record method { code = None; notes = notes })
-with_code method number lines (Some code) = code_of number code lines >>= λ progress. Ok (record method { code = Some progress.code; notes = progress.notes })
+abbrev pub with_code :
+    StatedMember → ℕ → List Line → Option StatedCode → Result StatedMember AsmFault
+with_code method number lines None =
+    notes_of lines >>= λ notes. Ok (record method { code = None; notes = notes })
+with_code method number lines (Some code) =
+    code_of number code lines >>= λ progress.
+    Ok (record method { code = Some progress.code; notes = progress.notes })
 
 abbrev pub with_lines : StatedMember → ℕ → List Line → Result StatedMember AsmFault
 with_lines method number lines = with_code method number lines method.code
 
 -- a method by its line and the lines behind it
 abbrev pub method_of : Line → List Line → Result StatedMember AsmFault
-method_of first lines = ok_or (method_in first.words) (asm_fault.Line first.number) >>= λ method. with_lines method first.number lines
+method_of first lines =
+    ok_or (method_in first.words) (asm_fault.Line first.number) >>= λ method.
+    with_lines method first.number lines

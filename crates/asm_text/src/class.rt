@@ -70,7 +70,8 @@ fn head_by(
     flags: &Name,
     major: &Name,
 ) -> Result<Option<ClassHead>, Memory>
-    ensures { IfOk result (λ o. option_map class_of o ≡ class_by name.now parent.now flags.now major.now) }
+    ensures { IfOk result (λ o.
+        option_map class_of o ≡ class_by name.now parent.now flags.now major.now) }
 {
     let Some(flags) = u2(flags) else {
         return Ok(None);
@@ -113,7 +114,8 @@ fn class_of(alloc: Global, head: ClassHead) -> StatedClass
 
 // ---- the lines before the members
 
-/// Adds the interface that a line names, before the source and the notes. Each of these calls answers whether the line is right.
+/// Adds the interface that a line names, before the source and the notes. Each of these calls
+/// answers whether the line is right.
 fn add_interface(alloc: Global, class: &mut StatedClass, words: &[Name]) -> Result<bool, Memory>
     ensures { IfOk result (λ ok. given_if ok class.new ≡ implemented class.old words.now) }
 {
@@ -228,7 +230,8 @@ fn part_step(
     first: &Line,
     lines: &[Line],
 ) -> Result<(), AsmFault>
-    ensures { Gives asm_fault.Memory (λ _. class.new) (part_step class.old first.now lines.now) result }
+    ensures { Gives asm_fault.Memory (λ _. class.new) (part_step class.old first.now lines.now)
+        result }
 {
     if line_kind(first) == LineKind::Field {
         let field = field_of(alloc, first, lines)?;
@@ -247,7 +250,8 @@ fn add_parts(
     class: &mut StatedClass,
     lines: &[Line],
 ) -> Result<End, AsmFault>
-    ensures { Gives asm_fault.Memory (λ end. (class.new, end)) (parts_from last class.old lines.now) result }
+    ensures { Gives asm_fault.Memory (λ end. (class.new, end)) (parts_from last class.old lines.now)
+        result }
 {
     for (place, line) in lines.iter().enumerate() {
         let behind = &lines[place + 1..];

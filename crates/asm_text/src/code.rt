@@ -2,7 +2,7 @@
 
 ghost use Rattle.std.specs.Prelude.{◌≡◌, IfOk};
 ghost use Rattle.asm_text.specs.Adding.{given_if};
-ghost use Rattle.asm_text.specs.Codes.{here, is_behind, line_in, caught, row_of, row_by, row_with, row_in, is_first_label, numbered, framed, guarded, instructed};
+ghost use Rattle.asm_text.specs.Codes.{here, is_behind, line_in, caught, row_of, row_by, row_with, row_in, is_first_label, numbered, framed, guarded, with_insn};
 
 use crate::frame::shape_of;
 use asm_insns::{StatedCode, StatedFrame, StatedRow, class_in, insn_of};
@@ -31,7 +31,8 @@ fn line_in(words: &[Name]) -> Option<u16>
     }
 }
 
-/// Adds a line number for the instruction that comes next. Each of these calls answers whether the line is right.
+/// Adds a line number for the instruction that comes next. Each of these calls answers whether the
+/// line is right.
 pub fn add_line(labels: &Labels, code: &mut StatedCode, line: &Line) -> Result<bool, Memory>
     ensures { IfOk result (λ ok. given_if ok code.new ≡ numbered labels.now code.old line.now) }
 {
@@ -165,7 +166,7 @@ pub fn add_insn(
     code: &mut StatedCode,
     line: &Line,
 ) -> Result<bool, Memory>
-    ensures { IfOk result (λ ok. given_if ok code.new ≡ instructed labels.now code.old line.now) }
+    ensures { IfOk result (λ ok. given_if ok code.new ≡ with_insn labels.now code.old line.now) }
 {
     let Some(insn) = insn_of(alloc, labels, line)? else {
         return Ok(false);

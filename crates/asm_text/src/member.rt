@@ -89,7 +89,8 @@ fn method_by(
     desc: &Name,
     sizes: Option<Sizes>,
 ) -> Result<Option<MemberHead>, Memory>
-    ensures { IfOk result (λ o. option_map member_of o ≡ method_by flags.now name.now desc.now (code_with sizes)) }
+    ensures { IfOk result (λ o.
+        option_map member_of o ≡ method_by flags.now name.now desc.now (code_with sizes)) }
 {
     let Some(flags) = u2(flags) else {
         return Ok(None);
@@ -198,7 +199,8 @@ fn add_code(
     progress: &mut Progress,
     line: &Line,
 ) -> Result<bool, Memory>
-    ensures { IfOk result (λ ok. given_if ok progress.new ≡ coded labels.now progress.old line.now) }
+    ensures { IfOk result (λ ok.
+        given_if ok progress.new ≡ coded labels.now progress.old line.now) }
 {
     if progress.stage == Stage::Behind || !code_step(alloc, labels, &mut progress.code, line)? {
         return Ok(false);
@@ -214,7 +216,8 @@ fn body_step(
     progress: &mut Progress,
     line: &Line,
 ) -> Result<bool, Memory>
-    ensures { IfOk result (λ ok. given_if ok progress.new ≡ body_step labels.now progress.old line.now) }
+    ensures { IfOk result (λ ok.
+        given_if ok progress.new ≡ body_step labels.now progress.old line.now) }
 {
     if line_kind(line) == LineKind::Note {
         add_note(alloc, progress, line)
@@ -230,7 +233,8 @@ fn body_of(
     sizes: Sizes,
     lines: &[Line],
 ) -> Result<Progress, AsmFault>
-    ensures { Gives asm_fault.Memory (λ x. x) (body_from labels.now (beginning (sized sizes)) lines.now) result }
+    ensures { Gives asm_fault.Memory (λ x. x)
+        (body_from labels.now (beginning (sized sizes)) lines.now) result }
 {
     let mut progress = Progress {
         code: sized(alloc, sizes),
@@ -247,7 +251,8 @@ fn body_of(
 
 /// A method with code, which has an instruction.
 fn code_of(alloc: Global, number: u64, sizes: Sizes, lines: &[Line]) -> Result<Progress, AsmFault>
-    ensures { Gives asm_fault.Memory (λ progress. progress) (code_of number (sized sizes) lines.now) result }
+    ensures { Gives asm_fault.Memory (λ progress. progress) (code_of number (sized sizes) lines.now)
+        result }
 {
     let labels = labels_of(alloc, lines)?;
     if labels.total == 0 {

@@ -11,4 +11,5 @@ has_name name label = says label.name name
 -- The map has the place of the first label of each name, and nothing else.
 module _ {S : Type 0} where
   abbrev pub HasFirstPlaces : HashMap (List ℕ) ℕ S → List Label → Type 0
-  HasFirstPlaces places labels = (name : List ℕ) → get says places name ≡ position (has_name name) labels
+  HasFirstPlaces places labels =
+      (name : List ℕ) → get says places name ≡ position (has_name name) labels

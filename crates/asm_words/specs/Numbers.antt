@@ -8,16 +8,23 @@ is_digit unit = nat_le 48 unit && nat_le unit 57
 -- The number that digits continue. One of more than nineteen digits is past every range.
 abbrev pub decimal_from : ℕ → List ℕ → Option ℕ
 decimal_from value [] = Some value
-decimal_from value (unit ∷ units) = if is_digit unit && nat_lt value 1_000_000_000_000_000_000 then decimal_from (value * 10 + (unit - 48)) units else None
+decimal_from value (unit ∷ units) =
+    if is_digit unit && nat_lt value 1_000_000_000_000_000_000
+    then decimal_from (value * 10 + (unit - 48)) units
+    else None
 
 abbrev pub natural : List ℕ → Option ℕ
 natural [] = None
-natural (first ∷ units) = if first == 48 then (if length units == 0 then Some 0 else None) else decimal_from 0 (first ∷ units)
+natural (first ∷ units) =
+    if first == 48 then (if length units == 0 then Some 0 else None)
+    else decimal_from 0 (first ∷ units)
 
 -- whether there is a minus sign, and the size
 abbrev pub number_in : List ℕ → Option (Bool × ℕ)
 number_in [] = None
-number_in (first ∷ units) = if first == 45 then option_map (λ n. (true, n)) (natural units) else option_map (λ n. (false, n)) (natural (first ∷ units))
+number_in (first ∷ units) =
+    if first == 45 then option_map (λ n. (true, n)) (natural units)
+    else option_map (λ n. (false, n)) (natural (first ∷ units))
 
 -- the number from 0 up to a bound that a word is
 abbrev pub not_past : ℕ → Bool × ℕ → Option ℕ

@@ -1,4 +1,5 @@
--- Operands that name no entry of the constant pool, with their ranges (JVMS 6.5; their text is this project's own).
+-- Operands that name no entry of the constant pool, with their ranges (JVMS 6.5; their text is this
+-- project's own).
 use Rattle.std.specs.Prelude.{ℕ, nat_lt, ℤ, pos, ◌+ℤ◌, Bool, ◌&&◌, List, [], ◌∷◌, length, codes, Option, Some, None, option_and_then, if◌then◌else◌}
 use Rattle.std.specs.Int.RustNames.{int_le}
 use Rattle.std.specs.Option.{option_map}
@@ -34,7 +35,10 @@ abbrev pub local_up_to : ℕ → List (List ℕ) → Option Arg
 local_up_to bound words = only (λ word. option_map arg.Local (up_to bound word)) words
 
 abbrev pub increment_up_to : ℕ → ℕ → List (List ℕ) → Option Arg
-increment_up_to locals by words = both (λ local other. option_and_then (λ n. option_map (arg.Inc n) (between by other)) (up_to locals local)) words
+increment_up_to locals by words =
+    both
+    (λ local other.
+    option_and_then (λ n. option_map (arg.Inc n) (between by other)) (up_to locals local)) words
 
 abbrev pub local : List (List ℕ) → Option Arg
 local words = local_up_to 0xFF words
@@ -55,7 +59,8 @@ jump labels words = only (λ label. option_map arg.To (start_in labels label)) w
 
 abbrev pub starts_in : Labels → List (List ℕ) → Option (List ℕ)
 starts_in labels [] = Some []
-starts_in labels (word ∷ words) = option_and_then (λ n. option_map (λ ns. n ∷ ns) (starts_in labels words)) (start_in labels word)
+starts_in labels (word ∷ words) =
+    option_and_then (λ n. option_map (λ ns. n ∷ ns) (starts_in labels words)) (start_in labels word)
 
 -- There is a key, and the highest fits.
 abbrev pub has_room : ℤ → ℕ → Bool
@@ -66,15 +71,27 @@ abbrev pub table : Labels → List (List ℕ) → Option Arg
 table labels [] = None
 table labels (word ∷ []) = None
 table labels (word ∷ other ∷ words) =
-    option_and_then (λ low. option_and_then (λ default. if has_room low (length words) then option_map (λ targets. arg.Table default (low, targets)) (starts_in labels words) else None) (start_in labels other)) (between 0x7FFF_FFFF word)
+    option_and_then
+    (λ low.
+    option_and_then
+    (λ default.
+    if has_room low (length words)
+    then option_map (λ targets. arg.Table default (low, targets)) (starts_in labels words)
+    else None) (start_in labels other)) (between 0x7FFF_FFFF word)
 
 -- a key and a label, which a colon parts
 abbrev pub pair_in : Labels → List ℕ → Option (ℤ × ℕ)
-pair_in labels word = option_and_then (λ x. option_and_then (λ key. option_map (λ n. (key, n)) (start_in labels x.1)) (between 0x7FFF_FFFF x.0)) (parted_at 58 word)
+pair_in labels word =
+    option_and_then
+    (λ x.
+    option_and_then (λ key. option_map (λ n. (key, n)) (start_in labels x.1))
+    (between 0x7FFF_FFFF x.0)) (parted_at 58 word)
 
 abbrev pub pairs_in : Labels → List (List ℕ) → Option (List (ℤ × ℕ))
 pairs_in labels [] = Some []
-pairs_in labels (word ∷ words) = option_and_then (λ pair. option_map (λ pairs. pair ∷ pairs) (pairs_in labels words)) (pair_in labels word)
+pairs_in labels (word ∷ words) =
+    option_and_then (λ pair. option_map (λ pairs. pair ∷ pairs) (pairs_in labels words))
+    (pair_in labels word)
 
 abbrev pub looked_up : ℕ → List (ℤ × ℕ) → Option Arg
 looked_up default pairs = if keys_ascend pairs then Some (arg.Lookup default pairs) else None
@@ -82,7 +99,9 @@ looked_up default pairs = if keys_ascend pairs then Some (arg.Lookup default pai
 -- the default, and a key with a label for each case
 abbrev pub lookup : Labels → List (List ℕ) → Option Arg
 lookup labels [] = None
-lookup labels (word ∷ words) = option_and_then (λ default. option_and_then (looked_up default) (pairs_in labels words)) (start_in labels word)
+lookup labels (word ∷ words) =
+    option_and_then (λ default. option_and_then (looked_up default) (pairs_in labels words))
+    (start_in labels word)
 
 -- ---- newarray (JVMS table 6.5.newarray-A)
 

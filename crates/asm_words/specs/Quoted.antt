@@ -1,4 +1,5 @@
--- Texts in double quotes: `\"`, `\\` and `\uXXXX` stand for a quote, a backslash and a code unit (this project's own).
+-- Texts in double quotes: `\"`, `\\` and `\uXXXX` stand for a quote, a backslash and a code unit
+-- (this project's own).
 use Rattle.std.specs.Prelude.{ℕ, ◌+◌, ◌-◌, ◌*◌, ◌%◌, ◌==◌, nat_le, Bool, true, false, ◌&&◌, ◌||◌, List, [], ◌∷◌, ◌++◌, Option, Some, None, option_to_list, option_and_then, if◌then◌else◌}
 use Rattle.std.specs.Option.{option_map}
 use Rattle.class_model.specs.Parting.{parted_at}
@@ -16,23 +17,33 @@ hex_digit unit =
     else None
 
 abbrev pub next_digit : ℕ → ℕ → Option (Quote × Option ℕ)
-next_digit left value = if nat_le left 1 then Some (quote.Open, Some value) else Some (quote.Digits (left - 1) value, None)
+next_digit left value =
+    if nat_le left 1 then Some (quote.Open, Some value)
+    else Some (quote.Digits (left - 1) value, None)
 
 -- What follows a state at a unit, with the unit of the text that is whole then.
 abbrev pub quote_step : Quote → ℕ → Option (Quote × Option ℕ)
-quote_step quote.Open unit = if unit == 34 then Some (quote.Closed, None) else if unit == 92 then Some (quote.Escape, None) else Some (quote.Open, Some unit)
-quote_step quote.Escape unit = if unit == 34 || unit == 92 then Some (quote.Open, Some unit) else if unit == 117 then Some (quote.Digits 4 0, None) else None
-quote_step (quote.Digits left value) unit = option_and_then (λ digit. next_digit left ((value * 16 + digit) % 0x1_0000)) (hex_digit unit)
+quote_step quote.Open unit =
+    if unit == 34 then Some (quote.Closed, None)
+    else if unit == 92 then Some (quote.Escape, None) else Some (quote.Open, Some unit)
+quote_step quote.Escape unit =
+    if unit == 34 || unit == 92 then Some (quote.Open, Some unit)
+    else if unit == 117 then Some (quote.Digits 4 0, None) else None
+quote_step (quote.Digits left value) unit =
+    option_and_then (λ digit. next_digit left ((value * 16 + digit) % 0x1_0000)) (hex_digit unit)
 quote_step quote.Closed unit = if unit == 32 then Some (quote.Closed, None) else None
 
 abbrev pub is_closed : Quote → Bool
 is_closed quote.Closed = true
 is_closed other = false
 
--- The text that units behind a state spell, where nothing but spaces stands behind the closing quote.
+-- The text that units behind a state spell, where nothing but spaces stands behind the closing
+-- quote.
 abbrev pub unquoted : Quote → List ℕ → Option (List ℕ)
 unquoted state [] = if is_closed state then Some [] else None
-unquoted state (unit ∷ units) = option_and_then (λ x. option_map (λ text. option_to_list x.1 ++ text) (unquoted x.0 units)) (quote_step state unit)
+unquoted state (unit ∷ units) =
+    option_and_then (λ x. option_map (λ text. option_to_list x.1 ++ text) (unquoted x.0 units))
+    (quote_step state unit)
 
 abbrev pub begins_quoted : List ℕ → Bool
 begins_quoted [] = false

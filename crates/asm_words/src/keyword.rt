@@ -7,7 +7,8 @@ use crate::line::Line;
 use crate::word::{label_in, says};
 use class_model::Name;
 
-/// What a line states. One that begins with none of the other words is an instruction, right or wrong.
+/// What a line states. One that begins with none of the other words is an instruction, right or
+/// wrong.
 #[derive(Clone, Copy, PartialEq, Eq)]
 pub enum LineKind {
     Class,

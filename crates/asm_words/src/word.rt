@@ -32,7 +32,8 @@ pub fn says(word: &Name, text: &str) -> bool
 
 /// The name of a label in a word that ends with a colon.
 pub fn label_in(word: &[u16]) -> Option<&[u16]>
-    ensures { MatchOption result (label_in word.now ≡ None) (λ name. label_in word.now ≡ Some name.now) }
+    ensures { MatchOption result (label_in word.now ≡ None) (λ name.
+        label_in word.now ≡ Some name.now) }
 {
     if word.len() > 1 && word[word.len() - 1] == COLON {
         Some(&word[..word.len() - 1])
@@ -50,7 +51,8 @@ fn place_of(units: &[u16], unit: u16) -> Option<usize>
 
 /// What stands before the first such unit and what stands behind it, if there is one.
 pub fn parted_at(units: &[u16], unit: u16) -> Option<(&[u16], &[u16])>
-    ensures { MatchOption result (parted_at unit units.now ≡ None) (λ x. parted_at unit units.now ≡ Some (x.0.now, x.1.now)) }
+    ensures { MatchOption result (parted_at unit units.now ≡ None) (λ x.
+        parted_at unit units.now ≡ Some (x.0.now, x.1.now)) }
 {
     match place_of(units, unit) {
         Some(end) => Some((&units[..end], &units[end + 1..])),
@@ -73,7 +75,8 @@ fn last_place(units: &[u16], unit: u16) -> Option<usize>
 
 /// What stands before the last dot and what stands behind it, if there is one.
 pub fn parted_at_last_dot(units: &[u16]) -> Option<(&[u16], &[u16])>
-    ensures { MatchOption result (last_parted 46 units.now ≡ None) (λ x. last_parted 46 units.now ≡ Some (x.0.now, x.1.now)) }
+    ensures { MatchOption result (last_parted 46 units.now ≡ None) (λ x.
+        last_parted 46 units.now ≡ Some (x.0.now, x.1.now)) }
 {
     match last_place(units, DOT) {
         Some(end) => Some((&units[..end], &units[end + 1..])),

@@ -9,8 +9,8 @@ use Rattle.mt_insn.specs.Code.{HasForm, HasTargets}
 use Rattle.class_asm.specs.Numbering.{Numbered, index_of, found_or, added, interned, text_index, parts_index, added_wide, entry_index, is_same}
 use Rattle.class_asm.specs.File.{each, near_index, with_pool, arg_of, insn_of, insns_of}
 use Rattle.asm_insns.specs.Stated.{insn_with, IsOperand, IsStatedInsn}
-use Rattle.asm_insns.specs.declared.stated.Entry.{Entry}
-use Rattle.asm_insns.specs.declared.stated.Entry.TheVariants as entry
+use Rattle.asm_insns.specs.declared.stated.StatedConstant.{StatedConstant}
+use Rattle.asm_insns.specs.declared.stated.StatedConstant.TheVariants as entry
 use Rattle.asm_insns.specs.declared.stated.StatedInsn.{StatedInsn}
 use Rattle.asm_insns.specs.declared.stated.Operand.{Operand}
 use Rattle.asm_insns.specs.declared.stated.Operand.TheVariants as operand
@@ -32,7 +32,7 @@ found_is list add (Some place) h = index_is place
 interned_is : (e : Const) (list : List Const) → (interned e list).0 < 2 ^ 16
 interned_is e list = found_is list (added e) (position (is_same e) list) (index_is (length list))
 
-entry_is : (e : Entry) (list : List Const) → (entry_index e list).0 < 2 ^ 16
+entry_is : (e : StatedConstant) (list : List Const) → (entry_index e list).0 < 2 ^ 16
 entry_is (entry.Integer value) list = interned_is (const.Integer value) list
 entry_is (entry.Long value) list = found_is list (added_wide (const.Long value)) (position (is_same (const.Long value)) list) (index_is (length list))
 entry_is (entry.Class name) list = interned_is (const.Class (text_index name list).0) (text_index name list).1

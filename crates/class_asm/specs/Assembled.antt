@@ -36,7 +36,9 @@ within_limits x end = if x.1 then Err (asm_fault.Line end.line) else with_room x
 -- A call writes a class that is within its limits, or tells the line that is wrong.
 abbrev pub IsWithin : Class → Bool → End → Result (List ℕ) AsmFault → Type 0
 IsWithin class passed end result =
-    MatchResult result (λ bytes. (within_limits (class, passed) end ≡ Ok class) × (layout class ≡ Ok bytes)) (λ fault. fault ≢ asm_fault.Memory → within_limits (class, passed) end ≡ Err fault)
+    MatchResult result
+    (λ bytes. (within_limits (class, passed) end ≡ Ok class) × (layout class ≡ Ok bytes))
+    (λ fault. fault ≢ asm_fault.Memory → within_limits (class, passed) end ≡ Err fault)
 
 -- The class that a text states, or the first line that is wrong.
 unfoldable pub AssembledClass : List ℕ → Result Class AsmFault

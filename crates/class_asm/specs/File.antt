@@ -1,4 +1,5 @@
--- The class file's form of a stated class: indices in place of names, in the order in which the class is spelled (this project's own).
+-- The class file's form of a stated class: indices in place of names, in the order in which the
+-- class is spelled (this project's own).
 use Rattle.std.specs.Prelude.{ℕ, ◌+◌, ◌-◌, nat_lt, nat_le, Bool, true, List, [], ◌∷◌, slice_index, codes, Option, Some, None, Result, Ok, Err, if◌then◌else◌}
 use Rattle.class_model.specs.declared.constant.Const.{Const}
 use Rattle.class_model.specs.declared.instruction.Arg.{Arg}
@@ -31,13 +32,17 @@ use Rattle.class_asm.specs.declared.numbering.Entries.{Entries}
 -- A list of values, one after the other, each with what the one before left.
 abbrev pub each : {S A B : Type 0} → (A → S → B × S) → List A → S → List B × S
 each number [] state = ([], state)
-each number (value ∷ values) state = let first = number value state in let others = each number values first.1 in (first.0 ∷ others.0, others.1)
+each number (value ∷ values) state =
+    let first = number value state in
+    let others = each number values first.1 in
+    (first.0 ∷ others.0, others.1)
 
 -- ---- instructions
 
 -- An index that has to fit one byte; a larger one passes a limit.
 abbrev pub near_index : ℕ → Entries → ℕ × Entries
-near_index index entries = if nat_lt 0xFF index then (0xFF, record entries { passed = true }) else (index, entries)
+near_index index entries =
+    if nat_lt 0xFF index then (0xFF, record entries { passed = true }) else (index, entries)
 
 abbrev pub with_pool : Entries → List Const → Entries
 with_pool entries list = record entries { pool = list }
@@ -58,7 +63,9 @@ arg_of (operand.Near e) entries = near_arg entries (entry_index e entries.pool)
 arg_of (operand.Counted e count) entries = counted_arg count entries (entry_index e entries.pool)
 
 abbrev pub insn_of : StatedInsn → Entries → Insn × Entries
-insn_of insn entries = let a = arg_of insn.operand entries in (record { op = insn.op; wide = insn.wide; arg = a.0 }, a.1)
+insn_of insn entries =
+    let a = arg_of insn.operand entries in
+    (record { op = insn.op; wide = insn.wide; arg = a.0 }, a.1)
 
 abbrev pub insns_of : List StatedInsn → Entries → List Insn × Entries
 insns_of insns entries = each insn_of insns entries
@@ -67,7 +74,8 @@ insns_of insns entries = each insn_of insns entries
 
 abbrev pub item_of : StatedItem → Numbered VItem
 item_of (item.Done i) list = (i, list)
-item_of (item.Object name) list = behind (class_index name list) (λ index later. (vitem.Object index, later))
+item_of (item.Object name) list =
+    behind (class_index name list) (λ index later. (vitem.Object index, later))
 
 abbrev pub items_of : List StatedItem → Numbered (List VItem)
 items_of items list = each item_of items list
@@ -82,15 +90,19 @@ shape_of far (stated.Chop count) list = (shape.Chop count, list)
 shape_of far (stated.Append items) list = let x = items_of items list in (shape.Append x.0, x.1)
 shape_of far (stated.Full locals stack) list = full_of (items_of locals list) stack
 
--- A frame in its short form, unless it is too far behind the one before. `next` is 0 for the first frame, and else one behind the place of the frame before it.
+-- A frame in its short form, unless it is too far behind the one before. `next` is 0 for the first
+-- frame, and else one behind the place of the frame before it.
 abbrev pub frame_of : List ℕ → ℕ → StatedFrame → Numbered Frame
 frame_of starts next frame list =
-    let x = shape_of (nat_le 64 (slice_index starts frame.at - next)) frame.shape list in (record { at = frame.at; shape = x.0 }, x.1)
+    let x = shape_of (nat_le 64 (slice_index starts frame.at - next)) frame.shape list in
+    (record { at = frame.at; shape = x.0 }, x.1)
 
 abbrev pub frames_of : List ℕ → ℕ → List StatedFrame → Numbered (List Frame)
 frames_of starts next [] list = ([], list)
 frames_of starts next (frame ∷ frames) list =
-    let first = frame_of starts next frame list in let others = frames_of starts (slice_index starts frame.at + 1) frames first.1 in (first.0 ∷ others.0, others.1)
+    let first = frame_of starts next frame list in
+    let others = frames_of starts (slice_index starts frame.at + 1) frames first.1 in
+    (first.0 ∷ others.0, others.1)
 
 -- ---- rows and notes
 
@@ -99,7 +111,9 @@ caught_index None list = (0, list)
 caught_index (Some name) list = class_index name list
 
 abbrev pub row_of : StatedRow → Numbered Row
-row_of row list = let x = caught_index row.catch list in (record { start = row.start; end = row.end; handler = row.handler; catch = x.0 }, x.1)
+row_of row list =
+    let x = caught_index row.catch list in
+    (record { start = row.start; end = row.end; handler = row.handler; catch = x.0 }, x.1)
 
 abbrev pub rows_of : List StatedRow → Numbered (List Row)
 rows_of rows list = each row_of rows list
@@ -107,14 +121,20 @@ rows_of rows list = each row_of rows list
 -- the element `expected` of an annotation
 abbrev pub tokens_of : Option (List ℕ) → Numbered (List Token)
 tokens_of None list = ([], list)
-tokens_of (Some class) list = behind (text_index (codes "expected") list) (λ name later. behind (text_index class later) (λ index last. (token.Name name ∷ token.Class index ∷ [], last)))
+tokens_of (Some class) list =
+    behind (text_index (codes "expected") list) (λ name later.
+    behind (text_index class later) (λ index last.
+    (token.Name name ∷ token.Class index ∷ [], last)))
 
 abbrev pub elements_in : Option (List ℕ) → ℕ
 elements_in None = 0
 elements_in (Some class) = 1
 
 abbrev pub note_of : StatedNote → Numbered Note
-note_of note list = behind (text_index note.kind list) (λ kind later. let x = tokens_of note.expected later in (record { kind = kind; count = elements_in note.expected; tokens = x.0 }, x.1))
+note_of note list =
+    behind (text_index note.kind list) (λ kind later.
+    let x = tokens_of note.expected later in
+    (record { kind = kind; count = elements_in note.expected; tokens = x.0 }, x.1))
 
 abbrev pub notes_of : List StatedNote → Numbered (List Note)
 notes_of notes list = each note_of notes list

@@ -1,12 +1,13 @@
--- The constant pool of a class: an entry is added when it is first needed, behind those that it names, and equal ones stand once (this project's own).
+-- The constant pool of a class: an entry is added when it is first needed, behind those that it
+-- names, and equal ones stand once (this project's own).
 use Rattle.std.specs.Ordering.{int_eq}
 use Rattle.std.specs.Prelude.{ℕ, ◌+◌, ◌==◌, nat_lt, nat_eq, ℤ, Bool, false, ◌&&◌, List, [], ◌∷◌, ◌++◌, length, position, Option, Some, None, if◌then◌else◌}
 use Rattle.std.specs.Cmp.Lexicographic.{pointwise}
 use Rattle.class_model.specs.declared.constant.Const.{Const}
 use Rattle.class_model.specs.declared.constant.Const.TheVariants as const
 use Rattle.asm_insns.specs.declared.stated.MemberName.{MemberName}
-use Rattle.asm_insns.specs.declared.stated.Entry.{Entry}
-use Rattle.asm_insns.specs.declared.stated.Entry.TheVariants as entry
+use Rattle.asm_insns.specs.declared.stated.StatedConstant.{StatedConstant}
+use Rattle.asm_insns.specs.declared.stated.StatedConstant.TheVariants as entry
 
 -- What is given by numbering: a value with indices, and the pool that has their entries.
 abbrev pub Numbered : Type 0 → Type 0
@@ -100,16 +101,21 @@ abbrev pub wide_interned : Const → Numbered ℕ
 wide_interned e list = found_or list (added_wide e) (position (is_same e) list)
 
 abbrev pub pair_index : List ℕ → List ℕ → Numbered ℕ
-pair_index name desc list = behind (text_index name list) (λ n later. behind (text_index desc later) (λ d. interned (const.Pair n d)))
+pair_index name desc list =
+    behind (text_index name list) (λ n later.
+    behind (text_index desc later) (λ d. interned (const.Pair n d)))
 
 abbrev pub parts_index : MemberName → Numbered (ℕ × ℕ)
-parts_index member list = behind (class_index member.class list) (λ class later. behind (pair_index member.name member.desc later) (λ pair last. ((class, pair), last)))
+parts_index member list =
+    behind (class_index member.class list) (λ class later.
+    behind (pair_index member.name member.desc later) (λ pair last. ((class, pair), last)))
 
 abbrev pub member_index : (ℕ → ℕ → Const) → MemberName → Numbered ℕ
-member_index make member list = let parts = parts_index member list in interned (make parts.0.0 parts.0.1) parts.1
+member_index make member list =
+    let parts = parts_index member list in interned (make parts.0.0 parts.0.1) parts.1
 
 -- the index of an entry by what it says
-abbrev pub entry_index : Entry → Numbered ℕ
+abbrev pub entry_index : StatedConstant → Numbered ℕ
 entry_index (entry.Integer value) list = interned (const.Integer value) list
 entry_index (entry.Long value) list = wide_interned (const.Long value) list
 entry_index (entry.Class name) list = class_index name list

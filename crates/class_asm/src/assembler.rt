@@ -44,9 +44,11 @@ fn within_limits(alloc: Global, class: &Class, passed: bool, end: End) -> Result
     }
 }
 
-/// The class file of the class that a text states. `Line` comes exactly where the text states none, and names the first line at fault.
+/// The class file of the class that a text states. `Line` comes exactly where the text states none,
+/// and names the first line at fault.
 pub fn assemble(alloc: Global, text: &[u8]) -> Result<Bytes, AsmFault>
-    ensures { MatchResult result (λ bytes. IsAssembled text.now bytes) (λ fault. fault ≢ asm_fault.Memory → AssembledClass text.now ≡ Err fault) }
+    ensures { MatchResult result (λ bytes. IsAssembled text.now bytes)
+        (λ fault. fault ≢ asm_fault.Memory → AssembledClass text.now ≡ Err fault) }
 {
     let stated = match stated_in(alloc, text) {
         Ok(stated) => stated,

@@ -30,7 +30,8 @@ fn push_frames(
     starts: &[u32],
     frames: &[StatedFrame],
 ) -> Result<(), Memory>
-    ensures { IfOk result (λ _. with_frames starts.now frames.now attrs.old pool.old ≡ (attrs.new, pool.new)) }
+    ensures { IfOk result (λ _.
+        with_frames starts.now frames.now attrs.old pool.old ≡ (attrs.new, pool.new)) }
 {
     if !frames.is_empty() {
         let name = word_index(pool, "StackMapTable")?;

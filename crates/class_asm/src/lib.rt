@@ -2,10 +2,10 @@
 #![tactic(auto)]
 
 mod assembler;
+mod const_key;
 mod file;
 mod numbering;
 mod pool;
-mod said;
 
 pub use asm_text::AsmFault;
 pub use assembler::assemble;

@@ -11,7 +11,8 @@ use class_model::{
 };
 use mt_insn::{places, write_insns};
 
-/// A constant pool that grows, and whether some `ldc` names an entry past its reach, or some code is too large.
+/// A constant pool that grows, and whether some `ldc` names an entry past its reach, or some code
+/// is too large.
 #[derive(Drop)]
 pub struct Entries {
     pub pool: Pool,
@@ -124,7 +125,8 @@ pub fn frames_of(
     starts: &[u32],
     stated: &[StatedFrame],
 ) -> Result<Seq<Frame>, Memory>
-    ensures { IfOk result (λ frames. frames_of starts.now 0 stated.now pool.old ≡ (frames, pool.new)) }
+    ensures { IfOk result (λ frames.
+        frames_of starts.now 0 stated.now pool.old ≡ (frames, pool.new)) }
 {
     let mut frames = Seq::new(pool.allocator());
     let mut next = 0u64;

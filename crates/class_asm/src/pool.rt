@@ -4,8 +4,8 @@ ghost use Rattle.std.specs.Prelude.{◌≡◌, ◌++◌, [], IfOk, OnOk, OnErr};
 ghost use Rattle.class_asm.specs.Numbering.{index_of, interned, text_index, class_index, string_index, pair_index, wide_interned, parts_index, entry_index};
 ghost use Rattle.class_asm.specs.Places.{entry_of};
 
-use crate::said::Said;
-use asm_insns::{Entry, MemberName};
+use crate::const_key::ConstKey;
+use asm_insns::{MemberName, StatedConstant};
 use class_model::{Const, Memory, Name, Seq};
 use std::alloc::Global;
 use std::collections::HashMap;
@@ -16,7 +16,7 @@ use std::marker::Model;
 pub struct Pool {
     entries: Vec<Const>,
     // the first place of each entry, so that adding one costs no walk over the pool
-    places: HashMap<Said, usize>,
+    places: HashMap<ConstKey, usize>,
 }
 
 impl Model for Pool {
@@ -31,7 +31,8 @@ impl Model for Pool {
     ghost invariant = { λ p. HasPlaces p.places p.entries.items };
 }
 
-/// The index of the entry at a place. A pool with a place past the last index is refused when it is written.
+/// The index of the entry at a place. A pool with a place past the last index is refused when it is
+/// written.
 fn index_of(place: usize) -> u16
     ensures { result ≡ index_of place }
 {
@@ -64,17 +65,18 @@ impl Pool {
         Seq::from_vec(self.entries)
     }
 
-    /// The index of an entry, which is added unless an equal one is there. Where memory runs out the pool is unchanged.
-    fn intern(&mut self, said: Said) -> Result<u16, Memory>
-        ensures ok { IfOk result (λ index. interned (entry_of said) self.old ≡ (index, self.new)) }
+    /// The index of an entry, which is added unless an equal one is there. Where memory runs out
+    /// the pool is unchanged.
+    fn intern(&mut self, key: ConstKey) -> Result<u16, Memory>
+        ensures ok { IfOk result (λ index. interned (entry_of key) self.old ≡ (index, self.new)) }
         ensures err { OnErr result (self.new ≡ self.old) }
     {
-        if let Some(place) = self.places.get(&said) {
+        if let Some(place) = self.places.get(&key) {
             return Ok(index_of(*place));
         }
         let place = self.entries.len();
-        self.entries.push(said.entry()?)?;
-        if self.places.insert(said, place).is_err() {
+        self.entries.push(key.entry()?)?;
+        if self.places.insert(key, place).is_err() {
             self.entries.truncate(place);
             return Err(Memory);
         }
@@ -82,11 +84,12 @@ impl Pool {
     }
 
     /// The same of an entry that takes two places.
-    fn intern_wide(&mut self, said: Said) -> Result<u16, Memory>
-        ensures { IfOk result (λ index. wide_interned (entry_of said) self.old ≡ (index, self.new)) }
+    fn intern_wide(&mut self, key: ConstKey) -> Result<u16, Memory>
+        ensures { IfOk result (λ index.
+            wide_interned (entry_of key) self.old ≡ (index, self.new)) }
     {
         let before = self.entries.len();
-        let index = self.intern(said)?;
+        let index = self.intern(key)?;
         if before < self.entries.len() {
             self.entries.push(Const::Second)?;
         }
@@ -97,7 +100,7 @@ impl Pool {
 pub fn text_index(pool: &mut Pool, text: &Name) -> Result<u16, Memory>
     ensures { IfOk result (λ index. text_index text.now pool.old ≡ (index, pool.new)) }
 {
-    pool.intern(Said::Utf8(text.copy()?))
+    pool.intern(ConstKey::Utf8(text.copy()?))
 }
 
 fn push_units(units: &mut Name, word: &str) -> Result<(), Memory>
@@ -115,14 +118,14 @@ pub fn word_index(pool: &mut Pool, word: &str) -> Result<u16, Memory>
 {
     let mut units = Seq::new(pool.allocator());
     push_units(&mut units, word)?;
-    pool.intern(Said::Utf8(units))
+    pool.intern(ConstKey::Utf8(units))
 }
 
 pub fn class_index(pool: &mut Pool, name: &Name) -> Result<u16, Memory>
     ensures { IfOk result (λ index. class_index name.now pool.old ≡ (index, pool.new)) }
 {
     let name = text_index(pool, name)?;
-    pool.intern(Said::Class(name))
+    pool.intern(ConstKey::Class(name))
 }
 
 /// A text of a constant.
@@ -130,7 +133,7 @@ fn string_index(pool: &mut Pool, text: &Name) -> Result<u16, Memory>
     ensures { IfOk result (λ index. string_index text.now pool.old ≡ (index, pool.new)) }
 {
     let text = text_index(pool, text)?;
-    pool.intern(Said::Text(text))
+    pool.intern(ConstKey::Text(text))
 }
 
 fn pair_index(pool: &mut Pool, name: &Name, desc: &Name) -> Result<u16, Memory>
@@ -138,7 +141,7 @@ fn pair_index(pool: &mut Pool, name: &Name, desc: &Name) -> Result<u16, Memory>
 {
     let name = text_index(pool, name)?;
     let desc = text_index(pool, desc)?;
-    pool.intern(Said::Pair(name, desc))
+    pool.intern(ConstKey::Pair(name, desc))
 }
 
 /// The class and the pair of a member.
@@ -151,25 +154,25 @@ fn parts_index(pool: &mut Pool, member: &MemberName) -> Result<(u16, u16), Memor
 }
 
 /// The index of an entry by what it says, behind those that it names.
-pub fn entry_index(pool: &mut Pool, entry: &Entry) -> Result<u16, Memory>
+pub fn entry_index(pool: &mut Pool, entry: &StatedConstant) -> Result<u16, Memory>
     ensures { IfOk result (λ index. entry_index entry.now pool.old ≡ (index, pool.new)) }
 {
     match entry {
-        Entry::Integer(value) => pool.intern(Said::Integer(*value)),
-        Entry::Long(value) => pool.intern_wide(Said::Long(*value)),
-        Entry::Class(name) => class_index(pool, name),
-        Entry::Text(text) => string_index(pool, text),
-        Entry::Field(member) => {
+        StatedConstant::Integer(value) => pool.intern(ConstKey::Integer(*value)),
+        StatedConstant::Long(value) => pool.intern_wide(ConstKey::Long(*value)),
+        StatedConstant::Class(name) => class_index(pool, name),
+        StatedConstant::Text(text) => string_index(pool, text),
+        StatedConstant::Field(member) => {
             let (class, pair) = parts_index(pool, member)?;
-            pool.intern(Said::Field(class, pair))
+            pool.intern(ConstKey::Field(class, pair))
         }
-        Entry::Method(member) => {
+        StatedConstant::Method(member) => {
             let (class, pair) = parts_index(pool, member)?;
-            pool.intern(Said::Method(class, pair))
+            pool.intern(ConstKey::Method(class, pair))
         }
-        Entry::InterfaceMethod(member) => {
+        StatedConstant::InterfaceMethod(member) => {
             let (class, pair) = parts_index(pool, member)?;
-            pool.intern(Said::InterfaceMethod(class, pair))
+            pool.intern(ConstKey::InterfaceMethod(class, pair))
         }
     }
 }

@@ -1,4 +1,6 @@
--- The lines of a class's text (this project's own): the first line; interfaces, the source and annotations; fields and methods, each with its annotations, and a method with the lines of its code; the line that ends the class.
+-- The lines of a class's text (this project's own): the first line; interfaces, the source and
+-- annotations; fields and methods, each with its annotations, and a method with the lines of its
+-- code; the line that ends the class.
 use Rattle.std.specs.Prelude.{ℕ, List, [], ◌∷◌, ◌++◌, map, codes, Option, Some, None}
 use Rattle.asm_insns.specs.declared.stated.StatedClass.{StatedClass}
 use Rattle.asm_insns.specs.declared.stated.StatedCode.{StatedCode}
@@ -39,12 +41,14 @@ methods_text (method ∷ methods) = method_line method ∷ (member_lines method 
 -- the fields, and what stands behind them
 abbrev pub fields_text : List StatedMember → List StatedMember → List (List (List ℕ))
 fields_text [] methods = methods_text methods
-fields_text (field ∷ fields) methods = field_line field ∷ (member_lines field ++ fields_text fields methods)
+fields_text (field ∷ fields) methods =
+    field_line field ∷ (member_lines field ++ fields_text fields methods)
 
 -- ---- the class
 
 abbrev pub head_lines : StatedClass → List (List (List ℕ))
-head_lines class = map interface_line class.interfaces ++ (source_lines class.source ++ map note_line class.notes)
+head_lines class =
+    map interface_line class.interfaces ++ (source_lines class.source ++ map note_line class.notes)
 
 abbrev pub class_text : StatedClass → List (List (List ℕ))
 class_text class = class_line class ∷ (head_lines class ++ fields_text class.fields class.methods)

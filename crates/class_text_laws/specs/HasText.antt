@@ -1,4 +1,5 @@
--- Which codes, members and classes have a text (this project's own): all that they have in lines does, and what a code keeps for its instructions stands in the order of the instructions.
+-- Which codes, members and classes have a text (this project's own): all that they have in lines
+-- does, and what a code keeps for its instructions stands in the order of the instructions.
 use Rattle.std.specs.Prelude.{◌≡◌, ℕ, ◌+◌, ◌<◌, ◌≤◌, ◌^◌, true, IfSome, List, [], ◌∷◌, length, None}
 use Rattle.std.specs.List.{AllByRecursion}
 use Rattle.asm_insns.specs.Entries.{is_class_entry}
@@ -13,12 +14,15 @@ use Rattle.text_laws.specs.LinesHaveText.{HeadHasText, NoteHasText, FieldHasText
 -- Line numbers of a code of so many instructions, in the order of these.
 abbrev pub NumbersHaveText : ℕ → ℕ → List (ℕ × ℕ) → Type 0
 NumbersHaveText total least [] = Unit {0}
-NumbersHaveText total least (line ∷ lines) = (least ≤ line.0) × (line.0 < total) × (line.1 < 2 ^ 16) × NumbersHaveText total line.0 lines
+NumbersHaveText total least (line ∷ lines) =
+    (least ≤ line.0) × (line.0 < total) × (line.1 < 2 ^ 16) × NumbersHaveText total line.0 lines
 
 -- Frames in the order of their instructions, each of another one.
 abbrev pub FramesHaveText : ℕ → ℕ → List StatedFrame → Type 0
 FramesHaveText total least [] = Unit {0}
-FramesHaveText total least (frame ∷ frames) = (least ≤ frame.at) × (frame.at < total) × ShapeHasText total frame.shape × FramesHaveText total (frame.at + 1) frames
+FramesHaveText total least (frame ∷ frames) =
+    (least ≤ frame.at) × (frame.at < total) × ShapeHasText total frame.shape
+    × FramesHaveText total (frame.at + 1) frames
 
 -- The sizes of a code have a text where the method's first line has one.
 pub record CodeHasText (code : StatedCode) : Type 0 where

@@ -16,10 +16,13 @@ end_of class = record { line = length (class_text class); behind = None }
 
 -- The lines of a class's text state that class, and nothing else.
 abbrev pub ClassesAreReadBack : Type 0
-ClassesAreReadBack = (class : StatedClass) (last : ℕ) → ClassHasText class → stated_by last (numbered 1 (class_text class)) ≡ Ok (class, end_of class)
+ClassesAreReadBack =
+    (class : StatedClass) (last : ℕ) → ClassHasText class →
+    stated_by last (numbered 1 (class_text class)) ≡ Ok (class, end_of class)
 
 -- A text of these lines is assembled to that class, or passes a limit of class files.
 abbrev pub TextsAreReadBack : Type 0
 TextsAreReadBack =
-    (class : StatedClass) (text : List ℕ) → ClassHasText class → lines_from 1 (pieces 10 text) ≡ numbered 1 (class_text class)
+    (class : StatedClass) (text : List ℕ) → ClassHasText class →
+    lines_from 1 (pieces 10 text) ≡ numbered 1 (class_text class)
     → AssembledClass text ≡ within_limits (class_of class no_entries) (end_of class)

@@ -20,7 +20,9 @@ abbrev pub sample_code : StatedCode
 sample_code = record {
   max_stack = 2;
   max_locals = 1;
-  insns = plain 0x1a ∷ record { op = 0x9c; wide = false; operand = operand.Done (arg.To 4) } ∷ plain 0x04 ∷ plain 0xac ∷ plain 0x03 ∷ plain 0xac ∷ [];
+  insns =
+      plain 0x1a ∷ record { op = 0x9c; wide = false; operand = operand.Done (arg.To 4) } ∷
+      plain 0x04 ∷ plain 0xac ∷ plain 0x03 ∷ plain 0xac ∷ [];
   rows = record { start = 0; end = 2; handler = 4; catch = None } ∷ [];
   lines = (0, 3) ∷ (4, 5) ∷ [];
   frames = record { at = 4; shape = shape.Same } ∷ [];
@@ -30,7 +32,14 @@ abbrev pub sample_field : StatedMember
 sample_field = record { flags = 2; name = codes "n"; desc = codes "I"; code = None; notes = [] }
 
 abbrev pub sample_method : StatedMember
-sample_method = record { flags = 9; name = codes "f"; desc = codes "(I)Z"; code = Some sample_code; notes = record { kind = codes "Lorg/junit/Test;"; expected = Some (codes "LE;") } ∷ [] }
+sample_method =
+    record {
+      flags = 9;
+      name = codes "f";
+      desc = codes "(I)Z";
+      code = Some sample_code;
+      notes = record { kind = codes "Lorg/junit/Test;"; expected = Some (codes "LE;") } ∷ [];
+    }
 
 abbrev pub sample_class : StatedClass
 sample_class = record {
@@ -48,9 +57,13 @@ sample_class = record {
 -- the lines of its text as they are written
 abbrev pub written_lines : List (List ℕ)
 written_lines =
-    codes "class A super java/lang/Object flags 33 major 52" ∷ codes "implements I" ∷ codes "source A.java" ∷ codes "note LN;" ∷ codes "field 2 n I" ∷ codes "method 9 f (I)Z stack 2 locals 1"
-    ∷ codes "note Lorg/junit/Test; expected LE;" ∷ codes "L0:" ∷ codes "line 3" ∷ codes "iload_0" ∷ codes "L1:" ∷ codes "ifge L4" ∷ codes "L2:" ∷ codes "iconst_1" ∷ codes "L3:" ∷ codes "ireturn"
-    ∷ codes "L4:" ∷ codes "line 5" ∷ codes "frame same" ∷ codes "iconst_0" ∷ codes "L5:" ∷ codes "ireturn" ∷ codes "L6:" ∷ codes "handler L0 L2 L4 any" ∷ codes "end" ∷ []
+    codes "class A super java/lang/Object flags 33 major 52" ∷ codes "implements I" ∷
+    codes "source A.java" ∷ codes "note LN;" ∷ codes "field 2 n I" ∷
+    codes "method 9 f (I)Z stack 2 locals 1"
+    ∷ codes "note Lorg/junit/Test; expected LE;" ∷ codes "L0:" ∷ codes "line 3" ∷ codes "iload_0" ∷
+    codes "L1:" ∷ codes "ifge L4" ∷ codes "L2:" ∷ codes "iconst_1" ∷ codes "L3:" ∷ codes "ireturn"
+    ∷ codes "L4:" ∷ codes "line 5" ∷ codes "frame same" ∷ codes "iconst_0" ∷ codes "L5:" ∷
+    codes "ireturn" ∷ codes "L6:" ∷ codes "handler L0 L2 L4 any" ∷ codes "end" ∷ []
 
 abbrev pub written : List ℕ
 written = flat_map (λ line. line ++ 10 ∷ []) written_lines

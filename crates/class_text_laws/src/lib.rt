@@ -29,8 +29,9 @@ pub fn texts_are_read_back()
     classes_are_read_back();
 }
 
-/// The premises of these laws are met: by a class with an interface, a source, an annotation, a field
-/// and a method with code, a line number, a frame and a handler, and by the text that is written of it.
+/// The premises of these laws are met: by a class with an interface, a source, an annotation, a
+/// field and a method with code, a line number, a frame and a handler, and by the text that is
+/// written of it.
 pub fn laws_are_of_use()
     ensures text { ClassHasText sample_class }
     ensures written { IsWritten }

@@ -9,8 +9,8 @@ use Rattle.class_model.specs.DescriptorReading.{method_kinds}
 use Rattle.asm_words.specs.Quoted.{begins_quoted, quoted_in}
 use Rattle.asm_insns.specs.Entries.{is_class_entry, member_name, call_words_of}
 use Rattle.asm_insns.specs.Named.{class_in, plain_constant, constant, long_constant, field, method_entry, interface_method, any_method, interface, class, dimensions}
-use Rattle.asm_insns.specs.declared.stated.Entry.{Entry}
-use Rattle.asm_insns.specs.declared.stated.Entry.TheVariants as entry
+use Rattle.asm_insns.specs.declared.stated.StatedConstant.{StatedConstant}
+use Rattle.asm_insns.specs.declared.stated.StatedConstant.TheVariants as entry
 use Rattle.asm_insns.specs.declared.stated.MemberName.{MemberName}
 use Rattle.asm_insns.specs.declared.stated.Operand.TheVariants as operand
 use Rattle.text_laws.specs.HasText.{IsNamed, IsMember, IsConstant, is_field_desc, is_method_desc}
@@ -34,7 +34,7 @@ integer_is n line small =
     ap (λ (b : Bool). cond b (option_map entry.Text (quoted_in line)) (plain_constant (signed_decimal n ∷ []))) (unquoted_glyphs (signed_decimal n) (signed_glyphs_are n (omega (arith, small))))
     ∙ ap (option_map entry.Integer) (between_is 0x7FFF_FFFF n (omega arith) small)
 
-pub constant_is : (m : List ℕ) (e : Entry) → Lacks 34 m → IsConstant e → constant (constant_words e) (joined (m ∷ constant_words e)) ≡ Some e
+pub constant_is : (m : List ℕ) (e : StatedConstant) → Lacks 34 m → IsConstant e → constant (constant_words e) (joined (m ∷ constant_words e)) ≡ Some e
 constant_is m (entry.Integer n) l h = integer_is n (joined (m ∷ signed_decimal n ∷ [])) (fits_four n h)
 constant_is m (entry.Long n) l h = absurd h
 constant_is m (entry.Class name) l h = ap (option_map entry.Class) (class_is name h.entry)
@@ -76,8 +76,8 @@ any_method_is member false h = method_is member h
 pub interface_is : (member : MemberName) (count : ℕ) → IsMember is_method_desc member → call_words_of (method_kinds member.desc) ≡ Some count
     → interface (member_word member ∷ member.desc ∷ []) ≡ Some (operand.Counted (entry.InterfaceMethod member) count)
 interface_is member count h counted =
-    ap (option_and_then (λ (n : ℕ). option_map (λ (e : Entry). operand.Counted e n) (interface_method (member_word member) member.desc))) counted
-    ∙ ap (option_map (λ (e : Entry). operand.Counted e count)) (interface_method_is member h)
+    ap (option_and_then (λ (n : ℕ). option_map (λ (e : StatedConstant). operand.Counted e n) (interface_method (member_word member) member.desc))) counted
+    ∙ ap (option_map (λ (e : StatedConstant). operand.Counted e count)) (interface_method_is member h)
 
 -- ---- classes
 

@@ -15,8 +15,8 @@ use Rattle.asm_insns.specs.Insns.{operand_of, plain_insn, wide_arg, wide_insn, i
 use Rattle.asm_insns.specs.Mnemonics.{opcode_of}
 use Rattle.asm_insns.specs.declared.operand_form.OperandForm.{OperandForm}
 use Rattle.asm_insns.specs.declared.operand_form.OperandForm.TheVariants as form
-use Rattle.asm_insns.specs.declared.stated.Entry.{Entry}
-use Rattle.asm_insns.specs.declared.stated.Entry.TheVariants as entry
+use Rattle.asm_insns.specs.declared.stated.StatedConstant.{StatedConstant}
+use Rattle.asm_insns.specs.declared.stated.StatedConstant.TheVariants as entry
 use Rattle.asm_insns.specs.declared.stated.MemberName.{MemberName}
 use Rattle.asm_insns.specs.declared.stated.Operand.{Operand}
 use Rattle.asm_insns.specs.declared.stated.Operand.TheVariants as operand
@@ -114,7 +114,7 @@ interface_keyword = written _ _ refl
 wide_keyword : IsWord (codes "wide")
 wide_keyword = written _ _ refl
 
-constant_are : (e : Entry) → IsConstant e → AreWords (constant_words e)
+constant_are : (e : StatedConstant) → IsConstant e → AreWords (constant_words e)
 constant_are (entry.Integer n) h = (signed_word n (omega (arith, fits_four n h)), tt)
 constant_are (entry.Long n) h = absurd h
 constant_are (entry.Class name) h = (class_keyword, (h.word, tt))

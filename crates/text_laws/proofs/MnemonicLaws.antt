@@ -9,7 +9,7 @@ use Rattle.asm_words.specs.Labels.{is_instruction}
 use Rattle.asm_words.specs.Words.{says}
 use Rattle.asm_words.proofs.NumberLaws.{and_left, and_right}
 use Rattle.asm_insns.specs.Forms.{operand_form}
-use Rattle.asm_insns.specs.Mnemonics.{opcodes_from_00, opcodes_from_11, opcodes_from_1f, opcodes_from_35, opcodes_from_4b, opcodes_from_59, opcodes_from_69, opcodes_from_7d, opcodes_from_93, opcodes_from_a3, opcodes_from_b3, opcodes_from_c0, opcode_of}
+use Rattle.asm_insns.specs.Mnemonics.{opcode_from_nop_on, opcode_from_sipush_on, opcode_from_lload_1_on, opcode_from_saload_on, opcode_from_astore_0_on, opcode_from_dup_on, opcode_from_lmul_on, opcode_from_lushr_on, opcode_from_i2s_on, opcode_from_if_icmpgt_on, opcode_from_putstatic_on, opcode_from_checkcast_on, opcode_of}
 use Rattle.asm_insns.specs.declared.operand_form.OperandForm.{OperandForm}
 use Rattle.text_laws.specs.Insns.{mnemonic}
 use Rattle.text_laws.specs.Words.{Lacks, IsWord}
@@ -32,7 +32,7 @@ all_below p zero = true
 all_below p (suc n) = p n && all_below p n
 
 all_read : all_below is_read 256 ≡ true
-unfolding opcodes_from_00 opcodes_from_11 opcodes_from_1f opcodes_from_35 opcodes_from_4b opcodes_from_59 opcodes_from_69 opcodes_from_7d opcodes_from_93 opcodes_from_a3 opcodes_from_b3 opcodes_from_c0
+unfolding opcode_from_nop_on opcode_from_sipush_on opcode_from_lload_1_on opcode_from_saload_on opcode_from_astore_0_on opcode_from_dup_on opcode_from_lmul_on opcode_from_lushr_on opcode_from_i2s_on opcode_from_if_icmpgt_on opcode_from_putstatic_on opcode_from_checkcast_on
 all_read = refl
 
 pub below : (p : ℕ → Bool) (n k : ℕ) → k < n → all_below p n ≡ true → p k ≡ true

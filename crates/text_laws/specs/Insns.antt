@@ -3,12 +3,12 @@ use Rattle.std.specs.Prelude.{ℕ, ◌==◌, Bool, true, false, List, [], ◌∷
 use Rattle.std.specs.Fmt.{decimal, signed_decimal}
 use Rattle.class_model.specs.declared.instruction.Arg.{Arg}
 use Rattle.class_model.specs.declared.instruction.Arg.TheVariants as arg
-use Rattle.asm_insns.specs.Mnemonics.{rows_from_00, rows_from_11, rows_from_1f, rows_from_35, rows_from_4b, rows_from_59, rows_from_69, rows_from_7d, rows_from_93, rows_from_a3, rows_from_b3, rows_from_c0}
+use Rattle.asm_insns.specs.Mnemonics.{rows_from_nop, rows_from_sipush, rows_from_lload_1, rows_from_saload, rows_from_astore_0, rows_from_dup, rows_from_lmul, rows_from_lushr, rows_from_i2s, rows_from_if_icmpgt, rows_from_putstatic, rows_from_checkcast}
 use Rattle.asm_insns.specs.Forms.{operand_form}
 use Rattle.asm_insns.specs.declared.operand_form.OperandForm.{OperandForm}
 use Rattle.asm_insns.specs.declared.operand_form.OperandForm.TheVariants as form
-use Rattle.asm_insns.specs.declared.stated.Entry.{Entry}
-use Rattle.asm_insns.specs.declared.stated.Entry.TheVariants as entry
+use Rattle.asm_insns.specs.declared.stated.StatedConstant.{StatedConstant}
+use Rattle.asm_insns.specs.declared.stated.StatedConstant.TheVariants as entry
 use Rattle.asm_insns.specs.declared.stated.Operand.{Operand}
 use Rattle.asm_insns.specs.declared.stated.Operand.TheVariants as operand
 use Rattle.asm_insns.specs.declared.stated.StatedInsn.{StatedInsn}
@@ -18,7 +18,8 @@ use Rattle.text_laws.specs.Words.{label, pair_word, quoted, member_word}
 
 abbrev pub mnemonic_rows : List (List ℕ × ℕ)
 mnemonic_rows =
-    rows_from_00 ++ rows_from_11 ++ rows_from_1f ++ rows_from_35 ++ rows_from_4b ++ rows_from_59 ++ rows_from_69 ++ rows_from_7d ++ rows_from_93 ++ rows_from_a3 ++ rows_from_b3 ++ rows_from_c0
+    rows_from_nop ++ rows_from_sipush ++ rows_from_lload_1 ++ rows_from_saload ++ rows_from_astore_0 ++ rows_from_dup ++
+    rows_from_lmul ++ rows_from_lushr ++ rows_from_i2s ++ rows_from_if_icmpgt ++ rows_from_putstatic ++ rows_from_checkcast
 
 abbrev pub word_in : ℕ → List (List ℕ × ℕ) → List ℕ
 word_in op [] = []
@@ -47,33 +48,35 @@ arg_words (arg.Pool index) = []
 arg_words (arg.Local n) = decimal n ∷ []
 arg_words (arg.Inc n by) = decimal n ∷ signed_decimal by ∷ []
 arg_words (arg.To n) = label n ∷ []
-arg_words (arg.Table default (low, targets)) = signed_decimal low ∷ label default ∷ map label targets
+arg_words (arg.Table default (low, targets)) =
+    signed_decimal low ∷ label default ∷ map label targets
 arg_words (arg.Lookup default pairs) = label default ∷ map pair_word pairs
 arg_words (arg.Kind kind) = array_word kind ∷ []
 arg_words (arg.Multi index count) = []
 
 -- what an instruction names, a class as it stands behind `new`
-abbrev pub entry_words : Entry → List (List ℕ)
+abbrev pub entry_words : StatedConstant → List (List ℕ)
 entry_words (entry.Integer n) = signed_decimal n ∷ []
 entry_words (entry.Long n) = signed_decimal n ∷ []
 entry_words (entry.Class name) = name ∷ []
 entry_words (entry.Text units) = quoted units ∷ []
 entry_words (entry.Field member) = member_word member ∷ member.desc ∷ []
 entry_words (entry.Method member) = member_word member ∷ member.desc ∷ []
-entry_words (entry.InterfaceMethod member) = codes "interface" ∷ member_word member ∷ member.desc ∷ []
+entry_words (entry.InterfaceMethod member) =
+    codes "interface" ∷ member_word member ∷ member.desc ∷ []
 
 -- the constant of ldc and ldc_w
-abbrev pub constant_words : Entry → List (List ℕ)
+abbrev pub constant_words : StatedConstant → List (List ℕ)
 constant_words (entry.Class name) = codes "class" ∷ name ∷ []
 constant_words other = entry_words other
 
 -- what an instruction names beside a number: the words of an interface call say it already
-abbrev pub counted_words : Entry → ℕ → List (List ℕ)
+abbrev pub counted_words : StatedConstant → ℕ → List (List ℕ)
 counted_words (entry.InterfaceMethod member) count = member_word member ∷ member.desc ∷ []
 counted_words other count = entry_words other ++ decimal count ∷ []
 
 -- The constant of ldc_w says whether it is a class; elsewhere the mnemonic says what is named.
-abbrev pub named_words : OperandForm → Entry → List (List ℕ)
+abbrev pub named_words : OperandForm → StatedConstant → List (List ℕ)
 named_words form.Constant e = constant_words e
 named_words other e = entry_words e
 
@@ -94,4 +97,5 @@ behind_wide false words = words
 
 -- the words of an instruction's line
 abbrev pub insn_words : StatedInsn → List (List ℕ)
-insn_words insn = behind_wide insn.wide (mnemonic insn.op ∷ operand_words (operand_form insn.op) insn.operand)
+insn_words insn =
+    behind_wide insn.wide (mnemonic insn.op ∷ operand_words (operand_form insn.op) insn.operand)

@@ -1,4 +1,5 @@
--- The other lines are read as what was printed (this project's own). Words are those of a line, which parts them at spaces.
+-- The other lines are read as what was printed (this project's own). Words are those of a line,
+-- which parts them at spaces.
 use Rattle.std.specs.Prelude.{◌≡◌, ℕ, Some}
 use Rattle.std.specs.Option.{option_map}
 use Rattle.asm_words.specs.Labels.{end_in}
@@ -21,20 +22,27 @@ use Rattle.text_laws.specs.Words.{label}
 
 -- the first line of a class: its names, flags and version, and nothing else
 abbrev pub HeadsAreReadBack : Type 0
-HeadsAreReadBack = (class : StatedClass) → HeadHasText class → class_in (class_line class) ≡ Some (empty_class class.name class.parent class.flags class.major)
+HeadsAreReadBack =
+    (class : StatedClass) → HeadHasText class →
+    class_in (class_line class) ≡ Some (empty_class class.name class.parent class.flags class.major)
 
 abbrev pub NotesAreReadBack : Type 0
 NotesAreReadBack = (note : StatedNote) → NoteHasText note → note_in (note_line note) ≡ Some note
 
 abbrev pub FieldsAreReadBack : Type 0
-FieldsAreReadBack = (field : StatedMember) → FieldHasText field → field_in (field_line field) ≡ Some (named_member field.flags field.name field.desc None)
+FieldsAreReadBack =
+    (field : StatedMember) → FieldHasText field →
+    field_in (field_line field) ≡ Some (named_member field.flags field.name field.desc None)
 
 -- the code of a method's first line: its sizes, and no lines
 abbrev pub sizes_of : StatedCode → StatedCode
 sizes_of code = empty_code code.max_stack code.max_locals
 
 abbrev pub MethodsAreReadBack : Type 0
-MethodsAreReadBack = (method : StatedMember) → MethodHasText method → method_in (method_line method) ≡ Some (named_member method.flags method.name method.desc (option_map sizes_of method.code))
+MethodsAreReadBack =
+    (method : StatedMember) → MethodHasText method →
+    method_in (method_line method) ≡ Some
+    (named_member method.flags method.name method.desc (option_map sizes_of method.code))
 
 abbrev pub NumbersAreReadBack : Type 0
 NumbersAreReadBack = (number : ℕ) → number < 2 ^ 16 → line_in (number_line number) ≡ Some number
@@ -45,7 +53,11 @@ AreEndsLabelled total labels = (n : ℕ) → n ≤ total → end_in labels (labe
 
 abbrev pub RowsAreReadBack : Type 0
 RowsAreReadBack =
-    (total : ℕ) (labels : Labels) (row : StatedRow) → AreLabelled total labels → AreEndsLabelled total labels → RowHasText total row → row_in labels (handler_line row) ≡ Some row
+    (total : ℕ) (labels : Labels) (row : StatedRow) → AreLabelled total labels →
+    AreEndsLabelled total labels → RowHasText total row →
+    row_in labels (handler_line row) ≡ Some row
 
 abbrev pub FramesAreReadBack : Type 0
-FramesAreReadBack = (total : ℕ) (labels : Labels) (shape : StatedShape) → AreLabelled total labels → ShapeHasText total shape → shape_of labels (frame_line shape) ≡ Some shape
+FramesAreReadBack =
+    (total : ℕ) (labels : Labels) (shape : StatedShape) → AreLabelled total labels →
+    ShapeHasText total shape → shape_of labels (frame_line shape) ≡ Some shape

@@ -18,7 +18,9 @@ use Rattle.text_laws.specs.Words.{label}
 -- ---- the class and its members
 
 abbrev pub class_line : StatedClass → List (List ℕ)
-class_line class = codes "class" ∷ class.name ∷ codes "super" ∷ class.parent ∷ codes "flags" ∷ decimal class.flags ∷ codes "major" ∷ decimal class.major ∷ []
+class_line class =
+    codes "class" ∷ class.name ∷ codes "super" ∷ class.parent ∷ codes "flags" ∷
+    decimal class.flags ∷ codes "major" ∷ decimal class.major ∷ []
 
 abbrev pub expected_words : Option (List ℕ) → List (List ℕ)
 expected_words None = []
@@ -32,10 +34,12 @@ field_line field = codes "field" ∷ decimal field.flags ∷ field.name ∷ fiel
 
 abbrev pub size_words : Option StatedCode → List (List ℕ)
 size_words None = []
-size_words (Some code) = codes "stack" ∷ decimal code.max_stack ∷ codes "locals" ∷ decimal code.max_locals ∷ []
+size_words (Some code) =
+    codes "stack" ∷ decimal code.max_stack ∷ codes "locals" ∷ decimal code.max_locals ∷ []
 
 abbrev pub method_line : StatedMember → List (List ℕ)
-method_line method = codes "method" ∷ decimal method.flags ∷ method.name ∷ method.desc ∷ size_words method.code
+method_line method =
+    codes "method" ∷ decimal method.flags ∷ method.name ∷ method.desc ∷ size_words method.code
 
 -- ---- code
 
@@ -47,7 +51,9 @@ catch_word None = codes "any"
 catch_word (Some class) = class
 
 abbrev pub handler_line : StatedRow → List (List ℕ)
-handler_line row = codes "handler" ∷ label row.start ∷ label row.end ∷ label row.handler ∷ catch_word row.catch ∷ []
+handler_line row =
+    codes "handler" ∷ label row.start ∷ label row.end ∷ label row.handler ∷ catch_word row.catch ∷
+    []
 
 -- ---- frames
 
@@ -72,7 +78,8 @@ shape_words shape.Same = codes "same" ∷ []
 shape_words (shape.One i) = codes "one" ∷ item_words i
 shape_words (shape.Chop count) = codes "chop" ∷ decimal count ∷ []
 shape_words (shape.Append items) = codes "append" ∷ items_words items
-shape_words (shape.Full locals stack) = codes "full" ∷ (items_words locals ++ codes "/" ∷ items_words stack)
+shape_words (shape.Full locals stack) =
+    codes "full" ∷ (items_words locals ++ codes "/" ∷ items_words stack)
 
 abbrev pub frame_line : StatedShape → List (List ℕ)
 frame_line shape = codes "frame" ∷ shape_words shape

@@ -1,4 +1,5 @@
--- Which classes, members, notes, rows and frames have a text (JVMS 4, in this profile): the numbers are in the ranges of their fields, and the names are those that the standard allows.
+-- Which classes, members, notes, rows and frames have a text (JVMS 4, in this profile): the numbers
+-- are in the ranges of their fields, and the names are those that the standard allows.
 use Rattle.std.specs.Prelude.{◌≡◌, ℕ, ◌<◌, ◌≤◌, ◌^◌, true, false, IfSome, List, length, codes, None}
 use Rattle.std.specs.List.{AllByRecursion}
 use Rattle.std.specs.Result.{is_ok}
@@ -81,5 +82,7 @@ abbrev pub ShapeHasText : ℕ → StatedShape → Type 0
 ShapeHasText total shape.Same = Unit {0}
 ShapeHasText total (shape.One i) = ItemHasText total i
 ShapeHasText total (shape.Chop count) = (0 < count) × (count ≤ 3)
-ShapeHasText total (shape.Append items) = (0 < length items) × (length items ≤ 3) × ItemsHaveText total items
-ShapeHasText total (shape.Full locals stack) = ItemsHaveText total locals × ItemsHaveText total stack
+ShapeHasText total (shape.Append items) =
+    (0 < length items) × (length items ≤ 3) × ItemsHaveText total items
+ShapeHasText total (shape.Full locals stack) =
+    ItemsHaveText total locals × ItemsHaveText total stack

@@ -16,5 +16,8 @@ AreLabelled total labels = (n : ℕ) → n < total → start_in labels (label n)
 -- Of each instruction that has a text, the line that is printed has its words, and states it.
 abbrev pub InsnsAreReadBack : Type 0
 InsnsAreReadBack =
-    (total : ℕ) (labels : Labels) (insn : StatedInsn) → total < 2 ^ 32 → AreLabelled total labels → HasText total insn
-    → (words_of (joined (insn_words insn)) ≡ insn_words insn) × (insn_by labels (joined (insn_words insn)) (words_of (joined (insn_words insn))) ≡ Some insn)
+    (total : ℕ) (labels : Labels) (insn : StatedInsn) → total < 2 ^ 32 → AreLabelled total labels →
+    HasText total insn
+    → (words_of (joined (insn_words insn)) ≡ insn_words insn)
+    × (insn_by labels (joined (insn_words insn)) (words_of (joined (insn_words insn))) ≡
+    Some insn)

@@ -26,7 +26,9 @@ abbrev pub hex_glyph : ℕ → ℕ
 hex_glyph digit = if nat_lt digit 10 then 48 + digit else 55 + digit
 
 abbrev pub escaped : ℕ → List ℕ
-escaped unit = 92 ∷ 117 ∷ hex_glyph (unit / 4096 % 16) ∷ hex_glyph (unit / 256 % 16) ∷ hex_glyph (unit / 16 % 16) ∷ hex_glyph (unit % 16) ∷ []
+escaped unit =
+    92 ∷ 117 ∷ hex_glyph (unit / 4096 % 16) ∷ hex_glyph (unit / 256 % 16) ∷
+    hex_glyph (unit / 16 % 16) ∷ hex_glyph (unit % 16) ∷ []
 
 abbrev pub quoted : List ℕ → List ℕ
 quoted units = 34 ∷ (flat_map escaped units ++ 34 ∷ [])

@@ -3,7 +3,7 @@ use Rattle.std.specs.Prelude.{sum_by}
 use Rattle.std.proofs.lemmas.Bool.{lt-ltb}
 use Rattle.std.proofs.lemmas.Grind.{common_steps}
 use Rattle.class_model.specs.declared.kind.Kind.{Kind}
-use Rattle.class_model.specs.Judged.{words}
+use Rattle.class_model.specs.TextVerdicts.{words}
 use Rattle.asm_insns.specs.Entries.{fits_byte}
 use Rattle.asm_insns.proofs.entry.call_words.Goals as goal
 

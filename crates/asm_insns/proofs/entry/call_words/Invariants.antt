@@ -1,6 +1,6 @@
 use Rattle.std.proofs.Common.{◌≡◌, ◌+◌, ◌<◌, drop}
 use Rattle.std.specs.Prelude.{sum_by}
-use Rattle.class_model.specs.Judged.{words}
+use Rattle.class_model.specs.TextVerdicts.{words}
 use Rattle.asm_insns.proofs.entry.call_words.Given as goal
 
 abbrev pub invariant-loop-kind : goal.invariant-loop-kind

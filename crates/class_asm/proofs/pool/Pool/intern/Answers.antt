@@ -7,5 +7,5 @@ use Rattle.class_asm.proofs.pool.Pool.intern.Goals as goal
 
 pub invariant_of-self-else-is_err : goal.invariant_of-self-else-is_err
 invariant_of-self-else-is_err c =
-    let absent : get same c.self.inside.places c.args.said ≡ None = search rules in
-    search (rules, placed c.self.inside.places c.insert.new.self c.self.inside.entries.items c.args.said c.self.invariant absent)
+    let absent : get same c.self.inside.places c.args.key ≡ None = search rules in
+    search (rules, placed c.self.inside.places c.insert.new.self c.self.inside.entries.items c.args.key c.self.invariant absent)
