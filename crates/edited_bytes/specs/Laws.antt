@@ -13,10 +13,17 @@ use Rattle.edited_bytes.specs.Spliced.{spliced_layout, parts_and_bytes}
 
 -- The layout of a class with parts is a splice of the bytes of the class.
 abbrev pub LayoutIsSpliced : Type 0
-LayoutIsSpliced = (class : Class) (bytes : List ℕ) (edit : Edit) (parts : Parts) (member : Member) (place : Place) → layout class ≡ Ok bytes
-    → slice_get class.methods edit.method ≡ Some member → slice_get (places_of class).methods edit.method ≡ Some place
-    → layout (class_with edit class parts) ≡ spliced_layout (pool_end class) place bytes class.pool parts member
+LayoutIsSpliced =
+    (class : Class) (bytes : List ℕ) (edit : Edit) (parts : Parts) (member : Member)
+    (place : Place) → layout class ≡ Ok bytes
+    → slice_get class.methods edit.method ≡ Some member →
+    slice_get (places_of class).methods edit.method ≡ Some place
+    → layout (class_with edit class parts) ≡
+    spliced_layout (pool_end class) place bytes class.pool parts member
 
 -- The parts and the bytes are those of the class that the edit makes.
 abbrev pub PartsAreOfApplied : Type 0
-PartsAreOfApplied = (class : Class) (edit : Edit) → option_map (λ made. (class_with edit class made.0, made.1)) (parts_and_bytes class edit) ≡ applied class edit
+PartsAreOfApplied =
+    (class : Class) (edit : Edit) →
+    option_map (λ made. (class_with edit class made.0, made.1)) (parts_and_bytes class edit) ≡
+    applied class edit

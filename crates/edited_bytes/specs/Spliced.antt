@@ -1,4 +1,6 @@
--- The bytes of an edited class file as a splice of those of the class file (this project's own): nothing is written but the pool's count, the entries that are added, and the attributes of one method.
+-- The bytes of an edited class file as a splice of those of the class file (this project's own):
+-- nothing is written but the pool's count, the entries that are added, and the attributes of one
+-- method.
 use Rattle.std.specs.Prelude.{◌≡◌, ℕ, ◌+◌, ◌≤◌, ◌^◌, nat_lt, List, ◌++◌, length, take, drop, Option, Some, None, option_and_then, Result, Ok, Err, if◌then◌else◌}
 use Rattle.std.specs.Int.{w16, to_be_bytes}
 use Rattle.class_model.specs.declared.class.Class.{Class}
@@ -45,10 +47,14 @@ pub record AreOrdered (pool_end : ℕ) (place : Place) (bytes : List ℕ) : Type
 
 -- The count of a pool with entries added behind its own; it has two bytes (JVMS 4.1).
 abbrev pub pool_count : ℕ → ℕ → Result ℕ LayoutFault
-pool_count old added = if nat_lt (old + added + 1) (2 ^ 16) then Ok (old + added + 1) else Err (layout_fault.TooLarge bound.Pool)
+pool_count old added =
+    if nat_lt (old + added + 1) (2 ^ 16) then Ok (old + added + 1)
+    else Err (layout_fault.TooLarge bound.Pool)
 
--- The bytes of a class with these parts, by those of the class, or the bound that is passed first. The count of the added entries, which stands in front of them, is left out.
-abbrev pub spliced_layout : ℕ → Place → List ℕ → List Const → Parts → Member → Result (List ℕ) LayoutFault
+-- The bytes of a class with these parts, by those of the class, or the bound that is passed first.
+-- The count of the added entries, which stands in front of them, is left out.
+abbrev pub spliced_layout :
+    ℕ → Place → List ℕ → List Const → Parts → Member → Result (List ℕ) LayoutFault
 spliced_layout pool_end place bytes pool parts member =
     pool_count (length pool) (length parts.added) >>= λ count.
     pool_layout parts.added >>= λ added.
@@ -60,6 +66,9 @@ abbrev pub with_bytes : Parts → Result (List ℕ) LayoutFault → Option (Part
 with_bytes parts (Ok bytes) = Some (parts, bytes)
 with_bytes parts (Err fault) = None
 
--- The parts that an edit makes anew, and the bytes of the edited class; none exactly where a bound of the format is passed.
+-- The parts that an edit makes anew, and the bytes of the edited class; none exactly where a bound
+-- of the format is passed.
 abbrev pub parts_and_bytes : Class → Edit → Option (Parts × List ℕ)
-parts_and_bytes class edit = option_and_then (λ parts. with_bytes parts (layout (class_with edit class parts))) (edited_parts edit class)
+parts_and_bytes class edit =
+    option_and_then (λ parts. with_bytes parts (layout (class_with edit class parts)))
+    (edited_parts edit class)

@@ -1,4 +1,5 @@
-//! The bytes of the class that a mutant's edit makes, without the class: a splice of the bytes of the class that is edited.
+//! The bytes of the class that a mutant's edit makes, without the class: a splice of the bytes of
+//! the class that is edited.
 #![tactic(auto)]
 
 mod laws;

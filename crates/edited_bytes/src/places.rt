@@ -17,14 +17,16 @@ use std::alloc::Global;
 
 const MAGIC: u32 = 0xCAFE_BABE;
 
-/// Where the attributes of a method stand, from their count on, and what stands behind them: offsets in bytes.
+/// Where the attributes of a method stand, from their count on, and what stands behind them:
+/// offsets in bytes.
 #[derive(Clone, Copy)]
 pub struct Place {
     pub start: usize,
     pub end: usize,
 }
 
-/// Where the constant pool of a class file ends, and where the attributes of each of its methods stand.
+/// Where the constant pool of a class file ends, and where the attributes of each of its methods
+/// stand.
 #[derive(Drop)]
 pub struct Places {
     pub pool_end: usize,
@@ -131,7 +133,8 @@ fn put_middle(out: &mut Bytes, class: &Class) -> Result<(), LayoutFault>
 }
 
 impl Places {
-    /// The places of a class, found once for all of its edits. Where the class has no layout there are none.
+    /// The places of a class, found once for all of its edits. Where the class has no layout there
+    /// are none.
     pub fn new(alloc: Global, class: &Class) -> Result<Places, LayoutFault>
         requires { HasClassForm class.now }
         ensures { IfOk result (λ places. places ≡ places_of class.now) }

@@ -64,7 +64,9 @@ fn splice(
     attrs: &[u8],
 ) -> Result<(), Memory>
     requires { AreOrdered pool_end place bytes.now }
-    ensures { OnOk result (out.new ≡ out.old ++ spliced pool_end place bytes.now (to_be_bytes w16 count) added.now attrs.now) }
+    ensures { OnOk result (
+        out.new ≡ out.old ++
+        spliced pool_end place bytes.now (to_be_bytes w16 count) added.now attrs.now) }
 {
     out.extend_from_slice(&bytes[..8])?;
     put_u2(out, count)?;
@@ -89,7 +91,8 @@ fn splice_parts(
 ) -> Result<Bytes, LayoutFault>
     requires places { AreOrdered pool_end place bytes.now }
     requires form { All HasAttrForm (with_code parts.now.code member.now.attrs) }
-    ensures { GivesBytes (spliced_layout pool_end place bytes.now pool.now parts.now member.now) result }
+    ensures { GivesBytes (spliced_layout pool_end place bytes.now pool.now parts.now member.now)
+        result }
 {
     let count = pool_count(pool.len(), parts.added.len())?;
     let added = entry_bytes(alloc, &parts.added)?;
@@ -137,8 +140,10 @@ fn edited_method(
     )
 }
 
-/// The bytes of a class with parts that an edit makes anew, by the bytes of the class and its places: exactly the layout of that class, or the bound that it passes first. Neither
-/// is the class copied nor what isn't edited written. Where the class has no method of that number, memory runs out.
+/// The bytes of a class with parts that an edit makes anew, by the bytes of the class and its
+/// places: exactly the layout of that class, or the bound that it passes first. Neither is the
+/// class copied nor what isn't edited written. Where the class has no method of that number, memory
+/// runs out.
 pub fn edited_bytes(
     alloc: Global,
     class: &Class,
@@ -158,7 +163,8 @@ pub fn edited_bytes(
     edited_method(alloc, class, bytes, places, edit, parts, member)
 }
 
-/// The parts of a class that an edit makes anew, with the bytes of the edited class; none exactly where `apply` gives none.
+/// The parts of a class that an edit makes anew, with the bytes of the edited class; none exactly
+/// where `apply` gives none.
 pub fn parts_and_bytes(
     alloc: Global,
     class: &Class,

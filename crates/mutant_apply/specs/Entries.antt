@@ -42,7 +42,8 @@ is_entry entry other = false
 
 -- ---- indices. `added` are the entries that the edit has appended to the pool so far.
 
--- A value, with the entries that are added then; none where the count of the pool, which is one more than its entries, passes two bytes (JVMS 4.1).
+-- A value, with the entries that are added then; none where the count of the pool, which is one
+-- more than its entries, passes two bytes (JVMS 4.1).
 abbrev pub within : List Const → ℕ × List Const → Option (ℕ × List Const)
 within pool x = if nat_lt (length pool + length x.1 + 1) (2 ^ 16) then Some x else None
 
@@ -50,9 +51,11 @@ abbrev pub found_or_added : List Const → Const → List Const → Option ℕ �
 found_or_added pool entry added (Some index) = (index, added)
 found_or_added pool entry added None = (length pool + length added + 1, added ++ entry ∷ [])
 
--- The lowest index where an equal entry stands, else that of the entry behind the last one. Indices count from 1.
+-- The lowest index where an equal entry stands, else that of the entry behind the last one. Indices
+-- count from 1.
 abbrev pub index_of : List Const → Const → List Const → Option (ℕ × List Const)
-index_of pool entry added = within pool (found_or_added pool entry added (position_from (is_entry entry) 1 (pool ++ added)))
+index_of pool entry added =
+    within pool (found_or_added pool entry added (position_from (is_entry entry) 1 (pool ++ added)))
 
 -- ---- each behind those that it names
 

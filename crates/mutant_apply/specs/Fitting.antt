@@ -13,7 +13,8 @@ use Rattle.class_model.specs.declared.instruction.Insn.{Insn}
 use Rattle.mt_insn.specs.Code.{HasForm, NamesRight, targets_in}
 use Rattle.mutant_apply.specs.Edited.{named_code}
 
--- An instruction that may stand in the place of another one: it has the form of its opcode, names in the pool what that may name, and leads nowhere or where the other one leads.
+-- An instruction that may stand in the place of another one: it has the form of its opcode, names
+-- in the pool what that may name, and leads nowhere or where the other one leads.
 pub record StandsFor (pool : List Const) (old new : Insn) : Type 0 where
   pub form : HasForm new
   pub names : NamesRight pool new
@@ -41,6 +42,7 @@ abbrev pub FitsCode : List Const → Edit → Option Code → Type 0
 FitsCode pool edit None = ⊥
 FitsCode pool edit (Some code) = FitsInsn pool edit.with (slice_get (out-Code code).insns edit.at)
 
--- The edit names an instruction of a method with Code, and puts at least one in its place, each of which may stand there.
+-- The edit names an instruction of a method with Code, and puts at least one in its place, each of
+-- which may stand there.
 abbrev pub Fits : Class → Edit → Type 0
 Fits class edit = FitsCode class.pool edit (named_code edit class)

@@ -11,13 +11,18 @@ use Rattle.mutant_apply.specs.declared.parts.Parts.{Parts}
 
 -- A class that can be written can be written when it is edited.
 abbrev pub EditKeepsForm : Type 0
-EditKeepsForm = (class : Class) (edit : Edit) (parts : Parts) → HasClassForm class → Fits class edit → edited_parts edit class ≡ Some parts → HasClassForm (class_with edit class parts)
+EditKeepsForm =
+    (class : Class) (edit : Edit) (parts : Parts) → HasClassForm class → Fits class edit →
+    edited_parts edit class ≡ Some parts → HasClassForm (class_with edit class parts)
 
 -- The edit of each mutant of a class that can be written fits the class.
 abbrev pub MutantsFit : Type 0
-MutantsFit = (class : Class) → HasClassForm class → All (λ mutant. Fits class mutant.edit) (class_mutants class)
+MutantsFit =
+    (class : Class) → HasClassForm class →
+    All (λ mutant. Fits class mutant.edit) (class_mutants class)
 
--- The class that is made has the pool of the one that is edited with entries behind it, and names itself, its superclass and its interfaces by the same indices.
+-- The class that is made has the pool of the one that is edited with entries behind it, and names
+-- itself, its superclass and its interfaces by the same indices.
 pub record IsNamedAs (edited class : Class) (added : List Const) : Type 0 where
   pub pool : edited.pool ≡ class.pool ++ added
   pub this : edited.this ≡ class.this
@@ -33,4 +38,6 @@ pub record IsMade (class : Class) (edit : Edit) (made : Class × List ℕ) : Typ
   pub named : IsNamedAs made.0 class parts.added
 
 abbrev pub AppliedIsMade : Type 0
-AppliedIsMade = (class : Class) (edit : Edit) (made : Class × List ℕ) → applied class edit ≡ Some made → IsMade class edit made
+AppliedIsMade =
+    (class : Class) (edit : Edit) (made : Class × List ℕ) → applied class edit ≡ Some made →
+    IsMade class edit made

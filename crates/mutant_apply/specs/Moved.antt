@@ -1,4 +1,5 @@
--- Where the parts of a method's code stand when one of its instructions is replaced by several (this project's own). Places are instruction numbers.
+-- Where the parts of a method's code stand when one of its instructions is replaced by several
+-- (this project's own). Places are instruction numbers.
 use Rattle.std.specs.Prelude.{ℕ, ◌+◌, ◌-◌, Bool, ◌||◌, nat_le, nat_lt, if◌then◌else◌, List, [], ◌∷◌, map}
 use Rattle.std.specs.List.{flat_map}
 use Rattle.class_model.specs.declared.attribute.Attr.{Attr}
@@ -20,7 +21,8 @@ use Rattle.mt_attrs.specs.Frames.{next_behind, delta_of}
 
 -- ---- the place map
 
--- A place up to that of the replaced instruction stays; a later one, and so the code's end, moves by the number of instructions more.
+-- A place up to that of the replaced instruction stays; a later one, and so the code's end, moves
+-- by the number of instructions more.
 abbrev pub moved_place : ℕ → ℕ → ℕ → ℕ
 moved_place at more place = if nat_le place at then place else place + more
 
@@ -54,9 +56,11 @@ with_items_moved mv (shape.Same far) = shape.Same far
 with_items_moved mv (shape.One far item) = shape.One far (moved_item mv item)
 with_items_moved mv (shape.Chop count) = shape.Chop count
 with_items_moved mv (shape.Append items) = shape.Append (map (moved_item mv) items)
-with_items_moved mv (shape.Full locals stack) = shape.Full (map (moved_item mv) locals) (map (moved_item mv) stack)
+with_items_moved mv (shape.Full locals stack) =
+    shape.Full (map (moved_item mv) locals) (map (moved_item mv) stack)
 
--- A frame of the short form whose offset from the frame before passes 63 takes the longer one; other forms stay.
+-- A frame of the short form whose offset from the frame before passes 63 takes the longer one;
+-- other forms stay.
 abbrev pub long_enough : ℕ → Shape → Shape
 long_enough delta (shape.Same far) = shape.Same (far || nat_lt 63 delta)
 long_enough delta (shape.One far item) = shape.One (far || nat_lt 63 delta) item
@@ -66,21 +70,33 @@ long_enough delta other = other
 abbrev pub placed_frame : (ℕ → ℕ) → Frame → Frame
 placed_frame mv frame = record { at = mv frame.at; shape = with_items_moved mv frame.shape }
 
--- The same in a code whose instructions begin at `starts`. `next` is 0 for the first frame, and else one behind the place of the frame before it.
+-- The same in a code whose instructions begin at `starts`. `next` is 0 for the first frame, and
+-- else one behind the place of the frame before it.
 abbrev pub moved_frame : (ℕ → ℕ) → List ℕ → ℕ → Frame → Frame
-moved_frame mv starts next frame = record { at = mv frame.at; shape = long_enough (delta_of starts next (placed_frame mv frame)) (with_items_moved mv frame.shape) }
+moved_frame mv starts next frame =
+    record {
+      at = mv frame.at;
+      shape = long_enough (delta_of starts next (placed_frame mv frame))
+          (with_items_moved mv frame.shape);
+    }
 
 abbrev pub moved_frames : (ℕ → ℕ) → List ℕ → ℕ → List Frame → List Frame
 moved_frames mv starts next [] = []
-moved_frames mv starts next (frame ∷ frames) = moved_frame mv starts next frame ∷ moved_frames mv starts (next_behind starts next (placed_frame mv frame)) frames
+moved_frames mv starts next (frame ∷ frames) =
+    moved_frame mv starts next frame ∷
+    moved_frames mv starts (next_behind starts next (placed_frame mv frame)) frames
 
 -- ---- the attributes inside Code
 
--- LineNumberTable and StackMapTable stay and are moved. All others are dropped, since what they say of places in the code isn't known.
+-- LineNumberTable and StackMapTable stay and are moved. All others are dropped, since what they say
+-- of places in the code isn't known.
 abbrev pub moved_table : (ℕ → ℕ) → List ℕ → ℕ → Body-F Body Attr Code → List Attr
-moved_table mv starts name (Body-F.Lines lines) = attr_of name (body.Lines (map (moved_line mv) lines)) ∷ []
-moved_table mv starts name (Body-F.Frames frames) = attr_of name (body.Frames (moved_frames mv starts 0 frames)) ∷ []
+moved_table mv starts name (Body-F.Lines lines) =
+    attr_of name (body.Lines (map (moved_line mv) lines)) ∷ []
+moved_table mv starts name (Body-F.Frames frames) =
+    attr_of name (body.Frames (moved_frames mv starts 0 frames)) ∷ []
 moved_table mv starts name other = []
 
 abbrev pub moved_tables : (ℕ → ℕ) → List ℕ → List Attr → List Attr
-moved_tables mv starts attrs = flat_map (λ attr. moved_table mv starts (name_of attr) (body_of attr)) attrs
+moved_tables mv starts attrs =
+    flat_map (λ attr. moved_table mv starts (name_of attr) (body_of attr)) attrs

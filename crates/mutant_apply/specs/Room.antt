@@ -1,4 +1,5 @@
--- What numbers have room while an edit is made (this project's own): places in a code of at most 65,535 instructions that moved by at most as many.
+-- What numbers have room while an edit is made (this project's own): places in a code of at most
+-- 65,535 instructions that moved by at most as many.
 use Rattle.std.specs.Prelude.{◌≡◌, ◌≢◌, ℕ, ◌<◌, ◌^◌, List, All, Option, Some, None, Result, Ok, Err}
 use Rattle.std.specs.List.{AllByRecursion}
 use Rattle.class_model.specs.declared.attribute.Attr.{Attr}

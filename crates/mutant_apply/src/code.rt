@@ -104,7 +104,8 @@ fn has_stack_room(edit: &Edit, code: &Code) -> bool
 /// What an edit makes of a code of a class with this pool, and what it adds to the pool.
 pub fn edited_code(pool: &Seq<Const>, edit: &Edit, code: &Code) -> Result<Parts, Refusal>
     requires form { HasCodeForm (out-Code code.now) }
-    requires fits { FitsInsn pool.now edit.now.with (slice_get (out-Code code.now).insns edit.now.at) }
+    requires fits { FitsInsn pool.now edit.now.with
+        (slice_get (out-Code code.now).insns edit.now.at) }
     ensures { Makes (edited_code pool.now edit.now code.now) result }
 {
     if code.insns.len() > MOST {

@@ -64,8 +64,8 @@ fn has_room(pool: &[Const], added: &[Const]) -> bool
     pool.len() as u128 + (added.len() as u128) + 1 < 0x1_0000
 }
 
-/// The index of an entry in a pool with the entries that an edit adds: the lowest where an equal one
-/// stands, else that behind the last one, where it is added.
+/// The index of an entry in a pool with the entries that an edit adds: the lowest where an equal
+/// one stands, else that behind the last one, where it is added.
 pub fn index_of(pool: &[Const], entry: Const, added: &mut Seq<Const>) -> Result<u16, Refusal>
     ensures { Adds (index_of pool.now entry added.old) added.new result }
 {

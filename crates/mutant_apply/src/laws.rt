@@ -16,7 +16,8 @@ pub fn mutants_fit()
     listed_exactly();
 }
 
-/// What `apply` gives is the class with its edited parts and its layout, under the names of the one that is edited.
+/// What `apply` gives is the class with its edited parts and its layout, under the names of the one
+/// that is edited.
 pub fn applied_is_made()
     ensures { AppliedIsMade }
 {}

@@ -62,7 +62,8 @@ fn member_with(new: &Code, member: &Member) -> Result<Member, Memory>
 /// The methods of a class with another code in the one that an edit names.
 #[tactic(auto, using(crate::proofs::Lists::changed_set, crate::proofs::Lists::changed_none))]
 pub fn methods_with(edit: &Edit, new: &Code, class: &Class) -> Result<Seq<Member>, Memory>
-    ensures { IfOk result (λ edited. edited ≡ changed_at edit.now.method (member_with new.now) class.now.methods) }
+    ensures { IfOk result (λ edited.
+        edited ≡ changed_at edit.now.method (member_with new.now) class.now.methods) }
 {
     let at = edit.method as usize;
     match class.methods.get(at) {

@@ -26,7 +26,8 @@ fn is_narrow(local: u16, by: i16) -> bool
 }
 
 fn increment(local: u16, by: i32, added: &Seq<Const>) -> Result<Insn, Refusal>
-    ensures { Adds (if is_short by then Some (increment local by, added.now) else None) added.now result }
+    ensures { Adds (if is_short by then Some (increment local by, added.now) else None)
+        added.now result }
 {
     let Ok(by) = i16::try_from(by) else {
         return Err(Refusal::NoLayout);
@@ -55,7 +56,8 @@ fn new_insn(
     added: &mut Seq<Const>,
 ) -> Result<Insn, Refusal>
     requires { IsNearNew new.now }
-    ensures { Adds (new_insn pool.now (moved_place by.at by.more) new.now added.old) added.new result }
+    ensures { Adds (new_insn pool.now (moved_place by.at by.more) new.now added.old)
+        added.new result }
 {
     match new {
         NewInsn::Plain(insn) => Ok(moved_insn(by, insn)?),
@@ -76,7 +78,8 @@ pub fn new_insns(
     added: &mut Seq<Const>,
 ) -> Result<Seq<Insn>, Refusal>
     requires { All IsNearNew with.now }
-    ensures { Adds (new_insns pool.now (moved_place by.at by.more) with.now added.old) added.new result }
+    ensures { Adds (new_insns pool.now (moved_place by.at by.more) with.now added.old)
+        added.new result }
 {
     let mut insns = Seq::new(with.allocator());
     for new in with.as_slice() {

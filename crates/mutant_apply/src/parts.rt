@@ -2,7 +2,8 @@
 
 use class_model::{Code, Const, Seq};
 
-/// The parts of a class that an edit makes anew: the code of its method, and the entries that stand behind those of the pool.
+/// The parts of a class that an edit makes anew: the code of its method, and the entries that stand
+/// behind those of the pool.
 #[derive(Drop)]
 pub struct Parts {
     pub code: Code,

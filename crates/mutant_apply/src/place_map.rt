@@ -41,7 +41,8 @@ fn moved_targets(by: PlaceMap, targets: &Seq<u32>) -> Result<Seq<u32>, Memory>
 
 fn moved_pairs(by: PlaceMap, pairs: &Seq<(i32, u32)>) -> Result<Seq<(i32, u32)>, Memory>
     requires { All (λ pair. IsNear pair.1) pairs.now }
-    ensures { IfOk result (λ moved. moved ≡ map (λ pair. (pair.0, moved_place by.at by.more pair.1)) pairs.now) }
+    ensures { IfOk result (λ moved.
+        moved ≡ map (λ pair. (pair.0, moved_place by.at by.more pair.1)) pairs.now) }
 {
     let mut moved = pairs.empty();
     for (key, target) in pairs.as_slice() {
@@ -53,7 +54,8 @@ fn moved_pairs(by: PlaceMap, pairs: &Seq<(i32, u32)>) -> Result<Seq<(i32, u32)>,
 fn moved_lookup(by: PlaceMap, default: u32, keys: &Seq<(i32, u32)>) -> Result<Arg, Memory>
     requires default { IsNear default }
     requires keys { All (λ key. IsNear key.1) keys.now }
-    ensures { IfOk result (λ m. m ≡ moved_arg (moved_place by.at by.more) (arg.Lookup default keys.now)) }
+    ensures { IfOk result (λ m.
+        m ≡ moved_arg (moved_place by.at by.more) (arg.Lookup default keys.now)) }
 {
     let moved = moved_pairs(by, keys)?;
     Arg::lookup(by.moved(default), moved)
@@ -90,7 +92,8 @@ pub fn moved_insn(by: PlaceMap, insn: &Insn) -> Result<Insn, Memory>
 /// Adds instructions with their targets moved at the end.
 pub fn push_moved(edited: &mut Seq<Insn>, by: PlaceMap, insns: &[Insn]) -> Result<(), Memory>
     requires { All LeadsNear insns.now }
-    ensures { OnOk result (edited.new ≡ edited.old ++ map (moved_insn (moved_place by.at by.more)) insns.now) }
+    ensures { OnOk result (
+        edited.new ≡ edited.old ++ map (moved_insn (moved_place by.at by.more)) insns.now) }
 {
     for insn in insns {
         edited.push(moved_insn(by, insn)?)?;

@@ -11,7 +11,8 @@ use class_model::{Attr, Body, Frame, Memory, Seq, Shape, VItem};
 
 fn moved_lines(by: PlaceMap, lines: &Seq<(u32, u16)>) -> Result<Seq<(u32, u16)>, Memory>
     requires { All IsNearLine lines.now }
-    ensures { IfOk result (λ moved. moved ≡ map (moved_line (moved_place by.at by.more)) lines.now) }
+    ensures { IfOk result (λ moved.
+        moved ≡ map (moved_line (moved_place by.at by.more)) lines.now) }
 {
     let mut moved = lines.empty();
     for (start, line) in lines.as_slice() {
@@ -34,7 +35,8 @@ fn moved_item(by: PlaceMap, item: VItem) -> VItem
 
 fn moved_items(by: PlaceMap, items: &Seq<VItem>) -> Result<Seq<VItem>, Memory>
     requires { All IsNearItem items.now }
-    ensures { IfOk result (λ moved. moved ≡ map (moved_item (moved_place by.at by.more)) items.now) }
+    ensures { IfOk result (λ moved.
+        moved ≡ map (moved_item (moved_place by.at by.more)) items.now) }
 {
     let mut moved = items.empty();
     for item in items.as_slice() {
@@ -45,7 +47,8 @@ fn moved_items(by: PlaceMap, items: &Seq<VItem>) -> Result<Seq<VItem>, Memory>
 
 fn with_items_moved(by: PlaceMap, shape: &Shape) -> Result<Shape, Memory>
     requires { IsNearShape shape.now }
-    ensures { IfOk result (λ moved. moved ≡ with_items_moved (moved_place by.at by.more) shape.now) }
+    ensures { IfOk result (λ moved.
+        moved ≡ with_items_moved (moved_place by.at by.more) shape.now) }
 {
     match shape {
         Shape::Same(far) => Ok(Shape::Same(*far)),
@@ -83,7 +86,8 @@ fn start_of(starts: &[u32], at: u32) -> u32
 
 fn moved_frames(by: PlaceMap, starts: &[u32], frames: &Seq<Frame>) -> Result<Seq<Frame>, Memory>
     requires { All IsNearFrame frames.now }
-    ensures { IfOk result (λ moved. moved ≡ moved_frames (moved_place by.at by.more) starts.now 0 frames.now) }
+    ensures { IfOk result (λ moved.
+        moved ≡ moved_frames (moved_place by.at by.more) starts.now 0 frames.now) }
 {
     let mut moved = frames.empty();
     let mut next = 0;
@@ -105,7 +109,8 @@ fn moved_frames(by: PlaceMap, starts: &[u32], frames: &Seq<Frame>) -> Result<Seq
 /// The tables among the attributes of a code, moved into one whose instructions begin at `starts`.
 pub fn moved_tables(by: PlaceMap, starts: &[u32], attrs: &Seq<Attr>) -> Result<Seq<Attr>, Memory>
     requires { All (λ attr. IsNearTable (body_of attr)) attrs.now }
-    ensures { IfOk result (λ moved. moved ≡ moved_tables (moved_place by.at by.more) starts.now attrs.now) }
+    ensures { IfOk result (λ moved.
+        moved ≡ moved_tables (moved_place by.at by.more) starts.now attrs.now) }
 {
     let mut moved = attrs.empty();
     for attr in attrs.as_slice() {

@@ -25,7 +25,8 @@ fn parts_or_refusal(class: &Class, edit: &Edit) -> Result<Parts, Refusal>
     edited_code(&class.pool, edit, code)
 }
 
-/// The parts of a class that an edit makes anew; none exactly where a bound of the format is passed by them. What the edit leaves isn't copied.
+/// The parts of a class that an edit makes anew; none exactly where a bound of the format is passed
+/// by them. What the edit leaves isn't copied.
 pub fn edited_parts(class: &Class, edit: &Edit) -> Result<Option<Parts>, Memory>
     requires form { HasClassForm class.now }
     requires fits { Fits class.now edit.now }
@@ -67,7 +68,8 @@ pub fn class_with(class: &Class, edit: &Edit, parts: &Parts) -> Result<Class, Me
     })
 }
 
-/// The class that an edit makes, with its bytes; none exactly where a bound of the format is passed.
+/// The class that an edit makes, with its bytes; none exactly where a bound of the format is
+/// passed.
 pub fn apply(alloc: Global, class: &Class, edit: &Edit) -> Result<Option<(Class, Bytes)>, Memory>
     requires form { HasClassForm class.now }
     requires fits { Fits class.now edit.now }

@@ -1,8 +1,9 @@
-//! Tests and wrong bodies of mutants: which ones a class has (`mutator_ops`), and the class that each edit makes
-//! (`mutant_apply`).
+//! Tests and wrong bodies of mutants: which ones a class has (`mutator_ops`), and the class that
+//! each edit makes (`mutant_apply`).
 //!
-//! Each function here has the contract of the public call that its body makes, word for word. An edit in `must-fail/` puts
-//! a wrong body in its place: what the contract refuses here, it refuses of the call itself.
+//! Each function here has the contract of the public call that its body makes, word for word. An
+//! edit in `must-fail/` puts a wrong body in its place: what the contract refuses here, it refuses
+//! of the call itself.
 #![tactic(auto)]
 
 mod calls;

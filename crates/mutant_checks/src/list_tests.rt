@@ -9,7 +9,8 @@ use sample_classes::A;
 use std::alloc::Global;
 use std::test::Fail;
 
-// Where the flags of A stand, those of its method, and the opcode of the jump. The high byte of flags is the first one.
+// Where the flags of A stand, those of its method, and the opcode of the jump. The high byte of
+// flags is the first one.
 const CLASS_FLAGS: usize = 91;
 
 const METHOD_FLAGS: usize = 103;
@@ -19,8 +20,8 @@ const JUMP: usize = 126;
 const RETURNS: &str = "A.f(I)Z@3:FALSE_RETURNS\nA.f(I)Z@3:TRUE_RETURNS\n\
 A.f(I)Z@5:FALSE_RETURNS\nA.f(I)Z@5:TRUE_RETURNS\n";
 
-// A byte of A that is changed, what stands there then, the mutants of the jump, and those of the returns. Opcodes and flags are
-// those of JVMS 4.1, 4.6 and 6.5.
+// A byte of A that is changed, what stands there then, the mutants of the jump, and those of the
+// returns. Opcodes and flags are those of JVMS 4.1, 4.6 and 6.5.
 const LISTS: [(usize, u8, &str, &str); 6] = [
     (
         JUMP,

@@ -7,8 +7,9 @@ use mutator_ops::{Mutant, class_mutants, count_mutants};
 use std::alloc::Global;
 use std::test::Fail;
 
-/// A method `static f`, whose one instruction stands on line 7: its descriptor, its annotation, the instruction, and the method that
-/// is called. Its class has the annotation `a/NotNull`, which isn't one of the method.
+/// A method `static f`, whose one instruction stands on line 7: its descriptor, its annotation, the
+/// instruction, and the method that is called. Its class has the annotation `a/NotNull`, which
+/// isn't one of the method.
 #[derive(Clone, Copy)]
 pub struct Case<'a> {
     pub name: &'a str,
@@ -45,7 +46,8 @@ fn push_texts(alloc: Global, pool: &mut Seq<Const>, texts: &[&str]) -> Result<()
     Ok(())
 }
 
-// The class is entry 2, the method's name and descriptor 3 and 4, the method that is called 8, the annotations 9 and 10.
+// The class is entry 2, the method's name and descriptor 3 and 4, the method that is called 8, the
+// annotations 9 and 10.
 fn pool_of(alloc: Global, case: &Case<'_>) -> Result<Seq<Const>, Memory> {
     let mut pool = Seq::new(alloc);
     push_texts(alloc, &mut pool, &["A"])?;
@@ -156,7 +158,8 @@ fn push_insn(alloc: Global, text: &mut String, insn: &NewInsn) -> Result<(), Fai
     Ok(())
 }
 
-// Mutators with what they put in the place of the instruction, and the words that the stack grows higher.
+// Mutators with what they put in the place of the instruction, and the words that the stack grows
+// higher.
 fn text_of(alloc: Global, mutants: &[Mutant]) -> Result<String, Fail> {
     let mut text = String::new(alloc);
     for m in mutants {

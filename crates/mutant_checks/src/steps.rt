@@ -35,8 +35,8 @@ pub fn index_of(pool: &[Const], entry: Const, added: &mut Seq<Const>) -> Result<
     Ok(index)
 }
 
-/// `mt_insn::places`, by which the frames of an edited code are moved: behind a switch an instruction
-/// begins as the padding of the switch has it at its new place.
+/// `mt_insn::places`, by which the frames of an edited code are moved: behind a switch an
+/// instruction begins as the padding of the switch has it at its new place.
 pub fn places(alloc: Global, insns: &Seq<Insn>) -> Result<Seq<u32>, Memory>
     requires { code_length insns.now < 2 ^ 32 }
     ensures { IfOk result (λ p. p ≡ places insns.now) }

@@ -1,4 +1,5 @@
--- The method that an instruction calls (JVMS 4.4.2, 4.4.6, 6.5), by the descriptors of a constant pool.
+-- The method that an instruction calls (JVMS 4.4.2, 4.4.6, 6.5), by the descriptors of a constant
+-- pool.
 use Rattle.std.specs.Prelude.{ℕ, nat_le, ◌&&◌, not, if◌then◌else◌, Bool, false, List, [], Option, None, Some, is_none, option_and_then, unwrap_or}
 use Rattle.std.specs.Option.{option_map}
 use Rattle.std.specs.Result.{result_ok}
@@ -42,11 +43,14 @@ pair_named other = None
 
 -- the index of the pair of the method that an instruction calls
 abbrev pub called_pair : List Const → Insn → Option ℕ
-called_pair pool insn = if is_call insn.op then option_and_then pair_named (entry_of pool (pool_index insn.arg)) else None
+called_pair pool insn =
+    if is_call insn.op then option_and_then pair_named (entry_of pool (pool_index insn.arg))
+    else None
 
 -- what the method of a pair takes and gives
 abbrev pub pair_type : List Const → ℕ → Option MethodType
-pair_type pool pair = option_and_then (λ p. type_of pool p.1) (option_and_then pair_in (entry_of pool pair))
+pair_type pool pair =
+    option_and_then (λ p. type_of pool p.1) (option_and_then pair_in (entry_of pool pair))
 
 -- what the method takes and gives that an instruction calls
 abbrev pub called_type : List Const → Insn → Option MethodType
@@ -57,7 +61,8 @@ called_args pool insn = unwrap_or (option_map (λ t. t.args) (called_type pool i
 
 -- the pair is that of a method `<init>`
 abbrev pub is_initializer : List Const → ℕ → Bool
-is_initializer pool pair = unwrap_or (option_map (λ name. same name instance_initializer) (pair_name_of pool pair)) false
+is_initializer pool pair =
+    unwrap_or (option_map (λ name. same name instance_initializer) (pair_name_of pool pair)) false
 
 abbrev pub gives_nothing : Option MethodType → Bool
 gives_nothing None = false
@@ -65,4 +70,6 @@ gives_nothing (Some t) = is_none t.ret
 
 -- a call of a method without a result, which isn't `<init>`
 abbrev pub is_void_call : List Const → Insn → Bool
-is_void_call pool insn = gives_nothing (called_type pool insn) && not (unwrap_or (option_map (is_initializer pool) (called_pair pool insn)) false)
+is_void_call pool insn =
+    gives_nothing (called_type pool insn)
+    && not (unwrap_or (option_map (is_initializer pool) (called_pair pool insn)) false)

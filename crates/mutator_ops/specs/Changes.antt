@@ -1,4 +1,5 @@
--- What a mutator puts in the place of an instruction (this project's own): each change by the instructions that it means.
+-- What a mutator puts in the place of an instruction (this project's own): each change by the
+-- instructions that it means.
 use Rattle.std.specs.Prelude.{ℕ, ◌==◌, false, List, [], ◌∷◌, ◌++◌, codes, map, reverse, if◌then◌else◌}
 use Rattle.class_model.specs.declared.edit.NewInsn.{NewInsn}
 use Rattle.class_model.specs.declared.edit.NewInsn.TheVariants as new
@@ -64,7 +65,8 @@ abbrev pub pop_of : Kind → ℕ
 pop_of kind.Long = 0x58
 pop_of other = 0x57
 
--- What a call takes is popped from the last argument to the receiver, which invokestatic (b8) doesn't have.
+-- What a call takes is popped from the last argument to the receiver, which invokestatic (b8)
+-- doesn't have.
 abbrev pub pops : ℕ → List Kind → List ℕ
 pops op args = map pop_of (reverse args) ++ (if op == 0xb8 then [] else 0x57 ∷ [])
 
@@ -79,13 +81,16 @@ pop_before insn = bare (if insn.op == 0xad then 0x58 else 0x57)
 
 -- The instructions that stand in the place of the old one.
 abbrev pub new_insns : List Const → Change → Insn → List NewInsn
-new_insns pool (change.Opcode op) insn = new.Plain (record { op = op; wide = insn.wide; arg = insn.arg }) ∷ []
+new_insns pool (change.Opcode op) insn =
+    new.Plain (record { op = op; wide = insn.wide; arg = insn.arg }) ∷ []
 new_insns pool (change.Increment local by) insn = new.Inc local by ∷ []
 new_insns pool change.Nothing insn = bare 0x00 ∷ []
 new_insns pool change.Pops insn = map bare (or_nop (pops insn.op (called_args pool insn)))
-new_insns pool (change.Returns value) insn = pop_before insn ∷ value_insns value ++ new.Plain insn ∷ []
+new_insns pool (change.Returns value) insn =
+    pop_before insn ∷ value_insns value ++ new.Plain insn ∷ []
 
--- The words by which the stack grows higher: a long that is boxed (lconst_0, 09) takes one word more than the reference that it stands for.
+-- The words by which the stack grows higher: a long that is boxed (lconst_0, 09) takes one word
+-- more than the reference that it stands for.
 abbrev pub more_words : Change → ℕ
 more_words (change.Returns (value.Boxed op callee)) = if op == 0x09 then 1 else 0
 more_words other = 0

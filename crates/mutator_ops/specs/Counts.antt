@@ -1,5 +1,5 @@
--- How many mutants a class has, without making them (this project's own). No public clause cites these. A count stays at
--- 2^64 - 1 (`u64_saturate` of std).
+-- How many mutants a class has, without making them (this project's own). No public clause cites
+-- these. A count stays at 2^64 - 1 (`u64_saturate` of std).
 use Rattle.std.specs.Prelude.{ℕ, is_some, if◌then◌else◌, length, List, Option, None, Some, sum_by, count_by}
 use Rattle.std.specs.Io.Iter.{u64_saturate}
 use Rattle.class_model.specs.Text.{text}
@@ -25,10 +25,12 @@ code_count pool member None = 0
 code_count pool member (Some code) = rows_in (asked_of pool member) (out-Code code).insns
 
 abbrev pub method_count : List Const → Member → ℕ
-method_count pool member = if is_left_out member.flags then 0 else code_count pool member (code_of member.attrs)
+method_count pool member =
+    if is_left_out member.flags then 0 else code_count pool member (code_of member.attrs)
 
 abbrev pub class_count : Class → ℕ
-class_count class = if is_synthetic class.flags then 0 else sum_by (method_count class.pool) class.methods
+class_count class =
+    if is_synthetic class.flags then 0 else sum_by (method_count class.pool) class.methods
 
 -- How many mutants a class has, by its name in modified UTF-8.
 abbrev pub count_by_name : Class → List ℕ × ℕ

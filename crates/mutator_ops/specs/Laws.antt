@@ -19,7 +19,8 @@ use Rattle.mutator_ops.specs.Table.{mutators, row}
 use Rattle.mutator_ops.specs.declared.change.Change.{Change}
 use Rattle.mutator_ops.specs.declared.mutant.Mutant.{Mutant}
 
--- The mutant stands at an instruction of a method that isn't left out, of a class that isn't synthetic, and the row of its mutator applies there.
+-- The mutant stands at an instruction of a method that isn't left out, of a class that isn't
+-- synthetic, and the row of its mutator applies there.
 pub record IsMutant (class : Class) (m : Mutant) : Type 0 where
   pub real : is_synthetic class.flags ≡ false
   pub member : Member
@@ -32,7 +33,9 @@ pub record IsMutant (class : Class) (m : Mutant) : Type 0 where
   pub listed : Contains mutators m.mutator
   pub change : Change
   pub applies : row m.mutator (asked_of class.pool member) insn ≡ Some change
-  pub is : m ≡ mutant_of (place_in (own_name class) class.pool m.edit.method member code) m.at insn m.mutator change
+  pub is :
+      m ≡ mutant_of (place_in (own_name class) class.pool m.edit.method member code) m.at insn
+      m.mutator change
 
 -- A mutant is in the list exactly where the row of its mutator applies.
 abbrev pub ListedExactly : Type 0
@@ -40,13 +43,17 @@ ListedExactly = (class : Class) (m : Mutant) → Contains (class_mutants class) 
 
 -- The place of a mutator in the table, by its name.
 abbrev pub table_place : Mutator → ℕ
-table_place mutator = unwrap_or (position (λ other. same (mutator_name other) (mutator_name mutator)) mutators) 0
+table_place mutator =
+    unwrap_or (position (λ other. same (mutator_name other) (mutator_name mutator)) mutators) 0
 
--- An earlier method, or in the same one an earlier instruction, or at the same one an earlier mutator.
+-- An earlier method, or in the same one an earlier instruction, or at the same one an earlier
+-- mutator.
 abbrev pub ComesBefore : Mutant → Mutant → Type 0
 ComesBefore a b =
     (a.edit.method < b.edit.method)
-    ⊎ ((a.edit.method ≡ b.edit.method) × ((a.at < b.at) ⊎ ((a.at ≡ b.at) × (table_place a.mutator < table_place b.mutator))))
+    ⊎
+    ((a.edit.method ≡ b.edit.method)
+    × ((a.at < b.at) ⊎ ((a.at ≡ b.at) × (table_place a.mutator < table_place b.mutator))))
 
 -- Methods stand in file order, instructions by number, mutators in the order of the table.
 abbrev pub ListedInOrder : Type 0
@@ -64,7 +71,9 @@ ListedOnce = (class : Class) → AllPairs (λ a b. HaveOnePlace a b → ⊥) (cl
 
 -- An earlier class by the bytes of its name, or in the same class an earlier place.
 abbrev pub ComesBeforeAmong : Mutant → Mutant → Type 0
-ComesBeforeAmong a b = (slice_cmp nat_cmp (text a.class) (text b.class) ≡ Less) ⊎ ((a.class ≡ b.class) × ComesBefore a b)
+ComesBeforeAmong a b =
+    (slice_cmp nat_cmp (text a.class) (text b.class) ≡ Less)
+    ⊎ ((a.class ≡ b.class) × ComesBefore a b)
 
 -- Classes stand by name.
 abbrev pub AmongInOrder : Type 0
@@ -72,7 +81,9 @@ AmongInOrder = (p : List Info) (ids : List ClassId) → AllPairs ComesBeforeAmon
 
 -- No two entries have one class, place and mutator.
 abbrev pub AmongOnce : Type 0
-AmongOnce = (p : List Info) (ids : List ClassId) → AllPairs (λ a b. (a.class ≡ b.class) × HaveOnePlace a b → ⊥) (mutants p ids)
+AmongOnce =
+    (p : List Info) (ids : List ClassId) →
+    AllPairs (λ a b. (a.class ≡ b.class) × HaveOnePlace a b → ⊥) (mutants p ids)
 
 -- Each entry is a mutant of a class file of one of these numbers.
 pub record IsMutantAmong (p : List Info) (ids : List ClassId) (m : Mutant) : Type 0 where
@@ -82,7 +93,9 @@ pub record IsMutantAmong (p : List Info) (ids : List ClassId) (m : Mutant) : Typ
 
 -- no two of these classes have one name
 abbrev pub HaveOwnNames : List Class → Type 0
-HaveOwnNames classes = (a b : Class) → Contains classes a → Contains classes b → text (own_name a) ≡ text (own_name b) → a ≡ b
+HaveOwnNames classes =
+    (a b : Class) → Contains classes a → Contains classes b →
+    text (own_name a) ≡ text (own_name b) → a ≡ b
 
 -- And where no two of them have one name, each mutant of each of them is an entry.
 abbrev pub AmongExactly : Type 0

@@ -1,4 +1,5 @@
--- The mutants of a class (this project's own): methods in file order, instructions by number, mutators in the order of the table.
+-- The mutants of a class (this project's own): methods in file order, instructions by number,
+-- mutators in the order of the table.
 use Rattle.std.specs.Prelude.{ℕ, ◌+◌, Bool, not, ◌&&◌, ◌||◌, ◌==◌, false, nat_eq, bit_and, if◌then◌else◌, codes, List, [], ◌∷◌, ◌++◌, Option, None, Some, option_and_then, unwrap_or}
 use Rattle.std.specs.List.{flat_map, list_any, starts_with, ends_with}
 use Rattle.std.specs.Option.{option_map}
@@ -35,7 +36,8 @@ code_in other = None
 -- the code of a method: its first attribute that is Code
 abbrev pub code_of : List Attr → Option Code
 code_of [] = None
-code_of (attr ∷ attrs) = elim (code_in (content_of attr)) [ Some code ↦ Some code | None ↦ code_of attrs ]
+code_of (attr ∷ attrs) =
+    elim (code_in (content_of attr)) [ Some code ↦ Some code | None ↦ code_of attrs ]
 
 -- the line rows of a code, in file order
 abbrev pub line_rows : List Attr → List LinkedLine
@@ -59,7 +61,12 @@ has_not_null pool attrs = list_any (λ attr. has_not_null_in pool (content_of at
 
 -- What the table asks of a method.
 abbrev pub asked_of : List Const → Member → Asked
-asked_of pool member = record { pool = pool; gives = option_and_then (λ t. t.ret) (type_of pool member.desc); is_not_null = has_not_null pool member.attrs }
+asked_of pool member =
+    record {
+      pool = pool;
+      gives = option_and_then (λ t. t.ret) (type_of pool member.desc);
+      is_not_null = has_not_null pool member.attrs;
+    }
 
 -- ---- mutants
 
@@ -86,7 +93,13 @@ place_in class pool number member code = record {
 
 -- The edit that makes a change of an instruction.
 abbrev pub edit_of : Place → ℕ → Insn → Change → Edit
-edit_of place at insn change = record { method = place.number; at = at; with = new_insns place.asked.pool change insn; more_stack = more_words change }
+edit_of place at insn change =
+    record {
+      method = place.number;
+      at = at;
+      with = new_insns place.asked.pool change insn;
+      more_stack = more_words change;
+    }
 
 abbrev pub mutant_of : Place → ℕ → Insn → Mutator → Change → Mutant
 mutant_of place at insn mutator change = record {
@@ -106,16 +119,19 @@ mutant_by place at insn mutator (Some change) = mutant_of place at insn mutator 
 
 -- The mutants of an instruction, by these mutators in order.
 abbrev pub mutants_by : List Mutator → Place → ℕ → Insn → List Mutant
-mutants_by ms place at insn = flat_map (λ mutator. mutant_by place at insn mutator (row mutator place.asked insn)) ms
+mutants_by ms place at insn =
+    flat_map (λ mutator. mutant_by place at insn mutator (row mutator place.asked insn)) ms
 
 -- The mutants of instructions, the first of which has a number.
 abbrev pub mutants_from : Place → ℕ → List Insn → List Mutant
 mutants_from place at [] = []
-mutants_from place at (insn ∷ insns) = mutants_by mutators place at insn ++ mutants_from place (at + 1) insns
+mutants_from place at (insn ∷ insns) =
+    mutants_by mutators place at insn ++ mutants_from place (at + 1) insns
 
 abbrev pub code_mutants : List ℕ → List Const → ℕ → Member → Option Code → List Mutant
 code_mutants class pool number member None = []
-code_mutants class pool number member (Some code) = mutants_from (place_in class pool number member code) 0 (out-Code code).insns
+code_mutants class pool number member (Some code) =
+    mutants_from (place_in class pool number member code) 0 (out-Code code).insns
 
 -- the flags of JVMS 4.1 and 4.6 whose methods aren't mutated: synthetic, and bridge on methods
 abbrev pub is_synthetic : ℕ → Bool
@@ -126,12 +142,17 @@ is_left_out flags = is_synthetic flags || not (bit_and flags 0x0040 == 0)
 
 -- The mutants of a method of a class of this name and constant pool.
 abbrev pub method_mutants : List ℕ → List Const → ℕ → Member → List Mutant
-method_mutants class pool number member = if is_left_out member.flags then [] else code_mutants class pool number member (code_of member.attrs)
+method_mutants class pool number member =
+    if is_left_out member.flags then []
+    else code_mutants class pool number member (code_of member.attrs)
 
 -- The mutants of methods, the first of which has a number.
 abbrev pub methods_mutants : List ℕ → List Const → ℕ → List Member → List Mutant
 methods_mutants class pool number [] = []
-methods_mutants class pool number (member ∷ members) = method_mutants class pool number member ++ methods_mutants class pool (number + 1) members
+methods_mutants class pool number (member ∷ members) =
+    method_mutants class pool number member ++ methods_mutants class pool (number + 1) members
 
 abbrev pub class_mutants : Class → List Mutant
-class_mutants class = if is_synthetic class.flags then [] else methods_mutants (own_name class) class.pool 0 class.methods
+class_mutants class =
+    if is_synthetic class.flags then []
+    else methods_mutants (own_name class) class.pool 0 class.methods

@@ -11,7 +11,9 @@ printed name = encode_utf8_all (utf16_lossy_chars name)
 
 -- CLASS.METHODDESC@AT:MUTATOR
 abbrev pub id_text : Mutant → List ℕ
-id_text m = printed m.class ++ codes "." ++ printed m.method ++ printed m.desc ++ codes "@" ++ decimal m.at ++ codes ":" ++ mutator_name m.mutator
+id_text m =
+    printed m.class ++ codes "." ++ printed m.method ++ printed m.desc ++ codes "@" ++
+    decimal m.at ++ codes ":" ++ mutator_name m.mutator
 
 -- one identifier per line
 abbrev pub id_lines : List Mutant → List ℕ

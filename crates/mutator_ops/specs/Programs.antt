@@ -1,4 +1,5 @@
--- The mutants of classes of a program (this project's own): classes in the order of their names' bytes in modified UTF-8.
+-- The mutants of classes of a program (this project's own): classes in the order of their names'
+-- bytes in modified UTF-8.
 use Rattle.std.specs.Prelude.{◌≡◌, ℕ, List, [], fold, map, flat_map, filter_map, slice_get, Option, None, Some, option_and_then, option_copied}
 use Rattle.std.specs.Borrow.{Bor}
 use Rattle.std.specs.BTreeMap.{insert_entry}
@@ -49,5 +50,6 @@ with_class by_name kept (Some class) =
     insert_entry (slice_cmp nat_cmp) kept (by_name class).0 (by_name class).1
 
 abbrev pub Adds :
-    {X : Type 0} → (Class → List ℕ × X) → List (List ℕ × X) → List (List ℕ × X) → Option (Bor Class) → Type 0
+    {X : Type 0} → (Class → List ℕ × X) → List (List ℕ × X) → List (List ℕ × X) →
+    Option (Bor Class) → Type 0
 Adds by_name old new class = new ≡ with_class by_name old (option_copied class)

@@ -1,4 +1,5 @@
--- The table of mutators (this project's own, in the manner of PIT): for each mutator the instructions that it applies to, and what it makes of them.
+-- The table of mutators (this project's own, in the manner of PIT): for each mutator the
+-- instructions that it applies to, and what it makes of them.
 use Rattle.std.specs.Prelude.{ℕ, ◌==◌, ◌&&◌, ◌||◌, not, neg_ℤ, Bool, true, false, if◌then◌else◌, codes, List, [], ◌∷◌, Option, None, Some, is_none, option_and_then}
 use Rattle.std.specs.Option.{option_map}
 use Rattle.class_model.specs.declared.constant.Const.{Const}
@@ -40,13 +41,16 @@ abbrev pub bounds : List (ℕ × ℕ)
 bounds = (0x9b, 0x9e) ∷ (0x9e, 0x9b) ∷ (0x9c, 0x9d) ∷ (0x9d, 0x9c)
     ∷ (0xa1, 0xa4) ∷ (0xa4, 0xa1) ∷ (0xa2, 0xa3) ∷ (0xa3, 0xa2) ∷ []
 
--- eq and ne, lt and ge, gt and le, against 0 (99 to 9e) and of two ints (9f to a4); eq and ne of two references (a5, a6); ifnull and ifnonnull (c6, c7)
+-- eq and ne, lt and ge, gt and le, against 0 (99 to 9e) and of two ints (9f to a4); eq and ne of
+-- two references (a5, a6); ifnull and ifnonnull (c6, c7)
 abbrev pub opposites : List (ℕ × ℕ)
 opposites = (0x99, 0x9a) ∷ (0x9a, 0x99) ∷ (0x9b, 0x9c) ∷ (0x9c, 0x9b) ∷ (0x9d, 0x9e) ∷ (0x9e, 0x9d)
     ∷ (0x9f, 0xa0) ∷ (0xa0, 0x9f) ∷ (0xa1, 0xa2) ∷ (0xa2, 0xa1) ∷ (0xa3, 0xa4) ∷ (0xa4, 0xa3)
     ∷ (0xa5, 0xa6) ∷ (0xa6, 0xa5) ∷ (0xc6, 0xc7) ∷ (0xc7, 0xc6) ∷ []
 
--- add (60, 61) and sub (64, 65), mul (68, 69) and div (6c, 6d), rem (70, 71) to mul, and (7e, 7f) and or (80, 81), xor (82, 83) to and, shl (78, 79) and shr (7a, 7b), ushr (7c, 7d) to shl: of ints and of longs
+-- add (60, 61) and sub (64, 65), mul (68, 69) and div (6c, 6d), rem (70, 71) to mul, and (7e, 7f)
+-- and or (80, 81), xor (82, 83) to and, shl (78, 79) and shr (7a, 7b), ushr (7c, 7d) to shl: of
+-- ints and of longs
 abbrev pub operations : List (ℕ × ℕ)
 operations = (0x60, 0x64) ∷ (0x61, 0x65) ∷ (0x64, 0x60) ∷ (0x65, 0x61)
     ∷ (0x68, 0x6c) ∷ (0x69, 0x6d) ∷ (0x6c, 0x68) ∷ (0x6d, 0x69) ∷ (0x70, 0x68) ∷ (0x71, 0x69)
@@ -94,7 +98,8 @@ empty_value class =
     else if same class (codes "java/util/Set") then Some (value.Empty callee.NoSet)
     else if same class (codes "java/lang/Integer") then Some (value.Boxed 0x03 callee.BoxedInteger)
     else if same class (codes "java/lang/Short") then Some (value.Boxed 0x03 callee.BoxedShort)
-    else if same class (codes "java/lang/Character") then Some (value.Boxed 0x03 callee.BoxedCharacter)
+    else if same class (codes "java/lang/Character")
+    then Some (value.Boxed 0x03 callee.BoxedCharacter)
     else if same class (codes "java/lang/Long") then Some (value.Boxed 0x09 callee.BoxedLong)
     else None
 
@@ -109,17 +114,21 @@ abbrev pub empty_return : List ℕ → Option Change
 empty_return class = option_map change.Returns (empty_value class)
 
 abbrev pub boxed_truth : ℕ → List ℕ → Option Change
-boxed_truth constant class = when (is_boolean_class class) (change.Returns (value.Boxed constant callee.BoxedBoolean))
+boxed_truth constant class =
+    when (is_boolean_class class) (change.Returns (value.Boxed constant callee.BoxedBoolean))
 
 -- a constant before ireturn (ac), or boxed before areturn
 abbrev pub truth : ℕ → Asked → Insn → Option Change
 truth constant asked insn =
-    if insn.op == 0xac then when (gives_boolean asked.gives) (change.Returns (value.Constant constant))
+    if insn.op == 0xac
+    then when (gives_boolean asked.gives) (change.Returns (value.Constant constant))
     else option_and_then (boxed_truth constant) (returned_class asked insn)
 
 -- aconst_null (01), where no other row stands for the class
 abbrev pub null_return : Asked → List ℕ → Option Change
-null_return asked class = when (not asked.is_not_null && is_none (empty_value class) && not (is_boolean_class class)) (change.Returns (value.Constant 0x01))
+null_return asked class =
+    when (not asked.is_not_null && is_none (empty_value class) && not (is_boolean_class class))
+    (change.Returns (value.Constant 0x01))
 
 -- iconst_0 (03) before ireturn (ac), or lconst_0 (09) before lreturn (ad)
 abbrev pub zero_return : Asked → Insn → Option Change
@@ -132,7 +141,8 @@ zero_return asked insn =
 -- The mutators in the order in which those of one instruction are listed.
 abbrev pub mutators : List Mutator
 mutators = mutator.ConditionalsBoundary ∷ mutator.Increments ∷ mutator.InvertNegs ∷ mutator.Math
-    ∷ mutator.NegateConditionals ∷ mutator.VoidMethodCalls ∷ mutator.EmptyReturns ∷ mutator.FalseReturns
+    ∷ mutator.NegateConditionals ∷ mutator.VoidMethodCalls ∷ mutator.EmptyReturns ∷
+    mutator.FalseReturns
     ∷ mutator.TrueReturns ∷ mutator.NullReturns ∷ mutator.PrimitiveReturns ∷ []
 
 -- The row of each mutator: what it makes of an instruction, if it applies there.

@@ -33,7 +33,11 @@ impl<'a> Model for Asked<'a> {
 
     ghost Value = { Asked };
 
-    ghost view = { λ a. record { pool = a.pool.now; gives = option_and_then (λ t. t.ret) (type_of a.pool.now a.desc); is_not_null = a.is_not_null } };
+    ghost view = { λ a. record {
+      pool = a.pool.now;
+      gives = option_and_then (λ t. t.ret) (type_of a.pool.now a.desc);
+      is_not_null = a.is_not_null;
+    } };
 }
 
 // The descriptor of an annotation has the simple name NotNull.

@@ -185,7 +185,8 @@ fn pop_before(insn: &Insn) -> NewInsn
 }
 
 fn returns(alloc: Global, value: Value, insn: &Insn) -> Result<Seq<NewInsn>, Memory>
-    ensures { IfOk result (λ with. with ≡ pop_before insn.now ∷ value_insns value ++ new.Plain insn.now ∷ []) }
+    ensures { IfOk result (λ with.
+        with ≡ pop_before insn.now ∷ value_insns value ++ new.Plain insn.now ∷ []) }
 {
     let mut with = Seq::new(alloc);
     with.push(pop_before(insn))?;

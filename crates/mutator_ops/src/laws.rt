@@ -1,4 +1,5 @@
-//! Laws on the list of mutants. They are stated over the table, so a further mutator adds rows and no proof.
+//! Laws on the list of mutants. They are stated over the table, so a further mutator adds rows and
+//! no proof.
 
 ghost use Rattle.mutator_ops.specs.Laws.{ListedExactly, ListedInOrder, ListedOnce, AmongExactly, AmongInOrder, AmongOnce};
 
@@ -17,7 +18,8 @@ pub fn listed_once()
     ensures { ListedOnce }
 {}
 
-/// A mutant is in the list of classes of a program exactly where it is one of a class among them, unless two of them have one name.
+/// A mutant is in the list of classes of a program exactly where it is one of a class among them,
+/// unless two of them have one name.
 pub fn among_exactly()
     ensures { AmongExactly }
 {}

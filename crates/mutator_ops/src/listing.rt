@@ -22,7 +22,9 @@ fn push_mutant(
     insn: &Insn,
     mutator: Mutator,
 ) -> Result<(), Memory>
-    ensures { OnOk result (mutants.new ≡ mutants.old ++ mutant_by place.now at insn.now mutator (row mutator place.now.asked insn.now)) }
+    ensures { OnOk result (
+        mutants.new ≡ mutants.old ++
+        mutant_by place.now at insn.now mutator (row mutator place.now.asked insn.now)) }
 {
     let Some(change) = row(mutator, place.asked(), insn) else {
         return Ok(());
@@ -39,7 +41,8 @@ fn push_mutants(
     insn: &Insn,
     table: &[Mutator],
 ) -> Result<(), Memory>
-    ensures { OnOk result (mutants.new ≡ mutants.old ++ mutants_by table.now place.now at insn.now) }
+    ensures { OnOk result (
+        mutants.new ≡ mutants.old ++ mutants_by table.now place.now at insn.now) }
 {
     for mutator in table {
         push_mutant(alloc, mutants, place, at, insn, *mutator)?;
@@ -88,7 +91,8 @@ fn push_method_mutants(
     number: u32,
     member: &Member,
 ) -> Result<(), Memory>
-    ensures { OnOk result (mutants.new ≡ mutants.old ++ method_mutants class.now pool.now number member.now) }
+    ensures { OnOk result (
+        mutants.new ≡ mutants.old ++ method_mutants class.now pool.now number member.now) }
 {
     if is_left_out(member.flags) {
         return Ok(());
@@ -108,7 +112,8 @@ fn push_methods_mutants(
     pool: &Pool,
     methods: &[Member],
 ) -> Result<(), Memory>
-    ensures { OnOk result (mutants.new ≡ mutants.old ++ methods_mutants class.now pool.now 0 methods.now) }
+    ensures { OnOk result (
+        mutants.new ≡ mutants.old ++ methods_mutants class.now pool.now 0 methods.now) }
 {
     let Ok(count) = u32::try_from(methods.len()) else {
         return Err(Memory);
@@ -126,8 +131,8 @@ fn push_methods_mutants(
     Ok(())
 }
 
-/// The mutants of a class: methods in file order, instructions by number, mutators in the order of the table. Synthetic and bridge
-/// methods and methods of synthetic classes have none.
+/// The mutants of a class: methods in file order, instructions by number, mutators in the order of
+/// the table. Synthetic and bridge methods and methods of synthetic classes have none.
 pub fn class_mutants(alloc: Global, class: &Class) -> Result<Seq<Mutant>, Memory>
     ensures { IfOk result (λ mutants. mutants ≡ class_mutants class.now) }
 {

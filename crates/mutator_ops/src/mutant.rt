@@ -2,7 +2,8 @@ ghost use Rattle.std.specs.Prelude.{◌≡◌, IfOk};
 
 use class_model::{Copied, Edit, Memory, Mutator, Name, Seq};
 
-/// A mutant: one instruction of one method, the mutator that changes it, and what it puts in its place.
+/// A mutant: one instruction of one method, the mutator that changes it, and what it puts in its
+/// place.
 #[derive(Drop)]
 pub struct Mutant {
     pub class: Name,
@@ -58,7 +59,8 @@ pub enum State {
     Survived,
 }
 
-/// A mutant's state, the first test that detects it, and the tests that reach its class and line, by the numbers of the tests.
+/// A mutant's state, the first test that detects it, and the tests that reach its class and line,
+/// by the numbers of the tests.
 #[derive(Drop)]
 pub struct Verdict {
     pub state: State,

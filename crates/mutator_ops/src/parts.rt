@@ -34,7 +34,8 @@ fn push_rows(lines: &mut Seq<LinkedLine>, rows: &[(u32, u16)]) -> Result<(), Mem
 }
 
 fn push_lines(lines: &mut Seq<LinkedLine>, attr: &Attr) -> Result<(), Memory>
-    ensures { OnOk result (map line_of lines.new ≡ map line_of lines.old ++ lines_of (content_of attr.now)) }
+    ensures { OnOk result (
+        map line_of lines.new ≡ map line_of lines.old ++ lines_of (content_of attr.now)) }
 {
     match &attr.body {
         Body::Lines(rows) => push_rows(lines, rows.as_slice()),

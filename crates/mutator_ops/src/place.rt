@@ -32,7 +32,14 @@ impl<'a> Model for Place<'a> {
 
     ghost Value = { Place };
 
-    ghost view = { λ p. record { class = p.class.now; method = text_named p.asked.pool p.member.now.name; desc = text_named p.asked.pool p.member.now.desc; number = p.number; lines = map line_of p.lines; asked = p.asked } };
+    ghost view = { λ p. record {
+      class = p.class.now;
+      method = text_named p.asked.pool p.member.now.name;
+      desc = text_named p.asked.pool p.member.now.desc;
+      number = p.number;
+      lines = map line_of p.lines;
+      asked = p.asked;
+    } };
 }
 
 impl<'a> Place<'a> {
@@ -45,7 +52,8 @@ impl<'a> Place<'a> {
         member: &'a Member,
         code: &Code,
     ) -> Result<Place<'a>, Memory>
-        ensures { IfOk result (λ p. p ≡ place_in class.entry.now pool.entry.now number member.entry.now code.now) }
+        ensures { IfOk result (λ p.
+            p ≡ place_in class.entry.now pool.entry.now number member.entry.now code.now) }
     {
         let rows = line_rows(alloc, code.attrs.as_slice())?;
         Ok(Place {

@@ -1,4 +1,5 @@
-//! The constant pool of a class, with what its descriptors mean, and the methods that instructions call.
+//! The constant pool of a class, with what its descriptors mean, and the methods that instructions
+//! call.
 
 ghost use Rattle.std.specs.Prelude.{◌≡◌, IfOk, map, option_copied};
 ghost use Rattle.mutator_ops.specs.Calls.{type_in, type_of, is_call, pool_index, called_pair, called_type, called_args, is_initializer, is_void_call};
@@ -11,8 +12,8 @@ use std::marker::Model;
 /// `<init>`
 const INITIALIZER: [u16; 6] = [60, 105, 110, 105, 116, 62];
 
-/// The entries of a constant pool, each with what it means as a method's descriptor: read once, however many methods and calls
-/// name it. Contracts see the entries.
+/// The entries of a constant pool, each with what it means as a method's descriptor: read once,
+/// however many methods and calls name it. Contracts see the entries.
 #[derive(Drop)]
 pub struct Pool<'a> {
     entries: &'a [Const],

@@ -20,7 +20,8 @@ fn put_str(text: &mut Bytes, piece: &str) -> Result<(), Memory>
     text.extend_from_slice(piece.as_bytes())
 }
 
-/// The identifier of a mutant in UTF-8: class, `.`, method, descriptor, `@`, instruction number, `:`, mutator.
+/// The identifier of a mutant in UTF-8: class, `.`, method, descriptor, `@`, instruction number,
+/// `:`, mutator.
 pub fn id_text(alloc: Global, m: &Mutant) -> Result<Bytes, Memory>
     ensures { IfOk result (λ text. text ≡ id_text m.now) }
 {

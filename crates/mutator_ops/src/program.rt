@@ -75,7 +75,8 @@ fn joined(alloc: Global, mut by_name: BTreeMap<Bytes, Seq<Mutant>>) -> Result<Se
     Ok(Seq::from_vec(all))
 }
 
-/// The mutants of the class files of these numbers, by the classes' names in the order of their bytes.
+/// The mutants of the class files of these numbers, by the classes' names in the order of their
+/// bytes.
 pub fn mutants(alloc: Global, p: &Program, from: &Seq<ClassId>) -> Result<Seq<Mutant>, Memory>
     ensures { IfOk result (λ all. all ≡ mutants p.now from.now) }
 {
@@ -125,8 +126,8 @@ fn sum_of(mut counts: BTreeMap<Bytes, u64>) -> u64
     sum
 }
 
-/// How many mutants the class files of these numbers have. None is made, and the memory that is taken
-/// grows with the classes alone. The count stays at 2^64 - 1.
+/// How many mutants the class files of these numbers have. None is made, and the memory that is
+/// taken grows with the classes alone. The count stays at 2^64 - 1.
 pub fn count_all(alloc: Global, p: &Program, from: &Seq<ClassId>) -> Result<u64, Memory>
     ensures { IfOk result (λ n. n ≡ u64_saturate (length (mutants p.now from.now))) }
 {

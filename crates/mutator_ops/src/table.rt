@@ -1,4 +1,5 @@
-//! The table of mutators: for each mutator the instructions that it applies to, and what it makes of them.
+//! The table of mutators: for each mutator the instructions that it applies to, and what it makes
+//! of them.
 
 ghost use Rattle.std.specs.Prelude.{◌≡◌, option_copied};
 ghost use Rattle.mutator_ops.specs.Table.{opcode_for, bounds, opposites, operations, exchange, negated, gives_boolean, gives_number, gives_long, class_given, returned_class, empty_value, is_boolean_class, when, empty_return, boxed_truth, truth, null_return, zero_return, mutators, row};
@@ -41,7 +42,8 @@ const BOUNDS: [(u8, u8); 8] = [
     (0xa3, 0xa2),
 ];
 
-/// eq and ne, lt and ge, gt and le, against 0 and of two ints; eq and ne of two references; ifnull and ifnonnull.
+/// eq and ne, lt and ge, gt and le, against 0 and of two ints; eq and ne of two references; ifnull
+/// and ifnonnull.
 const OPPOSITES: [(u8, u8); 16] = [
     (0x99, 0x9a),
     (0x9a, 0x99),
@@ -61,7 +63,8 @@ const OPPOSITES: [(u8, u8); 16] = [
     (0xc7, 0xc6),
 ];
 
-/// add and sub, mul and div, rem to mul, and and or, xor to and, shl and shr, ushr to shl: of ints and of longs.
+/// add and sub, mul and div, rem to mul, and and or, xor to and, shl and shr, ushr to shl: of ints
+/// and of longs.
 const OPERATIONS: [(u8, u8); 22] = [
     (0x60, 0x64),
     (0x61, 0x65),

@@ -16,10 +16,12 @@ abbrev pub or_whole : List ℕ → List ℕ → List ℕ
 or_whole [] whole = whole
 or_whole (unit ∷ units) whole = unit ∷ units
 
--- the simple name of the outermost class: what stands before the first `$`, or the whole where that is nothing
+-- the simple name of the outermost class: what stands before the first `$`, or the whole where that
+-- is nothing
 abbrev pub outermost : List ℕ → List ℕ
 outermost name = or_whole (before_first is_dollar name) name
 
 -- The package with `/`, the simple name of the outermost class, and `.java`.
 abbrev pub file_key : List ℕ → List ℕ
-file_key class = take (package_len class) class ++ outermost (drop (package_len class) class) ++ codes ".java"
+file_key class =
+    take (package_len class) class ++ outermost (drop (package_len class) class) ++ codes ".java"

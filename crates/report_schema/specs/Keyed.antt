@@ -27,12 +27,15 @@ entries_at key entries = map (λ entry. entry.1) (filter (λ entry. bytes_eq key
 
 -- Each different key with its entries, in byte order of the keys.
 abbrev pub by_key : List Entry → List (List ℕ × List Data)
-by_key entries = map (λ key. (key, entries_at key entries)) (different (map (λ entry. entry.0) entries))
+by_key entries =
+    map (λ key. (key, entries_at key entries)) (different (map (λ entry. entry.0) entries))
 
--- The members of the object whose value at each key is made of the key's number, counted from `index`, and of its entries.
+-- The members of the object whose value at each key is made of the key's number, counted from
+-- `index`, and of its entries.
 abbrev pub members_by : (ℕ → List Data → Data) → ℕ → List (List ℕ × List Data) → Members
 members_by value index [] = no_members
-members_by value index (group ∷ groups) = put group.0 (value index group.1) (members_by value (index + 1) groups)
+members_by value index (group ∷ groups) =
+    put group.0 (value index group.1) (members_by value (index + 1) groups)
 
 -- ---- for private clauses: the entries as the code keeps them
 

@@ -1,4 +1,5 @@
--- The report of a run: a JSON text in the mutation testing report schema, version 1 (stryker-mutator/mutation-testing-elements); which members stand in it is this project's own.
+-- The report of a run: a JSON text in the mutation testing report schema, version 1
+-- (stryker-mutator/mutation-testing-elements); which members stand in it is this project's own.
 use Rattle.std.specs.Prelude.{ℕ, ◌==◌, if◌then◌else◌, length, List, [], ◌++◌, map, codes, Option, None, Some, option_map, option_and_then, slice_get}
 use Rattle.std.specs.List.{zip, flat_map}
 use Rattle.std.specs.Option.{option_to_list, option_map_or}
@@ -32,7 +33,8 @@ ids_of tests numbers = flat_map (λ index. option_to_list (id_of tests index)) n
 
 -- the one test that kills, if one does
 abbrev pub killed_by : List Test → Option ℕ → Option Data
-killed_by tests killer = option_map (λ id. array (item id no_items)) (option_and_then (id_of tests) killer)
+killed_by tests killer =
+    option_map (λ id. array (item id no_items)) (option_and_then (id_of tests) killer)
 
 -- ---- mutants
 
@@ -56,11 +58,15 @@ abbrev pub line_from_1 : ℕ → ℕ
 line_from_1 line = if line == 0 then 1 else line
 
 abbrev pub place : ℕ → ℕ → Data
-place line column = object (member (codes "column") (number (unsigned column)) (member (codes "line") (number (unsigned line)) no_members))
+place line column =
+    object
+    (member (codes "column") (number (unsigned column))
+    (member (codes "line") (number (unsigned line)) no_members))
 
 -- the first column of a line
 abbrev pub location : ℕ → Data
-location line = object (member (codes "end") (place line 2) (member (codes "start") (place line 1) no_members))
+location line =
+    object (member (codes "end") (place line 2) (member (codes "start") (place line 1) no_members))
 
 -- a member that stands only where it has a value
 abbrev pub member_if : List ℕ → Option Data → Members → Members
@@ -76,11 +82,13 @@ mutant_entry tests mutant verdict = object (
     (member (codes "location") (location (line_from_1 mutant.line))
     (member (codes "mutatorName") (string (mutator_name mutant.mutator))
     (member (codes "status") (string (status verdict.state))
-    (member_if (codes "statusReason") (option_map string (status_reason verdict.state)) no_members)))))))
+    (member_if (codes "statusReason") (option_map string (status_reason verdict.state))
+    no_members)))))))
 
 -- each mutant under its key, as far as it has a verdict and a key
 abbrev pub mutant_entries : List Test → List Mutant → List Verdict → List (List ℕ) → List Entry
-mutant_entries tests mutants verdicts keys = map (λ m. (printed m.1.1, mutant_entry tests m.0 m.1.0)) (zip mutants (zip verdicts keys))
+mutant_entries tests mutants verdicts keys =
+    map (λ m. (printed m.1.1, mutant_entry tests m.0 m.1.0)) (zip mutants (zip verdicts keys))
 
 -- ---- files
 
@@ -99,7 +107,10 @@ file sources index mutants = object (
     (member (codes "source") (string (source_of sources index)) no_members)))
 
 abbrev pub test_entry : Test → Data
-test_entry test = object (member (codes "id") (string (test_id test)) (member (codes "name") (string (printed test.method)) no_members))
+test_entry test =
+    object
+    (member (codes "id") (string (test_id test))
+    (member (codes "name") (string (printed test.method)) no_members))
 
 -- each test under its key, as far as it has one
 abbrev pub test_entries : List Test → List (List ℕ) → List Entry
@@ -111,7 +122,10 @@ test_file index tests = object (member (codes "tests") (array (items_of tests)) 
 -- ---- the report
 
 abbrev pub thresholds : Data
-thresholds = object (member (codes "high") (number (unsigned 80)) (member (codes "low") (number (unsigned 60)) no_members))
+thresholds =
+    object
+    (member (codes "high") (number (unsigned 80))
+    (member (codes "low") (number (unsigned 60)) no_members))
 
 abbrev pub tree : Data → Data → Data
 tree files test_files = object (
@@ -120,10 +134,13 @@ tree files test_files = object (
     (member (codes "testFiles") test_files
     (member (codes "thresholds") thresholds no_members))))
 
--- For each mutant's key a file with the mutants of that key, in their order, and for each test's key a file with the tests of that key.
+-- For each mutant's key a file with the mutants of that key, in their order, and for each test's
+-- key a file with the tests of that key.
 abbrev pub report : ReportInput → Data
 report input = tree
-    (object (members_by (file input.sources) 0 (by_key (mutant_entries input.tests input.mutants input.verdicts input.keys))))
+    (object
+    (members_by (file input.sources) 0
+    (by_key (mutant_entries input.tests input.mutants input.verdicts input.keys))))
     (object (members_by test_file 0 (by_key (test_entries input.tests input.test_keys))))
 
 -- The text of the report, with no space in it.

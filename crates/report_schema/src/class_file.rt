@@ -42,7 +42,8 @@ fn before_dollar(name: &[u16]) -> &[u16]
     }
 }
 
-// The simple name of the outermost class: what stands before the first `$`, or the whole where that is nothing.
+// The simple name of the outermost class: what stands before the first `$`, or the whole where that
+// is nothing.
 fn outermost(name: &[u16]) -> &[u16]
     ensures { result.now ≡ outermost name.now }
 {

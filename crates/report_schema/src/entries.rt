@@ -26,7 +26,9 @@ fn id_of(alloc: Global, tests: &[Test], number: u32) -> Result<Option<Value>, Me
 }
 
 fn push_some(list: &mut Vec<Value>, value: Option<Value>) -> Result<(), Memory>
-    ensures { OnOk result (map view list.new.items ≡ map view list.old.items ++ option_to_list (option_map view value)) }
+    ensures { OnOk result (
+        map view list.new.items ≡ map view list.old.items ++
+        option_to_list (option_map view value)) }
 {
     if let Some(value) = value {
         list.push(value)?;
@@ -76,7 +78,8 @@ fn status(state: &State) -> &'static str
 
 // Which of the two states that share a status it is.
 fn status_reason(alloc: Global, state: &State) -> Result<Option<Value>, Memory>
-    ensures { IfOk result (λ reason. option_map view reason ≡ option_map string (status_reason state.now)) }
+    ensures { IfOk result (λ reason.
+        option_map view reason ≡ option_map string (status_reason state.now)) }
 {
     let reason = match state {
         State::MemoryError => "MEMORY_ERROR",
@@ -146,7 +149,8 @@ pub fn mutant_entries(
     verdicts: &[Verdict],
     keys: &[Name],
 ) -> Result<Vec<(String, Value)>, Memory>
-    ensures { IfOk result (λ entries. entries_view entries.items ≡ mutant_entries tests.now mutants.now verdicts.now keys.now) }
+    ensures { IfOk result (λ entries.
+        entries_view entries.items ≡ mutant_entries tests.now mutants.now verdicts.now keys.now) }
 {
     let mut entries = Vec::new(alloc);
     let count = mutants.len().min(verdicts.len()).min(keys.len());
@@ -175,7 +179,8 @@ pub fn test_entries(
     tests: &[Test],
     keys: &[Name],
 ) -> Result<Vec<(String, Value)>, Memory>
-    ensures { IfOk result (λ entries. entries_view entries.items ≡ test_entries tests.now keys.now) }
+    ensures { IfOk result (λ entries.
+        entries_view entries.items ≡ test_entries tests.now keys.now) }
 {
     let mut entries = Vec::new(alloc);
     let count = tests.len().min(keys.len());

@@ -64,7 +64,8 @@ pub fn files(
     sources: &[Bytes],
     mut groups: BTreeMap<String, Vec<Value>>,
 ) -> Result<Value, Memory>
-    ensures { IfOk result (λ value. view value ≡ json.object (members_by (file sources.now) 0 (groups_view groups.entries))) }
+    ensures { IfOk result (λ value.
+        view value ≡ json.object (members_by (file sources.now) 0 (groups_view groups.entries))) }
 {
     let mut members = Map::new(alloc);
     while let Some((key, mutants)) = groups.pop_last() {
@@ -77,7 +78,8 @@ pub fn files(
 /// The files of tests.
 #[tactic(auto, using(crate::proofs::FromTheLast::put_all_none))]
 pub fn test_files(alloc: Global, mut groups: BTreeMap<String, Vec<Value>>) -> Result<Value, Memory>
-    ensures { IfOk result (λ value. view value ≡ json.object (members_by test_file 0 (groups_view groups.entries))) }
+    ensures { IfOk result (λ value.
+        view value ≡ json.object (members_by test_file 0 (groups_view groups.entries))) }
 {
     let mut members = Map::new(alloc);
     while let Some((key, tests)) = groups.pop_last() {

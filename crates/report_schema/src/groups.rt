@@ -17,9 +17,14 @@ fn push_entry(
     key: String,
     entry: Value,
 ) -> Result<(), Memory>
-    ensures lists { OnOk result ((q : List ℕ) → kept_at q groups.new ≡ kept_at q groups.old ++ (if bytes_eq q (string_bytes key) then entry ∷ [] else [])) }
+    ensures lists { OnOk result (
+        (q : List ℕ) →
+        kept_at q groups.new ≡ kept_at q groups.old ++
+        (if bytes_eq q (string_bytes key) then entry ∷ [] else [])) }
     ensures ordered { OnOk result (IsOrdered string_cmp groups.new) }
-    ensures keys { OnOk result ((q : List ℕ) → has_key q groups.new ≡ (has_key q groups.old || bytes_eq q (string_bytes key))) }
+    ensures keys { OnOk result (
+        (q : List ℕ) →
+        has_key q groups.new ≡ (has_key q groups.old || bytes_eq q (string_bytes key))) }
 {
     groups.entry(key)?.or_default().push(entry)?;
     Ok(())
@@ -30,7 +35,8 @@ pub fn by_key(
     alloc: Global,
     entries: Vec<(String, Value)>,
 ) -> Result<BTreeMap<String, Vec<Value>>, Memory>
-    ensures { IfOk result (λ groups. groups_view groups.entries ≡ by_key (entries_view entries.items)) }
+    ensures { IfOk result (λ groups.
+        groups_view groups.entries ≡ by_key (entries_view entries.items)) }
 {
     let mut groups = BTreeMap::new(alloc);
     for (key, entry) in entries {

@@ -52,7 +52,8 @@ fn report(alloc: Global, input: &ReportInput) -> Result<Value, Memory>
     tree(alloc, files, test_files)
 }
 
-/// The report as one line of JSON without a line feed, in the mutation testing report schema. For each key of `keys` it has a file with the mutants of that key, in their order.
+/// The report as one line of JSON without a line feed, in the mutation testing report schema. For
+/// each key of `keys` it has a file with the mutants of that key, in their order.
 pub fn report_text(alloc: Global, input: &ReportInput) -> Result<Bytes, Memory>
     ensures { IfOk result (λ text. text ≡ ReportText input.now) }
 {

@@ -84,7 +84,8 @@ fn put_count(alloc: Global, line: &mut Bytes, word: &str, count: usize) -> Resul
     line.extend_from_slice(digits.as_bytes())
 }
 
-/// The line that a run puts out: how many mutants there are, and how many are in which state. MEMORY_ERROR and RUN_ERROR count as errors.
+/// The line that a run puts out: how many mutants there are, and how many are in which state.
+/// MEMORY_ERROR and RUN_ERROR count as errors.
 pub fn summary_text(alloc: Global, verdicts: &Seq<Verdict>) -> Result<Bytes, Memory>
     ensures { IfOk result (λ text. text ≡ Summary verdicts.now) }
 {

@@ -34,7 +34,9 @@ pub fn put(
     name: &str,
     value: Value,
 ) -> Result<(), Memory>
-    ensures { OnOk result (members_view members.new.entries ≡ with_member name.now (view value) (members_view members.old.entries)) }
+    ensures { OnOk result (
+        members_view members.new.entries ≡
+        with_member name.now (view value) (members_view members.old.entries)) }
 {
     serde_json::put(members, alloc, name, value)?;
     Ok(())
@@ -47,7 +49,9 @@ pub fn put_if(
     name: &str,
     value: Option<Value>,
 ) -> Result<(), Memory>
-    ensures { OnOk result (members_view members.new.entries ≡ put_if name.now (option_map view value) (members_view members.old.entries)) }
+    ensures { OnOk result (
+        members_view members.new.entries ≡
+        put_if name.now (option_map view value) (members_view members.old.entries)) }
 {
     if let Some(value) = value {
         put(alloc, members, name, value)?;
