@@ -119,8 +119,7 @@ with_code new [] = []
 with_code new (attr ∷ attrs) =
     elim (code_in (body_of attr)) [
       | Some code ↦ attr_of (name_of attr) (body.Code new) ∷ attrs
-      | None ↦ attr ∷
-          with_code new attrs
+      | None ↦ attr ∷ with_code new attrs
     ]
 
 abbrev pub member_with : Code → Member → Member
