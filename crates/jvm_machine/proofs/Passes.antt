@@ -2,11 +2,11 @@
 use Rattle.std.proofs.Common.{◌≡◌, ◌∙◌, ◌<◌, ◌≤◌, refl, sym, ap, subst, ℕ, zero, suc, ◌+◌, ◌-◌, true, false, List, length, Option, None, Some, IfSome, IsSomeAnd, get_or, arith}
 use Rattle.std.specs.Prelude.{ℤ, Bool, ◌^◌, All, slice_get}
 use Rattle.program_rules.specs.Names.{Name}
-use Rattle.program_rules.specs.Linked.{code_of, is_from_file, method_in}
+use Rattle.program_rules.specs.Linked.{code_of, method_in}
 use Rattle.machine_rules.specs.declared.machine.Limits.{Limits}
 use Rattle.machine_rules.specs.State as def
 use Rattle.machine_rules.specs.Calls.{room_in}
-use Rattle.machine_rules.specs.Steps.{line_of, over_or, reaches}
+use Rattle.machine_rules.specs.Steps.{over_or}
 use Rattle.machine_laws.specs.Lines.{KeepsLines}
 use Rattle.class_link.specs.Info.{Info}
 use Rattle.class_table.specs.Table.{look, name_at, entries_at}
@@ -19,7 +19,7 @@ use Rattle.jvm_world.specs.declared.world.World.{World}
 use Rattle.jvm_world.specs.View.{IsKept, IsWorldOf, Means}
 use Rattle.jvm_unwind.specs.declared.turn.Turn.{Turn}
 use Rattle.jvm_unwind.specs.declared.turn.Turn.TheVariants as turn
-use Rattle.jvm_unwind.specs.Turns.{frame_of, frames_of}
+use Rattle.jvm_unwind.specs.Turns.{frames_of}
 use Rattle.jvm_unwind.proofs.Left.{with_some}
 use Rattle.jvm_invokes.specs.Invoked.{IsOfMethod}
 use Rattle.jvm_act.specs.declared.methods.MethodCode.{MethodCode}
@@ -37,7 +37,7 @@ use Rattle.jvm_machine.specs.declared.passing.Taken.{Taken}
 use Rattle.jvm_machine.specs.declared.passing.Taken.TheVariants as taken
 use Rattle.jvm_machine.specs.Going.{GoesTo, ReachesLine}
 use Rattle.jvm_machine.specs.Machines.{Answers, HasMeaning, IsMachineOf, IsMachineStill, TellsEnd, ended_with}
-use Rattle.jvm_machine.specs.Marking.{AreMarkedRight, AreReached, IsLineReached, IsReachedIf, IsWithin, Marked, StaysMachine, StaysMarked, WentTo, lines_of, went_by}
+use Rattle.jvm_machine.specs.Marking.{AreMarkedRight, AreReached, IsLineReached, IsWithin, Marked, StaysMachine, StaysMarked, WentTo, lines_of, went_by}
 use Rattle.jvm_machine.specs.Passing.{Fits, HasMark, IsCalm, IsReachedIn, IsUpTo, RunsReached, StaysReady, Took, plus, went_of}
 use Rattle.jvm_machine.specs.Running.{HasRun}
 use Rattle.jvm_machine.proofs.Ends.{tells_end}

@@ -1,7 +1,7 @@
 use Rattle.std.proofs.Common.{◌≤◌, ◌+◌, ◌-◌, arith, subst}
 use Rattle.jvm_machine.specs.declared.passing.Taken.TheVariants as taken
 use Rattle.jvm_machine.specs.Marking.{lines_of}
-use Rattle.jvm_machine.specs.Passing.{IsUpTo, Took}
+use Rattle.jvm_machine.specs.Passing.{Took}
 use Rattle.jvm_machine.proofs.Passes.{took_both, took_none}
 use Rattle.jvm_machine.proofs.Stays.{marked_on}
 use Rattle.jvm_machine.proofs.passing.pass_on.Goals as goal

@@ -1,6 +1,3 @@
-use Rattle.std.proofs.Common.{subst}
-use Rattle.jvm_act.specs.Methods.{IsCodeOf}
-use Rattle.jvm_machine.specs.Marking.{AreReached, lines_of}
 use Rattle.jvm_machine.proofs.Passes.{runs_in}
 use Rattle.jvm_machine.proofs.passing.take_in_method.Goals as goal
 
