@@ -24,7 +24,7 @@ use Rattle.jvm_machine.specs.Ending.{ending_of}
 use Rattle.jvm_machine.specs.Machines.{Answers, HasFewMonitors, HasMeaning, IsMachineOf, IsMachineStill, StandsFor}
 use Rattle.jvm_machine.specs.Result.{IsResultOf, TellsRun}
 use Rattle.jvm_machine.proofs.Going.{counts_are}
-use Rattle.jvm_machine.specs.Running.{EndsAtLimit, EndsSo, HasRun, HasSteps, IsNext, IsStuckResult, after, next_or, start_of}
+use Rattle.jvm_machine.specs.Running.{EndsAtLimit, EndsSo, HasRun, HasSteps, IsEndOf, IsNext, IsStuckResult, after, next_or, start_of}
 
 -- ---- one step on, in the definitions
 
@@ -197,3 +197,8 @@ stuck_is p q limit n s m r h is = subst (IsResultOf p r) (sym h.1) is
 pub steps_of : (p : List Info) (q : Limits) (limit n : ℕ) (s : def.MachineState) (m : Machine) (e : End) → EndsSo p q limit s e n m → (run_from (look p) q limit s 0).steps ≡ n
 steps_of p q limit n s m (end.With o) h = ap (λ r. r.steps) h.1
 steps_of p q limit n s m end.Stuck h = ap (λ r. r.steps) h.1
+
+-- So is its end.
+pub end_of_run : (p : List Info) (q : Limits) (limit n : ℕ) (s : def.MachineState) (m : Machine) (e : End) → EndsSo p q limit s e n m → IsEndOf e (run_from (look p) q limit s 0).ending
+end_of_run p q limit n s m (end.With o) h = ap (λ r. r.ending) h.1
+end_of_run p q limit n s m end.Stuck h = (place_of (look p) (after (look p) q n s), ap (λ r. r.ending) h.1)

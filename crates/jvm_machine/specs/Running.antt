@@ -3,8 +3,8 @@ use Rattle.std.specs.Prelude.{◌≡◌, ℕ, zero, suc, ◌-◌, ◌<◌, ◌�
 use Rattle.machine_rules.specs.declared.machine.Limits.{Limits}
 use Rattle.machine_rules.specs.declared.machine.Outcome.{Outcome}
 use Rattle.machine_rules.specs.State.{MachineState, start}
-use Rattle.machine_rules.specs.Steps.{Stepped, Next, Ended, Stuck, outcome_of, place_of, step_of}
-use Rattle.machine_rules.specs.Runs.{With, StuckAt, at_limit, comes_to, run_from}
+use Rattle.machine_rules.specs.Steps.{Stepped, Place, Next, Ended, Stuck, outcome_of, place_of, step_of}
+use Rattle.machine_rules.specs.Runs.{Ending, With, StuckAt, at_limit, comes_to, run_from}
 use Rattle.program_rules.specs.Programs.{Look}
 use Rattle.class_link.specs.Info.{Info}
 use Rattle.class_table.specs.declared.scripted.Test.{Test}
@@ -64,6 +64,11 @@ EndsSo p q limit s end.Stuck n m =
     let t = after (look p) q n s in
     HasSteps p q n s
     × (run_from (look p) q limit s 0 ≡ comes_to (StuckAt (place_of (look p) t)) n t.world)
+
+-- It is how the run ends, but for the place where it is stuck.
+abbrev pub IsEndOf : End → Ending → Type 0
+IsEndOf (end.With o) e = e ≡ With o
+IsEndOf end.Stuck e = (place : Place) × (e ≡ StuckAt place)
 
 -- How a run ends that has taken all its steps.
 abbrev pub EndsAtLimit : List Info → Machine → Outcome → Type 0

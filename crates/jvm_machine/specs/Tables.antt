@@ -15,6 +15,11 @@ use Rattle.jvm_machine.specs.declared.tables.Tables.{Tables}
 abbrev pub looked_up : List Name
 looked_up = machine_names ++ made_names
 
+-- What they hold of a program by the names of its classes alone is right.
+pub record AreNamedOf (p : List Info) (t : Tables) : Type 0 where
+  pub classes : AreMachineClasses p t.classes
+  pub natives : AreNatives p t.natives
+
 -- They are those of a program, and all that they keep is right.
 pub record AreTablesOf (p : List Info) (t : Tables) : Type 0 where
   pub classes : AreMachineClasses p t.classes

@@ -18,6 +18,6 @@ mod tables;
 pub use machine::{Machine, Step};
 pub use outcome::Outcome;
 pub use result::RunResult;
-pub use running::execute;
+pub use running::{End, execute, execute_to_end};
 pub use stepping::step;
 pub use tables::Tables;

@@ -8,7 +8,7 @@ ghost use Rattle.jvm_machine.specs.Machines.{IsMachineOf, StandsFor};
 ghost use Rattle.jvm_machine.specs.Marking.{AreMarkedRight, lines_of};
 ghost use Rattle.jvm_machine.specs.Programs.{IsRunnable};
 ghost use Rattle.jvm_machine.specs.Result.{IsResultOf};
-ghost use Rattle.jvm_machine.specs.Running.{EndsSo, EndsAtLimit, HasSteps, IsStuckResult, after, start_of};
+ghost use Rattle.jvm_machine.specs.Running.{EndsSo, EndsAtLimit, HasSteps, IsEndOf, IsStuckResult, after, start_of};
 ghost use Rattle.jvm_machine.specs.Tables.{AreTablesOf};
 
 use crate::advancing::{Went, advance};
@@ -267,4 +267,61 @@ pub fn execute(
     let classes = tables.classes.copy(alloc)?;
     let mut m = Machine::start(alloc, p, test, limits, classes)?;
     complete(&mut m, alloc, p, tables, test, limit, part)
+}
+
+// Runs a machine that stands at the start of a test, and gives how the run ends.
+#[tactic(auto, using(crate::proofs::Ran::steps_of, crate::proofs::Ran::end_of_run))]
+fn run_to_end(
+    m: &mut Machine,
+    alloc: Global,
+    p: &Program,
+    tables: &mut Tables,
+    test: &Test,
+    limit: u64,
+    part: &mut MeterPart,
+) -> Result<End, Memory>
+    requires machine { IsMachineOf p.now m.old }
+    requires stands { StandsFor p.now m.old (start_of p.now test.now) }
+    requires tables { AreTablesOf p.now tables.old }
+    requires runnable { IsRunnable (look p.now) }
+    requires room { part.old + limit < 2 ^ 64 }
+    ensures ending { IfOk result (λ e. IsEndOf e
+        (run_of (look p.now) (test_of test.now) m.old.world.limits limit).ending) }
+    ensures steps { OnOk result (part.new ≡ part.old
+        + (run_of (look p.now) (test_of test.now) m.old.world.limits limit).steps) }
+    ensures memory { OnErr result (part.new ≤ part.old
+        + (run_of (look p.now) (test_of test.now) m.old.world.limits limit).steps) }
+    ensures tables { AreTablesOf p.now tables.new }
+{
+    let mut marks = Vec::new(alloc);
+    let ran = run(m, alloc, p, tables, &mut marks, test, limit, part)?;
+    Ok(ran.0)
+}
+
+/// Runs a test on a program as `execute` does, and gives how the run ends, and neither names nor
+/// lines. One that is stuck isn't run again.
+pub fn execute_to_end(
+    alloc: Global,
+    p: &Program,
+    tables: &mut Tables,
+    test: &Test,
+    limits: Limits,
+    limit: u64,
+    part: &mut MeterPart,
+) -> Result<End, Memory>
+    requires tables { AreTablesOf p.now tables.old }
+    requires runnable { IsRunnable (look p.now) }
+    requires small { limits.heap < 2 ^ 31 }
+    requires room { part.old + limit < 2 ^ 64 }
+    ensures ending { IfOk result (λ e. IsEndOf e
+        (run_of (look p.now) (test_of test.now) limits limit).ending) }
+    ensures steps { OnOk result (part.new ≡ part.old
+        + (run_of (look p.now) (test_of test.now) limits limit).steps) }
+    ensures memory { OnErr result (part.new ≤ part.old
+        + (run_of (look p.now) (test_of test.now) limits limit).steps) }
+    ensures tables { AreTablesOf p.now tables.new }
+{
+    let classes = tables.classes.copy(alloc)?;
+    let mut m = Machine::start(alloc, p, test, limits, classes)?;
+    run_to_end(&mut m, alloc, p, tables, test, limit, part)
 }

@@ -5,7 +5,7 @@ ghost use Rattle.class_table.specs.Table.{look};
 ghost use Rattle.jvm_world.specs.Classes.{AreMachineClasses};
 ghost use Rattle.jvm_world.specs.Finding.{Finds};
 ghost use Rattle.jvm_natives.specs.Natives.{AreNatives};
-ghost use Rattle.jvm_machine.specs.Tables.{AreTablesOf, looked_up};
+ghost use Rattle.jvm_machine.specs.Tables.{AreNamedOf, AreTablesOf, looked_up};
 
 use class_family::Walker;
 use class_model::Memory;
@@ -14,6 +14,7 @@ use jvm_act::Codes;
 use jvm_field_rows::{Layouts, Slots};
 use jvm_natives::Natives;
 use jvm_receivers::Lookups;
+use jvm_resolved::{References, Selections};
 use jvm_world::MachineClasses;
 use std::alloc::Global;
 
@@ -75,5 +76,27 @@ impl Tables {
         };
         let tables = tables_with(alloc, p, classes, natives)?;
         Ok(Some(tables))
+    }
+
+    /// Those of a program whose classes have the names of those before, by number; nothing was
+    /// asked of it yet. So no class is looked up, and no name is copied.
+    pub fn renew(&mut self, alloc: Global, p: &Program)
+        requires { AreNamedOf p.now self.old }
+        ensures { AreTablesOf p.now self.new }
+    {
+        let _ = p.len();
+        let references = References::new(alloc);
+        let selections = Selections::new(alloc);
+        let slots = Slots::new(alloc);
+        let layouts = Layouts::new(alloc);
+        let codes = Codes::new(alloc);
+        self.lookups = Lookups {
+            references,
+            selections,
+            text: Some(self.natives.known.text),
+        };
+        self.slots = slots;
+        self.layouts = layouts;
+        self.codes = codes;
     }
 }

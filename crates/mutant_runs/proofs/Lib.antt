@@ -7,3 +7,4 @@ pub mod MutantLaws
 pub mod EditLaws
 pub mod Longer
 pub mod Adding
+pub mod NamedLaws

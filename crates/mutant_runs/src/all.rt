@@ -1,6 +1,7 @@
 //! Which mutants are viable, and the verdicts on all.
 
 ghost use Rattle.std.specs.Prelude.{◌≡◌, ◌+◌, ◌≤◌, ◌<◌, ◌^◌, All, length, IfOk, OnOk};
+ghost use Rattle.jvm_machine.specs.Tables.{AreNamedOf};
 ghost use Rattle.mutant_runs.specs.Programs.{files_of, IsMutantOf};
 ghost use Rattle.mutant_runs.specs.Ready.{IsReady};
 ghost use Rattle.mutant_runs.specs.Promises.{AreViable, AreVerdicts, steps_for_all};
@@ -10,6 +11,7 @@ use crate::covered::verdict_on;
 use crate::on_mutant::is_viable;
 use class_model::{Memory, Seq};
 use class_table::{Program, Test};
+use jvm_machine::Tables;
 use line_coverage::Coverage;
 use machine_rules::Limits;
 use mt_edge::MeterPart;
@@ -33,12 +35,56 @@ pub fn viable(alloc: Global, program: &mut Program, mutants: &[Mutant]) -> Resul
     Ok(all)
 }
 
+// The verdict on each mutant, with tables that are lent to one after the other.
+fn verdicts_with(
+    alloc: Global,
+    program: &mut Program,
+    tables: &mut Tables,
+    tests: &[Test],
+    steps: &[u64],
+    cover: &Coverage,
+    mutants: &[Mutant],
+    viable: &[bool],
+    limits: Limits,
+    part: &mut MeterPart,
+) -> Result<Seq<Verdict>, Memory>
+    requires ready { IsReady program.old }
+    requires named { AreNamedOf program.old tables.old }
+    requires small { limits.heap < 2 ^ 31 }
+    requires few_tests { length tests.now ≤ 65535 }
+    requires few_mutants { length mutants.now ≤ 262144 }
+    requires each { length steps.now ≡ length tests.now }
+    requires timed { All (λ n. n ≤ most_steps) steps.now }
+    requires room { part.old < 2 ^ 62 }
+    requires fit { All (IsMutantOf (files_of program.old)) mutants.now }
+    requires covered { cover.now.tests ≡ length tests.now }
+    requires viable { AreViable program.old mutants.now viable.now }
+    ensures told { IfOk result
+        (AreVerdicts limits program.old tests.now steps.now cover.now mutants.now) }
+    ensures steps { OnOk result (part.new ≡ part.old
+        + steps_for_all limits program.old tests.now steps.now cover.now mutants.now) }
+    ensures most { part.new ≤ part.old
+        + steps_for_all limits program.old tests.now steps.now cover.now mutants.now }
+    ensures same { program.new ≡ program.old }
+{
+    let mut verdicts = Seq::new(alloc);
+    let mut kept = None;
+    for (i, mutant) in mutants.iter().enumerate() {
+        let verdict = verdict_on(
+            alloc, program, tables, tests, steps, cover, mutant, viable[i], limits, part, &mut kept,
+        )?;
+        verdicts.push(verdict)?;
+    }
+    Ok(verdicts)
+}
+
 /// The verdict on each mutant, by runs of the tests that reach its class and line, up to the first
 /// that detects it; NON_VIABLE where it isn't viable, NO_COVERAGE where no test reaches them.
 /// `steps` has at each test's place the steps of its run on the program as it is, `cover` the lines
 /// that this run reached, and `viable` at each mutant's place whether it is viable. The steps of all
 /// runs are counted in the part, and the program is as before afterwards, also where memory runs
 /// out.
+#[tactic(auto, using(crate::proofs::ReadyLaws::not_lacking, crate::proofs::NamedLaws::named_of))]
 pub fn verdicts(
     alloc: Global,
     program: &mut Program,
@@ -68,13 +114,19 @@ pub fn verdicts(
         + steps_for_all limits program.old tests.now steps.now cover.now mutants.now }
     ensures same { program.new ≡ program.old }
 {
-    let mut verdicts = Seq::new(alloc);
-    let mut kept = None;
-    for (i, mutant) in mutants.iter().enumerate() {
-        let verdict = verdict_on(
-            alloc, program, tests, steps, cover, mutant, viable[i], limits, part, &mut kept,
-        )?;
-        verdicts.push(verdict)?;
-    }
-    Ok(verdicts)
+    let Some(mut tables) = Tables::find(alloc, program)? else {
+        unreachable!()
+    };
+    verdicts_with(
+        alloc,
+        program,
+        &mut tables,
+        tests,
+        steps,
+        cover,
+        mutants,
+        viable,
+        limits,
+        part,
+    )
 }

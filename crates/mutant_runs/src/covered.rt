@@ -1,6 +1,7 @@
 //! The verdict on one mutant, by the tests that reach its class and line.
 
 ghost use Rattle.std.specs.Prelude.{◌≡◌, ◌+◌, ◌≤◌, ◌<◌, ◌^◌, true, All, length, IfOk, OnOk};
+ghost use Rattle.jvm_machine.specs.Tables.{AreNamedOf};
 ghost use Rattle.mutant_runs.specs.Files.{IsKept};
 ghost use Rattle.mutant_runs.specs.Programs.{files_of, IsMutantOf};
 ghost use Rattle.mutant_runs.specs.Promises.{AreCovering, IsVerdictBy, steps_of, TellsViable};
@@ -12,6 +13,7 @@ use crate::on_mutant::run_mutant;
 use crate::verdict::{not_viable, verdict_by};
 use class_model::{Memory, Seq};
 use class_table::{Program, Test};
+use jvm_machine::Tables;
 use line_coverage::Coverage;
 use machine_rules::Limits;
 use mt_edge::MeterPart;
@@ -40,6 +42,7 @@ fn covering_tests(
 fn run_covering(
     alloc: Global,
     program: &mut Program,
+    tables: &mut Tables,
     tests: &[Test],
     steps: &[u64],
     cover: &Coverage,
@@ -49,6 +52,7 @@ fn run_covering(
     kept: &mut Option<ClassBytes>,
 ) -> Result<Verdict, Memory>
     requires ready { IsReady program.old }
+    requires named { AreNamedOf program.old tables.old }
     requires small { limits.heap < 2 ^ 31 }
     requires few { length tests.now ≤ 65535 }
     requires each { length steps.now ≡ length tests.now }
@@ -65,6 +69,7 @@ fn run_covering(
     ensures most { part.new ≤ part.old
         + steps_of limits program.old tests.now steps.now cover.now mutant.now }
     ensures same { program.new ≡ program.old }
+    ensures named { AreNamedOf program.old tables.new }
     ensures kept { OnOk result (IsKept program.old kept.new) }
 {
     let covering = covering_tests(alloc, program, cover, mutant)?;
@@ -72,7 +77,7 @@ fn run_covering(
         return Ok(verdict_by(covering, None));
     }
     run_mutant(
-        alloc, program, tests, steps, mutant, covering, limits, part, kept,
+        alloc, program, tables, tests, steps, mutant, covering, limits, part, kept,
     )
 }
 
@@ -81,6 +86,7 @@ fn run_covering(
 pub fn verdict_on(
     alloc: Global,
     program: &mut Program,
+    tables: &mut Tables,
     tests: &[Test],
     steps: &[u64],
     cover: &Coverage,
@@ -91,6 +97,7 @@ pub fn verdict_on(
     kept: &mut Option<ClassBytes>,
 ) -> Result<Verdict, Memory>
     requires ready { IsReady program.old }
+    requires named { AreNamedOf program.old tables.old }
     requires small { limits.heap < 2 ^ 31 }
     requires few { length tests.now ≤ 65535 }
     requires each { length steps.now ≡ length tests.now }
@@ -107,12 +114,13 @@ pub fn verdict_on(
     ensures most { part.new ≤ part.old
         + steps_of limits program.old tests.now steps.now cover.now mutant.now }
     ensures same { program.new ≡ program.old }
+    ensures named { AreNamedOf program.old tables.new }
     ensures kept { OnOk result (IsKept program.old kept.new) }
 {
     if !viable {
         return Ok(not_viable(alloc));
     }
     run_covering(
-        alloc, program, tests, steps, cover, mutant, limits, part, kept,
+        alloc, program, tables, tests, steps, cover, mutant, limits, part, kept,
     )
 }

@@ -3,6 +3,7 @@
 ghost use Rattle.std.specs.Prelude.{◌≡◌, ◌+◌, ◌≤◌, ◌<◌, ◌^◌, true, All, length, IfOk, OnOk};
 ghost use Rattle.class_link.specs.Info.{IsInfo};
 ghost use Rattle.class_table.specs.Table.{look, IsProgram};
+ghost use Rattle.jvm_machine.specs.Tables.{AreNamedOf, AreTablesOf};
 ghost use Rattle.program_verifier.specs.Programs.{AreNumbered, IsLibraryAccepted};
 ghost use Rattle.mutant_runs.specs.Edited.{TellsAccepted};
 ghost use Rattle.mutant_runs.specs.Files.{IsKept};
@@ -118,11 +119,11 @@ pub fn is_viable(
 }
 
 // The verdict on a mutant by the tests of these numbers, which cover it, on this program, which it
-// is run as.
-#[tactic(auto, using(crate::proofs::ReadyLaws::not_lacking))]
+// is run as. The tables are those of a program whose classes have the same names.
 fn run_on(
     alloc: Global,
     program: &Program,
+    tables: &mut Tables,
     tests: &[Test],
     steps: &[u64],
     covering: Seq<u32>,
@@ -130,6 +131,7 @@ fn run_on(
     part: &mut MeterPart,
 ) -> Result<Verdict, Memory>
     requires ready { IsReady program.now }
+    requires named { AreNamedOf program.now tables.old }
     requires small { limits.heap < 2 ^ 31 }
     requires numbers { All (λ k. k < length tests.now) covering }
     requires few { length covering ≤ 65535 }
@@ -141,16 +143,15 @@ fn run_on(
         + steps_run limits program.now tests.now steps.now covering) }
     ensures most { part.new ≤ part.old
         + steps_run limits program.now tests.now steps.now covering }
+    ensures tables { AreTablesOf program.now tables.new }
 {
     is_program(program);
     ready_may_run();
-    let Some(mut tables) = Tables::find(alloc, program)? else {
-        unreachable!()
-    };
+    tables.renew(alloc, program);
     let killer = run_tests(
         alloc,
         program,
-        &mut tables,
+        tables,
         tests,
         steps,
         covering.as_slice(),
@@ -161,10 +162,12 @@ fn run_on(
 }
 
 /// The verdict on a mutant that is viable, by the tests of these numbers, which cover it. The
-/// program is as before afterwards.
+/// program is as before afterwards. The tables are lent to one mutant after the other: of what they
+/// hold the names of classes alone are taken on.
 pub fn run_mutant(
     alloc: Global,
     program: &mut Program,
+    tables: &mut Tables,
     tests: &[Test],
     steps: &[u64],
     mutant: &Mutant,
@@ -174,6 +177,7 @@ pub fn run_mutant(
     kept: &mut Option<ClassBytes>,
 ) -> Result<Verdict, Memory>
     requires ready { IsReady program.old }
+    requires named { AreNamedOf program.old tables.old }
     requires small { limits.heap < 2 ^ 31 }
     requires numbers { All (λ k. k < length tests.now) covering }
     requires few { length covering ≤ 65535 }
@@ -190,6 +194,7 @@ pub fn run_mutant(
     ensures most { part.new ≤ part.old
         + steps_for limits program.old tests.now steps.now covering mutant.now }
     ensures same { program.new ≡ program.old }
+    ensures named { AreNamedOf program.old tables.new }
     ensures kept { OnOk result (IsKept program.old kept.new) }
 {
     is_program(program);
@@ -199,7 +204,7 @@ pub fn run_mutant(
         unreachable!()
     };
     let original = program.swap(id, edited);
-    let verdict = run_on(alloc, program, tests, steps, covering, limits, part);
+    let verdict = run_on(alloc, program, tables, tests, steps, covering, limits, part);
     let _edited = program.swap(id, original);
     verdict
 }

@@ -1,18 +1,18 @@
 //! What the run of one test says of a mutant.
 
 ghost use Rattle.std.specs.Prelude.{◌≡◌, ◌+◌, ◌≤◌, ◌<◌, ◌^◌, IfOk, OnOk};
-ghost use Rattle.machine_rules.specs.Runs.{limit_of};
+ghost use Rattle.machine_rules.specs.Runs.{Ending, With, limit_of};
 ghost use Rattle.class_table.specs.Table.{look};
-ghost use Rattle.jvm_machine.specs.Ending.{ending_of};
 ghost use Rattle.jvm_machine.specs.Programs.{IsRunnable};
+ghost use Rattle.jvm_machine.specs.Running.{IsEndOf};
 ghost use Rattle.jvm_machine.specs.Tables.{AreTablesOf};
 ghost use Rattle.mutant_runs.specs.Promises.{run_in};
 ghost use Rattle.mutant_runs.specs.Runs.{detected, most_steps, most_limit};
 
 use class_model::Memory;
 use class_table::{Program, Test};
-use jvm_machine::{Outcome, Tables, execute};
-use machine_rules::Limits;
+use jvm_machine::{End, Tables, execute_to_end};
+use machine_rules::{Limits, Outcome};
 use mt_edge::MeterPart;
 use mutator_ops::State;
 use std::alloc::Global;
@@ -26,15 +26,25 @@ fn limit_of(steps: u64) -> u64
     steps + steps / 4 + 100_000
 }
 
-fn detected(outcome: &Outcome) -> Option<State>
-    ensures { result ≡ detected (ending_of outcome.now) }
+// The state that an outcome gives to a mutant.
+fn detected_by(outcome: Outcome) -> Option<State>
+    ensures { result ≡ detected (With outcome) }
 {
     match outcome {
         Outcome::Passed => None,
         Outcome::Failed => Some(State::Killed),
         Outcome::TimedOut => Some(State::TimedOut),
         Outcome::MemoryOut => Some(State::MemoryError),
-        Outcome::Stuck { .. } => Some(State::RunError),
+    }
+}
+
+// The state that the end of a run gives to a mutant.
+fn detected(end: End) -> Option<State>
+    ensures { (e : Ending) → IsEndOf end e → result ≡ detected e }
+{
+    match end {
+        End::With(outcome) => detected_by(outcome),
+        End::Stuck => Some(State::RunError),
     }
 }
 
@@ -61,6 +71,6 @@ pub fn run_test(
     ensures most { part.new ≤ part.old + (run_in limits program.now test.now steps).steps }
     ensures tables { AreTablesOf program.now tables.new }
 {
-    let run = execute(alloc, program, tables, test, limits, limit_of(steps), part)?;
-    Ok(detected(&run.outcome))
+    let end = execute_to_end(alloc, program, tables, test, limits, limit_of(steps), part)?;
+    Ok(detected(end))
 }

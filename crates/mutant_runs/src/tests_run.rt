@@ -43,6 +43,7 @@ pub fn run_tests(
         + steps_run limits program.now tests.now steps.now covering.now) }
     ensures most { part.new ≤ part.old
         + steps_run limits program.now tests.now steps.now covering.now }
+    ensures tables { AreTablesOf program.now tables.new }
 {
     for number in covering {
         let at = *number as usize;

@@ -5,6 +5,7 @@ use Rattle.mutant_runs.specs.Edited.{IsReadyBut}
 use Rattle.mutant_runs.specs.Programs.{Makes}
 use Rattle.mutant_runs.proofs.ProgramLaws.{set_back, makes_swap_back}
 use Rattle.mutant_runs.proofs.MutantLaws.{ready_with, told_made, counted_made, most_made}
+use Rattle.mutant_runs.proofs.NamedLaws.{named_made, named_back}
 use Rattle.mutant_runs.proofs.on_mutant.run_mutant.Goals as goal
 
 pub run_on-verdict-requires-clause-ready : goal.run_on-verdict-requires-clause-ready
@@ -43,3 +44,13 @@ returns-clause-most c =
 pub returns-clause-same : goal.returns-clause-same
 returns-clause-same c =
     c.swap-edited.ensures.program ∙ ap (λ p. slice_set p c.in-Some.id.0 (arc_value c.swap-original.result)) c.swap-original.ensures.program ∙ set_back c.args.program.now c.in-Some.id.0 (arc_value c.swap-original.result) (arc_value c.in-Some.edited) c.swap-original.ensures.other
+
+pub run_on-verdict-requires-clause-named : goal.run_on-verdict-requires-clause-named
+run_on-verdict-requires-clause-named c =
+    let made : Makes c.args.program.now c.args.mutant.now c.in-Some.id.0 (arc_value c.in-Some.edited) = rw c.in-Some.is at c.in_ok-id.ensures.made in
+    named_made c.args.program.now c.swap-original.new.self c.args.mutant.now c.in-Some.id.0 (arc_value c.in-Some.edited) made c.swap-original.ensures.program c.args.tables.now c.requires.named
+
+pub returns-clause-named : goal.returns-clause-named
+returns-clause-named c =
+    let made : Makes c.args.program.now c.args.mutant.now c.in-Some.id.0 (arc_value c.in-Some.edited) = rw c.in-Some.is at c.in_ok-id.ensures.made in
+    named_back c.args.program.now c.swap-original.new.self c.args.mutant.now c.in-Some.id.0 (arc_value c.in-Some.edited) made c.swap-original.ensures.program c.run_on-verdict.new.tables c.run_on-verdict.ensures.tables

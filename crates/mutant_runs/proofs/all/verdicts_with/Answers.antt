@@ -6,7 +6,7 @@ use Rattle.mutant_runs.specs.Programs.{files_of}
 use Rattle.mutant_runs.specs.Promises.{covering_at}
 use Rattle.mutant_runs.specs.Runs.{timed}
 use Rattle.mutant_runs.proofs.MutantLaws.{room_left, within_all}
-use Rattle.mutant_runs.proofs.all.verdicts.Goals as goal
+use Rattle.mutant_runs.proofs.all.verdicts_with.Goals as goal
 
 pub verdict_on-requires-clause-room : goal.verdict_on-requires-clause-room
 verdict_on-requires-clause-room c =

@@ -1,11 +1,12 @@
 use Rattle.std.proofs.Common.{◌≡◌, ◌+◌, map, take}
 use Rattle.class_table.specs.Table.{look}
+use Rattle.jvm_machine.specs.Tables.{AreNamedOf}
 use Rattle.mutant_runs.specs.Files.{IsKept}
 use Rattle.mutant_runs.specs.Needed.{verdict_picked}
 use Rattle.mutant_runs.specs.Programs.{files_of}
 use Rattle.mutant_runs.specs.Promises.{covering_at, steps_for_all}
 use Rattle.mutant_runs.specs.Runs.{timed}
-use Rattle.mutant_runs.proofs.all.verdicts.Given as goal
+use Rattle.mutant_runs.proofs.all.verdicts_with.Given as goal
 
 abbrev pub invariant-loop-i : goal.invariant-loop-i
 invariant-loop-i l = record {
@@ -13,4 +14,5 @@ invariant-loop-i l = record {
   steps : l.part ≡ l.fn.part + steps_for_all l.limits l.fn.program l.tests l.steps l.cover (take l.i l.mutants);
   same : l.program ≡ l.fn.program;
   kept : IsKept l.fn.program l.kept;
+  named : AreNamedOf l.fn.program l.tables;
 }
