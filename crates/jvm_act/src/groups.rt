@@ -157,6 +157,7 @@ fn class_use(how: ClassUse, index: u32) -> Group
 
 /// Whose row an instruction has.
 #[tactic(auto, unfolding(jvm_state::specs::Ops::instruction_of))]
+#[inline(always)]
 pub fn group_of(op: Op) -> Group
     ensures { IsGroupOf op result }
 {
