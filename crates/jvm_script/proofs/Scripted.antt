@@ -42,7 +42,7 @@ use Rattle.jvm_invokes.proofs.Standing.{stands}
 use Rattle.jvm_act.specs.Turned.{TurnedTo}
 use Rattle.jvm_act.specs.Standing.{HasNext, Waits, AreFramesOf}
 use Rattle.jvm_act.proofs.Framed.{begins_keep_frames}
-use Rattle.jvm_script.specs.Steps.{on_next, enters_as, enters_method, calls_on, calls_static, with_made, makes, calls_by, calls_fit, calls_named, calling, StepsTo, StepsAt}
+use Rattle.jvm_script.specs.Steps.{on_next, enters_as, enters_method, calls_on, calls_static, with_made, makes, calls_by, calls_fit, calls_named, calling, CallsOwn, StepsTo, StepsAt}
 use Rattle.jvm_script.proofs.Worlds.{script_is, after, along}
 use Rattle.jvm_script.proofs.Entered.{no_callers}
 
@@ -70,29 +70,26 @@ site_of p o s h =
     let found = stands p (method_at (node_of (look p) (name_at p s.class.0)) (s.place, h.head)) s (record { within = h.within; head = h.head; there = h.there; found = refl }) in
     record { class = h.within; method = found.method; there = found.there }
 
-module _ (p : List Info) (a : ℕ) (name desc : Name) (k : CallKind) (is_desc : desc ≡ plain_descriptor) where
-  abbrev go : Limits → def.World → MethodAt → Effect
-  go q v m = calls_fit p k m q v
+pub own_plain : (p : List Info) (a : ℕ) (name desc : Name) (o : Option Site) → desc ≡ plain_descriptor → OwnDeclared p a name desc o → OwnDeclared p a name plain_descriptor o
+own_plain p a name desc o is h = subst (λ (d : Name). OwnDeclared p a name d o) is h
 
-  pub named_none : (o : Option Site) (new : NumberedFrames) (w u : World) → o ≡ None → OwnDeclared p a name desc o → StepsTo p (calls_named p a name k) turn.NoRow new w u
-  named_none o new w u is own q limits v m =
-      let h : first_declared name desc (take 1 (rising_at p a)) ≡ None = subst (OwnDeclared p a name desc) is own in
-      ap (λ (d : Name). on_some (first_declared name d (take 1 (rising_at p a))) (go q v)) (sym is_desc)
-      ∙ ap (λ o. on_some o (go q v)) h
+pub own_site : (p : List Info) (a : ℕ) (name : Name) (o : Option Site) → OwnDeclared p a name plain_descriptor o → IfSome o (IsSite p)
+own_site p a name None h = tt
+own_site p a name (Some s) h = site_of p (first_declared name plain_descriptor (take 1 (rising_at p a))) s h
 
-  pub named_some : (o : Option Site) (s : Site) (t : Turn) (new : NumberedFrames) (w u : World) → o ≡ Some s → OwnDeclared p a name desc o → StepsAt p s (calls_fit p k) t new w u → StepsTo p (calls_named p a name k) t new w u
-  named_some o s t new w u is own steps q limits =
-      let h : IsMethod p (first_declared name desc (take 1 (rising_at p a))) s = subst (OwnDeclared p a name desc) is own in
+module _ (p : List Info) (k : CallKind) where
+  pub named_none : (o : Option Site) (new : NumberedFrames) (w u : World) → o ≡ None → CallsOwn p o k turn.NoRow new w u
+  named_none o new w u is a name own q limits v m =
+      let h : first_declared name plain_descriptor (take 1 (rising_at p a)) ≡ None = subst (OwnDeclared p a name plain_descriptor) is own in
+      ap (λ o. on_some o (λ m. calls_fit p k m q v)) h
+
+  pub named_some : (o : Option Site) (s : Site) (t : Turn) (new : NumberedFrames) (w u : World) → o ≡ Some s → StepsAt p s (calls_fit p k) t new w u → CallsOwn p o k t new w u
+  named_some o s t new w u is steps a name own q limits =
+      let h : IsMethod p (first_declared name plain_descriptor (take 1 (rising_at p a))) s = subst (OwnDeclared p a name plain_descriptor) is own in
       let m : MethodAt = method_at (node_of (look p) (name_at p s.class.0)) (s.place, h.head) in
       along p (calls_named p a name k q) (calls_fit p k m q) t new w u
-      (λ v n.
-      ap (λ (d : Name). on_some (first_declared name d (take 1 (rising_at p a))) (go q v)) (sym is_desc)
-      ∙ ap (λ o. on_some o (go q v)) h.found)
+      (λ v n. ap (λ o. on_some o (λ m. calls_fit p k m q v)) h.found)
       (steps m (record { within = h.within; head = h.head; there = h.there; found = refl }) q limits)
-
-pub named_site : (p : List Info) (a : ℕ) (name desc : Name) (o : Option Site) (s : Site) → o ≡ Some s → OwnDeclared p a name desc o → IsSite p s
-named_site p a name desc o s is own =
-    site_of p (first_declared name desc (take 1 (rising_at p a))) s (subst (OwnDeclared p a name desc) is own)
 
 -- ---- the rows of the definitions, by what is next in the script
 
@@ -189,9 +186,9 @@ pub no_script : (p : List Info) (w u : World) (new : NumberedFrames) → w.scrip
 no_script p w u new none v m =
     ap (rules.calls_next (look p) w.limits v) (script_is p w v m ∙ ap (map call_of) none)
 
-module _ (p : List Info) (c k : code.Call) (w mid : World) (ok : IsWorldOf p w) (there : slice_get w.script.rest 0 ≡ Some k) (copy : c ≡ k) (moves : Moves p w mid (consult (look p) c.class)) (kept : mid.limits ≡ w.limits) where
+module _ (p : List Info) (c : code.Call) (w : World) (ok : IsWorldOf p w) (there : slice_get w.script.rest 0 ≡ Some c) where
   script_at : (v : def.World) → Means p w v → Script v.script c
-  script_at v m = script_by v.script w.script.rest c (there ∙ ap Some (sym copy)) (script_is p w v m)
+  script_at v m = script_by v.script w.script.rest c there (script_is p w v m)
 
   pub no_class : (u : World) (new : NumberedFrames) → look p c.class ≡ None → TurnedTo p (calling p w.limits) turn.NoRow new w u
   no_class u new none v m =
@@ -199,19 +196,19 @@ module _ (p : List Info) (c k : code.Call) (w mid : World) (ok : IsWorldOf p w) 
       next_is p w.limits v (call_of c) s.rest ok.program s.is
       ∙ ap (λ o. on_some o (λ m. calls_fit p c.kind m w.limits (consult (look p) c.class v))) (own_none p c.class c.method plain_descriptor ok.program none)
 
-  pub found : (a : ℕ) (t : Turn) (new : NumberedFrames) (u : World) → name_at p a ≡ c.class → StepsTo p (calls_named p a c.method c.kind) t new mid u → TurnedTo p (calling p w.limits) t new w u
-  found a t new u named steps =
+  pub found : (mid : World) (a : ℕ) (o : Option Site) (t : Turn) (new : NumberedFrames) (u : World) → name_at p a ≡ c.class → Moves p w mid (consult (look p) (name_at p a)) → mid.limits ≡ w.limits → OwnDeclared p a c.method plain_descriptor o → CallsOwn p o c.kind t new mid u → TurnedTo p (calling p w.limits) t new w u
+  found mid a o t new u named moves kept own calls =
       after p (calling p w.limits) (calls_named p a c.method c.kind w.limits) t new w mid u
       (λ v m.
       let s = script_at v m in
-      let z = consult (look p) c.class v in
+      let z = consult (look p) (name_at p a) v in
       record {
         world = z;
         means = moves v m;
         left = next_is p w.limits v (call_of c) s.rest ok.program s.is
-            ∙ ap (λ (n : Name). on_some (first_declared c.method plain_descriptor (take 1 (nodes Rising (look p) n))) (λ m. calls_fit p c.kind m w.limits z)) (sym named);
+            ∙ ap (λ (n : Name). on_some (first_declared c.method plain_descriptor (take 1 (nodes Rising (look p) n))) (λ m. calls_fit p c.kind m w.limits (consult (look p) n v))) (sym named);
       })
-      (steps w.limits kept)
+      (calls a c.method own w.limits kept)
 
 -- ---- frames
 

@@ -27,7 +27,7 @@ use Rattle.jvm_unwind.specs.declared.turn.Turn.{Turn}
 use Rattle.jvm_calls.specs.declared.calling.Callee.{Callee}
 use Rattle.jvm_begin.specs.Needs.{Use}
 use Rattle.jvm_link.specs.declared.site.Site.{Site}
-use Rattle.jvm_link.specs.Sites.{IsMethod}
+use Rattle.jvm_link.specs.Sites.{IsMethod, OwnDeclared}
 use Rattle.jvm_act.specs.Turned.{TurnedTo}
 use Rattle.jvm_script.specs.declared.calling.ClassUse.{ClassUse}
 use Rattle.jvm_script.specs.declared.calling.ClassUse.TheVariants as how
@@ -127,6 +127,13 @@ abbrev pub StepsAt :
     List Info → Site → (MethodAt → Step) → Turn → NumberedFrames → World → World → Type 0
 StepsAt p s step t new w u =
     (m : MethodAt) → IsMethod p (Some m) s → StepsTo p (step m) t new w u
+
+-- The method that a class itself declares is called, if it does, whatever found it.
+abbrev pub CallsOwn :
+    List Info → Option Site → CallKind → Turn → NumberedFrames → World → World → Type 0
+CallsOwn p own kind t new w u =
+    (a : ℕ) (name : Name) → OwnDeclared p a name plain_descriptor own →
+    StepsTo p (calls_named p a name kind) t new w u
 
 -- The first frame is put on, or there is none still.
 abbrev pub StaysOrFirst : Option ℕ → Callee → NumberedFrames → NumberedFrames → Type 0
