@@ -47,15 +47,6 @@ impl Heap {
         }
     }
 
-    /// No object, and room for so many words. The place of the list is kept.
-    pub fn clear(&mut self, limit: u32)
-        ensures { self.new ≡ no_objects limit }
-    {
-        self.objects.clear();
-        self.words = 0;
-        self.limit = limit;
-    }
-
     /// Makes an object of a class with such fields, each with its first value (JVMS 2.3, 2.4). It takes one word, and one for each field.
     pub fn object(&mut self, class: ClassId, fields: &Seq<Kind>) -> Result<u32, HeapFault>
         ensures number { IfOk result (λ number. number ≡ next_number self.old) }

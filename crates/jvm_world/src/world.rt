@@ -140,46 +140,6 @@ impl World {
         })
     }
 
-    /// All is as at the start of a test within these limits, whatever was before: nothing has
-    /// happened but that the test class was consulted. It takes back what was marked and stored and
-    /// keeps the places, so no list grows anew. Where memory runs out nothing changes.
-    pub fn begin(
-        &mut self,
-        alloc: Global,
-        p: &Program,
-        test: &Test,
-        limits: Limits,
-    ) -> Result<(), Memory>
-        requires classes { AreMachineClasses p.now self.old.classes }
-        requires small { limits.heap < 2 ^ 31 }
-        ensures means { OnOk result (
-            Means p.now self.new (start (look p.now) (test_of test.now)).world) }
-        ensures world { OnOk result (IsWorldOf p.now self.new) }
-        ensures limits { OnOk result (self.new.limits ≡ limits) }
-        ensures err { OnErr result (self.new ≡ self.old) }
-    {
-        let mut consulted = Consulted::new(alloc, p)?;
-        p.consult_name(&mut consulted, &test.class)?;
-        let expected = copy_name(&test.expected)?;
-        let calls = test.script.copy()?;
-        let _ = p.len();
-        self.heap.clear(limits.heap);
-        self.kept = Kept::new(alloc);
-        self.statics.clear();
-        self.begun.clear();
-        self.literals.clear();
-        self.class_objects.clear();
-        self.monitors.clear();
-        self.consulted = consulted;
-        self.reached.clear();
-        self.expected = expected;
-        self.instance = None;
-        self.script = Script::new(calls);
-        self.over = None;
-        self.limits = limits;
-        Ok(())
-    }
-
     // ---- classes
 
     /// A class is consulted with all above it. What was consulted isn't known where memory runs out.
