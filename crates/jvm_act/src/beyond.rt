@@ -59,8 +59,8 @@ fn goes_beyond(group: FrameOp) -> bool
     }
 }
 
-/// Executes the instruction at which the running frame stands, whose method has this code. `Some` is
-/// the turn of its row, with a call done; `None` says that frames and world are as they were.
+/// Executes the instruction at which the running frame stands, whose method has this code. `Some`
+/// is the turn of its row, with a call done; `None` says that frames and world are as they were.
 ///
 /// For which instructions it answers `None` is no promise. As it stands, these are those that touch
 /// the frame alone, those that name nothing, and `monitorenter`.

@@ -101,7 +101,8 @@ fn class_object(alloc: Global, class: ClassId, name: &Name) -> Result<Object, Me
 }
 
 impl World {
-    /// The world at the start of a test: nothing has happened but that the test class was consulted.
+    /// The world at the start of a test: nothing has happened but that the test class was
+    /// consulted.
     pub fn start(
         alloc: Global,
         p: &Program,
@@ -142,7 +143,8 @@ impl World {
 
     // ---- classes
 
-    /// A class is consulted with all above it. What was consulted isn't known where memory runs out.
+    /// A class is consulted with all above it. What was consulted isn't known where memory runs
+    /// out.
     pub fn consult(&mut self, p: &Program, class: ClassId) -> Result<(), Memory>
         requires world { IsWorldOf p.now self.old }
         requires class { class.0 < length p.now }
@@ -338,8 +340,8 @@ impl World {
         Ok(Some(object))
     }
 
-    /// The machine throws an exception of its own; the number of its object. There is none where the
-    /// heap would be passed, and then the run is over.
+    /// The machine throws an exception of its own; the number of its object. There is none where
+    /// the heap would be passed, and then the run is over.
     pub fn throw(&mut self, alloc: Global, p: &Program, fault: Fault) -> Result<Option<u32>, Memory>
         requires world { IsWorldOf p.now self.old }
         ensures throws { IfOk result (λ x. Throws p.now self.old self.new fault x) }
@@ -365,7 +367,8 @@ impl World {
         Ok(())
     }
 
-    /// One monitorenter of an object less is open. It is false, and nothing changes, where none was.
+    /// One monitorenter of an object less is open. It is false, and nothing changes, where none
+    /// was.
     pub fn exit_monitor(&mut self, p: &Program, object: u32) -> bool
         requires world { IsWorldOf p.now self.old }
         ensures exits { Exits p.now object self.old self.new result }
