@@ -53,7 +53,8 @@ abbrev is_fit : Result Class ClassFault → Bool
 is_fit (Err f) = false
 is_fit (Ok class) = makes_first class (class_mutants class)
 
--- By computing: each definition of the reading is opened, since each kind of entry, instruction and frame is a case of it.
+-- By computing: each definition of the reading is opened, since each kind of entry, instruction and
+-- frame is a case of it.
 fit : is_fit (class_of_file sample_file) ≡ true
 unfolding class_of_file class_at counted_at member_at major_at magic_at pool_at places_at place_at entry_at text_at one_at double_at float_at handle_at handle_kind_at integer_at long_at two_at u8_at units_within utf16_chars many_at whole_at parameters_at many_by attr_at code_content_at table_at insn_at formed_at wide_at jump_at array_at constant_at dimensions_at far_jump_at increment_at interface_at local_at long_constant_at lookup_at lookup_body_at named_at pair_at refused_at small_constant_at small_number_at operand_table_at table_items_at wide_increment_at wide_local_at wide_number_at hidden-the_row-Attr-0 shape-the_row-Attr-0 shown-the_row-Attr-0 roll-Code far_at frame_at full_at frame_one_at same_at vitem_at line_at enum_at front_at note_at token_at tokens_at row_at hidden roll shown out out-Body out-Code
 fit = refl

@@ -12,10 +12,12 @@ use Rattle.mutant_apply.specs.Fitting.{Fits}
 abbrev pub SpelledIsNamed : Type 0
 SpelledIsNamed = (class : Class) → IsClass class → IsNamedClass class
 
--- The bytes that an edit gives are the class file of the edited class, where a class file is edited and the edit fits.
+-- The bytes that an edit gives are the class file of the edited class, where a class file is edited
+-- and the edit fits.
 abbrev pub EditsAreSpelled : Type 0
 EditsAreSpelled = (bytes : List ℕ) (class : Class) (edit : Edit) (made : Class × List ℕ) → Spells bytes class → Fits class edit → applied class edit ≡ Some made → Spells made.1 made.0
 
--- The bytes of each mutant of a class file are the class file of the class that the mutant's edit makes.
+-- The bytes of each mutant of a class file are the class file of the class that the mutant's edit
+-- makes.
 abbrev pub MutantsAreSpelled : Type 0
 MutantsAreSpelled = (bytes : List ℕ) (class : Class) → Spells bytes class → All (λ mutant. (made : Class × List ℕ) → applied class mutant.edit ≡ Some made → Spells made.1 made.0) (class_mutants class)

@@ -7,7 +7,8 @@ use Rattle.mutator_ops.specs.Mutants.{class_mutants}
 use Rattle.mutator_ops.specs.declared.mutant.Mutant.{Mutant}
 use Rattle.mutant_apply.specs.Edited.{applied}
 
--- A class A with `static boolean f(int)`, which answers whether its argument is below 0, with its line and its frame.
+-- A class A with `static boolean f(int)`, which answers whether its argument is below 0, with its
+-- line and its frame.
 abbrev pub sample_file : List ℕ
 sample_file =
     0xca ∷ 0xfe ∷ 0xba ∷ 0xbe ∷ 0x00 ∷ 0x00 ∷ 0x00 ∷ 0x34 ∷ 0x00 ∷ 0x0a ∷ 0x01 ∷ 0x00 ∷ 0x01 ∷ 0x41 ∷ 0x07 ∷ 0x00 ∷

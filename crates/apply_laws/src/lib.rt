@@ -1,4 +1,5 @@
-//! Laws of edited class files, over the definitions of the crates below alone. Each law is the contract of a function that does nothing but call the laws on which it stands.
+//! Laws of edited class files, over the definitions of the crates below alone. Each law is the
+//! contract of a function that does nothing but call the laws on which it stands.
 #![tactic(auto)]
 
 ghost use Rattle.apply_laws.specs.Spelled.{SpelledIsNamed, EditsAreSpelled, MutantsAreSpelled};
@@ -8,12 +9,14 @@ use class_reader::files_are_read_as_spelled;
 use class_writer::{what_is_spelled_is_written, what_is_written_is_spelled};
 use mutant_apply::{applied_is_made, edit_keeps_form, mutants_fit};
 
-/// A class that a file spells is named as a class has to be that is written: its indices name what they have to, and its numbers are in the ranges of their fields.
+/// A class that a file spells is named as a class has to be that is written: its indices name what
+/// they have to, and its numbers are in the ranges of their fields.
 pub fn what_is_spelled_is_named()
     ensures { SpelledIsNamed }
 {}
 
-/// The bytes of an edited class file are a class file again: they spell the class that the edit makes, where the edit fits the class.
+/// The bytes of an edited class file are a class file again: they spell the class that the edit
+/// makes, where the edit fits the class.
 pub fn edits_are_spelled()
     ensures { EditsAreSpelled }
 {
@@ -24,7 +27,8 @@ pub fn edits_are_spelled()
     applied_is_made();
 }
 
-/// The bytes of each mutant of a class file are a class file again: they spell the class that the edit makes.
+/// The bytes of each mutant of a class file are a class file again: they spell the class that the
+/// edit makes.
 pub fn mutants_are_spelled()
     ensures { MutantsAreSpelled }
 {

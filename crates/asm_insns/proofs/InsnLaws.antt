@@ -1,4 +1,5 @@
--- An instruction that a line states has the form of its opcode, and leads to instructions of its method.
+-- An instruction that a line states has the form of its opcode, and leads to instructions of its
+-- method.
 use Rattle.std.proofs.Common.{◌≡◌, ℕ, zero, suc, lit<, ◌+◌, ◌-◌, ◌≤◌, ◌<◌, ◌^◌, Bool, true, false, cond, List, [], ◌∷◌, length, Option, Some, None, refl, sym, ap, subst, ◌∙◌, arith}
 use Rattle.std.proofs.lemmas.Int.{ints}
 use Rattle.std.specs.Prelude.{ℤ, pos, negsuc, map, ◌==◌, ◌+ℤ◌, ◌≤ℤ◌, nat_lt, IfSome, FitsSigned, option_and_then, codes}

@@ -1,4 +1,5 @@
--- The annotations of a member or of a class, and the lines and frames of a code that fits, are attributes that name what they have to.
+-- The annotations of a member or of a class, and the lines and frames of a code that fits, are
+-- attributes that name what they have to.
 use Rattle.std.proofs.Common.{◌≡◌, ℕ, zero, suc, ◌+◌, ◌^◌, ◌<◌, Bool, true, false, cond, List, [], ◌∷◌, ◌++◌, length, Option, Some, None, Result, Ok, Err, refl, sym, ap, subst, ◌∙◌, lit<, arith}
 use Rattle.std.specs.Prelude.{◌||◌, ◌&&◌, ◌==◌, nat_lt, All, IfSome, codes}
 use Rattle.std.specs.List.{AllByRecursion, list_all}

@@ -1,4 +1,5 @@
--- The instructions, frames and rows of a code that fits name what they have to, once they have indices.
+-- The instructions, frames and rows of a code that fits name what they have to, once they have
+-- indices.
 use Rattle.std.proofs.Common.{◌≡◌, ℕ, ◌+◌, ◌^◌, ◌<◌, Bool, true, false, cond, List, [], ◌∷◌, length, Option, Some, None, refl, ap, ◌∙◌, lit<}
 use Rattle.std.specs.Prelude.{◌-◌, ◌==◌, ◌||◌, nat_lt, nat_le, All, IfSome, slice_index}
 use Rattle.std.specs.List.{AllByRecursion}

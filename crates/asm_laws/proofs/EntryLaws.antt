@@ -1,4 +1,5 @@
--- The index that numbering gives for an entry says what was stated, under each pool that goes on from the list at last.
+-- The index that numbering gives for an entry says what was stated, under each pool that goes on
+-- from the list at last.
 use Rattle.std.proofs.Common.{◌≡◌, ℕ, ◌+◌, ◌^◌, ◌<◌, ◌⊎◌, inl, inr, false, List, length, Option, Some, refl, sym, ap, subst, ◌∙◌}
 use Rattle.std.specs.Prelude.{IsSome, IsSomeAnd, option_and_then}
 use Rattle.class_model.specs.Text.{IsUnits}

@@ -1,4 +1,5 @@
--- The entries that operands name fit, and wherever a pool has them, they are what the opcode may name.
+-- The entries that operands name fit, and wherever a pool has them, they are what the opcode may
+-- name.
 use Rattle.std.proofs.Common.{◌≡◌, ℕ, ◌+◌, Bool, true, cond, List, [], ◌∷◌, Some, None, Result, Ok, Err, refl, ap, ◌∙◌}
 use Rattle.std.specs.Prelude.{◌==◌, IfSome, sum_by, codes, nat_lt}
 use Rattle.std.specs.Option.{option_map}

@@ -1,4 +1,5 @@
--- An instruction that a line states fits: wherever a pool has its entry, it names what its opcode may name.
+-- An instruction that a line states fits: wherever a pool has its entry, it names what its opcode
+-- may name.
 use Rattle.std.proofs.Common.{◌≡◌, ℕ, Bool, true, false, List, [], ◌∷◌, length, Option, Some, None, refl, sym, subst}
 use Rattle.std.specs.Prelude.{◌==◌, IfSome, codes, option_and_then}
 use Rattle.std.specs.Option.{option_map}

@@ -1,4 +1,5 @@
--- What stands in a line are code units: its text, its words and the parts of these, and the text between quotes.
+-- What stands in a line are code units: its text, its words and the parts of these, and the text
+-- between quotes.
 use Rattle.std.proofs.Common.{◌≡◌, ℕ, zero, suc, ◌+◌, ◌-◌, ◌*◌, ◌/◌, ◌%◌, ◌<◌, ◌^◌, Bool, true, false, cond, List, [], ◌∷◌, ◌++◌, take, drop, Option, Some, None, inl, inr, refl, arith}
 use Rattle.std.specs.Prelude.{IfSome, ◌==◌, nat_lt, nat_le, filter, position, option_to_list, option_and_then}
 use Rattle.std.specs.Option.{option_map}

@@ -1,4 +1,5 @@
--- How a constant pool grows: an entry stays where it was added, and the index that was given for it names it in each pool that goes on so and has room in a file.
+-- How a constant pool grows: an entry stays where it was added, and the index that was given for it
+-- names it in each pool that goes on so and has room in a file.
 use Rattle.std.proofs.Common.{◌≡◌, ℕ, zero, suc, ◌+◌, ◌-◌, ◌^◌, ◌<◌, Bool, true, false, eqb, List, [], ◌∷◌, ◌++◌, length, Option, Some, None, refl, sym, ap, subst, ◌∙◌, arith}
 use Rattle.std.specs.Prelude.{◌↔◌, ◌==◌, ◌&&◌, ℤ, IsTrue, IsSomeAnd, slice_get, get_or, position}
 use Rattle.std.specs.List.{AllByRecursion}
@@ -115,7 +116,8 @@ same_is one c e = absurd cc
 
 -- ---- where `Second` stands
 
--- `Second` stands exactly behind each entry that takes two places, the first where `second` says so.
+-- `Second` stands exactly behind each entry that takes two places, the first where `second` says
+-- so.
 abbrev pub AreSeconds : Bool → List Const → Type 0
 AreSeconds second [] = second ≡ false
 AreSeconds second (c ∷ cs) = ((Some c ≡ Some const.Second) ↔ IsTrue second) × AreSeconds (is_wide c) cs

@@ -1,4 +1,5 @@
--- What a stated class keeps, so that its file's form names what it has to: its texts are in the grammar, and its numbers are in the ranges of their fields (this project's own).
+-- What a stated class keeps, so that its file's form names what it has to: its texts are in the
+-- grammar, and its numbers are in the ranges of their fields (this project's own).
 use Rattle.std.specs.Prelude.{◌≡◌, ℕ, ◌<◌, ◌^◌, Bool, true, IsTrue, IfSome, FitsSigned, List, length, All, Some, None}
 use Rattle.std.specs.Int.{w32, w64}
 use Rattle.std.specs.Result.{is_ok}

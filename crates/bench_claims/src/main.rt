@@ -1,5 +1,6 @@
-//! Workers that draw cells from a claim table until none is left. With two words, the numbers of threads and of cells, it
-//! prints how many nanoseconds that took; with none, the number that would be drawn next.
+//! Workers that draw cells from a claim table until none is left. With two words, the numbers of
+//! threads and of cells, it prints how many nanoseconds that took; with none, the number that would
+//! be drawn next.
 #![tactic(auto)]
 
 ghost use Rattle.std.specs.Prelude.{◌≡◌};

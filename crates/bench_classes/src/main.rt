@@ -1,8 +1,9 @@
-//! Reads each class file below a folder: the one that the first word names, else the one that it runs in. The second word says
-//! what is done with a class then: `read` nothing, `list` its mutants are listed, and else it is written and the bytes are
-//! compared. Prints how many files came out alike (or were read), how many were refused by which fault, each file that came out
-//! otherwise, or whose fault is neither one of floats, nor of dynamic calls, nor of its version, and how many mutants were
-//! listed.
+//! Reads each class file below a folder: the one that the first word names, else the one that it
+//! runs in. The second word says what is done with a class then: `read` nothing, `list` its mutants
+//! are listed, and else it is written and the bytes are compared. Prints how many files came out
+//! alike (or were read), how many were refused by which fault, each file that came out otherwise,
+//! or whose fault is neither one of floats, nor of dynamic calls, nor of its version, and how many
+//! mutants were listed.
 #![tactic(auto)]
 
 use class_model::{Class, ClassFault, LayoutFault, Memory};

@@ -1,6 +1,7 @@
-//! Makes the class of each mutant of a class file, linked and with its bytes: anew from the whole edited class (`before`), or by
-//! the parts that the edit makes anew, as `mutant_runs` does it (`now`). Words: the class file, the way, and how many times over.
-//! Prints how many mutants there are, how many have a layout, and how many bytes were made; with no words, of `A.class` by both
+//! Makes the class of each mutant of a class file, linked and with its bytes: anew from the whole
+//! edited class (`before`), or by the parts that the edit makes anew, as `mutant_runs` does it
+//! (`now`). Words: the class file, the way, and how many times over. Prints how many mutants there
+//! are, how many have a layout, and how many bytes were made; with no words, of `A.class` by both
 //! ways.
 #![tactic(auto)]
 

@@ -3,8 +3,9 @@ ghost use Rattle.std.specs.Prelude.{◌≡◌, length};
 use claim_core::{ClaimState, Event, Reply};
 use std::test::Fail;
 
-// The six mutants of a method that asks whether a number is below zero, in the order of their identifiers. Its tests
-// call it with -1 (place 0) and with 0 (place 1), and the bits of each number are the places that detect a mutant.
+// The six mutants of a method that asks whether a number is below zero, in the order of their
+// identifiers. Its tests call it with -1 (place 0) and with 0 (place 1), and the bits of each
+// number are the places that detect a mutant.
 const BELOW_ZERO: [u64; 6] = [0b10, 0b11, 0b01, 0b00, 0b00, 0b10];
 
 // The least of these places, worked out by hand.

@@ -1,8 +1,9 @@
-//! Tests and wrong bodies of the claims: of the machine over events (`claim_core`) and of the table under threads
-//! (`mutant_table`).
+//! Tests and wrong bodies of the claims: of the machine over events (`claim_core`) and of the table
+//! under threads (`mutant_table`).
 //!
-//! Each function here has the contract of the public call that its body makes, word for word. An edit in `must-fail/` puts
-//! a wrong body in its place: what the contract refuses here, it refuses of the call itself.
+//! Each function here has the contract of the public call that its body makes, word for word. An
+//! edit in `must-fail/` puts a wrong body in its place: what the contract refuses here, it refuses
+//! of the call itself.
 #![tactic(auto)]
 
 mod claims;

@@ -27,7 +27,8 @@ fn three_cells_are_claimed(rt: HostRuntime) -> Result<(), Fail> {
 
 const CELLS: u64 = 100_000;
 
-// Draws until no cell is left, counts each cell that it draws, and detects mutant 0 at a place of 3 or more.
+// Draws until no cell is left, counts each cell that it draws, and detects mutant 0 at a place of 3
+// or more.
 fn draw_all(table: &ClaimTable, seat: &mut ClaimSeat, drawn: &[AtomicU64])
     requires seat { IsSeatOf table.now seat.old }
     requires mutant { 0 < mutants_of table.now }

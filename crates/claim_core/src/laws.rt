@@ -14,7 +14,8 @@ pub fn runs_agree()
     ensures { (mutants cells workers : ℕ) → RunsAgree mutants cells workers }
 {}
 
-/// Law: where claims agree and all cells of a table are done, each least place is the least of the mutant's detecting cells.
+/// Law: where claims agree and all cells of a table are done, each least place is the least of the
+/// mutant's detecting cells.
 pub fn whole_run_is_least()
     ensures { (claims : Claims) → WholeRunsEndAtLeast claims }
 {}

@@ -1,4 +1,5 @@
-//! Which cell of the run table a worker runs, and which it may skip, as a machine over events that knows no thread.
+//! Which cell of the run table a worker runs, and which it may skip, as a machine over events that
+//! knows no thread.
 #![tactic(auto)]
 
 mod events;

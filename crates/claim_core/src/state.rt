@@ -60,8 +60,8 @@ impl ClaimState {
         })
     }
 
-    /// Does what the event says. A worker that was told that no cell is left is told so again, and draws no more. On want
-    /// of memory the state is as it was.
+    /// Does what the event says. A worker that was told that no cell is left is told so again, and
+    /// draws no more. On want of memory the state is as it was.
     pub fn step(&mut self, event: &Event) -> Result<Reply, Memory>
         requires { IsInRange self.old event.now }
         ensures state { OnOk result (self.new ≡ after event.now self.old) }

@@ -1,4 +1,5 @@
--- The frames, rows and lines of a stated code in form may be written, and so may its attributes, its members and its class.
+-- The frames, rows and lines of a stated code in form may be written, and so may its attributes,
+-- its members and its class.
 use Rattle.std.proofs.Common.{◌≡◌, ℕ, zero, suc, ◌+◌, ◌-◌, ◌≤◌, ◌<◌, ◌^◌, Bool, true, false, cond, lit<, List, [], ◌∷◌, ◌++◌, length, Option, Some, None, Ok, Err, refl, sym, subst, ◌∙◌, arith}
 use Rattle.std.specs.Prelude.{nat_lt, nat_le, ◌==◌, All, codes, slice_index}
 use Rattle.std.proofs.lemmas.Bool.{ltb-true, leb-false}

@@ -1,4 +1,5 @@
--- A walk with more levels than the rank of its first class is the same walk, and each class of it is as in any other.
+-- A walk with more levels than the rank of its first class is the same walk, and each class of it
+-- is as in any other.
 use Rattle.std.proofs.Common.{◌≡◌, ◌∙◌, sym, refl, ap, subst, ◌⊎◌, inl, inr, ℕ, zero, suc, ◌<◌, ◌≤◌, ◌^◌, Bool, true, false, List, [], ◌∷◌, ◌++◌, map, drop, Option, None, Some, slice_get, arith, append_assoc}
 use Rattle.std.specs.Prelude.{◌||◌, if◌then◌else◌, is_some}
 use Rattle.program_rules.specs.Names.{Name, same, is_listed}

@@ -1,4 +1,5 @@
--- A walk over a class and all above it: each task that is made leaves what all tasks find as it was.
+-- A walk over a class and all above it: each task that is made leaves what all tasks find as it
+-- was.
 use Rattle.std.proofs.Common.{◌≡◌, ◌∙◌, sym, refl, ap, subst, ℕ, zero, suc, ◌+◌, ◌<◌, ◌≤◌, Bool, true, false, List, [], ◌∷◌, ◌++◌, length, length-append, map, Some, slice_get, arith, append_assoc}
 use Rattle.program_rules.specs.Names.{Name}
 use Rattle.program_rules.specs.Outlines.{outline_of}

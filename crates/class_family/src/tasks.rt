@@ -89,8 +89,8 @@ fn push_from(tasks: &mut Vec<Task>, links: &Links, from: usize) -> Result<(), Me
     Ok(())
 }
 
-/// The interfaces are entered before all else, the first one first. Of these supers the first is the
-/// superclass, where the class names one.
+/// The interfaces are entered before all else, the first one first. Of these supers the first is
+/// the superclass, where the class names one.
 pub fn push_interfaces(tasks: &mut Vec<Task>, links: &Links, named: bool) -> Result<(), Memory>
     ensures { OnOk result (PushesInterfaces links.now named tasks.old.items tasks.new.items) }
 {

@@ -1,4 +1,5 @@
--- A class file that an edit makes of another one means the other's class but for the body of the edited method.
+-- A class file that an edit makes of another one means the other's class but for the body of the
+-- edited method.
 use Rattle.std.proofs.Common.{◌≡◌, ◌∙◌, sym, refl, ap, ℕ, zero, suc, ◌<◌, ◌^◌, Bool, true, false, List, [], ◌∷◌, ◌++◌, map, length, None, Some, slice_get, subst}
 use Rattle.std.specs.Prelude.{slice_set, nat_lt, ◌&&◌}
 use Rattle.std.specs.List.{list_all}

@@ -1,4 +1,5 @@
--- The line of an instruction is that of the last row that starts there, else that of the instruction before it.
+-- The line of an instruction is that of the last row that starts there, else that of the
+-- instruction before it.
 use Rattle.std.proofs.Common.{◌≡◌, ◌∙◌, sym, refl, ap, ℕ, zero, suc, ◌+◌, ◌<◌, ◌≤◌, Bool, true, false, ◌≢◌, ◌⊎◌, inl, inr, List, [], ◌∷◌, ◌++◌, length, replicate, get_or, Option, None, Some, slice_get, slice_set, arith}
 use Rattle.std.specs.Prelude.{◌&&◌, nat_lt, nat_le, nat_eq, if◌then◌else◌}
 use Rattle.std.specs.Option.{unwrap_or}

@@ -1,4 +1,5 @@
--- What an index means in a run-time constant pool is what it means in the pool that it is made of; and the switches of a code by their numbers.
+-- What an index means in a run-time constant pool is what it means in the pool that it is made of;
+-- and the switches of a code by their numbers.
 use Rattle.std.proofs.Common.{◌≡◌, ◌∙◌, sym, refl, ap, ℕ, zero, suc, ◌+◌, ◌-◌, Bool, true, false, List, [], ◌∷◌, ◌++◌, map, length, drop, Option, None, Some, slice_get, arith, subst}
 use Rattle.std.specs.Prelude.{ℤ, ◌==◌, if◌then◌else◌, option_and_then}
 use Rattle.std.specs.Option.{option_map}

@@ -1,4 +1,5 @@
--- A text has a kind, or a method's type, exactly where reading it gives one. For the crates that read pools.
+-- A text has a kind, or a method's type, exactly where reading it gives one. For the crates that
+-- read pools.
 use Rattle.std.proofs.Common.{◌≡◌, ℕ, List, Option, Some, None, Ok, IsSome, refl, sym, ap, subst, ◌∙◌}
 use Rattle.std.specs.Option.{ok_or}
 use Rattle.class_model.specs.Descriptor.{kind_of, method_type}

@@ -45,10 +45,10 @@ one_unmet (Open place) = 0
 one_unmet (Ranked rank) = 0
 one_unmet Cyclic = 0
 
--- What the lists of the walk are at each moment. `found` is what each class is, `looked` how many of
--- its supers were looked at; `stack` are the classes that were entered and aren't closed; `bounds`
--- parts them, so that those of one part stand above one another; `path` are the places of open
--- classes with supers that weren't looked at.
+-- What the lists of the walk are at each moment. `found` is what each class is, `looked` how many
+-- of its supers were looked at; `stack` are the classes that were entered and aren't closed;
+-- `bounds` parts them, so that those of one part stand above one another; `path` are the places of
+-- open classes with supers that weren't looked at.
 pub record IsWalk (g : List Links) (found : List Standing) (looked stack bounds path : List ℕ)
     (next : ℕ) : Type 0 where
   pub each : length found ≡ length g

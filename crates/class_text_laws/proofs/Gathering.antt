@@ -1,4 +1,5 @@
--- What is gathered of a list place by place, from the first to the last, is that list where it stands in the order of the places.
+-- What is gathered of a list place by place, from the first to the last, is that list where it
+-- stands in the order of the places.
 use Rattle.std.proofs.Common.{◌≡◌, ◌≢◌, ◌∙◌, refl, sym, ap, subst, ◌⊎◌, inl, inr, ℕ, ◌+◌, ◌<◌, ◌≤◌, Bool, true, false, cond, List, [], ◌∷◌, ◌++◌, length, filter, arith}
 use Rattle.std.specs.Prelude.{◌==◌}
 use Rattle.std.proofs.lemmas.Bool.{ne_eqb, eq-eqb}

@@ -15,7 +15,8 @@ Takes-then input front middle back rest first second = record {
   rest_fits = second.rest_fits;
 }
 
--- A value, and behind it another, where the first one and its place tell how the second is read. `front` is what of the whole was spelled first.
+-- A value, and behind it another, where the first one and its place tell how the second is read.
+-- `front` is what of the whole was spelled first.
 pub chain : {F A B : Type 0} (first : Reader F A) (spell_first : Speller A) (P : A → Type 0) (second : Input → A → Reader F B) (front : B → A) (spell_second : Speller B) (Q : B → Type 0)
     → IsCodecAt first spell_first P → ((input : Input) (value : A) → P value → IsCodecAt (second input value) spell_second (λ whole. Q whole × (front whole ≡ value))) → ((whole : B) → Q whole → P (front whole))
     → IsCodecAt (λ input. first input >>= λ x. second input x.0 x.1) (λ at whole. spell_first at (front whole) ++ spell_second (at + length (spell_first at (front whole))) whole) Q

@@ -1,4 +1,5 @@
--- Reading values one after the other, as a loop does: what its answers cite. The loop keeps that what it has read, in front of what it is still to read, is the whole.
+-- Reading values one after the other, as a loop does: what its answers cite. The loop keeps that
+-- what it has read, in front of what it is still to read, is the whole.
 use Rattle.std.proofs.Common.{◌≡◌, ℕ, suc, ◌-◌, ◌+◌, ◌≤◌, ◌<◌, false, eqb, List, [], ◌∷◌, ◌++◌, length, Result, Ok, Err, refl, sym, ap, ◌∙◌, append_assoc, arith}
 use Rattle.std.proofs.lemmas.List.{append-nil}
 use Rattle.codec_rules.specs.Input.{Input, IsBytes}

@@ -1,4 +1,5 @@
--- Bytes that hold no value, as padding: they are read first and judged once the value behind them is read.
+-- Bytes that hold no value, as padding: they are read first and judged once the value behind them
+-- is read.
 use Rattle.std.proofs.Common.{◌≡◌, ℕ, ◌+◌, List, ◌++◌, length, Option, None, Result, Ok, ap, subst, ◌∙◌, append_assoc, arith}
 use Rattle.std.proofs.lemmas.List.{length-append}
 use Rattle.codec_rules.specs.Input.{Input}

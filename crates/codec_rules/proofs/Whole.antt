@@ -106,7 +106,8 @@ all_turn {F} {A} r P shortens none more n later input xs le bytes e false test =
     let u = later a.0.1 b.0 (omega (arith, less.0, le)) less.1 b.1 in
     subst (P input) (ok_is {F = F} (a.0.0 ∷ b.0) xs b.2) (more input a.0.0 a.0.1 b.0 bytes a.1 u)
 
--- What holds of no values where no byte is left, and of one value more where it holds of those behind it, holds of all that are read until no byte is left.
+-- What holds of no values where no byte is left, and of one value more where it holds of those
+-- behind it, holds of all that are read until no byte is left.
 pub whole_all : {F A : Type 0} (read : Reader F A) (P : Input → List A → Type 0) → Shortens read → ((i : Input) → length i.bytes ≡ 0 → P i []) → ((i : Input) (x : A) (rest : Input) (xs : List A) → IsBytes i.bytes → read i ≡ Ok (x, rest) → P rest xs → P i (x ∷ xs))
     → (turns : ℕ) (input : Input) (xs : List A) → length input.bytes ≤ turns → IsBytes input.bytes → whole_at read turns input ≡ Ok xs → P input xs
 unfolding whole_at

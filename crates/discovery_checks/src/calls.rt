@@ -1,5 +1,5 @@
-//! The call of `test_discovery`, with the contract of the function that it calls. A body that such a
-//! contract refuses here, it refuses there too.
+//! The call of `test_discovery`, with the contract of the function that it calls. A body that such
+//! a contract refuses here, it refuses there too.
 
 ghost use Rattle.test_discovery.specs.Discovery.{program_tests, Finds};
 

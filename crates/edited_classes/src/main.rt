@@ -1,8 +1,9 @@
-//! Makes every mutant of each class file below a folder: the one that the first word names, else the one that it runs in.
-//! The bytes of each edited class are read again, and what was read has to be written as these bytes. Where a second word
-//! names a folder, it gets a file for each class file that has mutants: the bytes of each edited class behind their length in
-//! four bytes. Prints how many class files were read and refused, how many mutants had a layout and none, and how many edited
-//! classes were read as another class or not at all, each of these with its class file.
+//! Makes every mutant of each class file below a folder: the one that the first word names, else
+//! the one that it runs in. The bytes of each edited class are read again, and what was read has to
+//! be written as these bytes. Where a second word names a folder, it gets a file for each class
+//! file that has mutants: the bytes of each edited class behind their length in four bytes. Prints
+//! how many class files were read and refused, how many mutants had a layout and none, and how many
+//! edited classes were read as another class or not at all, each of these with its class file.
 #![tactic(auto)]
 
 ghost use Rattle.std.specs.Prelude.{All};

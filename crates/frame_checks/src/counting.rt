@@ -5,8 +5,8 @@ use jvm_frames::Frames;
 use jvm_state::Op;
 use std::alloc::Global;
 
-// Pushes 3 and counts it down to 0: two steps before the loop, seven for each time round, and two to
-// leave it. The return isn't of the frame alone.
+// Pushes 3 and counts it down to 0: two steps before the loop, seven for each time round, and two
+// to leave it. The return isn't of the frame alone.
 fn ops(alloc: Global) -> Result<Vec<Op>, Memory> {
     Ok(vec![in alloc;
         Op::IntConstant(3),

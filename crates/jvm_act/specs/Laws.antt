@@ -95,8 +95,8 @@ ThrowsKeepFrames =
 
 -- ---- what is asked where an object is thrown
 
--- A method that has rows has room for an object on its stack, as all code has that is accepted (JVMS
--- 4.10.1.6).
+-- A method that has rows has room for an object on its stack, as all code has that is accepted
+-- (JVMS 4.10.1.6).
 abbrev pub HasRoomToLand : MethodCode → Type 0
 HasRoomToLand m = (m.linked.rows ≡ []) ⊎ (1 ≤ m.linked.max_stack)
 

@@ -59,8 +59,11 @@ fn goes_beyond(group: FrameOp) -> bool
     }
 }
 
-/// Executes the instruction at which the running frame stands, whose method has this code. Left, with
-/// all as it was, is what touches the frame alone, what names nothing, and `monitorenter`.
+/// Executes the instruction at which the running frame stands, whose method has this code. `Some`
+/// is the turn of its row, with a call done; `None` says that frames and world are as they were.
+///
+/// For which instructions it answers `None` is no promise. As it stands, these are those that touch
+/// the frame alone, those that name nothing, and `monitorenter`.
 #[tactic(auto, using(crate::proofs::Executed::op_next, crate::proofs::Executed::op_returns, crate::proofs::Further::stands_in, crate::proofs::Further::turned))]
 pub fn act_beyond(
     frames: &mut Frames,

@@ -49,8 +49,8 @@ pub enum ClassUse {
     Test,
 }
 
-/// `ldc` of the text at an index; `newarray` of elements by their number; the use of the class at an
-/// index.
+/// `ldc` of the text at an index; `newarray` of elements by their number; the use of the class at
+/// an index.
 #[derive(Clone, Copy)]
 pub enum ClassOp {
     Text(u32),

@@ -15,8 +15,8 @@ use jvm_unwind::{Turn, unwind};
 use jvm_world::World;
 use std::alloc::Global;
 
-/// One step of an object that is thrown: a handler of the method is entered, or the running frame is
-/// popped.
+/// One step of an object that is thrown: a handler of the method is entered, or the running frame
+/// is popped.
 #[tactic(auto, using(crate::proofs::Handled::handled))]
 pub fn unwind_frame(
     frames: &mut Frames,

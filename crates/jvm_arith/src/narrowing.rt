@@ -6,8 +6,8 @@ ghost use Rattle.jvm_arith.specs.Narrowing.{narrowed};
 
 use class_model::Kind;
 
-/// What is left of an int at a kind: of a boolean its low bit, of a byte, a char and a short its low
-/// bits. Other kinds leave it as it is.
+/// What is left of an int at a kind: of a boolean its low bit, of a byte, a char and a short its
+/// low bits. Other kinds leave it as it is.
 pub fn narrow(kind: Kind, a: i32) -> i32
     ensures { result ≡ narrowed kind a }
 {

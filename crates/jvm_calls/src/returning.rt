@@ -157,8 +157,8 @@ fn return_nothing(
     Ok(Turn::Goes)
 }
 
-/// `return`: the method may have no result. Behind the initializer of a class its class is done, and
-/// the instruction of the frame below is executed again.
+/// `return`: the method may have no result. Behind the initializer of a class its class is done,
+/// and the instruction of the frame below is executed again.
 pub fn return_plain(
     frames: &mut Frames,
     world: &mut World,

@@ -1,4 +1,5 @@
-//! A method's code as the machine runs it: instructions in eight bytes, and the tables that they name by number.
+//! A method's code as the machine runs it: instructions in eight bytes, and the tables that they
+//! name by number.
 #![tactic(auto)]
 
 mod decoding;

@@ -137,8 +137,8 @@ reversed_last : (ks above : List Kind) (k : Kind) → reversed_onto (ks ++ k ∷
 reversed_last [] above k = refl
 reversed_last (x ∷ ks) above k = reversed_last ks (x ∷ above) k
 
--- Once the arguments of the last kinds were taken off a stack, so many kinds are left, and this rest
--- of the stack.
+-- Once the arguments of the last kinds were taken off a stack, so many kinds are left, and this
+-- rest of the stack.
 pub record IsBelow (kinds : List Kind) (stack : List Value) (left : ℕ) (below : List Value) : Type 0 where
   pub goes : (go : List Value → List Value → Effect) → on_args kinds stack go ≡ on_reversed (reversed_onto (take left kinds) []) (args_on (length kinds - left) stack) below go
   pub count : length kinds - left ≤ length stack

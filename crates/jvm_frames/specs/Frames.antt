@@ -185,7 +185,8 @@ pub record TakesArgs (kinds : List Kind) (stack : List Value) : Type 0 where
       on_args kinds stack go
       ≡ go (args_on (length kinds) stack) (drop (length kinds) stack)
 
--- Arguments of these kinds stand on the running frame's stack, and so many values and words they are.
+-- Arguments of these kinds stand on the running frame's stack, and so many values and words they
+-- are.
 pub record HasArgs (kinds : List Kind) (number size : ℕ) (fs : NumberedFrames) : Type 0 where
   pub takes : IsSomeAnd fs.frame (λ f. TakesArgs kinds f.stack)
   pub args : IsSomeAnd fs.frame (λ f. AreArgs number size f.stack)

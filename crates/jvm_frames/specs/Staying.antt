@@ -21,8 +21,8 @@ in_slots class method at room locals operands sp = record {
   room = room;
 }
 
--- One step: the frame's instruction touches the top frame alone and has a mark, and its row goes on,
--- in each program and method.
+-- One step: the frame's instruction touches the top frame alone and has a mark, and its row goes
+-- on, in each program and method.
 pub record StepsAlone
     (ops : List Op) (longs : List ℤ) (marks : List Bool) (f g : NumberedFrame)
     : Type 0 where

@@ -1,4 +1,5 @@
-//! The frames of a machine in one store of slots: what is called, what returns, and what one instruction does to the frame that runs.
+//! The frames of a machine in one store of slots: what is called, what returns, and what one
+//! instruction does to the frame that runs.
 #![tactic(auto)]
 
 mod frames;

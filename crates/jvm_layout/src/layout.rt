@@ -15,8 +15,8 @@ use class_table::Program;
 use program_rules::Value;
 use std::alloc::Global;
 
-/// What `new` makes of a class: whether it makes none, what an instance holds at first, those of the
-/// highest class first, and the words that it takes beside one.
+/// What `new` makes of a class: whether it makes none, what an instance holds at first, those of
+/// the highest class first, and the words that it takes beside one.
 #[derive(Drop)]
 pub struct Layout {
     pub is_abstract: bool,

@@ -1,4 +1,5 @@
--- The classes that override a method are those below it which reach it, or which a class above opened.
+-- The classes that override a method are those below it which reach it, or which a class above
+-- opened.
 use Rattle.std.proofs.Common.{◌≡◌, ◌∙◌, sym, refl, ap, subst, ◌⊎◌, inl, inr, ℕ, zero, suc, ◌<◌, ◌≤◌, Bool, true, false, List, [], ◌∷◌, ◌++◌, map, Option, None, Some, arith}
 use Rattle.std.specs.Prelude.{◌&&◌, ◌||◌, if◌then◌else◌, ⊤}
 use Rattle.std.specs.List.{list_any}

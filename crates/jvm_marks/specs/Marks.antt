@@ -24,11 +24,6 @@ abbrev pub SetsMark : List Bool → ℕ → Bool → List Bool → Type 0
 SetsMark old n mark new =
     (k : ℕ) → get_or new k false ≡ (if nat_eq n k then mark else get_or old k false)
 
--- The mark of a number is left only if it is to stay, and those of all others are as they were.
-abbrev pub KeepsMarkIf : List Bool → ℕ → Bool → List Bool → Type 0
-KeepsMarkIf old n stays new =
-    (k : ℕ) → get_or new k false ≡ (if nat_eq n k then get_or old k false && stays else get_or old k false)
-
 -- ---- reached lines
 
 -- Whether a class and a line are among these.
@@ -48,24 +43,10 @@ is_marked marks class line = get_or (get_or marks class []) line false
 abbrev pub AreMarksOf : List (List Bool) → List (ℕ × ℕ) → Type 0
 AreMarksOf marks pairs = (class line : ℕ) → is_marked marks class line ≡ is_listed class line pairs
 
--- Each line that is marked is among these.
-abbrev pub AreMarkedListed : List (List Bool) → List (ℕ × ℕ) → Type 0
-AreMarkedListed marks pairs =
-    (c l : ℕ) → is_marked marks c l ≡ true → is_listed c l pairs ≡ true
-
 -- A line is marked, and all others are as they were.
 abbrev pub SetsLine : List (List Bool) → ℕ → ℕ → List (List Bool) → Type 0
 SetsLine old class line new =
     (c l : ℕ) → is_marked new c l ≡ (if nat_eq class c && nat_eq line l then true else is_marked old c l)
-
--- The mark of a line is left only if it is to stay, and those of all others are as they were.
-abbrev pub KeepsLineIf : List (List Bool) → ℕ → ℕ → Bool → List (List Bool) → Type 0
-KeepsLineIf old class line stays new =
-    (c l : ℕ) → is_marked new c l ≡ (if nat_eq class c && nat_eq line l then is_marked old c l && stays else is_marked old c l)
-
--- The newest pair is taken back.
-abbrev pub LosesLast : List (ℕ × ℕ) → List (ℕ × ℕ) → Type 0
-LosesLast old new = (before : List (ℕ × ℕ)) (pair : ℕ × ℕ) → old ≡ before ++ pair ∷ [] → new ≡ before
 
 -- ---- initialisation
 
@@ -73,10 +54,6 @@ LosesLast old new = (before : List (ℕ × ℕ)) (pair : ℕ × ℕ) → old ≡
 abbrev pub state_among : ℕ → List (ℕ × InitState) → InitState
 state_among class [] = Fresh
 state_among class (x ∷ xs) = if nat_eq x.0 class then x.1 else state_among class xs
-
--- Whether a class has a mark.
-abbrev pub is_begun : ℕ → List (ℕ × InitState) → Bool
-is_begun class marks = list_any (λ x. nat_eq x.0 class) marks
 
 -- The states by number are those of the marks.
 abbrev pub AreStatesOf : List InitState → List (ℕ × InitState) → Type 0

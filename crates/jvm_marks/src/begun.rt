@@ -1,7 +1,5 @@
-ghost use Rattle.std.specs.Prelude.{◌≡◌, ℕ, if◌then◌else◌, nat_eq, [], ◌∷◌, false, map, OnOk};
-ghost use Rattle.std.proofs.Common.{get_or};
-ghost use Rattle.machine_rules.specs.declared.machine.InitState.TheVariants.{Fresh};
-ghost use Rattle.jvm_marks.specs.Marks.{is_begun, state_among};
+ghost use Rattle.std.specs.Prelude.{◌≡◌, [], ◌∷◌, OnOk};
+ghost use Rattle.jvm_marks.specs.Marks.{state_among};
 
 use crate::slots::make_place;
 use class_model::{ClassId, Memory};
@@ -9,7 +7,8 @@ use machine_rules::InitState;
 use std::alloc::Global;
 use std::marker::Model;
 
-/// How far the initialisation of classes has come (JVMS 5.5). Contracts see the marks by class numbers, the newest first; a class without one is fresh.
+/// How far the initialisation of classes has come (JVMS 5.5). Contracts see the marks by class
+/// numbers, the newest first; a class without one is fresh.
 #[derive(Drop)]
 pub struct Begun {
     marks: Vec<(ClassId, InitState)>,
@@ -25,7 +24,8 @@ impl Model for Begun {
 
     ghost view = { λ b. map (λ x. (x.0.0, x.1)) (reverse b.marks.items) };
 
-    ghost invariant = { λ b. AreStatesOf b.states.items (map (λ x. (x.0.0, x.1)) (reverse b.marks.items)) };
+    ghost invariant = { λ b.
+        AreStatesOf b.states.items (map (λ x. (x.0.0, x.1)) (reverse b.marks.items)) };
 }
 
 impl Begun {
@@ -58,34 +58,5 @@ impl Begun {
         self.marks.push((class, state))?;
         self.states[place] = state;
         Ok(())
-    }
-
-    /// Each class is fresh. It takes the time of the marks, and keeps the places of the states.
-    pub fn clear(&mut self)
-        ensures { self.new ≡ [] }
-    {
-        make_all_fresh(&mut self.states, &self.marks);
-        self.marks.clear();
-    }
-}
-
-// Makes a class fresh, if there is a place for it.
-fn make_fresh(states: &mut [InitState], class: usize)
-    ensures { (k : ℕ) → get_or states.new k Fresh
-        ≡ (if nat_eq class k then Fresh else get_or states.old k Fresh) }
-{
-    if class < states.len() {
-        states[class] = InitState::Fresh;
-    }
-}
-
-// Makes the classes of these marks fresh.
-fn make_all_fresh(states: &mut [InitState], marks: &[(ClassId, InitState)])
-    requires { (k : ℕ) → is_begun k (map (λ x. (x.0.0, x.1)) marks.now) ≡ false →
-        get_or states.old k Fresh ≡ Fresh }
-    ensures { (k : ℕ) → get_or states.new k Fresh ≡ Fresh }
-{
-    for mark in marks {
-        make_fresh(states, mark.0.0 as usize);
     }
 }

@@ -70,7 +70,8 @@ impl Marks {
         Ok(true)
     }
 
-    /// No number was used. It takes the time of those that were, and keeps the places of their marks.
+    /// No number was used. It takes the time of those that were, and keeps the places of their
+    /// marks.
     pub fn clear(&mut self)
         ensures { self.new ≡ [] }
     {

@@ -2,7 +2,7 @@
 
 ghost use Rattle.std.specs.Prelude.{◌≡◌, ℕ, map, Ok, true, false, ◌∷◌, ◌++◌, [], OnOk, OnErr, ◌<◌, length};
 ghost use Rattle.std.proofs.Common.{get_or};
-ghost use Rattle.jvm_marks.specs.Marks.{is_listed, is_marked, with_pair, SetsMark, KeepsMarkIf, SetsLine, KeepsLineIf, AreMarkedListed, LosesLast};
+ghost use Rattle.jvm_marks.specs.Marks.{is_listed, is_marked, with_pair, SetsMark, SetsLine};
 
 use crate::slots::make_place;
 use class_model::{ClassId, Memory};
@@ -83,26 +83,6 @@ impl Reached {
     {
         is_reached(&self.lines, class.0 as usize, line as usize)
     }
-
-    /// Nothing was reached. It takes the time of the lines that were, and keeps the places of their
-    /// marks.
-    pub fn clear(&mut self)
-        ensures { self.new ≡ [] }
-    {
-        unmark_all(&mut self.lines, &self.pairs);
-        self.pairs.clear();
-    }
-
-    /// Takes back the newest pair.
-    pub fn take_back(&mut self)
-        ensures { LosesLast self.old self.new }
-    {
-        let Some((class, line)) = self.pairs.pop() else {
-            return;
-        };
-        let again = is_among(&self.pairs, class, line);
-        unmark_unless(&mut self.lines, class.0 as usize, line as usize, again);
-    }
 }
 
 // Whether a line of a class is marked.
@@ -133,18 +113,6 @@ fn make_mark(lines: &mut Vec<Lines>, class: usize, line: usize) -> Result<(), Me
     lines[class].make_place(line)
 }
 
-// Whether a line of a class is among these.
-fn is_among(pairs: &[(ClassId, u16)], class: ClassId, line: u16) -> bool
-    ensures { result ≡ is_listed class.0 line (map (λ x. (x.0.0, x.1)) pairs.now) }
-{
-    for pair in pairs {
-        if pair.0.0 == class.0 && pair.1 == line {
-            return true;
-        }
-    }
-    false
-}
-
 // Marks a line of a class.
 fn mark(lines: &mut [Lines], class: usize, line: usize)
     requires class { class < length lines.old }
@@ -152,25 +120,6 @@ fn mark(lines: &mut [Lines], class: usize, line: usize)
     ensures { SetsLine lines.old class line lines.new }
 {
     lines[class].mark(line);
-}
-
-// Takes the mark of a line of a class away, where it isn't to stay.
-fn unmark_unless(lines: &mut [Lines], class: usize, line: usize, stays: bool)
-    ensures { KeepsLineIf lines.old class line stays lines.new }
-{
-    if class < lines.len() {
-        lines[class].unmark_unless(line, stays);
-    }
-}
-
-// Takes the marks of these lines away.
-fn unmark_all(lines: &mut [Lines], pairs: &[(ClassId, u16)])
-    requires marks { AreMarkedListed lines.old (map (λ x. (x.0.0, x.1)) pairs.now) }
-    ensures { (c l : ℕ) → is_marked lines.new c l ≡ false }
-{
-    for pair in pairs {
-        unmark_unless(lines, pair.0.0 as usize, pair.1 as usize, false);
-    }
 }
 
 impl Lines {
@@ -188,14 +137,5 @@ impl Lines {
         ensures { SetsMark self.old line true self.new }
     {
         self.marks[line] = true;
-    }
-
-    // Takes the mark of a line away, where it isn't to stay.
-    fn unmark_unless(&mut self, line: usize, stays: bool)
-        ensures { KeepsMarkIf self.old line stays self.new }
-    {
-        if line < self.marks.len() {
-            self.marks[line] = self.marks[line] && stays;
-        }
     }
 }

@@ -14,8 +14,8 @@ use lib_core::Known;
 use program_rules::Making;
 use std::alloc::Global;
 
-/// The names of a program's classes by number, and the numbers of those of which native methods make
-/// objects.
+/// The names of a program's classes by number, and the numbers of those of which native methods
+/// make objects.
 #[derive(Drop)]
 pub struct Natives {
     pub names: Seq<Name>,

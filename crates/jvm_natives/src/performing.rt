@@ -76,9 +76,9 @@ fn perform_few(
     }
 }
 
-/// Does what a native method wants done; none where the heap would be passed. No native method gives
-/// an object more slots than it had, so that a change with more than an int counts wants more memory
-/// than there is.
+/// Does what a native method wants done; none where the heap would be passed. No native method
+/// gives an object more slots than it had, so that a change with more than an int counts wants more
+/// memory than there is.
 
 pub fn perform_in(
     world: &mut World,

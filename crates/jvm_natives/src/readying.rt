@@ -54,8 +54,8 @@ fn call_stated(
     Ok(turn)
 }
 
-/// The class of a static method is made ready, and then the method is called with the arguments that
-/// a reference states.
+/// The class of a static method is made ready, and then the method is called with the arguments
+/// that a reference states.
 #[tactic(auto, using(crate::proofs::Readied::ready_call, crate::proofs::Readied::turned_call, crate::proofs::Readied::begun_frames, crate::proofs::Readied::frames_after, crate::proofs::Readied::next_after))]
 pub fn call_readied(
     frames: &mut Frames,

@@ -88,8 +88,8 @@ pub fn switch_by_table(frames: &mut Frames, default: u32, low: i32, targets: &[u
     jump(frames, z, to)
 }
 
-/// `lookupswitch` by where the default goes, and each key with where it goes. The keys are looked at
-/// in their order.
+/// `lookupswitch` by where the default goes, and each key with where it goes. The keys are looked
+/// at in their order.
 pub fn switch_by_keys(frames: &mut Frames, default: u32, keys: &[(i32, u32)]) -> Effect
     requires next { IfSome frames.old.frame (λ f. f.at + 1 < 2 ^ 64) }
     ensures { (p : List Info) (w : code.World) →

@@ -133,9 +133,9 @@ impl Selections {
     }
 
     /// The method that an object of this class, or an array of it, runs at an `invokevirtual` whose
-    /// reference is at an index of a class's constant pool and resolves to this method (JVMS 5.4.6):
-    /// as `select_virtual` of `jvm_link`. Where the last object there was of this class it takes two
-    /// indices.
+    /// reference is at an index of a class's constant pool and resolves to this method (JVMS
+    /// 5.4.6): as `select_virtual` of `jvm_link`. Where the last object there was of this class it
+    /// takes two indices.
     #[tactic(auto, using(crate::proofs::Selected::virtual_right))]
     pub fn select_virtual(
         &mut self,
@@ -167,8 +167,8 @@ impl Selections {
         Ok(answer)
     }
 
-    /// The method that an object of this class, or an array of it, runs at an `invokeinterface`, and
-    /// the one that an `invokespecial` runs from this superclass on (JVMS 5.4.6, 6.5): as
+    /// The method that an object of this class, or an array of it, runs at an `invokeinterface`,
+    /// and the one that an `invokespecial` runs from this superclass on (JVMS 5.4.6, 6.5): as
     /// `select_named` of `jvm_link`. Where the last object there was of this class it takes two
     /// indices.
     #[tactic(auto, using(crate::proofs::Selected::named_right))]

@@ -64,8 +64,8 @@ fn code_of(site: Site, number: u32, max_locals: u16, max_stack: u16) -> Callee
     }
 }
 
-// A method with code is called with the instance of the test, if there is one. Past the depth of the
-// run a StackOverflowError is thrown.
+// A method with code is called with the instance of the test, if there is one. Past the depth of
+// the run a StackOverflowError is thrown.
 #[tactic(auto, using(crate::proofs::Entered::no_call, crate::proofs::Entered::unfit, crate::proofs::Entered::begins, crate::proofs::Entered::too_deep, crate::proofs::Entered::stays_first, crate::proofs::Entered::is_first, crate::proofs::Entered::no_callers))]
 fn enter_code(
     frames: &mut Frames,

@@ -1,10 +1,11 @@
 //! The rows of arithmetic (JVMS 6.5).
 
 ghost use Rattle.std.specs.Prelude.{◌≡◌, ◌+◌, ◌<◌, ◌≤◌, ◌^◌, length};
-ghost use Rattle.program_rules.specs.declared.operation.Conversion.TheVariants.{IntToLong, LongToInt, IntToByte, IntToChar, IntToShort};
+ghost use Rattle.program_rules.specs.declared.operation.Conversion.TheVariants.{IntToLong, LongToInt};
 ghost use Rattle.machine_rules.specs.Steps.{operates_int, operates_long, negates_int, negates_long, shifts_int, shifts_long, compares_longs, converts};
 ghost use Rattle.jvm_state.specs.Slots.{IsStack};
 ghost use Rattle.jvm_state.specs.Rows.{Lays, LaysElse};
+ghost use Rattle.jvm_state.specs.Narrowings.{left_of, narrows};
 ghost use Rattle.jvm_state.specs.Zero.{throws_by_int_zero, throws_by_long_zero};
 
 use crate::slot::Slot;
@@ -196,50 +197,44 @@ fn narrow_long(operands: &mut [Slot], at: usize, sp: usize, top: usize) -> Optio
     Some((at + 1, below + 1))
 }
 
-// `i2b`.
-#[inline(always)]
-fn int_to_byte(operands: &mut [Slot], at: usize, sp: usize, top: usize) -> Option<(usize, usize)>
-    requires next { at + 1 < 2 ^ 64 }
-    requires stack { IsStack operands.old sp }
-    requires within { sp ≤ top }
-    requires room { top ≤ length operands.old }
-    ensures { Lays (λ w f fs. converts w f fs top IntToByte) top at sp
-        operands.old operands.new result }
-{
-    let (x, below) = top_int(operands, sp)?;
-    let z = low_byte(x);
-    put_word(operands, below, Slot::Int(z));
-    Some((at + 1, below + 1))
+// The narrowings of an int: `i2b`, `i2c` and `i2s`.
+#[derive(Clone, Copy)]
+enum Narrowing {
+    ToByte,
+    ToChar,
+    ToShort,
 }
 
-// `i2c`.
+// What a narrowing leaves of an int.
 #[inline(always)]
-fn int_to_char(operands: &mut [Slot], at: usize, sp: usize, top: usize) -> Option<(usize, usize)>
-    requires next { at + 1 < 2 ^ 64 }
-    requires stack { IsStack operands.old sp }
-    requires within { sp ≤ top }
-    requires room { top ≤ length operands.old }
-    ensures { Lays (λ w f fs. converts w f fs top IntToChar) top at sp
-        operands.old operands.new result }
+fn low_part(to: Narrowing, x: i32) -> i32
+    ensures { result ≡ left_of to x }
 {
-    let (x, below) = top_int(operands, sp)?;
-    let z = low_char(x);
-    put_word(operands, below, Slot::Int(z));
-    Some((at + 1, below + 1))
+    match to {
+        Narrowing::ToByte => low_byte(x),
+        Narrowing::ToChar => low_char(x),
+        Narrowing::ToShort => low_short(x),
+    }
 }
 
-// `i2s`.
+// `i2b`, `i2c` and `i2s`.
 #[inline(always)]
-fn int_to_short(operands: &mut [Slot], at: usize, sp: usize, top: usize) -> Option<(usize, usize)>
+fn narrow_int(
+    to: Narrowing,
+    operands: &mut [Slot],
+    at: usize,
+    sp: usize,
+    top: usize,
+) -> Option<(usize, usize)>
     requires next { at + 1 < 2 ^ 64 }
     requires stack { IsStack operands.old sp }
     requires within { sp ≤ top }
     requires room { top ≤ length operands.old }
-    ensures { Lays (λ w f fs. converts w f fs top IntToShort) top at sp
+    ensures { Lays (λ w f fs. narrows w f fs top to) top at sp
         operands.old operands.new result }
 {
     let (x, below) = top_int(operands, sp)?;
-    let z = low_short(x);
+    let z = low_part(to, x);
     put_word(operands, below, Slot::Int(z));
     Some((at + 1, below + 1))
 }
@@ -263,8 +258,8 @@ pub fn convert(
     match c {
         Conversion::IntToLong => int_to_long(operands, at, sp, top),
         Conversion::LongToInt => narrow_long(operands, at, sp, top),
-        Conversion::IntToByte => int_to_byte(operands, at, sp, top),
-        Conversion::IntToChar => int_to_char(operands, at, sp, top),
-        Conversion::IntToShort => int_to_short(operands, at, sp, top),
+        Conversion::IntToByte => narrow_int(Narrowing::ToByte, operands, at, sp, top),
+        Conversion::IntToChar => narrow_int(Narrowing::ToChar, operands, at, sp, top),
+        Conversion::IntToShort => narrow_int(Narrowing::ToShort, operands, at, sp, top),
     }
 }

@@ -21,8 +21,8 @@ use machine_rules::InitState;
 use program_rules::{CallKind, Fault};
 use std::alloc::Global;
 
-/// The class of an initializer has failed; what is thrown from the frames below. It is the object if
-/// it is an Error, else an ExceptionInInitializerError, or none where the heap would be passed.
+/// The class of an initializer has failed; what is thrown from the frames below. It is the object
+/// if it is an Error, else an ExceptionInInitializerError, or none where the heap would be passed.
 #[tactic(auto, using(crate::proofs::Left::kept_error))]
 pub fn fail_class(
     world: &mut World,

@@ -12,7 +12,8 @@ use class_table::Program;
 use jvm_catch::{Catch, CatchRow, find_handler};
 use jvm_world::World;
 
-/// The instruction at which these rows go on with an object of this class, thrown at an instruction.
+/// The instruction at which these rows go on with an object of this class, thrown at an
+/// instruction.
 #[tactic(auto, using(crate::proofs::Worlds::kept_tested))]
 pub fn handler(
     world: &mut World,

@@ -1,4 +1,5 @@
--- The words that objects take of the heap, and what their slots hold at first (this project's own; JVMS 2.3, 2.4).
+-- The words that objects take of the heap, and what their slots hold at first (this project's own;
+-- JVMS 2.3, 2.4).
 use Rattle.std.specs.Prelude.{ℕ, ◌+◌, pos, List, [], length, map, replicate}
 use Rattle.class_model.specs.declared.kind.Kind.{Kind}
 use Rattle.class_model.specs.declared.kind.Kind.TheVariants.{Boolean, Byte, Char, Short, Int as OfInt, Long as OfLong, Ref as OfReference}

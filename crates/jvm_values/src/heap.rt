@@ -15,7 +15,8 @@ use std::alloc::Global;
 use std::marker::Model;
 use std::mem;
 
-/// The objects of a run by their numbers, from 1, and the words that they took. Nothing is given back.
+/// The objects of a run by their numbers, from 1, and the words that they took. Nothing is given
+/// back.
 #[derive(Drop)]
 pub struct Heap {
     objects: Vec<Object>,
@@ -47,16 +48,8 @@ impl Heap {
         }
     }
 
-    /// No object, and room for so many words. The place of the list is kept.
-    pub fn clear(&mut self, limit: u32)
-        ensures { self.new ≡ no_objects limit }
-    {
-        self.objects.clear();
-        self.words = 0;
-        self.limit = limit;
-    }
-
-    /// Makes an object of a class with such fields, each with its first value (JVMS 2.3, 2.4). It takes one word, and one for each field.
+    /// Makes an object of a class with such fields, each with its first value (JVMS 2.3, 2.4). It
+    /// takes one word, and one for each field.
     pub fn object(&mut self, class: ClassId, fields: &Seq<Kind>) -> Result<u32, HeapFault>
         ensures number { IfOk result (λ number. number ≡ next_number self.old) }
         ensures heap { OnOk result (self.new ≡ with_new_object self.old class.0 fields.now) }
@@ -77,7 +70,8 @@ impl Heap {
         Ok(number)
     }
 
-    /// Makes an array of so many elements, each with its first value. It takes two words, and one for each element.
+    /// Makes an array of so many elements, each with its first value. It takes two words, and one
+    /// for each element.
     pub fn array(&mut self, of: ArrayKind, len: u32) -> Result<u32, HeapFault>
         ensures number { IfOk result (λ number. number ≡ next_number self.old) }
         ensures heap { OnOk result (self.new ≡ with_new_array self.old of len) }
@@ -97,7 +91,8 @@ impl Heap {
         Ok(number)
     }
 
-    /// Makes a `java/lang/String` of these UTF-16 code units. It takes two words, and one for each unit.
+    /// Makes a `java/lang/String` of these UTF-16 code units. It takes two words, and one for each
+    /// unit.
     pub fn text(&mut self, units: &Name) -> Result<u32, HeapFault>
         ensures number { IfOk result (λ number. number ≡ next_number self.old) }
         ensures heap { OnOk result (self.new ≡ with_new_text self.old units.now) }
@@ -167,7 +162,8 @@ impl Heap {
         self.objects.get(place as usize)
     }
 
-    /// Puts a value into a slot of the object of this number. It is false, and nothing changes, where there is no such object or slot.
+    /// Puts a value into a slot of the object of this number. It is false, and nothing changes,
+    /// where there is no such object or slot.
     pub fn set(&mut self, at: u32, slot: u32, v: Value) -> bool
         ensures there { IsTrue result ↔ HasSlot self.old at slot }
         ensures set { OnTrue result (SetsSlot self.old self.new at slot v) }
@@ -179,7 +175,8 @@ impl Heap {
         put(&mut self.objects, place as usize, slot as usize, v)
     }
 
-    /// Exchanges the object of this number with another one, and leaves the words as they are. It is false, and nothing changes, where there is no such object.
+    /// Exchanges the object of this number with another one, and leaves the words as they are. It
+    /// is false, and nothing changes, where there is no such object.
     pub fn exchange(&mut self, at: u32, with: &mut Object) -> bool
         ensures there { IsTrue result ↔ IsSome (object_at self.old at) }
         ensures heap { OnTrue result (self.new ≡ with_object_at self.old at with.old) }

@@ -1,4 +1,5 @@
--- The classes of which the machine makes objects by itself: its exceptions, and the class of classes.
+-- The classes of which the machine makes objects by itself: its exceptions, and the class of
+-- classes.
 use Rattle.std.specs.Prelude.{◌≡◌, ℕ, List, [], ◌∷◌, map}
 use Rattle.std.proofs.Common.{get_or}
 use Rattle.program_rules.specs.declared.fault.Fault.{Fault}

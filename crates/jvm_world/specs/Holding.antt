@@ -1,9 +1,8 @@
 -- What is held by number: the values of static fields, and the open monitorenters of objects.
-use Rattle.std.specs.Prelude.{◌≡◌, ℕ, true, ◌&&◌, nat_eq, if◌then◌else◌, List, [], Option, Some, None, is_some, nat_lt}
+use Rattle.std.specs.Prelude.{◌≡◌, ℕ, ◌&&◌, nat_eq, if◌then◌else◌, List, [], Option, Some, None}
 use Rattle.std.proofs.Common.{get_or}
 use Rattle.program_rules.specs.declared.value.Value.{Value}
 use Rattle.program_rules.specs.Kinds.{Kind, default_of}
-use Rattle.jvm_marks.specs.Marks.{is_among}
 
 -- The value that was stored last in the static field of a class at a place, if one was.
 abbrev pub held : ℕ → ℕ → List (List (Option Value)) → Option Value
@@ -24,17 +23,9 @@ Stores class place value old new =
 abbrev pub HoldSame : List (List (Option Value)) → List (List (Option Value)) → Type 0
 HoldSame old new = (c l : ℕ) → held c l new ≡ held c l old
 
--- Each class in which a value is held is among these.
-abbrev pub AreTouched : List (List (Option Value)) → List ℕ → Type 0
-AreTouched rows ns = (c l : ℕ) → is_some (held c l rows) ≡ true → is_among c ns ≡ true
-
 -- The open monitorenters of an object, by the counts of all objects.
 abbrev pub opened : ℕ → List ℕ → ℕ
 opened x counts = get_or counts x 0
-
--- Each object with an open monitorenter is among these.
-abbrev pub AreOpened : List ℕ → List ℕ → Type 0
-AreOpened counts ns = (x : ℕ) → nat_lt 0 (opened x counts) ≡ true → is_among x ns ≡ true
 
 -- So many are open for an object, and as many as before for each other one.
 abbrev pub Opens : ℕ → ℕ → List ℕ → List ℕ → Type 0

@@ -38,13 +38,6 @@ impl Made {
     {
         add_object(&mut self.objects, name, object)
     }
-
-    /// None was made.
-    pub fn clear(&mut self)
-        ensures { (n : List ℕ) → get same self.new.objects n ≡ None }
-    {
-        self.objects.clear();
-    }
 }
 
 fn add_object(objects: &mut HashMap<Name, u32>, name: &Name, object: u32) -> Result<(), Memory>

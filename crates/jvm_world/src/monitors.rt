@@ -2,30 +2,24 @@
 
 ghost use Rattle.std.specs.Prelude.{◌≡◌, ℕ, ◌+◌, ◌-◌, ◌<◌, ◌^◌, nat_eq, if◌then◌else◌, [], length, Ok, true, false, OnOk, OnErr, IfOk};
 ghost use Rattle.std.proofs.Common.{get_or};
-ghost use Rattle.jvm_world.specs.Holding.{opened, Opens, AreOpened};
+ghost use Rattle.jvm_world.specs.Holding.{opened, Opens};
 
 use class_model::Memory;
-use jvm_marks::Marks;
 use std::alloc::Global;
 use std::marker::Model;
 
-/// How many monitorenters of each object are open, for each object up to the last one that had
-/// any, and the objects that had.
+/// How many monitorenters of each object are open, for each object up to the last one that had any.
 #[derive(Drop)]
 pub struct Monitors {
     counts: Vec<u64>,
-    touched: Marks,
 }
 
 impl Model for Monitors {
     ghost use Rattle.std.specs.Prelude.{List, ℕ};
-    ghost use Rattle.jvm_world.specs.Holding.{AreOpened};
 
     ghost Value = { List ℕ };
 
     ghost view = { λ m. m.counts.items };
-
-    ghost invariant = { λ m. AreOpened m.counts.items m.touched };
 }
 
 impl Monitors {
@@ -35,7 +29,6 @@ impl Monitors {
     {
         Monitors {
             counts: Vec::new(alloc),
-            touched: Marks::new(alloc),
         }
     }
 
@@ -52,7 +45,6 @@ impl Monitors {
         ensures opened { OnOk result (Opens object (opened object self.old + 1) self.old self.new) }
         ensures err { OnErr result ((x : ℕ) → opened x self.new ≡ opened x self.old) }
     {
-        self.touched.note(object)?;
         make_count(&mut self.counts, object as usize)?;
         let count = count_in(&self.counts, object as usize);
         put_count(&mut self.counts, object as usize, count + 1);
@@ -73,14 +65,6 @@ impl Monitors {
         }
         put_count(&mut self.counts, object as usize, count - 1);
         true
-    }
-
-    /// None is open. It takes the time of the objects that had any.
-    pub fn clear(&mut self)
-        ensures { (x : ℕ) → opened x self.new ≡ 0 }
-    {
-        close_all(&mut self.counts, self.touched.numbers());
-        self.touched.clear();
     }
 }
 
@@ -111,23 +95,4 @@ fn put_count(counts: &mut [u64], at: usize, count: u64)
     ensures { Opens at count counts.old counts.new }
 {
     counts[at] = count;
-}
-
-// Closes all of an object.
-fn close_one(counts: &mut [u64], object: usize)
-    ensures { Opens object 0 counts.old counts.new }
-{
-    if object < counts.len() {
-        counts[object] = 0;
-    }
-}
-
-// Closes all of these objects.
-fn close_all(counts: &mut [u64], objects: &[u32])
-    requires { AreOpened counts.old objects.now }
-    ensures { (x : ℕ) → opened x counts.new ≡ 0 }
-{
-    for object in objects {
-        close_one(counts, *object as usize);
-    }
 }

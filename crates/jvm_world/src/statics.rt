@@ -2,10 +2,9 @@
 
 ghost use Rattle.std.specs.Prelude.{◌≡◌, ℕ, ◌&&◌, ◌<◌, nat_eq, if◌then◌else◌, [], Some, None, length, OnOk, OnErr};
 ghost use Rattle.std.proofs.Common.{get_or};
-ghost use Rattle.jvm_world.specs.Holding.{held, Stores, HoldSame, AreTouched};
+ghost use Rattle.jvm_world.specs.Holding.{held, Stores, HoldSame};
 
 use class_model::{ClassId, Memory};
-use jvm_marks::Marks;
 use program_rules::Value;
 use std::alloc::Global;
 use std::marker::Model;
@@ -25,24 +24,19 @@ impl Model for Row {
     ghost view = { λ r. r.values.items };
 }
 
-/// The values that were stored in static fields, for each class up to the last one that stored any,
-/// and the classes that did.
+/// The values that were stored in static fields, for each class up to the last one that stored any.
 #[derive(Drop)]
 pub struct Statics {
     rows: Vec<Row>,
-    touched: Marks,
 }
 
 impl Model for Statics {
     ghost use Rattle.std.specs.Prelude.{List, Option};
     ghost use Rattle.program_rules.specs.declared.value.Value.{Value as Stored};
-    ghost use Rattle.jvm_world.specs.Holding.{AreTouched};
 
     ghost Value = { List (List (Option Stored)) };
 
     ghost view = { λ s. s.rows.items };
-
-    ghost invariant = { λ s. AreTouched s.rows.items s.touched };
 }
 
 impl Statics {
@@ -52,7 +46,6 @@ impl Statics {
     {
         Statics {
             rows: Vec::new(alloc),
-            touched: Marks::new(alloc),
         }
     }
 
@@ -69,18 +62,9 @@ impl Statics {
         ensures set { OnOk result (Stores class.0 place value self.old self.new) }
         ensures err { OnErr result (HoldSame self.old self.new) }
     {
-        self.touched.note(class.0)?;
         make_value(&mut self.rows, class.0 as usize, place as usize)?;
         put(&mut self.rows, class.0 as usize, place as usize, value);
         Ok(())
-    }
-
-    /// Nothing was stored. It takes the time of the classes that stored any.
-    pub fn clear(&mut self)
-        ensures { (c l : ℕ) → held c l self.new ≡ None }
-    {
-        empty_all(&mut self.rows, self.touched.numbers());
-        self.touched.clear();
     }
 }
 
@@ -121,26 +105,6 @@ fn put(rows: &mut [Row], class: usize, place: usize, value: Value)
     rows[class].put(place, value);
 }
 
-// Takes all values of a class away.
-fn empty(rows: &mut [Row], class: usize)
-    ensures { (c l : ℕ) → held c l rows.new
-        ≡ (if nat_eq class c then None else held c l rows.old) }
-{
-    if class < rows.len() {
-        rows[class].empty();
-    }
-}
-
-// Takes all values of these classes away.
-fn empty_all(rows: &mut [Row], classes: &[u32])
-    requires { AreTouched rows.old classes.now }
-    ensures { (c l : ℕ) → held c l rows.new ≡ None }
-{
-    for class in classes {
-        empty(rows, *class as usize);
-    }
-}
-
 impl Row {
     // Makes place for a value.
     fn make_place(&mut self, place: usize) -> Result<(), Memory>
@@ -157,13 +121,6 @@ impl Row {
             ≡ (if nat_eq place l then Some value else get_or self.old l None) }
     {
         self.values[place] = Some(value);
-    }
-
-    // Takes all values away.
-    fn empty(&mut self)
-        ensures { self.new ≡ [] }
-    {
-        self.values.clear();
     }
 }
 

@@ -101,7 +101,8 @@ fn class_object(alloc: Global, class: ClassId, name: &Name) -> Result<Object, Me
 }
 
 impl World {
-    /// The world at the start of a test: nothing has happened but that the test class was consulted.
+    /// The world at the start of a test: nothing has happened but that the test class was
+    /// consulted.
     pub fn start(
         alloc: Global,
         p: &Program,
@@ -140,49 +141,10 @@ impl World {
         })
     }
 
-    /// All is as at the start of a test within these limits, whatever was before: nothing has
-    /// happened but that the test class was consulted. It takes back what was marked and stored and
-    /// keeps the places, so no list grows anew. Where memory runs out nothing changes.
-    pub fn begin(
-        &mut self,
-        alloc: Global,
-        p: &Program,
-        test: &Test,
-        limits: Limits,
-    ) -> Result<(), Memory>
-        requires classes { AreMachineClasses p.now self.old.classes }
-        requires small { limits.heap < 2 ^ 31 }
-        ensures means { OnOk result (
-            Means p.now self.new (start (look p.now) (test_of test.now)).world) }
-        ensures world { OnOk result (IsWorldOf p.now self.new) }
-        ensures limits { OnOk result (self.new.limits ≡ limits) }
-        ensures err { OnErr result (self.new ≡ self.old) }
-    {
-        let mut consulted = Consulted::new(alloc, p)?;
-        p.consult_name(&mut consulted, &test.class)?;
-        let expected = copy_name(&test.expected)?;
-        let calls = test.script.copy()?;
-        let _ = p.len();
-        self.heap.clear(limits.heap);
-        self.kept = Kept::new(alloc);
-        self.statics.clear();
-        self.begun.clear();
-        self.literals.clear();
-        self.class_objects.clear();
-        self.monitors.clear();
-        self.consulted = consulted;
-        self.reached.clear();
-        self.expected = expected;
-        self.instance = None;
-        self.script = Script::new(calls);
-        self.over = None;
-        self.limits = limits;
-        Ok(())
-    }
-
     // ---- classes
 
-    /// A class is consulted with all above it. What was consulted isn't known where memory runs out.
+    /// A class is consulted with all above it. What was consulted isn't known where memory runs
+    /// out.
     pub fn consult(&mut self, p: &Program, class: ClassId) -> Result<(), Memory>
         requires world { IsWorldOf p.now self.old }
         requires class { class.0 < length p.now }
@@ -378,8 +340,8 @@ impl World {
         Ok(Some(object))
     }
 
-    /// The machine throws an exception of its own; the number of its object. There is none where the
-    /// heap would be passed, and then the run is over.
+    /// The machine throws an exception of its own; the number of its object. There is none where
+    /// the heap would be passed, and then the run is over.
     pub fn throw(&mut self, alloc: Global, p: &Program, fault: Fault) -> Result<Option<u32>, Memory>
         requires world { IsWorldOf p.now self.old }
         ensures throws { IfOk result (λ x. Throws p.now self.old self.new fault x) }
@@ -405,7 +367,8 @@ impl World {
         Ok(())
     }
 
-    /// One monitorenter of an object less is open. It is false, and nothing changes, where none was.
+    /// One monitorenter of an object less is open. It is false, and nothing changes, where none
+    /// was.
     pub fn exit_monitor(&mut self, p: &Program, object: u32) -> bool
         requires world { IsWorldOf p.now self.old }
         ensures exits { Exits p.now object self.old self.new result }

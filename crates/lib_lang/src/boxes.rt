@@ -1,5 +1,5 @@
-//! What the boxes make, give and write: `java/lang/Integer`, `Long`, `Short`, `Byte`, `Character` and
-//! `Boolean`.
+//! What the boxes make, give and write: `java/lang/Integer`, `Long`, `Short`, `Byte`, `Character`
+//! and `Boolean`.
 
 ghost use Rattle.std.specs.Prelude.{◌≡◌, [], ◌∷◌, Some, None, slice_get, IfOk};
 ghost use Rattle.program_rules.specs.Natives.{box_number, integer_value_of, short_value_of, int_value, kept_int};

@@ -144,8 +144,8 @@ fn number_deed(native: NumberNative, objects: &[Object], args: &[Value]) -> Deed
     }
 }
 
-/// What a native method of `java/lang`, or of `java/util/Optional`, wants done with these arguments,
-/// the receiver first, among classes of these names.
+/// What a native method of `java/lang`, or of `java/util/Optional`, wants done with these
+/// arguments, the receiver first, among classes of these names.
 pub fn lang_deed(
     alloc: Global,
     names: &[Name],

@@ -41,8 +41,8 @@ written name desc m = Coded 1 name desc m
 abbrev pub static_written : String → String → Method → Row
 static_written name desc m = Coded 9 name desc m
 
--- The written methods of a class have one constant pool, in which what each needs stands behind what
--- those before it need.
+-- The written methods of a class have one constant pool, in which what each needs stands behind
+-- what those before it need.
 abbrev pub pool_of_rows : List Const → List Row → List Const
 pool_of_rows pool [] = pool
 pool_of_rows pool (Plain m ∷ rows) = pool_of_rows pool rows

@@ -32,8 +32,8 @@ pub fn written_calls_are_found()
     ensures { are_found library written_methods ≡ true }
 {}
 
-/// The stack of each written method has what each instruction needs, is within its limit, and is empty
-/// where a jump goes; and each local is one of those that the code has.
+/// The stack of each written method has what each instruction needs, is within its limit, and is
+/// empty where a jump goes; and each local is one of those that the code has.
 #[tactic(auto, using(crate::proofs::Typing::typed))]
 pub fn written_methods_are_typed()
     ensures { are_typed written_methods ≡ true }

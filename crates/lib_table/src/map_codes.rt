@@ -1,6 +1,6 @@
 //! Written methods, each with its entries in the constant pool of its class, behind those of the
-//! methods before it. An operand of a jump is the number of an instruction, counted from 0; the first
-//! entry of a pool is number 1.
+//! methods before it. An operand of a jump is the number of an instruction, counted from 0; the
+//! first entry of a pool is number 1.
 
 use crate::rows::{CodeRow, ConstRow, FrameRow, InsnRow};
 use class_model::VItem;

@@ -33,8 +33,8 @@ pub enum FrameRow {
     More(u32, &'static [VItem]),
 }
 
-/// A written method: its entries in the constant pool of its class, its code, and its frames with the
-/// index of the name of their table. Indices count in the pool of the class.
+/// A written method: its entries in the constant pool of its class, its code, and its frames with
+/// the index of the name of their table. Indices count in the pool of the class.
 #[derive(Clone, Copy)]
 pub struct CodeRow {
     pub pool: &'static [ConstRow],

@@ -1,5 +1,5 @@
-//! Calls of native methods of collections, each with the contract of the real one: what wrong bodies
-//! are tried on.
+//! Calls of native methods of collections, each with the contract of the real one: what wrong
+//! bodies are tried on.
 
 ghost use Rattle.std.specs.Prelude.{IfOk};
 ghost use Rattle.library_rules.specs.Collections as def;

@@ -41,12 +41,12 @@ pub enum Datum {
 /// A call: the native method, its arguments, the receiver first, and what it gives.
 pub type Row = (LangNative, &'static [Datum], Datum);
 
-/// A call, and another one on the same receiver: the native method, its arguments, the receiver first,
-/// the second native method, and what that gives.
+/// A call, and another one on the same receiver: the native method, its arguments, the receiver
+/// first, the second native method, and what that gives.
 pub type ThenRow = (LangNative, &'static [Datum], LangNative, Datum);
 
-/// A call on a list or on the entries of a map: the native method, the ints in it, an entry's as hash,
-/// key and value, the arguments behind it, what it gives, and the ints in it behind the call.
+/// A call on a list or on the entries of a map: the native method, the ints in it, an entry's as
+/// hash, key and value, the arguments behind it, what it gives, and the ints in it behind the call.
 pub type ListRow = (
     UtilNative,
     &'static [i32],

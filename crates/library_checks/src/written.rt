@@ -1,4 +1,5 @@
-//! Written methods of the library's table, each with what it has to be: what wrong ones are tried on.
+//! Written methods of the library's table, each with what it has to be: what wrong ones are tried
+//! on.
 
 ghost use Rattle.std.specs.Prelude.{[], take};
 ghost use Rattle.lib_table.specs.Collected as rows;

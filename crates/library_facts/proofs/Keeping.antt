@@ -1,4 +1,5 @@
--- What is below a class that keeps items keeps the same: none of the five is above another, so the walk up from what is below one passes no other.
+-- What is below a class that keeps items keeps the same: none of the five is above another, so the
+-- walk up from what is below one passes no other.
 use Rattle.std.proofs.Common.{◌≡◌, ◌∙◌, refl, sym, subst, Bool, true, false, List, [], ◌∷◌, ⊎_elim, codes}
 use Rattle.std.specs.Prelude.{◌||◌, if◌then◌else◌}
 use Rattle.std.specs.List.{list_all}

@@ -1,4 +1,5 @@
--- What is computed beside the table that computes is so behind the other classes, and tests over the table.
+-- What is computed beside the table that computes is so behind the other classes, and tests over
+-- the table.
 use Rattle.std.proofs.Common.{◌≡◌, ◌∙◌, refl, sym, subst, Bool, true, false, List, [], ◌∷◌, Option, Some, None, ⊎_elim}
 use Rattle.std.specs.Prelude.{if◌then◌else◌}
 use Rattle.std.specs.List.{list_all, list_any}

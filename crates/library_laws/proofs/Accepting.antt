@@ -1,4 +1,5 @@
--- The written methods have no fault, by computing, and each class of the library is one of the table.
+-- The written methods have no fault, by computing, and each class of the library is one of the
+-- table.
 use Rattle.std.proofs.Common.{◌≡◌, ◌∙◌, refl, sym, ap, subst, ℕ, zero, suc, Bool, true, false, List, [], ◌∷◌, Option, Some, None, is_none}
 use Rattle.std.specs.Prelude.{nat_eq, if◌then◌else◌, slice_get}
 use Rattle.std.specs.List.{list_all}

@@ -1,4 +1,5 @@
--- The library as the machine sees it, in a form that computes: what `roll-Code` has rolled is no part of it.
+-- The library as the machine sees it, in a form that computes: what `roll-Code` has rolled is no
+-- part of it.
 use Prim.Native.String.{String}
 use Rattle.std.proofs.Common.{◌≡◌, ◌∙◌, refl, ap, append-nil, ℕ, ◌+◌, List, [], ◌∷◌, ◌++◌, map, length, take, drop, codes}
 use Rattle.std.specs.List.{flat_map}

@@ -1,7 +1,7 @@
--- java/util/ArrayList, mt/Hashed with HashMap and HashSet, mt/Iter, and those that make them. A list
--- keeps its elements; a Hashed keeps for each entry its hash, its key and its value, one behind the
--- other; an iterator keeps what it goes over, its place there, and how many values an entry has.
--- `add(Object)` and `get(I)` of ArrayList stand in `program_rules`.
+-- java/util/ArrayList, mt/Hashed with HashMap and HashSet, mt/Iter, and those that make them. A
+-- list keeps its elements; a Hashed keeps for each entry its hash, its key and its value, one
+-- behind the other; an iterator keeps what it goes over, its place there, and how many values an
+-- entry has. `add(Object)` and `get(I)` of ArrayList stand in `program_rules`.
 use Rattle.std.specs.Prelude.{ℕ, ◌+◌, ◌*◌, ◌/◌, ℤ, pos, ◌+ℤ◌, Bool, true, false, nat_le, nat_lt, nat_eq, if◌then◌else◌, List, [], ◌∷◌, length, Option, Some, None, slice_get}
 use Rattle.std.specs.Option.{option_map}
 use Rattle.program_rules.specs.declared.value.Value.{Value}

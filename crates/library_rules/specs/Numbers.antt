@@ -1,5 +1,5 @@
--- The boxes of numbers, chars and booleans, and what Integer, Long, Character and Math do with plain
--- ones.
+-- The boxes of numbers, chars and booleans, and what Integer, Long, Character and Math do with
+-- plain ones.
 use Rattle.std.specs.Prelude.{ℕ, ◌+◌, ◌-◌, ◌*◌, ◌/◌, ◌^◌, ℤ, pos, negsuc, ◌+ℤ◌, ◌-ℤ◌, neg_ℤ, int_le, int_lt, int_rem, Bool, false, ◌&&◌, ◌||◌, nat_le, nat_lt, nat_eq, if◌then◌else◌, List, [], ◌∷◌, Option, Some, None, slice_get}
 use Rattle.std.specs.Fmt.{signed_decimal}
 use Rattle.std.specs.Int.{w32, w64, cast_unsigned, int_wrap, int_bit_xor}

@@ -55,13 +55,6 @@ impl Coverage {
         Ok(())
     }
 
-    /// How many tests were run.
-    pub fn test_count(&self) -> usize
-        ensures { result ≡ self.now.tests }
-    {
-        self.tests
-    }
-
     /// Whether a test reaches a line of a class.
     pub fn reaches(&self, class: ClassId, line: u16, test: usize) -> bool
         ensures { result ≡ reaches self.now class.0 line test }

@@ -1,4 +1,5 @@
--- What an instruction names has the kinds that its descriptors mean, in a constant pool whose class entries are named right.
+-- What an instruction names has the kinds that its descriptors mean, in a constant pool whose class
+-- entries are named right.
 use Rattle.std.proofs.Common.{ℕ, zero, suc, Bool, true, false, List, [], ◌∷◌, map, Some, None}
 use Rattle.std.specs.Prelude.{◌-◌, ◌==◌, slice_get, if◌then◌else◌}
 use Rattle.std.specs.List.{AllByRecursion}

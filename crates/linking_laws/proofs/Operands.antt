@@ -1,4 +1,5 @@
--- What an instruction names has the kinds that its descriptors mean, whatever its constant pool, but for the arrays of multianewarray.
+-- What an instruction names has the kinds that its descriptors mean, whatever its constant pool,
+-- but for the arrays of multianewarray.
 use Rattle.std.proofs.Common.{◌≡◌, refl, ℕ, Bool, true, false, List, Option, None, Some, arith}
 use Rattle.std.specs.Prelude.{◌==◌, ◌||◌, nat_lt, if◌then◌else◌}
 use Rattle.class_model.specs.Pool.{entry_of}

@@ -39,7 +39,8 @@ fn first_locals(
 /// The frames that a code states, in the order of the class file, behind the types of its receiver
 /// and its arguments. Of two frames for one instruction the first counts. A frame can't be expanded
 /// (rule 3) if it stands for no instruction, takes away more locals than there are, passes the
-/// locals or the stack of its method, or has an object that isn't initialised and can't stand there.
+/// locals or the stack of its method, or has an object that isn't initialised and can't stand
+/// there.
 pub fn expand(
     alloc: Global,
     method: &MethodCode,

@@ -119,7 +119,8 @@ all_codec file_end pool owner =
     (by_codec (attr_at file_end pool owner) (λ unseen. attr_bytes) (attr_after pool owner) (IsAttr pool owner) (attr_codec file_end pool owner) all_unseen)
     (λ attrs q at. ap (λ (z : List ℕ). u2 (length attrs) ++ z) (spelled_alike attr_bytes (attr_after pool owner) all_unseen attrs))
 
--- The attributes of an owner are read from their spelling, whatever comes behind it, and from nothing else.
+-- The attributes of an owner are read from their spelling, whatever comes behind it, and from
+-- nothing else.
 pub attrs_codec : (owner : Owner) (pool : List Const) → IsCodecAt (attrs_at owner pool) (λ at. attrs_bytes) (AreAttrs pool owner)
 attrs_codec owner pool = record {
   takes = λ input attrs rest bytes e. (all_codec (input.at + length input.bytes) pool owner).takes input attrs rest bytes (or_fault_ok fault_of (all_at (input.at + length input.bytes) pool owner input) (attrs, rest) e);

@@ -61,7 +61,8 @@ name_codec pool free = tested_at (index_at is_text pool) (λ at. u2) (IsIndex (n
 made_again : (b other : Body) (parts : Parts) → out-Body other ≡ parts → out-Body b ≡ parts → other ≡ b
 made_again b other parts is h = sym (roll-out-Body other) ∙ ap roll-Body (is ∙ sym h) ∙ roll-out-Body b
 
--- The body of an attribute, by what its content is. `opened` gives its parts, `spell` spells them, and `Form` says which parts it may have.
+-- The body of an attribute, by what its content is. `opened` gives its parts, `spell` spells them,
+-- and `Form` says which parts it may have.
 pub body_codec : {A : Type 0} (read : PartReader A) (bytes : A → List ℕ) (P : A → Type 0) (make : A → Body) (opened : A → Parts) (spell : Parts → List ℕ) (Form : Parts → Type 0) → IsCodecAt read (λ at x. sized (bytes x)) (λ x. P x × (length (bytes x) < 2 ^ 32))
     → ((a : A) → out-Body (make a) ≡ opened a) → ((a : A) → spell (opened a) ≡ bytes a) → ((a : A) → P a → Form (opened a)) → ((b : Parts) → Form b → (a : A) × P a × (opened a ≡ b))
     → IsCodecAt (λ input. read input >>= λ x. Ok (make x.0, x.1)) (λ at b. sized (spell (out-Body b))) (λ b. Form (out-Body b) × (length (spell (out-Body b)) < 2 ^ 32))

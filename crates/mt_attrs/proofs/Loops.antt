@@ -1,4 +1,5 @@
--- Reading values one after the other, where each tells what has to be known to read the next one, as a loop does.
+-- Reading values one after the other, where each tells what has to be known to read the next one,
+-- as a loop does.
 use Rattle.std.proofs.Common.{◌≡◌, ℕ, suc, ◌-◌, ◌+◌, ◌≤◌, ◌<◌, List, [], ◌∷◌, ◌++◌, Result, Ok, Err, refl, sym, ap, ◌∙◌, append_assoc, arith}
 use Rattle.std.proofs.lemmas.List.{append-nil}
 use Rattle.codec_rules.specs.Input.{Input}

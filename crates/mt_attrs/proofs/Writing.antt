@@ -1,4 +1,6 @@
--- Writing values one after the other, as a loop does: what its answers cite. The loop keeps that what it has written, and behind it what it is still to write, is the whole, and that no bound was passed so far.
+-- Writing values one after the other, as a loop does: what its answers cite. The loop keeps that
+-- what it has written, and behind it what it is still to write, is the whole, and that no bound was
+-- passed so far.
 use Rattle.std.proofs.Common.{◌≡◌, ◌≢◌, ℕ, suc, ◌+◌, ◌-◌, ◌^◌, ◌≤◌, ◌<◌, Bool, true, false, cond, ltb, List, [], ◌∷◌, ◌++◌, length, drop, get_or, Option, Some, None, Result, Ok, Err, refl, sym, ap, subst, ◌∙◌, append_assoc, arith, drop-cons}
 use Rattle.std.specs.List.{flat_map}
 use Rattle.std.specs.Option.{option_map}

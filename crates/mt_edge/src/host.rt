@@ -1,4 +1,5 @@
-//! The real files and the real output. They are the trusted edge: they tell nothing of what they hold, and count their faults.
+//! The real files and the real output. They are the trusted edge: they tell nothing of what they
+//! hold, and count their faults.
 ghost use Rattle.std.specs.Prelude.{◌≡◌, None};
 ghost use Rattle.mt_edge.specs.Causes.{HasCause};
 

@@ -1,5 +1,6 @@
-//! The outside of the tool: a tree of files, a sink of bytes and a meter of steps. The tree and the sink are traits, with a
-//! pair in memory for tests and the real pair, which is trusted to reach the files and the standard output.
+//! The outside of the tool: a tree of files, a sink of bytes and a meter of steps. The tree and the
+//! sink are traits, with a pair in memory for tests and the real pair, which is trusted to reach
+//! the files and the standard output.
 #![tactic(auto)]
 
 mod host;

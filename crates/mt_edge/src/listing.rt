@@ -5,7 +5,8 @@ use std::io::{Error, ErrorKind, Read};
 use std::rt::Files;
 use std::{fs, io};
 
-// Whether nothing is held at a path: there is nothing, or the path goes on below a file or round in links.
+// Whether nothing is held at a path: there is nothing, or the path goes on below a file or round in
+// links.
 pub fn is_absent(error: &Error) -> bool {
     matches!(
         error.kind(),
@@ -13,7 +14,8 @@ pub fn is_absent(error: &Error) -> bool {
     )
 }
 
-// The files that were found, the folders that are still to be entered, and the real paths of those that were.
+// The files that were found, the folders that are still to be entered, and the real paths of those
+// that were.
 #[derive(Drop)]
 struct Walk {
     files: Vec<String>,
@@ -21,7 +23,8 @@ struct Walk {
     entered: BTreeSet<String>,
 }
 
-// The names in a folder, each with a zero byte behind it. They are read as bytes, since a name need not be text.
+// The names in a folder, each with a zero byte behind it. They are read as bytes, since a name need
+// not be text.
 fn names_in<R: Files + AllocGlobal>(rt: &R, folder: &str) -> io::Result<Vec<u8>> {
     let folder = format!(in rt.alloc(); "{folder}/")?;
     let mut names = Vec::new(rt.alloc());
@@ -37,7 +40,8 @@ fn names_in<R: Files + AllocGlobal>(rt: &R, folder: &str) -> io::Result<Vec<u8>>
     Ok(names)
 }
 
-// A regular file is listed, and a folder is to be entered, be it by a link. What else stands there is let be.
+// A regular file is listed, and a folder is to be entered, be it by a link. What else stands there
+// is let be.
 fn note<R: Files>(rt: &R, path: String, walk: &mut Walk) -> io::Result<()> {
     let about = match fs::metadata(rt, path.as_str()) {
         Ok(about) => about,
@@ -80,8 +84,9 @@ fn is_new<R: Files + AllocGlobal>(rt: &R, folder: &str, walk: &mut Walk) -> io::
     }
 }
 
-/// The regular files below the folder, in byte order of their paths. Links are followed, and each real folder is entered
-/// once, by the least of its paths that were found, so that it doesn't matter in which order the system lists them.
+/// The regular files below the folder, in byte order of their paths. Links are followed, and each
+/// real folder is entered once, by the least of its paths that were found, so that it doesn't
+/// matter in which order the system lists them.
 pub fn files_below<R: Files + AllocGlobal>(rt: &R, folder: &str) -> io::Result<Vec<String>> {
     let mut walk = Walk {
         files: Vec::new(rt.alloc()),

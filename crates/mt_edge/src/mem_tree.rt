@@ -77,8 +77,8 @@ fn copied(alloc: Global, bytes: &[u8]) -> Result<Bytes, Memory>
 impl MemTree {
     ghost use Rattle.mt_edge.specs.Shown.{tree_files, tree_script};
 
-    /// A tree of these files; of two at one path the later counts. `failing` has the numbers of the calls, counted from 0, that
-    /// are to fail.
+    /// A tree of these files; of two at one path the later counts. `failing` has the numbers of the
+    /// calls, counted from 0, that are to fail.
     pub fn new(
         alloc: Global,
         files: Vec<(String, Bytes)>,

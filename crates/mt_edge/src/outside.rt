@@ -1,5 +1,5 @@
-//! The traits of the outside. A call that fails says so only where a count of faults rose, so that a caller can tell a real fault
-//! from an answer that was made up.
+//! The traits of the outside. A call that fails says so only where a count of faults rose, so that
+//! a caller can tell a real fault from an answer that was made up.
 ghost use Rattle.std.specs.Prelude.{◌≡◌, List, ℕ, OnOk, OnErr, Option};
 ghost use Rattle.mt_edge.specs.Answered.{ListsBelow, TellsLength, ReadsAt, IsReplaced, OldOrReplaced};
 ghost use Rattle.mt_edge.specs.Causes.{HasCause};
@@ -57,7 +57,8 @@ pub trait Tree {
     /// How many calls of `replace` have failed; it stays at 2^64 - 1.
     ghost writing: { Self → ℕ };
 
-    /// The paths of all files below the folder, in byte order, each beginning with the folder and `/`.
+    /// The paths of all files below the folder, in byte order, each beginning with the folder and
+    /// `/`.
     fn list(&mut self, folder: &str) -> Result<Vec<String>, EdgeFault>
         ensures names { ListsBelow folder.now (holds self.old) result }
         ensures same { holds self.new ≡ holds self.old }
@@ -78,7 +79,8 @@ pub trait Tree {
         ensures cause { HasCause (reading self.old) (reading self.new) result }
         ensures other { writing self.new ≡ writing self.old };
 
-    /// Puts the bytes in the place of what the path held; after an error the path holds the old or the new bytes.
+    /// Puts the bytes in the place of what the path held; after an error the path holds the old or
+    /// the new bytes.
     fn replace(&mut self, path: &str, bytes: &[u8]) -> Result<(), EdgeFault>
         ensures ok { OnOk result (IsReplaced path.now bytes.now (holds self.old) (holds self.new)) }
         ensures err { OnErr result

@@ -40,7 +40,8 @@ fn permissions_at<R: Files>(rt: &R, path: &str) -> io::Result<Option<Permissions
 // How many names for a file of its own are tried.
 const TRIES: u32 = 1000;
 
-// A file beside the path that nothing stood in the place of, so that two runs at once have two, and its name.
+// A file beside the path that nothing stood in the place of, so that two runs at once have two, and
+// its name.
 fn new_beside<R: Files + AllocGlobal>(rt: &R, path: &str) -> io::Result<(String, R::File)> {
     for number in 0..TRIES {
         let name = format!(in rt.alloc(); "{path}.mutest-{number}")?;
@@ -76,9 +77,9 @@ fn sync_folder_of<R: Files>(rt: &R, path: &str) -> io::Result<()> {
     File::open(rt, folder)?.sync_all()
 }
 
-/// Puts the bytes in the place of what the file at the path held, by a file of its own that then takes its place, so that
-/// the path never holds a part of them. It stays what it was for all but its bytes: a link stays a link, and a file keeps
-/// its permissions.
+/// Puts the bytes in the place of what the file at the path held, by a file of its own that then
+/// takes its place, so that the path never holds a part of them. It stays what it was for all but
+/// its bytes: a link stays a link, and a file keeps its permissions.
 pub fn replace_file<R: Files + AllocGlobal>(rt: &R, path: &str, bytes: &[u8]) -> io::Result<()> {
     if is_passed_on(path) {
         return pass_on(rt, path, bytes);

@@ -14,7 +14,8 @@ impl Model for Meter {
     ghost view = { λ m. m.count };
 }
 
-/// The steps that one worker made. It can't be dropped: only `Meter::join` spends it, so no step goes uncounted.
+/// The steps that one worker made. It can't be dropped: only `Meter::join` spends it, so no step
+/// goes uncounted.
 pub struct MeterPart {
     count: u64,
 }

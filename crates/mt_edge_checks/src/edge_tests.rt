@@ -15,8 +15,8 @@ enum Call {
     Replace,
 }
 
-// Calls of a tree that holds nothing, the bytes that a file gets, and what each call answers: the paths below the folder,
-// the file's length, the bytes that are read, or what became of it.
+// Calls of a tree that holds nothing, the bytes that a file gets, and what each call answers: the
+// paths below the folder, the file's length, the bytes that are read, or what became of it.
 const CALLS: [(Call, &str, &str, &str); 14] = [
     (Call::List, "", "", ""),
     (Call::Length, "/below/A.class", "", "nothing"),
@@ -116,7 +116,8 @@ const LINKS: [(&str, &str); 6] = [
     ("/dev/null", "/null"),
 ];
 
-// Calls of the real tree, as above: with these links, the folder `kept` and a file of somebody else in it.
+// Calls of the real tree, as above: with these links, the folder `kept` and a file of somebody else
+// in it.
 const CAREFUL_CALLS: [(Call, &str, &str, &str); 21] = [
     (Call::Replace, "/kept/A.class", "first", "done"),
     (Call::Replace, "/link.class", "new", "done"),
@@ -152,8 +153,8 @@ const CAREFUL_CALLS: [(Call, &str, &str, &str); 21] = [
     (Call::Replace, "/kept/A.class/below", "", "failed"),
 ];
 
-// A folder in which all that is asked of care stands: links, a file that only its owner may read, and somebody else's file
-// by the name that a new one would be given first.
+// A folder in which all that is asked of care stands: links, a file that only its owner may read,
+// and somebody else's file by the name that a new one would be given first.
 fn make_careful(rt: &HostRuntime, folder: &str) -> Result<(), Fail> {
     let kept = format!(in rt.alloc(); "{folder}/kept/A.class")?;
     let theirs = format!(in rt.alloc(); "{folder}/kept/A.class.mutest-0")?;
@@ -191,7 +192,8 @@ fn the_real_tree_takes_care(rt: HostRuntime) -> Result<(), Fail> {
     Ok(())
 }
 
-// Calls with a folder that nobody may enter, and what each answers; for root, who may enter all, the other.
+// Calls with a folder that nobody may enter, and what each answers; for root, who may enter all,
+// the other.
 const CLOSED_CALLS: [(Call, &str, &str, &str, &str); 4] = [
     (Call::List, "", "", "failed", "/closed/A.class "),
     (Call::Length, "/closed/A.class", "", "failed", "5"),

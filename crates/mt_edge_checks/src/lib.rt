@@ -1,8 +1,9 @@
-//! Tests and wrong bodies of the lowest crates beside the class files: the outside of the tool (`mt_edge`) and the
-//! arithmetic of ints and longs (`jvm_arith`).
+//! Tests and wrong bodies of the lowest crates beside the class files: the outside of the tool
+//! (`mt_edge`) and the arithmetic of ints and longs (`jvm_arith`).
 //!
-//! Each function here has the contract of the public call that its body makes, word for word. An edit in `must-fail/` puts
-//! a wrong body in its place: what the contract refuses here, it refuses of the call itself.
+//! Each function here has the contract of the public call that its body makes, word for word. An
+//! edit in `must-fail/` puts a wrong body in its place: what the contract refuses here, it refuses
+//! of the call itself.
 #![tactic(auto)]
 
 mod arith;

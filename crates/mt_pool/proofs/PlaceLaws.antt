@@ -1,4 +1,5 @@
--- The places of a pool are read as they are spelled, and `Second` stands behind each entry that takes two.
+-- The places of a pool are read as they are spelled, and `Second` stands behind each entry that
+-- takes two.
 use Rattle.std.proofs.Common.{◌≡◌, ℕ, zero, suc, ◌+◌, ◌-◌, ◌^◌, ◌<◌, Bool, true, false, not, eqb, List, [], ◌∷◌, ◌++◌, length, Option, Some, Ok, refl, sym, ap, subst, ◌∙◌, arith}
 use Rattle.std.specs.Prelude.{◌↔◌, ◌&&◌, ⊤, IsTrue, IsSomeAnd, slice_get}
 use Rattle.std.specs.List.{flat_map, AllByRecursion}

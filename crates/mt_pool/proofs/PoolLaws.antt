@@ -93,7 +93,8 @@ counted input pool rest bytes e =
       form = u.form (omega (arith, u.many, t.1));
     }
 
--- A count of 0 is that of an empty pool too, so what is read is a pool's spelling where the pool has entries.
+-- A count of 0 is that of an empty pool too, so what is read is a pool's spelling where the pool
+-- has entries.
 pub pool_takes : (input : Input) (pool : List Const) (rest : Input) → IsBytes input.bytes → pool_at input ≡ Ok (pool, rest) → 0 < length pool → Takes input (pool_bytes pool) rest × IsPool pool
 pool_takes input pool rest bytes e some =
     let c = counted input pool rest bytes e in
@@ -133,7 +134,8 @@ pool_read input pool rest bytes e =
         positive : (n : ℕ) → (n ≡ 0 → ⊥) → 0 < n
         positive n not_zero = omega (arith, not_zero)
 
--- A pool, and behind it another value that is read only where the pool has an entry, as a class whose own index names one.
+-- A pool, and behind it another value that is read only where the pool has an entry, as a class
+-- whose own index names one.
 pub pool_chain : {B : Type 0} (second : Input → List Const → ItemReader B) (front : B → List Const) (spell_second : Speller B) (Q : B → Type 0)
     → ((start : Input) (pool : List Const) (input : Input) (whole : B) (rest : Input) → second start pool input ≡ Ok (whole, rest) → 0 < length pool)
     → ((input : Input) (pool : List Const) → IsPool pool → IsCodecAt (second input pool) spell_second (λ whole. Q whole × (front whole ≡ pool))) → ((whole : B) → Q whole → IsPool (front whole))

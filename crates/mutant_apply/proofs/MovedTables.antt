@@ -66,7 +66,8 @@ module _ (at more : ℕ) (starts moved : List ℕ) (longer : length moved ≡ le
       (subst (λ (n : ℕ). 0 < n) (sym count) q.0, subst (λ (n : ℕ). n ≤ 3) (sym count) q.1, items_moved items q.2)
   shape_moved delta (shape.Full locals stack) q = (items_moved locals q.0, items_moved stack q.1)
 
-  -- The longer form has room for every offset, and the short one stays only where the offset fits it.
+  -- The longer form has room for every offset, and the short one stays only where the offset fits
+  -- it.
   short_room : (delta : ℕ) (far longer : Bool) → nat_lt 63 delta ≡ longer → delta < 2 ^ 16 → delta < room_of (shape.Same (far || longer))
   short_room delta true longer e lt = lt
   short_room delta false true e lt = lt

@@ -27,7 +27,8 @@ unfoldable pub is_on_ints : Instruction → Bool
 is_on_ints (IfInts c to) = true
 is_on_ints other = false
 
--- The second instruction asks no more of the stack than the first. One that no row applies to asks for what never is.
+-- The second instruction asks no more of the stack than the first. One that no row applies to asks
+-- for what never is.
 unfoldable pub is_alike : Instruction → Instruction → Bool
 is_alike (IfInt c to) j = is_on_int j
 is_alike (IfInts c to) j = is_on_ints j

@@ -88,7 +88,8 @@ module _ (e : edit.Edit) (alone : e.rest ≡ []) where
 
 -- ---- an edit of a class file that puts one instruction in the place of another moves nothing
 
--- The edit of a class file that puts an instruction in the place of another, and the edit of the linked class.
+-- The edit of a class file that puts an instruction in the place of another, and the edit of the
+-- linked class.
 abbrev pub plain_edit : ℕ → ℕ → Insn → ℕ → Edit
 plain_edit number at new more = record { method = number; at = at; with = Plain new ∷ []; more_stack = more }
 

@@ -1,4 +1,5 @@
--- What an instruction of a class file names has the kinds that its descriptors mean, unless it is multianewarray.
+-- What an instruction of a class file names has the kinds that its descriptors mean, unless it is
+-- multianewarray.
 use Rattle.std.proofs.Common.{◌≡◌, ◌∙◌, refl, sym, ap, subst, ℕ, Bool, true, false, List, [], ◌∷◌, map, Some, true≢false}
 use Rattle.std.specs.Prelude.{◌==◌, ◌&&◌, not}
 use Rattle.std.specs.List.{AllByRecursion}

@@ -1,4 +1,5 @@
--- What a class means in which an instruction is replaced by several, and entries are put behind its pool: the class with one instruction edited.
+-- What a class means in which an instruction is replaced by several, and entries are put behind its
+-- pool: the class with one instruction edited.
 use Rattle.std.proofs.Common.{◌≡◌, ◌∙◌, refl, sym, ap, ℕ, zero, suc, ◌+◌, ◌-◌, Bool, false, List, [], ◌∷◌, ◌++◌, map, take, drop, length, Option, Some, arith, append_assoc}
 use Rattle.std.specs.Prelude.{◌==◌, nat_le, slice_get, slice_set, if◌then◌else◌}
 use Rattle.class_model.specs.declared.attribute.Attr.{Attr}

@@ -1,4 +1,5 @@
--- The verdict on a mutant by the runs of all tests is that by the tests whose original runs reach its line.
+-- The verdict on a mutant by the runs of all tests is that by the tests whose original runs reach
+-- its line.
 use Rattle.std.proofs.Common.{◌≡◌, ◌∙◌, refl, sym, ap, subst, ℕ, ◌+◌, Bool, true, false, List, [], ◌∷◌, map, Option, None, ⊎_elim}
 use Rattle.std.specs.Prelude.{cond, filter}
 use Rattle.std.specs.List.{AllByRecursion, enumerate_from}

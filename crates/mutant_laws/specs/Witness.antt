@@ -69,7 +69,8 @@ naming op index = record { op = op; wide = false; arg = arg.Pool index }
 abbrev attr : ℕ → Body → Attr
 attr name b = roll-Attr (record { name = name; body = b })
 
--- A method with Code of one word of stack and one local, by the indices of its name, its descriptor and the word Code.
+-- A method with Code of one word of stack and one local, by the indices of its name, its descriptor
+-- and the word Code.
 abbrev coded : ℕ → ℕ → ℕ → ℕ → ℕ → List Insn → List Attr → Member
 coded flags name desc word stack insns tables = record {
   flags = flags;

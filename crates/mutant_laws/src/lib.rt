@@ -1,7 +1,7 @@
 //! Laws of mutants, over definitions alone: the program that a mutant's edit makes is the program
-//! with one instruction edited in the sense of `edit_laws`, whichever mutator the mutant is of, so the
-//! laws of edits hold of it. Each law is the contract of a function that does nothing but call the
-//! functions whose laws it rests on.
+//! with one instruction edited in the sense of `edit_laws`, whichever mutator the mutant is of, so
+//! the laws of edits hold of it. Each law is the contract of a function that does nothing but call
+//! the functions whose laws it rests on.
 #![tactic(auto)]
 
 ghost use Rattle.mutant_laws.specs.Edited.{ListedAreMutated, MutantsAreEdits, IntJumpsGoOn, IntJumpsAreExchanged};
@@ -63,8 +63,9 @@ pub fn unreached_mutants_run_alike()
     unreached_runs_are_alike();
 }
 
-/// A test that ended reaches the mutant's class and line where its run on the mutant does; and where
-/// it does so does that run, unless it is stuck right at the mutant's place. The library is whole.
+/// A test that ended reaches the mutant's class and line where its run on the mutant does; and
+/// where it does so does that run, unless it is stuck right at the mutant's place. The library is
+/// whole.
 pub fn mutants_are_reached_alike()
     ensures { ReachingIsAlike }
 {
@@ -81,9 +82,9 @@ pub fn mutants_are_covered_alike()
     runs_reach_the_line_the_same();
 }
 
-/// Where all tests pass and no run on a viable mutant is stuck right at its place, its verdict by the
-/// runs of all tests is that by the tests whose original runs reach its class and line, so no other
-/// test need be run on it. Of a mutant that exchanges jumps on ints it is so in any case.
+/// Where all tests pass and no run on a viable mutant is stuck right at its place, its verdict by
+/// the runs of all tests is that by the tests whose original runs reach its class and line, so no
+/// other test need be run on it. Of a mutant that exchanges jumps on ints it is so in any case.
 pub fn selected_tests_suffice()
     ensures { SelectedSuffice }
 {
@@ -103,8 +104,8 @@ pub fn viable_mutants_are_never_stuck()
     accepted_code_is_never_stuck();
 }
 
-/// Where all tests pass on such a program, whose library is whole, the verdict on each viable mutant
-/// is that by the tests whose original runs reach its class and line.
+/// Where all tests pass on such a program, whose library is whole, the verdict on each viable
+/// mutant is that by the tests whose original runs reach its class and line.
 pub fn selected_tests_always_suffice()
     ensures { SelectedAlwaysSuffice }
 {
@@ -113,8 +114,8 @@ pub fn selected_tests_always_suffice()
 }
 
 /// What these laws ask is met: by a program of a class A, of tests T and of the least library that
-/// serves, by the mutant of A's jump with its bound moved, whose class is accepted, and by two tests
-/// that pass, one of which reaches the mutant's line.
+/// serves, by the mutant of A's jump with its bound moved, whose class is accepted, and by two
+/// tests that pass, one of which reaches the mutant's line.
 pub fn mutant_laws_are_of_use()
     ensures { PremisesAreMet }
 {

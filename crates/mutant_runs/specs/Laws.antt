@@ -1,4 +1,5 @@
--- When `viable` and `verdicts` may be called: the mutants of the class files of a program are of the program.
+-- When `viable` and `verdicts` may be called: the mutants of the class files of a program are of
+-- the program.
 use Rattle.std.specs.Prelude.{◌≡◌, ℕ, List, All, Some, slice_get}
 use Rattle.class_model.specs.declared.class.Class.{Class}
 use Rattle.class_reader.specs.Spells.{IsClass}

@@ -39,8 +39,8 @@ edited files p m = option_map (λ made. with_class made.0 p) (option_and_then (�
 abbrev pub with_accepted : Name → Look → Option Look
 with_accepted n p = if is_some (class_fault p n) then None else Some p
 
--- The program that a mutant is run as; none where the edited class has no layout or is refused. Where
--- it is accepted, so is the program, if the one that is edited is (`accepted_edits`).
+-- The program that a mutant is run as; none where the edited class has no layout or is refused.
+-- Where it is accepted, so is the program, if the one that is edited is (`accepted_edits`).
 abbrev pub viable : ClassFiles → Look → Mutant → Option Look
 viable files p m = option_and_then (with_accepted m.class) (edited files p m)
 

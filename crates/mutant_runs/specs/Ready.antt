@@ -8,8 +8,8 @@ use Rattle.jvm_world.specs.Finding.{lacks}
 use Rattle.jvm_machine.specs.Tables.{looked_up}
 use Rattle.accepted_edits.specs.Codes.{IsBoundedBody}
 
--- Supers are of the right kinds, the code of each class is accepted and within the bounds of a class
--- file, and the classes are there that the machine and native methods look up.
+-- Supers are of the right kinds, the code of each class is accepted and within the bounds of a
+-- class file, and the classes are there that the machine and native methods look up.
 pub record IsReady (p : List Info) : Type 0 where
   pub kinds : HasRightKinds (look p)
   pub accepted : Accepted (look p)

@@ -12,7 +12,8 @@ use Rattle.mutator_ops.specs.declared.mutant.Mutant.{Mutant}
 use Rattle.mutator_ops.specs.declared.mutant.State.{State}
 use Rattle.mutator_ops.specs.declared.mutant.State.TheVariants as state
 
--- The run of a test on the program that an edit makes, where its run on the program as it is took so many steps.
+-- The run of a test on the program that an edit makes, where its run on the program as it is took
+-- so many steps.
 unfoldable pub mutant_run : Limits → Look → Test → ℕ → Ran
 mutant_run q p t n = run_of p (test_of t) q (limit_of n)
 

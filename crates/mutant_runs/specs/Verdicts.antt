@@ -16,7 +16,8 @@ use Rattle.mutant_runs.specs.Runs.{Timed, runs_on, reaches, detected}
 abbrev pub covering : Mutant → List (ℕ × Ran) → List ℕ
 covering m runs = map (λ r. r.0) (filter (λ r. reaches m r.1) runs)
 
--- The first test whose run detects the mutant, by its number, and the state that this run gives to it.
+-- The first test whose run detects the mutant, by its number, and the state that this run gives to
+-- it.
 abbrev pub killer : List (ℕ × Ran) → Option (ℕ × State)
 killer [] = None
 killer (r ∷ runs) = option_or (option_map (λ s. (r.0, s)) (detected r.1.ending)) (killer runs)

@@ -81,9 +81,9 @@ fn verdicts_with(
 /// The verdict on each mutant, by runs of the tests that reach its class and line, up to the first
 /// that detects it; NON_VIABLE where it isn't viable, NO_COVERAGE where no test reaches them.
 /// `steps` has at each test's place the steps of its run on the program as it is, `cover` the lines
-/// that this run reached, and `viable` at each mutant's place whether it is viable. The steps of all
-/// runs are counted in the part, and the program is as before afterwards, also where memory runs
-/// out.
+/// that this run reached, and `viable` at each mutant's place whether it is viable. The steps of
+/// all runs are counted in the part, and the program is as before afterwards, also where memory
+/// runs out.
 #[tactic(auto, using(crate::proofs::ReadyLaws::not_lacking, crate::proofs::NamedLaws::named_of))]
 pub fn verdicts(
     alloc: Global,

@@ -10,8 +10,8 @@ use crate::seat::ClaimSeat;
 use crate::table::{ClaimTable, NO_PLACE};
 
 impl ClaimTable {
-    /// Draws the next number. None where it is at or past the cells, or where this worker drew such a number before: then
-    /// it draws no more.
+    /// Draws the next number. None where it is at or past the cells, or where this worker drew such
+    /// a number before: then it draws no more.
     pub fn claim(&self, seat: &mut ClaimSeat) -> Option<u64>
         requires { IsSeatOf self.now seat.old }
         ensures seat { IsSeatOf self.now seat.new }

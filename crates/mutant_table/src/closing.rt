@@ -8,8 +8,8 @@ use atomic_table::Seat;
 use class_model::Seq;
 
 impl ClaimTable {
-    /// What the words say at the end, with the lists of the seats: one state in which the claims agree. On want of memory
-    /// all comes back.
+    /// What the words say at the end, with the lists of the seats: one state in which the claims
+    /// agree. On want of memory all comes back.
     pub fn close(self, seats: Vec<ClaimSeat>) -> Result<ClaimEnd, (ClaimTable, Vec<ClaimSeat>)>
         requires { AreSeats self seats.items }
         ensures agree { IfOk result (AgreesAtEnd self seats.items) }

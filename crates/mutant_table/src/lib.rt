@@ -1,4 +1,5 @@
-//! The claims under real threads: workers draw cells from one atomic word, and keep each mutant's least detected place in another.
+//! The claims under real threads: workers draw cells from one atomic word, and keep each mutant's
+//! least detected place in another.
 #![tactic(auto)]
 
 mod claiming;

@@ -10,7 +10,8 @@ use class_model::Memory;
 use std::alloc::Global;
 
 impl ClaimTable {
-    /// A table at which nothing is drawn and nothing detected, and its seats, in the order of their numbers.
+    /// A table at which nothing is drawn and nothing detected, and its seats, in the order of their
+    /// numbers.
     pub fn new(
         alloc: Global,
         mutants: u64,

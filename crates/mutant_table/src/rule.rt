@@ -1,10 +1,12 @@
-// The rule of the table, and what its steps tell. No value of a view is ever made: it stands in contracts alone.
+// The rule of the table, and what its steps tell. No value of a view is ever made: it stands in
+// contracts alone.
 use atomic_table::{Join, Play, Split, TableRule};
 use claim_core::ClaimEntry;
 use std::collections::LinkedList;
 
-// What a worker's seat knows: its number, what it did, and the table's sizes. The seat of worker 0 knows how many seats
-// were made, and the lists of those that it took in. A spent seat knows nothing.
+// What a worker's seat knows: its number, what it did, and the table's sizes. The seat of worker 0
+// knows how many seats were made, and the lists of those that it took in. A spent seat knows
+// nothing.
 pub struct View {
     pub live: bool,
     pub worker: u64,

@@ -4,7 +4,8 @@ ghost use Rattle.claim_core.specs.Claims.{is_exhausted};
 use crate::rule::View;
 use atomic_table::Seat;
 
-/// A worker's seat at a claim table. At run time it keeps only whether the worker drew a number at or past the cells.
+/// A worker's seat at a claim table. At run time it keeps only whether the worker drew a number at
+/// or past the cells.
 #[derive(Drop)]
 pub struct ClaimSeat {
     pub(crate) seat: Seat<u8, View>,

@@ -11,8 +11,8 @@ pub const NO_PLACE: u64 = 65535;
 /// The words, with the rule that they and the seats keep.
 pub type Words = Table<u8, View, Sizes, ClaimRule, Global>;
 
-/// The shared words of the claims: the number that is drawn next, and the least detected place of each mutant. Its three
-/// steps wait for nobody, loop nowhere and take no memory.
+/// The shared words of the claims: the number that is drawn next, and the least detected place of
+/// each mutant. Its three steps wait for nobody, loop nowhere and take no memory.
 #[derive(Drop)]
 pub struct ClaimTable {
     pub(crate) alloc: Global,

@@ -1,4 +1,5 @@
--- One more class of a program in the order of names; the mutants of classes are as many as their counts say.
+-- One more class of a program in the order of names; the mutants of classes are as many as their
+-- counts say.
 use Rattle.std.proofs.Common.{◌≡◌, ◌∙◌, refl, sym, ap, arith, ℕ, ◌+◌, ◌<◌, List, [], ◌∷◌, ◌++◌, map, length, take, get_or, Option, None, Some}
 use Rattle.std.specs.Prelude.{fold, sum_by}
 use Rattle.std.specs.Io.Iter.{u64_saturate}

@@ -1,4 +1,5 @@
-//! The program: its words, the real files and the real output are handed to the top call, whose status is the exit status.
+//! The program: its words, the real files and the real output are handed to the top call, whose
+//! status is the exit status.
 #![tactic(auto)]
 
 use class_model::Memory;
@@ -9,7 +10,8 @@ use std::env::Env;
 use std::io::ErrorKind;
 use std::process::ExitCode;
 
-// The words behind the program's name. Words that are no text count as no words, which no command has.
+// The words behind the program's name. Words that are no text count as no words, which no command
+// has.
 fn words(rt: &(impl Env + AllocGlobal)) -> Result<Vec<String>, Memory> {
     let mut words = Vec::new(rt.alloc());
     match env::args(rt) {

@@ -62,7 +62,8 @@ pub are_few : (p : List Info) (ts : List Test) (ms : List Mutant) (cover : Cover
 are_few p ts ms cover bs count covered told counted =
     same_cells count (length (cells counted.0 bs cover)) counted.2 ∙ ap refuse_many_cells (covered.cells counted.0 bs counted.1 told)
 
--- The same with the program behind the call that tells which mutants are viable, and its answer as a slice.
+-- The same with the program behind the call that tells which mutants are viable, and its answer as
+-- a slice.
 pub count_is : (p after : List Info) (ts : List Test) (ms : List Mutant) (cover : Covered) (bs told : List Bool) (count : ℕ) → after ≡ p → told ≡ bs → AreCovered p ts ms cover → AreViable p ms bs → IsCellCount after ms told cover count → refuse_many_cells count ≡ cells_few_in p ts ms
 count_is p after ts ms cover bs told count same slice covered viable counted =
     are_few p ts ms cover bs count covered viable

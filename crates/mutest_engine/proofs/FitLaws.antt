@@ -179,7 +179,8 @@ one_fits files c m form is named fits =
     let here : files m.class ≡ Some c = ap files named ∙ is in
     subst (λ (o : Option Class). IfSome o (λ d. HasClassForm d × Fits d m.edit × IsClass d)) (sym here) (form.form, fits, form.spelled)
 
--- A mutant of a class file: it is listed of the one that its class's name means, which takes its edit.
+-- A mutant of a class file: it is listed of the one that its class's name means, which takes its
+-- edit.
 abbrev IsListedIn : ClassFiles → Mutant → Type 0
 IsListedIn files m =
     (c : Class) × (files m.class ≡ Some c) × Contains (class_mutants c) m × IsMutantOf files m

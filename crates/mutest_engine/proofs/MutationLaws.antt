@@ -88,7 +88,8 @@ tested_ok files p ts ms vs ready is = tested_is files p ts ms ready ∙ passed_b
 
 -- ---- a suite
 
--- These are the class files, the program, the tests and the mutants of a suite whose classes make a program.
+-- These are the class files, the program, the tests and the mutants of a suite whose classes make a
+-- program.
 pub record IsLinked (s : LoadedSuite) (files : ClassFiles) (p : Look) (ts : List Test) (ms : List Mutant) : Type 0 where
   pub of_program : linked s ≡ Ok tt
   pub by_file : files ≡ suite_files s

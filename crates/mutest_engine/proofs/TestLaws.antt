@@ -109,7 +109,8 @@ as_long : (ls : List Loaded) → length ls ≡ length (map own_name (classes_in 
 as_long [] = refl
 as_long (l ∷ ls) = ap suc (as_long ls)
 
--- The names of a suite's program: those of its classes folder, of its tests folder, and of the library.
+-- The names of a suite's program: those of its classes folder, of its tests folder, and of the
+-- library.
 parted : (s : LoadedSuite) → names_in (classes_in (all_classes s)) ≡ map own_name (classes_in s.classes) ++ (map own_name (classes_in s.tests) ++ names_in [])
 parted s =
     ap names_in (classes_both s.classes s.tests)

@@ -12,8 +12,8 @@ use class_asm::{AsmFault, assemble};
 use class_model::Bytes;
 use std::alloc::Global;
 
-/// The class file of the class that a text states, which is one of the standard's form; or the first
-/// line at fault.
+/// The class file of the class that a text states, which is one of the standard's form; or the
+/// first line at fault.
 pub fn class_file_of(alloc: Global, text: &[u8]) -> Result<Bytes, Stop>
     ensures bytes { IfOk result (IsAssembledTo text.now) }
     ensures refused { IfErr result (Refuses (λ r. stated_class text.now ≡ Err r)) }

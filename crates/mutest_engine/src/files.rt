@@ -80,7 +80,8 @@ fn read_whole<T: Tree>(alloc: Global, tree: &mut T, path: &str) -> Result<Bytes,
     }
 }
 
-/// The bytes of a file. Its length is asked first, so that none is read whole that is past the limit.
+/// The bytes of a file. Its length is asked first, so that none is read whole that is past the
+/// limit.
 pub fn read_file<T: Tree>(alloc: Global, tree: &mut T, path: &str) -> Result<Bytes, Halt>
     ensures value { ReadsHeld (T.holds tree.old) (file_of path.now) result }
     ensures tree { Asks T.holds T.writing T.reading (IsUnheld path.now) tree.old tree.new result }

@@ -1,5 +1,5 @@
-//! The mutants of a suite: those of the class files that have the first numbers of its program. They
-//! are counted before one is made.
+//! The mutants of a suite: those of the class files that have the first numbers of its program.
+//! They are counted before one is made.
 
 ghost use Rattle.std.specs.Prelude.{◌≡◌, ◌≤◌, length, Ok, IfOk, IfErr};
 ghost use Rattle.mutest_engine.specs.Mutation.{AreFirstMutants, refuse_many_mutants, HasTooMany};

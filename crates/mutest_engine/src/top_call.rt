@@ -292,10 +292,11 @@ fn finish<T: Tree, S: Sink>(
     }
 }
 
-/// Does what the words behind the program's name say. `list FILE` puts the identifiers of the mutants of
-/// the class file FILE, one per line. `run --classes DIR --tests DIR --report FILE` runs each test of a
-/// suite on each of its mutants, replaces the report and puts the summary. `asm FILE --out FILE` replaces
-/// the second file by the class file that the text of the first states. Options stand in any order.
+/// Does what the words behind the program's name say. `list FILE` puts the identifiers of the
+/// mutants of the class file FILE, one per line. `run --classes DIR --tests DIR --report FILE` runs
+/// each test of a suite on each of its mutants, replaces the report and puts the summary.
+/// `asm FILE --out FILE` replaces the second file by the class file that the text of the first
+/// states. Options stand in any order.
 pub fn run<T: Tree, S: Sink>(
     alloc: Global,
     words: &Vec<String>,
@@ -304,8 +305,8 @@ pub fn run<T: Tree, S: Sink>(
     meter: &mut Meter,
 ) -> Status
     requires { meter.old < 2 ^ 63 }
-    // Where the tree tells its files, each status comes exactly where words and files say so, but for
-    // faults and want of memory.
+    // Where the tree tells its files, each status comes exactly where words and files say so, but
+    // for faults and want of memory.
     ensures status { AgreesHeld (T.holds tree.old) words.now result }
     // Whatever the tree tells: what the words alone decide.
     ensures status_untold { AgreesUntold (words_of (texts words.now)) result }

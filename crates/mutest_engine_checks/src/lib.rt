@@ -1,5 +1,5 @@
-//! Tests of the top call, what it prints, writes and counts for small class files and what it tells where something fails,
-//! and wrong bodies of it.
+//! Tests of the top call, what it prints, writes and counts for small class files and what it tells
+//! where something fails, and wrong bodies of it.
 #![tactic(auto)]
 
 #[cfg(test)]

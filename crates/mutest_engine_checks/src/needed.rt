@@ -20,7 +20,8 @@ const B: [u8; 130] = [
     0x00, 0x00,
 ];
 
-// `static int w(int)`, which counts up to its argument: `W` of the suite `endless-loop` of the examples.
+// `static int w(int)`, which counts up to its argument: `W` of the suite `endless-loop` of the
+// examples.
 const W: [u8; 171] = [
     0xca, 0xfe, 0xba, 0xbe, 0x00, 0x00, 0x00, 0x34, 0x00, 0x0a, 0x01, 0x00, 0x01, 0x57, 0x07, 0x00,
     0x01, 0x01, 0x00, 0x10, 0x6a, 0x61, 0x76, 0x61, 0x2f, 0x6c, 0x61, 0x6e, 0x67, 0x2f, 0x4f, 0x62,
@@ -112,7 +113,8 @@ fn a_mutant_without_end_takes_its_limit(rt: HostRuntime) -> Result<(), Fail> {
         told.1.as_slice(),
         b"mutants 4 killed 3 survived 0 no_coverage 0 timed_out 1 non_viable 0 errors 0\n".as_slice()
     );
-    // The original takes 29 steps, so the limit is 100,036; the three that are killed take 34, 19 and 31.
+    // The original takes 29 steps, so the limit is 100,036; the three that are killed take 34, 19
+    // and 31.
     assert_eq!(rt; told.2, 100_149);
     Ok(())
 }

@@ -95,8 +95,8 @@ fn tests_run_until_one_detects_the_mutant(rt: HostRuntime) -> Result<(), Fail> {
         told.1.as_slice(),
         b"mutants 6 killed 4 survived 2 no_coverage 0 timed_out 0 non_viable 0 errors 0\n".as_slice()
     );
-    // Of fourteen runs two aren't needed, behind one that detects its mutant. Each takes 15 steps, and 2
-    // more where another value is returned.
+    // Of fourteen runs two aren't needed, behind one that detects its mutant. Each takes 15 steps,
+    // and 2 more where another value is returned.
     assert_eq!(rt; told.2, 188);
     let report =
         br#"{"files":{"A.java":{"language":"java","mutants":[{"coveredBy":["T.neg","T.zero"],"id":"A.f(I)Z@1:CONDITIONALS_BOUNDARY","killedBy":["T.zero"],"location":{"end":{"column":2,"line":3},"start":{"column":1,"line":3}},"mutatorName":"CONDITIONALS_BOUNDARY","status":"Killed"},{"coveredBy":["T.neg","T.zero"],"id":"A.f(I)Z@1:NEGATE_CONDITIONALS","killedBy":["T.neg"],"location":{"end":{"column":2,"line":3},"start":{"column":1,"line":3}},"mutatorName":"NEGATE_CONDITIONALS","status":"Killed"},{"coveredBy":["T.neg","T.zero"],"id":"A.f(I)Z@3:FALSE_RETURNS","killedBy":["T.neg"],"location":{"end":{"column":2,"line":3},"start":{"column":1,"line":3}},"mutatorName":"FALSE_RETURNS","status":"Killed"},{"coveredBy":["T.neg","T.zero"],"id":"A.f(I)Z@3:TRUE_RETURNS","location":{"end":{"column":2,"line":3},"start":{"column":1,"line":3}},"mutatorName":"TRUE_RETURNS","status":"Survived"},{"coveredBy":["T.neg","T.zero"],"id":"A.f(I)Z@5:FALSE_RETURNS","location":{"end":{"column":2,"line":3},"start":{"column":1,"line":3}},"mutatorName":"FALSE_RETURNS","status":"Survived"},{"coveredBy":["T.neg","T.zero"],"id":"A.f(I)Z@5:TRUE_RETURNS","killedBy":["T.zero"],"location":{"end":{"column":2,"line":3},"start":{"column":1,"line":3}},"mutatorName":"TRUE_RETURNS","status":"Killed"}],"source":""}},"schemaVersion":"1","testFiles":{},"thresholds":{"high":80,"low":60}}"#.as_slice();

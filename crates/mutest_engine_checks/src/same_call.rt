@@ -1,5 +1,5 @@
-//! The top call once more, for the wrong bodies in `must-fail/`: each puts another body in the place of this one, which
-//! the same contract refuses.
+//! The top call once more, for the wrong bodies in `must-fail/`: each puts another body in the
+//! place of this one, which the same contract refuses.
 
 ghost use Rattle.std.specs.Prelude.{◌<◌, ◌^◌};
 ghost use Rattle.mutest_engine.specs.Words.{words_of};
@@ -20,8 +20,8 @@ pub fn called<T: Tree, S: Sink>(
     meter: &mut Meter,
 ) -> Status
     requires { meter.old < 2 ^ 63 }
-    // Where the tree tells its files, each status comes exactly where words and files say so, but for
-    // faults and want of memory.
+    // Where the tree tells its files, each status comes exactly where words and files say so, but
+    // for faults and want of memory.
     ensures status { AgreesHeld (T.holds tree.old) words.now result }
     // Whatever the tree tells: what the words alone decide.
     ensures status_untold { AgreesUntold (words_of (texts words.now)) result }

@@ -1,4 +1,5 @@
--- From the kinds of a native method's arguments to the forms that they have, and to what stands behind each form.
+-- From the kinds of a native method's arguments to the forms that they have, and to what stands
+-- behind each form.
 use Rattle.std.proofs.Common.{ℕ, ℤ, Bool, true, false, List, [], ◌∷◌, Option, None, sym, subst}
 use Rattle.std.specs.Prelude.{if◌then◌else◌}
 use Rattle.program_rules.specs.declared.value.Value.{Value}

@@ -1,5 +1,5 @@
--- What the tests that cover a mutant say of it is what all tests say, and it takes the runs that are
--- needed.
+-- What the tests that cover a mutant say of it is what all tests say, and it takes the runs that
+-- are needed.
 use Rattle.std.proofs.Common.{◌≡◌, ◌∙◌, refl, sym, ap, ap₂, subst, ℕ, suc, ◌+◌, Bool, true, false, List, [], ◌∷◌, map, length, Option, None, Some, is_some, All, slice_get, arith}
 use Rattle.std.specs.Prelude.{◌&&◌, ◌||◌, ◌==◌, if◌then◌else◌, filter, flat_map, zip, sum_by, option_and_then, IfSome}
 use Rattle.std.specs.List.{AllByRecursion, AllZip, enumerate_from, list_any, range_with_len}

@@ -35,7 +35,8 @@ module _ (reached : Test → Bool) (steps : Test → ℕ) where
   timed_of (u ∷ ts) zero t e = let one : u ≡ t = cc in ap (λ z. Some (z, steps z)) one
   timed_of (u ∷ ts) (suc k) t e = timed_of ts k t e
 
-  -- The tests that are picked by the numbers of those that reach the line are these, with their steps.
+  -- The tests that are picked by the numbers of those that reach the line are these, with their
+  -- steps.
   pub picked_are : (ts : List Test) → picked (timed ts (map steps ts)) (map (λ (t : ℕ × Test). t.0) (filter chosen (enumerate_from 0 ts))) ≡ map with_steps (filter chosen (enumerate_from 0 ts))
   picked_are ts = picked_from (timed ts (map steps ts)) 0 ts (λ k t e. ap (slice_get (timed ts (map steps ts))) (omega arith) ∙ timed_of ts k t e)
 
@@ -49,7 +50,8 @@ module _ (reached : Test → Bool) (steps : Test → ℕ) where
     runs_case true false n t rest runs e h = absurd cc
     runs_case false true n t rest runs e h = absurd cc
 
-    -- Where the runs on a mutant reach its line as the tests do, those that do are those of these tests.
+    -- Where the runs on a mutant reach its line as the tests do, those that do are those of these
+    -- tests.
     pub runs_are : (n : ℕ) (ts : List Test) → AllByRecursion (λ t. reaches m (after t) ≡ reached t) ts
         → map (λ (t : ℕ × Test). after t.1) (filter chosen (enumerate_from n ts)) ≡ filter (reaches m) (map run (timed ts (map steps ts)))
     runs_are n [] h = refl

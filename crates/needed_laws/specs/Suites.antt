@@ -1,4 +1,5 @@
--- The program of a suite is as the laws of accepted programs ask, and so are the tests that are found.
+-- The program of a suite is as the laws of accepted programs ask, and so are the tests that are
+-- found.
 use Rattle.std.specs.Prelude.{◌≡◌, ℕ, List, All, Ok}
 use Rattle.class_model.specs.declared.class.Class.{Class}
 use Rattle.class_reader.specs.Spells.{IsClass}

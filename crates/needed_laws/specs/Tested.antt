@@ -1,4 +1,5 @@
--- A program whose tests were run on it: what the tests that cover a mutant say of it is what all say.
+-- A program whose tests were run on it: what the tests that cover a mutant say of it is what all
+-- say.
 use Rattle.std.specs.Prelude.{◌≡◌, ℕ, Bool, List, All, map, length, sum_by, Some}
 use Rattle.std.specs.List.{AllZip, Contains}
 use Rattle.class_model.specs.declared.class.Class.{Class}

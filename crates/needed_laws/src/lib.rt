@@ -20,7 +20,8 @@ use order_laws::{ordered_has_layout, ordered_is_built, tops_are_object};
 use script_laws::found_in_programs_fit;
 
 /// The verdicts by the tests that cover each mutant are those by all tests, the steps of their runs
-/// are those of the runs that are needed, and there are as many cells as covering tests of verdicts.
+/// are those of the runs that are needed, and there are as many cells as covering tests of
+/// verdicts.
 pub fn covering_tests_are_needed()
     ensures { CoveringTestsAreNeeded }
 {
@@ -31,7 +32,8 @@ pub fn covering_tests_are_needed()
     listed_exactly();
 }
 
-/// The program of a suite is built and accepted as the laws of mutants ask, and its library is whole.
+/// The program of a suite is built and accepted as the laws of mutants ask, and its library is
+/// whole.
 pub fn suites_are_safe()
     ensures { SuitesAreSafe }
 {

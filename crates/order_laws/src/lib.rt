@@ -28,8 +28,8 @@ pub fn none_is_passed()
     ensures { NoneIsPassed }
 {}
 
-/// A search that finds the same behind each class below another one finds from each of these what it
-/// finds from that one.
+/// A search that finds the same behind each class below another one finds from each of these what
+/// it finds from that one.
 pub fn searches_agree<X>()
     ensures { SearchesAgree X }
 {}
@@ -40,7 +40,8 @@ pub fn firsts_are_found<X>()
     ensures { FirstsAreFound X }
 {}
 
-/// Fields are laid out alike in all classes below the one that declares them, where Object has none.
+/// Fields are laid out alike in all classes below the one that declares them, where Object has
+/// none.
 pub fn ordered_has_layout()
     ensures { OrderedHasLayout }
 {}

@@ -7,8 +7,8 @@ use mt_pool::class_name_of;
 use std::alloc::Global;
 use std::collections::HashSet;
 
-/// The classes that were read, with their names, and how many weren't: those outside of the profile, and those that are no
-/// class files.
+/// The classes that were read, with their names, and how many weren't: those outside of the
+/// profile, and those that are no class files.
 #[derive(Drop)]
 pub struct Read {
     pub classes: Seq<Loaded>,

@@ -1,9 +1,10 @@
-//! Class files for tests, as bytes. A layer that tests over a class file takes it from here, and one that is of use to a
-//! second layer is added here.
+//! Class files for tests, as bytes. A layer that tests over a class file takes it from here, and
+//! one that is of use to a second layer is added here.
 #![tactic(auto)]
 
-/// A: `static boolean f(int)`, which answers whether its argument is below 0, with its lines and frames. Its second
-/// instruction, at byte 126, is the `ifge` that jumps where the argument isn't below 0.
+/// A: `static boolean f(int)`, which answers whether its argument is below 0, with its lines and
+/// frames. Its second instruction, at byte 126, is the `ifge` that jumps where the argument isn't
+/// below 0.
 pub const A: [u8; 160] = [
     0xca, 0xfe, 0xba, 0xbe, 0x00, 0x00, 0x00, 0x34, 0x00, 0x0a, 0x01, 0x00, 0x01, 0x41, 0x07, 0x00,
     0x01, 0x01, 0x00, 0x10, 0x6a, 0x61, 0x76, 0x61, 0x2f, 0x6c, 0x61, 0x6e, 0x67, 0x2f, 0x4f, 0x62,
@@ -30,8 +31,9 @@ pub const A_BARE: [u8; 139] = [
     0x05, 0x04, 0xac, 0x03, 0xac, 0x00, 0x00, 0x00, 0x00, 0x00, 0x00,
 ];
 
-/// T, a class of tests of A: `<init>()V`, which calls that of Object, `neg()V` with `@Test`, which asserts that `A.f(-1)`
-/// is true, and `zero()V` with `@Test`, which asserts that `A.f(0)` is false.
+/// T, a class of tests of A: `<init>()V`, which calls that of Object, `neg()V` with `@Test`, which
+/// asserts that `A.f(-1)` is true, and `zero()V` with `@Test`, which asserts that `A.f(0)` is
+/// false.
 pub const T: [u8; 372] = [
     0xca, 0xfe, 0xba, 0xbe, 0x00, 0x00, 0x00, 0x34, 0x00, 0x1d, 0x01, 0x00, 0x01, 0x54, 0x07, 0x00,
     0x01, 0x01, 0x00, 0x10, 0x6a, 0x61, 0x76, 0x61, 0x2f, 0x6c, 0x61, 0x6e, 0x67, 0x2f, 0x4f, 0x62,

@@ -1,4 +1,5 @@
--- A class file and those of its superclasses stand above the first, and what they declare is listed.
+-- A class file and those of its superclasses stand above the first, and what they declare is
+-- listed.
 use Rattle.std.proofs.Common.{◌≡◌, ◌∙◌, inl, inr, refl, sym, ap, subst, ℕ, zero, suc, Bool, true, false, List, [], ◌∷◌, ◌++◌, Option, Some, None}
 use Rattle.std.specs.Prelude.{◌-◌, ◌==◌, if◌then◌else◌, option_and_then, slice_get}
 use Rattle.std.specs.List.{AllByRecursion}

@@ -1,4 +1,5 @@
--- Which classes stand above themselves, found within as many levels as there are classes, and the least name with a fault.
+-- Which classes stand above themselves, found within as many levels as there are classes, and the
+-- least name with a fault.
 use Rattle.std.proofs.Common.{◌≡◌, ◌∙◌, ℕ, zero, suc, ◌+◌, ◌-◌, ◌≤◌, Bool, true, false, cond, List, [], ◌∷◌, length, map, Option, Some, None, slice_get, refl, sym, ap, subst, arith, inl, inr, ⊎_elim}
 use Rattle.std.specs.Prelude.{IsTrue, ◌||◌, filter, option_and_then}
 use Rattle.std.specs.Option.{option_map, option_or}

@@ -142,9 +142,9 @@ pub fn in_order(
 /// The tests of these classes of a program, in the byte order of their names in modified UTF-8. The
 /// other classes of the program matter only where they are superclasses.
 ///
-/// `RunnerUsed`: a class of these uses a runner. `BadTest`: a listed method of a test class of these
-/// breaks a rule. The first fault is told: by classes in order, a runner first in each, then by
-/// methods in list order, then by rules.
+/// `RunnerUsed`: a class of these uses a runner. `BadTest`: a listed method of a test class of
+/// these breaks a rule. The first fault is told: by classes in order, a runner first in each, then
+/// by methods in list order, then by rules.
 pub fn tests(alloc: Global, program: &Program, from: &Seq<ClassId>) -> Result<Seq<Test>, TestFault>
     ensures { Finds (program_tests program.now from.now) result }
 {

@@ -1,4 +1,5 @@
--- multianewarray goes on from a state that fits to one that fits: the arrays of each level are made by the name of the level, by induction on the counts.
+-- multianewarray goes on from a state that fits to one that fits: the arrays of each level are made
+-- by the name of the level, by induction on the counts.
 use Rattle.std.proofs.Common.{◌≡◌, ◌≤◌, ◌<◌, ℕ, zero, suc, ◌+◌, ◌++◌, ◌&&◌, Bool, true, false, List, [], ◌∷◌, length, map, replicate, Option, Some, None, ℤ, refl, sym, ap, ◌∙◌, subst, arith}
 use Rattle.std.specs.Prelude.{codes, nat_eq, nat_le, nat_lt, if◌then◌else◌, unsigned_abs}
 use Rattle.std.specs.Int.{is_negative}

@@ -83,7 +83,8 @@ fn add_all(types: &mut Vec<SlotType>, more: &[SlotType]) -> Result<(), Memory>
     Ok(())
 }
 
-/// The types of the receiver and of the arguments, in a method of the class of this name and number.
+/// The types of the receiver and of the arguments, in a method of the class of this name and
+/// number.
 pub fn first_types(
     names: &mut Names,
     program: &Program,

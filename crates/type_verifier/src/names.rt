@@ -119,8 +119,8 @@ impl Names {
         }
     }
 
-    // The number of the first name, from this one on by components, that has one or that is no array
-    // of references; those before it are left in the chain.
+    // The number of the first name, from this one on by components, that has one or that is no
+    // array of references; those before it are left in the chain.
     fn end_of(
         &mut self,
         program: &Program,

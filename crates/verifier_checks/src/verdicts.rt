@@ -36,7 +36,8 @@ pub fn verify(alloc: Global, program: &Program) -> Result<(), VerifyEnd>
 }
 
 /// Whether all code of a program is accepted, of which nothing is known: what `is_numbered` and
-/// `verify_library` answer is what `verify` asks. Where instructions have no numbers, it isn't told.
+/// `verify_library` answer is what `verify` asks. Where instructions have no numbers, it isn't
+/// told.
 pub fn accepts(alloc: Global, program: &Program) -> Result<bool, VerifyEnd>
     ensures { IfOk result (λ is. is ≡ true → Accepted (look program.now)) }
 {

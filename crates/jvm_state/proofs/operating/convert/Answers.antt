@@ -7,10 +7,10 @@ pub returns-in-LongToInt : goal.returns-in-LongToInt
 returns-in-LongToInt c = rw c.in-LongToInt.is c.narrow_long.ensures
 
 pub returns-in-IntToByte : goal.returns-in-IntToByte
-returns-in-IntToByte c = rw c.in-IntToByte.is c.int_to_byte.ensures
+returns-in-IntToByte c = rw c.in-IntToByte.is c.narrow_int.ensures
 
 pub returns-in-IntToChar : goal.returns-in-IntToChar
-returns-in-IntToChar c = rw c.in-IntToChar.is c.int_to_char.ensures
+returns-in-IntToChar c = rw c.in-IntToChar.is c.narrow_int-in-IntToChar.ensures
 
 pub returns-in-IntToShort : goal.returns-in-IntToShort
-returns-in-IntToShort c = rw c.in-IntToShort.is c.int_to_short.ensures
+returns-in-IntToShort c = rw c.in-IntToShort.is c.narrow_int-in-IntToShort.ensures
