@@ -82,7 +82,7 @@ impl References {
     }
 
     /// The class that the reference to a method at an index of a class's constant pool names, where
-    /// what it resolves to was asked before. It takes two indices and no text.
+    /// what it resolves to is kept. It takes two indices and no text.
     #[tactic(auto, using(crate::proofs::Keeping::method_class_kept))]
     pub fn named_class(&self, class: ClassId, index: u32) -> Option<ClassId>
         ensures { IfSome result (λ id. KeepsMethodClass self.now class.0 index id) }
