@@ -1,10 +1,9 @@
 -- The least name of the classes that are marked.
-use Rattle.std.proofs.Common.{◌≡◌, ◌⊎◌, inl, inr, ◌∙◌, sym, refl, ap, subst, ℕ, ◌+◌, ◌<◌, Bool, true, false, List, length, map, Option, None, Some, slice_get, arith}
+use Rattle.std.proofs.Common.{◌≡◌, ◌⊎◌, inl, inr, ◌∙◌, sym, refl, ap, subst, ℕ, ◌+◌, ◌<◌, Bool, true, false, List, map, Option, None, Some, slice_get, arith}
 use Rattle.std.specs.Prelude.{nat_lt, if◌then◌else◌}
 use Rattle.std.specs.Ordering.{nat_cmp, is_lt}
 use Rattle.std.specs.Cmp.Lexicographic.{slice_cmp}
-use Rattle.std.proofs.lemmas.Option.{slice_get-map, slice_get_within}
-use Rattle.std.proofs.lemmas.List.{length-map}
+use Rattle.std.proofs.lemmas.Option.{slice_get-map}
 use Rattle.std.specs.Option.{option_map}
 use Rattle.class_model.specs.Text.{text}
 use Rattle.program_rules.specs.Names.{Name}
@@ -12,7 +11,7 @@ use Rattle.class_link.specs.Info.{Info}
 use Rattle.class_table.specs.declared.least.Least.{Least}
 use Rattle.class_table.specs.Table.{names, name_or_none}
 use Rattle.class_table.specs.Numbers.{name_of}
-use Rattle.class_table.specs.Least.{IsMarked, IsBelow, IsLeastOf, IsLeastSoFar, lesser_at, considered, IsLeastMarked}
+use Rattle.class_table.specs.Least.{IsMarked, IsBelow, IsLeastOf, IsLeastSoFar, lesser_at, considered}
 use Rattle.class_table.proofs.Duplicates.{le_self, not_before, before_all}
 
 last_or_before : (k i : ℕ) → k < i + 1 → (k < i) ⊎ (k ≡ i)
@@ -68,25 +67,6 @@ module _ (ns : List Name) (marks : List Bool) (i : ℕ) (n : Name) (there : slic
   least_next least false e h = not_marked least (λ m. let q : Some false ≡ Some true = sym e ∙ m in absurd cc) h
   least_next least true e h = marked_next least e h
 
--- ---- the name at the end
-
-pub least_none : (ns : List Name) (marks : List Bool) (count : ℕ) → length ns ≡ count → IsLeastSoFar ns marks count None → IsLeastMarked ns marks None
-least_none ns marks count long h k m there mark = h k (let w = slice_get_within ns k m there in omega (arith, w, long)) mark
-
-pub least_some : (ns : List Name) (marks : List Bool) (count : ℕ) (l : Least) (n : Name) → length ns ≡ count → slice_get ns l.at ≡ Some n → IsLeastSoFar ns marks count (Some l) → IsLeastMarked ns marks (Some n)
-least_some ns marks count l n long there h = record {
-  place = l.at;
-  marked = h.marked;
-  there = there;
-  least = λ k m at mark.
-      let w = slice_get_within ns k m at in
-      let same : l.bytes ≡ text n = h.bytes ∙ ap text (ap name_or_none there) in
-      subst (λ bytes. IsBelow bytes m) same (subst (IsBelow l.bytes) (ap name_or_none at) (h.least k (omega (arith, w, long)) mark));
-}
-
 module _ {A : Type 0} (f : A → Info) where
-  pub names_length : (xs : List A) → length (names (map f xs)) ≡ length xs
-  names_length xs = length-map (map f xs) (λ i. i.name) ∙ length-map xs f
-
   pub name_here : (xs : List A) (i : ℕ) (x : A) → slice_get xs i ≡ Some x → slice_get (names (map f xs)) i ≡ Some (f x).name
   name_here xs i x h = slice_get-map (λ j. j.name) (map f xs) i ∙ ap (option_map (λ j. j.name)) (slice_get-map f xs i ∙ ap (option_map f) h)

@@ -13,9 +13,6 @@ use Rattle.class_link.specs.Info.{Info, IsInfo, body_name, link_body, class_of}
 use Rattle.class_table.specs.Table.{bodies, names, class_at, look, place_in}
 use Rattle.class_table.specs.Faults.{look_of}
 
-info_in : {Z : Type 0} → Arc Info Z → Info
-info_in c = arc_value c
-
 module _ {Z : Type 0} where
   map_more : (xs : List (Arc Info Z)) (x : Arc Info Z) → map (λ c. arc_value c) (xs ++ x ∷ []) ≡ map (λ c. arc_value c) xs ++ arc_value x ∷ []
   map_more [] x = refl

@@ -91,10 +91,3 @@ swap_names p i new h = swap_case p i new (slice_get p i) refl h
 
 pub numbers_kept : {S : Type 0} (m : HashMap Name ℕ S) (p q : List Info) → names q ≡ names p → IsNumbering m p → IsNumbering m q
 numbers_kept m p q e h = λ n. h n ∙ ap (λ ns. place_in ns n) (sym e)
-
-name_case : (old new : Info) (o : Option Info) → o ≡ Some old → IsSomeAnd o (λ x. IsAlike x new) → new.name ≡ old.name
-name_case old new None e h = absurd h
-name_case old new (Some x) e h = let same : x ≡ old = cc in h.name ∙ ap (λ y. y.name) same
-
-pub swap_name : (p : List Info) (i : ℕ) (old new : Info) → slice_get p i ≡ Some old → CanSwap p i new → new.name ≡ old.name
-swap_name p i old new e h = name_case old new (slice_get p i) e h

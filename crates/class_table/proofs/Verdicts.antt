@@ -22,7 +22,7 @@ use Rattle.class_order.specs.Above.{rank_of, AreRanked}
 use Rattle.class_table.specs.Table.{names, number_of, class_at, name_at, look, AreDistinct}
 use Rattle.class_table.specs.Least.{IsMarked, IsLeastMarked}
 use Rattle.class_table.specs.Supers.{misses, names_wrong, numbers_known, IsLinked, AreLinked, AreLinks, is_cyclic, IsRanked}
-use Rattle.class_table.proofs.Places.{name_at_place, number_within, number_named, name_of_class, number_at, look_at, none_past}
+use Rattle.class_table.proofs.Places.{name_at_place, number_within, number_named, name_of_class, look_at, none_past}
 
 -- ---- one class more
 
@@ -164,9 +164,6 @@ module _ (p : List Info) (distinct : AreDistinct (names p)) where
 
   look_of_class : (k : ℕ) (i : Info) → slice_get p k ≡ Some i → look p i.name ≡ Some (class_of i)
   look_of_class k i h = ap (look p) (sym (name_of_class p k i h)) ∙ look_at p k i distinct h
-
-  number_of_class : (k : ℕ) (i : Info) → slice_get p k ≡ Some i → number_of p i.name ≡ Some k
-  number_of_class k i h = ap (number_of p) (sym (name_of_class p k i h)) ∙ number_at p k i distinct h
 
   -- a name has no class, or stands among the names
   none_or_at : (m : Name) → (look p m ≡ None) ⊎ ((k : ℕ) × (number_of p m ≡ Some k) × (slice_get (names p) k ≡ Some m))

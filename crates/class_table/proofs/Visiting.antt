@@ -1,11 +1,9 @@
 -- A walk over a class and all above it: each task that is made leaves what all tasks consult as it was.
-use Rattle.std.proofs.Common.{◌≡◌, ◌∙◌, sym, refl, ap, subst, ℕ, zero, suc, ◌+◌, ◌<◌, ◌≤◌, Bool, true, false, List, [], ◌∷◌, ◌++◌, length, length-append, drop, map, Option, None, Some, slice_get, arith, append_assoc}
+use Rattle.std.proofs.Common.{◌≡◌, ◌∙◌, sym, refl, ap, subst, ℕ, suc, ◌+◌, ◌<◌, true, List, [], ◌∷◌, ◌++◌, length, length-append, map, Option, None, Some, slice_get, arith, append_assoc}
 use Rattle.std.specs.Option.{option_to_list}
 use Rattle.program_rules.specs.Names.{Name, is_listed}
-use Rattle.program_rules.specs.Linked.{parents_of, is_library}
-use Rattle.std.specs.Prelude.{◌&&◌}
-use Rattle.std.specs.List.{list_all}
-use Rattle.program_rules.specs.Programs.{Look, concat_over, supers_within, supers, consult_one, consult_in, consulted_with}
+use Rattle.program_rules.specs.Linked.{parents_of}
+use Rattle.program_rules.specs.Programs.{concat_over, supers_within, supers, consult_one, consult_in, consulted_with}
 use Rattle.class_link.specs.Info.{Info, class_of}
 use Rattle.class_order.specs.declared.links.Links.{Links}
 use Rattle.class_order.specs.Graph.{supers_of, supers_in, supers_at}
@@ -14,10 +12,10 @@ use Rattle.class_table.specs.declared.tasks.Task.{Task}
 use Rattle.class_table.specs.declared.tasks.Task.TheVariants.{Visit, Close}
 use Rattle.class_table.specs.declared.supers.Supers.{Supers}
 use Rattle.class_table.specs.Seen.{Seen, AreKnown, IsConsultedOf}
-use Rattle.class_table.specs.Supers.{numbers_known, AreLinks, AreSupers}
+use Rattle.class_table.specs.Supers.{numbers_known, AreSupers}
 use Rattle.class_table.specs.Table.{number_of, look, name_at, AreLinksOf, IsProgram}
-use Rattle.class_table.specs.Walked.{visits_of, names_of_task, wanted, IsTask, AreTasks, weight_of, weight, Visits, passes, enters, Makes, AreVisits, Adds, AddsVisits, PassesClass, stops, goes_up, Passes}
-use Rattle.class_table.proofs.Levels.{supers_step, supers_stable}
+use Rattle.class_table.specs.Walked.{visits_of, names_of_task, wanted, IsTask, AreTasks, weight, Visits, passes, enters, Makes}
+use Rattle.class_table.proofs.Levels.{supers_step}
 use Rattle.class_table.proofs.Places.{number_named, look_at, none_past}
 use Rattle.class_table.proofs.Verdicts.{supers_known, super_number, step_named}
 use Rattle.class_table.proofs.Walk.{known_in, known_already, consult_both, known_levels}
@@ -84,20 +82,6 @@ module _ (p : List Info) where
 
   pub absent_is : IsProgram p → (n : Name) (ns : List Name) → look p n ≡ None → consult_one (look p) n ns ≡ consulted_with (look p) n ns
   absent_is ok n ns none = sym (ap (λ l. consult_in (look p) l ns) (supers_step (look p) ok.ranks n ∙ ap (λ o. n ∷ concat_over (supers (look p)) (parents_of o)) none))
-
-  visits_both : (xs ys : List Task) → AreVisits p xs → AreVisits p ys → AreVisits p (xs ++ ys)
-  visits_both [] ys h k = k
-  visits_both (Visit b ∷ xs) ys h k = (h.0, visits_both xs ys h.1 k)
-  visits_both (Close b ∷ xs) ys h k = absurd h
-
-  visits_front : (a : ℕ) (xs : List Task) → AreVisits p (xs ++ Visit a ∷ []) → AreVisits p xs
-  visits_front a [] h = tt
-  visits_front a (Visit b ∷ xs) h = (h.0, visits_front a xs h.1)
-  visits_front a (Close b ∷ xs) h = absurd h
-
-  pub all_visits : (over : List ℕ) → ((k b : ℕ) → slice_get over k ≡ Some b → b < length p) → AreVisits p (visits_of over)
-  all_visits [] h = tt
-  all_visits (b ∷ more) h = visits_both (visits_of more) (Visit b ∷ []) (all_visits more (λ k c e. h (suc k) c e)) (h 0 b refl, tt)
 
   module _ (ok : IsProgram p) where
     some_walk : (n : Name) → length (supers (look p) n) ≡ suc (length (concat_over (supers (look p)) (parents_of (look p n))))
@@ -178,67 +162,3 @@ module _ (p : List Info) where
             ap (map (name_at p)) (sym own ∙ supers_known p s.links.items are.links a i e)
             ∙ names_known (parents_of (Some (class_of i))) (λ m listed. super_number p ok.distinct s.links.items are.links ok.present (name_at p a) m (subst (λ o. is_listed m (parents_of o) ≡ true) (sym says) listed))
             ∙ ap parents_of (sym says)
-
-    -- ---- names as often as the definition has them
-
-    pub visit_added : (a : ℕ) (ts more : List Task) (old new : List Name) → AreVisits p (ts ++ Visit a ∷ []) → AddsVisits p a ts more → new ≡ old ++ name_at p a ∷ [] → Adds p (Visit a) old ts new more
-    visit_added a ts more old new h adds e = record {
-      visits = subst (AreVisits p) (sym adds.tasks) (visits_both ts (visits_of adds.over) (visits_front a ts h) (all_visits adds.over adds.links.within));
-      names =
-          ap (λ l. new ++ wanted p l) adds.tasks ∙ ap (λ l. new ++ l) (wanted_both ts (visits_of adds.over) ∙ ap (λ l. l ++ wanted p ts) walked)
-          ∙ ap (λ l. l ++ (concat_over (supers (look p)) (parents_of (look p (name_at p a))) ++ wanted p ts)) e
-          ∙ append_assoc old (name_at p a ∷ []) (concat_over (supers (look p)) (parents_of (look p (name_at p a))) ++ wanted p ts)
-          ∙ ap (λ l. old ++ (l ++ wanted p ts)) (sym (supers_step (look p) ok.ranks (name_at p a))) ∙ ap (λ l. old ++ l) (sym (wanted_both ts (Visit a ∷ [])));
-      less =
-          let one = weight_both ts (visits_of adds.over) in
-          let two = weight_both ts (Visit a ∷ []) in
-          let three = weight_visits adds.over in
-          let four = some_walk (name_at p a) in
-          let five : length (concat_over (supers (look p)) (map (name_at p) adds.over)) ≡ length (concat_over (supers (look p)) (parents_of (look p (name_at p a)))) = ap (λ ns. length (concat_over (supers (look p)) ns)) adds.links.named in
-          let q : weight p more ≡ weight p (ts ++ visits_of adds.over) = ap (weight p) adds.tasks in
-          omega (arith, one, two, three, four, five, q);
-    }
-      where
-        walked : wanted p (visits_of adds.over) ≡ concat_over (supers (look p)) (parents_of (look p (name_at p a)))
-        walked = wanted_visits adds.over ∙ ap (concat_over (supers (look p))) adds.links.named
-
-    abbrev above : ℕ → List Name
-    above a = concat_over (supers (look p)) (parents_of (look p (name_at p a)))
-
-    whole_walk : (a : ℕ) (ts : List Task) → list_all (λ m. is_library (look p m)) (wanted p (ts ++ Visit a ∷ [])) ≡ (is_library (look p (name_at p a)) && list_all (λ m. is_library (look p m)) (above a ++ wanted p ts))
-    whole_walk a ts = ap (list_all (λ m. is_library (look p m))) (wanted_both ts (Visit a ∷ []) ∙ ap (λ l. l ++ wanted p ts) (supers_step (look p) ok.ranks (name_at p a)))
-
-    -- ---- whether all is of the library
-
-    pub visit_passed : (a : ℕ) (ts more : List Task) (b : Bool) → AreVisits p (ts ++ Visit a ∷ []) → b ≡ is_library (look p (name_at p a)) → PassesClass p a b ts more → Passes p (Visit a) b ts more
-    visit_passed a ts more b h is (stops fails e) = record {
-      visits = subst (AreVisits p) (sym e) (visits_front a ts h);
-      names = whole_walk a ts ∙ ap (λ x. x && list_all (λ m. is_library (look p m)) (above a ++ wanted p ts)) (sym is ∙ fails) ∙ ap (λ x. x && list_all (λ m. is_library (look p m)) (wanted p more)) (sym fails);
-      less =
-          let two = weight_both ts (Visit a ∷ []) in
-          let four = some_walk (name_at p a) in
-          let q : weight p more ≡ weight p ts = ap (weight p) e in
-          omega (arith, two, four, q);
-    }
-    visit_passed a ts more b h is (goes_up passes-it adds) = record {
-      visits = subst (AreVisits p) (sym adds.tasks) (visits_both ts (visits_of adds.over) (visits_front a ts h) (all_visits adds.over adds.links.within));
-      names =
-          whole_walk a ts ∙ ap (λ x. x && list_all (λ m. is_library (look p m)) (above a ++ wanted p ts)) (sym is)
-          ∙ ap (λ l. b && list_all (λ m. is_library (look p m)) l) (sym (ap (wanted p) adds.tasks ∙ wanted_both ts (visits_of adds.over) ∙ ap (λ l. l ++ wanted p ts) (wanted_visits adds.over ∙ ap (concat_over (supers (look p))) adds.links.named)));
-      less =
-          let one = weight_both ts (visits_of adds.over) in
-          let two = weight_both ts (Visit a ∷ []) in
-          let three = weight_visits adds.over in
-          let four = some_walk (name_at p a) in
-          let five : length (concat_over (supers (look p)) (map (name_at p) adds.over)) ≡ length (concat_over (supers (look p)) (parents_of (look p (name_at p a)))) = ap (λ ns. length (concat_over (supers (look p)) ns)) adds.links.named in
-          let q : weight p more ≡ weight p (ts ++ visits_of adds.over) = ap (weight p) adds.tasks in
-          omega (arith, one, two, three, four, five, q);
-    }
-
-    pub above_is : (a : ℕ) (over : List ℕ) → AreLinksOf p a over → wanted p (visits_of over) ≡ drop 1 (supers (look p) (name_at p a))
-    above_is a over links = wanted_visits over ∙ ap (concat_over (supers (look p))) links.named ∙ sym (ap (drop 1) (supers_step (look p) ok.ranks (name_at p a)))
-
-  pub last_visit : (ts : List Task) (t : Task) → AreVisits p (ts ++ t ∷ []) → AreVisits p (t ∷ [])
-  last_visit [] t h = h
-  last_visit (Visit b ∷ ts) t h = last_visit ts t h.1
-  last_visit (Close b ∷ ts) t h = absurd h

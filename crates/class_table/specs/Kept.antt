@@ -1,28 +1,24 @@
 -- What a program keeps is right (this project's own). No public clause cites it.
-use Rattle.std.specs.Prelude.{ℕ, List, Option}
+use Rattle.std.specs.Prelude.{ℕ, List}
 use Rattle.std.specs.Arc.{arc_value}
 use Rattle.std.specs.HashMap.{HashMap}
 use Rattle.std.specs.declared.sync.Arc.{Arc}
 use Rattle.program_rules.specs.Names.{Name}
 use Rattle.class_link.specs.Info.{Info}
-use Rattle.class_table.specs.declared.calls.Target.{Target}
 use Rattle.class_table.specs.declared.supers.Supers.{Supers}
 use Rattle.class_table.specs.Adding.{shared}
-use Rattle.class_table.specs.Calls.{AreTargetsOrNone, targets_in}
 use Rattle.class_table.specs.Numbers.{IsNumbering}
 use Rattle.class_table.specs.Supers.{AreSupers}
 use Rattle.class_table.specs.Table.{IsProgram}
 
-module _ {A B C S : Type 0} where
-  -- The classes are a program, and their numbers, what calls name and what stands above are theirs.
+module _ {A B S : Type 0} where
+  -- The classes are a program, and their numbers and what stands above them are theirs.
   abbrev pub IsKeptOf :
       List (Arc Info A)
       → Arc (HashMap Name ℕ S) B
-      → Option (Arc (List (List (Option Target))) C)
       → Arc Supers B
       → Type 0
-  IsKeptOf cs numbers targets supers =
+  IsKeptOf cs numbers supers =
       IsProgram (shared cs)
       × IsNumbering (arc_value numbers) (shared cs)
-      × AreTargetsOrNone (targets_in targets) (shared cs)
       × AreSupers (shared cs) (arc_value supers)

@@ -1,10 +1,8 @@
 pub mod Table
 pub mod Numbers
 pub mod Adding
-pub mod Calls
 pub mod Seen
 pub mod Walked
-pub mod Words
 pub mod Least
 pub mod Supers
 pub mod Faults

@@ -1,24 +1,21 @@
 -- The classes of a program by number and by name.
-use Rattle.std.specs.Prelude.{◌≡◌, Bool, false, All, IsTrue, ℕ, suc, ◌<◌, ◌^◌, if◌then◌else◌, List, [], ◌∷◌, ◌++◌, length, map, Option, Some, None, slice_get, option_and_then, IfSome, IsSomeAnd, ⊤}
-use Rattle.std.specs.List.{list_all}
+use Rattle.std.specs.Prelude.{◌≡◌, Bool, false, All, IsTrue, ℕ, suc, ◌<◌, ◌^◌, if◌then◌else◌, List, [], ◌∷◌, ◌++◌, length, map, Option, Some, None, slice_get, option_and_then, IsSomeAnd, ⊤}
 use Rattle.std.specs.Option.{option_map}
 use Rattle.std.specs.Ordering.{nat_cmp, is_le}
 use Rattle.std.specs.Cmp.Lexicographic.{slice_cmp}
 use Rattle.class_model.specs.Text.{text}
 use Rattle.program_rules.specs.Names.{Name, same, is_listed}
-use Rattle.program_rules.specs.Linked.{Linked, is_library, parents_of, method_place}
+use Rattle.program_rules.specs.Linked.{Linked, parents_of}
 use Rattle.program_rules.specs.Programs.{Look, supers}
 use Rattle.class_link.specs.declared.loaded.Loaded.{Loaded}
 use Rattle.class_link.specs.declared.loaded.LibClass.{LibClass}
 use Rattle.class_link.specs.declared.loaded.ClassBody.{ClassBody}
 use Rattle.class_link.specs.declared.loaded.ClassBody.TheVariants as body
 use Rattle.class_link.specs.declared.linked.Entry.{Entry}
-use Rattle.class_link.specs.declared.linked.MethodRef.{MethodRef}
 use Rattle.class_link.specs.declared.linked.LinkedMethod.{LinkedMethod}
 use Rattle.class_link.specs.Info.{Info, IsInfo, body_name, class_of}
 use Rattle.class_order.specs.Supers.{is_super_missing}
 use Rattle.class_order.specs.Ranks.{HasRanks}
-use Rattle.class_link.specs.View.{method_ref_at}
 
 -- ---- names
 
@@ -85,10 +82,6 @@ name_at p id = name_or_none (slice_get (names p) id)
 abbrev pub look : List Info → Look
 look p n = option_and_then (class_at p) (number_of p n)
 
--- Whether the classes of all of these names are of the library.
-abbrev pub are_library : List Info → List Name → Bool
-are_library p ns = list_all (λ m. is_library (look p m)) ns
-
 -- Whether a class is another one or stands below it, by number.
 abbrev pub is_below : List Info → ℕ → ℕ → Bool
 is_below p class over = is_listed (name_at p over) (supers (look p) (name_at p class))
@@ -107,7 +100,7 @@ pub record IsProgram (p : List Info) : Type 0 where
   pub present : (n : Name) → is_super_missing (look p) n ≡ false
   pub ranks : HasRanks (look p)
 
--- ---- what a class names, by number
+-- ---- the entries and the methods of a class, by number
 
 abbrev pub entries_in : Option Info → List Entry
 entries_in None = []
@@ -122,33 +115,6 @@ methods_in (Some i) = i.linked.methods
 
 abbrev pub methods_at : List Info → ℕ → List LinkedMethod
 methods_at p class = methods_in (slice_get p class)
-
--- The method that an index of this class's constant pool names.
-abbrev pub reference_at : List Info → ℕ → ℕ → Option MethodRef
-reference_at p class index = option_and_then (λ i. method_ref_at i.linked index) (slice_get p class)
-
--- The class of this number has the name that it says.
-abbrev pub IsNamedBy : List Info → ℕ → ℕ → ℕ → Type 0
-IsNamedBy p class index id =
-    IsSomeAnd (reference_at p class index) (λ r.
-    (name_at p id ≡ r.class) × (look p r.class ≡ class_at p id))
-
--- If it names a method, no class has the name that it says.
-abbrev pub NamesNoClass : List Info → ℕ → ℕ → Type 0
-NamesNoClass p class index = IfSome (reference_at p class index) (λ r. look p r.class ≡ None)
-
--- The number of the class that it names.
-abbrev pub named_number : List Info → ℕ → ℕ → Option ℕ
-named_number p class index = option_and_then (λ r. number_of p r.class) (reference_at p class index)
-
--- The place that the method of this name and descriptor has in another class.
-abbrev pub place_at : List Info → MethodRef → ℕ → Option ℕ
-place_at p r target =
-    option_and_then (λ i. method_place r.name r.desc (class_of i).methods) (slice_get p target)
-
-abbrev pub named_place : List Info → ℕ → ℕ → ℕ → Option ℕ
-named_place p class index target =
-    option_and_then (λ r. place_at p r target) (reference_at p class index)
 
 -- ---- one class in the place of another
 

@@ -1,13 +1,13 @@
 -- What a walk over a class and all above it has still to do (this project's own). No public clause
 -- cites these.
-use Rattle.std.specs.Prelude.{◌≡◌, ◌+◌, ◌<◌, ◌&&◌, ℕ, Bool, true, false, ⊤, List, [], ◌∷◌, ◌++◌, length, Some, slice_get}
+use Rattle.std.specs.Prelude.{◌≡◌, ◌+◌, ◌<◌, ℕ, true, ⊤, List, [], ◌∷◌, ◌++◌, length, Some, slice_get}
 use Rattle.program_rules.specs.Names.{Name}
 use Rattle.program_rules.specs.Programs.{supers, consult_one, consult_in}
 use Rattle.class_link.specs.Info.{Info}
 use Rattle.class_table.specs.declared.tasks.Task.{Task}
 use Rattle.class_table.specs.declared.tasks.Task.TheVariants.{Visit, Close}
 use Rattle.class_table.specs.Seen.{Seen, AreKnown}
-use Rattle.class_table.specs.Table.{look, name_at, are_library, AreLinksOf}
+use Rattle.class_table.specs.Table.{look, name_at, AreLinksOf}
 
 -- Visits of these classes as they are kept: the first one is the last of the tasks, and is made
 -- first.
@@ -65,41 +65,4 @@ pub record Makes (p : List Info) (t : Task) (old : Seen) (before : List Task) (n
   pub names :
       consult_in (look p) (wanted p more) new.names
       ≡ consult_in (look p) (wanted p (before ++ t ∷ [])) old.names
-  pub less : weight p more < weight p (before ++ t ∷ [])
-
--- ---- a walk that adds each name, as often as the definition does
-
--- All tasks are visits.
-abbrev pub AreVisits : List Info → List Task → Type 0
-AreVisits p [] = ⊤
-AreVisits p (Visit a ∷ more) = (a < length p) × AreVisits p more
-AreVisits p (Close a ∷ more) = ⊥
-
--- A task is made: the names that were added, with those that all tasks add, stay as they were, and
--- less is left to do.
-pub record Adds (p : List Info) (t : Task) (old : List Name) (before : List Task)
-    (new : List Name) (more : List Task) : Type 0 where
-  pub visits : AreVisits p more
-  pub names : new ++ wanted p more ≡ old ++ wanted p (before ++ t ∷ [])
-  pub less : weight p more < weight p (before ++ t ∷ [])
-
--- The supers of a class are visited before all else.
-pub record AddsVisits (p : List Info) (a : ℕ) (old new : List Task) : Type 0 where
-  pub over : List ℕ
-  pub links : AreLinksOf p a over
-  pub tasks : new ≡ old ++ visits_of over
-
--- ---- a walk that asks whether all is of the library
-
--- Whether a class is of the library; where it is, its supers are visited before all else.
-pub data PassesClass (p : List Info) (a : ℕ) (passed : Bool) (old new : List Task) : Type 0 where
-  stops : passed ≡ false → new ≡ old → PassesClass p a passed old new
-  goes_up : passed ≡ true → AddsVisits p a old new → PassesClass p a passed old new
-
--- A task is made: whether all that all tasks come to is of the library stays as it was.
-pub record Passes (p : List Info) (t : Task) (passed : Bool) (before more : List Task)
-    : Type 0 where
-  pub visits : AreVisits p more
-  pub names :
-      are_library p (wanted p (before ++ t ∷ [])) ≡ (passed && are_library p (wanted p more))
   pub less : weight p more < weight p (before ++ t ∷ [])

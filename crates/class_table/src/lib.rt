@@ -1,7 +1,6 @@
 //! The classes of a program by name and by number, and what a run has consulted of them.
 #![tactic(auto)]
 
-mod calls;
 mod consulted;
 mod fault;
 mod flaws;
@@ -11,9 +10,7 @@ mod program;
 mod scripted;
 mod supers;
 mod tasks;
-mod upwards;
 mod verdict;
-mod words;
 
 pub use class_link::{
     ClassBody, ClassInfo, EditedFile, Entry, FieldConstant, FieldRef, FrameShape, Instruction,

@@ -6,9 +6,8 @@ ghost use Rattle.std.specs.Arc.{arc_value};
 ghost use Rattle.program_rules.specs.Linked.{method_in};
 ghost use Rattle.class_link.specs.View.{method_of};
 ghost use Rattle.class_link.specs.Info.{IsInfo, class_of, link_body, file_in};
-ghost use Rattle.class_table.specs.Table.{AreDistinct, IsLeastDuplicate, bodies_of, names_of, number_of, CanSwap, class_at, name_at, look, entries_at, methods_at, is_below, named_number, named_place, IsNamedBy, NamesNoClass, IsProgram, AreLinksOf};
+ghost use Rattle.class_table.specs.Table.{AreDistinct, IsLeastDuplicate, bodies_of, names_of, number_of, CanSwap, class_at, name_at, look, entries_at, methods_at, is_below, IsProgram, AreLinksOf};
 ghost use Rattle.class_order.specs.Ranks.{HasRanks};
-ghost use Rattle.class_table.specs.Calls.{IsTargetAt};
 ghost use Rattle.class_table.specs.Faults.{look_of, AreProgram, IsFirstMissing, IsFirstCycle, IsFirstWrongKind};
 ghost use Rattle.class_table.specs.Faults.{IfDuplicate, IfSuperMissing, IfSuperCycle, IfSuperKind};
 ghost use Rattle.class_table.specs.Flaws.{IsFirstFaultOf, AreSoundSupers, IsTableOf};
@@ -16,7 +15,6 @@ ghost use Rattle.class_order.specs.Graph.{supers_of};
 ghost use Rattle.class_table.specs.Numbers.{IsNumbering};
 ghost use Rattle.class_table.specs.Adding.{shared};
 
-use crate::calls::{Target, Targets, copy_targets, forget_unless_right, target_at, targets};
 use crate::fault::TableFault;
 use crate::numbering::{infos, numbers};
 use crate::supers::{Supers, all_links, links_at, stands_below};
@@ -36,8 +34,6 @@ use std::sync::Arc;
 pub struct Program {
     classes: Vec<Arc<ClassInfo, Global>>,
     numbers: Arc<HashMap<Name, u32>, Global>,
-    // what calls name by number, while it is right
-    targets: Option<Arc<Targets, Global>>,
     supers: Arc<Supers, Global>,
 }
 
@@ -56,7 +52,7 @@ impl Model for Program {
 
     ghost view = { λ p. map (λ c. arc_value c) p.classes.items };
 
-    ghost invariant = { λ p. IsKeptOf p.classes.items p.numbers p.targets p.supers };
+    ghost invariant = { λ p. IsKeptOf p.classes.items p.numbers p.supers };
 }
 
 impl Program {
@@ -182,10 +178,8 @@ impl Program {
         ensures program { self.new ≡ slice_set self.old id.0 (arc_value with) }
         ensures other { slice_get self.old id.0 ≡ Some (arc_value result) }
     {
-        let at = id.0 as usize;
-        forget_unless_right(&mut self.targets, at, info_at(&self.classes, at), &with);
         meant(&with);
-        put(&mut self.classes, at, with)
+        put(&mut self.classes, id.0 as usize, with)
     }
 
     /// An equal program. Its classes are shared, and none is copied.
@@ -194,12 +188,10 @@ impl Program {
     {
         let numbers = self.numbers.clone()?;
         let supers = self.supers.clone()?;
-        let targets = copy_targets(&self.targets)?;
         let classes = copy_classes(&self.classes)?;
         Ok(Program {
             classes,
             numbers,
-            targets,
             supers,
         })
     }
@@ -214,80 +206,6 @@ impl Program {
     {
         self.get(class)?.linked().methods.get(method as usize)
     }
-
-    // What is kept for an index of a class's constant pool.
-    fn target(&self, class: ClassId, reference: u32) -> Option<Target>
-        ensures { IfSome result (IsTargetAt self.now class.0 reference) }
-    {
-        match &self.targets {
-            Some(targets) => target_at(targets, class.0 as usize, reference as usize),
-            None => None,
-        }
-    }
-
-    fn class_by_name(&self, class: ClassId, reference: u32) -> Option<ClassId>
-        ensures found { IfSome result (λ id. named_number self.now class.0 reference ≡ Some id.0) }
-        ensures within { IfSome result (λ id. id.0 < length self.now) }
-        ensures named { IfSome result (λ id. IsNamedBy self.now class.0 reference id.0) }
-        ensures absent { IfNone result (named_number self.now class.0 reference ≡ None) }
-        ensures nothing { IfNone result (NamesNoClass self.now class.0 reference) }
-    {
-        let reference = self.get(class)?.linked().method_ref(reference)?;
-        self.find(&reference.class)
-    }
-
-    fn method_by_name(&self, class: ClassId, reference: u32, target: ClassId) -> Option<u32>
-        ensures found { IfSome result (λ place.
-            named_place self.now class.0 reference target.0 ≡ Some place) }
-        ensures absent { IfNone result (named_place self.now class.0 reference target.0 ≡ None) }
-    {
-        let reference = self.get(class)?.linked().method_ref(reference)?;
-        let place = self
-            .get(target)?
-            .linked()
-            .method_place(&reference.name, &reference.desc)?;
-        Some(place as u32)
-    }
-
-    /// The number of the class whose method an index of this class's constant pool names. It takes
-    /// one index where the program keeps it.
-    #[tactic(auto, using(crate::proofs::CallLaws::target_number, crate::proofs::CallLaws::target_within, crate::proofs::CallLaws::target_named))]
-    pub fn named_class(&self, class: ClassId, reference: u32) -> Option<ClassId>
-        ensures found { IfSome result (λ id. named_number self.now class.0 reference ≡ Some id.0) }
-        ensures within { IfSome result (λ id. id.0 < length self.now) }
-        ensures named { IfSome result (λ id. IsNamedBy self.now class.0 reference id.0) }
-        ensures absent { IfNone result (named_number self.now class.0 reference ≡ None) }
-        ensures nothing { IfNone result (NamesNoClass self.now class.0 reference) }
-    {
-        match self.target(class, reference) {
-            Some(target) => Some(target.class),
-            None => self.class_by_name(class, reference),
-        }
-    }
-
-    /// The place in another class of the method whose name and descriptor an index of this class's
-    /// constant pool names. Of two such methods it is the first. It takes one index where the
-    /// program keeps it.
-    #[tactic(auto, using(crate::proofs::CallLaws::target_place))]
-    pub fn named_method(&self, class: ClassId, reference: u32, target: ClassId) -> Option<u32>
-        ensures found { IfSome result (λ place.
-            named_place self.now class.0 reference target.0 ≡ Some place) }
-        ensures absent { IfNone result (named_place self.now class.0 reference target.0 ≡ None) }
-    {
-        if let Some(found) = self.target(class, reference) {
-            if found.class.0 == target.0 {
-                return Some(found.place);
-            }
-        }
-        self.method_by_name(class, reference, target)
-    }
-}
-
-fn info_at(classes: &[Arc<ClassInfo, Global>], at: usize) -> &ClassInfo
-    requires { at < length classes.now }
-    ensures { slice_get (map (λ c. arc_value c) classes.now) at ≡ Some result.now }
-{
-    &classes[at]
 }
 
 fn put(
@@ -338,12 +256,10 @@ fn program_of(alloc: Global, infos: Vec<Arc<ClassInfo, Global>>) -> Result<Progr
     ensures fault { IfErr result (IsFirstFaultOf (shared infos.items)) }
 {
     let numbers = numbers(alloc, infos.as_slice())?;
-    let targets = targets(alloc, infos.as_slice(), &numbers)?;
     match supers_of(alloc, infos.as_slice(), &numbers) {
         Ok(supers) => Ok(Program {
             classes: infos,
             numbers,
-            targets: Some(targets),
             supers,
         }),
         Err(fault) => Err(fault),

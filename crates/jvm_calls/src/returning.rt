@@ -32,6 +32,7 @@ fn finish(world: &mut World, p: &Program)
 
 // The frame below goes on behind its call, with a result if there is one. Below the last frame the
 // call of the script has returned.
+#[inline(always)]
 fn go_back(frames: &mut Frames, world: &mut World, p: &Program, v: Option<Value>) -> Turn
     requires world { IsWorldOf p.now world.old }
     requires caller { HasCaller p.now frames.old }
@@ -62,6 +63,7 @@ fn go_back(frames: &mut Frames, world: &mut World, p: &Program, v: Option<Value>
 }
 
 // The frame that runs is left with a result, if the row gives one.
+#[inline(always)]
 fn give_back(frames: &mut Frames, world: &mut World, p: &Program, v: Option<Value>) -> Turn
     requires world { IsWorldOf p.now world.old }
     requires caller { HasCaller p.now frames.old }

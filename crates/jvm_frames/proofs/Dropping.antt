@@ -1,5 +1,5 @@
 -- Values that are taken off a stack one by one, and what is put in their place.
-use Rattle.std.proofs.Common.{◌≡◌, ℕ, zero, suc, ◌+◌, ◌-◌, ◌<◌, ◌≤◌, ◌^◌, List, [], ◌∷◌, length, map, reverse, take, drop, true, false, Bool, Option, Some, None, refl, sym, ap, subst, ◌∙◌, arith, IfSome}
+use Rattle.std.proofs.Common.{◌≡◌, ℕ, zero, suc, ◌+◌, ◌-◌, ◌<◌, ◌≤◌, List, [], ◌∷◌, length, map, reverse, take, drop, true, false, Bool, Option, Some, None, refl, sym, ap, subst, ◌∙◌, arith, IfSome}
 use Rattle.std.specs.Prelude.{slice_get, if◌then◌else◌}
 use Rattle.std.specs.Option.{option_map}
 use Rattle.std.proofs.lemmas.List.{length-drop}
@@ -8,7 +8,7 @@ use Rattle.program_rules.specs.declared.value.Value.{Value}
 use Rattle.program_rules.specs.declared.value.Value.TheVariants.{Int, Long, Ref, Null}
 use Rattle.program_rules.specs.Kinds.{width_of, height_of}
 use Rattle.machine_rules.specs.State.{World}
-use Rattle.machine_rules.specs.Effects.{Effect, Goes, NoRow}
+use Rattle.machine_rules.specs.Effects.{Effect, NoRow}
 use Rattle.jvm_state.specs.declared.slot.Slot.{Slot}
 use Rattle.jvm_state.specs.declared.frame.Frame.{Frame}
 use Rattle.jvm_state.specs.Slots.{stack_in, IsStack}

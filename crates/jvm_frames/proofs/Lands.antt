@@ -1,14 +1,13 @@
 -- A frame that goes on at a handler.
-use Rattle.std.proofs.Common.{◌≡◌, ◌∙◌, ℕ, ◌+◌, ◌≤◌, Bool, true, false, List, [], ◌∷◌, refl, sym, ap, arith}
+use Rattle.std.proofs.Common.{◌≡◌, ◌∙◌, ℕ, ◌≤◌, true, List, [], ◌∷◌, refl, sym, ap, arith}
 use Rattle.std.specs.Prelude.{if◌then◌else◌, nat_le}
 use Rattle.program_rules.specs.declared.value.Value.TheVariants.{Ref}
-use Rattle.program_rules.specs.Kinds.{height_of}
 use Rattle.machine_rules.specs.State as rules
 use Rattle.machine_rules.specs.Effects.{Effect, Goes, NoRow, jumps}
 use Rattle.jvm_state.specs.declared.slot.Slot.{Slot}
 use Rattle.jvm_state.specs.declared.frame.Frame.{Frame}
 use Rattle.jvm_state.specs.Stores.{IsFrame, StepsTo, StaysAt, frame_at}
-use Rattle.jvm_frames.specs.Frames.{pushing, landing, numbered, has_room_for}
+use Rattle.jvm_frames.specs.Frames.{pushing, landing}
 use Rattle.jvm_frames.proofs.Dropping.{put_goes_on}
 
 -- A frame with an empty stack, at its first instruction.

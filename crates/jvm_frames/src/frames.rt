@@ -86,21 +86,15 @@ fn is_within(words: usize, more: usize, room: usize) -> bool
     words <= room && more <= room - words
 }
 
-// A frame at its next instruction, without so many words of its stack.
-fn gone_on(frame: &Frame, words: usize) -> Frame
-    requires next { frame.now.at + 1 < 2 ^ 64 }
-    requires words { words ≤ frame.now.sp }
-    ensures { result ≡ gone_on frame.now words }
+// A frame goes on to its next instruction, without so many words of its stack.
+#[inline(always)]
+fn go_on(frame: &mut Frame, words: usize)
+    requires next { frame.old.at + 1 < 2 ^ 64 }
+    requires words { words ≤ frame.old.sp }
+    ensures { frame.new ≡ gone_on frame.old words }
 {
-    Frame {
-        class: frame.class,
-        method: frame.method,
-        at: frame.at + 1,
-        base: frame.base,
-        floor: frame.floor,
-        sp: frame.sp - words,
-        top: frame.top,
-    }
+    frame.at += 1;
+    frame.sp -= words;
 }
 
 impl Frames {
@@ -223,11 +217,10 @@ impl Frames {
         requires { HasWords args.count args.words self.old }
         ensures { IsCut args.count self.old self.new }
     {
-        let Some(mut frame) = self.frame else {
+        let Some(frame) = &mut self.frame else {
             return;
         };
         frame.sp -= args.words;
-        self.frame = Some(frame);
     }
 
     /// Does what an instruction does to the running frame, where it touches that frame alone. False
@@ -262,35 +255,36 @@ impl Frames {
 
     /// Puts a value in the place of so many on the stack of the running frame, which goes on to its
     /// next instruction.
+    #[inline(always)]
     pub fn put(&mut self, count: usize, v: Value)
         requires next { IfSome self.old.frame (λ f. f.at + 1 < 2 ^ 64) }
         requires count { count ≤ length (stack_of self.old.frame) }
         requires room { IfSome self.old.frame (λ f. has_room_for count v f ≡ true) }
         ensures { IsPut count v self.old self.new }
     {
-        let Some(mut frame) = self.frame else {
+        let Some(frame) = &mut self.frame else {
             return;
         };
-        let words = words_of(operands_of(&self.slots, &frame), frame.sp, count);
+        let words = words_of(operands_of(&self.slots, frame), frame.sp, count);
         frame.sp -= words;
-        if !push_in(v, &mut self.slots, &mut frame) {
+        if !push_in(v, &mut self.slots, frame) {
             unreachable!()
         }
-        self.frame = Some(frame);
     }
 
     /// Takes so many values off the stack of the running frame, which goes on to its next
     /// instruction.
+    #[inline(always)]
     pub fn advance(&mut self, count: usize)
         requires next { IfSome self.old.frame (λ f. f.at + 1 < 2 ^ 64) }
         requires count { count ≤ length (stack_of self.old.frame) }
         ensures { IsAdvanced count self.old self.new }
     {
-        let Some(frame) = self.frame else {
+        let Some(frame) = &mut self.frame else {
             return;
         };
-        let words = words_of(operands_of(&self.slots, &frame), frame.sp, count);
-        self.frame = Some(gone_on(&frame, words));
+        let words = words_of(operands_of(&self.slots, frame), frame.sp, count);
+        go_on(frame, words);
     }
 
     /// The running frame goes on at a handler, with the object that is thrown as the only item of
@@ -299,11 +293,10 @@ impl Frames {
         requires room { IfSome self.old.frame (λ f. 1 ≤ f.room) }
         ensures { IsLanded object to self.old self.new }
     {
-        let Some(mut frame) = self.frame else {
+        let Some(frame) = &mut self.frame else {
             return;
         };
-        land_in(object, to, &mut self.slots, &mut frame);
-        self.frame = Some(frame);
+        land_in(object, to, &mut self.slots, frame);
     }
 
     /// Takes steps of the running frame, so many at most, and says how many. Each is of an
@@ -313,12 +306,10 @@ impl Frames {
         ensures stays { IfSome self.old.frame (λ f.
             StayOn ops.now longs.now marks.now result f self.old self.new) }
     {
-        let Some(mut frame) = self.frame else {
+        let Some(frame) = &mut self.frame else {
             return 0;
         };
-        let taken = stay_in(ops, longs, marks, &mut self.slots, &mut frame, limit);
-        self.frame = Some(frame);
-        taken
+        stay_in(ops, longs, marks, &mut self.slots, frame, limit)
     }
 
     /// A method is called with arguments of the running frame, which are taken off its stack.

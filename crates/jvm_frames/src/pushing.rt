@@ -12,6 +12,7 @@ use program_rules::Value;
 
 // A value is pushed, and the next instruction comes; none, and nothing changes, where there is no
 // room.
+#[inline(always)]
 fn push_value(
     v: Value,
     operands: &mut [Slot],
@@ -35,6 +36,7 @@ fn push_value(
 
 /// Pushes a value on the stack of a frame, which goes on to its next instruction. False leaves
 /// everything as it was: there is no room.
+#[inline(always)]
 pub fn push_in(v: Value, slots: &mut [Slot], f: &mut Frame) -> bool
     requires next { f.old.at + 1 < 2 ^ 64 }
     requires frame { IsFrame slots.old f.old }

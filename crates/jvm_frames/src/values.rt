@@ -13,6 +13,7 @@ use std::alloc::Global;
 
 /// The value on the top, and the words that are left below it.
 #[tactic(auto, using(jvm_state::proofs::Stacks::below_int, jvm_state::proofs::Stacks::below_reference, jvm_state::proofs::Stacks::below_null, jvm_state::proofs::Stacks::below_long, jvm_state::proofs::Stacks::long_words))]
+#[inline(always)]
 pub fn top_value(operands: &[Slot], sp: usize) -> Option<(Value, usize)>
     requires { IsStack operands.now sp }
     ensures some { IfSome result (λ r. stack_in operands.now sp ≡ r.0 ∷ stack_in operands.now r.1) }
@@ -38,6 +39,7 @@ pub fn top_value(operands: &[Slot], sp: usize) -> Option<(Value, usize)>
 }
 
 // The words that are left below so many values; none where there are fewer.
+#[inline(always)]
 fn below_values(operands: &[Slot], sp: usize, count: usize) -> Option<usize>
     requires { IsStack operands.now sp }
     ensures stack { IfSome result (λ below.
@@ -93,6 +95,7 @@ pub fn value_below(
 }
 
 /// The words of so many values on the top.
+#[inline(always)]
 pub fn words_of(operands: &[Slot], sp: usize, count: usize) -> usize
     requires stack { IsStack operands.now sp }
     requires count { count ≤ length (stack_in operands.now sp) }
@@ -105,6 +108,7 @@ pub fn words_of(operands: &[Slot], sp: usize, count: usize) -> usize
 }
 
 /// The words of a value.
+#[inline(always)]
 pub fn width(v: Value) -> usize
     ensures { result ≡ width_of v }
 {

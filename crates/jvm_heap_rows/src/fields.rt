@@ -66,6 +66,7 @@ fn find_value(world: &World, p: &Program, object: u32, slot: u32) -> Option<Valu
 }
 
 // The field of an object is pushed in its place.
+#[inline(always)]
 fn get_from(frames: &mut Frames, world: &World, p: &Program, slot: u32, object: u32) -> Effect
     requires next { IfSome frames.old.frame (λ f. f.at + 1 < 2 ^ 64) }
     requires there { 1 ≤ length (stack_of frames.old.frame) }
@@ -86,6 +87,7 @@ fn get_from(frames: &mut Frames, world: &World, p: &Program, slot: u32, object: 
 }
 
 /// `getfield` of a field with this slot.
+#[inline(always)]
 pub fn get_field(
     frames: &mut Frames,
     world: &mut World,
@@ -112,6 +114,7 @@ pub fn get_field(
 }
 
 // A value is stored in the field of an object, and both are taken off.
+#[inline(always)]
 fn put_in(
     frames: &mut Frames,
     world: &mut World,
@@ -138,6 +141,7 @@ fn put_in(
 }
 
 /// `putfield` of a field with this slot and of this kind.
+#[inline(always)]
 pub fn put_field(
     frames: &mut Frames,
     world: &mut World,

@@ -47,6 +47,7 @@ pub fn reference_at(frames: &Frames, place: usize) -> Option<Option<u32>>
 }
 
 /// The value at a place of the stack, if it is of a kind. Of references this asks no class.
+#[inline(always)]
 pub fn of_kind_at(frames: &Frames, place: usize, kind: &Kind) -> Option<Value>
     ensures some { IfSome result (λ v.
         TakesKind (kind_of kind.now) (drop place (stack_of frames.now.frame)) v

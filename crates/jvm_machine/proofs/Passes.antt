@@ -33,8 +33,8 @@ use Rattle.jvm_machine.specs.declared.advancing.Went.TheVariants as went
 use Rattle.jvm_machine.specs.declared.machine.Machine.{Machine}
 use Rattle.jvm_machine.specs.declared.machine.Step.{Step}
 use Rattle.jvm_machine.specs.declared.machine.Step.TheVariants as step
-use Rattle.jvm_machine.specs.declared.passing.Taken.{Taken}
-use Rattle.jvm_machine.specs.declared.passing.Taken.TheVariants as taken
+use Rattle.jvm_machine.specs.declared.taking.Taken.{Taken}
+use Rattle.jvm_machine.specs.declared.taking.Taken.TheVariants as taken
 use Rattle.jvm_machine.specs.Going.{GoesTo, ReachesLine}
 use Rattle.jvm_machine.specs.Machines.{Answers, HasMeaning, IsMachineOf, IsMachineStill, TellsEnd, ended_with}
 use Rattle.jvm_machine.specs.Marking.{AreMarkedRight, AreReached, IsLineReached, IsWithin, Marked, StaysMachine, StaysMarked, WentTo, lines_of, went_by}
@@ -283,13 +283,6 @@ runs_in p m class method at k n code marks is same place of reached =
     (subst (λ i. AreReached p i method marks (lines_of p m.world)) (sym same) (subst (λ i. AreReached p k i marks (lines_of p m.world)) (sym place) reached))
 
 -- ---- the running frame alone
-
-stay_in : (ops : List Op) (longs : List ℤ) (marks : List Bool) (o : Option NumberedFrame) (s : NumberedFrames) → s.frame ≡ o → IfSome o (λ f. StayOn ops longs marks 0 f s s)
-stay_in ops longs marks None s e = tt
-stay_in ops longs marks (Some f) s e = record { frame = subst (λ o. IsSomeAnd o (Stays ops longs marks 0 f)) (sym e) refl; callers = refl }
-
-pub none_stayed : (ops : List Op) (longs : List ℤ) (marks : List Bool) (s : NumberedFrames) → IfSome s.frame (λ f. StayOn ops longs marks 0 f s s)
-none_stayed ops longs marks s = stay_in ops longs marks s.frame s refl
 
 -- It is of the same method behind so many steps.
 record IsOfSame (f g : NumberedFrame) : Type 0 where

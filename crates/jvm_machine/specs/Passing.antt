@@ -10,8 +10,8 @@ use Rattle.jvm_act.specs.Methods.{IsCodeOf}
 use Rattle.jvm_machine.specs.declared.advancing.Went.{Went}
 use Rattle.jvm_machine.specs.declared.advancing.Went.TheVariants as went
 use Rattle.jvm_machine.specs.declared.machine.Machine.{Machine}
-use Rattle.jvm_machine.specs.declared.passing.Taken.{Taken}
-use Rattle.jvm_machine.specs.declared.passing.Taken.TheVariants as taken
+use Rattle.jvm_machine.specs.declared.taking.Taken.{Taken}
+use Rattle.jvm_machine.specs.declared.taking.Taken.TheVariants as taken
 use Rattle.jvm_machine.specs.Machines.{HasMeaning, IsMachineOf}
 use Rattle.jvm_machine.specs.Marking.{AreReached, WentTo, lines_of}
 

@@ -9,9 +9,10 @@ ghost use Rattle.jvm_machine.specs.Tables.{AreTablesOf};
 
 use crate::machine::{Machine, Step};
 use crate::marking::MethodMarks;
-use crate::passing::{Taken, pass_on};
+use crate::passing::pass_on;
 use crate::stepping::step;
 use crate::tables::Tables;
+use crate::taking::Taken;
 use class_model::Memory;
 use class_table::Program;
 use machine_rules::Outcome;

@@ -14,6 +14,7 @@ mod result;
 mod running;
 mod stepping;
 mod tables;
+mod taking;
 
 pub use machine::{Machine, Step};
 pub use outcome::Outcome;

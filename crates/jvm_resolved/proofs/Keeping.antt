@@ -14,7 +14,7 @@ use Rattle.jvm_link.specs.Named.{IsClassNamed}
 use Rattle.jvm_resolved.specs.declared.rows.Kept.{Kept}
 use Rattle.jvm_resolved.specs.declared.rows.Kept.TheVariants as kept
 use Rattle.jvm_resolved.specs.Holding.{held, Holds, HoldSame}
-use Rattle.jvm_resolved.specs.References.{IsEntry, IsRight, IsTableOf, IsFieldOf, IsMethodOf, KeepsClass, KeepsField, KeepsMethod, ResolvesFieldRef, ResolvesMethodRef}
+use Rattle.jvm_resolved.specs.References.{IsEntry, IsRight, IsTableOf, IsFieldOf, IsMethodOf, KeepsClass, KeepsField, KeepsMethod, KeepsMethodClass, ResolvesFieldRef, ResolvesMethodRef}
 
 pub nothing_kept : (p : List Info) → IsTableOf p []
 nothing_kept p class index k is = absurd cc
@@ -54,6 +54,9 @@ module _ (rows : List (List (Option Kept))) (class index : ℕ) (found : Option 
     named = λ p r table entry. (table class index (kept.Method id answer) (sym is ∙ some) r entry).named;
     resolved = λ p r table entry. (table class index (kept.Method id answer) (sym is ∙ some) r entry).resolved;
   }
+
+pub method_class_kept : (rows : List (List (Option Kept))) (class index : ℕ) (id : ClassId) (answer : Result Callee Fault) → KeepsMethod rows class index id answer → KeepsMethodClass rows class index id
+method_class_kept rows class index id answer k = record { named = k.named }
 
 module _ (p : List Info) (class index : ℕ) (id : ClassId) where
   pub class_right : (n : Name) → IsEntry p class index (entry.Class n) → IsClassNamed p n id → IsRight p class index (kept.Class id)

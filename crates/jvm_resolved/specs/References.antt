@@ -113,6 +113,13 @@ pub record KeepsMethod
       (p : List Info) (r : MethodRef) → IsTableOf p rows →
       IsEntry p class index (entry.Method r) → ResolvesMethodRef p r answer
 
+-- The class that is kept for an index is the one that the reference to a method names.
+pub record KeepsMethodClass
+    (rows : List (List (Option Kept))) (class index : ℕ) (id : ClassId) : Type 0 where
+  pub named :
+      (p : List Info) (r : MethodRef) → IsTableOf p rows →
+      IsEntry p class index (entry.Method r) → IsClassNamed p r.class id
+
 -- What is kept for such an object is what it selects of the resolved method.
 pub record KeepsVirtual
     (rows : List (List (Option Kept))) (class index : ℕ) (to : Receiver)

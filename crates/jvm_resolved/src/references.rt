@@ -5,7 +5,7 @@ ghost use Rattle.class_link.specs.Info.{Info};
 ghost use Rattle.class_link.specs.declared.linked.Entry.TheVariants.{Class, Field, Method};
 ghost use Rattle.class_table.specs.Seen.{IsConsultedOf};
 ghost use Rattle.jvm_link.specs.Named.{Consults, ResolvesClass};
-ghost use Rattle.jvm_resolved.specs.References.{IsEntry, IsTableOf, KeepsClass, KeepsField, KeepsMethod, ResolvesFieldRef, ResolvesMethodRef};
+ghost use Rattle.jvm_resolved.specs.References.{IsEntry, IsTableOf, KeepsClass, KeepsField, KeepsMethod, KeepsMethodClass, ResolvesFieldRef, ResolvesMethodRef};
 
 use crate::held::{Held, held_at};
 use crate::rows::{Kept, keep};
@@ -78,6 +78,16 @@ impl References {
             Some(Kept::Method(id, answer)) => Some((id, answer)),
             _ => None,
         }
+    }
+
+    /// The class that the reference to a method at an index of a class's constant pool names, where
+    /// what it resolves to was asked before. It takes two indices and no text.
+    #[tactic(auto, using(crate::proofs::Keeping::method_class_kept))]
+    pub fn named_class(&self, class: ClassId, index: u32) -> Option<ClassId>
+        ensures { IfSome result (λ id. KeepsMethodClass self.now class.0 index id) }
+    {
+        let kept = self.kept_method(class, index)?;
+        Some(kept.0)
     }
 
     /// What the class at an index of a class's constant pool resolves to (JVMS 5.4.3.1): the class

@@ -1,5 +1,4 @@
-use Rattle.std.proofs.Common.{◌≡◌, ◌+◌, ◌≤◌, take, arith, ◌∙◌, refl}
-use Rattle.program_rules.specs.Kinds.{height_of}
+use Rattle.std.proofs.Common.{take, arith, refl}
 use Rattle.jvm_state.specs.Slots.{stack_in}
 use Rattle.jvm_frames.proofs.Taking.{next_value}
 use Rattle.jvm_frames.proofs.Dropping.{next_height, fewer}

@@ -1,4 +1,4 @@
-use Rattle.std.proofs.Common.{◌≡◌, ◌+◌, ◌-◌, ◌≤◌, length, take, drop}
+use Rattle.std.proofs.Common.{◌≡◌, ◌+◌, ◌-◌, ◌≤◌, take, drop}
 use Rattle.program_rules.specs.Kinds.{height_of}
 use Rattle.jvm_state.specs.Slots.{stack_in, IsStack}
 use Rattle.jvm_frames.proofs.values.below_values.Given as goal

@@ -1,5 +1,5 @@
 use Rattle.std.proofs.Common.{◌≡◌, ◌∙◌, ap, subst, sym, arith}
-use Rattle.jvm_machine.specs.declared.passing.Taken.TheVariants as taken
+use Rattle.jvm_machine.specs.declared.taking.Taken.TheVariants as taken
 use Rattle.jvm_machine.specs.Machines.{Answers, HasFewMonitors, IsMachineStill}
 use Rattle.jvm_machine.specs.Marking.{IsWithin, StaysMachine, StaysMarked, WentTo}
 use Rattle.jvm_machine.specs.Passing.{Took, went_of}

@@ -1,5 +1,5 @@
 use Rattle.std.proofs.Common.{◌≤◌, ◌+◌, ◌-◌, arith, subst}
-use Rattle.jvm_machine.specs.declared.passing.Taken.TheVariants as taken
+use Rattle.jvm_machine.specs.declared.taking.Taken.TheVariants as taken
 use Rattle.jvm_machine.specs.Passing.{Took}
 use Rattle.jvm_machine.proofs.Passes.{reached_more, took_both, took_more, took_none}
 use Rattle.jvm_machine.proofs.passing.stay_in_method.Goals as goal

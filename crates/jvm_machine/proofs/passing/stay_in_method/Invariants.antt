@@ -1,5 +1,5 @@
 use Rattle.std.proofs.Common.{◌-◌, ◌≤◌}
-use Rattle.jvm_machine.specs.declared.passing.Taken.TheVariants as taken
+use Rattle.jvm_machine.specs.declared.taking.Taken.TheVariants as taken
 use Rattle.jvm_machine.specs.Passing.{Took}
 use Rattle.jvm_field_rows.specs.Layouts.{AreLayouts}
 use Rattle.jvm_field_rows.specs.Slots.{AreSlots}

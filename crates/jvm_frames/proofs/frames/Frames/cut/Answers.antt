@@ -11,8 +11,8 @@ overflow_sub-frame c =
     let args = some_args xs c.self.inside.frame f cs c.args.self.now c.args.args.count c.args.args.words c.self.view_is c.in-Some.is c.requires in
     words_within xs f (stands xs c.self.inside.frame f cs c.in-Some.is c.self.invariant).0 c.args.args.count c.args.args.words args
 
-pub invariant_of-self : goal.invariant_of-self
-invariant_of-self c =
+pub invariant_of-self-2 : goal.invariant_of-self-2
+invariant_of-self-2 c =
     let xs = c.self.inside.slots.items in
     let cs = c.self.inside.callers.items in
     let f = c.in-Some.frame in

@@ -7,8 +7,8 @@ use Rattle.jvm_frames.proofs.Keeping.{stands, acted, does, are_same}
 use Rattle.jvm_frames.proofs.Dropping.{on_running}
 use Rattle.jvm_frames.proofs.frames.Frames.land.Goals as goal
 
-pub invariant_of-self : goal.invariant_of-self
-invariant_of-self c =
+pub invariant_of-self-2 : goal.invariant_of-self-2
+invariant_of-self-2 c =
     let xs = c.self.inside.slots.items in
     let cs = c.self.inside.callers.items in
     let f = c.in-Some.frame in

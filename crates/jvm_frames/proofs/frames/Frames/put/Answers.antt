@@ -1,4 +1,4 @@
-use Rattle.std.proofs.Common.{◌≡◌, length, Some, subst, sym, true, false, reverse, ◌∙◌, ◌∷◌}
+use Rattle.std.proofs.Common.{◌≡◌, length, Some, subst, sym, true, reverse, ◌∙◌, ◌∷◌}
 use Rattle.std.specs.Vec.{with_items}
 use Rattle.std.proofs.lemmas.List.{with_items_is}
 use Rattle.machine_rules.specs.Effects.{NoRow}
@@ -42,8 +42,8 @@ unreachable-requires c =
     let stays = subst (λ ys. StaysAt (pushing v f.top) (λ w k fs. NoRow) ys new (lowered f words) c.push_in.new.f) c.deref_mut.ensures.value c.if-not-push_in.ensures.pushes in
     put_goes_on v xs new f c.push_in.new.f n words h.0 there e room stays
 
-pub invariant_of-self : goal.invariant_of-self
-invariant_of-self c =
+pub invariant_of-self-2 : goal.invariant_of-self-2
+invariant_of-self-2 c =
     let xs = c.self.inside.slots.items in
     let cs = c.self.inside.callers.items in
     let f = c.in-Some.frame in

@@ -7,14 +7,14 @@ use Rattle.jvm_frames.specs.Staying.{Stays, StayOn}
 use Rattle.jvm_frames.proofs.Keeping.{stands, stayed_frames, stayed_on, if_running}
 use Rattle.jvm_frames.proofs.frames.Frames.stay.Goals as goal
 
-pub invariant_of-self : goal.invariant_of-self
-invariant_of-self c =
+pub invariant_of-self-2 : goal.invariant_of-self-2
+invariant_of-self-2 c =
     let xs = c.self.inside.slots.items in
     let cs = c.self.inside.callers.items in
     let f = c.in-Some.frame in
-    let new = c.stay_in-taken.new.slots in
-    let g = c.stay_in-taken.new.f in
-    let s = c.stay_in-taken.ensures in
+    let new = c.stay_in.new.slots in
+    let g = c.stay_in.new.f in
+    let s = c.stay_in.ensures in
     let below = subst (λ ys. take f.base new ≡ take f.base ys) c.deref_mut.ensures.value s.below in
     let same : length new ≡ length xs = subst (λ ys. length new ≡ length ys) c.deref_mut.ensures.value s.len in
     subst (λ ys. AreBelow ys (length ys) (g ∷ reverse cs)) (sym (with_items_is c.self.inside.slots new (s.len ∙ c.deref_mut.ensures.len)))
@@ -25,13 +25,13 @@ returns-clause-stays c =
     let xs = c.self.inside.slots.items in
     let cs = c.self.inside.callers.items in
     let f = c.in-Some.frame in
-    let new = c.stay_in-taken.new.slots in
-    let g = c.stay_in-taken.new.f in
-    let s = c.stay_in-taken.ensures in
+    let new = c.stay_in.new.slots in
+    let g = c.stay_in.new.f in
+    let s = c.stay_in.ensures in
     let ops = c.args.ops.now in
     let longs = c.args.longs.now in
     let marks = c.args.marks.now in
-    let n = c.stay_in-taken.result in
+    let n = c.stay_in.result in
     let below = subst (λ ys. take f.base new ≡ take f.base ys) c.deref_mut.ensures.value s.below in
     let same : length new ≡ length xs = subst (λ ys. length new ≡ length ys) c.deref_mut.ensures.value s.len in
     let stays = subst (λ ys. Stays ops longs marks n (numbered ys f) (numbered new g)) c.deref_mut.ensures.value s.stays in

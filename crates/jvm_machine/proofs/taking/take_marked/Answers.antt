@@ -4,7 +4,7 @@ use Rattle.jvm_act.specs.Acts.{acting}
 use Rattle.jvm_act.specs.Turned.{Turned}
 use Rattle.jvm_machine.specs.Passing.{HasMark}
 use Rattle.jvm_machine.proofs.Passes.{of_some, took_goes, took_no_row, took_same, took_throws}
-use Rattle.jvm_machine.proofs.passing.take_marked.Goals as goal
+use Rattle.jvm_machine.proofs.taking.take_marked.Goals as goal
 
 pub returns-in-None-clause-took : goal.returns-in-None-clause-took
 returns-in-None-clause-took c =

@@ -1,7 +1,7 @@
 use Rattle.jvm_machine.proofs.Passes.{has_mark, if_there}
 use Rattle.std.proofs.Common.{IsSomeAnd}
 use Rattle.jvm_machine.specs.Passing.{HasMark}
-use Rattle.jvm_machine.proofs.passing.take_op.Goals as goal
+use Rattle.jvm_machine.proofs.taking.take_op.Goals as goal
 
 pub returns-clause-mark : goal.returns-clause-mark
 returns-clause-mark c =

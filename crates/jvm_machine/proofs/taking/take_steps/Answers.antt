@@ -1,7 +1,7 @@
 use Rattle.std.proofs.Common.{◌≤◌, ◌+◌, arith, subst, sym}
 use Rattle.jvm_machine.specs.Passing.{Took}
 use Rattle.jvm_machine.proofs.Passes.{fits, stayed_is, stayed_runs, took_both, took_stayed}
-use Rattle.jvm_machine.proofs.passing.take_steps.Goals as goal
+use Rattle.jvm_machine.proofs.taking.take_steps.Goals as goal
 
 pub take_marked-requires-clause-machine : goal.take_marked-requires-clause-machine
 take_marked-requires-clause-machine c =
