@@ -33,6 +33,7 @@ use Rattle.jvm_act.specs.declared.acting.Acted.TheVariants as answer
 use Rattle.jvm_act.specs.declared.groups.FieldUse.TheVariants as field
 use Rattle.jvm_act.specs.declared.groups.MemberOp.{MemberOp}
 use Rattle.jvm_act.specs.declared.groups.MemberOp.TheVariants as member
+use Rattle.jvm_receivers.specs.declared.invoking.Invocation.TheVariants as invocation
 use Rattle.jvm_act.specs.declared.groups.CallUse.{CallUse}
 use Rattle.jvm_act.specs.declared.groups.CallUse.TheVariants as call
 use Rattle.jvm_act.specs.declared.groups.ReturnOp.{ReturnOp}
@@ -155,10 +156,10 @@ module _ (p : List Info) (m : MethodCode) (class : ℕ) (op : Op) (old : Numbere
 
   -- What calls a method names it so.
   call_names : (how : CallUse) (n : ℕ) → names (call_of how) n ≡ on_method (call_named how) (symbol_at p class n)
-  call_names call.Virtual n = refl
-  call_names call.Interface n = refl
-  call_names call.Special n = refl
   call_names call.Static n = refl
+  call_names (call.On invocation.Virtual) n = refl
+  call_names (call.On invocation.Interface) n = refl
+  call_names (call.On invocation.Special) n = refl
 
   pub left_call : (how : CallUse) (n : ℕ) (w : World) → AreFramesOf p old → MeansIn op (λ named. named (call_of how) n) → Leaves p m class (on_method (call_named how) (symbol_at p class n)) old old w w
   left_call how n w are is = left (on_method (call_named how) (symbol_at p class n)) w are (is m.code.longs.items names ∙ call_names how n)

@@ -4,6 +4,7 @@ use Rattle.program_rules.specs.Instructions as def
 use Rattle.jvm_state.specs.declared.op.Op.{Op}
 use Rattle.jvm_state.specs.Ops.{Naming, instruction_of, is_alone}
 use Rattle.jvm_state.specs.Ops as naming
+use Rattle.jvm_receivers.specs.declared.invoking.Invocation.TheVariants as invocation
 use Rattle.jvm_act.specs.declared.groups.SwitchOp.{SwitchOp}
 use Rattle.jvm_act.specs.declared.groups.SwitchOp.TheVariants as switch
 use Rattle.jvm_act.specs.declared.groups.ElementOp.{ElementOp}
@@ -70,10 +71,10 @@ member_in named (member.Field how n) = named (field_of how) n
 member_in named (member.New n) = named naming.New n
 
 abbrev pub call_of : CallUse → Naming
-call_of call.Virtual = naming.InvokeVirtual
-call_of call.Interface = naming.InvokeInterface
-call_of call.Special = naming.InvokeSpecial
 call_of call.Static = naming.InvokeStatic
+call_of (call.On invocation.Virtual) = naming.InvokeVirtual
+call_of (call.On invocation.Interface) = naming.InvokeInterface
+call_of (call.On invocation.Special) = naming.InvokeSpecial
 
 abbrev pub return_in : ReturnOp → def.Instruction
 return_in return.Int = def.IntReturn

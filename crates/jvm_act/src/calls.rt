@@ -25,7 +25,7 @@ use class_table::Program;
 use jvm_frames::Frames;
 use jvm_invokes::{Invoked, invoke_static};
 use jvm_natives::{Natives, complete};
-use jvm_receivers::{Invocation, Lookups, invoke_on};
+use jvm_receivers::{Lookups, invoke_on};
 use jvm_resolved::entry;
 use jvm_unwind::Turn;
 use jvm_world::World;
@@ -50,6 +50,7 @@ fn method_at(p: &Program, class: ClassId, index: u32) -> Option<&MethodRef>
 }
 
 // The instruction of this kind at an index is executed, but for what it leaves.
+#[tactic(auto, using(crate::proofs::Called::stands_for))]
 fn invoke(
     frames: &mut Frames,
     world: &mut World,
@@ -74,22 +75,7 @@ fn invoke(
     ensures lookups { AreLookups p.now lookups.new }
 {
     match how {
-        CallUse::Virtual => {
-            let on = Invocation::Virtual;
-            let left = invoke_on(
-                frames, world, alloc, p, lookups, class, index, reference, on,
-            )?;
-            Ok(left)
-        }
-        CallUse::Interface => {
-            let on = Invocation::Interface;
-            let left = invoke_on(
-                frames, world, alloc, p, lookups, class, index, reference, on,
-            )?;
-            Ok(left)
-        }
-        CallUse::Special => {
-            let on = Invocation::Special;
+        CallUse::On(on) => {
             let left = invoke_on(
                 frames, world, alloc, p, lookups, class, index, reference, on,
             )?;
