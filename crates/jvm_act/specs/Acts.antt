@@ -31,6 +31,7 @@ use Rattle.jvm_act.specs.declared.methods.MethodCode.{MethodCode}
 use Rattle.jvm_act.specs.declared.acting.Acted.{Acted}
 use Rattle.jvm_act.specs.declared.acting.Acted.TheVariants as acted
 use Rattle.jvm_act.specs.declared.groups.FieldUse.{FieldUse}
+use Rattle.jvm_field_rows.specs.declared.access.Access.TheVariants as access
 use Rattle.jvm_act.specs.declared.groups.FieldUse.TheVariants as field
 use Rattle.jvm_act.specs.declared.groups.MemberOp.{MemberOp}
 use Rattle.jvm_act.specs.declared.groups.MemberOp.TheVariants as member
@@ -75,10 +76,10 @@ use_named using.Test n = def.InstanceOf n
 
 -- A field that is named is used.
 abbrev pub field_named : FieldUse → def.FieldRef → def.Instruction
-field_named field.GetStatic r = def.GetStatic r
-field_named field.PutStatic r = def.PutStatic r
-field_named field.Get r = def.GetField r
-field_named field.Put r = def.PutField r
+field_named (field.Static access.Get) r = def.GetStatic r
+field_named (field.Static access.Put) r = def.PutStatic r
+field_named (field.Object access.Get) r = def.GetField r
+field_named (field.Object access.Put) r = def.PutField r
 
 -- A method that is named is called, as an instruction and as a row.
 abbrev pub call_named : CallUse → def.MethodRef → def.Instruction

@@ -18,6 +18,7 @@ use Rattle.jvm_act.specs.declared.groups.ClassOp.TheVariants as class
 use Rattle.jvm_act.specs.declared.groups.FrameOp.{FrameOp}
 use Rattle.jvm_act.specs.declared.groups.FrameOp.TheVariants as frame
 use Rattle.jvm_act.specs.declared.groups.FieldUse.{FieldUse}
+use Rattle.jvm_field_rows.specs.declared.access.Access.TheVariants as access
 use Rattle.jvm_act.specs.declared.groups.FieldUse.TheVariants as field
 use Rattle.jvm_act.specs.declared.groups.MemberOp.{MemberOp}
 use Rattle.jvm_act.specs.declared.groups.MemberOp.TheVariants as member
@@ -61,10 +62,10 @@ class_in named (class.Primitives n) = named naming.NewArray n
 class_in named (class.Use how n) = named (use_of how) n
 
 abbrev pub field_of : FieldUse → Naming
-field_of field.GetStatic = naming.GetStatic
-field_of field.PutStatic = naming.PutStatic
-field_of field.Get = naming.GetField
-field_of field.Put = naming.PutField
+field_of (field.Static access.Get) = naming.GetStatic
+field_of (field.Static access.Put) = naming.PutStatic
+field_of (field.Object access.Get) = naming.GetField
+field_of (field.Object access.Put) = naming.PutField
 
 abbrev pub member_in : Names → MemberOp → def.Instruction
 member_in named (member.Field how n) = named (field_of how) n

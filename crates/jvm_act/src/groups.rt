@@ -9,6 +9,7 @@ ghost use Rattle.jvm_act.specs.declared.groups.FrameOp.TheVariants as frame;
 ghost use Rattle.jvm_act.specs.declared.groups.Group.TheVariants as group;
 ghost use Rattle.jvm_act.specs.declared.groups.MemberOp.TheVariants as member;
 
+use jvm_field_rows::Access;
 use jvm_receivers::Invocation;
 use jvm_state::Op;
 use program_rules::Element;
@@ -71,13 +72,11 @@ pub enum FrameOp {
     Unlinked,
 }
 
-/// What an instruction does with the field that it names.
+/// What an instruction does with the field that it names: one of a class, or one of an object.
 #[derive(Clone, Copy)]
 pub enum FieldUse {
-    GetStatic,
-    PutStatic,
-    Get,
-    Put,
+    Static(Access),
+    Object(Access),
 }
 
 /// The use of the field at an index; `new` of the class at an index.
@@ -190,10 +189,10 @@ pub fn group_of(op: Op) -> Group
         Op::LongReturn => Group::Return(ReturnOp::Long),
         Op::ReferenceReturn => Group::Return(ReturnOp::Reference),
         Op::PlainReturn => Group::Return(ReturnOp::Plain),
-        Op::GetStatic(n) => field(FieldUse::GetStatic, n),
-        Op::PutStatic(n) => field(FieldUse::PutStatic, n),
-        Op::GetField(n) => field(FieldUse::Get, n),
-        Op::PutField(n) => field(FieldUse::Put, n),
+        Op::GetStatic(n) => field(FieldUse::Static(Access::Get), n),
+        Op::PutStatic(n) => field(FieldUse::Static(Access::Put), n),
+        Op::GetField(n) => field(FieldUse::Object(Access::Get), n),
+        Op::PutField(n) => field(FieldUse::Object(Access::Put), n),
         Op::InvokeVirtual(n) => call_on(Invocation::Virtual, n),
         Op::InvokeInterface(n) => call_on(Invocation::Interface, n),
         Op::InvokeSpecial(n) => call_on(Invocation::Special, n),
