@@ -51,6 +51,7 @@ fn method_at(p: &Program, class: ClassId, index: u32) -> Option<&MethodRef>
 
 // The instruction of this kind at an index is executed, but for what it leaves.
 #[tactic(auto, using(crate::proofs::Called::stands_for))]
+#[inline(always)]
 fn invoke(
     frames: &mut Frames,
     world: &mut World,
@@ -98,6 +99,7 @@ fn invoke(
 }
 
 // The turn of a call of which nothing is left.
+#[inline(always)]
 fn turn_in(left: Invoked) -> Option<Turn>
     ensures some { IfSome result (λ t. left ≡ invoked.Turned t) }
     ensures none { IfNone result (IsRest left) }
@@ -123,6 +125,7 @@ fn has_next(frames: &Frames) -> bool
 
 // What is left of a call is done.
 #[tactic(auto, using(crate::proofs::Called::completed, crate::proofs::Called::no_next, crate::proofs::Called::completed_keep_frames, crate::proofs::Executed::has_next))]
+#[inline(never)]
 fn finish_rest(
     frames: &mut Frames,
     world: &mut World,
@@ -152,6 +155,7 @@ fn finish_rest(
 
 // What is left of a call is done, if anything is.
 #[tactic(auto, using(crate::proofs::Called::finished))]
+#[inline(always)]
 fn finish(
     frames: &mut Frames,
     world: &mut World,
@@ -182,6 +186,7 @@ fn finish(
 
 // The method of a reference is called.
 #[tactic(auto, using(crate::proofs::Called::within, crate::proofs::Called::runs_in, crate::proofs::Called::stands_next, crate::proofs::Called::called, crate::proofs::Called::kept_on, crate::proofs::Framed::calls_keep_frames))]
+#[inline(always)]
 fn call_method(
     frames: &mut Frames,
     world: &mut World,

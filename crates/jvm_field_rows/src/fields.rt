@@ -35,6 +35,7 @@ use program_rules::Fault;
 use std::alloc::Global;
 
 // The slot of an object on the stack is read or written.
+#[inline(always)]
 fn access_slot(
     frames: &mut Frames,
     world: &mut World,
@@ -100,6 +101,7 @@ fn access_found(
 
 // Consults the class of a number: a look at its mark, where it was consulted before.
 #[tactic(auto, using(crate::proofs::Known::named_moves, crate::proofs::Known::named_kept))]
+#[inline(always)]
 fn consult(world: &mut World, p: &Program, id: ClassId) -> Result<(), Memory>
     requires world { IsWorldOf p.now world.old }
     requires class { id.0 < length p.now }
