@@ -11,7 +11,6 @@ use Rattle.program_rules.specs.Programs.{nodes, Rising}
 use Rattle.program_rules.specs.Resolution.{FieldAt, field_at}
 use Rattle.machine_rules.specs.Effects.{throws}
 use Rattle.machine_rules.specs.Lookups.{consult}
-use Rattle.class_model.specs.declared.kind.Kind as plain
 use Rattle.class_link.specs.declared.linked.FieldRef.{FieldRef}
 use Rattle.class_link.specs.declared.linked.LinkedField as code_field
 use Rattle.class_link.specs.Symbols.{kind_of}
