@@ -1,5 +1,5 @@
-//! Each line with what its calls come to. A call is the number of a native method, its name, and its
-//! arguments, the receiver first; ` | ` stands between calls on one heap.
+//! Each line with what its calls come to. A call is the number of a native method, its name, and
+//! its arguments, the receiver first; ` | ` stands between calls on one heap.
 
 use crate::arguments::{Named, arguments, number_of};
 use crate::ends::{push, push_end, push_list};

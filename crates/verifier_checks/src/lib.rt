@@ -7,6 +7,8 @@ mod accepted;
 #[cfg(test)]
 mod assignability;
 pub mod calls;
+#[cfg(test)]
+mod libraries;
 pub mod passes;
 #[cfg(test)]
 mod refused;

@@ -1,6 +1,7 @@
 //! Methods that a rule refuses.
 
-use crate::small_methods::{program, verdict};
+use crate::small_methods::first_other;
+use std::alloc::Global;
 use std::test::Fail;
 
 // Lines that are refused, the rule, and the instruction.
@@ -248,38 +249,32 @@ const THIRD_REFUSED: [(&str, u8, u32); 21] = [
     ),
 ];
 
+fn other_of_first(alloc: Global) -> Result<&'static str, Fail> {
+    first_other(alloc, &FIRST_REFUSED)
+}
+
 #[test]
 fn first_are_refused(rt: HostRuntime) -> Result<(), Fail> {
-    for (lines, rule, at) in FIRST_REFUSED {
-        let program = program(rt.alloc(), lines)?;
-        assert!(rt;
-            verdict(rt.alloc(), &program) == Some((rule, at)),
-            "{lines}"
-        );
-    }
+    assert_eq!(rt; other_of_first(rt.alloc())?, "");
     Ok(())
+}
+
+fn other_of_second(alloc: Global) -> Result<&'static str, Fail> {
+    first_other(alloc, &SECOND_REFUSED)
 }
 
 #[test]
 fn second_are_refused(rt: HostRuntime) -> Result<(), Fail> {
-    for (lines, rule, at) in SECOND_REFUSED {
-        let program = program(rt.alloc(), lines)?;
-        assert!(rt;
-            verdict(rt.alloc(), &program) == Some((rule, at)),
-            "{lines}"
-        );
-    }
+    assert_eq!(rt; other_of_second(rt.alloc())?, "");
     Ok(())
+}
+
+fn other_of_third(alloc: Global) -> Result<&'static str, Fail> {
+    first_other(alloc, &THIRD_REFUSED)
 }
 
 #[test]
 fn third_are_refused(rt: HostRuntime) -> Result<(), Fail> {
-    for (lines, rule, at) in THIRD_REFUSED {
-        let program = program(rt.alloc(), lines)?;
-        assert!(rt;
-            verdict(rt.alloc(), &program) == Some((rule, at)),
-            "{lines}"
-        );
-    }
+    assert_eq!(rt; other_of_third(rt.alloc())?, "");
     Ok(())
 }

@@ -1,6 +1,7 @@
 //! Further methods that a rule refuses: calls, fields, handlers, what `new` gives.
 
-use crate::small_methods::{program, verdict};
+use crate::small_methods::first_other;
+use std::alloc::Global;
 use std::test::Fail;
 
 // Lines that are refused, the rule, and the instruction.
@@ -185,26 +186,22 @@ const FIFTH_REFUSED: [(&str, u8, u32); 18] = [
     ),
 ];
 
+fn other_of_fourth(alloc: Global) -> Result<&'static str, Fail> {
+    first_other(alloc, &FOURTH_REFUSED)
+}
+
 #[test]
 fn fourth_are_refused(rt: HostRuntime) -> Result<(), Fail> {
-    for (lines, rule, at) in FOURTH_REFUSED {
-        let program = program(rt.alloc(), lines)?;
-        assert!(rt;
-            verdict(rt.alloc(), &program) == Some((rule, at)),
-            "{lines}"
-        );
-    }
+    assert_eq!(rt; other_of_fourth(rt.alloc())?, "");
     Ok(())
+}
+
+fn other_of_fifth(alloc: Global) -> Result<&'static str, Fail> {
+    first_other(alloc, &FIFTH_REFUSED)
 }
 
 #[test]
 fn fifth_are_refused(rt: HostRuntime) -> Result<(), Fail> {
-    for (lines, rule, at) in FIFTH_REFUSED {
-        let program = program(rt.alloc(), lines)?;
-        assert!(rt;
-            verdict(rt.alloc(), &program) == Some((rule, at)),
-            "{lines}"
-        );
-    }
+    assert_eq!(rt; other_of_fifth(rt.alloc())?, "");
     Ok(())
 }

@@ -1,57 +1,34 @@
 //! Programs of a class `A` with small methods, and what is told of them.
 
+use crate::libraries::{ClassRow, library_of};
 use class_asm::assemble;
 use class_link::LibClass;
-use class_model::{ClassId, Seq, SharedBytes, read_text};
+use class_model::{ClassId, Seq, SharedBytes};
 use class_reader::read_class;
 use class_table::{Loaded, Program};
 use program_verifier::{VerifyEnd, is_numbered, verify, verify_class, verify_library};
 use std::alloc::Global;
 use std::test::Fail;
 
-// A class of the library, without members.
-fn class(
-    alloc: Global,
-    name: &str,
-    parent: Option<&str>,
-    interface: Option<&str>,
-    flags: u16,
-) -> Result<LibClass, Fail> {
-    let mut interfaces = Seq::new(alloc);
-    if let Some(name) = interface {
-        interfaces.push(read_text(alloc, name.as_bytes())?)?;
-    }
-    let parent = match parent {
-        Some(name) => Some(read_text(alloc, name.as_bytes())?),
-        None => None,
-    };
-    Ok(LibClass {
-        name: read_text(alloc, name.as_bytes())?,
-        parent,
-        interfaces,
-        flags,
-        pool: Seq::new(alloc),
-        fields: Seq::new(alloc),
-        methods: Seq::new(alloc),
-    })
-}
+const OBJECT: Option<&'static str> = Some("java/lang/Object");
 
 // Object, what arrays are assignable to, what is thrown, and a few classes: `Lower` stands below
 // `Upper`, which implements `Face`; `Far` is an interface that nothing implements.
+const CLASSES: [ClassRow; 10] = [
+    ("java/lang/Object", None, None, 33),
+    ("java/lang/Cloneable", OBJECT, None, 1537),
+    ("java/io/Serializable", OBJECT, None, 1537),
+    ("java/lang/Throwable", OBJECT, None, 33),
+    ("java/lang/String", OBJECT, None, 49),
+    ("java/lang/Class", OBJECT, None, 49),
+    ("Upper", OBJECT, Some("Face"), 33),
+    ("Lower", Some("Upper"), None, 33),
+    ("Face", OBJECT, None, 1537),
+    ("Far", OBJECT, None, 1537),
+];
+
 fn library(alloc: Global) -> Result<Seq<LibClass>, Fail> {
-    let object = "java/lang/Object";
-    let mut library = Seq::new(alloc);
-    library.push(class(alloc, object, None, None, 33)?)?;
-    library.push(class(alloc, "java/lang/Cloneable", Some(object), None, 1537)?)?;
-    library.push(class(alloc, "java/io/Serializable", Some(object), None, 1537)?)?;
-    library.push(class(alloc, "java/lang/Throwable", Some(object), None, 33)?)?;
-    library.push(class(alloc, "java/lang/String", Some(object), None, 49)?)?;
-    library.push(class(alloc, "java/lang/Class", Some(object), None, 49)?)?;
-    library.push(class(alloc, "Upper", Some(object), Some("Face"), 33)?)?;
-    library.push(class(alloc, "Lower", Some("Upper"), None, 33)?)?;
-    library.push(class(alloc, "Face", Some(object), None, 1537)?)?;
-    library.push(class(alloc, "Far", Some(object), None, 1537)?)?;
-    Ok(library)
+    library_of(alloc, &CLASSES)
 }
 
 // The text of a class `A` below `Upper` with these lines, which `|` parts.
@@ -70,8 +47,8 @@ fn text_of(alloc: Global, lines: &str) -> Result<Vec<u8>, Fail> {
     Ok(text)
 }
 
-/// The program of the class with these lines.
-pub fn program(alloc: Global, lines: &str) -> Result<Program, Fail> {
+// The program of the class with these lines.
+fn program(alloc: Global, lines: &str) -> Result<Program, Fail> {
     let text = text_of(alloc, lines)?;
     let bytes = assemble(alloc, &text)?;
     let class = read_class(alloc, bytes.as_slice())?;
@@ -90,9 +67,9 @@ fn told(end: Result<(), VerifyEnd>) -> Option<(u8, u32)> {
     }
 }
 
-/// What is told of the first class of a program, and of all of it. Rule 0 stands for a program that
-/// can't be asked for, and for two answers.
-pub fn verdict(alloc: Global, program: &Program) -> Option<(u8, u32)> {
+// What is told of the first class of a program, and of all of it. Rule 0 stands for a program that
+// can't be asked for, and for two answers.
+fn verdict(alloc: Global, program: &Program) -> Option<(u8, u32)> {
     if program.len() == 0 || !is_numbered(program) {
         return Some((0, 0));
     }
@@ -102,4 +79,32 @@ pub fn verdict(alloc: Global, program: &Program) -> Option<(u8, u32)> {
     let class = told(verify_class(alloc, program, ClassId(0)));
     let whole = told(verify(alloc, program));
     if class == whole { class } else { Some((0, 3)) }
+}
+
+// What is told of the program of these lines.
+fn told_of(alloc: Global, lines: &str) -> Result<Option<(u8, u32)>, Fail> {
+    let program = program(alloc, lines)?;
+    Ok(verdict(alloc, &program))
+}
+
+/// The first of these lines that aren't accepted; none where all are.
+pub fn first_refused(alloc: Global, cases: &[&'static str]) -> Result<&'static str, Fail> {
+    for lines in cases {
+        if told_of(alloc, lines)?.is_some() {
+            return Ok(*lines);
+        }
+    }
+    Ok("")
+}
+
+/// The first of these lines that another rule refuses than the one stated, or at another
+/// instruction; none where all are refused so.
+pub fn first_other(alloc: Global, cases: &[(&'static str, u8, u32)]) -> Result<&'static str, Fail> {
+    for (lines, rule, at) in cases {
+        let told = told_of(alloc, lines)?;
+        if !(told == Some((*rule, *at))) {
+            return Ok(*lines);
+        }
+    }
+    Ok("")
 }
