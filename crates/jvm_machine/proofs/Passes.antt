@@ -1,6 +1,6 @@
 -- Steps through frames, of instructions whose lines were reached.
 use Rattle.std.proofs.Common.{◌≡◌, ◌∙◌, ◌<◌, ◌≤◌, refl, sym, ap, subst, ℕ, zero, suc, ◌+◌, ◌-◌, true, false, List, length, Option, None, Some, IfSome, IsSomeAnd, get_or, arith}
-use Rattle.std.specs.Prelude.{ℤ, Bool, ◌^◌, All, slice_get}
+use Rattle.std.specs.Prelude.{Bool, ◌^◌, All, slice_get}
 use Rattle.program_rules.specs.Names.{Name}
 use Rattle.program_rules.specs.Linked.{code_of, method_in}
 use Rattle.machine_rules.specs.declared.machine.Limits.{Limits}
