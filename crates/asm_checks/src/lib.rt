@@ -14,4 +14,4 @@ mod words;
 pub use assembling::assemble;
 pub use instructions::{class_in, insn_of};
 pub use stating::stated_by;
-pub use words::{lines_of, push, s4, start_in};
+pub use words::{lines_of, start_in};

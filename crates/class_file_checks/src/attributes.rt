@@ -1,16 +1,14 @@
-//! Attributes: calls of `mt_attrs`.
+//! Attributes: a call of `mt_attrs`.
 
-ghost use Rattle.std.specs.Prelude.{◌≡◌, ℕ, ◌+◌, List, ◌++◌, length, All, IfOk, OnOk, Ok};
+ghost use Rattle.std.specs.Prelude.{◌≡◌, ℕ, ◌+◌, List, ◌++◌, length, IfOk, Ok};
 ghost use Rattle.class_model.specs.declared.attribute.Attr.{Attr};
 ghost use Rattle.class_model.specs.declared.fault.ClassFault.TheVariants as fault;
-ghost use Rattle.class_model.specs.declared.fault.LayoutFault.TheVariants as layout_fault;
-ghost use Rattle.codec_rules.specs.Meets.{Reads, Gives};
+ghost use Rattle.codec_rules.specs.Meets.{Reads};
 ghost use Rattle.codec_rules.specs.Spelling.{input_at};
 ghost use Rattle.mt_bytes.specs.Items.{ReadsItem};
 ghost use Rattle.mt_attrs.specs.Attributes.{attrs_at, attrs_bytes, AreAttrs};
-ghost use Rattle.mt_attrs.specs.Layout.{attrs_layout, HasAttrForm};
 
-use class_model::{Attr, Bytes, CheckedPool, ClassFault, LayoutFault, Seq};
+use class_model::{Attr, CheckedPool, ClassFault, Seq};
 use mt_attrs::Owner;
 use mt_bytes::Cursor;
 use std::alloc::Global;
@@ -33,14 +31,4 @@ pub fn read_attrs(
     ensures exact { ReadsItem (attrs_at owner pool.now) cur.old cur.new result }
 {
     mt_attrs::read_attrs(alloc, cur, owner, pool)
-}
-
-/// `write_attrs`.
-pub fn write_attrs(attrs: &Seq<Attr>, out: &mut Bytes) -> Result<(), LayoutFault>
-    requires { All HasAttrForm attrs.now }
-    ensures ok { OnOk result (out.new ≡ out.old ++ attrs_bytes attrs.now) }
-    ensures exact { Gives layout_fault.Memory (λ _. attrs_bytes attrs.now) (attrs_layout attrs.now)
-        result }
-{
-    mt_attrs::write_attrs(attrs, out)
 }

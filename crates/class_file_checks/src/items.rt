@@ -1,20 +1,12 @@
 //! Numbers and bytes at a place in a file: calls of `mt_bytes`.
 
-ghost use Rattle.std.specs.Prelude.{◌≡◌, ◌+◌, ◌^◌, ◌<◌, ◌++◌, length, OnOk, OnErr};
+ghost use Rattle.std.specs.Prelude.{◌≡◌, ◌++◌, OnOk, OnErr};
 ghost use Rattle.std.specs.Int.{w16, to_be_bytes};
 ghost use Rattle.codec_rules.specs.Reading.{bytes_at};
 ghost use Rattle.mt_bytes.specs.Moves.{MovesBy};
 
 use class_model::{Bytes, Memory};
 use mt_bytes::{Cursor, Truncated};
-
-/// `Cursor::new`.
-pub fn cursor<'a>(bytes: &'a [u8], base: u64) -> Cursor<'a>
-    requires { base + length bytes.now < 2 ^ 64 }
-    ensures { result ≡ record { at = base; bytes = bytes.entry.now } }
-{
-    Cursor::new(bytes, base)
-}
 
 /// `Cursor::take`.
 pub fn take<'a>(cursor: &mut Cursor<'a>, n: u32) -> Result<&'a [u8], Truncated>

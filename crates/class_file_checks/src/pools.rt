@@ -1,8 +1,7 @@
 //! The constant pool: calls of `mt_pool`.
 
 ghost use Rattle.std.specs.Prelude.{◌≡◌, ◌++◌, ◌+◌, List, ℕ, length, IfOk, OnOk, Ok};
-ghost use Rattle.std.specs.Option.{option_copied};
-ghost use Rattle.class_model.specs.Pool.{IsPool, entry_of};
+ghost use Rattle.class_model.specs.Pool.{IsPool};
 ghost use Rattle.class_model.specs.declared.constant.Const.{Const};
 ghost use Rattle.class_model.specs.declared.fault.LayoutFault.TheVariants as layout_fault;
 ghost use Rattle.codec_rules.specs.Meets.{Gives};
@@ -34,11 +33,4 @@ pub fn write_pool(pool: &Seq<Const>, out: &mut Bytes) -> Result<(), LayoutFault>
     ensures unchanged { (what : _) → result ≡ Err (layout_fault.TooLarge what) → out.new ≡ out.old }
 {
     mt_pool::write_pool(pool, out)
-}
-
-/// `entry_of`.
-pub fn entry_of(pool: &[Const], index: u16) -> Option<&Const>
-    ensures { option_copied result ≡ entry_of pool.now index }
-{
-    mt_pool::entry_of(pool, index)
 }

@@ -1,17 +1,13 @@
-//! Texts, descriptors and copies: calls of `class_model`.
+//! Texts and descriptors: calls of `class_model`.
 
-ghost use Rattle.std.specs.Prelude.{◌≡◌, ◌≢◌, List, ℕ, Some, None, Ok, Err, IfOk, MatchOption, MatchResult};
+ghost use Rattle.std.specs.Prelude.{◌≡◌, ◌≢◌, List, ℕ, Some, None, Ok, Err, IfOk, MatchResult};
 ghost use Rattle.class_model.specs.Text.{IsUnits, IsFirstBad, text, units_of};
 ghost use Rattle.class_model.specs.Descriptor.{FieldType, MethodDescriptor, IsFieldDescriptor, IsMethodDescriptor, MeansField, MeansMethod};
 ghost use Rattle.class_model.specs.DescriptorReading.{field_kind, method_kinds};
-ghost use Rattle.class_model.specs.TextVerdicts.{verdict_of};
-ghost use Rattle.class_model.specs.Pool.{text_of};
 ghost use Rattle.class_model.specs.declared.fault.TextFault.TheVariants as text_fault;
 ghost use Rattle.class_model.specs.declared.fault.DescFault.TheVariants as desc_fault;
 
-use class_model::{
-    CheckedPool, Copied, DescFault, Kind, Memory, MethodType, Name, Seq, TextFault, Verdict,
-};
+use class_model::{DescFault, Kind, MethodType, Name, TextFault};
 use std::alloc::Global;
 
 /// `read_text`.
@@ -47,29 +43,4 @@ pub fn parse_method(alloc: Global, desc: &Name) -> Result<MethodType, DescFault>
         (λ fault. fault ≢ desc_fault.Memory → method_kinds desc.now ≡ Err fault) }
 {
     class_model::parse_method(alloc, desc)
-}
-
-/// `Seq::copy`.
-pub fn copy<T: Copied + Drop>(list: &Seq<T>) -> Result<Seq<T>, Memory>
-    ensures { IfOk result (λ c. c ≡ list.now) }
-{
-    list.copy()
-}
-
-/// `CheckedPool::text`.
-pub fn verdict_on<'a>(pool: &'a CheckedPool, index: u16) -> Option<(&'a Name, Verdict)>
-    ensures { MatchOption result (text_of pool.now index ≡ None) (λ x.
-        (text_of pool.now index ≡ Some x.0.now) × (x.1 ≡ verdict_of x.0.now)) }
-{
-    let (text, verdict) = pool.text(index)?;
-    let field = verdict.field;
-    Some((
-        text,
-        Verdict {
-            field,
-            method: verdict.method,
-            names_field: verdict.names_field,
-            names_method: verdict.names_method,
-        },
-    ))
 }

@@ -1,6 +1,5 @@
 -- A walk with more levels than the rank of its first class is the same walk.
-use Rattle.std.proofs.Common.{◌≡◌, ◌∙◌, sym, refl, ap, subst, ℕ, zero, suc, ◌<◌, ◌≤◌, ◌^◌, Bool, true, false, List, [], ◌∷◌, ◌++◌, arith}
-use Rattle.std.specs.Prelude.{◌||◌}
+use Rattle.std.proofs.Common.{◌≡◌, ◌∙◌, sym, refl, ap, subst, ℕ, zero, suc, ◌≤◌, true, List, [], ◌∷◌, ◌++◌, arith}
 use Rattle.program_rules.specs.Names.{Name, same, is_listed}
 use Rattle.program_rules.specs.Linked.{parents_of}
 use Rattle.program_rules.specs.Programs.{Look, concat_over, supers_within, supers}

@@ -1,7 +1,7 @@
 -- Visits are put before all else from the last one on.
-use Rattle.std.proofs.Common.{◌≡◌, ◌∙◌, sym, refl, ap, subst, ℕ, zero, suc, ◌+◌, ◌-◌, ◌<◌, ◌≤◌, List, [], ◌∷◌, ◌++◌, length, drop, Some, slice_get, arith, append_assoc}
+use Rattle.std.proofs.Common.{◌≡◌, ◌∙◌, sym, refl, ap, subst, ℕ, zero, suc, ◌-◌, ◌<◌, ◌≤◌, List, [], ◌∷◌, ◌++◌, length, drop, Some, slice_get, arith, append_assoc}
 use Rattle.class_table.specs.declared.tasks.Task.{Task}
-use Rattle.class_table.specs.declared.tasks.Task.TheVariants.{Visit, Close}
+use Rattle.class_table.specs.declared.tasks.Task.TheVariants.{Visit}
 use Rattle.class_table.specs.Walked.{visits_of}
 
 append_nil : (xs : List Task) → xs ++ [] ≡ xs

@@ -166,8 +166,23 @@ impl Program {
         Ok(())
     }
 
+    // Consults a class and all above it by a walk.
+    #[inline(never)]
+    fn walk(&self, seen: &mut Consulted, id: ClassId) -> Result<(), Memory>
+        requires class { id.0 < length self.now }
+        requires seen { IsConsultedOf self.now seen.old }
+        ensures names { OnOk result
+            (seen.new.names
+            ≡ consulted_with (look self.now) (name_at self.now id.0) seen.old.names) }
+        ensures kept { OnOk result (IsConsultedOf self.now seen.new) }
+    {
+        let mut tasks = first_task(*seen.marks.allocator(), Task::Visit(id.0))?;
+        self.run(seen, &mut tasks)
+    }
+
     /// Consults a class and all above it. One that was consulted before costs a look at its mark,
     /// and each class above it that wasn't is looked at once.
+    #[inline(always)]
     pub fn consult(&self, seen: &mut Consulted, id: ClassId) -> Result<(), Memory>
         requires class { id.0 < length self.now }
         requires seen { IsConsultedOf self.now seen.old }
@@ -179,8 +194,7 @@ impl Program {
         if seen.is_marked(id) {
             return Ok(());
         }
-        let mut tasks = first_task(*seen.marks.allocator(), Task::Visit(id.0))?;
-        self.run(seen, &mut tasks)
+        self.walk(seen, id)
     }
 
     /// Consults the class of a name, also where there is none, as `consult` does.

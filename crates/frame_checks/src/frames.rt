@@ -23,7 +23,8 @@ pub fn enter(
     requires fit { args ≤ max_locals }
     requires there { from ≤ length slots.old.items }
     requires room { from + 131072 < 2 ^ 64 }
-    ensures { IfOk result (λ f. IsEntered from args class.0 method max_locals max_stack slots.old.items slots.new.items f) }
+    ensures { IfOk result (λ f.
+        IsEntered from args class.0 method max_locals max_stack slots.old.items slots.new.items f) }
 {
     let f = jvm_state::enter(slots, from, args, class, method, max_locals, max_stack)?;
     Ok(f)

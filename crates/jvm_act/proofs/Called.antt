@@ -29,6 +29,9 @@ use Rattle.jvm_invokes.specs.declared.invoked.Invoked.TheVariants as invoked
 use Rattle.jvm_invokes.specs.Invoked.{InvokedTo, Invokes, IsOfMethod}
 use Rattle.jvm_receivers.specs.Receivers.{RunsIn}
 use Rattle.jvm_natives.specs.Completed.{Completes, GoesOnOrEnters, HasGoneOn}
+use Rattle.jvm_receivers.specs.declared.invoking.Invocation.{Invocation}
+use Rattle.jvm_receivers.specs.declared.invoking.Invocation.TheVariants as invocation
+use Rattle.jvm_receivers.specs.Kinds.{StandsFor}
 use Rattle.jvm_act.specs.declared.groups.CallUse.{CallUse}
 use Rattle.jvm_act.specs.declared.groups.CallUse.TheVariants as call
 use Rattle.jvm_act.specs.Acts.{NamesNoMethod, TurnsAs, call_named, call_row}
@@ -123,6 +126,11 @@ completed_keep_frames p old new runs (inl h) are =
 completed_keep_frames p old new runs (inr (inl h)) are = calls_keep_frames p old new runs (inr (inl h)) are
 completed_keep_frames p old new runs (inr (inr h)) are = begins_keep_frames p old new (has_next old runs) (inr h) are
 
+pub stands_for : (p : List Info) (how : Invocation) (class : ℕ) (s : NumberedFrames) → class < length p → RunsIn class s → StandsFor p how class s
+stands_for p invocation.Special class s within stands = (within, stands)
+stands_for p invocation.Virtual class s within stands = tt
+stands_for p invocation.Interface class s within stands = tt
+
 -- ---- a call by its row
 
 pub called : (p : List Info) (class : ℕ) (r : def.MethodRef) (row : RowOf) (left : Invoked) (t : Turn) (old mid new : NumberedFrames) (w m u : World) → IsSomeAnd old.frame (StandsIn class) → IsKept p w m → Invokes p r row left old mid w m → Finishes p r left t mid new m u → Turned p row t old new w u
@@ -137,10 +145,10 @@ kept_on p w m u h k = record { world = k.world; limits = k.limits ∙ h.limits }
 
 calls_as : (p : List Info) (how : CallUse) (r : def.MethodRef) (t : Turn) (old new : NumberedFrames) (w u : World) → Turned p (call_row p how r) t old new w u → TurnsAs p (call_named how r) t old new w u
 unfolding act
-calls_as p call.Virtual r t old new w u h = λ kind starts. h
-calls_as p call.Interface r t old new w u h = λ kind starts. h
-calls_as p call.Special r t old new w u h = λ kind starts. h
 calls_as p call.Static r t old new w u h = λ kind starts. h
+calls_as p (call.On invocation.Virtual) r t old new w u h = λ kind starts. h
+calls_as p (call.On invocation.Interface) r t old new w u h = λ kind starts. h
+calls_as p (call.On invocation.Special) r t old new w u h = λ kind starts. h
 
 pub calls_named : (p : List Info) (class index : ℕ) (how : CallUse) (r : MethodRef) (t : Turn) (old new : NumberedFrames) (w u : World) → IsEntry p class index (entry.Method r) → Turned p (call_row p how (method_ref_of r)) t old new w u → TurnsAs p (call_at p class how index) t old new w u
 calls_named p class index how r t old new w u is h =

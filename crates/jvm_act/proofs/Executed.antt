@@ -30,9 +30,11 @@ use Rattle.jvm_act.specs.Turned.{TurnedTo, Turned, turn_of}
 use Rattle.jvm_act.specs.Standing.{HasNext, AreFramesOf}
 use Rattle.jvm_act.specs.Methods.{IsCodeOf, meaning, current_of, fetched}
 use Rattle.jvm_act.specs.declared.acting.Acted.TheVariants as answer
+use Rattle.jvm_field_rows.specs.declared.access.Access.TheVariants as access
 use Rattle.jvm_act.specs.declared.groups.FieldUse.TheVariants as field
 use Rattle.jvm_act.specs.declared.groups.MemberOp.{MemberOp}
 use Rattle.jvm_act.specs.declared.groups.MemberOp.TheVariants as member
+use Rattle.jvm_receivers.specs.declared.invoking.Invocation.TheVariants as invocation
 use Rattle.jvm_act.specs.declared.groups.CallUse.{CallUse}
 use Rattle.jvm_act.specs.declared.groups.CallUse.TheVariants as call
 use Rattle.jvm_act.specs.declared.groups.ReturnOp.{ReturnOp}
@@ -142,10 +144,10 @@ module _ (p : List Info) (m : MethodCode) (class : ℕ) (op : Op) (old : Numbere
 
   -- What uses a field or makes an object names it so.
   member_names : (o : MemberOp) → member_in names o ≡ member_at p class o
-  member_names (member.Field field.GetStatic n) = refl
-  member_names (member.Field field.PutStatic n) = refl
-  member_names (member.Field field.Get n) = refl
-  member_names (member.Field field.Put n) = refl
+  member_names (member.Field (field.Static access.Get) n) = refl
+  member_names (member.Field (field.Static access.Put) n) = refl
+  member_names (member.Field (field.Object access.Get) n) = refl
+  member_names (member.Field (field.Object access.Put) n) = refl
   member_names (member.New n) = refl
 
   pub op_member : (o : MemberOp) (t : Turn) (new : NumberedFrames) (w u : World) → MeansIn op (λ named. member_in named o) → TurnsAs p (member_at p class o) t old new w u → TurnsIn p m (meaning p class m op) t old new w u
@@ -155,10 +157,10 @@ module _ (p : List Info) (m : MethodCode) (class : ℕ) (op : Op) (old : Numbere
 
   -- What calls a method names it so.
   call_names : (how : CallUse) (n : ℕ) → names (call_of how) n ≡ on_method (call_named how) (symbol_at p class n)
-  call_names call.Virtual n = refl
-  call_names call.Interface n = refl
-  call_names call.Special n = refl
   call_names call.Static n = refl
+  call_names (call.On invocation.Virtual) n = refl
+  call_names (call.On invocation.Interface) n = refl
+  call_names (call.On invocation.Special) n = refl
 
   pub left_call : (how : CallUse) (n : ℕ) (w : World) → AreFramesOf p old → MeansIn op (λ named. named (call_of how) n) → Leaves p m class (on_method (call_named how) (symbol_at p class n)) old old w w
   left_call how n w are is = left (on_method (call_named how) (symbol_at p class n)) w are (is m.code.longs.items names ∙ call_names how n)

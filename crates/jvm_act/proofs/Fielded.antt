@@ -1,5 +1,5 @@
 -- Fields and new objects, by what indices name.
-use Rattle.std.proofs.Common.{◌≡◌, sym, ap, subst, ℕ, List}
+use Rattle.std.proofs.Common.{◌≡◌, sym, ap, subst, ℕ, List, IsSomeAnd}
 use Rattle.program_rules.specs.Instructions as def
 use Rattle.program_rules.specs.Names.{Name}
 use Rattle.machine_rules.specs.Steps.{act}
@@ -18,14 +18,19 @@ use Rattle.jvm_resolved.specs.References.{IsEntry}
 use Rattle.jvm_unwind.specs.declared.turn.Turn.{Turn}
 use Rattle.jvm_unwind.specs.declared.turn.Turn.TheVariants as turn
 use Rattle.jvm_begin.specs.Begins.{AreWhole}
-use Rattle.jvm_field_rows.specs.Rows.{get_row, put_row, get_static_row, put_static_row, new_row}
+use Rattle.jvm_field_rows.specs.declared.access.Access.{Access}
+use Rattle.jvm_field_rows.specs.declared.access.Access.TheVariants as access
+use Rattle.jvm_field_rows.specs.declared.sites.ObjectField.{ObjectField}
+use Rattle.jvm_field_rows.specs.Rows.{get_row, put_row, instance_row, get_static_row, put_static_row, static_row, new_row}
+use Rattle.jvm_field_rows.specs.Slots.{IsKnown}
 use Rattle.jvm_field_rows.specs.Turned.{TurnsWhole}
 use Rattle.jvm_act.specs.declared.groups.FieldUse.{FieldUse}
 use Rattle.jvm_act.specs.declared.groups.FieldUse.TheVariants as field
 use Rattle.jvm_act.specs.Turned.{turn_of}
-use Rattle.jvm_act.specs.Standing.{AreFramesOf}
+use Rattle.jvm_act.specs.Standing.{HasNext, AreFramesOf}
 use Rattle.jvm_act.specs.Acts.{NamesNoClass, NamesNoField, TurnsAs, field_named, symbol_at}
 use Rattle.jvm_act.proofs.Rows.{unlinked}
+use Rattle.jvm_act.proofs.Framed.{wholes_keep_frames}
 use Rattle.jvm_act.proofs.Turns.{runs_are_turned, wholes_are_turned, fields_are_turned}
 
 pub whole_of : (p : List Info) (s : NumberedFrames) → AreFramesOf p s → AreWhole s
@@ -33,21 +38,15 @@ whole_of p s h = h.whole
 
 -- ---- rows
 
-pub gets : (p : List Info) (r : def.FieldRef) (e : Effect) (old new : NumberedFrames) (w u : World) → RunsWhole p (get_row p r) e old new w u → TurnsAs p (field_named field.Get r) (turn_of e) old new w u
+pub object_used : (p : List Info) (k : Access) (r : def.FieldRef) (e : Effect) (old new : NumberedFrames) (w u : World) → RunsWhole p (instance_row p k r) e old new w u → TurnsAs p (field_named (field.Object k) r) (turn_of e) old new w u
 unfolding act
-gets p r e old new w u h = λ kind starts. wholes_are_turned p (get_row p r) e old new w u h
+object_used p access.Get r e old new w u h = λ kind starts. wholes_are_turned p (get_row p r) e old new w u h
+object_used p access.Put r e old new w u h = λ kind starts. wholes_are_turned p (put_row p r) e old new w u h
 
-pub puts : (p : List Info) (r : def.FieldRef) (e : Effect) (old new : NumberedFrames) (w u : World) → RunsWhole p (put_row p r) e old new w u → TurnsAs p (field_named field.Put r) (turn_of e) old new w u
+pub static_used : (p : List Info) (k : Access) (r : def.FieldRef) (t : Turn) (old new : NumberedFrames) (w u : World) → TurnsWhole p (static_row p k r) t old new w u → TurnsAs p (field_named (field.Static k) r) t old new w u
 unfolding act
-puts p r e old new w u h = λ kind starts. wholes_are_turned p (put_row p r) e old new w u h
-
-pub gets_static : (p : List Info) (r : def.FieldRef) (t : Turn) (old new : NumberedFrames) (w u : World) → TurnsWhole p (get_static_row p r) t old new w u → TurnsAs p (field_named field.GetStatic r) t old new w u
-unfolding act
-gets_static p r t old new w u h = λ kind starts. fields_are_turned p (get_static_row p r) t old new w u h
-
-pub puts_static : (p : List Info) (r : def.FieldRef) (t : Turn) (old new : NumberedFrames) (w u : World) → TurnsWhole p (put_static_row p r) t old new w u → TurnsAs p (field_named field.PutStatic r) t old new w u
-unfolding act
-puts_static p r t old new w u h = λ kind starts. fields_are_turned p (put_static_row p r) t old new w u h
+static_used p access.Get r t old new w u h = λ kind starts. fields_are_turned p (get_static_row p r) t old new w u h
+static_used p access.Put r t old new w u h = λ kind starts. fields_are_turned p (put_static_row p r) t old new w u h
 
 makes : (p : List Info) (n : Name) (t : Turn) (old new : NumberedFrames) (w u : World) → TurnsWhole p (new_row p n) t old new w u → TurnsAs p (def.New n) t old new w u
 unfolding act
@@ -55,9 +54,27 @@ makes p n t old new w u h = λ kind starts. fields_are_turned p (new_row p n) t 
 
 -- ---- by the entry at an index
 
-pub used : (p : List Info) (class index : ℕ) (how : FieldUse) (r : FieldRef) (t : Turn) (old new : NumberedFrames) (w u : World) → IsEntry p class index (entry.Field r) → TurnsAs p (field_named how (field_ref_of r)) t old new w u → TurnsAs p (on_field (field_named how) (symbol_at p class index)) t old new w u
+used : (p : List Info) (class index : ℕ) (how : FieldUse) (r : FieldRef) (t : Turn) (old new : NumberedFrames) (w u : World) → IsEntry p class index (entry.Field r) → TurnsAs p (field_named how (field_ref_of r)) t old new w u → TurnsAs p (on_field (field_named how) (symbol_at p class index)) t old new w u
 used p class index how r t old new w u is h =
     subst (λ i. TurnsAs p i t old new w u) (sym (ap (λ o. on_field (field_named how) (entry_symbol o)) is)) h
+
+pub object_at : (p : List Info) (class index : ℕ) (k : Access) (r : FieldRef) (e : Effect) (t : Turn) (old new : NumberedFrames) (w u : World) → t ≡ turn_of e → IsEntry p class index (entry.Field r) → RunsWhole p (instance_row p k (field_ref_of r)) e old new w u → TurnsAs p (on_field (field_named (field.Object k)) (symbol_at p class index)) t old new w u
+object_at p class index k r e t old new w u same is h =
+    used p class index (field.Object k) r t old new w u is
+    (subst (λ (z : Turn). TurnsAs p (field_named (field.Object k) (field_ref_of r)) z old new w u) (sym same) (object_used p k (field_ref_of r) e old new w u h))
+
+pub static_at : (p : List Info) (class index : ℕ) (k : Access) (r : FieldRef) (t : Turn) (old new : NumberedFrames) (w u : World) → IsEntry p class index (entry.Field r) → TurnsWhole p (static_row p k (field_ref_of r)) t old new w u → TurnsAs p (on_field (field_named (field.Static k)) (symbol_at p class index)) t old new w u
+static_at p class index k r t old new w u is h =
+    used p class index (field.Static k) r t old new w u is (static_used p k (field_ref_of r) t old new w u h)
+
+-- Where the field is known, there is a reference at the index.
+pub known_at : (p : List Info) (class index : ℕ) (x : ObjectField) (k : Access) (e : Effect) (t : Turn) (old new : NumberedFrames) (w u : World) → t ≡ turn_of e → IsKnown p class index x → ((r : FieldRef) → IsEntry p class index (entry.Field r) → RunsWhole p (instance_row p k (field_ref_of r)) e old new w u) → TurnsAs p (on_field (field_named (field.Object k)) (symbol_at p class index)) t old new w u
+known_at p class index x k e t old new w u same is h =
+    object_at p class index k is.reference e t old new w u same is.stands (h is.reference is.stands)
+
+pub known_frames : (p : List Info) (class index : ℕ) (x : ObjectField) (k : Access) (e : Effect) (old new : NumberedFrames) (w u : World) → IsKnown p class index x → ((r : FieldRef) → IsEntry p class index (entry.Field r) → RunsWhole p (instance_row p k (field_ref_of r)) e old new w u) → IsSomeAnd old.frame HasNext → AreFramesOf p old → AreFramesOf p new
+known_frames p class index x k e old new w u is h runs are =
+    wholes_keep_frames p (instance_row p k (field_ref_of is.reference)) e old new w u runs (h is.reference is.stands) are
 
 pub made : (p : List Info) (class index : ℕ) (n : Name) (t : Turn) (old new : NumberedFrames) (w u : World) → IsEntry p class index (entry.Class n) → TurnsWhole p (new_row p n) t old new w u → TurnsAs p (on_class def.New (symbol_at p class index)) t old new w u
 made p class index n t old new w u is h =

@@ -25,11 +25,13 @@ use Rattle.jvm_unwind.specs.declared.turn.Turn.{Turn}
 use Rattle.jvm_unwind.specs.Turns.{row_at}
 use Rattle.jvm_unwind.specs.Unwinding.{unwinding}
 use Rattle.jvm_invokes.specs.Rows.{static_row}
-use Rattle.jvm_receivers.specs.Receivers.{special_row, virtual_row, interface_row}
+use Rattle.jvm_receivers.specs.declared.invoking.Invocation.TheVariants as invocation
+use Rattle.jvm_receivers.specs.Kinds.{invoked_row}
 use Rattle.jvm_act.specs.declared.methods.MethodCode.{MethodCode}
 use Rattle.jvm_act.specs.declared.acting.Acted.{Acted}
 use Rattle.jvm_act.specs.declared.acting.Acted.TheVariants as acted
 use Rattle.jvm_act.specs.declared.groups.FieldUse.{FieldUse}
+use Rattle.jvm_field_rows.specs.declared.access.Access.TheVariants as access
 use Rattle.jvm_act.specs.declared.groups.FieldUse.TheVariants as field
 use Rattle.jvm_act.specs.declared.groups.MemberOp.{MemberOp}
 use Rattle.jvm_act.specs.declared.groups.MemberOp.TheVariants as member
@@ -74,23 +76,21 @@ use_named using.Test n = def.InstanceOf n
 
 -- A field that is named is used.
 abbrev pub field_named : FieldUse → def.FieldRef → def.Instruction
-field_named field.GetStatic r = def.GetStatic r
-field_named field.PutStatic r = def.PutStatic r
-field_named field.Get r = def.GetField r
-field_named field.Put r = def.PutField r
+field_named (field.Static access.Get) r = def.GetStatic r
+field_named (field.Static access.Put) r = def.PutStatic r
+field_named (field.Object access.Get) r = def.GetField r
+field_named (field.Object access.Put) r = def.PutField r
 
 -- A method that is named is called, as an instruction and as a row.
 abbrev pub call_named : CallUse → def.MethodRef → def.Instruction
-call_named call.Virtual r = def.InvokeVirtual r
-call_named call.Interface r = def.InvokeInterface r
-call_named call.Special r = def.InvokeSpecial r
 call_named call.Static r = def.InvokeStatic r
+call_named (call.On invocation.Virtual) r = def.InvokeVirtual r
+call_named (call.On invocation.Interface) r = def.InvokeInterface r
+call_named (call.On invocation.Special) r = def.InvokeSpecial r
 
 abbrev pub call_row : List Info → CallUse → def.MethodRef → RowOf
-call_row p call.Virtual r = virtual_row p r
-call_row p call.Interface r = interface_row p r
-call_row p call.Special r = special_row p r
 call_row p call.Static r = static_row p r
+call_row p (call.On how) r = invoked_row p how r
 
 -- What the whole row of an instruction comes to, in each method.
 abbrev pub RunsWholeAs :

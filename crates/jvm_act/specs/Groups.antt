@@ -4,6 +4,7 @@ use Rattle.program_rules.specs.Instructions as def
 use Rattle.jvm_state.specs.declared.op.Op.{Op}
 use Rattle.jvm_state.specs.Ops.{Naming, instruction_of, is_alone}
 use Rattle.jvm_state.specs.Ops as naming
+use Rattle.jvm_receivers.specs.declared.invoking.Invocation.TheVariants as invocation
 use Rattle.jvm_act.specs.declared.groups.SwitchOp.{SwitchOp}
 use Rattle.jvm_act.specs.declared.groups.SwitchOp.TheVariants as switch
 use Rattle.jvm_act.specs.declared.groups.ElementOp.{ElementOp}
@@ -17,6 +18,7 @@ use Rattle.jvm_act.specs.declared.groups.ClassOp.TheVariants as class
 use Rattle.jvm_act.specs.declared.groups.FrameOp.{FrameOp}
 use Rattle.jvm_act.specs.declared.groups.FrameOp.TheVariants as frame
 use Rattle.jvm_act.specs.declared.groups.FieldUse.{FieldUse}
+use Rattle.jvm_field_rows.specs.declared.access.Access.TheVariants as access
 use Rattle.jvm_act.specs.declared.groups.FieldUse.TheVariants as field
 use Rattle.jvm_act.specs.declared.groups.MemberOp.{MemberOp}
 use Rattle.jvm_act.specs.declared.groups.MemberOp.TheVariants as member
@@ -60,20 +62,20 @@ class_in named (class.Primitives n) = named naming.NewArray n
 class_in named (class.Use how n) = named (use_of how) n
 
 abbrev pub field_of : FieldUse → Naming
-field_of field.GetStatic = naming.GetStatic
-field_of field.PutStatic = naming.PutStatic
-field_of field.Get = naming.GetField
-field_of field.Put = naming.PutField
+field_of (field.Static access.Get) = naming.GetStatic
+field_of (field.Static access.Put) = naming.PutStatic
+field_of (field.Object access.Get) = naming.GetField
+field_of (field.Object access.Put) = naming.PutField
 
 abbrev pub member_in : Names → MemberOp → def.Instruction
 member_in named (member.Field how n) = named (field_of how) n
 member_in named (member.New n) = named naming.New n
 
 abbrev pub call_of : CallUse → Naming
-call_of call.Virtual = naming.InvokeVirtual
-call_of call.Interface = naming.InvokeInterface
-call_of call.Special = naming.InvokeSpecial
 call_of call.Static = naming.InvokeStatic
+call_of (call.On invocation.Virtual) = naming.InvokeVirtual
+call_of (call.On invocation.Interface) = naming.InvokeInterface
+call_of (call.On invocation.Special) = naming.InvokeSpecial
 
 abbrev pub return_in : ReturnOp → def.Instruction
 return_in return.Int = def.IntReturn

@@ -25,7 +25,7 @@ use class_table::Program;
 use jvm_frames::Frames;
 use jvm_invokes::{Invoked, invoke_static};
 use jvm_natives::{Natives, complete};
-use jvm_receivers::{Invocation, Lookups, invoke_on};
+use jvm_receivers::{Lookups, invoke_on};
 use jvm_resolved::entry;
 use jvm_unwind::Turn;
 use jvm_world::World;
@@ -50,6 +50,8 @@ fn method_at(p: &Program, class: ClassId, index: u32) -> Option<&MethodRef>
 }
 
 // The instruction of this kind at an index is executed, but for what it leaves.
+#[tactic(auto, using(crate::proofs::Called::stands_for))]
+#[inline(always)]
 fn invoke(
     frames: &mut Frames,
     world: &mut World,
@@ -74,22 +76,7 @@ fn invoke(
     ensures lookups { AreLookups p.now lookups.new }
 {
     match how {
-        CallUse::Virtual => {
-            let on = Invocation::Virtual;
-            let left = invoke_on(
-                frames, world, alloc, p, lookups, class, index, reference, on,
-            )?;
-            Ok(left)
-        }
-        CallUse::Interface => {
-            let on = Invocation::Interface;
-            let left = invoke_on(
-                frames, world, alloc, p, lookups, class, index, reference, on,
-            )?;
-            Ok(left)
-        }
-        CallUse::Special => {
-            let on = Invocation::Special;
+        CallUse::On(on) => {
             let left = invoke_on(
                 frames, world, alloc, p, lookups, class, index, reference, on,
             )?;
@@ -112,6 +99,7 @@ fn invoke(
 }
 
 // The turn of a call of which nothing is left.
+#[inline(always)]
 fn turn_in(left: Invoked) -> Option<Turn>
     ensures some { IfSome result (λ t. left ≡ invoked.Turned t) }
     ensures none { IfNone result (IsRest left) }
@@ -137,6 +125,7 @@ fn has_next(frames: &Frames) -> bool
 
 // What is left of a call is done.
 #[tactic(auto, using(crate::proofs::Called::completed, crate::proofs::Called::no_next, crate::proofs::Called::completed_keep_frames, crate::proofs::Executed::has_next))]
+#[inline(never)]
 fn finish_rest(
     frames: &mut Frames,
     world: &mut World,
@@ -166,6 +155,7 @@ fn finish_rest(
 
 // What is left of a call is done, if anything is.
 #[tactic(auto, using(crate::proofs::Called::finished))]
+#[inline(always)]
 fn finish(
     frames: &mut Frames,
     world: &mut World,
@@ -196,6 +186,7 @@ fn finish(
 
 // The method of a reference is called.
 #[tactic(auto, using(crate::proofs::Called::within, crate::proofs::Called::runs_in, crate::proofs::Called::stands_next, crate::proofs::Called::called, crate::proofs::Called::kept_on, crate::proofs::Framed::calls_keep_frames))]
+#[inline(always)]
 fn call_method(
     frames: &mut Frames,
     world: &mut World,

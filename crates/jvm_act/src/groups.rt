@@ -2,12 +2,15 @@
 
 ghost use Rattle.std.specs.Prelude.{◌≡◌};
 ghost use Rattle.jvm_act.specs.Groups.{IsGroupOf};
+ghost use Rattle.jvm_act.specs.declared.groups.CallUse.TheVariants as call;
 ghost use Rattle.jvm_act.specs.declared.groups.ClassOp.TheVariants as class;
 ghost use Rattle.jvm_act.specs.declared.groups.ElementOp.TheVariants as taking;
 ghost use Rattle.jvm_act.specs.declared.groups.FrameOp.TheVariants as frame;
 ghost use Rattle.jvm_act.specs.declared.groups.Group.TheVariants as group;
 ghost use Rattle.jvm_act.specs.declared.groups.MemberOp.TheVariants as member;
 
+use jvm_field_rows::Access;
+use jvm_receivers::Invocation;
 use jvm_state::Op;
 use program_rules::Element;
 
@@ -69,13 +72,11 @@ pub enum FrameOp {
     Unlinked,
 }
 
-/// What an instruction does with the field that it names.
+/// What an instruction does with the field that it names: one of a class, or one of an object.
 #[derive(Clone, Copy)]
 pub enum FieldUse {
-    GetStatic,
-    PutStatic,
-    Get,
-    Put,
+    Static(Access),
+    Object(Access),
 }
 
 /// The use of the field at an index; `new` of the class at an index.
@@ -88,10 +89,10 @@ pub enum MemberOp {
 /// How a method is called.
 #[derive(Clone, Copy)]
 pub enum CallUse {
-    Virtual,
-    Interface,
-    Special,
+    /// `invokestatic`.
     Static,
+    /// On an object.
+    On(Invocation),
 }
 
 /// Returns.
@@ -155,6 +156,12 @@ fn class_use(how: ClassUse, index: u32) -> Group
     Group::Frame(FrameOp::Class(ClassOp::Use(how, index)))
 }
 
+fn call_on(how: Invocation, index: u32) -> Group
+    ensures { result ≡ group.Call (call.On how) index }
+{
+    Group::Call(CallUse::On(how), index)
+}
+
 /// Whose row an instruction has.
 #[tactic(auto, unfolding(jvm_state::specs::Ops::instruction_of))]
 #[inline(always)]
@@ -182,13 +189,13 @@ pub fn group_of(op: Op) -> Group
         Op::LongReturn => Group::Return(ReturnOp::Long),
         Op::ReferenceReturn => Group::Return(ReturnOp::Reference),
         Op::PlainReturn => Group::Return(ReturnOp::Plain),
-        Op::GetStatic(n) => field(FieldUse::GetStatic, n),
-        Op::PutStatic(n) => field(FieldUse::PutStatic, n),
-        Op::GetField(n) => field(FieldUse::Get, n),
-        Op::PutField(n) => field(FieldUse::Put, n),
-        Op::InvokeVirtual(n) => Group::Call(CallUse::Virtual, n),
-        Op::InvokeInterface(n) => Group::Call(CallUse::Interface, n),
-        Op::InvokeSpecial(n) => Group::Call(CallUse::Special, n),
+        Op::GetStatic(n) => field(FieldUse::Static(Access::Get), n),
+        Op::PutStatic(n) => field(FieldUse::Static(Access::Put), n),
+        Op::GetField(n) => field(FieldUse::Object(Access::Get), n),
+        Op::PutField(n) => field(FieldUse::Object(Access::Put), n),
+        Op::InvokeVirtual(n) => call_on(Invocation::Virtual, n),
+        Op::InvokeInterface(n) => call_on(Invocation::Interface, n),
+        Op::InvokeSpecial(n) => call_on(Invocation::Special, n),
         Op::InvokeStatic(n) => Group::Call(CallUse::Static, n),
         Op::New(n) => Group::Member(MemberOp::New(n)),
         Op::NewArray(n) => class(ClassOp::Primitives(n)),

@@ -3,96 +3,150 @@
 ghost use Rattle.std.specs.Prelude.{IfOk, IsSomeAnd, OnOk};
 ghost use Rattle.program_rules.specs.Instructions as def;
 ghost use Rattle.class_link.specs.Opcodes.{on_class, on_field};
-ghost use Rattle.class_link.specs.View.{field_ref_of};
-ghost use Rattle.class_link.specs.declared.linked.Entry.TheVariants as entry;
 ghost use Rattle.class_table.specs.Faults.{HasRightKinds};
 ghost use Rattle.class_table.specs.Table.{look};
 ghost use Rattle.jvm_field_rows.specs.Layouts.{AreLayouts};
 ghost use Rattle.jvm_field_rows.specs.Slots.{AreSlots};
-ghost use Rattle.jvm_resolved.specs.References.{IsEntry, IsTableOf};
+ghost use Rattle.jvm_resolved.specs.References.{IsTableOf};
 ghost use Rattle.jvm_world.specs.View.{IsWorldOf, IsKept};
 ghost use Rattle.jvm_act.specs.Acts.{TurnsAs, field_named, member_at, symbol_at};
 ghost use Rattle.jvm_act.specs.Standing.{HasNext, AreFramesOf};
+ghost use Rattle.jvm_act.specs.declared.groups.FieldUse.TheVariants as field;
 
 use crate::groups::{FieldUse, MemberOp};
 use crate::symbols::{class_at, field_at};
 use crate::turning::turn_of;
 use class_family::Walker;
-use class_link::FieldRef;
 use class_model::{ClassId, Memory};
 use class_table::Program;
-use jvm_field_rows::{Access, Layouts, Slots, access_field, access_static, make_object};
+use jvm_field_rows::{
+    Access, Layouts, Slots, access_field, access_known, access_static, make_object,
+};
 use jvm_frames::Frames;
 use jvm_resolved::References;
 use jvm_unwind::Turn;
 use jvm_world::World;
 use std::alloc::Global;
 
-// The field of a reference at an index is used.
-#[tactic(auto, using(crate::proofs::Executed::has_next, crate::proofs::Fielded::whole_of, crate::proofs::Fielded::gets, crate::proofs::Fielded::puts, crate::proofs::Fielded::gets_static, crate::proofs::Fielded::puts_static))]
-fn use_named(
+// The static field at an index is used.
+#[tactic(auto, using(crate::proofs::Executed::has_next, crate::proofs::Executed::kept_same, crate::proofs::Fielded::whole_of))]
+fn use_static(
+    frames: &mut Frames,
+    world: &mut World,
+    alloc: Global,
+    p: &Program,
+    references: &mut References,
+    walker: &mut Walker,
+    class: ClassId,
+    index: u32,
+    access: Access,
+) -> Result<Turn, Memory>
+    requires world { IsWorldOf p.now world.old }
+    requires kinds { HasRightKinds (look p.now) }
+    requires table { IsTableOf p.now references.old }
+    requires frames { AreFramesOf p.now frames.old }
+    requires runs { IsSomeAnd frames.old.frame HasNext }
+    ensures row { IfOk result (λ t. TurnsAs p.now
+        (on_field (field_named (field.Static access)) (symbol_at p.now class.0 index)) t
+        frames.old frames.new world.old world.new) }
+    ensures frames { OnOk result (AreFramesOf p.now frames.new) }
+    ensures kept { OnOk result (IsKept p.now world.old world.new) }
+    ensures table { IsTableOf p.now references.new }
+{
+    match field_at(p, class, index) {
+        Some(field) => {
+            let turn = access_static(
+                frames, world, alloc, p, references, walker, class, index, field, access,
+            )?;
+            Ok(turn)
+        }
+        None => Ok(Turn::NoRow),
+    }
+}
+
+// The field of an object at an index is used, which wasn't known.
+#[inline(never)]
+#[tactic(auto, using(crate::proofs::Executed::has_next, crate::proofs::Executed::kept_same))]
+fn use_unknown(
     frames: &mut Frames,
     world: &mut World,
     alloc: Global,
     p: &Program,
     references: &mut References,
     slots: &mut Slots,
-    walker: &mut Walker,
     class: ClassId,
     index: u32,
-    reference: &FieldRef,
-    how: FieldUse,
+    access: Access,
 ) -> Result<Turn, Memory>
     requires world { IsWorldOf p.now world.old }
-    requires kinds { HasRightKinds (look p.now) }
     requires table { IsTableOf p.now references.old }
     requires slots { AreSlots p.now slots.old }
-    requires entry { IsEntry p.now class.0 index (entry.Field reference.now) }
     requires frames { AreFramesOf p.now frames.old }
     requires runs { IsSomeAnd frames.old.frame HasNext }
-    ensures row { IfOk result (λ t. TurnsAs p.now (field_named how (field_ref_of reference.now)) t
+    ensures row { IfOk result (λ t. TurnsAs p.now
+        (on_field (field_named (field.Object access)) (symbol_at p.now class.0 index)) t
         frames.old frames.new world.old world.new) }
     ensures frames { OnOk result (AreFramesOf p.now frames.new) }
     ensures kept { OnOk result (IsKept p.now world.old world.new) }
     ensures table { IsTableOf p.now references.new }
     ensures slots { AreSlots p.now slots.new }
 {
-    match how {
-        FieldUse::GetStatic => {
-            let access = Access::Get;
-            let turn = access_static(
-                frames, world, alloc, p, references, walker, class, index, reference, access,
-            )?;
-            Ok(turn)
-        }
-        FieldUse::PutStatic => {
-            let access = Access::Put;
-            let turn = access_static(
-                frames, world, alloc, p, references, walker, class, index, reference, access,
-            )?;
-            Ok(turn)
-        }
-        FieldUse::Get => {
-            let access = Access::Get;
+    match field_at(p, class, index) {
+        Some(field) => {
             let done = access_field(
-                frames, world, alloc, p, references, slots, class, index, reference, access,
+                frames, world, alloc, p, references, slots, class, index, field, access,
             )?;
             let turn = turn_of(done);
             Ok(turn)
         }
-        FieldUse::Put => {
-            let access = Access::Put;
-            let done = access_field(
-                frames, world, alloc, p, references, slots, class, index, reference, access,
-            )?;
+        None => Ok(Turn::NoRow),
+    }
+}
+
+// The field of an object at an index is used.
+#[inline(always)]
+#[tactic(auto, using(crate::proofs::Executed::has_next))]
+fn use_object(
+    frames: &mut Frames,
+    world: &mut World,
+    alloc: Global,
+    p: &Program,
+    references: &mut References,
+    slots: &mut Slots,
+    class: ClassId,
+    index: u32,
+    access: Access,
+) -> Result<Turn, Memory>
+    requires world { IsWorldOf p.now world.old }
+    requires table { IsTableOf p.now references.old }
+    requires slots { AreSlots p.now slots.old }
+    requires frames { AreFramesOf p.now frames.old }
+    requires runs { IsSomeAnd frames.old.frame HasNext }
+    ensures row { IfOk result (λ t. TurnsAs p.now
+        (on_field (field_named (field.Object access)) (symbol_at p.now class.0 index)) t
+        frames.old frames.new world.old world.new) }
+    ensures frames { OnOk result (AreFramesOf p.now frames.new) }
+    ensures kept { OnOk result (IsKept p.now world.old world.new) }
+    ensures table { IsTableOf p.now references.new }
+    ensures slots { AreSlots p.now slots.new }
+{
+    match slots.known(p, class, index) {
+        Some(field) => {
+            let done = access_known(frames, world, alloc, p, class, index, field, access)?;
             let turn = turn_of(done);
+            Ok(turn)
+        }
+        None => {
+            let turn = use_unknown(
+                frames, world, alloc, p, references, slots, class, index, access,
+            )?;
             Ok(turn)
         }
     }
 }
 
 // The field at an index is used.
-#[tactic(auto, using(crate::proofs::Executed::kept_same, crate::proofs::Fielded::used, crate::proofs::Fielded::no_field))]
+#[inline(always)]
 fn use_field(
     frames: &mut Frames,
     world: &mut World,
@@ -119,14 +173,19 @@ fn use_field(
     ensures table { IsTableOf p.now references.new }
     ensures slots { AreSlots p.now slots.new }
 {
-    match field_at(p, class, index) {
-        Some(field) => {
-            let turn = use_named(
-                frames, world, alloc, p, references, slots, walker, class, index, field, how,
+    match how {
+        FieldUse::Static(access) => {
+            let turn = use_static(
+                frames, world, alloc, p, references, walker, class, index, access,
             )?;
             Ok(turn)
         }
-        None => Ok(Turn::NoRow),
+        FieldUse::Object(access) => {
+            let turn = use_object(
+                frames, world, alloc, p, references, slots, class, index, access,
+            )?;
+            Ok(turn)
+        }
     }
 }
 

@@ -6,12 +6,11 @@ use Rattle.program_rules.specs.declared.fault.Fault.{Fault}
 use Rattle.program_rules.specs.declared.fault.Fault.TheVariants.{IncompatibleClassChangeError}
 use Rattle.program_rules.specs.Linked.{LinkedField}
 use Rattle.program_rules.specs.Names.{class_behind}
-use Rattle.program_rules.specs.Outlines.{fields_in, is_static_field}
+use Rattle.program_rules.specs.Outlines.{fields_in}
 use Rattle.program_rules.specs.Programs.{nodes, Rising}
 use Rattle.program_rules.specs.Resolution.{FieldAt, field_at}
 use Rattle.machine_rules.specs.Effects.{throws}
 use Rattle.machine_rules.specs.Lookups.{consult}
-use Rattle.class_model.specs.declared.kind.Kind as plain
 use Rattle.class_link.specs.declared.linked.FieldRef.{FieldRef}
 use Rattle.class_link.specs.declared.linked.LinkedField as code_field
 use Rattle.class_link.specs.Symbols.{kind_of}
@@ -33,7 +32,9 @@ use Rattle.jvm_member_rows.proofs.Resolved.{fielding, found_field, lost_field}
 use Rattle.jvm_field_rows.specs.declared.access.Access.{Access}
 use Rattle.jvm_field_rows.specs.declared.access.Access.TheVariants as access
 use Rattle.jvm_field_rows.specs.Rows.{get_found, put_found, instance_row, instance_found, slot_row}
-use Rattle.jvm_field_rows.specs.Sites.{Declares, HasKindAt, ResolvesTo, ServesFor}
+use Rattle.jvm_field_rows.specs.Sites.{Declares, HasKindAt, ResolvesTo, ServesFor, TellsStatic}
+use Rattle.jvm_field_rows.specs.declared.sites.ObjectField.{ObjectField}
+use Rattle.jvm_field_rows.specs.Slots.{IsObjectField}
 use Rattle.jvm_field_rows.proofs.Past.{at_slot, reads_past, writes_past}
 use Rattle.jvm_field_rows.proofs.Slotted.{found_is}
 
@@ -45,13 +46,18 @@ named_by p r s h = h
 pub place_within : (p : List Info) (r : FieldRef) (s : Site) → IsFieldNamed p r s → s.place < length (fields_in (outline_at p s.class.0))
 place_within p r s is = slice_get_within (fields_in (outline_at p s.class.0)) s.place is.field is.there
 
+pub object_class : (p : List Info) (r : FieldRef) (x : ObjectField) → IsObjectField p r x → x.site.class.0 < length p
+object_class p r x is = is.found.within
+
+pub object_place : (p : List Info) (r : FieldRef) (x : ObjectField) → IsObjectField p r x → x.site.place < length (fields_in (outline_at p x.site.class.0))
+object_place p r x is = place_within p r x.site is.found
+
 -- the field of the definitions
 abbrev pub field_here : (p : List Info) (r : FieldRef) (s : Site) → IsFieldNamed p r s → FieldAt
 field_here p r s is = field_at (nodes Rising (look p) (class_behind r.class)) (node_at p s.class.0) (s.place, is.field)
 
--- What is told of whether the field at a place is static.
-abbrev pub TellsStatic : List Info → Site → Bool → Type 0
-TellsStatic p s b = (f : LinkedField) → Declares p s f → b ≡ is_static_field (outline_at p s.class.0) f
+pub not_static : (p : List Info) (s : Site) (b : Bool) → TellsStatic p s b → b ≡ false → TellsStatic p s false
+not_static p s b told e f there = sym e ∙ told f there
 
 pub static_of : (p : List Info) (r : FieldRef) (s : Site) (x : FieldAt) (b : Bool) → IsFieldNamed p r s → ResolvesTo p r x → TellsStatic p s b → x.static ≡ b
 static_of p r s x b is to told =

@@ -3,6 +3,7 @@ mod Declared
 mod Slotted
 mod Past
 mod Fielded
+mod Known
 mod Readied
 mod Laid
 mod Made

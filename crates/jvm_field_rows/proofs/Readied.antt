@@ -32,11 +32,11 @@ use Rattle.jvm_resolved.specs.References.{IsFieldNamed, ResolvesFieldRef}
 use Rattle.jvm_member_rows.proofs.Wholes.{whole}
 use Rattle.jvm_member_rows.proofs.Resolved.{fielding, field_left, lost_field}
 use Rattle.jvm_field_rows.specs.Rows.{accessing, static_found, static_row, readying}
-use Rattle.jvm_field_rows.specs.Sites.{Declares, ResolvesTo}
+use Rattle.jvm_field_rows.specs.Sites.{Declares, ResolvesTo, TellsStatic}
 use Rattle.jvm_field_rows.specs.declared.access.Access.{Access}
 use Rattle.jvm_field_rows.specs.declared.access.Access.TheVariants as access
 use Rattle.jvm_field_rows.specs.Turned.{StaysBeginsOrGoes, TurnsWhole, turn_of}
-use Rattle.jvm_field_rows.proofs.Fielded.{TellsStatic, field_here, kind_of_field, static_of}
+use Rattle.jvm_field_rows.proofs.Fielded.{field_here, kind_of_field, static_of}
 use Rattle.jvm_field_rows.proofs.Slotted.{found_is}
 use Rattle.jvm_field_rows.proofs.Turned.{ReadyFor, ready_runs, ready_frames, ready_turned, turn_along, turn_behind, whole_turn, begun_frames}
 

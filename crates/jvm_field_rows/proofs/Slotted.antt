@@ -1,5 +1,5 @@
--- Slots of fields, found and held.
-use Rattle.std.proofs.Common.{◌≡◌, ◌∙◌, ◌⊎◌, inl, inr, sym, refl, subst, ap, ℕ, ◌≤◌, ◌^◌, Bool, true, false, List, [], Option, None, Some, IfSome, arith}
+-- Fields of objects with their slots, found and held.
+use Rattle.std.proofs.Common.{◌≡◌, ◌∙◌, inl, inr, sym, refl, subst, ap, ℕ, ◌<◌, ◌≤◌, ◌^◌, Bool, true, false, List, [], length, Option, None, Some, IfSome, arith}
 use Rattle.std.specs.Prelude.{◌&&◌, nat_eq, if◌then◌else◌}
 use Rattle.program_rules.specs.declared.fault.Fault.TheVariants.{NoClassDefFoundError}
 use Rattle.program_rules.specs.Faults.{Answer, Found, Fails}
@@ -14,12 +14,13 @@ use Rattle.class_link.specs.View.{field_ref_of}
 use Rattle.class_link.specs.Info.{Info}
 use Rattle.class_table.specs.Table.{look, name_at}
 use Rattle.jvm_link.specs.declared.site.Site.{Site}
-use Rattle.jvm_link.specs.Named.{field_named}
+use Rattle.jvm_link.specs.Named.{IsClassNamed}
 use Rattle.jvm_link.specs.Sites.{node_at}
 use Rattle.jvm_resolved.specs.References.{IsEntry, IsFieldNamed}
-use Rattle.jvm_field_rows.specs.Sites.{ResolvesTo, Serves, ServesIn, ServesFor}
+use Rattle.jvm_field_rows.specs.Sites.{ResolvesTo, Serves, ServesIn, ServesFor, TellsStatic}
 use Rattle.jvm_resolved.specs.Holding.{held, Holds, HoldSame}
-use Rattle.jvm_field_rows.specs.Slots.{AreSlots}
+use Rattle.jvm_field_rows.specs.declared.sites.ObjectField.{ObjectField}
+use Rattle.jvm_field_rows.specs.Slots.{AreSlots, IsKnown, IsObjectField}
 
 -- ---- found
 
@@ -41,49 +42,72 @@ slot_found p r s root name number is behind named serves x to =
     subst (λ (n : Name). Serves number (slot_of (nodes Rising (look p) n) (node_at p s.class.0) s.place)) (named ∙ behind) serves in
     subst (λ (y : FieldAt). Serves number y.slot) (found_is p r s x is to) here
 
-no_answer : (b : Bool) (a : Answer FieldAt) (x : FieldAt) (P : Type 0) → b ≡ false → (if b then a else Fails NoClassDefFoundError) ≡ Found x → P
-no_answer true a x P lacks e = absurd cc
-no_answer false a x P lacks e = absurd cc
+-- ---- the class that is named
+
+-- Where a search in a class finds something the class is there.
+present : {A : Type 0} (b : Bool) (a : Answer A) (x : A) (c : Family) → (if b then a else Fails NoClassDefFoundError) ≡ Found x → (if b then Found c else Fails NoClassDefFoundError) ≡ Found c
+present true a x c e = refl
+present false a x c e = absurd cc
+
+pub named_so : (p : List Info) (r : FieldRef) (s : Site) (name : Name) (id : ClassId) → IsFieldNamed p r s → name ≡ class_behind r.class → id.0 < length p → name_at p id.0 ≡ name → IsClassNamed p r.class id
+named_so p r s name id is behind within named =
+    let c : Family = family (look p) (class_behind r.class) in
+    record {
+      within = within;
+      named = named ∙ behind;
+      found =
+          present (is_present c.class) (resolve_field (field_ref_of r) c) (field_at (nodes Rising (look p) (class_behind r.class)) (node_at p s.class.0) (s.place, is.field)) c is.found;
+    }
+
+no_answer : (b : Bool) (a : Answer FieldAt) (x : FieldAt) → b ≡ false → (if b then a else Fails NoClassDefFoundError) ≡ Found x → ⊥
+no_answer true a x lacks e = absurd cc
+no_answer false a x lacks e = absurd cc
 
 absent : (p : Look) (n : Name) → p n ≡ None → is_present (family p n).class ≡ false
 unfolding family
 absent p n none = ap (λ o. is_present (outline_of o)) none
 
-pub slot_absent : (p : List Info) (r : FieldRef) (s : Site) (name : Name) (number : ℕ) → IsFieldNamed p r s → name ≡ class_behind r.class → look p name ≡ None → ServesFor p r number
-slot_absent p r s name number is behind none x to =
+pub class_there : (p : List Info) (r : FieldRef) (s : Site) (name : Name) → IsFieldNamed p r s → name ≡ class_behind r.class → look p name ≡ None → ⊥
+class_there p r s name is behind none =
     let c : Family = family (look p) (class_behind r.class) in
-    no_answer (is_present c.class) (resolve_field (field_ref_of r) c) x (Serves number x.slot)
-    (absent (look p) (class_behind r.class) (subst (λ (n : Name). look p n ≡ None) behind none)) to
+    no_answer (is_present c.class) (resolve_field (field_ref_of r) c) (field_at (nodes Rising (look p) (class_behind r.class)) (node_at p s.class.0) (s.place, is.field))
+    (absent (look p) (class_behind r.class) (subst (λ (n : Name). look p n ≡ None) behind none)) is.found
+
+pub object_is : (p : List Info) (r : FieldRef) (s : Site) (id : ClassId) (slot : ℕ) → IsFieldNamed p r s → TellsStatic p s false → IsClassNamed p r.class id → ServesIn p id.0 s slot → IsObjectField p r (record { named = id; site = s; slot = slot })
+object_is p r s id slot is object named serves = record {
+  named = named;
+  found = is;
+  object = object;
+  serves = slot_found p r s id (class_behind r.class) slot is refl named.named serves;
+}
 
 -- ---- held
 
 pub none_held : (p : List Info) → AreSlots p []
-none_held p class index slot r is = absurd cc
+none_held p class index x is = absurd cc
 
-held_for : (p : List Info) (rows : List (List (Option ℕ))) (class index : ℕ) (r : FieldRef) (found : Option ℕ) → AreSlots p rows → IsEntry p class index (entry.Field r) → found ≡ held class index rows → IfSome found (ServesFor p r)
-held_for p rows class index r None slots here is = tt
-held_for p rows class index r (Some slot) slots here is = slots class index slot r (sym is) here
+pub held_field : (p : List Info) (rows : List (List (Option ObjectField))) (class index : ℕ) (found : Option ObjectField) → AreSlots p rows → found ≡ held class index rows → IfSome found (IsKnown p class index)
+held_field p rows class index None slots is = tt
+held_field p rows class index (Some x) slots is = slots class index x (sym is)
 
-pub held_slot : (p : List Info) (rows : List (List (Option ℕ))) (class index : ℕ) (r : FieldRef) (found : Option ℕ) → AreSlots p rows → IsEntry p class index (entry.Field r) → found ≡ held class index rows → IfSome found (ServesFor p r)
-held_slot p rows class index r found slots here is = held_for p rows class index r found slots here is
-
-module _ (p : List Info) (old new : List (List (Option ℕ))) where
-  pub held_more : (class index number : ℕ) (r : FieldRef) → AreSlots p old → IsEntry p class index (entry.Field r) → ServesFor p r number → Holds class index number old new → AreSlots p new
-  held_more class index number r slots here right holds c i slot s is there =
+module _ (p : List Info) (old new : List (List (Option ObjectField))) where
+  pub held_more : (class index : ℕ) (field : ObjectField) (r : FieldRef) → AreSlots p old → IsEntry p class index (entry.Field r) → IsObjectField p r field → Holds class index field old new → AreSlots p new
+  held_more class index field r slots here right holds c i x is =
       by_case (nat_eq class c) (nat_eq index i) refl refl
     where
-      by_case : (x y : Bool) → nat_eq class c ≡ x → nat_eq index i ≡ y → ServesFor p s slot
-      by_case true true ex ey =
-          let ec : class ≡ c = grind (arith, ex) in
-          let ei : index ≡ i = grind (arith, ey) in
-          let stored : Some number ≡ Some slot = sym (holds c i ∙ ap (λ b. if b then Some number else held c i old) (ap (λ b. b && nat_eq index i) ex ∙ ey)) ∙ is in
-          let ek : number ≡ slot = cc in
-          let at : IsEntry p c i (entry.Field r) = subst (λ z. IsEntry p c z (entry.Field r)) ei (subst (λ z. IsEntry p z index (entry.Field r)) ec here) in
-          let both : Some (entry.Field r) ≡ Some (entry.Field s) = sym at ∙ there in
-          let one : r ≡ s = cc in
-          subst (λ z. ServesFor p s z) ek (subst (λ (z : FieldRef). ServesFor p z number) one right)
-      by_case true false ex ey = slots c i slot s (sym (holds c i ∙ ap (λ b. if b then Some number else held c i old) (ap (λ b. b && nat_eq index i) ex ∙ ey)) ∙ is) there
-      by_case false y ex ey = slots c i slot s (sym (holds c i ∙ ap (λ b. if b then Some number else held c i old) (ap (λ b. b && nat_eq index i) ex)) ∙ is) there
+      by_case : (a b : Bool) → nat_eq class c ≡ a → nat_eq index i ≡ b → IsKnown p c i x
+      by_case true true ea eb =
+          let ec : class ≡ c = grind (arith, ea) in
+          let ei : index ≡ i = grind (arith, eb) in
+          let stored : Some field ≡ Some x = sym (holds c i ∙ ap (λ t. if t then Some field else held c i old) (ap (λ t. t && nat_eq index i) ea ∙ eb)) ∙ is in
+          let one : field ≡ x = cc in
+          record {
+            reference = r;
+            stands = subst (λ z. IsEntry p c z (entry.Field r)) ei (subst (λ z. IsEntry p z index (entry.Field r)) ec here);
+            field = subst (λ (z : ObjectField). IsObjectField p r z) one right;
+          }
+      by_case true false ea eb = slots c i x (sym (holds c i ∙ ap (λ t. if t then Some field else held c i old) (ap (λ t. t && nat_eq index i) ea ∙ eb)) ∙ is)
+      by_case false b ea eb = slots c i x (sym (holds c i ∙ ap (λ t. if t then Some field else held c i old) (ap (λ t. t && nat_eq index i) ea)) ∙ is)
 
   pub held_same : AreSlots p old → HoldSame old new → AreSlots p new
-  held_same slots same c i slot r is = slots c i slot r (sym (same c i) ∙ is)
+  held_same slots same c i x is = slots c i x (sym (same c i) ∙ is)

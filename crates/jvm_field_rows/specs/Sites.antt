@@ -1,5 +1,5 @@
 -- Fields that references name, by number.
-use Rattle.std.specs.Prelude.{◌≡◌, ◌⊎◌, ◌≤◌, ◌^◌, ℕ, List, Some, slice_get}
+use Rattle.std.specs.Prelude.{◌≡◌, ◌⊎◌, ◌≤◌, ◌^◌, ℕ, Bool, List, Some, slice_get}
 use Rattle.program_rules.specs.Faults.{Found}
 use Rattle.program_rules.specs.Linked.{LinkedField}
 use Rattle.program_rules.specs.Outlines.{fields_in, is_static_field}
@@ -16,6 +16,11 @@ use Rattle.jvm_link.specs.Sites.{outline_at}
 -- A class declares a field at a place.
 abbrev pub Declares : List Info → Site → LinkedField → Type 0
 Declares p s f = slice_get (fields_in (outline_at p s.class.0)) s.place ≡ Some f
+
+-- What is told of whether the field at a place is static.
+abbrev pub TellsStatic : List Info → Site → Bool → Type 0
+TellsStatic p s b =
+    (f : LinkedField) → Declares p s f → b ≡ is_static_field (outline_at p s.class.0) f
 
 -- A field of the definitions has the kind of the one that a class declares at a place.
 abbrev pub HasKindAt : List Info → Site → FieldAt → Type 0

@@ -12,9 +12,10 @@ mod statics;
 mod turning;
 
 pub use access::Access;
-pub use fields::access_field;
+pub use fields::{access_field, access_known};
 pub use instances::make_object;
 pub use layouts::Layouts;
+pub use sites::ObjectField;
 pub use slots::Slots;
 pub use statics::access_static;
 pub use turning::turn_of;

@@ -1,4 +1,4 @@
-//! What is asked of a field by its place.
+//! A field by its place, and what is asked of it.
 
 ghost use Rattle.std.specs.Prelude.{◌≡◌, ◌<◌, length, IfOk};
 ghost use Rattle.program_rules.specs.Linked.{LinkedField as Field, is_static, is_interface};
@@ -11,6 +11,15 @@ use class_link::LinkedField;
 use class_model::{ClassId, Memory};
 use class_table::Program;
 use jvm_link::Site;
+
+/// A field of objects that a reference resolves to: the class that the reference names, where the
+/// field is declared, and the number of its slot.
+#[derive(Clone, Copy)]
+pub struct ObjectField {
+    pub named: ClassId,
+    pub site: Site,
+    pub slot: u32,
+}
 
 /// The field that a class declares at a place.
 #[tactic(auto, unfolding(class_link::specs::View::linked_of), using(crate::proofs::Declared::field_within, crate::proofs::Declared::field_there))]

@@ -1,14 +1,16 @@
-//! The slots of fields that references name.
+//! Fields of objects that references name, with their slots.
 
-ghost use Rattle.std.specs.Prelude.{◌<◌, List, length, IfOk, IfSome};
+ghost use Rattle.std.specs.Prelude.{◌<◌, false, List, length, IfOk, IfSome};
 ghost use Rattle.program_rules.specs.Outlines.{fields_in};
 ghost use Rattle.class_link.specs.Info.{Info};
 ghost use Rattle.class_link.specs.declared.linked.Entry.TheVariants.{Field};
+ghost use Rattle.jvm_link.specs.Named.{IsClassNamed};
 ghost use Rattle.jvm_link.specs.Sites.{outline_at};
 ghost use Rattle.jvm_resolved.specs.References.{IsEntry, IsFieldNamed};
-ghost use Rattle.jvm_field_rows.specs.Sites.{ServesFor, ServesIn};
-ghost use Rattle.jvm_field_rows.specs.Slots.{AreSlots};
+ghost use Rattle.jvm_field_rows.specs.Sites.{ServesIn, TellsStatic};
+ghost use Rattle.jvm_field_rows.specs.Slots.{AreSlots, IsKnown, IsObjectField};
 
+use crate::sites::ObjectField;
 use class_link::FieldRef;
 use class_model::{ClassId, Memory};
 use class_table::Program;
@@ -18,17 +20,18 @@ use jvm_resolved::{Held, held_at, hold};
 use std::alloc::Global;
 use std::marker::Model;
 
-/// The slots of the fields that the constant pools of a program's classes name, as far as they were
-/// asked. What is kept depends on the program alone, not on the run.
+/// The fields of objects that the constant pools of a program's classes name, with their slots, as
+/// far as they were asked. What is kept depends on the program alone, not on the run.
 #[derive(Drop)]
 pub struct Slots {
-    rows: Vec<Held<u32>>,
+    rows: Vec<Held<ObjectField>>,
 }
 
 impl Model for Slots {
-    ghost use Rattle.std.specs.Prelude.{List, Option, ℕ};
+    ghost use Rattle.std.specs.Prelude.{List, Option};
+    ghost use Rattle.jvm_field_rows.specs.declared.sites.ObjectField.{ObjectField as Known};
 
-    ghost Value = { List (List (Option ℕ)) };
+    ghost Value = { List (List (Option Known)) };
 
     ghost view = { λ s. s.rows.items };
 }
@@ -47,17 +50,38 @@ fn slot_within(p: &Program, root: ClassId, site: Site) -> u32
     }
 }
 
-// The slot of the field that a reference resolves to.
-#[tactic(auto, using(crate::proofs::Slotted::slot_found, crate::proofs::Slotted::slot_absent))]
-fn find_slot(alloc: Global, p: &Program, reference: &FieldRef, site: Site) -> Result<u32, Memory>
+// The class that a reference names, where that resolves to a field.
+fn class_named(
+    alloc: Global,
+    p: &Program,
+    reference: &FieldRef,
+    site: Site,
+) -> Result<ClassId, Memory>
     requires { IsFieldNamed p.now reference.now site }
-    ensures { IfOk result (λ slot. ServesFor p.now reference.now slot) }
+    ensures { IfOk result (λ id. IsClassNamed p.now reference.now.class id) }
 {
     let name = class_behind(alloc, &reference.class)?;
     match p.find(&name) {
-        Some(root) => Ok(slot_within(p, root, site)),
-        None => Ok(0),
+        Some(id) => Ok(id),
+        None => unreachable!(),
     }
+}
+
+// The field of objects that a reference resolves to.
+#[tactic(auto, using(crate::proofs::Fielded::place_within))]
+fn object_field(
+    alloc: Global,
+    p: &Program,
+    reference: &FieldRef,
+    site: Site,
+) -> Result<ObjectField, Memory>
+    requires site { IsFieldNamed p.now reference.now site }
+    requires object { TellsStatic p.now site false }
+    ensures { IfOk result (IsObjectField p.now reference.now) }
+{
+    let named = class_named(alloc, p, reference, site)?;
+    let slot = slot_within(p, named, site);
+    Ok(ObjectField { named, site, slot })
 }
 
 impl Slots {
@@ -71,17 +95,18 @@ impl Slots {
         }
     }
 
-    // The slot that is held for the reference at an index of a class, if one is.
-    #[tactic(auto, using(crate::proofs::Slotted::held_slot))]
-    fn held(&self, p: &Program, class: ClassId, index: u32, reference: &FieldRef) -> Option<u32>
-        requires slots { AreSlots p.now self.now }
-        requires entry { IsEntry p.now class.0 index (Field reference.now) }
-        ensures { IfSome result (ServesFor p.now reference.now) }
+    /// The field of objects that the reference at an index of a class's constant pool resolves to,
+    /// if it was asked before.
+    #[inline(always)]
+    #[tactic(auto, using(crate::proofs::Slotted::held_field))]
+    pub fn known(&self, p: &Program, class: ClassId, index: u32) -> Option<ObjectField>
+        requires { AreSlots p.now self.now }
+        ensures { IfSome result (IsKnown p.now class.0 index) }
     {
         held_at(&self.rows, class, index)
     }
 
-    // Holds the slot of the reference at an index of a class.
+    // Holds the field of the reference at an index of a class.
     #[tactic(auto, using(crate::proofs::Slotted::held_more, crate::proofs::Slotted::held_same))]
     fn hold(
         &mut self,
@@ -89,20 +114,20 @@ impl Slots {
         class: ClassId,
         index: u32,
         reference: &FieldRef,
-        slot: u32,
+        field: ObjectField,
     ) -> Result<(), Memory>
         requires slots { AreSlots p.now self.old }
         requires entry { IsEntry p.now class.0 index (Field reference.now) }
-        requires right { ServesFor p.now reference.now slot }
+        requires right { IsObjectField p.now reference.now field }
         ensures { AreSlots p.now self.new }
     {
-        hold(&mut self.rows, class, index, slot)?;
+        hold(&mut self.rows, class, index, field)?;
         Ok(())
     }
 
-    /// The slot of the field that the reference at an index of a class's constant pool resolves to.
-    /// Where it was asked before it takes two indices, and no text and no memory.
-    pub fn slot(
+    /// Finds the slot of the field of objects that the reference at an index of a class's constant
+    /// pool resolves to, and holds the field from then on.
+    pub fn keep(
         &mut self,
         alloc: Global,
         p: &Program,
@@ -110,18 +135,16 @@ impl Slots {
         index: u32,
         reference: &FieldRef,
         site: Site,
-    ) -> Result<u32, Memory>
+    ) -> Result<ObjectField, Memory>
         requires slots { AreSlots p.now self.old }
         requires entry { IsEntry p.now class.0 index (Field reference.now) }
         requires site { IsFieldNamed p.now reference.now site }
-        ensures slot { IfOk result (λ slot. ServesFor p.now reference.now slot) }
+        requires object { TellsStatic p.now site false }
+        ensures field { IfOk result (IsObjectField p.now reference.now) }
         ensures slots { AreSlots p.now self.new }
     {
-        if let Some(slot) = self.held(p, class, index, reference) {
-            return Ok(slot);
-        }
-        let slot = find_slot(alloc, p, reference, site)?;
-        self.hold(p, class, index, reference, slot)?;
-        Ok(slot)
+        let field = object_field(alloc, p, reference, site)?;
+        self.hold(p, class, index, reference, field)?;
+        Ok(field)
     }
 }

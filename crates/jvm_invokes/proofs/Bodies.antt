@@ -58,3 +58,9 @@ body_some es o x m b is e h =
 pub body_none : (es : List Entry) (o : Option linked.LinkedMethod) (m : LinkedMethod) (b : Body) → o ≡ None → option_map (method_of es) o ≡ Some m → IsBody m b
 body_none es o m b is e =
     let bad : None ≡ Some m = sym (ap (option_map (method_of es)) is) ∙ e in absurd cc
+
+pub flags_at_place : (p : List Info) (s : Site) (i : Info) (flags : ℕ) (ms : List linked.LinkedMethod) → ms ≡ i.linked.methods → look p (name_at p s.class.0) ≡ Some (class_of i) → ((es : List Entry) (m : LinkedMethod) → option_map (method_of es) (slice_get ms s.place) ≡ Some m → flags ≡ m.flags) → (m : LinkedMethod) → StandsAt p s m → flags ≡ m.flags
+flags_at_place p s i flags ms same class are m there =
+    are i.linked.entries m
+    (ap (λ xs. option_map (method_of i.linked.entries) (slice_get xs s.place)) same
+    ∙ at_place p s.class.0 s.place i.linked m class there)

@@ -33,6 +33,7 @@ pub struct Head {
 }
 
 /// Bit 1 is ACC_PRIVATE (JVMS 4.6).
+#[inline(always)]
 pub fn is_private(flags: u16) -> bool
     ensures { result ≡ is_private flags }
 {
@@ -40,6 +41,7 @@ pub fn is_private(flags: u16) -> bool
 }
 
 /// Bit 3 is ACC_STATIC (JVMS 4.6).
+#[inline(always)]
 pub fn is_static(flags: u16) -> bool
     ensures { result ≡ is_static flags }
 {
@@ -47,6 +49,7 @@ pub fn is_static(flags: u16) -> bool
 }
 
 // Bit 10 is ACC_ABSTRACT (JVMS 4.6).
+#[inline(always)]
 fn is_abstract(flags: u16) -> bool
     ensures { result ≡ is_abstract flags }
 {
@@ -55,6 +58,7 @@ fn is_abstract(flags: u16) -> bool
 
 // What a call of a method runs. A method with ACC_ABSTRACT is abstract, whatever its body is.
 #[tactic(auto, using(crate::proofs::Bodies::is_empty, crate::proofs::Bodies::has_body))]
+#[inline(always)]
 fn body_of(method: &LinkedMethod) -> Body
     ensures { (es : List Entry) → IsBody (method_of es method.now) result }
 {
@@ -69,6 +73,7 @@ fn body_of(method: &LinkedMethod) -> Body
 }
 
 // The number of a place.
+#[inline(always)]
 fn number_of(place: usize) -> u32
     ensures { place < 2 ^ 32 → result ≡ place }
 {
@@ -78,17 +83,50 @@ fn number_of(place: usize) -> u32
     0
 }
 
+// What a call asks of the method at a place of a class; of an abstract one, where there is none.
 #[tactic(auto, using(crate::proofs::Bodies::body_some, crate::proofs::Bodies::body_none))]
-fn body_in(methods: &[LinkedMethod], place: usize) -> Body
-    ensures { (es : List Entry) (m : Method) →
-        option_map (method_of es) (slice_get methods.now place) ≡ Some m → IsBody m result }
+#[inline(always)]
+fn head_in(methods: &[LinkedMethod], place: usize) -> Head
+    ensures number { place < 2 ^ 32 → result.number ≡ place }
+    ensures flags { (es : List Entry) (m : Method) →
+        option_map (method_of es) (slice_get methods.now place) ≡ Some m →
+        result.flags ≡ m.flags }
+    ensures body { (es : List Entry) (m : Method) →
+        option_map (method_of es) (slice_get methods.now place) ≡ Some m →
+        IsBody m result.body }
 {
+    let number = number_of(place);
     match methods.get(place) {
-        Some(method) => body_of(method),
-        None => Body::Empty,
+        Some(method) => {
+            let body = body_of(method);
+            Head {
+                number,
+                flags: method.flags,
+                body,
+            }
+        }
+        None => Head {
+            number,
+            flags: 0,
+            body: Body::Empty,
+        },
     }
 }
 
+/// What a call asks of the method that stands here.
+#[tactic(auto, using(crate::proofs::Bodies::head_is))]
+#[inline(always)]
+pub fn head_at(p: &Program, site: Site) -> Head
+    requires { site.class.0 < length p.now }
+    ensures { (m : Method) → StandsAt p.now site m → IsHead site m result }
+{
+    let info = p.info(site.class);
+    let linked = info.linked();
+    let methods = linked.methods.as_slice();
+    head_in(methods, site.place)
+}
+
+#[inline(always)]
 fn flags_in(methods: &[LinkedMethod], place: usize) -> u16
     ensures { (es : List Entry) (m : Method) →
         option_map (method_of es) (slice_get methods.now place) ≡ Some m → result ≡ m.flags }
@@ -99,21 +137,15 @@ fn flags_in(methods: &[LinkedMethod], place: usize) -> u16
     }
 }
 
-/// What a call asks of the method that stands here.
-#[tactic(auto, using(crate::proofs::Bodies::head_is))]
-pub fn head_at(p: &Program, site: Site) -> Head
+/// The flags of the method that stands here.
+#[tactic(auto, using(crate::proofs::Bodies::flags_at_place))]
+#[inline(always)]
+pub fn flags_at(p: &Program, site: Site) -> u16
     requires { site.class.0 < length p.now }
-    ensures { (m : Method) → StandsAt p.now site m → IsHead site m result }
+    ensures { (m : Method) → StandsAt p.now site m → result ≡ m.flags }
 {
     let info = p.info(site.class);
     let linked = info.linked();
     let methods = linked.methods.as_slice();
-    let flags = flags_in(methods, site.place);
-    let body = body_in(methods, site.place);
-    let number = number_of(site.place);
-    Head {
-        number,
-        flags,
-        body,
-    }
+    flags_in(methods, site.place)
 }

@@ -11,6 +11,7 @@ use jvm_world::World;
 use machine_rules::InitState;
 
 // Whether a class is done, or its initializer runs.
+#[inline(always)]
 fn is_begun(state: InitState) -> bool
     ensures { result ≡ is_begun state }
 {
@@ -24,6 +25,7 @@ fn is_begun(state: InitState) -> bool
 
 /// Whether a class has begun, so that nothing stands before its use. Classes of the library have
 /// from the start.
+#[inline(always)]
 pub fn is_ready(world: &World, p: &Program, class: ClassId) -> bool
     requires world { IsWorldOf p.now world.now }
     requires class { class.0 < length p.now }

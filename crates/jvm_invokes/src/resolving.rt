@@ -26,6 +26,7 @@ use std::alloc::Global;
 /// What the reference at an index of a class's constant pool resolves to. The class that it names
 /// is consulted.
 #[tactic(auto, using(crate::proofs::Resolved::consulted_moves, crate::proofs::Resolved::consulted_kept))]
+#[inline(always)]
 pub fn resolve(
     world: &mut World,
     p: &Program,
@@ -49,6 +50,7 @@ pub fn resolve(
 
 /// The machine throws an exception of its own, or the run is over.
 #[tactic(auto, using(crate::proofs::Resolved::thrown_invokes))]
+#[inline(never)]
 pub fn throw(world: &mut World, alloc: Global, p: &Program, fault: Fault) -> Result<Invoked, Memory>
     requires { IsWorldOf p.now world.old }
     ensures throws { IfOk result (λ t. (s : NumberedFrames) (r : Reference) →

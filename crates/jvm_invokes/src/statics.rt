@@ -2,6 +2,7 @@
 
 ghost use Rattle.std.specs.Prelude.{◌≡◌, ◌<◌, length, map, IfOk, OnOk};
 ghost use Rattle.program_rules.specs.Instructions.{MethodRef as Reference};
+ghost use Rattle.program_rules.specs.Linked.{LinkedMethod};
 ghost use Rattle.program_rules.specs.Resolution.{MethodAt};
 ghost use Rattle.class_link.specs.Symbols.{kind_of};
 ghost use Rattle.class_link.specs.View.{method_ref_of};
@@ -11,11 +12,12 @@ ghost use Rattle.jvm_link.specs.Answers.{IsCallee};
 ghost use Rattle.jvm_resolved.specs.References.{IsEntry, IsTableOf};
 ghost use Rattle.jvm_world.specs.View.{IsWorldOf, IsKept};
 ghost use Rattle.jvm_invokes.specs.Calls.{IsSite, IsThere, calls_args};
+ghost use Rattle.jvm_invokes.specs.Heads.{IsHead, StandsAt};
 ghost use Rattle.jvm_invokes.specs.Invoked.{Invokes, StaysOrEnters, calls_ready};
 ghost use Rattle.jvm_invokes.specs.Rows.{IsReady, static_found, static_row};
 
-use crate::calling::call_site;
-use crate::heads::{head_at, is_static};
+use crate::calling::call_head;
+use crate::heads::{Head, head_at, is_static};
 use crate::invoked::Invoked;
 use crate::ready::is_ready;
 use crate::resolving::{resolve, throw};
@@ -32,6 +34,7 @@ use std::alloc::Global;
 
 // A method of a class is called with arguments of these kinds, if they stand on the stack.
 #[tactic(auto, using(crate::proofs::StaticCalls::args_call, crate::proofs::StaticCalls::args_missing, crate::proofs::Standing::stays))]
+#[inline(always)]
 fn call_args(
     frames: &mut Frames,
     world: &mut World,
@@ -39,9 +42,11 @@ fn call_args(
     p: &Program,
     kinds: &[Kind],
     site: Site,
+    head: Head,
 ) -> Result<Invoked, Memory>
     requires world { IsWorldOf p.now world.old }
     requires site { IsSite p.now site }
+    requires head { (m : LinkedMethod) → StandsAt p.now site m → IsHead site m head }
     ensures row { IfOk result (λ t. (m : MethodAt) (r : Reference) →
         IsCallee p.now m (Method site) →
         Invokes p.now r (calls_args p.now (map kind_of kinds.now) m) t
@@ -51,7 +56,7 @@ fn call_args(
 {
     match frames.args(kinds) {
         Some(args) => {
-            let done = call_site(frames, world, alloc, p, site, args)?;
+            let done = call_head(frames, world, alloc, p, site, head, args)?;
             Ok(done)
         }
         None => Ok(Invoked::Turned(Turn::NoRow)),
@@ -60,6 +65,7 @@ fn call_args(
 
 // A static method is called, whose class is ready.
 #[tactic(auto, using(crate::proofs::StaticCalls::ready_call, crate::proofs::Standing::stays))]
+#[inline(always)]
 fn call_ready(
     frames: &mut Frames,
     world: &mut World,
@@ -67,9 +73,11 @@ fn call_ready(
     p: &Program,
     reference: &MethodRef,
     site: Site,
+    head: Head,
 ) -> Result<Invoked, Memory>
     requires world { IsWorldOf p.now world.old }
     requires site { IsSite p.now site }
+    requires head { (m : LinkedMethod) → StandsAt p.now site m → IsHead site m head }
     requires ready { IsReady p.now world.old site.class.0 }
     ensures row { IfOk result (λ t. (m : MethodAt) → IsCallee p.now m (Method site) →
         Invokes p.now (method_ref_of reference.now)
@@ -80,12 +88,13 @@ fn call_ready(
 {
     world.consult(p, site.class)?;
     let kinds = reference.args.as_slice();
-    let done = call_args(frames, world, alloc, p, kinds, site)?;
+    let done = call_args(frames, world, alloc, p, kinds, site, head)?;
     Ok(done)
 }
 
 // A method of a class is called, if it is static, and once its class is ready.
 #[tactic(auto, using(crate::proofs::StaticCalls::static_call, crate::proofs::StaticCalls::readies, crate::proofs::StaticCalls::not_static, crate::proofs::Standing::stays))]
+#[inline(always)]
 fn call_static(
     frames: &mut Frames,
     world: &mut World,
@@ -111,12 +120,13 @@ fn call_static(
     if !is_ready(world, p, site.class) {
         return Ok(Invoked::Readies(site));
     }
-    let done = call_ready(frames, world, alloc, p, reference, site)?;
+    let done = call_ready(frames, world, alloc, p, reference, site, head)?;
     Ok(done)
 }
 
 // The same of what was found. An array's `clone` isn't static.
 #[tactic(auto, using(crate::proofs::StaticCalls::clone_static, crate::proofs::Standing::stays))]
+#[inline(always)]
 fn call_found_static(
     frames: &mut Frames,
     world: &mut World,
@@ -149,6 +159,7 @@ fn call_found_static(
 /// `invokestatic` of the reference at an index of a class's constant pool. Where the class of the
 /// method isn't known to have begun, the call is left.
 #[tactic(auto, using(crate::proofs::StaticCalls::there_by, crate::proofs::StaticCalls::invoked_static, crate::proofs::StaticCalls::failed_static, crate::proofs::Standing::stays))]
+#[inline(always)]
 pub fn invoke_static(
     frames: &mut Frames,
     world: &mut World,

@@ -206,8 +206,8 @@ fn plus(before: u64, taken: Taken) -> Taken
     }
 }
 
-//// Takes steps of the running frame alone, whose method has this code and these marks, and then that
-/// of the instruction behind them, so many at most.
+/// Takes steps of the running frame alone, whose method has this code and these marks, and then
+/// that of the instruction behind them, so many at most.
 pub fn take_steps(
     m: &mut Machine,
     alloc: Global,

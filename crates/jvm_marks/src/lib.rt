@@ -9,3 +9,4 @@ mod slots;
 pub use begun::Begun;
 pub use marks::Marks;
 pub use reached::Reached;
+pub use slots::make_place;

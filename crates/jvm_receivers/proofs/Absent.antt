@@ -32,10 +32,9 @@ use Rattle.jvm_unwind.specs.Turns.{frame_of, row_at}
 use Rattle.jvm_values.specs.declared.object.Object as code
 use Rattle.jvm_world.specs.declared.world.World.{World}
 use Rattle.jvm_world.specs.View.{IsObjectIn, Means, object_of}
-use Rattle.jvm_invokes.specs.declared.heads.Head as heads
 use Rattle.jvm_invokes.specs.declared.invoked.Invoked.{Invoked}
 use Rattle.jvm_invokes.specs.declared.invoked.Invoked.TheVariants as invoked
-use Rattle.jvm_invokes.specs.Heads.{IsHead, StandsAt}
+use Rattle.jvm_invokes.specs.Heads.{StandsAt}
 use Rattle.jvm_invokes.specs.Invoked.{InvokedTo, Invokes, Leaves}
 use Rattle.jvm_receivers.specs.Objects.{IsReceiver, IsSelected, SelectsFor, methods_in}
 use Rattle.jvm_receivers.specs.Receivers.{selecting, selecting_on}
@@ -43,7 +42,7 @@ use Rattle.jvm_receivers.specs.Selected.{IsAnswer, is_fixed, own_or_none}
 use Rattle.jvm_receivers.specs.Targets.{received}
 use Rattle.jvm_invokes.proofs.Outcomes.{LeftTo, after}
 use Rattle.jvm_invokes.proofs.Standing.{stands}
-use Rattle.jvm_invokes.proofs.StaticCalls.{flags_are}
+use Rattle.jvm_receivers.proofs.Selecting.{method_flags}
 
 -- ---- what each object selects
 
@@ -60,12 +59,12 @@ own_by : (abstract : Bool) (b : LinkedBody) → is_own (if abstract then Abstrac
 own_by true b = refl
 own_by false b = body_own b
 
-pub method_fixed : (p : List Info) (m : MethodAt) (s : Site) (h : heads.Head) (b : Bool) → IsMethod p (Some m) s → ((l : LinkedMethod) → StandsAt p s l → IsHead s l h) → b ≡ is_private h.flags → is_fixed m ≡ b
-method_fixed p m s h b is head e =
+pub method_fixed : (p : List Info) (m : MethodAt) (s : Site) (flags : ℕ) (b : Bool) → IsMethod p (Some m) s → ((l : LinkedMethod) → StandsAt p s l → flags ≡ l.flags) → b ≡ is_private flags → is_fixed m ≡ b
+method_fixed p m s flags b is are e =
     let k = stands p m s is in
     or_false (is_private m.flags) (is_own m.callable)
     (ap (λ (x : MethodAt). is_own x.callable) k.is ∙ own_by (is_abstract k.method.flags) k.method.body)
-    ∙ ap is_private (flags_are p m s h is head) ∙ sym e
+    ∙ ap is_private (method_flags p m s flags is are) ∙ sym e
 
 pub clone_fixed : (p : List Info) (m : MethodAt) → IsCallee p m callee.ArrayClone → is_fixed m ≡ true
 clone_fixed p m is = ap is_fixed is

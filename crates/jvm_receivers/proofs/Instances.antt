@@ -1,12 +1,11 @@
 -- Whether an object is of an interface, and the row of `invokeinterface` by that.
-use Rattle.std.proofs.Common.{◌≡◌, ◌∙◌, sym, refl, ap, subst, ℕ, Bool, true, false, List, ◌∷◌, map, drop, Option, None, Some, IsSomeAnd, slice_get, Err}
+use Rattle.std.proofs.Common.{◌≡◌, ◌∙◌, sym, refl, ap, subst, ℕ, Bool, true, false, List, ◌∷◌, map, drop, Option, None, Some, Err, length, ◌<◌}
 use Rattle.std.specs.Prelude.{◌||◌, if◌then◌else◌, Result}
-use Rattle.std.specs.Option.{option_and_then}
 use Rattle.program_rules.specs.declared.fault.Fault.{Fault}
 use Rattle.program_rules.specs.declared.fault.Fault.TheVariants.{IncompatibleClassChangeError}
 use Rattle.program_rules.specs.Faults.{Answer, Fails}
 use Rattle.program_rules.specs.Instructions.{MethodRef}
-use Rattle.program_rules.specs.Names.{Name, is_array_name, is_listed, object_name, same}
+use Rattle.program_rules.specs.Names.{Name, element_class, element_of, is_array_name, is_listed, object_name, same}
 use Rattle.program_rules.specs.Objects.{Object, ObjectKind, ArrayOf, Plain, class_of_object, object_at}
 use Rattle.program_rules.specs.Programs.{family, supers}
 use Rattle.program_rules.specs.Resolution.{MethodAt}
@@ -16,16 +15,17 @@ use Rattle.machine_rules.specs.State as def
 use Rattle.machine_rules.specs.Calls.{calls_method}
 use Rattle.machine_rules.specs.Effects.{Effect, on_found, on_some, throws}
 use Rattle.machine_rules.specs.Lookups.{is_array, is_instance, known_of, methods_of}
+use Rattle.class_model.specs.declared.class.ClassId.{ClassId}
 use Rattle.class_link.specs.Info.{Info}
-use Rattle.class_link.specs.View.{method_entry, method_ref_at}
 use Rattle.class_link.specs.declared.linked.Entry.TheVariants as entry
 use Rattle.class_link.specs.declared.linked.MethodRef as code
-use Rattle.class_table.specs.Table.{look, name_at, class_at, entries_in, reference_at}
+use Rattle.class_table.specs.Table.{look, name_at}
 use Rattle.jvm_frames.specs.Frames.{NumberedFrame, NumberedFrames, args_on}
 use Rattle.jvm_heap_rows.proofs.Ends.{each}
 use Rattle.jvm_link.specs.declared.site.Callee.{Callee}
 use Rattle.jvm_link.specs.Answers.{AnswersCall}
-use Rattle.jvm_resolved.specs.References.{IsEntry}
+use Rattle.jvm_resolved.specs.References.{IsEntry, IsTableOf, KeepsMethodClass}
+use Rattle.jvm_resolved.specs.declared.rows.Kept.{Kept}
 use Rattle.jvm_resolved.specs.declared.rows.Receiver.{Receiver}
 use Rattle.jvm_type_rows.specs.Instances.{is_kind_within}
 use Rattle.jvm_type_rows.proofs.Described.{class_is}
@@ -42,18 +42,14 @@ use Rattle.jvm_invokes.proofs.Outcomes.{after, left_same}
 
 -- ---- the class that a reference names
 
-reference_in : (o : Option Info) (index : ℕ) (r : code.MethodRef) → slice_get (entries_in o) index ≡ Some (entry.Method r) → option_and_then (λ (i : Info). method_ref_at i.linked index) o ≡ Some r
-reference_in None index r e = absurd cc
-reference_in (Some i) index r e = ap method_entry e
+module _ (p : List Info) (rows : List (List (Option Kept))) (class index : ℕ) (r : code.MethodRef) (over : ClassId) where
+  pub over_within : KeepsMethodClass rows class index over → IsTableOf p rows → IsEntry p class index (entry.Method r) → over.0 < length p
+  over_within kept table e = (kept.named p r table e).within
 
-reference_is : (p : List Info) (class index : ℕ) (r : code.MethodRef) → IsEntry p class index (entry.Method r) → reference_at p class index ≡ Some r
-reference_is p class index r e = reference_in (slice_get p class) index r e
-
-pub named_below : (p : List Info) (class index : ℕ) (r : code.MethodRef) (over of : ℕ) (b : Bool) → IsEntry p class index (entry.Method r) → IsSomeAnd (reference_at p class index) (λ (x : code.MethodRef). (name_at p over ≡ x.class) × (look p x.class ≡ class_at p over)) → b ≡ is_listed (name_at p over) (supers (look p) (name_at p of)) → b ≡ true → is_listed r.class (supers (look p) (name_at p of)) ≡ true
-named_below p class index r over of b e named is told =
-    let h : IsSomeAnd (Some r) (λ (x : code.MethodRef). (name_at p over ≡ x.class) × (look p x.class ≡ class_at p over)) =
-    subst (λ o. IsSomeAnd o (λ (x : code.MethodRef). (name_at p over ≡ x.class) × (look p x.class ≡ class_at p over))) (reference_is p class index r e) named in
-    sym (is ∙ ap (λ n. is_listed n (supers (look p) (name_at p of))) h.0) ∙ told
+  pub named_below : (of : ℕ) (b : Bool) → KeepsMethodClass rows class index over → IsTableOf p rows → IsEntry p class index (entry.Method r) → is_array_name r.class ≡ false → b ≡ is_listed (name_at p over.0) (supers (look p) (name_at p of)) → b ≡ true → is_listed r.class (supers (look p) (name_at p of)) ≡ true
+  named_below of b kept table e plain is told =
+      let named : name_at p over.0 ≡ r.class = (kept.named p r table e).named ∙ ap (λ t. if t then element_class (element_of r.class) else r.class) plain in
+      sym (is ∙ ap (λ n. is_listed n (supers (look p) (name_at p of))) named) ∙ told
 
 -- ---- what an object is of
 

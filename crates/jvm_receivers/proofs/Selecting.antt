@@ -1,8 +1,9 @@
 -- What was selected is called.
-use Rattle.std.proofs.Common.{◌≡◌, sym, refl, ap, subst, ℕ, Bool, List, Ok, Err}
+use Rattle.std.proofs.Common.{◌≡◌, ◌∙◌, sym, refl, ap, subst, ℕ, Bool, List, Some, Ok, Err}
 use Rattle.program_rules.specs.declared.fault.Fault.{Fault}
 use Rattle.program_rules.specs.Faults.{Answer, Found, Fails}
 use Rattle.program_rules.specs.Instructions.{MethodRef}
+use Rattle.program_rules.specs.Linked.{LinkedMethod}
 use Rattle.program_rules.specs.Resolution.{MethodAt}
 use Rattle.program_rules.specs.Names.{class_behind}
 use Rattle.machine_rules.specs.State as def
@@ -15,23 +16,32 @@ use Rattle.jvm_frames.specs.Frames.{NumberedFrames}
 use Rattle.jvm_heap_rows.specs.Effects.{RowOf}
 use Rattle.jvm_heap_rows.specs.Rows.{throwing}
 use Rattle.jvm_heap_rows.proofs.Ends.{each}
+use Rattle.jvm_link.specs.declared.site.Site.{Site}
 use Rattle.jvm_link.specs.declared.site.Callee.{Callee}
 use Rattle.jvm_link.specs.declared.site.Callee.TheVariants as callee
 use Rattle.jvm_link.specs.Answers.{AnswersCall, IsCallee}
 use Rattle.jvm_link.specs.Named.{method_named}
+use Rattle.jvm_link.specs.Sites.{IsMethod}
 use Rattle.jvm_resolved.specs.References.{ResolvesMethodRef}
 use Rattle.jvm_unwind.specs.Turns.{row_at}
 use Rattle.jvm_world.specs.declared.world.World.{World}
 use Rattle.jvm_world.specs.View.{Means, Moves}
 use Rattle.jvm_invokes.specs.declared.invoked.Invoked.{Invoked}
 use Rattle.jvm_invokes.specs.Calls.{IsThere}
+use Rattle.jvm_invokes.specs.Heads.{StandsAt}
 use Rattle.jvm_invokes.specs.Invoked.{Invokes, calls_with}
 use Rattle.jvm_receivers.specs.Receivers.{choosing, selecting}
 use Rattle.jvm_invokes.specs.Rows.{naming}
 use Rattle.jvm_receivers.specs.Selected.{IsAnswer}
 use Rattle.jvm_invokes.proofs.Outcomes.{LeftTo, after, left_same}
 use Rattle.jvm_invokes.proofs.Resolved.{found_left, fault_left}
+use Rattle.jvm_invokes.proofs.Standing.{stands}
 use Rattle.jvm_invokes.proofs.StaticCalls.{there_of}
+
+pub method_flags : (p : List Info) (m : MethodAt) (s : Site) (flags : ℕ) → IsMethod p (Some m) s → ((l : LinkedMethod) → StandsAt p s l → flags ≡ l.flags) → m.flags ≡ flags
+method_flags p m s flags is are =
+    let k = stands p m s is in
+    ap (λ (x : MethodAt). x.flags) k.is ∙ sym (are k.method k.there)
 
 pub clone_flags : (p : List Info) (m : MethodAt) → IsCallee p m callee.ArrayClone → m.flags ≡ 1
 clone_flags p m is = ap (λ (x : MethodAt). x.flags) is

@@ -10,7 +10,7 @@ ghost use Rattle.class_link.specs.declared.linked.Entry.TheVariants.{Method as M
 ghost use Rattle.class_table.specs.Table.{look, name_at};
 ghost use Rattle.jvm_frames.specs.Frames.{HasWords};
 ghost use Rattle.jvm_link.specs.Answers.{AnswersCall};
-ghost use Rattle.jvm_resolved.specs.References.{IsEntry};
+ghost use Rattle.jvm_resolved.specs.References.{IsEntry, IsTableOf};
 ghost use Rattle.jvm_type_rows.specs.Instances.{is_kind_within};
 ghost use Rattle.jvm_world.specs.View.{IsWorldOf, IsKept, kind_in};
 ghost use Rattle.jvm_invokes.specs.Invoked.{Invokes, StaysOrEnters};
@@ -28,22 +28,34 @@ use jvm_catch::is_array_name;
 use jvm_frames::{Args, Frames};
 use jvm_invokes::Invoked;
 use jvm_link::Callee;
-use jvm_resolved::Receiver;
+use jvm_resolved::{Receiver, References};
 use jvm_type_rows::is_kind_within;
 use jvm_values::ObjKind;
 use jvm_world::World;
 use program_rules::Fault;
 use std::alloc::Global;
 
-// Whether a class is the one that a reference names, or stands below it, as numbers tell it.
-#[tactic(auto, using(crate::proofs::Instances::named_below))]
-fn is_below(p: &Program, class: ClassId, index: u32, reference: &MethodRef, of: ClassId) -> bool
+// Whether a class is the one that a reference names, or stands below it, as numbers tell it: where
+// it was resolved before, and names no array.
+#[tactic(auto, using(crate::proofs::Instances::over_within, crate::proofs::Instances::named_below))]
+fn is_below(
+    p: &Program,
+    references: &References,
+    class: ClassId,
+    index: u32,
+    reference: &MethodRef,
+    of: ClassId,
+) -> bool
+    requires table { IsTableOf p.now references.now }
     requires entry { IsEntry p.now class.0 index (MethodEntry reference.now) }
     requires of { of.0 < length p.now }
     ensures { result ≡ true →
         is_listed reference.now.class (supers (look p.now) (name_at p.now of.0)) ≡ true }
 {
-    match p.named_class(class, index) {
+    if is_array_name(reference.class.as_slice()) {
+        return false;
+    }
+    match references.named_class(class, index) {
         Some(over) => p.is_subtype(of, over),
         None => false,
     }
@@ -65,11 +77,13 @@ fn is_plain(p: &Program, to: Receiver) -> bool
 #[tactic(auto, using(crate::proofs::Instances::by_number))]
 fn is_known(
     p: &Program,
+    references: &References,
     class: ClassId,
     index: u32,
     reference: &MethodRef,
     to: Option<Receiver>,
 ) -> bool
+    requires table { IsTableOf p.now references.now }
     requires entry { IsEntry p.now class.0 index (MethodEntry reference.now) }
     requires within { IfSome to (λ r. r.class.0 < length p.now) }
     ensures { result ≡ true → (k : ObjectKind) → FindsReceiver p.now k to →
@@ -77,7 +91,8 @@ fn is_known(
 {
     match to {
         Some(receiver) => {
-            is_plain(p, receiver) && is_below(p, class, index, reference, receiver.class)
+            is_plain(p, receiver)
+                && is_below(p, references, class, index, reference, receiver.class)
         }
         None => false,
     }
@@ -88,19 +103,21 @@ fn is_known(
 fn is_of(
     alloc: Global,
     p: &Program,
+    references: &References,
     class: ClassId,
     index: u32,
     reference: &MethodRef,
     kind: &ObjKind,
     to: Option<Receiver>,
 ) -> Result<bool, Memory>
+    requires table { IsTableOf p.now references.now }
     requires entry { IsEntry p.now class.0 index (MethodEntry reference.now) }
     requires receiver { FindsReceiver p.now (kind_in p.now kind.now) to }
     requires within { IfSome to (λ r. r.class.0 < length p.now) }
     ensures { IfOk result (λ b.
         b ≡ is_kind_within p.now (kind_in p.now kind.now) reference.now.class) }
 {
-    if is_known(p, class, index, reference, to) {
+    if is_known(p, references, class, index, reference, to) {
         return Ok(true);
     }
     let is = is_kind_within(alloc, p, kind, &reference.class)?;
@@ -151,7 +168,8 @@ fn select_known(
     ensures lookups { AreLookups p.now lookups.new }
 {
     let to = receiver_of(alloc, p, lookups.text, kind)?;
-    let fits = is_of(alloc, p, class, index, reference, kind, to)?;
+    let references = &lookups.references;
+    let fits = is_of(alloc, p, references, class, index, reference, kind, to)?;
     if !fits {
         return Ok(Err(Fault::IncompatibleClassChangeError));
     }

@@ -46,6 +46,7 @@ pub enum Invocation {
 }
 
 // Whether an instruction throws where it finds a method with these flags.
+#[inline(always)]
 fn is_barred(how: Invocation, flags: u16) -> bool
     ensures { result ≡ is_barred how flags }
 {
@@ -57,6 +58,7 @@ fn is_barred(how: Invocation, flags: u16) -> bool
 }
 
 // The resolved method, or what the object selects, is called on the object.
+#[inline(always)]
 fn call_on(
     frames: &mut Frames,
     world: &mut World,
@@ -111,6 +113,7 @@ fn call_on(
 
 // A method that was found is called on the object below the arguments.
 #[tactic(auto, using(jvm_invokes::proofs::Standing::stays))]
+#[inline(always)]
 fn call_target(
     frames: &mut Frames,
     world: &mut World,
@@ -154,6 +157,7 @@ fn call_target(
 
 // A method that was found is called, if it is one that the instruction calls.
 #[tactic(auto, using(jvm_invokes::proofs::Standing::stays))]
+#[inline(always)]
 fn call_resolved(
     frames: &mut Frames,
     world: &mut World,
@@ -195,6 +199,7 @@ fn call_resolved(
 /// The instruction that calls a method on an object, of the reference at an index of a class's
 /// constant pool. That is the class whose method runs, where the instruction is `invokespecial`.
 #[tactic(auto, using(jvm_invokes::proofs::StaticCalls::there_by, jvm_invokes::proofs::Standing::stays))]
+#[inline(always)]
 pub fn invoke_on(
     frames: &mut Frames,
     world: &mut World,

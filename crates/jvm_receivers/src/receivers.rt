@@ -17,6 +17,7 @@ use std::alloc::Global;
 
 // The class of a name, for its objects or for arrays of them.
 #[tactic(auto, using(crate::proofs::Finding::place_is))]
+#[inline(never)]
 fn place_of(p: &Program, name: &Name, array: bool) -> Option<Receiver>
     ensures place { FindsPlace p.now name.now array result }
     ensures within { IfSome result (λ to. to.class.0 < length p.now) }
@@ -29,6 +30,7 @@ fn place_of(p: &Program, name: &Name, array: bool) -> Option<Receiver>
 
 // What the objects of a class are of.
 #[tactic(auto, using(crate::proofs::Finding::plain_is, crate::proofs::Finding::past_class))]
+#[inline(always)]
 fn of_class(alloc: Global, p: &Program, class: ClassId) -> Option<Receiver>
     ensures receiver { FindsReceiver p.now (Plain (name_at p.now class.0)) result }
     ensures within { IfSome result (λ to. to.class.0 < length p.now) }
@@ -59,6 +61,7 @@ fn of_named(alloc: Global, p: &Program, name: &Name) -> Result<Option<Receiver>,
 
 // What the arrays of elements of a kind are of.
 #[tactic(auto, using(crate::proofs::Finding::array_found))]
+#[inline(never)]
 fn of_elements(alloc: Global, p: &Program, kind: &Kind) -> Result<Option<Receiver>, Memory>
     ensures receiver { IfOk result (λ to. FindsReceiver p.now (ArrayOf (kind_of kind.now)) to) }
     ensures within { IfOk result (λ o. IfSome o (λ to. to.class.0 < length p.now)) }
@@ -94,6 +97,7 @@ fn of_text(p: &Program, text: Option<ClassId>) -> Option<Receiver>
 }
 
 /// What an object is of; none where the program has no such class.
+#[inline(always)]
 pub fn receiver_of(
     alloc: Global,
     p: &Program,

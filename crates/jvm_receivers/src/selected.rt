@@ -18,7 +18,7 @@ ghost use Rattle.jvm_receivers.specs.Targets.{received};
 use class_model::Memory;
 use class_table::Program;
 use jvm_frames::{Args, Frames};
-use jvm_invokes::{Invoked, call_found, head_at, is_private, throw};
+use jvm_invokes::{Invoked, call_found, flags_at, is_private, throw};
 use jvm_link::Callee;
 use jvm_unwind::Turn;
 use jvm_world::World;
@@ -26,30 +26,29 @@ use program_rules::Fault;
 use std::alloc::Global;
 
 /// The flags of what was found. An array's `clone` is public.
-#[tactic(auto, using(jvm_invokes::proofs::StaticCalls::flags_are, crate::proofs::Selecting::clone_flags))]
+#[tactic(auto, using(crate::proofs::Selecting::method_flags, crate::proofs::Selecting::clone_flags))]
+#[inline(always)]
 pub fn flags_of(p: &Program, callee: Callee) -> u16
     requires { IsThere p.now callee }
     ensures { (m : MethodAt) → IsCallee p.now m callee → m.flags ≡ result }
 {
     match callee {
-        Callee::Method(site) => {
-            let head = head_at(p, site);
-            head.flags
-        }
+        Callee::Method(site) => flags_at(p, site),
         Callee::ArrayClone => 1,
     }
 }
 
 /// Whether a method is what each object selects of it: a private one, and an array's `clone`.
 #[tactic(auto, using(crate::proofs::Absent::method_fixed, crate::proofs::Absent::clone_fixed))]
+#[inline(always)]
 pub fn is_fixed(p: &Program, callee: Callee) -> bool
     requires { IsThere p.now callee }
     ensures { (m : MethodAt) → IsCallee p.now m callee → is_fixed m ≡ result }
 {
     match callee {
         Callee::Method(site) => {
-            let head = head_at(p, site);
-            is_private(head.flags)
+            let flags = flags_at(p, site);
+            is_private(flags)
         }
         Callee::ArrayClone => true,
     }
@@ -58,6 +57,7 @@ pub fn is_fixed(p: &Program, callee: Callee) -> bool
 /// What was selected is called with the arguments on the stack, or the fault is thrown over the
 /// stack as it is.
 #[tactic(auto, using(crate::proofs::Selecting::answer_there, crate::proofs::Selecting::selected_calls, crate::proofs::Selecting::selected_throws, jvm_invokes::proofs::Standing::stays))]
+#[inline(always)]
 pub fn call_selected(
     frames: &mut Frames,
     world: &mut World,
@@ -90,6 +90,7 @@ pub fn call_selected(
 /// What an object selected is called with it and the arguments; nothing where there is no such
 /// object.
 #[tactic(auto, using(jvm_invokes::proofs::Standing::stays))]
+#[inline(always)]
 pub fn call_answered(
     frames: &mut Frames,
     world: &mut World,

@@ -44,6 +44,7 @@ const INITIALIZER: [u16; 6] = [
 ];
 
 // Whether a method is an instance initializer by its name.
+#[inline(always)]
 fn is_initializer(name: &Name) -> bool
     ensures { result ≡ is_initializer_name name.now }
 {
@@ -166,6 +167,7 @@ fn call_looked(
 
 /// A method that was found is called on an object.
 #[tactic(auto, using(jvm_invokes::proofs::Standing::stays))]
+#[inline(always)]
 pub fn call_special(
     frames: &mut Frames,
     world: &mut World,

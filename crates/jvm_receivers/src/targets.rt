@@ -37,6 +37,7 @@ pub enum Taken {
 
 /// What stands below arguments of these kinds.
 #[tactic(auto, using(crate::proofs::Operands::no_args, crate::proofs::Operands::nothing_below))]
+#[inline(always)]
 pub fn target_at(frames: &Frames, kinds: &[Kind]) -> Target
     ensures { FindsTarget (map kind_of kinds.now) frames.now result }
 {
@@ -56,6 +57,7 @@ pub fn target_at(frames: &Frames, kinds: &[Kind]) -> Target
 
 /// Looks for the object on which a method is called. For null a NullPointerException is thrown, and
 /// the stack is as it was.
+#[inline(always)]
 pub fn take_target(
     frames: &Frames,
     world: &mut World,

@@ -36,6 +36,7 @@ use std::alloc::Global;
 
 // What an object selects whose class the program hasn't.
 #[tactic(auto, using(crate::proofs::VirtualCalls::fixed_found, crate::proofs::VirtualCalls::other_fails))]
+#[inline(never)]
 fn select_absent(p: &Program, callee: Callee) -> Result<Callee, Fault>
     requires { IsThere p.now callee }
     ensures { (m : MethodAt) → IsCallee p.now m callee →
@@ -48,6 +49,7 @@ fn select_absent(p: &Program, callee: Callee) -> Result<Callee, Fault>
 }
 
 // What an object of this class selects of the resolved method.
+#[inline(always)]
 fn select_of(
     p: &Program,
     lookups: &mut Lookups,
@@ -80,6 +82,7 @@ fn select_of(
 }
 
 // What the object of a number selects of the resolved method, if there is such an object.
+#[inline(always)]
 fn select(
     alloc: Global,
     world: &World,
@@ -112,6 +115,7 @@ fn select(
 
 /// What an object selects of the resolved method is called on it.
 #[tactic(auto, using(jvm_invokes::proofs::Standing::stays))]
+#[inline(always)]
 pub fn call_virtual(
     frames: &mut Frames,
     world: &mut World,

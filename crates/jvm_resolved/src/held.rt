@@ -83,6 +83,7 @@ fn put<T: Copy + Drop>(rows: &mut [Held<T>], class: usize, index: usize, item: T
 }
 
 /// What is held for an index of a class.
+#[inline(always)]
 pub fn held_at<T: Copy + Drop>(rows: &[Held<T>], class: ClassId, index: u32) -> Option<T>
     ensures { result ≡ held class.0 index rows.now }
 {

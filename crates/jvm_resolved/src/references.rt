@@ -70,6 +70,7 @@ impl References {
     }
 
     // The method that is kept for an index, with the class that is named.
+    #[inline(always)]
     #[tactic(auto, using(crate::proofs::Keeping::method_kept))]
     fn kept_method(&self, class: ClassId, index: u32) -> Option<(ClassId, Result<Callee, Fault>)>
         ensures { IfSome result (λ k. KeepsMethod self.now class.0 index k.0 k.1) }
@@ -81,7 +82,7 @@ impl References {
     }
 
     /// The class that the reference to a method at an index of a class's constant pool names, where
-    /// what it resolves to was asked before. It takes two indices and no text.
+    /// what it resolves to is kept. It takes two indices and no text.
     #[tactic(auto, using(crate::proofs::Keeping::method_class_kept))]
     pub fn named_class(&self, class: ClassId, index: u32) -> Option<ClassId>
         ensures { IfSome result (λ id. KeepsMethodClass self.now class.0 index id) }
@@ -165,11 +166,48 @@ impl References {
         }
     }
 
+    // What the reference to a method resolves to is searched for and kept.
+    #[inline(never)]
+    #[tactic(auto, using(crate::proofs::Finding::named_within, crate::proofs::Keeping::method_right, crate::proofs::Finding::method_absent))]
+    fn search_method(
+        &mut self,
+        program: &Program,
+        seen: &mut Consulted,
+        class: ClassId,
+        index: u32,
+        reference: &MethodRef,
+    ) -> Result<Result<Callee, Fault>, Memory>
+        requires table { IsTableOf program.now self.old }
+        requires seen { IsConsultedOf program.now seen.old }
+        requires entry { IsEntry program.now class.0 index (Method reference.now) }
+        ensures answer { IfOk result (λ a. ResolvesMethodRef program.now reference.now a) }
+        ensures consults { OnOk result (
+            Consults program.now reference.now.class seen.old seen.new) }
+        ensures table { IsTableOf program.now self.new }
+    {
+        let named = class_of(*self.rows.allocator(), program, seen, &reference.class)?;
+        match named {
+            Ok(id) => {
+                let answer = resolve_method(program, &mut self.searching, id, reference)?;
+                keep(
+                    &mut self.rows,
+                    program,
+                    class,
+                    index,
+                    Kept::Method(id, answer),
+                )?;
+                Ok(answer)
+            }
+            Err(fault) => Ok(Err(fault)),
+        }
+    }
+
     /// What the reference to a method at an index of a class's constant pool resolves to (JVMS
     /// 5.4.3.3, 5.4.3.4): a method, NoClassDefFoundError, NoSuchMethodError or
     /// IncompatibleClassChangeError. The class that it names is consulted. Where it was asked
     /// before it takes two indices and no text, unless there is no such class.
-    #[tactic(auto, using(crate::proofs::Finding::named_within, crate::proofs::Keeping::method_right, crate::proofs::Finding::method_absent))]
+    #[inline(always)]
+    #[tactic(auto, using(crate::proofs::Finding::named_within))]
     pub fn method(
         &mut self,
         program: &Program,
@@ -190,20 +228,7 @@ impl References {
             consult(program, seen, kept.0)?;
             return Ok(kept.1);
         }
-        let named = class_of(*self.rows.allocator(), program, seen, &reference.class)?;
-        match named {
-            Ok(id) => {
-                let answer = resolve_method(program, &mut self.searching, id, reference)?;
-                keep(
-                    &mut self.rows,
-                    program,
-                    class,
-                    index,
-                    Kept::Method(id, answer),
-                )?;
-                Ok(answer)
-            }
-            Err(fault) => Ok(Err(fault)),
-        }
+        let answer = self.search_method(program, seen, class, index, reference)?;
+        Ok(answer)
     }
 }

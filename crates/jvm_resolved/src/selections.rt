@@ -35,6 +35,7 @@ impl Model for Selections {
 }
 
 // Whether two flags agree.
+#[inline(always)]
 fn agree(one: bool, other: bool) -> bool
     ensures { result ≡ same_bool one other }
 {
@@ -42,6 +43,7 @@ fn agree(one: bool, other: bool) -> bool
 }
 
 // Whether two objects are of one class, or arrays of it.
+#[inline(always)]
 fn are_alike(one: Receiver, other: Receiver) -> bool
     ensures { result ≡ same_receiver one other }
 {
@@ -94,6 +96,7 @@ impl Selections {
     }
 
     // What is kept of such an object, of the resolved method.
+    #[inline(always)]
     #[tactic(auto, using(crate::proofs::Selected::virtual_kept))]
     fn kept_virtual(
         &self,
@@ -116,6 +119,7 @@ impl Selections {
     }
 
     // What is kept of such an object, by name and descriptor.
+    #[inline(always)]
     #[tactic(auto, using(crate::proofs::Selected::named_kept))]
     fn kept_named(&self, class: ClassId, index: u32, to: Receiver) -> Option<Result<Callee, Fault>>
         ensures { IfSome result (λ a. KeepsNamed self.now class.0 index to a) }
@@ -132,11 +136,69 @@ impl Selections {
         }
     }
 
+    // What the object selects of the resolved method is searched for and kept.
+    #[inline(never)]
+    #[tactic(auto, using(crate::proofs::Selected::virtual_right))]
+    fn search_virtual(
+        &mut self,
+        program: &Program,
+        class: ClassId,
+        index: u32,
+        reference: &MethodRef,
+        resolved: Callee,
+        to: Receiver,
+    ) -> Result<Result<Callee, Fault>, Memory>
+        requires table { IsTableOf program.now self.old }
+        requires entry { IsEntry program.now class.0 index (Method reference.now) }
+        requires resolved { ResolvesMethodRef program.now reference.now (Ok resolved) }
+        requires class { to.class.0 < length program.now }
+        ensures answer { IfOk result (λ a. SelectsVirtual program.now reference.now to a) }
+        ensures table { IsTableOf program.now self.new }
+    {
+        let answer = find_virtual(program, &mut self.searching, to, reference, resolved)?;
+        keep(
+            &mut self.rows,
+            program,
+            class,
+            index,
+            Kept::Virtual(to, answer),
+        )?;
+        Ok(answer)
+    }
+
+    // What it selects by name and descriptor is searched for and kept.
+    #[inline(never)]
+    #[tactic(auto, using(crate::proofs::Selected::named_right))]
+    fn search_named(
+        &mut self,
+        program: &Program,
+        class: ClassId,
+        index: u32,
+        reference: &MethodRef,
+        to: Receiver,
+    ) -> Result<Result<Callee, Fault>, Memory>
+        requires table { IsTableOf program.now self.old }
+        requires entry { IsEntry program.now class.0 index (Method reference.now) }
+        requires class { to.class.0 < length program.now }
+        ensures answer { IfOk result (λ a. SelectsByName program.now reference.now to a) }
+        ensures table { IsTableOf program.now self.new }
+    {
+        let answer = find_named(program, &mut self.searching, to, reference)?;
+        keep(
+            &mut self.rows,
+            program,
+            class,
+            index,
+            Kept::Named(to, answer),
+        )?;
+        Ok(answer)
+    }
+
     /// The method that an object of this class, or an array of it, runs at an `invokevirtual` whose
     /// reference is at an index of a class's constant pool and resolves to this method (JVMS
     /// 5.4.6): as `select_virtual` of `jvm_link`. Where the last object there was of this class it
     /// takes two indices.
-    #[tactic(auto, using(crate::proofs::Selected::virtual_right))]
+    #[inline(always)]
     pub fn select_virtual(
         &mut self,
         program: &Program,
@@ -156,14 +218,7 @@ impl Selections {
         if let Some(answer) = self.kept_virtual(class, index, to) {
             return Ok(answer);
         }
-        let answer = find_virtual(program, &mut self.searching, to, reference, resolved)?;
-        keep(
-            &mut self.rows,
-            program,
-            class,
-            index,
-            Kept::Virtual(to, answer),
-        )?;
+        let answer = self.search_virtual(program, class, index, reference, resolved, to)?;
         Ok(answer)
     }
 
@@ -171,7 +226,7 @@ impl Selections {
     /// and the one that an `invokespecial` runs from this superclass on (JVMS 5.4.6, 6.5): as
     /// `select_named` of `jvm_link`. Where the last object there was of this class it takes two
     /// indices.
-    #[tactic(auto, using(crate::proofs::Selected::named_right))]
+    #[inline(always)]
     pub fn select_named(
         &mut self,
         program: &Program,
@@ -189,14 +244,7 @@ impl Selections {
         if let Some(answer) = self.kept_named(class, index, to) {
             return Ok(answer);
         }
-        let answer = find_named(program, &mut self.searching, to, reference)?;
-        keep(
-            &mut self.rows,
-            program,
-            class,
-            index,
-            Kept::Named(to, answer),
-        )?;
+        let answer = self.search_named(program, class, index, reference, to)?;
         Ok(answer)
     }
 }

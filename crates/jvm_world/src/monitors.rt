@@ -5,6 +5,7 @@ ghost use Rattle.std.proofs.Common.{get_or};
 ghost use Rattle.jvm_world.specs.Holding.{opened, Opens};
 
 use class_model::Memory;
+use jvm_marks::make_place;
 use std::alloc::Global;
 use std::marker::Model;
 
@@ -45,7 +46,7 @@ impl Monitors {
         ensures opened { OnOk result (Opens object (opened object self.old + 1) self.old self.new) }
         ensures err { OnErr result ((x : ℕ) → opened x self.new ≡ opened x self.old) }
     {
-        make_count(&mut self.counts, object as usize)?;
+        make_place(&mut self.counts, object as usize, 0)?;
         let count = count_in(&self.counts, object as usize);
         put_count(&mut self.counts, object as usize, count + 1);
         Ok(())
@@ -76,17 +77,6 @@ fn count_in(counts: &[u64], object: usize) -> u64
         return 0;
     };
     *count
-}
-
-// Makes place for a count.
-fn make_count(counts: &mut Vec<u64>, at: usize) -> Result<(), Memory>
-    ensures same { (x : ℕ) → opened x counts.new.items ≡ opened x counts.old.items }
-    ensures place { OnOk result (at < length counts.new.items) }
-{
-    while counts.len() <= at {
-        counts.push(0)?;
-    }
-    Ok(())
 }
 
 // Puts a count where there is place for it.

@@ -5,6 +5,7 @@ ghost use Rattle.std.proofs.Common.{get_or};
 ghost use Rattle.jvm_world.specs.Holding.{held, Stores, HoldSame};
 
 use class_model::{ClassId, Memory};
+use jvm_marks::make_place;
 use program_rules::Value;
 use std::alloc::Global;
 use std::marker::Model;
@@ -111,7 +112,7 @@ impl Row {
         ensures same { (l : ℕ) → get_or self.new l None ≡ get_or self.old l None }
         ensures place { OnOk result (place < length self.new) }
     {
-        make_slot(&mut self.values, place)
+        make_place(&mut self.values, place, None)
     }
 
     // Puts a value where there is place for it.
@@ -122,15 +123,4 @@ impl Row {
     {
         self.values[place] = Some(value);
     }
-}
-
-// Makes sure that a list of values has a place.
-fn make_slot(values: &mut Vec<Option<Value>>, at: usize) -> Result<(), Memory>
-    ensures same { (l : ℕ) → get_or values.new.items l None ≡ get_or values.old.items l None }
-    ensures place { OnOk result (at < length values.new.items) }
-{
-    while values.len() <= at {
-        values.push(None)?;
-    }
-    Ok(())
 }

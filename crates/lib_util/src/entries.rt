@@ -36,43 +36,39 @@ fn entry_item(part: usize, items: &[Value], number: i32) -> Option<(u32, Value)>
     Some((i, *v))
 }
 
-/// `$hash(I)`
-pub fn hash(objects: &[Object], args: &[Value]) -> Deed
-    ensures { Answers def.entry_hash objects.now args.now result }
+// One of the three values of the entry at a place.
+fn entry_part(part: usize, objects: &[Object], args: &[Value]) -> Deed
+    requires { part < 3 }
+    ensures { Answers (def.entry_part part) objects.now args.now result }
 {
     let Some((object, number)) = receiver_int(objects, args) else {
         return Deed::NoDeed;
     };
-    match entry_item(0, object.items.as_slice(), number) {
+    match entry_item(part, object.items.as_slice(), number) {
         Some((_, v)) => Deed::Gives(Some(v)),
         None => Deed::Throws(Fault::IndexOutOfBoundsException),
     }
+}
+
+/// `$hash(I)`
+pub fn hash(objects: &[Object], args: &[Value]) -> Deed
+    ensures { Answers def.entry_hash objects.now args.now result }
+{
+    entry_part(0, objects, args)
 }
 
 /// `$key(I)`
 pub fn key(objects: &[Object], args: &[Value]) -> Deed
     ensures { Answers def.entry_key objects.now args.now result }
 {
-    let Some((object, number)) = receiver_int(objects, args) else {
-        return Deed::NoDeed;
-    };
-    match entry_item(1, object.items.as_slice(), number) {
-        Some((_, v)) => Deed::Gives(Some(v)),
-        None => Deed::Throws(Fault::IndexOutOfBoundsException),
-    }
+    entry_part(1, objects, args)
 }
 
 /// `$value(I)`
 pub fn value(objects: &[Object], args: &[Value]) -> Deed
     ensures { Answers def.entry_value objects.now args.now result }
 {
-    let Some((object, number)) = receiver_int(objects, args) else {
-        return Deed::NoDeed;
-    };
-    match entry_item(2, object.items.as_slice(), number) {
-        Some((_, v)) => Deed::Gives(Some(v)),
-        None => Deed::Throws(Fault::IndexOutOfBoundsException),
-    }
+    entry_part(2, objects, args)
 }
 
 /// `$set(I Object)`

@@ -19,5 +19,5 @@ mod steps;
 mod tests;
 
 pub use calls::{apply, edited_parts};
-pub use list_calls::{class_mutants, count_mutants, mutators, row};
-pub use steps::{index_of, long_enough, moved_row, places};
+pub use list_calls::{class_mutants, row};
+pub use steps::{index_of, long_enough, places};

@@ -1,23 +1,14 @@
-//! The steps of an edit: where a row, a frame, an entry and an instruction stand afterwards.
+//! The steps of an edit: where a frame, an entry and an instruction stand afterwards.
 
 ghost use Rattle.std.specs.Prelude.{◌≡◌, ◌<◌, ◌^◌, IfOk};
 ghost use Rattle.mt_insn.specs.Code.{code_length, places};
 ghost use Rattle.mutant_apply.specs.Entries.{index_of};
-ghost use Rattle.mutant_apply.specs.Moved.{moved_place, moved_row, long_enough};
-ghost use Rattle.mutant_apply.specs.Room.{Adds, IsNearRow};
+ghost use Rattle.mutant_apply.specs.Moved.{long_enough};
+ghost use Rattle.mutant_apply.specs.Room.{Adds};
 
-use class_model::{Const, Insn, Memory, Row, Seq, Shape};
-use mutant_apply::{PlaceMap, Refusal};
+use class_model::{Const, Insn, Memory, Seq, Shape};
+use mutant_apply::Refusal;
 use std::alloc::Global;
-
-/// `mutant_apply::moved_row`.
-pub fn moved_row(by: PlaceMap, row: Row) -> Row
-    requires { IsNearRow row }
-    ensures { result ≡ moved_row (moved_place by.at by.more) row }
-{
-    let moved = mutant_apply::moved_row(by, row);
-    moved
-}
 
 /// `mutant_apply::long_enough`.
 pub fn long_enough(delta: u64, shape: Shape) -> Shape

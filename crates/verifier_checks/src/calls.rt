@@ -1,7 +1,7 @@
 //! A function for each public call over which wrong bodies are tried, with the call's contract.
 
 ghost use Rattle.std.specs.Prelude.{◌≡◌, IfNone, IfOk, IfSome};
-ghost use Rattle.program_rules.specs.Instructions.{ArrayLoad, LongStore, NullConstant, ReferenceReturn};
+ghost use Rattle.program_rules.specs.Instructions.{ArrayLoad, NullConstant, ReferenceReturn};
 ghost use Rattle.type_rules.specs.References.{classes_of};
 ghost use Rattle.type_rules.specs.Assignability.{name_assignable};
 ghost use Rattle.class_table.specs.Table.{look};
@@ -43,14 +43,6 @@ pub fn null_constant(f: &mut Frame, room: u16) -> Result<Answer, Memory>
 {
     let a = type_rows::null_constant(f, room)?;
     Ok(a)
-}
-
-/// `type_rows::long_store`
-pub fn long_store(f: &mut Frame, room: u16, n: u16) -> Answer
-    ensures { RowIs (LongStore n) room f.old result f.new }
-{
-    let stored = type_rows::long_store(f, room, n);
-    stored
 }
 
 /// `type_rows::array_load`

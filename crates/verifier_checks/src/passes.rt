@@ -1,30 +1,15 @@
 //! The calls of `type_pass` over which wrong bodies are tried, with their contracts.
 
-ghost use Rattle.std.specs.Prelude.{◌≡◌, ◌<◌, ◌^◌, IfOk, length};
-ghost use Rattle.type_rules.specs.References.{classes_of, throwable_name};
-ghost use Rattle.class_table.specs.Table.{look};
-ghost use Rattle.vframes.specs.Named.{IsClosed};
+ghost use Rattle.std.specs.Prelude.{◌<◌, ◌^◌, IfOk, length};
 ghost use Rattle.type_row.specs.Means.{IsSite};
-ghost use Rattle.type_pass.specs.Handlers.{is_thrown};
 ghost use Rattle.type_pass.specs.Passes.{FirstFaultIs, HandledRow};
 
 use class_link::Instruction;
-use class_model::{Memory, Name};
-use class_table::Program;
+use class_model::Memory;
 use handler_rows::Handler;
 use type_pass::Fault;
 use type_rows::{Answer, Site};
 use vframes::Frame;
-
-/// `type_pass::is_thrown`
-pub fn is_thrown(program: &Program, name: &Name, throwable: &Name) -> bool
-    requires closed { IsClosed program.now }
-    requires throwable { throwable.now ≡ throwable_name }
-    ensures { result ≡ is_thrown (classes_of (look program.now)) name.now }
-{
-    let thrown = type_pass::is_thrown(program, name, throwable);
-    thrown
-}
 
 /// `type_pass::row_with_handlers`
 pub fn row_with_handlers(

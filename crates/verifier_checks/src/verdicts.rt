@@ -1,28 +1,15 @@
 //! The calls of `program_verifier` over which wrong bodies are tried, with their contracts.
 
-ghost use Rattle.std.specs.Prelude.{◌≡◌, ◌<◌, true, length, Err, IfOk, OnOk};
-ghost use Rattle.type_rules.specs.Rules.{Accepted, ClassAccepted};
-ghost use Rattle.class_table.specs.Table.{look, name_at};
-ghost use Rattle.program_verifier.specs.Programs.{AreNumbered, IsFirstRefused, IsLibraryAccepted, IsRefused};
+ghost use Rattle.std.specs.Prelude.{◌≡◌, true, Err, IfOk, OnOk};
+ghost use Rattle.type_rules.specs.Rules.{Accepted};
+ghost use Rattle.class_table.specs.Table.{look};
+ghost use Rattle.program_verifier.specs.Programs.{AreNumbered, IsFirstRefused, IsLibraryAccepted};
 ghost use Rattle.program_verifier.specs.declared.end.VerifyFault.{VerifyFault};
 ghost use Rattle.program_verifier.specs.declared.end.VerifyEnd.TheVariants.{Refused};
 
-use class_model::ClassId;
 use class_table::Program;
 use program_verifier::VerifyEnd;
 use std::alloc::Global;
-
-/// `program_verifier::verify_class`
-pub fn verify_class(alloc: Global, program: &Program, id: ClassId) -> Result<(), VerifyEnd>
-    requires within { id.0 < length program.now }
-    requires numbered { AreNumbered program.now }
-    requires library { IsLibraryAccepted (look program.now) }
-    ensures yes { OnOk result (ClassAccepted (look program.now) (name_at program.now id.0)) }
-    ensures no { (f : VerifyFault) → result ≡ Err (Refused f) → IsRefused program.now id.0 f }
-{
-    let end = program_verifier::verify_class(alloc, program, id);
-    end
-}
 
 /// `program_verifier::verify`
 pub fn verify(alloc: Global, program: &Program) -> Result<(), VerifyEnd>

@@ -1,4 +1,4 @@
-use Rattle.std.proofs.Common.{◌≡◌, ◌∙◌, sym, subst, map, length, Some, None, arith}
+use Rattle.std.proofs.Common.{◌≡◌, sym, subst, map, length, arith}
 use Rattle.std.specs.Arc.{arc_value}
 use Rattle.std.proofs.lemmas.List.{length-map}
 use Rattle.class_order.specs.Above.{AreRanked, AreRows}

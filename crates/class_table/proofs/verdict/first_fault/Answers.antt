@@ -1,4 +1,4 @@
-use Rattle.std.proofs.Common.{◌≡◌, ◌∙◌, sym, subst, map, length, Some, None}
+use Rattle.std.proofs.Common.{◌∙◌, subst, map}
 use Rattle.std.specs.Arc.{arc_value}
 use Rattle.std.proofs.lemmas.List.{length-map}
 use Rattle.class_table.specs.Table.{names, AreDistinct}

@@ -12,4 +12,4 @@ returns-in_ok-done-in-Get-clause-row c = λ x same kind.
 pub returns-in_ok-done-in-Put-clause-row : goal.returns-in_ok-done-in-Put-clause-row
 returns-in_ok-done-in-Put-clause-row c = λ x same kind.
     subst (λ k. Runs c.args.p.now (slot_row k x) c.in_ok-done-in-Put.done c.args.frames.now c.put_field.new.frames c.args.world.now c.put_field.new.world) (sym c.in-Put.is)
-    (c.in_ok-done-in-Put.ensures.row x same (kind (field_of c.field_at-field.result.now) c.field_at-field.ensures ∙ ap kind_of (sym c.deref.ensures)))
+    (c.in_ok-done-in-Put.ensures.row x same (kind (field_of c.field_at-declared.result.now) c.field_at-declared.ensures ∙ ap kind_of (sym c.deref.ensures)))

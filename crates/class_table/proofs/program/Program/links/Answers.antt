@@ -1,4 +1,4 @@
-use Rattle.std.proofs.Common.{◌≡◌, ◌∙◌, ◌<◌, Some, sym, ap, subst, length, slice_get, arith}
+use Rattle.std.proofs.Common.{◌≡◌, ◌<◌, Some, sym, subst, length, slice_get, arith}
 use Rattle.std.specs.Arc.{arc_value}
 use Rattle.class_table.specs.declared.supers.Supers.{Supers}
 use Rattle.class_table.specs.Table.{IsProgram}

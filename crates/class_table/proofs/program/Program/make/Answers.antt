@@ -1,4 +1,4 @@
-use Rattle.std.proofs.Common.{◌∙◌, ◌++◌, ◌∷◌, [], sym, subst}
+use Rattle.std.proofs.Common.{◌++◌, ◌∷◌, [], sym, subst}
 use Rattle.std.proofs.lemmas.Result.{on_ok_weaker}
 use Rattle.class_table.specs.Walked.{AreTasks, Makes}
 use Rattle.class_table.proofs.Visiting.{last_task, visit_made, close_made, close_known}

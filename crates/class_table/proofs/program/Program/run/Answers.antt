@@ -1,4 +1,4 @@
-use Rattle.std.proofs.Common.{◌≡◌, ◌∙◌, ◌<◌, sym, refl, ap, subst}
+use Rattle.std.proofs.Common.{◌∙◌, ◌<◌, sym, ap, subst}
 use Rattle.program_rules.specs.Programs.{consult_in}
 use Rattle.class_table.specs.Table.{look}
 use Rattle.class_table.specs.Walked.{wanted, AreTasks, weight}

@@ -6,5 +6,5 @@ use Rattle.jvm_field_rows.proofs.slots.Slots.hold.Goals as goal
 pub returns : goal.returns
 returns c =
     let p = c.args.p.now in
-    held_more p c.self.inside.rows.items c.hold.new.rows.items c.args.class.0 c.args.index c.args.slot c.args.reference.now
+    held_more p c.self.inside.rows.items c.hold.new.rows.items c.args.class.0 c.args.index c.args.field c.args.reference.now
     (subst (AreSlots p) (sym c.self.view_is) c.requires.slots) c.requires.entry c.requires.right c.in_ok-hold.ensures.held
