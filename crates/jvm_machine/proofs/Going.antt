@@ -32,7 +32,8 @@ use Rattle.jvm_act.specs.Standing.{AreFramesOf}
 use Rattle.jvm_act.specs.Turned.{TurnedTo, Turned}
 use Rattle.jvm_begin.specs.Begins.{AreWhole}
 use Rattle.jvm_script.specs.Steps.{calling}
-use Rattle.jvm_machine.specs.Going.{GoesTo, ReachesLine}
+use Rattle.jvm_lines.specs.Lines.{ReachesLine}
+use Rattle.jvm_machine.specs.Going.{GoesTo}
 use Rattle.jvm_machine.specs.Machines.{HasFewMonitors, HasMeaning}
 use Rattle.jvm_machine.specs.Programs.{HaveRoomToLand}
 

@@ -1,7 +1,6 @@
 mod Looked
 mod Leaving
 mod Ends
-mod Reached
 mod Finished
 mod Placed
 mod AtLimit

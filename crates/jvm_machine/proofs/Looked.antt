@@ -1,5 +1,5 @@
 -- What is looked up for a program.
-use Rattle.std.proofs.Common.{◌≡◌, ◌∙◌, refl, sym, ap, subst, Bool, true, false, ℕ, ◌<◌, List, ◌++◌, length, map, Option, Some, None, slice_get}
+use Rattle.std.proofs.Common.{◌≡◌, ◌∙◌, refl, ap, subst, Bool, true, false, ℕ, ◌<◌, List, ◌++◌, length, Option, Some, None, slice_get}
 use Rattle.std.specs.Prelude.{◌||◌, is_none}
 use Rattle.std.proofs.lemmas.List.{length-map}
 use Rattle.std.proofs.lemmas.Option.{slice_get_within}

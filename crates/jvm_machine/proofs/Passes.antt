@@ -1,6 +1,6 @@
 -- Steps through frames, of instructions whose lines were reached.
 use Rattle.std.proofs.Common.{◌≡◌, ◌∙◌, ◌<◌, ◌≤◌, refl, sym, ap, subst, ℕ, zero, suc, ◌+◌, ◌-◌, true, false, List, length, Option, None, Some, IfSome, IsSomeAnd, get_or, arith}
-use Rattle.std.specs.Prelude.{ℤ, Bool, ◌^◌, All, slice_get}
+use Rattle.std.specs.Prelude.{Bool, ◌^◌, All, slice_get}
 use Rattle.program_rules.specs.Names.{Name}
 use Rattle.program_rules.specs.Linked.{code_of, method_in}
 use Rattle.machine_rules.specs.declared.machine.Limits.{Limits}
@@ -29,15 +29,18 @@ use Rattle.jvm_act.specs.Standing.{AreFramesOf, Waits}
 use Rattle.jvm_begin.specs.Begins.{AreWhole}
 use Rattle.jvm_act.specs.Turned.{Turned}
 use Rattle.jvm_act.proofs.Executed as executed
+use Rattle.jvm_lines.specs.Lines.{IsLineReached, ReachesLine, lines_of}
+use Rattle.jvm_lines.specs.Marking.{AreMarkedRight, AreReached, Marked}
+use Rattle.jvm_lines.proofs.Reached.{reached_same}
 use Rattle.jvm_machine.specs.declared.advancing.Went.TheVariants as went
+use Rattle.jvm_machine.specs.Advancing.{IsWithin, StaysMachine, StaysMarked, WentTo, went_by}
 use Rattle.jvm_machine.specs.declared.machine.Machine.{Machine}
 use Rattle.jvm_machine.specs.declared.machine.Step.{Step}
 use Rattle.jvm_machine.specs.declared.machine.Step.TheVariants as step
 use Rattle.jvm_machine.specs.declared.taking.Taken.{Taken}
 use Rattle.jvm_machine.specs.declared.taking.Taken.TheVariants as taken
-use Rattle.jvm_machine.specs.Going.{GoesTo, ReachesLine}
+use Rattle.jvm_machine.specs.Going.{GoesTo}
 use Rattle.jvm_machine.specs.Machines.{Answers, HasMeaning, IsMachineOf, IsMachineStill, TellsEnd, ended_with}
-use Rattle.jvm_machine.specs.Marking.{AreMarkedRight, AreReached, IsLineReached, IsWithin, Marked, StaysMachine, StaysMarked, WentTo, lines_of, went_by}
 use Rattle.jvm_machine.specs.Passing.{Fits, HasMark, IsCalm, IsReachedIn, IsUpTo, RunsReached, StaysReady, Took, plus, went_of}
 use Rattle.jvm_machine.specs.Running.{HasRun}
 use Rattle.jvm_machine.proofs.Ends.{tells_end}
@@ -83,7 +86,7 @@ line_there p f g rs is h =
 
 reaches_none : (p : List Info) (w : World) (f g : NumberedFrame) → IsLineReached p f.class f.method f.at (lines_of p w) → IsAt f.class f.method f.at g → ReachesLine p g w w
 reaches_none p w f g h is = λ v m.
-    subst (Means p w) (sym (stays.reached_same p w g v (line_there p f g (lines_of p w) is h) m)) m
+    subst (Means p w) (sym (reached_same p w g v (line_there p f g (lines_of p w) is h) m)) m
 
 module _ (p : List Info) (m : Machine) (code : MethodCode) (marks : List Bool) (fs : NumberedFrames) (u : World) (calm : IsCalm m) (runs : RunsReached p code marks m) (marked : IsSomeAnd m.frames.frame (HasMark marks)) where
   running : (f : NumberedFrame) × (m.frames.frame ≡ Some f) × IsReachedIn p code marks (lines_of p m.world) f

@@ -1,32 +1,27 @@
 -- Steps of the running frame alone are steps of the machine.
-use Rattle.std.proofs.Common.{◌≡◌, ◌∙◌, ◌<◌, ◌≤◌, refl, sym, ap, subst, ℕ, zero, suc, ◌+◌, Bool, true, false, List, [], ◌∷◌, ◌++◌, map, length, Option, None, Some, IfSome, IsSomeAnd, get_or, nat_eq, arith}
-use Rattle.std.specs.Prelude.{ℤ, ◌&&◌, ◌||◌, slice_get, if◌then◌else◌}
-use Rattle.std.proofs.lemmas.Bool.{eqb-true}
-use Rattle.std.proofs.lemmas.Cmp.{nat_list_eq_equiv}
+use Rattle.std.proofs.Common.{◌≡◌, ◌∙◌, ◌<◌, ◌≤◌, refl, sym, ap, subst, ℕ, zero, suc, ◌+◌, Bool, true, false, List, [], ◌∷◌, map, length, Option, None, Some, IfSome, IsSomeAnd, get_or, arith}
+use Rattle.std.specs.Prelude.{ℤ, slice_get}
 use Rattle.std.specs.Option.{option_map}
-use Rattle.program_rules.specs.Names.{Name, same}
-use Rattle.program_rules.specs.Linked.{code_in, code_of, is_from_file, line_at, method_in}
+use Rattle.program_rules.specs.Names.{Name}
+use Rattle.program_rules.specs.Linked.{code_of, method_in}
 use Rattle.machine_rules.specs.declared.machine.Limits.{Limits}
 use Rattle.machine_rules.specs.State as def
 use Rattle.machine_rules.specs.Effects.{goes_with}
 use Rattle.machine_rules.specs.Calls.{room_in}
-use Rattle.machine_rules.specs.Steps.{Stepped, Next, is_reached, line_in, line_of, over_or, reach, reaches, step_of}
+use Rattle.machine_rules.specs.Steps.{Stepped, Next, over_or, reaches, step_of}
 use Rattle.machine_laws.specs.FrameLaw.{IfNext}
 use Rattle.machine_laws.specs.Lines.{KeepsLines}
 use Rattle.machine_laws.proofs.Monitors.{keep_lines}
 use Rattle.class_link.specs.Info.{Info}
 use Rattle.class_link.specs.Symbols.{kind_of}
-use Rattle.class_link.specs.View as view
-use Rattle.class_link.specs.View.{body_of}
 use Rattle.class_table.specs.Table.{look, name_at, entries_at}
 use Rattle.jvm_state.specs.declared.op.Op.{Op}
 use Rattle.jvm_code.specs.Decoded.{named_by}
 use Rattle.jvm_frames.specs.Frames.{NumberedFrame, NumberedFrames, IsAt, framed}
 use Rattle.jvm_frames.specs.Staying.{Stays, StepsAlone, StayOn}
 use Rattle.jvm_world.specs.declared.world.World.{World}
-use Rattle.jvm_world.specs.View.{History, Means, named, world_of}
+use Rattle.jvm_world.specs.View.{Means}
 use Rattle.jvm_unwind.specs.Turns.{frame_of, frames_of, row_at}
-use Rattle.jvm_marks.specs.Marks.{is_listed}
 use Rattle.jvm_unwind.proofs.Left.{with_some}
 use Rattle.jvm_invokes.specs.Invoked.{IsOfMethod}
 use Rattle.jvm_act.specs.declared.methods.MethodCode.{MethodCode}
@@ -34,22 +29,21 @@ use Rattle.jvm_act.specs.Acts.{acting}
 use Rattle.jvm_act.specs.Methods.{IsCodeOf}
 use Rattle.jvm_act.specs.Standing.{AreFramesOf}
 use Rattle.jvm_act.proofs.Executed.{acts_on}
+use Rattle.jvm_lines.specs.Lines.{IsReachedIf, lines_of}
+use Rattle.jvm_lines.specs.Marking.{AreMarkedRight, AreReached, Marked}
+use Rattle.jvm_lines.proofs.Reached.{lines_are, reached_same}
 use Rattle.jvm_machine.specs.declared.machine.Machine.{Machine}
 use Rattle.jvm_machine.specs.declared.machine.Step.TheVariants as step
 use Rattle.jvm_machine.specs.declared.advancing.Went.TheVariants as went
+use Rattle.jvm_machine.specs.Advancing.{WentTo}
 use Rattle.jvm_machine.specs.Going.{going}
 use Rattle.jvm_machine.specs.Machines.{Answers, HasMeaning, IsMachineStill}
-use Rattle.jvm_machine.specs.Marking.{AreMarkedRight, AreReached, IsLineReached, IsMarkedRight, IsReachedIf, Marked, WentTo, lines_of, unmarked}
 use Rattle.jvm_machine.specs.Running.{HasRun}
 use Rattle.jvm_machine.proofs.Ends.{tells_end}
 use Rattle.jvm_machine.proofs.Ran as ran
 use Rattle.jvm_machine.proofs.Stepped as stepped
 
 -- ---- lines that were reached stay so
-
-lines_are : (p : List Info) (w : World) (h : History) (v : def.World) → v ≡ world_of p w h → v.reached ≡ lines_of p w
-unfolding world_of
-lines_are p w h v e = ap (λ (u : def.World). u.reached) e
 
 if_next : (d : Stepped) (t : def.MachineState) (P : def.MachineState → Type 0) → d ≡ Next t → IfNext d P → P t
 if_next d t P e h = subst (λ k. IfNext k P) e h
@@ -79,21 +73,6 @@ has_mark : (marks : List Bool) (at : ℕ) → slice_get marks at ≡ Some true �
 has_mark [] at e = absurd cc
 has_mark (x ∷ xs) zero e = cc
 has_mark (x ∷ xs) (suc at) e = has_mark xs at e
-
-reach_known : (class : Name) (line : ℕ) (rs : List (Name × ℕ)) (b : Bool) → b ≡ true → (if b then rs else rs ++ (class, line) ∷ []) ≡ rs
-reach_known class line rs true e = refl
-reach_known class line rs false e = absurd cc
-
--- A line that was reached before leaves the world as it is.
-world_same : (b : Bool) (class : Name) (line : ℕ) (v : def.World) → IsReachedIf b class line v.reached → (if b then record v { reached = reach class line v.reached } else v) ≡ v
-world_same true class line v h = ap (λ rs. record v { reached = rs }) (reach_known class line v.reached (is_reached class line v.reached) h)
-world_same false class line v h = refl
-
-pub reached_same : (p : List Info) (w : World) (f : NumberedFrame) (v : def.World) → IsLineReached p f.class f.method f.at (lines_of p w) → Means p w v → reaches (look p) (frame_of p f) v ≡ v
-reached_same p w f v reached m =
-    world_same (is_from_file (look p (name_at p f.class))) (name_at p f.class) (line_of (look p) (frame_of p f)) v
-    (subst (IsReachedIf (is_from_file (look p (name_at p f.class))) (name_at p f.class) (line_of (look p) (frame_of p f))) (sym (lines_are p w m.past v m.world))
-    reached)
 
 module _ (p : List Info) (w : World) (callers : List NumberedFrame) (code : MethodCode) (marks : List Bool) (lives : w.over ≡ None) where
   -- The machine with a frame over these.
@@ -189,39 +168,3 @@ many_taken p m class place at n code marks frames thrown lives is of right stays
     subst (λ k. AreReached p k f.0.method marks (lines_of p w)) (sym f.2.class) (subst (λ k. AreReached p class k marks (lines_of p w)) (sym f.2.method) right) in
     λ q limit i s run lt. subst (HasRun p q limit (i + n) s) (sym new_is)
     (runs_on p w cs code marks lives q limit i n s f.0 h.0 of_frame right_of h.2 lt (subst (HasRun p q limit i s) old_is run))
-
--- ---- lines by number
-
-any_step : (a more b r s : Bool) → (a ≡ true → more ≡ true) → (r ≡ true → s ≡ true) → (a && b) || r ≡ true → (more && b) || s ≡ true
-any_step true true true r s f g h = refl
-any_step true false true r s f g h = absurd (let e : false ≡ true = f refl in cc)
-any_step true true false r s f g h = g h
-any_step true false false r s f g h = g h
-any_step false true true r s f g h = refl
-any_step false true false r s f g h = g h
-any_step false false b r s f g h = g h
-
--- A line that is listed by the number of its class is listed by its name.
-listed_named : (p : List Info) (class line : ℕ) (pairs : List (ℕ × ℕ)) → is_listed class line pairs ≡ true → is_reached (name_at p class) line (map (named p) pairs) ≡ true
-listed_named p class line [] h = absurd cc
-listed_named p class line (x ∷ xs) h =
-    any_step (nat_eq x.0 class) (same (name_at p x.0) (name_at p class)) (nat_eq x.1 line) (is_listed class line xs) (is_reached (name_at p class) line (map (named p) xs))
-    (λ e. subst (λ k. same (name_at p x.0) (name_at p k) ≡ true) (eqb-true x.0 class e) (nat_list_eq_equiv.refl (name_at p x.0)))
-    (listed_named p class line xs) h
-
-line_is : (p : List Info) (class place at : ℕ) (m : MethodCode) → IsCodeOf p class place m → line_in (code_of (method_in (look p (name_at p class)) place)) at ≡ line_at at (map view.line_of m.linked.lines)
-line_is p class place at m code =
-    ap (λ o. line_in (code_of o) at) code.there
-    ∙ ap (λ b. line_in (code_in (body_of (entries_at p class) b)) at) code.body
-
-pub line_reached : (p : List Info) (class place at line : ℕ) (m : MethodCode) (w : World) → IsCodeOf p class place m → line ≡ line_at at (map view.line_of m.linked.lines) → is_from_file (look p (name_at p class)) ≡ true → is_listed class line w.reached ≡ true → IsLineReached p class place at (lines_of p w)
-line_reached p class place at line m w code is file listed =
-    subst (λ b. IsReachedIf b (name_at p class) (line_in (code_of (method_in (look p (name_at p class)) place)) at) (lines_of p w)) (sym file)
-    (subst (λ l. is_reached (name_at p class) l (lines_of p w) ≡ true) (is ∙ sym (line_is p class place at m code))
-    (listed_named p class line w.reached listed))
-
--- The marks of a method are among all.
-pub marks_are : (p : List Info) (rs : List (Name × ℕ)) (all : List Marked) (m : Marked) (place class method : ℕ) → m ≡ get_or all place unmarked → m.class ≡ class → m.method ≡ method → AreMarkedRight p all rs → AreReached p class method m.marks rs
-marks_are p rs all m place class method is named placed right =
-    let here : IsMarkedRight p m rs = subst (λ k. IsMarkedRight p k rs) (sym is) (right place) in
-    subst (λ k. AreReached p k method m.marks rs) named (subst (λ k. AreReached p m.class k m.marks rs) placed here)

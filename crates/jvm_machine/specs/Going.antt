@@ -3,14 +3,13 @@ use Rattle.std.specs.Prelude.{ℕ, List, Option}
 use Rattle.machine_rules.specs.declared.machine.Limits.{Limits}
 use Rattle.machine_rules.specs.State as def
 use Rattle.machine_rules.specs.Effects.{Effect}
-use Rattle.machine_rules.specs.Steps.{goes, reaches}
+use Rattle.machine_rules.specs.Steps.{goes}
 use Rattle.class_link.specs.Info.{Info}
 use Rattle.class_table.specs.Table.{look}
-use Rattle.jvm_frames.specs.Frames.{NumberedFrame, NumberedFrames}
+use Rattle.jvm_frames.specs.Frames.{NumberedFrames}
 use Rattle.jvm_world.specs.declared.world.World.{World}
-use Rattle.jvm_world.specs.View.{Moves}
 use Rattle.jvm_unwind.specs.declared.turn.Turn.{Turn}
-use Rattle.jvm_unwind.specs.Turns.{frame_of, frames_of}
+use Rattle.jvm_unwind.specs.Turns.{frames_of}
 use Rattle.jvm_act.specs.Turned.{TurnedTo}
 
 -- In each world of the definitions, over these frames.
@@ -21,7 +20,3 @@ going p q thrown s v = goes (look p) q v thrown (frames_of p s)
 abbrev pub GoesTo :
     List Info → Option ℕ → Turn → NumberedFrames → NumberedFrames → World → World → Type 0
 GoesTo p thrown t old new w u = TurnedTo p (going p w.limits thrown old) t new w u
-
--- The line of the instruction at which a frame stands is reached.
-abbrev pub ReachesLine : List Info → NumberedFrame → World → World → Type 0
-ReachesLine p f w u = Moves p w u (reaches (look p) (frame_of p f))

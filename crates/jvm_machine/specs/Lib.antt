@@ -5,5 +5,5 @@ pub mod Going
 pub mod Ending
 pub mod Result
 pub mod Running
-pub mod Marking
+pub mod Advancing
 pub mod Passing

@@ -7,13 +7,15 @@ use Rattle.class_link.specs.Info.{Info}
 use Rattle.jvm_frames.specs.Frames.{NumberedFrame}
 use Rattle.jvm_act.specs.declared.methods.MethodCode.{MethodCode}
 use Rattle.jvm_act.specs.Methods.{IsCodeOf}
+use Rattle.jvm_lines.specs.Lines.{lines_of}
+use Rattle.jvm_lines.specs.Marking.{AreReached}
+use Rattle.jvm_machine.specs.Advancing.{WentTo}
 use Rattle.jvm_machine.specs.declared.advancing.Went.{Went}
 use Rattle.jvm_machine.specs.declared.advancing.Went.TheVariants as went
 use Rattle.jvm_machine.specs.declared.machine.Machine.{Machine}
 use Rattle.jvm_machine.specs.declared.taking.Taken.{Taken}
 use Rattle.jvm_machine.specs.declared.taking.Taken.TheVariants as taken
 use Rattle.jvm_machine.specs.Machines.{HasMeaning, IsMachineOf}
-use Rattle.jvm_machine.specs.Marking.{AreReached, WentTo, lines_of}
 
 -- No object is thrown in a machine that isn't over.
 pub record IsCalm (m : Machine) : Type 0 where

@@ -2,19 +2,21 @@
 
 ghost use Rattle.std.specs.Prelude.{◌≡◌, ◌<◌, IfOk};
 ghost use Rattle.class_table.specs.Table.{look};
+ghost use Rattle.jvm_lines.specs.Lines.{lines_of};
+ghost use Rattle.jvm_lines.specs.Marking.{AreMarkedRight};
+ghost use Rattle.jvm_machine.specs.Advancing.{IsWithin, StaysMachine, StaysMarked, WentTo, went_by};
 ghost use Rattle.jvm_machine.specs.Machines.{HasFewMonitors, HasMeaning, IsMachineOf};
-ghost use Rattle.jvm_machine.specs.Marking.{AreMarkedRight, IsWithin, StaysMachine, StaysMarked, WentTo, lines_of, went_by};
 ghost use Rattle.jvm_machine.specs.Programs.{IsRunnable};
 ghost use Rattle.jvm_machine.specs.Tables.{AreTablesOf};
 
 use crate::machine::{Machine, Step};
-use crate::marking::MethodMarks;
 use crate::passing::pass_on;
 use crate::stepping::step;
 use crate::tables::Tables;
 use crate::taking::Taken;
 use class_model::Memory;
 use class_table::Program;
+use jvm_lines::MethodMarks;
 use machine_rules::Outcome;
 use std::alloc::Global;
 

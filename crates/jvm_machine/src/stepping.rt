@@ -14,12 +14,12 @@ ghost use Rattle.jvm_machine.specs.Tables.{AreTablesOf};
 
 use crate::executing::take_instruction;
 use crate::machine::{Machine, Step};
-use crate::reaching::reach_line;
 use crate::tables::Tables;
 use class_model::Memory;
 use class_table::Program;
 use jvm_act::{Codes, unwind_frame};
 use jvm_frames::{Frames, Place};
+use jvm_lines::reach_line;
 use jvm_script::call_next;
 use jvm_unwind::Turn;
 use jvm_world::World;
@@ -157,7 +157,7 @@ fn turn_frame(
 }
 
 // What frames do, or the script where none runs.
-#[tactic(auto, using(crate::proofs::Going::calls, crate::proofs::Going::are_whole, crate::proofs::Going::thrown_alone, crate::proofs::Reached::kept_same))]
+#[tactic(auto, using(crate::proofs::Going::calls, crate::proofs::Going::are_whole, crate::proofs::Going::thrown_alone, crate::proofs::Passes::kept_same))]
 fn turn(
     frames: &mut Frames,
     world: &mut World,

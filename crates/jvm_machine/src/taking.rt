@@ -16,13 +16,13 @@ ghost use Rattle.jvm_receivers.specs.Objects.{AreLookups};
 ghost use Rattle.jvm_world.specs.View.{IsWorldOf, IsKept};
 
 use crate::machine::Machine;
-use crate::marking::is_marked;
 use class_family::Walker;
 use class_model::Memory;
 use class_table::Program;
 use jvm_act::{MethodCode, act_beyond};
 use jvm_field_rows::{Layouts, Slots};
 use jvm_frames::Frames;
+use jvm_lines::is_marked;
 use jvm_natives::Natives;
 use jvm_receivers::Lookups;
 use jvm_state::Op;

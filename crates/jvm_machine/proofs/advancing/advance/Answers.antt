@@ -1,7 +1,7 @@
 use Rattle.std.proofs.Common.{◌≡◌, ◌∙◌, ap, subst, sym, arith}
 use Rattle.jvm_machine.specs.declared.taking.Taken.TheVariants as taken
 use Rattle.jvm_machine.specs.Machines.{Answers, HasFewMonitors, IsMachineStill}
-use Rattle.jvm_machine.specs.Marking.{IsWithin, StaysMachine, StaysMarked, WentTo}
+use Rattle.jvm_machine.specs.Advancing.{IsWithin, StaysMachine, StaysMarked, WentTo}
 use Rattle.jvm_machine.specs.Passing.{Took, went_of}
 use Rattle.jvm_machine.proofs.Passes.{machine_by, marked_by, went_on, within_by}
 use Rattle.jvm_machine.proofs.advancing.advance.Goals as goal

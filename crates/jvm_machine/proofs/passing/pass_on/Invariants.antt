@@ -1,6 +1,7 @@
 use Rattle.std.proofs.Common.{◌-◌, ◌≤◌}
 use Rattle.jvm_machine.specs.declared.taking.Taken.TheVariants as taken
-use Rattle.jvm_machine.specs.Marking.{AreMarkedRight, lines_of}
+use Rattle.jvm_lines.specs.Lines.{lines_of}
+use Rattle.jvm_lines.specs.Marking.{AreMarkedRight}
 use Rattle.jvm_machine.specs.Passing.{Took}
 use Rattle.jvm_machine.specs.Tables.{AreTablesOf}
 use Rattle.jvm_machine.proofs.passing.pass_on.Given as goal

@@ -1,6 +1,6 @@
 use Rattle.std.proofs.Common.{◌<◌, ◌≤◌, ◌+◌, ◌-◌, subst, arith}
 use Rattle.std.specs.Prelude.{◌^◌}
-use Rattle.jvm_machine.specs.Marking.{IsWithin, StaysMachine, StaysMarked, WentTo}
+use Rattle.jvm_machine.specs.Advancing.{IsWithin, StaysMachine, StaysMarked, WentTo}
 use Rattle.jvm_machine.specs.declared.advancing.Went.TheVariants as went
 use Rattle.jvm_machine.specs.Running.{start_of}
 use Rattle.jvm_machine.proofs.Ran.{begins, few, meaning, ended, stuck}

@@ -1,5 +1,6 @@
 use Rattle.std.proofs.Common.{◌≡◌, ◌+◌, ◌-◌, ◌≤◌}
-use Rattle.jvm_machine.specs.Marking.{AreMarkedRight, lines_of}
+use Rattle.jvm_lines.specs.Lines.{lines_of}
+use Rattle.jvm_lines.specs.Marking.{AreMarkedRight}
 use Rattle.jvm_machine.specs.Running.{HasRun, start_of}
 use Rattle.jvm_machine.specs.Tables.{AreTablesOf}
 use Rattle.jvm_machine.proofs.running.run.Given as goal

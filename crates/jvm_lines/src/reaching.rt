@@ -7,7 +7,7 @@ ghost use Rattle.class_table.specs.Table.{look, name_at};
 ghost use Rattle.jvm_frames.specs.Frames.{NumberedFrame, IsAt};
 ghost use Rattle.jvm_world.specs.View.{IsWorldOf, IsKept};
 ghost use Rattle.jvm_act.specs.Methods.{IsCodeOf};
-ghost use Rattle.jvm_machine.specs.Going.{ReachesLine};
+ghost use Rattle.jvm_lines.specs.Lines.{ReachesLine};
 
 use class_model::{ClassId, Memory};
 use class_table::Program;

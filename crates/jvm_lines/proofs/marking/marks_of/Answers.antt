@@ -1,7 +1,7 @@
 use Rattle.std.proofs.Common.{◌≡◌, true, subst, sym}
-use Rattle.jvm_machine.specs.Marking.{AreReached}
-use Rattle.jvm_machine.proofs.Stays.{marks_are}
-use Rattle.jvm_machine.proofs.marking.marks_of.Goals as goal
+use Rattle.jvm_lines.specs.Marking.{AreReached}
+use Rattle.jvm_lines.proofs.Marked.{marks_are}
+use Rattle.jvm_lines.proofs.marking.marks_of.Goals as goal
 
 pub returns : goal.returns
 returns c = λ p rs right.

@@ -1,6 +1,6 @@
 use Rattle.std.proofs.Common.{◌≡◌, ◌+◌, ◌-◌, ℕ, length, get_or}
-use Rattle.jvm_machine.specs.Marking.{unmarked}
-use Rattle.jvm_machine.proofs.marking.make_place.Given as goal
+use Rattle.jvm_lines.specs.Marking.{unmarked}
+use Rattle.jvm_lines.proofs.marking.make_place.Given as goal
 
 abbrev pub invariant-loop-alloc : goal.invariant-loop-alloc
 invariant-loop-alloc l = (i : ℕ) → get_or l.all.items i unmarked ≡ get_or l.fn.all.items i unmarked

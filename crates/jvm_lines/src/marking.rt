@@ -6,7 +6,8 @@ ghost use Rattle.program_rules.specs.Names.{Name};
 ghost use Rattle.class_link.specs.Info.{Info};
 ghost use Rattle.jvm_act.specs.Methods.{IsCodeOf};
 ghost use Rattle.jvm_world.specs.View.{IsWorldOf};
-ghost use Rattle.jvm_machine.specs.Marking.{AreMarkedRight, AreReached, IsLineReached, Marks, MarksIn, lines_of, unmarked};
+ghost use Rattle.jvm_lines.specs.Lines.{IsLineReached, lines_of};
+ghost use Rattle.jvm_lines.specs.Marking.{AreMarkedRight, AreReached, Marks, MarksIn, unmarked};
 
 use crate::reaching::{is_from_file, line_of};
 use class_model::{ClassId, Memory};
@@ -26,7 +27,7 @@ pub struct MethodMarks {
 }
 
 impl Model for MethodMarks {
-    ghost use Rattle.jvm_machine.specs.Marking.{Marked};
+    ghost use Rattle.jvm_lines.specs.Marking.{Marked};
 
     ghost Value = { Marked };
 
