@@ -40,6 +40,7 @@ fn place_of(class: ClassId, method: u32) -> usize {
 }
 
 /// Whether there is a mark.
+#[inline(always)]
 pub fn is_marked(marks: &[bool], at: usize) -> bool
     ensures { result ≡ get_or marks.now at false }
 {
@@ -173,6 +174,7 @@ fn marks_at(all: &[MethodMarks], place: usize) -> Option<&MethodMarks>
 }
 
 /// The marks of a method, where there are any.
+#[inline(always)]
 pub fn marks_of(all: &[MethodMarks], class: ClassId, method: u32) -> Option<&[bool]>
     ensures { IfSome result (λ marks. (p : List Info) (rs : List (Name × ℕ)) →
         AreMarkedRight p all.now rs → AreReached p class.0 method marks.now rs) }
