@@ -13,7 +13,7 @@ use class_table::Program;
 use jvm_act::Codes;
 use jvm_field_rows::{Layouts, Slots};
 use jvm_natives::Natives;
-use jvm_receivers::Lookups;
+use jvm_receivers::{Lookups, Owned};
 use jvm_resolved::{References, Selections};
 use jvm_world::MachineClasses;
 use std::alloc::Global;
@@ -87,12 +87,14 @@ impl Tables {
         let _ = p.len();
         let references = References::new(alloc);
         let selections = Selections::new(alloc);
+        let own = Owned::new(alloc);
         let slots = Slots::new(alloc);
         let layouts = Layouts::new(alloc);
         let codes = Codes::new(alloc);
         self.lookups = Lookups {
             references,
             selections,
+            own,
             text: Some(self.natives.known.text),
         };
         self.slots = slots;

@@ -10,13 +10,8 @@ use Rattle.machine_rules.specs.Lookups.{is_array}
 use Rattle.class_model.specs.declared.class.ClassId.{ClassId}
 use Rattle.class_link.specs.Info.{Info}
 use Rattle.class_table.specs.Table.{look, name_at, name_or_none, names}
-use Rattle.jvm_resolved.specs.References.{IsTableOf}
 use Rattle.jvm_resolved.specs.declared.rows.Receiver.{Receiver}
-use Rattle.jvm_receivers.specs.declared.lookups.Lookups.{Lookups}
-use Rattle.jvm_receivers.specs.Objects.{AreLookups, FindsClass, FindsPlace, FindsReceiver, IsClassOf, text_name}
-
-pub lookups_of : (p : List Info) (l : Lookups) → IsTableOf p l.references → IsTableOf p l.selections → FindsClass p text_name l.text → AreLookups p l
-lookups_of p l a b t = record { references = a; selections = b; text = t }
+use Rattle.jvm_receivers.specs.Objects.{FindsClass, FindsPlace, FindsReceiver, IsClassOf, text_name}
 
 pub class_is : (p : List Info) (n : Name) (id : ClassId) → id.0 < length p → name_at p id.0 ≡ n → IsClassOf p n id
 class_is p n id lt e = record { within = lt; named = e }

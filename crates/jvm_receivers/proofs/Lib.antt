@@ -6,3 +6,4 @@ mod Absent
 mod VirtualCalls
 mod Instances
 mod Rows
+mod Owning

@@ -6,7 +6,7 @@ use Rattle.program_rules.specs.declared.fault.Fault.TheVariants.{NullPointerExce
 use Rattle.program_rules.specs.declared.value.Value.{Value}
 use Rattle.program_rules.specs.declared.value.Value.TheVariants.{Int, Long, Ref, Null}
 use Rattle.machine_rules.specs.State as def
-use Rattle.machine_rules.specs.Effects.{Effect, NoRow, on_reference, unless_null}
+use Rattle.machine_rules.specs.Effects.{Effect, on_reference, unless_null}
 use Rattle.class_link.specs.Info.{Info}
 use Rattle.jvm_frames.specs.Frames.{NumberedFrame, NumberedFrames, AreArgs, HasArgs, HasBelow, HasWords, NoArgs, TakesArgs, args_on}
 use Rattle.jvm_frames.specs.declared.frames.Args.{Args}

@@ -1,4 +1,5 @@
 pub mod Targets
+pub mod Owned
 pub mod Objects
 pub mod Receivers
 pub mod Selected

@@ -22,6 +22,7 @@ use Rattle.jvm_type_rows.specs.Instances.{is_kind_within}
 use Rattle.jvm_world.specs.declared.world.World.{World}
 use Rattle.jvm_world.specs.View.{Means}
 use Rattle.jvm_receivers.specs.declared.lookups.Lookups.{Lookups}
+use Rattle.jvm_receivers.specs.Owned.{AreOwned}
 
 -- ---- classes by their names
 
@@ -88,8 +89,9 @@ interface_in p r k =
 
 -- ---- what is kept
 
--- What is kept of a program's resolutions and selections is right.
+-- What is kept of a program's resolutions and selections, and of what references name, is right.
 pub record AreLookups (p : List Info) (l : Lookups) : Type 0 where
   pub references : IsTableOf p l.references
   pub selections : IsTableOf p l.selections
+  pub own : AreOwned p l.own
   pub text : FindsClass p text_name l.text

@@ -5,6 +5,7 @@
 mod interfaces;
 mod invoking;
 mod lookups;
+mod owned;
 mod receivers;
 mod selected;
 mod special;
@@ -13,4 +14,5 @@ mod virtuals;
 
 pub use invoking::{Invocation, invoke_on};
 pub use lookups::Lookups;
+pub use owned::Owned;
 pub use targets::{Taken, Target, take_target, target_at};

@@ -3,18 +3,22 @@
 ghost use Rattle.std.specs.Prelude.{IfOk};
 ghost use Rattle.jvm_receivers.specs.Objects.{AreLookups, FindsClass, text_name};
 
+use crate::owned::Owned;
 use class_model::{ClassId, Memory};
 use class_table::Program;
 use jvm_catch::ascii;
 use jvm_resolved::{References, Selections};
 use std::alloc::Global;
 
-/// What references resolve to and what objects select, as far as it was asked, and the class of
-/// texts. It depends on the program alone, so it serves all runs of a program.
+/// What references resolve to and what objects select, as far as it was asked, which of them name
+/// their own class, and the class of texts. It depends on the program alone, so it serves all runs
+/// of a program.
 #[derive(Drop)]
 pub struct Lookups {
     pub references: References,
     pub selections: Selections,
+    /// Which references name the class itself or a direct superinterface of it.
+    pub own: Owned,
     /// The class of `java/lang/String`, of which the heap keeps no number.
     pub text: Option<ClassId>,
 }
@@ -29,15 +33,18 @@ fn text_class(alloc: Global, p: &Program) -> Result<Option<ClassId>, Memory>
 }
 
 impl Lookups {
-    /// Nothing was asked yet.
-    #[tactic(auto, using(crate::proofs::Finding::lookups_of))]
+    /// Nothing was asked yet. One class is looked up by its name, that of texts.
     pub fn new(alloc: Global, p: &Program) -> Result<Lookups, Memory>
         ensures { IfOk result (λ l. AreLookups p.now l) }
     {
         let text = text_class(alloc, p)?;
+        let references = References::new(alloc);
+        let selections = Selections::new(alloc);
+        let own = Owned::new(alloc);
         Ok(Lookups {
-            references: References::new(alloc),
-            selections: Selections::new(alloc),
+            references,
+            selections,
+            own,
             text,
         })
     }

@@ -1,13 +1,10 @@
 //! `invokespecial` (JVMS 6.5).
 
 ghost use Rattle.std.specs.Prelude.{◌≡◌, ℕ, ◌<◌, length, IfOk, OnOk};
-ghost use Rattle.program_rules.specs.Names.{is_listed, same};
-ghost use Rattle.program_rules.specs.Outlines.{interfaces_in};
 ghost use Rattle.program_rules.specs.Programs.{superclass_in};
 ghost use Rattle.program_rules.specs.Resolution.{MethodAt, is_initializer_name};
 ghost use Rattle.class_link.specs.View.{method_ref_of};
 ghost use Rattle.class_link.specs.declared.linked.Entry.TheVariants.{Method as MethodEntry};
-ghost use Rattle.class_table.specs.Table.{name_at};
 ghost use Rattle.jvm_frames.specs.Frames.{HasWords};
 ghost use Rattle.jvm_link.specs.Answers.{IsCallee};
 ghost use Rattle.jvm_link.specs.Sites.{outline_at};
@@ -16,13 +13,13 @@ ghost use Rattle.jvm_world.specs.View.{IsWorldOf, IsKept};
 ghost use Rattle.jvm_invokes.specs.Calls.{IsThere};
 ghost use Rattle.jvm_invokes.specs.Invoked.{Invokes, StaysOrEnters};
 ghost use Rattle.jvm_receivers.specs.Objects.{AreLookups};
-ghost use Rattle.jvm_receivers.specs.Receivers.{RunsIn, is_own, special_above, special_looking, special_on};
+ghost use Rattle.jvm_receivers.specs.Receivers.{RunsIn, special_above, special_looking, special_on};
 ghost use Rattle.jvm_receivers.specs.Targets.{received};
 
 use crate::lookups::Lookups;
 use crate::selected::call_selected;
 use class_family::superclass;
-use class_link::{MethodRef, Shared};
+use class_link::MethodRef;
 use class_model::{ClassId, Memory, Name};
 use class_table::Program;
 use jvm_frames::{Args, Frames};
@@ -49,39 +46,6 @@ fn is_initializer(name: &Name) -> bool
     ensures { result ≡ is_initializer_name name.now }
 {
     name.as_slice() == INITIALIZER.as_slice()
-}
-
-// Whether a name is among these.
-fn is_among(name: &Name, names: &[Shared<Name>]) -> bool
-    ensures { result ≡ is_listed name.now names.now }
-{
-    names.iter().any(|other| **other == *name)
-}
-
-// Whether a name is that of a class.
-fn is_named(p: &Program, class: ClassId, name: &Name) -> bool
-    requires { class.0 < length p.now }
-    ensures { result ≡ same name.now (name_at p.now class.0) }
-{
-    *name == *p.info(class).name()
-}
-
-// Whether a name is that of a direct superinterface of a class.
-fn is_interface_of(p: &Program, class: ClassId, name: &Name) -> bool
-    requires { class.0 < length p.now }
-    ensures { result ≡ is_listed name.now (interfaces_in (outline_at p.now class.0)) }
-{
-    let info = p.info(class);
-    let linked = info.linked();
-    is_among(name, linked.interfaces.as_slice())
-}
-
-// Whether a name is that of a class or of one of its direct superinterfaces.
-fn is_own(p: &Program, class: ClassId, name: &Name) -> bool
-    requires { class.0 < length p.now }
-    ensures { result ≡ is_own p.now class.0 name.now }
-{
-    is_named(p, class, name) || is_interface_of(p, class, name)
 }
 
 // A method is selected from the direct superclass of a class on, and called.
@@ -155,7 +119,8 @@ fn call_looked(
     ensures lookups { AreLookups p.now lookups.new }
 {
     world.consult(p, class)?;
-    if is_own(p, class, &reference.class) {
+    let own = lookups.own.tell(p, class, index, reference)?;
+    if own {
         let done = call_found(frames, world, alloc, p, callee, args)?;
         return Ok(done);
     }
@@ -165,7 +130,9 @@ fn call_looked(
     Ok(done)
 }
 
-/// A method that was found is called on an object.
+/// A method that was found is called on an object. Whether the reference names the class itself or
+/// a direct superinterface is held for its index, so their names are compared at its first call
+/// alone.
 #[tactic(auto, using(jvm_invokes::proofs::Standing::stays))]
 #[inline(always)]
 pub fn call_special(

@@ -1,4 +1,3 @@
-use Rattle.std.proofs.Common.{true}
 use Rattle.jvm_world.specs.View.{kind_in}
 use Rattle.jvm_receivers.proofs.interfaces.is_of.Goals as goal
 

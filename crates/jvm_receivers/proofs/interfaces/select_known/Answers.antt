@@ -1,4 +1,3 @@
-use Rattle.std.proofs.Common.{true, false}
 use Rattle.class_link.specs.View.{method_ref_of}
 use Rattle.jvm_world.specs.View.{kind_in}
 use Rattle.jvm_receivers.proofs.Instances.{of_another, of_interface}

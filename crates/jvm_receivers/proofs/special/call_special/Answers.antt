@@ -1,4 +1,4 @@
-use Rattle.std.proofs.Common.{◌∙◌, sym, ap, true, false}
+use Rattle.std.proofs.Common.{◌∙◌, sym, ap}
 use Rattle.program_rules.specs.Resolution.{is_initializer_name}
 use Rattle.class_link.specs.View.{method_ref_of}
 use Rattle.jvm_receivers.proofs.SpecialCalls.{on_initializer, on_other}

@@ -8,6 +8,7 @@ returns c = record {
   lookups = record {
     references = c.new-references.ensures c.args.p.now;
     selections = c.new-selections.ensures c.args.p.now;
+    own = c.new-own.ensures c.args.p.now;
     text = texts_found c.args.p.now c.args.self.now.natives.known c.requires.natives.known;
   };
   slots = c.new-slots.ensures c.args.p.now;

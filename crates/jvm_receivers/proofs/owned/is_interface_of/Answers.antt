@@ -2,7 +2,7 @@ use Rattle.std.proofs.Common.{◌∙◌, ap}
 use Rattle.program_rules.specs.Names.{is_listed}
 use Rattle.class_link.specs.declared.linked.LinkedClass.{LinkedClass}
 use Rattle.jvm_receivers.proofs.SpecialCalls.{interfaces_are}
-use Rattle.jvm_receivers.proofs.special.is_interface_of.Goals as goal
+use Rattle.jvm_receivers.proofs.owned.is_interface_of.Goals as goal
 
 pub returns : goal.returns
 returns c =
