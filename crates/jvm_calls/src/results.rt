@@ -37,6 +37,7 @@ fn is_reference(kind: &Kind) -> bool
 }
 
 // What is left of an int at a kind.
+#[inline(always)]
 fn narrow_to(kind: &Kind, z: i32) -> i32
     ensures { result ≡ narrow (kind_of kind.now) z }
 {
@@ -54,6 +55,7 @@ fn narrow_to(kind: &Kind, z: i32) -> i32
 /// The int on the top, where the method's result is an int or of a small kind, to which it is
 /// narrowed.
 #[tactic(auto, using(crate::proofs::Given::top_gives, crate::proofs::Given::none_gives, crate::proofs::Given::always_none, crate::proofs::Given::no_int))]
+#[inline(always)]
 pub fn int_result(frames: &Frames, kind: &Option<Kind>) -> Option<Value>
     ensures { IsGiven (int_result (option_map kind_of kind.now)) result frames.now }
 {
@@ -74,6 +76,7 @@ pub fn int_result(frames: &Frames, kind: &Option<Kind>) -> Option<Value>
 
 /// The long on the top, where the method's result is one.
 #[tactic(auto, using(crate::proofs::Given::top_gives, crate::proofs::Given::none_gives, crate::proofs::Given::always_none, crate::proofs::Given::no_long))]
+#[inline(always)]
 pub fn long_result(frames: &Frames, kind: &Option<Kind>) -> Option<Value>
     ensures { IsGiven (long_result (option_map kind_of kind.now)) result frames.now }
 {
@@ -94,6 +97,7 @@ pub fn long_result(frames: &Frames, kind: &Option<Kind>) -> Option<Value>
 
 /// The reference on the top, where the method's result is one.
 #[tactic(auto, using(crate::proofs::Given::top_gives, crate::proofs::Given::none_gives, crate::proofs::Given::always_none, crate::proofs::Given::no_reference))]
+#[inline(always)]
 pub fn reference_result(frames: &Frames, kind: &Option<Kind>) -> Option<Value>
     ensures { IsGiven (reference_result (option_map kind_of kind.now)) result frames.now }
 {

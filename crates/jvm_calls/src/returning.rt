@@ -83,6 +83,7 @@ fn give_back(frames: &mut Frames, world: &mut World, p: &Program, v: Option<Valu
 
 /// `ireturn`: the method's result has to be an int or of a small kind, to which the value is
 /// narrowed.
+#[inline(always)]
 pub fn return_int(frames: &mut Frames, world: &mut World, p: &Program, kind: &Option<Kind>) -> Turn
     requires world { IsWorldOf p.now world.old }
     requires caller { HasCaller p.now frames.old }
@@ -97,6 +98,7 @@ pub fn return_int(frames: &mut Frames, world: &mut World, p: &Program, kind: &Op
 }
 
 /// `lreturn`: the method's result has to be a long.
+#[inline(always)]
 pub fn return_long(frames: &mut Frames, world: &mut World, p: &Program, kind: &Option<Kind>) -> Turn
     requires world { IsWorldOf p.now world.old }
     requires caller { HasCaller p.now frames.old }
@@ -111,6 +113,7 @@ pub fn return_long(frames: &mut Frames, world: &mut World, p: &Program, kind: &O
 }
 
 /// `areturn`: the method's result has to be a reference.
+#[inline(always)]
 pub fn return_reference(
     frames: &mut Frames,
     world: &mut World,

@@ -1,14 +1,13 @@
 // The frames of a machine in one store.
 
-ghost use Rattle.std.specs.Prelude.{◌≡◌, ◌+◌, ◌<◌, ◌≤◌, ◌^◌, true, nat_lt, nat_le, None, [], ◌∷◌, length, map, take, drop, slice_get, OnOk, IfOk, IfSome, IfNone, IsSomeAnd};
-ghost use Rattle.machine_rules.specs.Effects.{locals_of};
+ghost use Rattle.std.specs.Prelude.{◌≡◌, ◌+◌, ◌<◌, ◌≤◌, ◌^◌, true, nat_lt, nat_le, None, [], ◌∷◌, length, map, drop, slice_get, OnOk, IfOk, IfSome, IfNone, IsSomeAnd};
 ghost use Rattle.class_link.specs.Symbols.{kind_of};
-ghost use Rattle.jvm_state.specs.Slots.{locals_in};
 ghost use Rattle.jvm_state.specs.Stores.{IsFrame, operands_at};
 ghost use Rattle.jvm_state.specs.Ops.{is_alone};
 ghost use Rattle.jvm_frames.specs.Staying.{StayOn};
-ghost use Rattle.jvm_frames.specs.Frames.{ActsOn, HasArgs, HasBelow, NoArgs, HasWords, IsAt, IsCut, IsCalled, args_on, instance_args, instance_words, first_frame, left_behind, depth_of, stack_of, gone_on, has_room_for, IsPut, IsAdvanced, IsLanded};
+ghost use Rattle.jvm_frames.specs.Frames.{ActsOn, HasArgs, HasBelow, NoArgs, HasWords, IsAt, IsCut, IsCalled, args_on, instance_words, first_frame, left_behind, depth_of, stack_of, gone_on, has_room_for, IsPut, IsAdvanced, IsLanded};
 
+use crate::instance::put_instance;
 use crate::landing::land_in;
 use crate::pushing::push_in;
 use crate::staying::stay_in;
@@ -59,24 +58,6 @@ fn operands_of<'a>(slots: &'a [Slot], f: &Frame) -> &'a [Slot]
     ensures { result.now ≡ operands_at slots.now f.now }
 {
     &slots[f.floor..f.floor + f.top]
-}
-
-// The instance of a test as the lowest slot, if there is one; the number of slots that it takes.
-fn put_instance(slots: &mut Vec<Slot>, instance: Option<u32>) -> Result<u16, Memory>
-    ensures words { IfOk result (λ n. n ≡ instance_words instance) }
-    ensures within { IfOk result (λ n. n ≤ length slots.new.items) }
-    ensures locals { IfOk result (λ n.
-        locals_in (take n slots.new.items) ≡ locals_of (instance_args instance)) }
-{
-    let Some(number) = instance else {
-        return Ok(0);
-    };
-    if slots.len() == 0 {
-        slots.push(Slot::Ref(number))?;
-    } else {
-        slots[0] = Slot::Ref(number);
-    }
-    Ok(1)
 }
 
 // Whether so many words more are within the room of a stack.
@@ -134,6 +115,7 @@ impl Frames {
     }
 
     /// The value on the top of the running frame's stack.
+    #[inline(always)]
     pub fn top(&self) -> Option<Value>
         ensures some { IfSome result (λ v.
             IsSomeAnd self.now.frame (λ f. f.stack ≡ v ∷ drop 1 f.stack)) }
@@ -145,6 +127,7 @@ impl Frames {
     }
 
     /// The value at a place of the running frame's stack, counted from the top.
+    #[inline(always)]
     pub fn value(&self, place: usize) -> Option<Value>
         ensures { result ≡ slice_get (stack_of self.now.frame) place }
     {
@@ -241,6 +224,7 @@ impl Frames {
     }
 
     /// Whether the running frame's stack has room for a value in the place of so many.
+    #[inline(always)]
     pub fn fits(&self, count: usize, v: Value) -> bool
         requires { count ≤ length (stack_of self.now.frame) }
         ensures { IfSome self.now.frame (λ f. result ≡ has_room_for count v f) }

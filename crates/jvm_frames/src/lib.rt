@@ -3,6 +3,7 @@
 #![tactic(auto)]
 
 mod frames;
+mod instance;
 mod landing;
 mod laws;
 mod pushing;

@@ -61,6 +61,7 @@ fn below_values(operands: &[Slot], sp: usize, count: usize) -> Option<usize>
 }
 
 /// The value at a place of a stack, counted from the top.
+#[inline(always)]
 pub fn value_at(operands: &[Slot], sp: usize, place: usize) -> Option<Value>
     requires { IsStack operands.now sp }
     ensures { result ≡ slice_get (stack_in operands.now sp) place }

@@ -33,6 +33,7 @@ fn has_fields(object: &Object) -> bool
 }
 
 // Whether the object of a number has fields.
+#[inline(always)]
 fn is_instance(world: &World, p: &Program, object: u32) -> bool
     ensures { TellsInstance p.now world.now object result }
 {
@@ -43,6 +44,7 @@ fn is_instance(world: &World, p: &Program, object: u32) -> bool
 }
 
 // The value in a slot of an object that has fields.
+#[inline(always)]
 fn value_in(object: &Object, slot: u32) -> Option<Value>
     ensures { (p : List Info) → Holds (Some (object_of p object.now)) slot result }
 {
@@ -56,6 +58,7 @@ fn value_in(object: &Object, slot: u32) -> Option<Value>
 }
 
 // The value in a slot of the object of a number.
+#[inline(always)]
 fn find_value(world: &World, p: &Program, object: u32, slot: u32) -> Option<Value>
     ensures { FindsValue p.now world.now object slot result }
 {

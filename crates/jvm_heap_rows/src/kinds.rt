@@ -24,6 +24,7 @@ pub fn serves(element: Element, kind: &Kind) -> bool
 }
 
 /// Whether a value is of a kind. Of references this asks no class.
+#[inline(always)]
 pub fn is_of_kind(kind: &Kind, v: Value) -> bool
     ensures { result ≡ is_of_kind (kind_of kind.now) v }
 {
@@ -37,6 +38,7 @@ pub fn is_of_kind(kind: &Kind, v: Value) -> bool
 }
 
 // What is left of an int where it is stored at a kind.
+#[inline(always)]
 fn narrow_int(kind: &Kind, z: i32) -> Value
     ensures { result ≡ narrow_value (kind_of kind.now) (Value.Int z) }
 {
@@ -50,6 +52,7 @@ fn narrow_int(kind: &Kind, z: i32) -> Value
 }
 
 /// What is left of a value where it is stored at a kind.
+#[inline(always)]
 pub fn narrow_to(kind: &Kind, v: Value) -> Value
     ensures { result ≡ narrow_value (kind_of kind.now) v }
 {

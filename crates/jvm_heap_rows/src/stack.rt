@@ -13,6 +13,7 @@ use program_rules::Value;
 
 /// The int at a place of the stack.
 #[tactic(auto, using(crate::proofs::Taken::takes_int, crate::proofs::Taken::there_at, crate::proofs::Taken::no_int_long, crate::proofs::Taken::no_int_ref, crate::proofs::Taken::no_int_null, crate::proofs::Taken::no_int_none))]
+#[inline(always)]
 pub fn int_at(frames: &Frames, place: usize) -> Option<i32>
     ensures some { IfSome result (λ z. TakesInt (drop place (stack_of frames.now.frame)) z
         (drop (place + 1) (stack_of frames.now.frame))) }
@@ -30,6 +31,7 @@ pub fn int_at(frames: &Frames, place: usize) -> Option<i32>
 
 /// The reference at a place of the stack, none for null.
 #[tactic(auto, using(crate::proofs::Taken::takes_ref, crate::proofs::Taken::takes_null, crate::proofs::Taken::there_at, crate::proofs::Taken::no_ref_int, crate::proofs::Taken::no_ref_long, crate::proofs::Taken::no_ref_none))]
+#[inline(always)]
 pub fn reference_at(frames: &Frames, place: usize) -> Option<Option<u32>>
     ensures some { IfSome result (λ o.
         TakesReference (drop place (stack_of frames.now.frame)) o
