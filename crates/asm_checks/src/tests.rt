@@ -33,7 +33,9 @@ const L: [u8; 119] = [
 ];
 
 // Texts and their class files.
-const RIGHT: [(&str, &[u8]); 2] = [
+type RightRow = (&'static str, &'static [u8]);
+
+const RIGHT: [RightRow; 2] = [
     (
         "class A super java/lang/Object flags 33 major 52
 method 9 f (I)Z stack 1 locals 1
@@ -66,7 +68,9 @@ end
 ];
 
 // Texts that state no class, and the first line at fault.
-const WRONG: [(&str, u64); 8] = [
+type WrongRow = (&'static str, u64);
+
+const WRONG: [WrongRow; 8] = [
     ("", 1),
     // no end
     ("class A super B flags 1 major 52\n", 2),
@@ -93,7 +97,7 @@ const WRONG: [(&str, u64); 8] = [
 const HEAD: &str = "class A super B flags 1 major 52\nmethod 1 a ()V stack 1 locals 1\n";
 
 // The same of what stands behind `HEAD`.
-const WRONG_CODES: [(&str, u64); 12] = [
+const WRONG_CODES: [WrongRow; 12] = [
     ("lien 3\nreturn\nend\n", 3),
     // a label that the method doesn't have
     ("goto L\nreturn\nend\n", 3),
@@ -128,24 +132,53 @@ fn told_of(alloc: Global, text: &[u8]) -> Result<Option<u64>, Fail> {
     }
 }
 
+// The number of the first text that is another class; how many there are, where none is.
+fn first_other_class(alloc: Global, rows: &[RightRow]) -> Result<usize, Fail> {
+    for i in 0..rows.len() {
+        let (text, class) = rows[i];
+        let bytes = assemble(alloc, text.as_bytes())?;
+        if bytes.as_slice() != class {
+            return Ok(i);
+        }
+    }
+    Ok(rows.len())
+}
+
+fn other_of_right(alloc: Global) -> Result<usize, Fail> {
+    first_other_class(alloc, &RIGHT)
+}
+
 #[test]
 fn classes_are_assembled(rt: HostRuntime) -> Result<(), Fail> {
-    for (text, class) in RIGHT {
-        let bytes = assemble(rt.alloc(), text.as_bytes())?;
-        assert!(rt; bytes.as_slice() == class);
-    }
+    assert_eq!(rt; other_of_right(rt.alloc())?, 2);
     Ok(())
+}
+
+// The number of the first text, behind this head, of which another line is told; how many there
+// are, where none is.
+fn first_other_line(alloc: Global, head: &str, rows: &[WrongRow]) -> Result<usize, Fail> {
+    for i in 0..rows.len() {
+        let (lines, line) = rows[i];
+        let mut text = Bytes::from_slice(alloc, head.as_bytes())?;
+        text.extend_from_slice(lines.as_bytes())?;
+        if told_of(alloc, text.as_slice())? != Some(line) {
+            return Ok(i);
+        }
+    }
+    Ok(rows.len())
+}
+
+fn other_of_wrong(alloc: Global) -> Result<usize, Fail> {
+    first_other_line(alloc, "", &WRONG)
+}
+
+fn other_of_wrong_codes(alloc: Global) -> Result<usize, Fail> {
+    first_other_line(alloc, HEAD, &WRONG_CODES)
 }
 
 #[test]
 fn first_wrong_lines_are_told(rt: HostRuntime) -> Result<(), Fail> {
-    for (text, line) in WRONG {
-        assert_eq!(rt; told_of(rt.alloc(), text.as_bytes())?, Some(line));
-    }
-    for (lines, line) in WRONG_CODES {
-        let mut text = Bytes::from_slice(rt.alloc(), HEAD.as_bytes())?;
-        text.extend_from_slice(lines.as_bytes())?;
-        assert_eq!(rt; told_of(rt.alloc(), text.as_slice())?, Some(line));
-    }
+    assert_eq!(rt; other_of_wrong(rt.alloc())?, 8);
+    assert_eq!(rt; other_of_wrong_codes(rt.alloc())?, 12);
     Ok(())
 }

@@ -11,7 +11,10 @@ const LEAST: i32 = i32::MIN;
 
 const GREATEST: i32 = i32::MAX;
 
-const INT_OPERATIONS: [(Operation, i32, i32, Option<i32>); 18] = [
+// An operation, its operands, and its result; none where it divides by zero.
+type IntRow = (Operation, i32, i32, Option<i32>);
+
+const INT_OPERATIONS: [IntRow; 18] = [
     (Operation::Plus, LEAST, -1, Some(GREATEST)),
     (Operation::Plus, GREATEST, 1, Some(LEAST)),
     (Operation::Minus, LEAST, 1, Some(GREATEST)),
@@ -36,7 +39,9 @@ const LEAST_LONG: i64 = i64::MIN;
 
 const GREATEST_LONG: i64 = i64::MAX;
 
-const LONG_OPERATIONS: [(Operation, i64, i64, Option<i64>); 18] = [
+type LongRow = (Operation, i64, i64, Option<i64>);
+
+const LONG_OPERATIONS: [LongRow; 18] = [
     (Operation::Plus, LEAST_LONG, -1, Some(GREATEST_LONG)),
     (Operation::Plus, GREATEST_LONG, 1, Some(LEAST_LONG)),
     (Operation::Minus, LEAST_LONG, 1, Some(GREATEST_LONG)),
@@ -57,18 +62,46 @@ const LONG_OPERATIONS: [(Operation, i64, i64, Option<i64>); 18] = [
     (Operation::BitXor, LEAST_LONG, -1, Some(GREATEST_LONG)),
 ];
 
+// The number of the first row with another result; how many rows there are, where none has.
+fn first_other_int(rows: &[IntRow]) -> usize {
+    for i in 0..rows.len() {
+        let (op, a, b, wanted) = rows[i];
+        if int_op(op, a, b) != wanted {
+            return i;
+        }
+    }
+    rows.len()
+}
+
+fn first_other_long(rows: &[LongRow]) -> usize {
+    for i in 0..rows.len() {
+        let (op, a, b, wanted) = rows[i];
+        if long_op(op, a, b) != wanted {
+            return i;
+        }
+    }
+    rows.len()
+}
+
+fn other_int() -> usize {
+    first_other_int(&INT_OPERATIONS)
+}
+
+fn other_long() -> usize {
+    first_other_long(&LONG_OPERATIONS)
+}
+
 #[test]
 fn operations_at_the_edges(rt: HostRuntime) -> Result<(), Fail> {
-    for (op, a, b, wanted) in INT_OPERATIONS {
-        assert_eq!(rt; int_op(op, a, b), wanted, "of the ints {a} and {b}");
-    }
-    for (op, a, b, wanted) in LONG_OPERATIONS {
-        assert_eq!(rt; long_op(op, a, b), wanted, "of the longs {a} and {b}");
-    }
+    assert_eq!(rt; other_int(), 18);
+    assert_eq!(rt; other_long(), 18);
     Ok(())
 }
 
-const INT_SHIFTS: [(ShiftKind, i32, i32, i32); 9] = [
+// What is shifted, the count, and the result.
+type IntShiftRow = (ShiftKind, i32, i32, i32);
+
+const INT_SHIFTS: [IntShiftRow; 9] = [
     (ShiftKind::ShiftLeft, 1, 31, LEAST),
     (ShiftKind::ShiftLeft, 1, 32, 1),
     (ShiftKind::ShiftLeft, 1, -1, LEAST),
@@ -80,7 +113,9 @@ const INT_SHIFTS: [(ShiftKind, i32, i32, i32); 9] = [
     (ShiftKind::ShiftUnsigned, -1, 0, -1),
 ];
 
-const LONG_SHIFTS: [(ShiftKind, i64, i32, i64); 9] = [
+type LongShiftRow = (ShiftKind, i64, i32, i64);
+
+const LONG_SHIFTS: [LongShiftRow; 9] = [
     (ShiftKind::ShiftLeft, 1, 32, 4294967296),
     (ShiftKind::ShiftLeft, 1, 63, LEAST_LONG),
     (ShiftKind::ShiftLeft, 1, 64, 1),
@@ -92,14 +127,38 @@ const LONG_SHIFTS: [(ShiftKind, i64, i32, i64); 9] = [
     (ShiftKind::ShiftUnsigned, -1, 0, -1),
 ];
 
+fn first_other_int_shift(rows: &[IntShiftRow]) -> usize {
+    for i in 0..rows.len() {
+        let (op, a, by, wanted) = rows[i];
+        if int_shift(op, a, by) != wanted {
+            return i;
+        }
+    }
+    rows.len()
+}
+
+fn first_other_long_shift(rows: &[LongShiftRow]) -> usize {
+    for i in 0..rows.len() {
+        let (op, a, by, wanted) = rows[i];
+        if long_shift(op, a, by) != wanted {
+            return i;
+        }
+    }
+    rows.len()
+}
+
+fn other_int_shift() -> usize {
+    first_other_int_shift(&INT_SHIFTS)
+}
+
+fn other_long_shift() -> usize {
+    first_other_long_shift(&LONG_SHIFTS)
+}
+
 #[test]
 fn shifts_go_by_the_low_bits_of_the_count(rt: HostRuntime) -> Result<(), Fail> {
-    for (op, a, by, wanted) in INT_SHIFTS {
-        assert_eq!(rt; int_shift(op, a, by), wanted, "the int {a} by {by}");
-    }
-    for (op, a, by, wanted) in LONG_SHIFTS {
-        assert_eq!(rt; long_shift(op, a, by), wanted, "the long {a} by {by}");
-    }
+    assert_eq!(rt; other_int_shift(), 9);
+    assert_eq!(rt; other_long_shift(), 9);
     Ok(())
 }
 

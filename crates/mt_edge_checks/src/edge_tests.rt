@@ -1,23 +1,13 @@
-use class_model::Bytes;
-use mt_edge::{EdgeFault, HostSink, HostTree, MemSink, MemTree, Meter, Sink, Tree};
-use std::alloc::Global;
+use crate::tree_calls::{Call, CallRow, answer, answers};
+use mt_edge::{HostSink, HostTree, MemSink, MemTree, Meter, Sink, Tree};
 use std::fs::Permissions;
 use std::os::unix::fs::{MetadataExt, PermissionsExt, symlink};
 use std::test::Fail;
 use std::thread::Threads;
 use std::{env, fs, process, thread};
 
-#[derive(Clone, Copy)]
-enum Call {
-    List,
-    Length,
-    Read,
-    Replace,
-}
-
-// Calls of a tree that holds nothing, the bytes that a file gets, and what each call answers: the
-// paths below the folder, the file's length, the bytes that are read, or what became of it.
-const CALLS: [(Call, &str, &str, &str); 14] = [
+// Calls of a tree that holds nothing.
+const CALLS: [CallRow; 14] = [
     (Call::List, "", "", ""),
     (Call::Length, "/below/A.class", "", "nothing"),
     (Call::Read, "/below/A.class", "", "nothing"),
@@ -34,51 +24,6 @@ const CALLS: [(Call, &str, &str, &str); 14] = [
     (Call::Length, "/z.txt", "", "0"),
 ];
 
-fn joined(alloc: Global, folder: &str, paths: &[String]) -> Result<String, Fail> {
-    let mut text = String::new(alloc);
-    for path in paths {
-        text.push_str(path.as_str().strip_prefix(folder).unwrap_or("elsewhere"))?;
-        text.push(' ')?;
-    }
-    Ok(text)
-}
-
-fn found(read: &Result<Option<Bytes>, EdgeFault>) -> &str {
-    match read {
-        Ok(Some(bytes)) => str::from_utf8(bytes.as_slice()).unwrap_or("no text"),
-        Ok(None) => "nothing",
-        Err(_) => "failed",
-    }
-}
-
-fn answer<T: Tree>(
-    alloc: Global,
-    tree: &mut T,
-    call: Call,
-    path: &str,
-    bytes: &str,
-) -> Result<String, Fail> {
-    match call {
-        Call::List => match tree.list(path) {
-            Ok(paths) => joined(alloc, path, paths.as_slice()),
-            Err(_) => Ok(String::from_str(alloc, "failed")?),
-        },
-        Call::Length => match tree.length(path) {
-            Ok(Some(length)) => Ok(format!(in alloc; "{length}")?),
-            Ok(None) => Ok(String::from_str(alloc, "nothing")?),
-            Err(_) => Ok(String::from_str(alloc, "failed")?),
-        },
-        Call::Read => {
-            let read = tree.read(path);
-            Ok(String::from_str(alloc, found(&read))?)
-        }
-        Call::Replace => {
-            let is_done = tree.replace(path, bytes.as_bytes()).is_ok();
-            Ok(String::from_str(alloc, if is_done { "done" } else { "failed" })?)
-        }
-    }
-}
-
 // A folder of one test of this process alone, which isn't there yet.
 fn own_folder(rt: &HostRuntime, test: &str) -> Result<String, Fail> {
     let temp = env::temp_dir(rt)?;
@@ -86,28 +31,42 @@ fn own_folder(rt: &HostRuntime, test: &str) -> Result<String, Fail> {
     Ok(format!(in rt.alloc(); "{}/mutest-{test}-{number}", temp.as_path().as_str())?)
 }
 
+// The number of the first call that one of two trees answers otherwise, the one in memory and the
+// real one; how many there are, where none does.
+fn first_other_of_both(rt: &HostRuntime, folder: &str, rows: &[CallRow]) -> Result<usize, Fail> {
+    let below = format!(in rt.alloc(); "{folder}/below")?;
+    let mut memory = MemTree::new(rt.alloc(), Vec::new(rt.alloc()), Vec::new(rt.alloc()))?;
+    let mut real = HostTree::new(rt);
+    for i in 0..rows.len() {
+        if !answers(rt.alloc(), &mut memory, folder, &rows[i])? {
+            return Ok(i);
+        }
+        if matches!(rows[i].0, Call::Replace) {
+            fs::create_dir_all(rt, below.as_str())?;
+        }
+        if !answers(rt.alloc(), &mut real, folder, &rows[i])? {
+            return Ok(i);
+        }
+    }
+    Ok(rows.len())
+}
+
+fn other_of_calls(rt: &HostRuntime, folder: &str) -> Result<usize, Fail> {
+    first_other_of_both(rt, folder, &CALLS)
+}
+
 #[test]
 fn both_trees_list_read_and_replace(rt: HostRuntime) -> Result<(), Fail> {
     let folder = own_folder(&rt, "both")?;
-    let below = format!(in rt.alloc(); "{folder}/below")?;
-    let mut memory = MemTree::new(rt.alloc(), Vec::new(rt.alloc()), Vec::new(rt.alloc()))?;
-    let mut real = HostTree::new(&rt);
-    for (call, name, bytes, wanted) in CALLS {
-        let path = format!(in rt.alloc(); "{folder}{name}")?;
-        let said = answer(rt.alloc(), &mut memory, call, path.as_str(), bytes)?;
-        assert_eq!(rt; said.as_str(), wanted, "in memory, at {name}");
-        if matches!(call, Call::Replace) {
-            fs::create_dir_all(&rt, below.as_str())?;
-        }
-        let said = answer(rt.alloc(), &mut real, call, path.as_str(), bytes)?;
-        assert_eq!(rt; said.as_str(), wanted, "at {name}");
-    }
+    assert_eq!(rt; other_of_calls(&rt, folder.as_str())?, 14);
     fs::remove_dir_all(&rt, folder.as_str())?;
     Ok(())
 }
 
+type LinkRow = (&'static str, &'static str);
+
 // Links that are made in the folder, by what they lead to and by their names.
-const LINKS: [(&str, &str); 6] = [
+const LINKS: [LinkRow; 6] = [
     ("kept/A.class", "/link.class"),
     ("kept", "/again"),
     (".", "/loop"),
@@ -118,7 +77,7 @@ const LINKS: [(&str, &str); 6] = [
 
 // Calls of the real tree, as above: with these links, the folder `kept` and a file of somebody else
 // in it.
-const CAREFUL_CALLS: [(Call, &str, &str, &str); 21] = [
+const CAREFUL_CALLS: [CallRow; 21] = [
     (Call::Replace, "/kept/A.class", "first", "done"),
     (Call::Replace, "/link.class", "new", "done"),
     (Call::Read, "/kept/A.class", "", "new"),
@@ -153,6 +112,18 @@ const CAREFUL_CALLS: [(Call, &str, &str, &str); 21] = [
     (Call::Replace, "/kept/A.class/below", "", "failed"),
 ];
 
+fn link_all(rt: &HostRuntime, folder: &str, rows: &[LinkRow]) -> Result<(), Fail> {
+    for row in rows {
+        let (original, name) = *row;
+        symlink(rt, original, format!(in rt.alloc(); "{folder}{name}")?)?;
+    }
+    Ok(())
+}
+
+fn make_links(rt: &HostRuntime, folder: &str) -> Result<(), Fail> {
+    link_all(rt, folder, &LINKS)
+}
+
 // A folder in which all that is asked of care stands: links, a file that only its owner may read,
 // and somebody else's file by the name that a new one would be given first.
 fn make_careful(rt: &HostRuntime, folder: &str) -> Result<(), Fail> {
@@ -162,29 +133,48 @@ fn make_careful(rt: &HostRuntime, folder: &str) -> Result<(), Fail> {
     fs::write(rt, theirs.as_str(), "theirs")?;
     fs::write(rt, kept.as_str(), "first")?;
     fs::set_permissions(rt, kept.as_str(), Permissions::from_mode(0o600))?;
-    for (original, name) in LINKS {
-        symlink(rt, original, format!(in rt.alloc(); "{folder}{name}")?)?;
+    make_links(rt, folder)
+}
+
+// The number of the first call that the real tree answers otherwise; how many there are, where it
+// answers none so.
+fn first_other(rt: &HostRuntime, folder: &str, rows: &[CallRow]) -> Result<usize, Fail> {
+    let mut tree = HostTree::new(rt);
+    for i in 0..rows.len() {
+        if !answers(rt.alloc(), &mut tree, folder, &rows[i])? {
+            return Ok(i);
+        }
     }
-    Ok(())
+    Ok(rows.len())
+}
+
+fn other_of_careful_calls(rt: &HostRuntime, folder: &str) -> Result<usize, Fail> {
+    first_other(rt, folder, &CAREFUL_CALLS)
+}
+
+// The number of the first of these names at which no link stands; how many there are, where at
+// each one does.
+fn first_unlinked(rt: &HostRuntime, folder: &str, rows: &[LinkRow]) -> Result<usize, Fail> {
+    for i in 0..rows.len() {
+        let (_, name) = rows[i];
+        let path = format!(in rt.alloc(); "{folder}{name}")?;
+        if !fs::symlink_metadata(rt, path.as_str())?.is_symlink() {
+            return Ok(i);
+        }
+    }
+    Ok(rows.len())
+}
+
+fn unlinked(rt: &HostRuntime, folder: &str) -> Result<usize, Fail> {
+    first_unlinked(rt, folder, &LINKS)
 }
 
 #[test]
 fn the_real_tree_takes_care(rt: HostRuntime) -> Result<(), Fail> {
     let folder = own_folder(&rt, "care")?;
     make_careful(&rt, folder.as_str())?;
-    let mut tree = HostTree::new(&rt);
-    for (call, name, bytes, wanted) in CAREFUL_CALLS {
-        let path = format!(in rt.alloc(); "{folder}{name}")?;
-        let said = answer(rt.alloc(), &mut tree, call, path.as_str(), bytes)?;
-        assert_eq!(rt; said.as_str(), wanted, "at {name}");
-    }
-    for (_, name) in LINKS {
-        let path = format!(in rt.alloc(); "{folder}{name}")?;
-        assert!(rt;
-            fs::symlink_metadata(&rt, path.as_str())?.is_symlink(),
-            "{name}"
-        );
-    }
+    assert_eq!(rt; other_of_careful_calls(&rt, folder.as_str())?, 21);
+    assert_eq!(rt; unlinked(&rt, folder.as_str())?, 6);
     let kept = format!(in rt.alloc(); "{folder}/kept/A.class")?;
     let mode = fs::metadata(&rt, kept.as_str())?.permissions().mode();
     assert_eq!(rt; mode & 0o777, 0o600);

@@ -12,6 +12,8 @@ mod arith_tests;
 mod edge;
 #[cfg(test)]
 mod edge_tests;
+#[cfg(test)]
+mod tree_calls;
 
 pub use arith::{an_operation_has_one_result, int_op};
 pub use edge::{list, put, read, replace, tick};

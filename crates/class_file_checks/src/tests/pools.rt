@@ -45,16 +45,28 @@ fn places_of(alloc: Global, bytes: &[u8]) -> Result<Option<usize>, Fail> {
     }
 }
 
+fn places_of_each_kind(alloc: Global) -> Result<Option<usize>, Fail> {
+    places_of(alloc, &EACH_KIND)
+}
+
+fn places_of_compiled(alloc: Global) -> Result<Option<usize>, Fail> {
+    places_of(alloc, &COMPILED)
+}
+
 #[test]
 fn pools_are_written_as_they_were(rt: HostRuntime) -> Result<(), Fail> {
-    assert!(rt; places_of(rt.alloc(), &EACH_KIND)? == Some(22));
-    assert!(rt; places_of(rt.alloc(), &COMPILED)? == Some(17));
+    assert!(rt; places_of_each_kind(rt.alloc())? == Some(22));
+    assert!(rt; places_of_compiled(rt.alloc())? == Some(17));
     Ok(())
+}
+
+fn each_kind(alloc: Global) -> Result<Seq<Const>, ClassFault> {
+    read_pool(alloc, &mut Cursor::new(&EACH_KIND, 8))
 }
 
 #[test]
 fn entries_are_found_by_their_index(rt: HostRuntime) -> Result<(), Fail> {
-    let pool = read_pool(rt.alloc(), &mut Cursor::new(&EACH_KIND, 8))?;
+    let pool = each_kind(rt.alloc())?;
     let entries = pool.as_slice();
     assert!(rt; matches!(entry_of(entries, 11), Some(Const::Integer(-2))));
     assert!(rt; matches!(entry_of(entries, 12), Some(Const::Float(0x3fc0_0000))));
@@ -75,41 +87,61 @@ fn entries_are_found_by_their_index(rt: HostRuntime) -> Result<(), Fail> {
 }
 
 // What is told where one byte stands in the place of another.
+type Damage = (usize, u8, Option<ClassFault>);
+
+const DAMAGES: [Damage; 16] = [
+    // a tag that is none, and a kind of handle
+    (9, 2, Some(ClassFault::BadTag { at: 17, tag: 2 })),
+    (81, 10, Some(ClassFault::BadTag { at: 89, tag: 10 })),
+    // a text with the byte 0
+    (12, 0, Some(ClassFault::BadText { at: 17 })),
+    // one more place than there are entries, and none behind the long
+    (1, 24, Some(ClassFault::Truncated { at: 108 })),
+    (1, 14, Some(ClassFault::BadIndex { at: 67 })),
+    // no pool has the count 0, but an empty one is read
+    (1, 0, None),
+    // the index 0, and the second place of the long
+    (8, 0, Some(ClassFault::BadIndex { at: 15 })),
+    (79, 14, Some(ClassFault::BadIndex { at: 86 })),
+    // the kind of the handle names a method of an interface
+    (81, 9, Some(ClassFault::BadIndex { at: 90 })),
+    // a field with a method's pair, and a method with a field's
+    (26, 8, Some(ClassFault::BadText { at: 33 })),
+    (43, 5, Some(ClassFault::BadText { at: 50 })),
+    // X, F and (F)V, told at their pairs; [X and [F, told at the class
+    (16, b'X', Some(ClassFault::BadText { at: 28 })),
+    (16, b'F', Some(ClassFault::FloatUsed { at: 28 })),
+    (31, b'F', Some(ClassFault::FloatUsed { at: 45 })),
+    (96, b'X', Some(ClassFault::BadText { at: 106 })),
+    (96, b'F', Some(ClassFault::FloatUsed { at: 106 })),
+];
+
+fn told_of(alloc: Global, pool: &[u8], at: usize, byte: u8) -> Result<Option<ClassFault>, Fail> {
+    let mut bytes = pool.to_vec(alloc)?;
+    if let Some(there) = bytes.get_mut(at) {
+        *there = byte;
+    }
+    Ok(read_pool(alloc, &mut Cursor::new(bytes.as_slice(), 8)).err())
+}
+
+/// The number of the first row of which another fault is told; how many rows there are, where none
+/// is.
+fn first_other(alloc: Global, pool: &[u8], rows: &[Damage]) -> Result<usize, Fail> {
+    for i in 0..rows.len() {
+        let (at, byte, fault) = rows[i];
+        if told_of(alloc, pool, at, byte)? != fault {
+            return Ok(i);
+        }
+    }
+    Ok(rows.len())
+}
+
+fn other_of_damages(alloc: Global) -> Result<usize, Fail> {
+    first_other(alloc, &EACH_KIND, &DAMAGES)
+}
+
 #[test]
 fn damaged_pools(rt: HostRuntime) -> Result<(), Fail> {
-    let damages: [(usize, u8, Option<ClassFault>); 16] = [
-        // a tag that is none, and a kind of handle
-        (9, 2, Some(ClassFault::BadTag { at: 17, tag: 2 })),
-        (81, 10, Some(ClassFault::BadTag { at: 89, tag: 10 })),
-        // a text with the byte 0
-        (12, 0, Some(ClassFault::BadText { at: 17 })),
-        // one more place than there are entries, and none behind the long
-        (1, 24, Some(ClassFault::Truncated { at: 108 })),
-        (1, 14, Some(ClassFault::BadIndex { at: 67 })),
-        // no pool has the count 0, but an empty one is read
-        (1, 0, None),
-        // the index 0, and the second place of the long
-        (8, 0, Some(ClassFault::BadIndex { at: 15 })),
-        (79, 14, Some(ClassFault::BadIndex { at: 86 })),
-        // the kind of the handle names a method of an interface
-        (81, 9, Some(ClassFault::BadIndex { at: 90 })),
-        // a field with a method's pair, and a method with a field's
-        (26, 8, Some(ClassFault::BadText { at: 33 })),
-        (43, 5, Some(ClassFault::BadText { at: 50 })),
-        // X, F and (F)V, told at their pairs; [X and [F, told at the class
-        (16, b'X', Some(ClassFault::BadText { at: 28 })),
-        (16, b'F', Some(ClassFault::FloatUsed { at: 28 })),
-        (31, b'F', Some(ClassFault::FloatUsed { at: 45 })),
-        (96, b'X', Some(ClassFault::BadText { at: 106 })),
-        (96, b'F', Some(ClassFault::FloatUsed { at: 106 })),
-    ];
-    for (at, byte, fault) in damages {
-        let mut bytes = EACH_KIND;
-        if at < bytes.len() {
-            bytes[at] = byte;
-        }
-        let told = read_pool(rt.alloc(), &mut Cursor::new(&bytes, 8)).err();
-        assert!(rt; told == fault, "{byte} at {at}");
-    }
+    assert_eq!(rt; other_of_damages(rt.alloc())?, 16);
     Ok(())
 }
