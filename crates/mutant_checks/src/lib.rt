@@ -7,8 +7,6 @@
 #![tactic(auto)]
 
 mod calls;
-#[cfg(test)]
-mod class_a_tests;
 mod list_calls;
 #[cfg(test)]
 mod list_tests;

@@ -1,13 +1,57 @@
-//! The mutants of a small method for each row of the table.
+//! The mutants of class A, and of a small method for each row of the table.
 
-use crate::small_methods::{Case, PLAIN, agrees};
+use crate::small_methods::{Case, PLAIN, agrees, only, units};
+use class_model::{ClassId, Seq, SharedBytes};
+use class_reader::read_class;
+use class_table::{LibClass, Loaded, Program};
+use mutator_ops::{class_mutants, id_lines, mutants};
+use sample_classes::A;
 use std::alloc::Global;
 use std::test::Fail;
 
-// An instruction alone.
-type OpcodeRow = (u8, &'static str);
+// Where the flags of A stand, those of its method, and the opcode of the jump. The high byte of
+// flags is the first one.
+const CLASS_FLAGS: usize = 91;
 
-const OPCODES: [OpcodeRow; 42] = [
+const METHOD_FLAGS: usize = 103;
+
+const JUMP: usize = 126;
+
+const RETURNS: &str = "A.f(I)Z@3:FALSE_RETURNS\nA.f(I)Z@3:TRUE_RETURNS\n\
+A.f(I)Z@5:FALSE_RETURNS\nA.f(I)Z@5:TRUE_RETURNS\n";
+
+// A byte of A that is changed, what stands there then, the mutants of the jump, and those of the
+// returns. Opcodes and flags are those of JVMS 4.1, 4.6 and 6.5.
+const LISTS: [(usize, u8, &str, &str); 6] = [
+    (
+        JUMP,
+        0x9c,
+        "A.f(I)Z@1:CONDITIONALS_BOUNDARY\nA.f(I)Z@1:NEGATE_CONDITIONALS\n",
+        RETURNS,
+    ),
+    (JUMP, 0x99, "A.f(I)Z@1:NEGATE_CONDITIONALS\n", RETURNS),
+    (JUMP, 0xa7, "", RETURNS),
+    (METHOD_FLAGS, 0x10, "", ""),
+    (METHOD_FLAGS + 1, 0x49, "", ""),
+    (CLASS_FLAGS, 0x10, "", ""),
+];
+
+#[test]
+fn mutants_are_listed_by_their_identifiers(rt: HostRuntime) -> Result<(), Fail> {
+    for (place, byte, jump, returns) in LISTS {
+        let mut bytes = A;
+        bytes[place] = byte;
+        let class = read_class(rt.alloc(), &bytes)?;
+        let mutants = class_mutants(rt.alloc(), &class)?;
+        let text = id_lines(rt.alloc(), mutants.as_slice())?;
+        let wanted = format!(in rt.alloc(); "{jump}{returns}")?;
+        assert!(rt; text.as_slice() == wanted.as_bytes(), "{byte} at {place}");
+    }
+    Ok(())
+}
+
+// An instruction alone.
+const OPCODES: [(u8, &str); 42] = [
     (0x00, ""),
     (0x74, "INVERT_NEGS 00;"),
     (0x75, "INVERT_NEGS 00;"),
@@ -52,67 +96,37 @@ const OPCODES: [OpcodeRow; 42] = [
     (0xc7, "NEGATE_CONDITIONALS c6;"),
 ];
 
-// The number of the first row of which the mutants are others; how many rows there are, where none
-// has others. The same of the tables below.
-fn first_other_opcode(alloc: Global, rows: &[OpcodeRow]) -> Result<usize, Fail> {
-    for i in 0..rows.len() {
-        let (op, wanted) = rows[i];
-        let case = Case { op, ..PLAIN };
-        if !agrees(alloc, &case, wanted)? {
-            return Ok(i);
-        }
-    }
-    Ok(rows.len())
-}
-
-fn other_of_opcodes(alloc: Global) -> Result<usize, Fail> {
-    first_other_opcode(alloc, &OPCODES)
-}
-
 #[test]
 fn opcodes_are_exchanged(rt: HostRuntime) -> Result<(), Fail> {
-    assert_eq!(rt; other_of_opcodes(rt.alloc())?, 42);
+    for (op, wanted) in OPCODES {
+        let case = Case { op, ..PLAIN };
+        assert!(rt; agrees(rt.alloc(), &case, wanted)?, "{op}");
+    }
     Ok(())
 }
 
 // What an `iinc` of local variable 1 adds.
-type AddendRow = (i16, &'static str);
-
-const ADDENDS: [AddendRow; 3] = [
+const ADDENDS: [(i16, &str); 3] = [
     (1, "INCREMENTS local 1 by -1;"),
     (-300, "INCREMENTS local 1 by 300;"),
     (-32768, "INCREMENTS local 1 by 32768;"),
 ];
 
-fn first_other_addend(alloc: Global, rows: &[AddendRow]) -> Result<usize, Fail> {
-    for i in 0..rows.len() {
-        let (number, wanted) = rows[i];
+#[test]
+fn increments_are_negated(rt: HostRuntime) -> Result<(), Fail> {
+    for (number, wanted) in ADDENDS {
         let case = Case {
             op: 0x84,
             number,
             ..PLAIN
         };
-        if !agrees(alloc, &case, wanted)? {
-            return Ok(i);
-        }
+        assert!(rt; agrees(rt.alloc(), &case, wanted)?, "{number}");
     }
-    Ok(rows.len())
-}
-
-fn other_of_addends(alloc: Global) -> Result<usize, Fail> {
-    first_other_addend(alloc, &ADDENDS)
-}
-
-#[test]
-fn increments_are_negated(rt: HostRuntime) -> Result<(), Fail> {
-    assert_eq!(rt; other_of_addends(rt.alloc())?, 3);
     Ok(())
 }
 
 // A call and the method that it calls.
-type CallRow = (u8, &'static str, &'static str, &'static str);
-
-const CALLS: [CallRow; 9] = [
+const CALLS: [(u8, &str, &str, &str); 9] = [
     (0xb6, "g", "()V", "VOID_METHOD_CALLS 57;"),
     (0xb7, "g", "(I)V", "VOID_METHOD_CALLS 57 57;"),
     (0xb8, "g", "()V", "VOID_METHOD_CALLS 00;"),
@@ -129,35 +143,21 @@ const CALLS: [CallRow; 9] = [
     (0xb8, "g", "()LV;", ""),
 ];
 
-fn first_other_call(alloc: Global, rows: &[CallRow]) -> Result<usize, Fail> {
-    for i in 0..rows.len() {
-        let (op, name, desc, wanted) = rows[i];
+#[test]
+fn calls_without_a_result_are_dropped(rt: HostRuntime) -> Result<(), Fail> {
+    for (op, name, desc, wanted) in CALLS {
         let case = Case {
             op,
             called: (name, desc),
             ..PLAIN
         };
-        if !agrees(alloc, &case, wanted)? {
-            return Ok(i);
-        }
+        assert!(rt; agrees(rt.alloc(), &case, wanted)?, "{op} {name}{desc}");
     }
-    Ok(rows.len())
-}
-
-fn other_of_calls(alloc: Global) -> Result<usize, Fail> {
-    first_other_call(alloc, &CALLS)
-}
-
-#[test]
-fn calls_without_a_result_are_dropped(rt: HostRuntime) -> Result<(), Fail> {
-    assert_eq!(rt; other_of_calls(rt.alloc())?, 9);
     Ok(())
 }
 
 // A return, the descriptor of its method, and the method's annotation.
-type ResultRow = (u8, &'static str, &'static str, &'static str);
-
-const RESULTS: [ResultRow; 28] = [
+const RESULTS: [(u8, &str, &str, &str); 28] = [
     (
         0xac,
         "()Z",
@@ -253,29 +253,17 @@ const RESULTS: [ResultRow; 28] = [
     ),
 ];
 
-fn first_other_result(alloc: Global, rows: &[ResultRow]) -> Result<usize, Fail> {
-    for i in 0..rows.len() {
-        let (op, desc, note, wanted) = rows[i];
+#[test]
+fn results_are_others(rt: HostRuntime) -> Result<(), Fail> {
+    for (op, desc, note, wanted) in RESULTS {
         let case = Case {
             op,
             desc,
             note,
             ..PLAIN
         };
-        if !agrees(alloc, &case, wanted)? {
-            return Ok(i);
-        }
+        assert!(rt; agrees(rt.alloc(), &case, wanted)?, "{op} {desc} {note}");
     }
-    Ok(rows.len())
-}
-
-fn other_of_results(alloc: Global) -> Result<usize, Fail> {
-    first_other_result(alloc, &RESULTS)
-}
-
-#[test]
-fn results_are_others(rt: HostRuntime) -> Result<(), Fail> {
-    assert_eq!(rt; other_of_results(rt.alloc())?, 28);
     Ok(())
 }
 
@@ -287,5 +275,52 @@ fn class_initializers_are_mutated(rt: HostRuntime) -> Result<(), Fail> {
         ..PLAIN
     };
     assert!(rt; agrees(rt.alloc(), &case, "MATH 64;")?);
+    Ok(())
+}
+
+fn loaded(alloc: Global, bytes: &[u8]) -> Result<Loaded, Fail> {
+    Ok(Loaded {
+        bytes: SharedBytes::new(alloc, Seq::new(alloc))?,
+        class: read_class(alloc, bytes)?,
+    })
+}
+
+// A library of Object alone.
+fn library(alloc: Global) -> Result<Seq<LibClass>, Fail> {
+    Ok(only(
+        alloc,
+        LibClass {
+            name: units(alloc, "java/lang/Object")?,
+            parent: None,
+            interfaces: Seq::new(alloc),
+            flags: 33,
+            pool: Seq::new(alloc),
+            fields: Seq::new(alloc),
+            methods: Seq::new(alloc),
+        },
+    )?)
+}
+
+// Where the name of A stands.
+const NAME: usize = 13;
+
+#[test]
+fn classes_stand_by_their_names(rt: HostRuntime) -> Result<(), Fail> {
+    let alloc = rt.alloc();
+    let mut b = A;
+    b[NAME] = 66;
+    let mut classes = only(alloc, loaded(alloc, &b)?)?;
+    classes.push(loaded(alloc, &A)?)?;
+    let p = Program::build(alloc, classes, library(alloc)?)?;
+    let ids = Seq::from_slice(alloc, &[ClassId(0), ClassId(2), ClassId(1)])?;
+    let all = mutants(alloc, &p, &ids)?;
+    assert_eq!(rt; all.len(), 12);
+    for (place, class) in [(0, 65), (5, 65), (6, 66), (11, 66)] {
+        let found = all.get(place);
+        assert!(rt;
+            matches!(found, Some(m) if m.class.as_slice() == [class].as_slice()),
+            "{place}"
+        );
+    }
     Ok(())
 }

@@ -60,76 +60,44 @@ fn makes(alloc: Global, file: &[u8], wanted: &[u8]) -> Result<bool, Fail> {
     }
 }
 
-fn pops_a_call(alloc: Global) -> Result<bool, Fail> {
-    makes(alloc, &CALL, &CALL_POPPED)
-}
-
-fn moves_a_new(alloc: Global) -> Result<bool, Fail> {
-    makes(alloc, &NEW, &NEW_MOVED)
-}
-
-fn makes_a_frame_long(alloc: Global) -> Result<bool, Fail> {
-    makes(alloc, &SHORT_FRAME, &LONG_FRAME)
-}
-
 #[test]
 fn what_lies_behind_an_edit_moves(rt: HostRuntime) -> Result<(), Fail> {
-    assert!(rt; pops_a_call(rt.alloc())?, "a call before a switch");
     assert!(rt;
-        moves_a_new(rt.alloc())?,
+        makes(rt.alloc(), &CALL, &CALL_POPPED)?,
+        "a call before a switch"
+    );
+    assert!(rt;
+        makes(rt.alloc(), &NEW, &NEW_MOVED)?,
         "a row's end, and the place of a new"
     );
-    assert!(rt; makes_a_frame_long(rt.alloc())?, "a frame past 63");
+    assert!(rt;
+        makes(rt.alloc(), &SHORT_FRAME, &LONG_FRAME)?,
+        "a frame past 63"
+    );
     Ok(())
-}
-
-fn empties_a_box(alloc: Global) -> Result<bool, Fail> {
-    makes(alloc, &LONG_BOX, &LONG_BOX_EMPTY)
-}
-
-fn empties_a_text(alloc: Global) -> Result<bool, Fail> {
-    makes(alloc, &TEXT, &TEXT_EMPTY)
 }
 
 #[test]
 fn entries_are_found_or_added(rt: HostRuntime) -> Result<(), Fail> {
-    assert!(rt; empties_a_box(rt.alloc())?, "a method");
-    assert!(rt; empties_a_text(rt.alloc())?, "the empty string");
+    assert!(rt; makes(rt.alloc(), &LONG_BOX, &LONG_BOX_EMPTY)?, "a method");
+    assert!(rt; makes(rt.alloc(), &TEXT, &TEXT_EMPTY)?, "the empty string");
     Ok(())
-}
-
-fn negates_the_least_byte(alloc: Global) -> Result<bool, Fail> {
-    makes(alloc, &LEAST_BYTE, &LEAST_BYTE_NEGATED)
-}
-
-fn of_the_least_short(alloc: Global) -> Result<Option<Bytes>, Fail> {
-    first_mutant(alloc, &LEAST_SHORT)
 }
 
 #[test]
 fn an_increment_may_have_no_negation(rt: HostRuntime) -> Result<(), Fail> {
-    assert!(rt; negates_the_least_byte(rt.alloc())?);
-    assert!(rt; of_the_least_short(rt.alloc())?.is_none());
+    assert!(rt; makes(rt.alloc(), &LEAST_BYTE, &LEAST_BYTE_NEGATED)?);
+    assert!(rt; first_mutant(rt.alloc(), &LEAST_SHORT)?.is_none());
     Ok(())
-}
-
-// The file with so many `nop`s between these.
-fn with_nops(alloc: Global, head: &[u8], nops: usize, tail: &[u8]) -> Result<Bytes, Fail> {
-    let mut file = Bytes::from_slice(alloc, head)?;
-    for _ in 0..nops {
-        file.push(0)?;
-    }
-    file.extend_from_slice(tail)?;
-    Ok(file)
-}
-
-fn file_at_bound(alloc: Global) -> Result<Bytes, Fail> {
-    with_nops(alloc, &AT_BOUND_HEAD, AT_BOUND_NOPS, &AT_BOUND_TAIL)
 }
 
 #[test]
 fn a_code_at_its_bound_does_not_grow(rt: HostRuntime) -> Result<(), Fail> {
-    let file = file_at_bound(rt.alloc())?;
+    let mut file = Bytes::from_slice(rt.alloc(), &AT_BOUND_HEAD)?;
+    for _ in 0..AT_BOUND_NOPS {
+        file.push(0)?;
+    }
+    file.extend_from_slice(&AT_BOUND_TAIL)?;
     assert!(rt; first_mutant(rt.alloc(), file.as_slice())?.is_none());
     Ok(())
 }
