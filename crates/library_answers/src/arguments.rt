@@ -1,5 +1,6 @@
 //! The value of a word, with its object in the heap.
 
+use crate::classes::{CLASS, THROWABLE, class_of};
 use class_model::{ClassId, Kind, Memory, Name, Seq};
 use jvm_values::{Heap, HeapFault, ObjKind, Object};
 use lib_core::{NativeEnd, units_of};
@@ -117,30 +118,13 @@ fn put_items(heap: &mut Heap, class: u32, items: Seq<Value>) -> Result<Value, He
 // The object that stands for a class.
 fn put_class(alloc: Global, heap: &mut Heap, name: &str) -> Result<Value, HeapFault> {
     let text = units_of(alloc, name.as_bytes())?;
-    let kind = ObjKind::Plain(ClassId(14));
+    let kind = ObjKind::Plain(ClassId(CLASS));
     put(heap, kind, Seq::new(alloc), text, Seq::new(alloc))
 }
 
 fn object_array(alloc: Global) -> Result<ObjKind, Memory> {
     let name = units_of(alloc, "java/lang/Object".as_bytes())?;
     Ok(ObjKind::Array(Kind::Ref(name)))
-}
-
-// The number of a native class, or of the enum `Hue`.
-fn class_of(word: &str) -> Option<u32> {
-    match word {
-        "List" => Some(2),
-        "Set" => Some(3),
-        "Optional" => Some(5),
-        "Integer" => Some(6),
-        "Long" => Some(7),
-        "Short" => Some(8),
-        "Byte" => Some(9),
-        "Character" => Some(10),
-        "Boolean" => Some(11),
-        "Hue" => Some(13),
-        _ => None,
-    }
 }
 
 // An object whose fields stand in a word.
@@ -156,7 +140,7 @@ fn with_fields(
             let kind = object_array(alloc)?;
             Ok(put_values(heap, kind, fields)?)
         }
-        "Throwable" => Ok(put_values(heap, ObjKind::Plain(ClassId(12)), fields)?),
+        "Throwable" => Ok(put_values(heap, ObjKind::Plain(ClassId(THROWABLE)), fields)?),
         _ => match class_of(word) {
             Some(class) => Ok(put_items(heap, class, fields)?),
             None => anyhow::bail!("an object of no class"),
@@ -181,7 +165,7 @@ fn object(alloc: Global, heap: &mut Heap, word: &str, content: &str) -> anyhow::
 }
 
 // The value of a word: an object with a colon behind what it is, what the line has named, or a
-/// field.
+// field.
 fn argument(alloc: Global, heap: &mut Heap, named: Named, word: &str) -> anyhow::Result<Value> {
     if let Some((kind, content)) = word.split_once(':') {
         return object(alloc, heap, kind, content);

@@ -2,50 +2,17 @@
 //! its arguments, the receiver first; ` | ` stands between calls on one heap.
 
 use crate::arguments::{Named, arguments, number_of};
+use crate::classes::{CLASS_NAMES, KNOWN};
 use crate::ends::{push, push_end, push_list};
-use class_model::{ClassId, Memory, Name};
+use class_model::{Memory, Name};
 use jvm_values::{Heap, HeapFault, Kept, Object};
-use lib_core::{Deed, Known, NativeEnd, perform, units_of};
+use lib_core::{Deed, NativeEnd, perform, units_of};
 use lib_junit::junit_deed;
 use lib_lang::lang_deed;
 use lib_util::util_deed;
 use library_rules::{NATIVES, Native};
 use program_rules::Value;
 use std::alloc::Global;
-
-// The classes of which native methods make objects.
-const KNOWN: Known = Known {
-    text: ClassId(1),
-    list: ClassId(2),
-    set: ClassId(3),
-    iterator: ClassId(4),
-    optional: ClassId(5),
-    integer: ClassId(6),
-    long: ClassId(7),
-    short: ClassId(8),
-    byte: ClassId(9),
-    character: ClassId(10),
-    boolean: ClassId(11),
-};
-
-// The names of the classes by number.
-const CLASS_NAMES: [&str; 15] = [
-    "java/lang/Object",
-    "java/lang/String",
-    "java/util/ArrayList",
-    "java/util/HashSet",
-    "mt/Iter",
-    "java/util/Optional",
-    "java/lang/Integer",
-    "java/lang/Long",
-    "java/lang/Short",
-    "java/lang/Byte",
-    "java/lang/Character",
-    "java/lang/Boolean",
-    "java/lang/Throwable",
-    "Hue",
-    "java/lang/Class",
-];
 
 fn names_of(alloc: Global, words: &[&str]) -> Result<Vec<Name>, Memory> {
     let mut names = Vec::new(alloc);

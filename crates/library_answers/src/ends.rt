@@ -1,5 +1,6 @@
 //! What a call came to, in the words in which arguments are written.
 
+use crate::classes::{HUE, LIST, TEXT, word_of};
 use class_model::{ClassId, Kind, Memory, Name};
 use jvm_values::{Heap, ObjKind, Object};
 use lib_core::NativeEnd;
@@ -52,30 +53,14 @@ fn push_text(out: &mut String, units: &[u16]) -> Result<(), Memory> {
     }
 }
 
-fn word_of(class: ClassId) -> &'static str {
-    match class.0 {
-        2 => "List",
-        3 => "Set",
-        4 => "Iterator",
-        5 => "Optional",
-        6 => "Integer",
-        7 => "Long",
-        8 => "Short",
-        9 => "Byte",
-        10 => "Character",
-        11 => "Boolean",
-        12 => "Throwable",
-        13 => "Hue",
-        14 => "Class",
-        _ => "Object",
-    }
-}
-
 // What is held within another object.
 fn push_held(out: &mut String, object: Option<&Object>) -> Result<(), Memory> {
     match object {
         Some(object) => match &object.kind {
-            ObjKind::Text | ObjKind::Plain(ClassId(1)) => push_chars(out, object.text.as_slice()),
+            ObjKind::Text | ObjKind::Plain(ClassId(TEXT)) => push_chars(
+                out,
+                object.text.as_slice(),
+            ),
             ObjKind::Plain(class) => push(out, word_of(*class)),
             ObjKind::Array(_) => push(out, "array"),
         },
@@ -102,7 +87,10 @@ fn push_fields(heap: &Heap, values: &[Value], out: &mut String) -> Result<(), Me
 
 fn push_object(heap: &Heap, object: &Object, out: &mut String) -> Result<(), Memory> {
     let word = match &object.kind {
-        ObjKind::Text | ObjKind::Plain(ClassId(1)) => return push_text(out, object.text.as_slice()),
+        ObjKind::Text | ObjKind::Plain(ClassId(TEXT)) => return push_text(
+            out,
+            object.text.as_slice(),
+        ),
         ObjKind::Plain(class) => word_of(*class),
         ObjKind::Array(Kind::Char) => "char[]",
         ObjKind::Array(_) => "array",
@@ -147,7 +135,7 @@ fn is_within(object: Option<&Object>, class: &Name) -> Result<bool, Memory> {
         return Ok(false);
     };
     let name = String::from_utf16_lossy(class.allocator(), class.as_slice())?;
-    let is_constant = matches!(object.kind, ObjKind::Plain(ClassId(13)));
+    let is_constant = matches!(object.kind, ObjKind::Plain(ClassId(HUE)));
     Ok(is_constant && name.as_str() == "java/lang/Enum")
 }
 
@@ -176,7 +164,7 @@ pub fn push_end(heap: &Heap, end: &NativeEnd, out: &mut String) -> Result<(), Me
 pub fn push_list(heap: &Heap, v: Value, out: &mut String) -> Result<(), Memory> {
     if let Value::Ref(x) = v {
         if let Some(object) = heap.get(x) {
-            if matches!(object.kind, ObjKind::Plain(ClassId(2))) {
+            if matches!(object.kind, ObjKind::Plain(ClassId(LIST))) {
                 push(out, " leaves ")?;
                 return push_object(heap, object, out);
             }

@@ -4,6 +4,7 @@
 
 mod arguments;
 mod calls;
+mod classes;
 mod ends;
 
 use crate::calls::push_lines;
