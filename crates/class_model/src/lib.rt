@@ -14,12 +14,14 @@ mod declared_name;
 mod descriptor;
 mod edit;
 mod fault;
+pub mod flags;
 mod frame;
 mod instruction;
 mod kind;
 mod list;
 mod memory;
 mod mutator;
+pub mod names;
 mod shared;
 mod text;
 

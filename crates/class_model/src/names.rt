@@ -1,0 +1,59 @@
+//! Names, and texts of ASCII characters.
+
+ghost use Rattle.std.specs.Prelude.{◌≡◌, ◌-◌, nat_eq, length, take, codes, IfOk};
+ghost use Rattle.std.specs.List.{starts_with};
+ghost use Rattle.std.specs.Cmp.Lexicographic.{pointwise};
+
+use crate::list::{Name, Seq};
+use crate::memory::Memory;
+use std::alloc::Global;
+
+/// Whether a name is a text of ASCII characters.
+pub fn is_text(name: &[u16], text: &[u8]) -> bool
+    ensures { result ≡ pointwise nat_eq name.now text.now }
+{
+    match (name, text) {
+        ([], []) => true,
+        ([unit, units @ ..], [byte, bytes @ ..]) => *unit == *byte as u16 && is_text(units, bytes),
+        ([], [_, ..]) => false,
+        ([_, ..], []) => false,
+    }
+}
+
+/// The name of a text of ASCII characters.
+pub fn ascii(alloc: Global, text: &str) -> Result<Name, Memory>
+    ensures { IfOk result (λ name. name ≡ text.now) }
+{
+    ascii_bytes(alloc, text.as_bytes())
+}
+
+/// The name of these ASCII characters.
+pub fn ascii_bytes(alloc: Global, text: &[u8]) -> Result<Name, Memory>
+    ensures { IfOk result (λ name. name ≡ text.now) }
+{
+    let mut units = Vec::with_capacity(alloc, text.len())?;
+    for byte in text {
+        units.push(*byte as u16)?;
+    }
+    Ok(Seq::from_vec(units))
+}
+
+/// Whether a name is an array's descriptor (JVMS 4.4.1).
+pub fn is_array_name(name: &[u16]) -> bool
+    ensures { result ≡ starts_with nat_eq name.now (codes "[") }
+{
+    match name {
+        [] => false,
+        [unit, ..] => *unit == b'[' as u16,
+    }
+}
+
+/// A text without its last unit.
+pub fn without_last(text: &[u16]) -> &[u16]
+    ensures { result.now ≡ take (length text.now - 1) text.now }
+{
+    match text {
+        [front @ .., _] => front,
+        [] => text,
+    }
+}
