@@ -4,3 +4,4 @@ pub mod FormLaws
 pub mod Resolved
 pub mod LineLaws
 pub mod StatedLaws
+pub mod NameLaws

@@ -18,6 +18,7 @@ mod loaded;
 mod long_pool;
 mod named_classes;
 mod named_indices;
+pub mod names;
 mod opcodes;
 mod relinking;
 mod shared;

@@ -1,7 +1,6 @@
 //! Names, and texts of ASCII characters.
 
-ghost use Rattle.std.specs.Prelude.{◌≡◌, ◌-◌, nat_eq, length, take, codes, IfOk};
-ghost use Rattle.std.specs.List.{starts_with};
+ghost use Rattle.std.specs.Prelude.{◌≡◌, nat_eq, IfOk};
 ghost use Rattle.std.specs.Cmp.Lexicographic.{pointwise};
 
 use crate::list::{Name, Seq};
@@ -36,24 +35,4 @@ pub fn ascii_bytes(alloc: Global, text: &[u8]) -> Result<Name, Memory>
         units.push(*byte as u16)?;
     }
     Ok(Seq::from_vec(units))
-}
-
-/// Whether a name is an array's descriptor (JVMS 4.4.1).
-pub fn is_array_name(name: &[u16]) -> bool
-    ensures { result ≡ starts_with nat_eq name.now (codes "[") }
-{
-    match name {
-        [] => false,
-        [unit, ..] => *unit == b'[' as u16,
-    }
-}
-
-/// A text without its last unit.
-pub fn without_last(text: &[u16]) -> &[u16]
-    ensures { result.now ≡ take (length text.now - 1) text.now }
-{
-    match text {
-        [front @ .., _] => front,
-        [] => text,
-    }
 }

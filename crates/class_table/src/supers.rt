@@ -5,16 +5,17 @@ ghost use Rattle.std.specs.Prelude.{◌≡◌, ◌<◌, ◌^◌, ◌++◌, ◌�
 ghost use Rattle.std.specs.List.{list_any};
 ghost use Rattle.std.specs.Option.{option_map, option_copied, option_to_list};
 ghost use Rattle.program_rules.specs.Names.{same, object_name};
-ghost use Rattle.program_rules.specs.Linked.{is_interface};
 ghost use Rattle.class_link.specs.Info.{class_of};
 ghost use Rattle.class_order.specs.Above.{AreFalling, IsOver};
-ghost use Rattle.class_order.specs.Supers.{is_final, is_no_superclass, is_no_interface, is_wrong_superclass};
+ghost use Rattle.class_order.specs.Supers.{is_no_superclass, is_no_interface, is_wrong_superclass};
 ghost use Rattle.class_table.specs.Adding.{shared};
 ghost use Rattle.class_table.specs.Numbers.{IsNumbering};
 ghost use Rattle.class_table.specs.Supers.{misses, names_wrong, numbers_known, IsLinked, AreLinks};
 ghost use Rattle.class_table.specs.Table.{number_of, look};
 
 use class_link::{ClassInfo, Shared};
+use class_model::flags::{is_final, is_interface};
+use class_model::names::is_text;
 use class_model::{Memory, Name};
 use class_order::{Above, Links, is_over};
 use std::alloc::Global;
@@ -42,18 +43,6 @@ pub fn stands_below(supers: &Supers, class: u32, over: u32) -> bool
     ensures { IsTrue result ↔ IsOver supers.now.above.items class over }
 {
     is_over(&supers.above, class, over)
-}
-
-// Whether a name is a text of ASCII characters.
-fn is_text(name: &[u16], text: &[u8]) -> bool
-    ensures { result ≡ same name.now text.now }
-{
-    match (name, text) {
-        ([], []) => true,
-        ([unit, units @ ..], [byte, bytes @ ..]) => *unit == *byte as u16 && is_text(units, bytes),
-        ([], [_, ..]) => false,
-        ([_, ..], []) => false,
-    }
 }
 
 fn is_object(name: &Name) -> bool
@@ -207,20 +196,6 @@ pub fn all_links(
 }
 
 // ---- a super of a wrong kind
-
-// Bit 4 is ACC_FINAL (JVMS 4.1).
-fn is_final(flags: u16) -> bool
-    ensures { result ≡ is_final flags }
-{
-    flags / 16 % 2 == 1
-}
-
-// Bit 9 is ACC_INTERFACE (JVMS 4.1).
-fn is_interface(flags: u16) -> bool
-    ensures { result ≡ is_interface flags }
-{
-    flags / 512 % 2 == 1
-}
 
 fn is_no_superclass(
     infos: &[Arc<ClassInfo, Global>],

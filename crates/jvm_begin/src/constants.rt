@@ -12,8 +12,9 @@ ghost use Rattle.jvm_world.specs.View.{IsWorldOf, IsKept};
 ghost use Rattle.jvm_begin.specs.Constants.{constant_at, constants_in, static_constant, sets_field, words_after, texts_after, words_with, words_with_text, texts_with, texts_in, have_room, Sets, TellsSet, SetsOrEnds};
 ghost use Rattle.jvm_begin.specs.Begins.{setting_at};
 
-use crate::members::{is_interface, static_constant};
+use crate::members::static_constant;
 use class_link::{FieldConstant, LinkedField};
+use class_model::flags::is_interface;
 use class_model::{ClassId, Kind, Memory, Name};
 use class_table::Program;
 use jvm_heap_rows::narrow_to;

@@ -8,7 +8,6 @@ mod members;
 mod need;
 mod ready;
 mod states;
-mod text;
 
 pub use beginning::begin;
 pub use members::is_initializer;

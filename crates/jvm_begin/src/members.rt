@@ -3,37 +3,17 @@
 ghost use Rattle.std.specs.Prelude.{◌≡◌, List};
 ghost use Rattle.std.specs.Option.{option_map, option_copied};
 ghost use Rattle.program_rules.specs.Kinds.{is_int_kind, is_long_kind, is_text_kind};
-ghost use Rattle.program_rules.specs.Linked.{is_static, is_interface, is_abstract, fits_kind};
+ghost use Rattle.program_rules.specs.Linked.{fits_kind};
 ghost use Rattle.program_rules.specs.Outlines.{head_of, is_coded, is_class_initializer};
 ghost use Rattle.class_link.specs.declared.linked.Entry.{Entry};
 ghost use Rattle.class_link.specs.Symbols.{kind_of};
 ghost use Rattle.class_link.specs.View.{method_of, field_of, constant_of};
 ghost use Rattle.jvm_begin.specs.Constants.{static_constant};
 
-use crate::text::is_text;
 use class_link::{FieldConstant, LinkedBody, LinkedField, LinkedMethod};
 use class_model::Kind;
-
-/// Whether a field or a method is static.
-pub fn is_static(flags: u16) -> bool
-    ensures { result ≡ is_static flags }
-{
-    flags / 8 % 2 == 1
-}
-
-/// Whether a method is abstract (JVMS 4.6).
-pub fn is_abstract(flags: u16) -> bool
-    ensures { result ≡ is_abstract flags }
-{
-    flags / 1024 % 2 == 1
-}
-
-/// Whether a class is an interface (JVMS 4.1).
-pub fn is_interface(flags: u16) -> bool
-    ensures { result ≡ is_interface flags }
-{
-    flags / 512 % 2 == 1
-}
+use class_model::flags::{is_abstract, is_static};
+use class_model::names::is_text;
 
 // ---- fields
 

@@ -11,9 +11,9 @@ ghost use Rattle.class_link.specs.View.{method_of};
 ghost use Rattle.jvm_world.specs.View.{IsWorldOf};
 ghost use Rattle.jvm_begin.specs.Needs.{node_at, is_interface_at, TellsState};
 
-use crate::members::{is_abstract, is_interface, is_static};
 use class_link::{LinkedBody, LinkedMethod};
 use class_model::ClassId;
+use class_model::flags::{is_abstract, is_interface, is_static};
 use class_table::Program;
 use jvm_world::World;
 use machine_rules::InitState;

@@ -5,6 +5,6 @@ mod behind;
 mod row;
 mod search;
 
-pub use behind::{ascii, class_behind, element_of, is_array_name, object_name, without_last};
+pub use behind::{class_behind, element_of, object_name};
 pub use row::{Catch, CatchRow, catch_named, catch_rows};
 pub use search::find_handler;

@@ -4,7 +4,8 @@ ghost use Rattle.std.specs.Prelude.{◌≡◌, All, Some, IfOk};
 ghost use Rattle.class_link.specs.View.{row_of};
 ghost use Rattle.jvm_catch.specs.Rows.{catch_name, IsCatch, catch_row_of, IsCatchRow, AreRowsOf};
 
-use crate::behind::{class_behind, is_array_name};
+use crate::behind::class_behind;
+use class_link::names::is_array_name;
 use class_link::{LinkedRow, Shared};
 use class_model::{ClassId, Memory, Name};
 use class_table::Program;

@@ -1,14 +1,14 @@
 //! A field by its place, and what is asked of it.
 
 ghost use Rattle.std.specs.Prelude.{◌≡◌, ◌<◌, length, IfOk};
-ghost use Rattle.program_rules.specs.Linked.{LinkedField as Field, is_static, is_interface};
+ghost use Rattle.program_rules.specs.Linked.{LinkedField as Field};
 ghost use Rattle.program_rules.specs.Outlines.{fields_in, is_interface_class, is_static_field};
 ghost use Rattle.class_link.specs.View.{field_of};
 ghost use Rattle.jvm_link.specs.Sites.{outline_at};
 ghost use Rattle.jvm_field_rows.specs.Sites.{Declares};
 
 use class_link::LinkedField;
-use class_model::{ClassId, Memory};
+use class_model::{ClassId, Memory, flags};
 use class_table::Program;
 use jvm_link::Site;
 
@@ -33,19 +33,6 @@ pub fn field_at(p: &Program, site: Site) -> &LinkedField
     &fields[site.place]
 }
 
-// Whether a flag says that a field is static.
-fn has_static(flags: u16) -> bool
-    ensures { result ≡ is_static flags }
-{
-    flags / 8 % 2 == 1
-}
-
-fn has_interface(flags: u16) -> bool
-    ensures { result ≡ is_interface flags }
-{
-    flags / 512 % 2 == 1
-}
-
 // Whether a class is an interface.
 #[tactic(auto, unfolding(class_link::specs::View::linked_of))]
 fn is_interface(p: &Program, class: ClassId) -> bool
@@ -54,7 +41,7 @@ fn is_interface(p: &Program, class: ClassId) -> bool
 {
     let _len = p.len();
     let flags = p.info(class).linked().flags;
-    has_interface(flags)
+    flags::is_interface(flags)
 }
 
 /// Whether a field is static: each one of an interface is.
@@ -69,7 +56,7 @@ pub fn is_static(p: &Program, site: Site) -> bool
         return true;
     }
     let field = field_at(p, site);
-    has_static(field.flags)
+    flags::is_static(field.flags)
 }
 
 /// The number of a place. A class with 2^32 fields or more wants more memory than there is.

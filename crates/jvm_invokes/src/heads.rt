@@ -2,12 +2,13 @@
 
 ghost use Rattle.std.specs.Prelude.{◌≡◌, ◌<◌, ◌^◌, List, length, slice_get, Some};
 ghost use Rattle.std.specs.Option.{option_map};
-ghost use Rattle.program_rules.specs.Linked.{LinkedMethod as Method, is_private, is_static, is_abstract};
+ghost use Rattle.program_rules.specs.Linked.{LinkedMethod as Method};
 ghost use Rattle.class_link.specs.declared.linked.Entry.{Entry};
 ghost use Rattle.class_link.specs.View.{method_of};
 ghost use Rattle.jvm_invokes.specs.Heads.{IsHead, IsBody, StandsAt};
 
 use class_link::{LinkedBody, LinkedMethod};
+use class_model::flags::is_abstract;
 use class_table::Program;
 use jvm_link::Site;
 use library_rules::Native;
@@ -30,30 +31,6 @@ pub struct Head {
     pub number: u32,
     pub flags: u16,
     pub body: Body,
-}
-
-/// Bit 1 is ACC_PRIVATE (JVMS 4.6).
-#[inline(always)]
-pub fn is_private(flags: u16) -> bool
-    ensures { result ≡ is_private flags }
-{
-    flags / 2 % 2 == 1
-}
-
-/// Bit 3 is ACC_STATIC (JVMS 4.6).
-#[inline(always)]
-pub fn is_static(flags: u16) -> bool
-    ensures { result ≡ is_static flags }
-{
-    flags / 8 % 2 == 1
-}
-
-// Bit 10 is ACC_ABSTRACT (JVMS 4.6).
-#[inline(always)]
-fn is_abstract(flags: u16) -> bool
-    ensures { result ≡ is_abstract flags }
-{
-    flags / 1024 % 2 == 1
 }
 
 // What a call of a method runs. A method with ACC_ABSTRACT is abstract, whatever its body is.

@@ -10,7 +10,7 @@ mod resolving;
 mod statics;
 
 pub use calling::{call_found, enter_code, throw_without};
-pub use heads::{Body, Head, flags_at, head_at, is_private, is_static};
+pub use heads::{Body, Head, flags_at, head_at};
 pub use invoked::Invoked;
 pub use ready::is_ready;
 pub use resolving::{resolve, throw};

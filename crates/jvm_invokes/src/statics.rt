@@ -17,11 +17,12 @@ ghost use Rattle.jvm_invokes.specs.Invoked.{Invokes, StaysOrEnters, calls_ready}
 ghost use Rattle.jvm_invokes.specs.Rows.{IsReady, static_found, static_row};
 
 use crate::calling::call_head;
-use crate::heads::{Head, head_at, is_static};
+use crate::heads::{Head, head_at};
 use crate::invoked::Invoked;
 use crate::ready::is_ready;
 use crate::resolving::{resolve, throw};
 use class_link::MethodRef;
+use class_model::flags::is_static;
 use class_model::{ClassId, Kind, Memory};
 use class_table::Program;
 use jvm_frames::Frames;

@@ -2,34 +2,14 @@
 
 ghost use Rattle.std.specs.Prelude.{◌≡◌, ◌≤◌, ◌++◌, ◌∷◌, [], length, map, reverse, OnOk};
 ghost use Rattle.program_rules.specs.Kinds.{default_of};
-ghost use Rattle.program_rules.specs.Linked.{is_static, is_interface, is_abstract};
 ghost use Rattle.class_link.specs.Symbols.{kind_of};
 ghost use Rattle.class_link.specs.View.{field_of};
 ghost use Rattle.jvm_layout.specs.Layouts.{own_values};
 
 use class_link::LinkedField;
+use class_model::flags::is_static;
 use class_model::{Kind, Memory};
 use program_rules::Value;
-
-fn is_static(flags: u16) -> bool
-    ensures { result ≡ is_static flags }
-{
-    flags / 8 % 2 == 1
-}
-
-/// Whether a class is an interface (JVMS 4.1).
-pub fn is_interface(flags: u16) -> bool
-    ensures { result ≡ is_interface flags }
-{
-    flags / 512 % 2 == 1
-}
-
-/// Whether a class is abstract (JVMS 4.1).
-pub fn is_abstract(flags: u16) -> bool
-    ensures { result ≡ is_abstract flags }
-{
-    flags / 1024 % 2 == 1
-}
 
 // What a field of a kind holds at first.
 fn default_of(kind: &Kind) -> Value

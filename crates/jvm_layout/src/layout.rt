@@ -7,9 +7,10 @@ ghost use Rattle.class_table.specs.Table.{look, name_at};
 ghost use Rattle.class_family.specs.Families.{node_of};
 ghost use Rattle.jvm_layout.specs.Layouts.{own_at, Climbs, IsLayoutOf};
 
-use crate::fields::{is_abstract, is_interface, push_defaults};
+use crate::fields::push_defaults;
 use crate::native::native_words;
 use class_family::superclass;
+use class_model::flags::{is_abstract, is_interface};
 use class_model::{ClassId, Memory, Seq};
 use class_table::Program;
 use program_rules::Value;

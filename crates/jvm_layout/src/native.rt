@@ -5,17 +5,7 @@ ghost use Rattle.program_rules.specs.Layout.{native_words, words_among};
 ghost use Rattle.program_rules.specs.Names.{same};
 ghost use Rattle.jvm_layout.specs.Layouts.{number_words};
 
-fn is_text(name: &[u16], text: &[u8]) -> bool
-    ensures { result ≡ same text.now name.now }
-{
-    match (name, text) {
-        ([], []) => true,
-        ([unit, units @ ..], [byte, bytes @ ..]) => *byte as u16 == *unit && is_text(units, bytes),
-        ([], [_, ..]) => false,
-        ([_, ..], []) => false,
-    }
-}
-
+use class_model::names::is_text;
 /// The words that each object of a library class of this name takes beside its fields.
 pub fn native_words(name: &[u16]) -> u32
     ensures { result ≡ words_among native_words name.now }

@@ -9,9 +9,10 @@ ghost use Rattle.class_table.specs.Table.{look, name_at};
 ghost use Rattle.class_family.specs.Families.{node_of, rising_at};
 ghost use Rattle.jvm_layout.specs.Layouts.{own_at, own_before, rising_from};
 
-use crate::fields::{count_own, is_interface};
+use crate::fields::count_own;
 use class_family::superclass;
 use class_model::ClassId;
+use class_model::flags::is_interface;
 use class_table::Program;
 
 // How many fields of its own a class's instances have.

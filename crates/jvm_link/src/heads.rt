@@ -2,50 +2,21 @@
 #![tactic(auto, unfolding(class_link::specs::View::linked_of))]
 
 ghost use Rattle.std.specs.Prelude.{◌≡◌, ◌<◌, length, slice_get, Some};
-ghost use Rattle.program_rules.specs.Linked.{is_interface, is_static, is_private, is_open, is_abstract};
 ghost use Rattle.program_rules.specs.Outlines.{Head, is_interface_class, is_abstractly};
 ghost use Rattle.class_link.specs.Info.{class_of};
 ghost use Rattle.class_link.specs.declared.linked.LinkedMethod.{LinkedMethod};
 ghost use Rattle.jvm_link.specs.Sites.{outline_at, HasHead, StandsAt, IsEmpty};
 
 use class_link::{ClassInfo, LinkedBody, LinkedMethod};
-use class_model::ClassId;
+use class_model::{ClassId, flags};
 use class_table::Program;
-
-// Bit 9 is ACC_INTERFACE (JVMS 4.1).
-fn has_interface_flag(info: &ClassInfo) -> bool
-    ensures { result ≡ is_interface (class_of info.now).flags }
-{
-    info.linked().flags / 512 % 2 == 1
-}
 
 /// Whether a class is an interface.
 pub fn is_interface(program: &Program, id: ClassId) -> bool
     requires { id.0 < length program.now }
     ensures { result ≡ is_interface_class (outline_at program.now id.0) }
 {
-    has_interface_flag(program.info(id))
-}
-
-/// Bit 1 is ACC_PRIVATE (JVMS 4.6).
-pub fn is_private(flags: u16) -> bool
-    ensures { result ≡ is_private flags }
-{
-    flags / 2 % 2 == 1
-}
-
-/// Bit 3 is ACC_STATIC (JVMS 4.6).
-pub fn is_static(flags: u16) -> bool
-    ensures { result ≡ is_static flags }
-{
-    flags / 8 % 2 == 1
-}
-
-/// Bits 0 and 2 are ACC_PUBLIC and ACC_PROTECTED (JVMS 4.6).
-pub fn is_open(flags: u16) -> bool
-    ensures { result ≡ is_open flags }
-{
-    flags % 2 == 1 || flags / 4 % 2 == 1
+    flags::is_interface(program.info(id).linked().flags)
 }
 
 fn flags_in(methods: &[LinkedMethod], place: usize) -> u16
@@ -71,18 +42,11 @@ pub fn flags_at(program: &Program, id: ClassId, place: usize) -> u16
     flags_of(program.info(id), place)
 }
 
-// Bit 10 is ACC_ABSTRACT (JVMS 4.6).
-fn has_abstract_flag(flags: u16) -> bool
-    ensures { result ≡ is_abstract flags }
-{
-    flags / 1024 % 2 == 1
-}
-
 // Whether a call of a method finds nothing to run.
 fn is_empty(method: &LinkedMethod) -> bool
     ensures { IsEmpty method.now result }
 {
-    if has_abstract_flag(method.flags) {
+    if flags::is_abstract(method.flags) {
         return true;
     }
     match method.body {

@@ -5,10 +5,11 @@ ghost use Rattle.class_family.specs.Above.{AreWithin, AreAbove};
 ghost use Rattle.jvm_link.specs.Candidates.{AreSearched, own_candidate, candidates_of, can_choose, IsCandidate, AreGiving, Adds, IsOwnSpecific, AddsSite, AreSpecific, IsFirstOf, IsChoiceOf, ChoosesAbove};
 
 use crate::family::search;
-use crate::heads::{flags_at, is_abstract_at, is_interface, is_private, is_static};
+use crate::heads::{flags_at, is_abstract_at, is_interface};
 use crate::methods::declared_method;
 use crate::site::Site;
 use class_family::{Walker, class_at};
+use class_model::flags::{is_private, is_static};
 use class_model::{ClassId, Memory, Name};
 use class_table::Program;
 use std::alloc::Global;

@@ -12,11 +12,11 @@ use crate::heads::is_interface;
 use crate::interfaces::{Choice, Search, Specific};
 use crate::methods::{first_declared, own_method};
 use crate::site::{Callee, Site};
-use crate::text::is_text;
 use class_link::MethodRef;
+use class_link::names::is_array_name;
+use class_model::names::is_text;
 use class_model::{ClassId, Memory};
 use class_table::Program;
-use jvm_catch::is_array_name;
 use program_rules::Fault;
 
 // Whether a class is an interface, or isn't. An array is none.

@@ -7,13 +7,14 @@ ghost use Rattle.jvm_link.specs.Overriding.{FirstOver};
 ghost use Rattle.jvm_link.specs.declared.site.Callee.TheVariants.{Method};
 
 use crate::family::{lowest, search};
-use crate::heads::{flags_at, is_open, is_private, is_static};
+use crate::heads::flags_at;
 use crate::interfaces::{Search, Specific};
 use crate::methods::declared_method;
 use crate::overriding::overriding_site;
 use crate::site::{Callee, Site};
 use class_family::superclass;
 use class_link::MethodRef;
+use class_model::flags::{is_open, is_private, is_static};
 use class_model::{ClassId, Memory};
 use class_table::Program;
 use program_rules::Fault;

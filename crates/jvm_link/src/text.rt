@@ -5,18 +5,6 @@ ghost use Rattle.program_rules.specs.Names.{same, package_of};
 
 const SLASH: u16 = b'/' as u16;
 
-/// Whether a name is a text of ASCII characters.
-pub fn is_text(name: &[u16], text: &[u8]) -> bool
-    ensures { result ≡ same name.now text.now }
-{
-    match (name, text) {
-        ([], []) => true,
-        ([unit, units @ ..], [byte, bytes @ ..]) => *unit == *byte as u16 && is_text(units, bytes),
-        ([], [_, ..]) => false,
-        ([_, ..], []) => false,
-    }
-}
-
 // The package of a class: what stands before the last `/` of its name (JVMS 5.3).
 fn package(name: &[u16]) -> &[u16]
     ensures { result.now ≡ package_of name.now }

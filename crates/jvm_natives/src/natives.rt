@@ -7,9 +7,9 @@ ghost use Rattle.lib_core.specs.Known.{IsKnown};
 ghost use Rattle.jvm_world.specs.Finding.{Finds};
 ghost use Rattle.jvm_natives.specs.Natives.{AreNatives, FindsMade, made_names};
 
+use class_model::names::ascii;
 use class_model::{ClassId, Memory, Name, Seq};
 use class_table::Program;
-use jvm_catch::ascii;
 use lib_core::Known;
 use program_rules::Making;
 use std::alloc::Global;

@@ -4,9 +4,9 @@ ghost use Rattle.std.specs.Prelude.{IfOk};
 ghost use Rattle.jvm_receivers.specs.Objects.{AreLookups, FindsClass, text_name};
 
 use crate::owned::Owned;
+use class_model::names::ascii;
 use class_model::{ClassId, Memory};
 use class_table::Program;
-use jvm_catch::ascii;
 use jvm_resolved::{References, Selections};
 use std::alloc::Global;
 

@@ -16,9 +16,10 @@ ghost use Rattle.jvm_receivers.specs.Selected.{IsAnswer, is_fixed};
 ghost use Rattle.jvm_receivers.specs.Targets.{received};
 
 use class_model::Memory;
+use class_model::flags::is_private;
 use class_table::Program;
 use jvm_frames::{Args, Frames};
-use jvm_invokes::{Invoked, call_found, flags_at, is_private, throw};
+use jvm_invokes::{Invoked, call_found, flags_at, throw};
 use jvm_link::Callee;
 use jvm_unwind::Turn;
 use jvm_world::World;

@@ -6,10 +6,10 @@ ghost use Rattle.class_table.specs.Seen.{IsConsultedOf};
 ghost use Rattle.jvm_link.specs.Named.{Consults, IsClassNamed, ResolvesClass};
 ghost use Rattle.jvm_resolved.specs.References.{ResolvesFieldRef, ResolvesMethodRef};
 
+use class_link::names::is_array_name;
 use class_link::{FieldRef, MethodRef, Shared};
 use class_model::{ClassId, Memory, Name};
 use class_table::{Consulted, Program};
-use jvm_catch::is_array_name;
 use jvm_link::{Callee, Search, Site, resolve_class};
 use program_rules::Fault;
 use std::alloc::Global;

@@ -76,13 +76,6 @@ none_named (m ∷ names) t h =
 
 -- ---- the name that a descriptor says
 
-pub without_last_take : (xs : List ℕ) → without_last xs ≡ take (length xs - 1) xs
-without_last_take [] = refl
-without_last_take (c ∷ []) = refl
-without_last_take (c ∷ d ∷ cs) =
-    let e : length (c ∷ d ∷ cs) - 1 ≡ suc (length (d ∷ cs) - 1) = omega arith in
-    ap (λ xs. c ∷ xs) (without_last_take (d ∷ cs)) ∙ sym (ap (λ n. take n (c ∷ d ∷ cs)) e)
-
 without_end : (n : Name) → without_last (n ++ 59 ∷ []) ≡ n
 without_end [] = refl
 without_end (u ∷ []) = refl

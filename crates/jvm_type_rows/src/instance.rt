@@ -8,8 +8,9 @@ ghost use Rattle.jvm_world.specs.View.{kind_in};
 ghost use Rattle.jvm_type_rows.specs.Instances.{is_kind_within};
 
 use crate::descriptors::{class_of_object, descriptor_of, descriptor_of_object};
-use crate::texts::{is_array_name, is_text};
 use crate::within::{is_below, is_within};
+use class_link::names::is_array_name;
+use class_model::names::is_text;
 use class_model::{ClassId, Memory, Name};
 use class_table::Program;
 use jvm_values::ObjKind;

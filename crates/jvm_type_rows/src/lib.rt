@@ -11,4 +11,4 @@ mod within;
 pub use casting::{check_cast, is_instance, test_instance, truth};
 pub use instance::is_kind_within;
 pub use storing::store_reference;
-pub use texts::{is_text, without_first};
+pub use texts::without_first;

@@ -5,28 +5,8 @@ ghost use Rattle.program_rules.specs.Names.{same, is_array_name, without_first, 
 ghost use Rattle.program_rules.specs.Subtypes.{is_above_arrays};
 ghost use Rattle.jvm_type_rows.specs.Instances.{name_in, begins_class};
 
-/// Whether a name is a text of ASCII characters.
-pub fn is_text(name: &[u16], text: &[u8]) -> bool
-    ensures { result ≡ same name.now text.now }
-{
-    match (name, text) {
-        ([], []) => true,
-        ([unit, units @ ..], [byte, bytes @ ..]) => *unit == *byte as u16 && is_text(units, bytes),
-        ([], [_, ..]) => false,
-        ([_, ..], []) => false,
-    }
-}
-
-/// Whether a name is an array's descriptor (JVMS 4.4.1).
-pub fn is_array_name(name: &[u16]) -> bool
-    ensures { result ≡ is_array_name name.now }
-{
-    match name {
-        [] => false,
-        [unit, ..] => *unit == b'[' as u16,
-    }
-}
-
+use class_link::names::{is_array_name, without_last};
+use class_model::names::is_text;
 /// Whether a text is empty.
 pub fn is_empty(text: &[u16]) -> bool
     ensures { result ≡ nat_eq (length text.now) 0 }
@@ -58,17 +38,6 @@ pub fn is_above_arrays(descriptor: &[u16]) -> bool
     is_text(descriptor, b"Ljava/lang/Object;")
         || is_text(descriptor, b"Ljava/lang/Cloneable;")
         || is_text(descriptor, b"Ljava/io/Serializable;")
-}
-
-// A text without its last unit.
-#[tactic(auto, using(crate::proofs::Described::without_last_take))]
-fn without_last(text: &[u16]) -> &[u16]
-    ensures { result.now ≡ without_last text.now }
-{
-    match text {
-        [front @ .., _] => front,
-        [] => text,
-    }
 }
 
 /// A text without its first unit.

@@ -7,9 +7,9 @@ ghost use Rattle.program_rules.specs.Subtypes.{is_within, is_class_within};
 ghost use Rattle.class_table.specs.Table.{look, name_at};
 
 use crate::descriptors::descriptor_of;
-use crate::texts::{
-    begins_class, is_above_arrays, is_array_name, is_empty, is_same, is_text, name_in,
-};
+use crate::texts::{begins_class, is_above_arrays, is_empty, is_same, name_in};
+use class_link::names::is_array_name;
+use class_model::names::is_text;
 use class_model::{ClassId, Memory, Name, Seq};
 use class_table::Program;
 use std::alloc::Global;

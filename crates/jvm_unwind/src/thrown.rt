@@ -10,9 +10,10 @@ ghost use Rattle.jvm_world.specs.View.{kind_in, IsWorldOf};
 ghost use Rattle.jvm_catch.specs.Searches.{IsThrown, AreAbove};
 ghost use Rattle.jvm_unwind.specs.Thrown.{class_name, names_of, IsClass, IsClassIn};
 
+use class_model::names::ascii;
 use class_model::{ClassId, Kind, Memory, Name, Seq};
 use class_table::Program;
-use jvm_catch::{ascii, class_behind, object_name};
+use jvm_catch::{class_behind, object_name};
 use jvm_values::ObjKind;
 use jvm_world::World;
 use std::alloc::Global;

@@ -8,7 +8,7 @@ ghost use Rattle.class_table.specs.Table.{look, name_at};
 ghost use Rattle.jvm_world.specs.Classes.{fault_place, fault_id, machine_names, AreMachineClasses};
 ghost use Rattle.jvm_world.specs.Finding.{Finds};
 
-use crate::text::name;
+use class_model::names::ascii;
 use class_model::{ClassId, Memory};
 use class_table::Program;
 use program_rules::Fault;
@@ -97,7 +97,7 @@ fn find_one(alloc: Global, p: &Program, text: &str) -> Result<Option<ClassId>, M
     ensures { IfOk result (Finds (look p.now) (text.now ∷ []) (λ id.
         name_at p.now id.0 ≡ text.now)) }
 {
-    let name = name(alloc, text)?;
+    let name = ascii(alloc, text)?;
     Ok(p.find(&name))
 }
 

@@ -8,7 +8,6 @@ mod monitors;
 mod objects;
 mod script;
 mod statics;
-mod text;
 mod values;
 mod world;
 

@@ -7,26 +7,16 @@ ghost use Rattle.lib_table.specs.Rows.{const_of, insn_of, frame_of, row_code, me
 
 use crate::rows::{ClassRow, CodeRow, ConstRow, FrameRow, InsnRow, MethodRow};
 use class_link::{LibBody, LibClass, LibField, LibMethod};
+use class_model::names::ascii;
 use class_model::{Arg, Attr, Body, Code, Const, Frame, Insn, Memory, Name, Seq, Shape, VItem};
 use std::alloc::Global;
-
-// A text of ASCII.
-fn name(alloc: Global, text: &str) -> Result<Name, Memory>
-    ensures { IfOk result (λ name. name ≡ text.now) }
-{
-    let mut units = Vec::with_capacity(alloc, text.len())?;
-    for byte in text.as_bytes() {
-        units.push(*byte as u16)?;
-    }
-    Ok(Seq::from_vec(units))
-}
 
 fn names(alloc: Global, texts: &[&'static str]) -> Result<Seq<Name>, Memory>
     ensures { IfOk result (λ names. names ≡ map (λ t. t.now) texts.now) }
 {
     let mut names = Vec::with_capacity(alloc, texts.len())?;
     for text in texts {
-        names.push(name(alloc, text)?)?;
+        names.push(ascii(alloc, text)?)?;
     }
     Ok(Seq::from_vec(names))
 }
@@ -37,7 +27,7 @@ fn entry(alloc: Global, row: &ConstRow) -> Result<Const, Memory>
     ensures { IfOk result (λ entry. entry ≡ const_of row.now) }
 {
     match row {
-        ConstRow::Utf8(text) => Ok(Const::Utf8(name(alloc, text)?)),
+        ConstRow::Utf8(text) => Ok(Const::Utf8(ascii(alloc, text)?)),
         ConstRow::Class(index) => Ok(Const::Class(*index)),
         ConstRow::Text(index) => Ok(Const::Text(*index)),
         ConstRow::Pair(name, desc) => Ok(Const::Pair(*name, *desc)),
@@ -161,8 +151,8 @@ fn method_with(
 ) -> Result<LibMethod, Memory>
     ensures { IfOk result (λ m. m ≡ method_with flags text.now desc.now body) }
 {
-    let named = name(alloc, text)?;
-    let desc = name(alloc, desc)?;
+    let named = ascii(alloc, text)?;
+    let desc = ascii(alloc, desc)?;
     Ok(LibMethod {
         name: named,
         desc,
@@ -239,8 +229,8 @@ fn fields(alloc: Global, rows: &[(&'static str, &'static str)]) -> Result<Seq<Li
 {
     let mut fields = Vec::with_capacity(alloc, rows.len())?;
     for row in rows {
-        let named = name(alloc, row.0)?;
-        let desc = name(alloc, row.1)?;
+        let named = ascii(alloc, row.0)?;
+        let desc = ascii(alloc, row.1)?;
         fields.push(LibField {
             name: named,
             desc,
@@ -263,8 +253,8 @@ fn class_with(
     ensures { IfOk result (λ c.
         c ≡ class_with flags text.now (Some parent.now) interfaces [] rows.now) }
 {
-    let named = name(alloc, text)?;
-    let parent = name(alloc, parent)?;
+    let named = ascii(alloc, text)?;
+    let parent = ascii(alloc, parent)?;
     let pool = pool(alloc, rows)?;
     let methods = methods(alloc, rows)?;
     Ok(LibClass {
@@ -281,7 +271,7 @@ fn class_with(
 fn root(alloc: Global, text: &str, rows: &[MethodRow]) -> Result<LibClass, Memory>
     ensures { IfOk result (λ c. c ≡ class_with 33 text.now None [] [] rows.now) }
 {
-    let named = name(alloc, text)?;
+    let named = ascii(alloc, text)?;
     let pool = pool(alloc, rows)?;
     let methods = methods(alloc, rows)?;
     Ok(LibClass {
@@ -304,8 +294,8 @@ fn with_fields(
 ) -> Result<LibClass, Memory>
     ensures { IfOk result (λ c. c ≡ class_with 33 text.now (Some parent.now) [] fields rows.now) }
 {
-    let named = name(alloc, text)?;
-    let parent = name(alloc, parent)?;
+    let named = ascii(alloc, text)?;
+    let parent = ascii(alloc, parent)?;
     let pool = pool(alloc, rows)?;
     let methods = methods(alloc, rows)?;
     Ok(LibClass {

@@ -6,23 +6,13 @@ ghost use Rattle.type_verifier.specs.Tables.{IsTable, Adds, NameLasts};
 ghost use Rattle.method_tables.specs.Caught.{CaughtIs, RowIs, RowsAre};
 
 use class_link::LinkedRow;
+use class_model::names::ascii;
 use class_model::{Memory, Name, Seq};
 use class_table::Program;
 use handler_rows::Handler;
 use std::alloc::Global;
 use type_pass::is_thrown;
 use type_verifier::Names;
-
-// The name of these characters.
-fn name_of(alloc: Global, text: &[u8]) -> Result<Name, Memory>
-    ensures { IfOk result (λ n. n ≡ text.now) }
-{
-    let mut name = Seq::new(alloc);
-    for byte in text {
-        name.push(*byte as u16)?;
-    }
-    Ok(name)
-}
 
 // What a row catches: the class that it names, or all that is thrown.
 fn caught<'a>(row: &'a LinkedRow, throwable: &'a Name) -> &'a Name
@@ -71,7 +61,7 @@ pub fn handlers_of(
     ensures rows { IfOk result (λ hs. RowsAre program.now names.new hs.items rows.now) }
 {
     let alloc = *names.list.allocator();
-    let throwable = name_of(alloc, b"java/lang/Throwable")?;
+    let throwable = ascii(alloc, "java/lang/Throwable")?;
     let mut handlers = Vec::with_capacity(alloc, rows.len())?;
     for row in rows {
         let handler = handler_of(names, program, row, &throwable)?;

@@ -7,7 +7,7 @@ ghost use Rattle.mutator_ops.specs.Calls.{is_void_call};
 ghost use Rattle.mutator_ops.specs.Mutants.{is_not_null_text, is_not_null, has_not_null_in, has_not_null, asked_of};
 
 use crate::pool::Pool;
-use crate::text::is_text;
+use class_model::names::is_text;
 use class_model::{Attr, Body, Const, Insn, Kind, Member, Name, Note};
 use mt_pool::text_of;
 use std::marker::Model;
@@ -45,7 +45,7 @@ fn is_not_null_text(desc: &Name) -> bool
     ensures { result ≡ is_not_null_text desc.now }
 {
     let units = desc.as_slice();
-    is_text(desc, "LNotNull;") || (units.starts_with(&OBJECT) && units.ends_with(&NOT_NULL))
+    is_text(units, b"LNotNull;") || (units.starts_with(&OBJECT) && units.ends_with(&NOT_NULL))
 }
 
 fn is_not_null(pool: &[Const], note: &Note) -> bool

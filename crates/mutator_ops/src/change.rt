@@ -5,7 +5,7 @@ ghost use Rattle.class_model.specs.declared.edit.NewInsn.TheVariants as new;
 ghost use Rattle.mutator_ops.specs.Changes.{callee_class, callee_name, callee_desc, bare, call_of, value_insns, pop_of, pops, or_nop, pop_before, new_insns, more_words};
 
 use crate::pool::Pool;
-use crate::text::name;
+use class_model::names::ascii;
 use class_model::{Arg, Insn, Kind, Memory, NewInsn, Seq};
 use std::alloc::Global;
 
@@ -109,9 +109,9 @@ impl Callee {
         ensures { IfOk result (λ insn. insn ≡ call_of self.now) }
     {
         Ok(NewInsn::Call(
-            name(alloc, self.class())?,
-            name(alloc, self.name())?,
-            name(alloc, self.desc())?,
+            ascii(alloc, self.class())?,
+            ascii(alloc, self.name())?,
+            ascii(alloc, self.desc())?,
         ))
     }
 }

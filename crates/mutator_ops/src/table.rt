@@ -6,7 +6,7 @@ ghost use Rattle.mutator_ops.specs.Table.{opcode_for, bounds, opposites, operati
 
 use crate::asked::Asked;
 use crate::change::{Callee, Change, Value};
-use crate::text::is_text;
+use class_model::names::is_text;
 use class_model::{Arg, Insn, Kind, Mutator, Name};
 
 // JVMS 6.5.
@@ -164,23 +164,23 @@ fn returned_class<'a>(asked: &'a Asked, insn: &Insn) -> Option<&'a Name>
 fn empty_value(class: &Name) -> Option<Value>
     ensures { result ≡ empty_value class.now }
 {
-    if is_text(class, "java/lang/String") {
+    if is_text(class.as_slice(), b"java/lang/String") {
         Some(Value::EmptyText)
-    } else if is_text(class, "java/util/Optional") {
+    } else if is_text(class.as_slice(), b"java/util/Optional") {
         Some(Value::Empty(Callee::NoOptional))
-    } else if is_text(class, "java/util/List") {
+    } else if is_text(class.as_slice(), b"java/util/List") {
         Some(Value::Empty(Callee::NoList))
-    } else if is_text(class, "java/util/Collection") {
+    } else if is_text(class.as_slice(), b"java/util/Collection") {
         Some(Value::Empty(Callee::NoList))
-    } else if is_text(class, "java/util/Set") {
+    } else if is_text(class.as_slice(), b"java/util/Set") {
         Some(Value::Empty(Callee::NoSet))
-    } else if is_text(class, "java/lang/Integer") {
+    } else if is_text(class.as_slice(), b"java/lang/Integer") {
         Some(Value::Boxed(ICONST_0, Callee::BoxedInteger))
-    } else if is_text(class, "java/lang/Short") {
+    } else if is_text(class.as_slice(), b"java/lang/Short") {
         Some(Value::Boxed(ICONST_0, Callee::BoxedShort))
-    } else if is_text(class, "java/lang/Character") {
+    } else if is_text(class.as_slice(), b"java/lang/Character") {
         Some(Value::Boxed(ICONST_0, Callee::BoxedCharacter))
-    } else if is_text(class, "java/lang/Long") {
+    } else if is_text(class.as_slice(), b"java/lang/Long") {
         Some(Value::Boxed(LCONST_0, Callee::BoxedLong))
     } else {
         None
@@ -190,7 +190,7 @@ fn empty_value(class: &Name) -> Option<Value>
 fn is_boolean_class(class: &Name) -> bool
     ensures { result ≡ is_boolean_class class.now }
 {
-    is_text(class, "java/lang/Boolean")
+    is_text(class.as_slice(), b"java/lang/Boolean")
 }
 
 // The change, where it applies.

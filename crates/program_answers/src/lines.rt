@@ -5,9 +5,9 @@ ghost use Rattle.std.specs.Prelude.{OnOk};
 ghost use Rattle.class_table.specs.Seen.{IsConsultedOf};
 
 use crate::uses::{End, end_of};
+use class_model::names::ascii;
 use class_model::{ClassId, Memory, Name};
 use class_table::{Consulted, Program};
-use jvm_catch::ascii;
 use jvm_link::{Search, resolve_class};
 use program_rules::Fault;
 

@@ -4,10 +4,10 @@ ghost use Rattle.std.specs.Prelude.{◌≡◌, ◌<◌, true, length, IfOk};
 ghost use Rattle.jvm_link.specs.Answers.{HasCallee};
 
 use class_family::superclass;
+use class_link::names::is_array_name;
 use class_link::{Entry, FieldRef, Instruction, LinkedBody, LinkedClass, LinkedMethod, MethodRef};
-use class_model::{ClassId, Memory, Name};
+use class_model::{ClassId, Memory, Name, flags};
 use class_table::{Consulted, Program};
-use jvm_catch::is_array_name;
 use jvm_link::{
     Callee, Search, Site, resolve_class, resolve_field, resolve_method, select_named,
     select_virtual,
@@ -53,7 +53,7 @@ fn method_at(program: &Program, site: Site) -> Option<&LinkedMethod> {
 // Bit 3 is ACC_STATIC (JVMS 4.6).
 fn is_static(program: &Program, site: Site) -> bool {
     match method_at(program, site) {
-        Some(method) => method.flags / 8 % 2 == 1,
+        Some(method) => flags::is_static(method.flags),
         None => false,
     }
 }

@@ -1,8 +1,6 @@
 //! The first fault of a method (JVMS 4.6, 4.10.1).
 
 ghost use Rattle.std.specs.Prelude.{◌≡◌, IfOk, OnOk};
-ghost use Rattle.program_rules.specs.Linked.{is_abstract};
-ghost use Rattle.type_rules.specs.Rules.{is_native};
 ghost use Rattle.program_verifier.specs.Tables.{AreTables, HasShortCode};
 ghost use Rattle.program_verifier.specs.Heads.{Meets};
 ghost use Rattle.program_verifier.specs.Methods.{BodyIs, BodyFaultIs, HeadIs, HeadBehind, FaultBehind};
@@ -12,22 +10,9 @@ use crate::heads::Heads;
 use crate::tables::Tables;
 use class_link::{LinkedBody, LinkedMethod};
 use class_model::Memory;
+use class_model::flags::{is_abstract, is_native};
 use type_pass::Fault;
 use type_verifier::Own;
-
-// Bit 8 is ACC_NATIVE (JVMS 4.6).
-fn is_native(flags: u16) -> bool
-    ensures { result ≡ is_native flags }
-{
-    flags / 256 % 2 == 1
-}
-
-// Bit 10 is ACC_ABSTRACT (JVMS 4.6).
-fn is_abstract(flags: u16) -> bool
-    ensures { result ≡ is_abstract flags }
-{
-    flags / 1024 % 2 == 1
-}
 
 fn has_code(body: &LinkedBody) -> bool
     ensures { BodyIs body.now result }

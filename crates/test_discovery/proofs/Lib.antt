@@ -1,5 +1,4 @@
 mod Rising
-mod Cut
 mod Lists
 mod First
 mod Whole

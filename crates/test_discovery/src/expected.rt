@@ -3,13 +3,13 @@
 ghost use Rattle.std.specs.Prelude.{◌≡◌, ◌++◌, IfOk, OnOk};
 ghost use Rattle.std.specs.List.{flat_map};
 ghost use Rattle.class_model.specs.Pool.{text_of};
-ghost use Rattle.program_rules.specs.Names.{without_last};
 ghost use Rattle.test_discovery.specs.Annotations.{test_type};
 ghost use Rattle.test_discovery.specs.Expected.{class_named_in, class_in, said_by, said_by_pair};
 ghost use Rattle.test_discovery.specs.Expected.{said_of, said_among, said_at, first_said};
 ghost use Rattle.test_discovery.specs.Expected.{first_expected, expected_class};
 
 use crate::annotations::names_text;
+use class_link::names::without_last;
 use class_model::{Attr, Body, Const, Memory, Name, Note, Seq, Token};
 use mt_pool::text_of;
 use std::alloc::Global;
@@ -23,23 +23,12 @@ pub enum Expected {
     Named(Name),
 }
 
-// A name without its last unit.
-#[tactic(auto, using(crate::proofs::Cut::without_last_take))]
-fn without_last(alloc: Global, name: &[u16]) -> Result<Name, Memory>
-    ensures { IfOk result (λ cut. cut ≡ without_last name.now) }
-{
-    match name {
-        [] => Ok(Name::new(alloc)),
-        [front @ .., _] => Ok(Name::from_slice(alloc, front)?),
-    }
-}
-
 // What a class element's descriptor names: `L`, a class's name and `;`.
 fn class_named_in(alloc: Global, desc: &[u16]) -> Result<Expected, Memory>
     ensures { IfOk result (λ said. said ≡ class_named_in desc.now) }
 {
     match desc {
-        [76, rest @ ..] => Ok(Expected::Named(without_last(alloc, rest)?)),
+        [76, rest @ ..] => Ok(Expected::Named(Name::from_slice(alloc, without_last(rest))?)),
         _ => Ok(Expected::NoClass),
     }
 }

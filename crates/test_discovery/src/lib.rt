@@ -9,7 +9,6 @@ mod annotations;
 mod count;
 mod expected;
 mod fault;
-mod flags;
 mod listed;
 mod marks;
 mod names;

@@ -13,9 +13,9 @@ ghost use Rattle.test_discovery.specs.Rules.{methods_fault, Passes};
 use crate::annotations::{has_runner as stands_among, is_ignored};
 use crate::expected::Expected;
 use crate::fault::{Rule, TestFault};
-use crate::flags::{is_abstract, is_interface, is_private, is_static};
 use crate::listed::Listed;
 use crate::names::{is_plain_descriptor, names_initializer, names_plain_descriptor, own_name};
+use class_model::flags::{is_abstract, is_interface, is_private, is_static};
 use class_model::{Class, Const, Member, Memory, Name};
 use std::alloc::Global;
 

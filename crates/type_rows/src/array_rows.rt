@@ -13,8 +13,9 @@ ghost use Rattle.type_rows.specs.Sites.{RowAt, TakesArray, TakesNoArray, TakesEl
 use crate::answer::{Answer, give};
 use crate::site::Site;
 use class_model::Memory;
+use class_model::names::is_text;
 use program_rules::Element;
-use vframes::{Base, Frame, Named, SlotType, Stack, is_text, named_at};
+use vframes::{Base, Frame, Named, SlotType, Stack, named_at};
 
 // Whether it is an array of references.
 fn is_of_references(array: &Named) -> bool

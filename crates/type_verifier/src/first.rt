@@ -2,7 +2,6 @@
 
 ghost use Rattle.std.specs.Prelude.{◌≡◌, ◌≤◌, ◌++◌, IfOk, OnOk};
 ghost use Rattle.program_rules.specs.Names.{same, object_name, instance_initializer};
-ghost use Rattle.program_rules.specs.Linked.{is_static};
 ghost use Rattle.vframes.specs.View.{words_of};
 ghost use Rattle.type_verifier.specs.Tables.{IsTable, Adds, NameLasts};
 ghost use Rattle.type_verifier.specs.Heads.{FirstAre, FirstIs, InitIs, ReceiverIs, if_any};
@@ -10,12 +9,12 @@ ghost use Rattle.type_verifier.specs.Heads.{FirstAre, FirstIs, InitIs, ReceiverI
 use crate::names::Names;
 use crate::types::kind_types;
 use class_link::LinkedMethod;
+use class_model::flags::is_static;
+use class_model::names::is_text;
 use class_model::{Memory, Name};
 use class_table::Program;
 use std::alloc::Global;
-use vframes::{
-    Frame, SlotType, Stack, StatedFrame, frame_in_full, is_text, no_locals, push_locals,
-};
+use vframes::{Frame, SlotType, Stack, StatedFrame, frame_in_full, no_locals, push_locals};
 
 fn is_init_name(name: &Name) -> bool
     ensures { result ≡ same name.now instance_initializer }
@@ -27,13 +26,6 @@ fn is_object_name(name: &Name) -> bool
     ensures { result ≡ same name.now object_name }
 {
     is_text(name.as_slice(), b"java/lang/Object")
-}
-
-// Bit 3 is ACC_STATIC (JVMS 4.6).
-fn is_static(flags: u16) -> bool
-    ensures { result ≡ is_static flags }
-{
-    flags / 8 % 2 == 1
 }
 
 /// Whether a method is an `<init>`.

@@ -8,6 +8,7 @@ ghost use Rattle.program_rules.specs.Names.{same, without_last};
 ghost use Rattle.vframes.specs.Named.{IsClosed, IsNamed, IsShaped};
 ghost use Rattle.type_verifier.specs.Tables.{IsTable, Adds, NameLasts, ComponentLasts, EndsAt};
 
+use class_link::names::without_last;
 use class_model::{Memory, Name, Seq};
 use class_table::Program;
 use std::alloc::Global;
@@ -37,17 +38,6 @@ fn holds_references(named: &Named) -> bool
     match &named.base {
         Base::Class(_) => named.dimensions > 0,
         Base::Letter(_) => named.dimensions > 1,
-    }
-}
-
-// A text without its last unit.
-#[tactic(auto, using(vframes::proofs::Texts::without_last_take))]
-fn without_last(text: &[u16]) -> &[u16]
-    ensures { result.now ≡ without_last text.now }
-{
-    match text {
-        [front @ .., _] => front,
-        [] => text,
     }
 }
 

@@ -15,9 +15,9 @@ use crate::names::Names;
 use crate::own::Own;
 use crate::pool_texts::{TextIndices, texts_of};
 use class_link::{Entry, FieldRef, MethodRef};
+use class_model::names::is_text;
 use class_model::{Memory, Name};
 use type_rows::{Called, Item, Signature};
-use vframes::is_text;
 
 // Which method a name is that of.
 fn called_of(name: &Name) -> Called

@@ -4,20 +4,10 @@ ghost use Rattle.std.specs.Prelude.{◌≡◌, IfOk, OnOk};
 ghost use Rattle.type_verifier.specs.Tables.{IsTable, Adds, NameLasts};
 
 use crate::names::Names;
+use class_model::names::ascii_bytes;
 use class_model::{Memory, Name, Seq};
 use class_table::Program;
 use std::alloc::Global;
-
-/// The name of these characters.
-pub fn name_of(alloc: Global, text: &[u8]) -> Result<Name, Memory>
-    ensures { IfOk result (λ n. n ≡ text.now) }
-{
-    let mut name = Seq::new(alloc);
-    for byte in text {
-        name.push(*byte as u16)?;
-    }
-    Ok(name)
-}
 
 /// The number of the name of these characters.
 pub fn number_of(names: &mut Names, program: &Program, text: &[u8]) -> Result<usize, Memory>
@@ -26,7 +16,7 @@ pub fn number_of(names: &mut Names, program: &Program, text: &[u8]) -> Result<us
     ensures number { IfOk result (λ k. NameLasts names.new.list.items k text.now) }
 {
     let alloc = *names.list.allocator();
-    let name = name_of(alloc, text)?;
+    let name = ascii_bytes(alloc, text)?;
     let number = names.number(program, &name)?;
     Ok(number)
 }

@@ -1,4 +1,3 @@
-pub mod Texts
 pub mod Words
 pub mod Bases
 pub mod Lookups

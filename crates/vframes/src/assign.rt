@@ -3,7 +3,6 @@
 ghost use Rattle.std.specs.Prelude.{◌≡◌, ◌<◌, length};
 ghost use Rattle.std.specs.Option.{option_map};
 ghost use Rattle.program_rules.specs.Names.{same, object_name};
-ghost use Rattle.program_rules.specs.Linked.{is_interface};
 ghost use Rattle.type_rules.specs.References.{classes_of};
 ghost use Rattle.type_rules.specs.Assignability.{takes_arrays, name_assignable};
 ghost use Rattle.class_table.specs.Table.{look};
@@ -11,12 +10,13 @@ ghost use Rattle.vframes.specs.Named.{IsNamed, AreNamed, IsNumberOf, IsWithin, I
 ghost use Rattle.vframes.specs.FrameView.{types_of};
 ghost use Rattle.vframes.specs.Fits.{InterfaceIs, BelowIs, ClassFits, base_fits, type_fits, locals_fit, item_fits, stack_fits, frame_fits};
 
-use crate::base::{Base, is_text};
+use crate::base::Base;
 use crate::frame::Frame;
 use crate::named::{Named, named_at};
 use crate::slot_type::SlotType;
 use crate::stack::Stack;
-use class_model::{ClassId, Name};
+use class_model::names::is_text;
+use class_model::{ClassId, Name, flags};
 use class_table::Program;
 
 fn is_object(name: &Name) -> bool
@@ -34,13 +34,6 @@ fn takes_arrays(name: &Name) -> bool
         || is_text(name.as_slice(), b"java/io/Serializable")
 }
 
-// Bit 9 is ACC_INTERFACE (JVMS 4.1).
-fn has_interface_flag(flags: u16) -> bool
-    ensures { result ≡ is_interface flags }
-{
-    flags / 512 % 2 == 1
-}
-
 /// Whether the class of a name is an interface, by its number.
 #[tactic(auto, using(crate::proofs::Lookups::interface_is, crate::proofs::Lookups::no_interface))]
 pub fn is_interface(program: &Program, class: Option<ClassId>) -> bool
@@ -48,7 +41,7 @@ pub fn is_interface(program: &Program, class: Option<ClassId>) -> bool
     ensures { InterfaceIs program.now class result }
 {
     match class {
-        Some(id) => has_interface_flag(program.info(id).linked().flags),
+        Some(id) => flags::is_interface(program.info(id).linked().flags),
         None => false,
     }
 }

@@ -1,10 +1,11 @@
 //! The names of classes and arrays, taken apart (JVMS 4.3.2).
 
 ghost use Rattle.std.specs.Prelude.{◌≡◌, IfOk, false};
-ghost use Rattle.program_rules.specs.Names.{same, is_array_name, without_last};
+ghost use Rattle.program_rules.specs.Names.{is_array_name};
 ghost use Rattle.type_rules.specs.References.{dimensions, base_stated, base_of};
 ghost use Rattle.vframes.specs.Named.{base};
 
+use class_link::names::without_last;
 use class_model::{Memory, Name, Seq};
 use std::alloc::Global;
 
@@ -14,18 +15,6 @@ use std::alloc::Global;
 pub enum Base {
     Class(Name),
     Letter(u16),
-}
-
-/// Whether a name is a text of ASCII characters.
-pub fn is_text(name: &[u16], text: &[u8]) -> bool
-    ensures { result ≡ same name.now text.now }
-{
-    match (name, text) {
-        ([], []) => true,
-        ([unit, units @ ..], [byte, bytes @ ..]) => *unit == *byte as u16 && is_text(units, bytes),
-        ([], [_, ..]) => false,
-        ([_, ..], []) => false,
-    }
 }
 
 // The brackets that a text begins with, and what stands behind them.
@@ -44,17 +33,6 @@ fn behind_brackets(text: &[u16]) -> (usize, &[u16])
         rest = behind;
     }
     (dimensions, rest)
-}
-
-// A text without its last unit.
-#[tactic(auto, using(crate::proofs::Texts::without_last_take))]
-fn without_last(text: &[u16]) -> &[u16]
-    ensures { result.now ≡ without_last text.now }
-{
-    match text {
-        [front @ .., _] => front,
-        [] => text,
-    }
 }
 
 fn base_stated(alloc: Global, text: &[u16]) -> Result<Base, Memory>

@@ -15,7 +15,7 @@ mod stated;
 mod stated_frames;
 
 pub use assign::{is_assignable, is_below, is_frame_assignable, is_interface, is_name_assignable};
-pub use base::{Base, is_text};
+pub use base::Base;
 pub use by_name::assignable;
 pub use frame::Frame;
 pub use fresh::Fresh;
