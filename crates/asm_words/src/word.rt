@@ -1,7 +1,6 @@
 //! Words, compared and taken apart.
 
-ghost use Rattle.std.specs.Prelude.{◌≡◌, ◌==◌, ◌<◌, length, position, IfSome, IfOk, MatchOption, None, Some};
-ghost use Rattle.class_model.specs.Parting.{parted_at};
+ghost use Rattle.std.specs.Prelude.{◌≡◌, ◌==◌, ◌<◌, length, IfSome, IfOk, MatchOption, None, Some};
 ghost use Rattle.asm_words.specs.Words.{says, label_in, last_place, last_parted};
 
 use class_model::Name;
@@ -39,24 +38,6 @@ pub fn label_in(word: &[u16]) -> Option<&[u16]>
         Some(&word[..word.len() - 1])
     } else {
         None
-    }
-}
-
-fn place_of(units: &[u16], unit: u16) -> Option<usize>
-    ensures first { result ≡ position (λ other. other == unit) units.now }
-    ensures within { IfSome result (λ place. place < length units.now) }
-{
-    units.iter().position(|other| *other == unit)
-}
-
-/// What stands before the first such unit and what stands behind it, if there is one.
-pub fn parted_at(units: &[u16], unit: u16) -> Option<(&[u16], &[u16])>
-    ensures { MatchOption result (parted_at unit units.now ≡ None) (λ x.
-        parted_at unit units.now ≡ Some (x.0.now, x.1.now)) }
-{
-    match place_of(units, unit) {
-        Some(end) => Some((&units[..end], &units[end + 1..])),
-        None => None,
     }
 }
 

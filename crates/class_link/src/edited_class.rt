@@ -4,7 +4,7 @@ ghost use Rattle.std.specs.Prelude.{◌≡◌, ◌++◌, IfOk, OnOk};
 ghost use Rattle.class_link.specs.Edits.{with_attrs_at, class_edited};
 
 use crate::loaded::EditedFile;
-use class_model::{Attr, Class, Const, Member, Memory, Seq};
+use class_model::{Attr, Class, Const, Member, Memory, Seq, push_entries};
 
 fn with_attrs(member: &Member, attrs: &Seq<Attr>) -> Result<Member, Memory>
     ensures { IfOk result (λ m. m ≡ record member.now { attrs = attrs.now }) }
@@ -15,16 +15,6 @@ fn with_attrs(member: &Member, attrs: &Seq<Attr>) -> Result<Member, Memory>
         desc: member.desc,
         attrs: attrs.copy()?,
     })
-}
-
-// Adds entries at the end.
-fn push_entries(pool: &mut Seq<Const>, added: &[Const]) -> Result<(), Memory>
-    ensures { OnOk result (pool.new ≡ pool.old ++ added.now) }
-{
-    for entry in added {
-        pool.push(entry.copy()?)?;
-    }
-    Ok(())
 }
 
 // Gives a method at a place these attributes, if there is one.

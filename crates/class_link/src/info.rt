@@ -3,6 +3,7 @@
 ghost use Rattle.std.specs.Prelude.{◌≡◌, ◌<◌, ◌^◌, length, IfOk};
 ghost use Rattle.std.specs.Option.{option_copied};
 ghost use Rattle.class_model.specs.Pool.{text_of, class_name_of};
+ghost use Rattle.class_link.specs.Symbols.{text_named};
 ghost use Rattle.class_link.specs.View.{linked_of};
 ghost use Rattle.class_link.specs.Edits.{AddsAlone, class_edited};
 ghost use Rattle.class_link.specs.Info.{HasEntries, own_name, body_name, link_body, class_of};
@@ -121,8 +122,18 @@ fn class_name_at(pool: &[Const], index: u16) -> Option<&Name>
     }
 }
 
-// The name that a class file gives to its class.
-fn own_name(alloc: Global, class: &Class) -> Result<Name, Memory>
+/// A copy of the text that an index names, empty where it names none.
+pub fn text_named(alloc: Global, pool: &[Const], index: u16) -> Result<Name, Memory>
+    ensures { IfOk result (λ name. name ≡ text_named pool.now index) }
+{
+    match text_at(pool, index) {
+        Some(text) => text.copy(),
+        None => Ok(Seq::new(alloc)),
+    }
+}
+
+/// A copy of the name that a class file gives to its class, empty where it gives none.
+pub fn own_name(alloc: Global, class: &Class) -> Result<Name, Memory>
     ensures { IfOk result (λ name. name ≡ own_name class.now) }
 {
     match class_name_at(class.pool.as_slice(), class.this) {

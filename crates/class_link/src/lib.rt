@@ -25,7 +25,7 @@ mod shared;
 mod texts;
 
 pub use frames::{FrameShape, StatedFrame, VType};
-pub use info::ClassInfo;
+pub use info::{ClassInfo, own_name, text_named};
 pub use instruction::Instruction;
 pub use laws::{appended_mean_the_same, forms_mean_the_same, linked_have_stated_kinds};
 pub use line_table::LineTable;
@@ -33,6 +33,7 @@ pub use linked::{
     Entry, FieldConstant, FieldRef, LinkedBody, LinkedClass, LinkedCode, LinkedField, LinkedLine,
     LinkedMethod, LinkedRow, MethodRef, Switch,
 };
+pub use long_pool::at_place;
 pub use loaded::{ClassBody, EditedFile, LibBody, LibClass, LibField, LibMethod, Loaded};
 pub use program_rules::{CallKind, Comparison, Conversion, Element, Operation, ShiftKind};
 pub use shared::Shared;

@@ -23,9 +23,9 @@ impl<'a> Model for LongPool<'a> {
     ghost view = { λ p. p.pool.now ++ p.added.now };
 }
 
-// The entry at a place, counted from 0.
+/// The entry at a place of a pool with more entries behind it, counted from 0.
 #[tactic(auto, using(crate::proofs::AppendedLaws::front_same, crate::proofs::AppendedLaws::behind_same))]
-fn at_place<'a>(pool: &'a [Const], added: &'a [Const], place: usize) -> Option<&'a Const>
+pub fn at_place<'a>(pool: &'a [Const], added: &'a [Const], place: usize) -> Option<&'a Const>
     ensures { option_copied result ≡ slice_get (pool.now ++ added.now) place }
 {
     if place < pool.len() {

@@ -1,9 +1,10 @@
 //! A constant pool whose texts are looked at once each, however many indices use them.
 
 ghost use Rattle.std.specs.Prelude.{◌≡◌, ◌+◌, ◌*◌, ◌≤◌, [], length, sum_by, IfOk, MatchOption, None, Some};
+ghost use Rattle.std.specs.Option.{option_copied};
 ghost use Rattle.class_model.specs.DescriptorReading.{field_kind, method_kinds};
 ghost use Rattle.class_model.specs.TextVerdicts.{outcome, words, arg_words, verdict_of, units_in, verdicts_of};
-ghost use Rattle.class_model.specs.Pool.{text_of};
+ghost use Rattle.class_model.specs.Pool.{entry_of, text_of};
 
 use crate::constant::Const;
 use crate::declared_name::{is_field_name, is_method_name};
@@ -135,6 +136,16 @@ impl<'a> CheckedPool<'a> {
         ensures { result.now ≡ self.now }
     {
         self.pool
+    }
+
+    /// The entry of an index: it counts the entries from 1.
+    pub fn entry(&self, index: u16) -> Option<&Const>
+        ensures { option_copied result ≡ entry_of self.now index }
+    {
+        if index == 0 {
+            return None;
+        }
+        self.pool.get(usize::from(index) - 1)
     }
 
     /// The text that an index names, and the verdict on it.

@@ -1,7 +1,7 @@
-ghost use Rattle.std.specs.Prelude.{◌≡◌, IfOk};
+ghost use Rattle.std.specs.Prelude.{◌≡◌, ◌++◌, IfOk, OnOk};
 
 use crate::copies::Copied;
-use crate::list::Name;
+use crate::list::{Name, Seq};
 use crate::memory::Memory;
 
 /// An entry of the constant pool (JVMS 4.4). An index counts the entries from 1.
@@ -70,4 +70,14 @@ impl Copied for Const {
     fn copied(&self) -> Result<Const, Memory> {
         self.copy()
     }
+}
+
+/// Adds entries at the end of a pool.
+pub fn push_entries(pool: &mut Seq<Const>, added: &[Const]) -> Result<(), Memory>
+    ensures { OnOk result (pool.new ≡ pool.old ++ added.now) }
+{
+    for entry in added {
+        pool.push(entry.copy()?)?;
+    }
+    Ok(())
 }

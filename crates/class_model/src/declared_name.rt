@@ -62,7 +62,7 @@ fn place_of(units: &[u16], unit: u16) -> Option<usize>
 }
 
 /// What stands before the first such unit and what stands behind it, if there is one.
-pub(crate) fn parted_at(units: &[u16], unit: u16) -> Option<(&[u16], &[u16])>
+pub fn parted_at(units: &[u16], unit: u16) -> Option<(&[u16], &[u16])>
     ensures found { MatchOption result (parted_at unit units.now ≡ None)
         (λ x. parted_at unit units.now ≡ Some (x.0.now, x.1.now)) }
     ensures shorter { IfSome result (λ x. length x.1.now < length units.now) }

@@ -2,7 +2,7 @@
 
 ghost use Rattle.std.specs.Prelude.{◌≡◌};
 ghost use Rattle.std.specs.Option.{option_copied};
-ghost use Rattle.class_model.specs.Pool.{entry_of, text_of};
+ghost use Rattle.class_model.specs.Pool.{text_of};
 ghost use Rattle.mt_insn.specs.Named.{names, is_class};
 ghost use Rattle.mt_attrs.specs.Item.{ReadsPart};
 ghost use Rattle.mt_attrs.specs.Named.{is_text, is_value, is_constant, is_caught, names_text, index_at, caught_at, type_at, result_at, Described, described_by};
@@ -12,20 +12,10 @@ use crate::item::u2;
 use class_model::{CheckedPool, ClassFault, Const, DescFault, Name};
 use mt_bytes::Cursor;
 
-/// The entry of an index: it counts the entries from 1.
-fn entry<'a>(pool: &'a CheckedPool, index: u16) -> Option<&'a Const>
-    ensures { option_copied result ≡ entry_of pool.now index }
-{
-    if index == 0 {
-        return None;
-    }
-    pool.entries().get(usize::from(index) - 1)
-}
-
 fn text_of<'a>(pool: &'a CheckedPool, index: u16) -> Option<&'a Name>
     ensures { option_copied result ≡ text_of pool.now index }
 {
-    match entry(pool, index) {
+    match pool.entry(index) {
         Some(Const::Utf8(units)) => Some(units),
         _ => None,
     }
@@ -44,13 +34,13 @@ pub fn names_text(pool: &CheckedPool, index: u16, name: &[u16]) -> bool
 fn is_text(pool: &CheckedPool, index: u16) -> bool
     ensures { result ≡ names is_text pool.now index }
 {
-    matches!(entry(pool, index), Some(Const::Utf8(_)))
+    matches!(pool.entry(index), Some(Const::Utf8(_)))
 }
 
 fn is_class(pool: &CheckedPool, index: u16) -> bool
     ensures { result ≡ names is_class pool.now index }
 {
-    matches!(entry(pool, index), Some(Const::Class(_)))
+    matches!(pool.entry(index), Some(Const::Class(_)))
 }
 
 /// The index names what a constant field may have.
@@ -58,7 +48,7 @@ fn is_value(pool: &CheckedPool, index: u16) -> bool
     ensures { result ≡ names is_value pool.now index }
 {
     matches!(
-        entry(pool, index),
+        pool.entry(index),
         Some(
             Const::Integer(_) | Const::Float(_) | Const::Long(_) | Const::Double(_) | Const::Text(_)
         )
@@ -69,7 +59,7 @@ fn is_value(pool: &CheckedPool, index: u16) -> bool
 fn is_constant(pool: &CheckedPool, tag: u8, index: u16) -> bool
     ensures { result ≡ names (is_constant tag) pool.now index }
 {
-    match entry(pool, index) {
+    match pool.entry(index) {
         Some(Const::Integer(_)) => tag == 66 || tag == 67 || tag == 73 || tag == 83 || tag == 90,
         Some(Const::Double(_)) => tag == 68,
         Some(Const::Float(_)) => tag == 70,

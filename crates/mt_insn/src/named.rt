@@ -1,28 +1,16 @@
 //! What an instruction may name in the constant pool.
 
 ghost use Rattle.std.specs.Prelude.{◌≡◌};
-ghost use Rattle.std.specs.Option.{option_copied};
-ghost use Rattle.class_model.specs.Pool.{entry_of};
 ghost use Rattle.mt_insn.specs.Named.{names, is_loaded, is_long, is_field, is_method, is_any_method, is_interface_method, is_class, loaded_refusal, long_refusal, is_array_kind, array_refusal};
 
 use class_model::{CheckedPool, ClassFault, Const};
-
-/// The entry of an index: it counts the entries from 1.
-pub fn entry<'a>(pool: &'a CheckedPool, index: u16) -> Option<&'a Const>
-    ensures { option_copied result ≡ entry_of pool.now index }
-{
-    if index == 0 {
-        return None;
-    }
-    pool.entries().get(usize::from(index) - 1)
-}
 
 /// The index names what `ldc` and `ldc_w` load.
 pub fn names_loaded(pool: &CheckedPool, index: u16) -> bool
     ensures { result ≡ names is_loaded pool.now index }
 {
     matches!(
-        entry(pool, index),
+        pool.entry(index),
         Some(Const::Integer(_) | Const::Text(_) | Const::Class(_))
     )
 }
@@ -31,20 +19,20 @@ pub fn names_loaded(pool: &CheckedPool, index: u16) -> bool
 pub fn names_long(pool: &CheckedPool, index: u16) -> bool
     ensures { result ≡ names is_long pool.now index }
 {
-    matches!(entry(pool, index), Some(Const::Long(_)))
+    matches!(pool.entry(index), Some(Const::Long(_)))
 }
 
 pub fn names_field(pool: &CheckedPool, index: u16) -> bool
     ensures { result ≡ names is_field pool.now index }
 {
-    matches!(entry(pool, index), Some(Const::Field(_, _)))
+    matches!(pool.entry(index), Some(Const::Field(_, _)))
 }
 
 /// The index names what `invokevirtual` calls.
 pub fn names_method(pool: &CheckedPool, index: u16) -> bool
     ensures { result ≡ names is_method pool.now index }
 {
-    matches!(entry(pool, index), Some(Const::Method(_, _)))
+    matches!(pool.entry(index), Some(Const::Method(_, _)))
 }
 
 /// The index names what `invokespecial` and `invokestatic` call.
@@ -52,7 +40,7 @@ pub fn names_any_method(pool: &CheckedPool, index: u16) -> bool
     ensures { result ≡ names is_any_method pool.now index }
 {
     matches!(
-        entry(pool, index),
+        pool.entry(index),
         Some(Const::Method(_, _) | Const::IMethod(_, _))
     )
 }
@@ -61,20 +49,20 @@ pub fn names_any_method(pool: &CheckedPool, index: u16) -> bool
 pub fn names_interface_method(pool: &CheckedPool, index: u16) -> bool
     ensures { result ≡ names is_interface_method pool.now index }
 {
-    matches!(entry(pool, index), Some(Const::IMethod(_, _)))
+    matches!(pool.entry(index), Some(Const::IMethod(_, _)))
 }
 
 pub fn names_class(pool: &CheckedPool, index: u16) -> bool
     ensures { result ≡ names is_class pool.now index }
 {
-    matches!(entry(pool, index), Some(Const::Class(_)))
+    matches!(pool.entry(index), Some(Const::Class(_)))
 }
 
 /// Why `ldc` and `ldc_w` can't load what the index at a place names.
 pub fn loaded_refusal(pool: &CheckedPool, place: u64, index: u16) -> ClassFault
     ensures { result ≡ loaded_refusal place (entry_of pool.now index) }
 {
-    match entry(pool, index) {
+    match pool.entry(index) {
         Some(Const::Float(_)) => ClassFault::FloatUsed { at: place },
         Some(Const::Handle(_, _) | Const::MethodKind(_)) => ClassFault::DynamicUsed { at: place },
         _ => ClassFault::BadIndex { at: place },
@@ -85,7 +73,7 @@ pub fn loaded_refusal(pool: &CheckedPool, place: u64, index: u16) -> ClassFault
 pub fn long_refusal(pool: &CheckedPool, place: u64, index: u16) -> ClassFault
     ensures { result ≡ long_refusal place (entry_of pool.now index) }
 {
-    match entry(pool, index) {
+    match pool.entry(index) {
         Some(Const::Double(_)) => ClassFault::FloatUsed { at: place },
         _ => ClassFault::BadIndex { at: place },
     }

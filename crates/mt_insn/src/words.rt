@@ -3,7 +3,6 @@
 ghost use Rattle.std.specs.Prelude.{◌≡◌};
 ghost use Rattle.mt_insn.specs.Named.{is_counted, words_counted};
 
-use crate::named::entry;
 use class_model::{CheckedPool, Const, DescFault};
 
 /// So many words are those of the arguments and of a receiver.
@@ -22,10 +21,10 @@ fn is_sum(count: u8, args: Result<u128, DescFault>) -> bool
 pub fn is_counted(pool: &CheckedPool, index: u16, count: u8) -> bool
     ensures { result ≡ is_counted pool.now index count }
 {
-    let Some(Const::IMethod(_, pair)) = entry(pool, index) else {
+    let Some(Const::IMethod(_, pair)) = pool.entry(index) else {
         return false;
     };
-    let Some(Const::Pair(_, desc)) = entry(pool, *pair) else {
+    let Some(Const::Pair(_, desc)) = pool.entry(*pair) else {
         return false;
     };
     match pool.text(*desc) {

@@ -10,7 +10,7 @@ use crate::code::edited_code;
 use crate::members::{methods_with, named_code};
 use crate::parts::Parts;
 use crate::refusal::Refusal;
-use class_model::{Bytes, Class, Const, Edit, LayoutFault, Memory, Seq};
+use class_model::{Bytes, Class, Const, Edit, LayoutFault, Memory, Seq, push_entries};
 use class_writer::write_class;
 use std::alloc::Global;
 
@@ -37,15 +37,6 @@ pub fn edited_parts(class: &Class, edit: &Edit) -> Result<Option<Parts>, Memory>
         Err(Refusal::NoLayout) => Ok(None),
         Err(Refusal::Memory) => Err(Memory),
     }
-}
-
-fn push_entries(pool: &mut Seq<Const>, added: &[Const]) -> Result<(), Memory>
-    ensures { OnOk result (pool.new ≡ pool.old ++ added.now) }
-{
-    for entry in added {
-        pool.push(entry.copy()?)?;
-    }
-    Ok(())
 }
 
 /// The class with parts that an edit makes anew.

@@ -13,7 +13,6 @@ mod pool;
 mod printing;
 mod program;
 mod table;
-mod text;
 
 pub use asked::Asked;
 pub use change::{Callee, Change, Value};

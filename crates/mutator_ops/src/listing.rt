@@ -9,7 +9,7 @@ use crate::parts::code_of;
 use crate::place::Place;
 use crate::pool::Pool;
 use crate::table::{mutators, row};
-use crate::text::class_name;
+use class_link::own_name;
 use class_model::{Class, Insn, Member, Memory, Mutator, Name, Seq};
 use std::alloc::Global;
 
@@ -140,7 +140,7 @@ pub fn class_mutants(alloc: Global, class: &Class) -> Result<Seq<Mutant>, Memory
     if is_synthetic(class.flags) {
         return Ok(mutants);
     }
-    let name = class_name(alloc, class)?;
+    let name = own_name(alloc, class)?;
     let pool = Pool::new(alloc, class.pool.as_slice())?;
     push_methods_mutants(alloc, &mut mutants, &name, &pool, class.methods.as_slice())?;
     Ok(mutants)

@@ -7,9 +7,9 @@ ghost use Rattle.test_discovery.specs.Searching.{CountsListed, CountsWith, Count
 
 use crate::fault::TestFault;
 use crate::listed::{Listed, downwards, listed_of, rising};
-use crate::names::own_name;
 use crate::rules::{check_listed, is_test_class, uses_runner};
 use crate::search::in_order;
+use class_link::own_name;
 use class_model::{Bytes, Class, ClassId, Name, Seq};
 use class_table::Program;
 use std::alloc::Global;

@@ -9,7 +9,7 @@ ghost use Rattle.test_discovery.specs.Searching.{behind, rising_in};
 
 use crate::annotations::marks_of;
 use crate::marks::Marks;
-use crate::names::{own_name, text_or_empty};
+use class_link::{own_name, text_named};
 use class_model::{Class, Const, Member, Memory, Name, Seq};
 use class_table::Program;
 use mt_pool::class_name_of;
@@ -67,8 +67,8 @@ fn head_of(alloc: Global, pool: &[Const], member: &Member) -> Result<(Name, Name
     ensures { IfOk result (λ head. head ≡ head_of pool.now member.now) }
 {
     Ok((
-        text_or_empty(alloc, pool, member.name)?,
-        text_or_empty(alloc, pool, member.desc)?,
+        text_named(alloc, pool, member.name)?,
+        text_named(alloc, pool, member.desc)?,
     ))
 }
 

@@ -1,15 +1,11 @@
 //! Names of the constant pool, and those that are asked for.
 
-ghost use Rattle.std.specs.Prelude.{◌≡◌, IfOk};
+ghost use Rattle.std.specs.Prelude.{◌≡◌};
 ghost use Rattle.program_rules.specs.Names.{same, instance_initializer as initializer, plain_descriptor};
-ghost use Rattle.class_model.specs.Pool.{text_of};
-ghost use Rattle.class_link.specs.Symbols.{name_or_empty};
-ghost use Rattle.class_link.specs.Info.{own_name as name_of};
 ghost use Rattle.test_discovery.specs.Notes.{names_text};
 
-use class_model::{Class, Const, Memory, Name};
-use mt_pool::{class_name_of, text_of};
-use std::alloc::Global;
+use class_model::Const;
+use mt_pool::text_of;
 
 /// `<init>`
 pub const INITIALIZER: [u16; 6] = [60, 105, 110, 105, 116, 62];
@@ -42,24 +38,4 @@ pub fn is_plain_descriptor(desc: &[u16]) -> bool
     ensures { result ≡ same desc.now plain_descriptor }
 {
     desc == PLAIN.as_slice()
-}
-
-/// A copy of the text that an index names, empty where it names none.
-pub fn text_or_empty(alloc: Global, pool: &[Const], index: u16) -> Result<Name, Memory>
-    ensures { IfOk result (λ name. name ≡ name_or_empty (text_of pool.now index)) }
-{
-    match text_of(pool, index) {
-        Some(text) => text.copy(),
-        None => Ok(Name::new(alloc)),
-    }
-}
-
-/// The name that a class file gives to its class.
-pub fn own_name(alloc: Global, class: &Class) -> Result<Name, Memory>
-    ensures { IfOk result (λ name. name ≡ name_of class.now) }
-{
-    match class_name_of(class.pool.as_slice(), class.this) {
-        Some(name) => name.copy(),
-        None => Ok(Name::new(alloc)),
-    }
 }

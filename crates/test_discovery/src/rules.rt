@@ -14,7 +14,7 @@ use crate::annotations::{has_runner as stands_among, is_ignored};
 use crate::expected::Expected;
 use crate::fault::{Rule, TestFault};
 use crate::listed::Listed;
-use crate::names::{is_plain_descriptor, names_initializer, names_plain_descriptor, own_name};
+use crate::names::{is_plain_descriptor, names_initializer, names_plain_descriptor};
 use class_model::flags::{is_abstract, is_interface, is_private, is_static};
 use class_model::{Class, Const, Member, Memory, Name};
 use std::alloc::Global;

@@ -1,11 +1,11 @@
 //! Which texts of a class's constant pool its entries name, by their indices (JVMS 4.4).
 
-ghost use Rattle.std.specs.Prelude.{◌≡◌, ◌++◌, slice_get};
+ghost use Rattle.std.specs.Prelude.{◌≡◌, slice_get};
 ghost use Rattle.std.specs.Option.{option_copied};
 ghost use Rattle.class_model.specs.Pool.{entry_of};
 ghost use Rattle.type_verifier.specs.PoolTexts.{pool_in, class_text, pair_texts, member_texts, of_class, texts_in};
 
-use class_link::ClassBody;
+use class_link::{ClassBody, at_place};
 use class_model::Const;
 
 /// The indices of the texts that an entry names: of a class's name, and of a member's name and
@@ -15,18 +15,6 @@ pub struct TextIndices {
     pub class: u16,
     pub name: u16,
     pub desc: u16,
-}
-
-// The entry at a place, counted from 0, of a pool with more entries behind it.
-#[tactic(auto, using(class_link::proofs::AppendedLaws::front_same, class_link::proofs::AppendedLaws::behind_same))]
-fn at_place<'a>(pool: &'a [Const], added: &'a [Const], place: usize) -> Option<&'a Const>
-    ensures { option_copied result ≡ slice_get (pool.now ++ added.now) place }
-{
-    if place < pool.len() {
-        pool.get(place)
-    } else {
-        added.get(place - pool.len())
-    }
 }
 
 // The entry at a place of the constant pool of a class, counted from 0.
