@@ -39,7 +39,8 @@ fn put_interfaces(out: &mut Bytes, interfaces: &[u16]) -> Result<(), LayoutFault
     Ok(())
 }
 
-fn put_indices(out: &mut Bytes, indices: &[u16]) -> Result<(), Memory>
+/// The indices, in two bytes each.
+pub fn put_indices(out: &mut Bytes, indices: &[u16]) -> Result<(), Memory>
     ensures { OnOk result (out.new ≡ out.old ++ flat_map (to_be_bytes w16) indices.now) }
 {
     for index in indices {

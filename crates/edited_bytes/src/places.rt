@@ -10,6 +10,7 @@ ghost use Rattle.class_writer.specs.Writing.{HasMemberForm, HasClassForm};
 ghost use Rattle.edited_bytes.specs.Places.{version_bytes, lists_bytes, middle_bytes, head_bytes, place_at, places_from, pool_end, places_of};
 
 use class_model::{Bytes, Class, LayoutFault, Member, Memory, Seq};
+use class_writer::put_indices;
 use mt_attrs::write_attrs;
 use mt_bytes::{put_u2, put_u4};
 use mt_pool::write_pool;
@@ -49,15 +50,6 @@ fn put_count(out: &mut Bytes, count: usize) -> Result<(), Memory>
         return Err(Memory);
     };
     put_u2(out, count)
-}
-
-fn put_indices(out: &mut Bytes, indices: &[u16]) -> Result<(), Memory>
-    ensures { OnOk result (out.new ≡ out.old ++ flat_map (to_be_bytes w16) indices.now) }
-{
-    for index in indices {
-        put_u2(out, *index)?;
-    }
-    Ok(())
 }
 
 fn put_interfaces(out: &mut Bytes, interfaces: &[u16]) -> Result<(), Memory>

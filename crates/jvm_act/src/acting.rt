@@ -40,8 +40,8 @@ pub enum Acted {
     Call(ClassId, CallUse, u32),
 }
 
-// The instruction at a place, which has a next number.
-fn op_at(ops: &[Op], at: usize) -> Option<Op>
+/// The instruction at a place, which has a next number.
+pub fn op_at(ops: &[Op], at: usize) -> Option<Op>
     ensures some { IfSome result (λ op. slice_get ops.now at ≡ Some op) }
     ensures next { IfSome result (λ op. at + 1 < 2 ^ 64) }
     ensures none { IfNone result (slice_get ops.now at ≡ None) }

@@ -20,7 +20,7 @@ mod symbols;
 mod turning;
 mod unwinding;
 
-pub use acting::{Acted, act};
+pub use acting::{Acted, act, op_at};
 pub use beyond::act_beyond;
 pub use calls::take_call;
 pub use codes::Codes;

@@ -220,8 +220,8 @@ fn set_constant(
     }
 }
 
-// The number of a place. A class with 2^32 fields or more wants more memory than there is.
-fn number_of(place: usize) -> Result<u32, Memory>
+/// The number of a place. A class with 2^32 fields or more wants more memory than there is.
+pub fn number_of(place: usize) -> Result<u32, Memory>
     ensures { IfOk result (λ n. n ≡ place) }
 {
     if place > u32::MAX as usize {

@@ -10,6 +10,7 @@ mod ready;
 mod states;
 
 pub use beginning::begin;
+pub use constants::number_of;
 pub use members::is_initializer;
 pub use need::{Need, need_for};
 pub use ready::{Readied, make_ready};

@@ -10,11 +10,11 @@ ghost use Rattle.class_table.specs.Table.{look, name_at};
 ghost use Rattle.jvm_world.specs.View.{Means, IsWorldOf};
 ghost use Rattle.jvm_begin.specs.Needs.{node_at, is_interface_at, need_before, need_among, need_of, need_or, IsWithin, TellsNeed, IsToBegin, NeedsSame, GoesUp, NeedsAcross};
 
-use crate::states::{counts, is_begun, is_interface_at, state_of};
+use crate::states::{counts, is_interface_at, state_of};
 use class_family::{Walker, superclass};
 use class_model::{ClassId, Memory};
 use class_table::Program;
-use jvm_world::World;
+use jvm_world::{World, is_begun};
 use machine_rules::InitState;
 
 /// What stands before the use of a class.

@@ -5,7 +5,7 @@
 ghost use Rattle.std.specs.Prelude.{◌≡◌, ◌<◌, List, map, length};
 ghost use Rattle.std.specs.List.{list_any};
 ghost use Rattle.program_rules.specs.Outlines.{head_of, is_default, is_abstractly};
-ghost use Rattle.machine_rules.specs.Initialisation.{is_begun, is_initialised_before};
+ghost use Rattle.machine_rules.specs.Initialisation.{is_initialised_before};
 ghost use Rattle.class_link.specs.declared.linked.Entry.{Entry};
 ghost use Rattle.class_link.specs.View.{method_of};
 ghost use Rattle.jvm_world.specs.View.{IsWorldOf};
@@ -17,18 +17,6 @@ use class_model::flags::{is_abstract, is_interface, is_static};
 use class_table::Program;
 use jvm_world::World;
 use machine_rules::InitState;
-
-/// Whether a class is done, or its initializer runs.
-pub fn is_begun(state: InitState) -> bool
-    ensures { result ≡ is_begun state }
-{
-    match state {
-        InitState::Fresh => false,
-        InitState::Running => true,
-        InitState::Done => true,
-        InitState::Failed => false,
-    }
-}
 
 /// How far a class has come. Classes of the library are done from the start.
 pub fn state_of(world: &World, p: &Program, class: ClassId) -> InitState

@@ -1,6 +1,6 @@
 //! A field by its place, and what is asked of it.
 
-ghost use Rattle.std.specs.Prelude.{◌≡◌, ◌<◌, length, IfOk};
+ghost use Rattle.std.specs.Prelude.{◌≡◌, ◌<◌, length};
 ghost use Rattle.program_rules.specs.Linked.{LinkedField as Field};
 ghost use Rattle.program_rules.specs.Outlines.{fields_in, is_interface_class, is_static_field};
 ghost use Rattle.class_link.specs.View.{field_of};
@@ -8,7 +8,7 @@ ghost use Rattle.jvm_link.specs.Sites.{outline_at};
 ghost use Rattle.jvm_field_rows.specs.Sites.{Declares};
 
 use class_link::LinkedField;
-use class_model::{ClassId, Memory, flags};
+use class_model::{ClassId, flags};
 use class_table::Program;
 use jvm_link::Site;
 
@@ -57,14 +57,4 @@ pub fn is_static(p: &Program, site: Site) -> bool
     }
     let field = field_at(p, site);
     flags::is_static(field.flags)
-}
-
-/// The number of a place. A class with 2^32 fields or more wants more memory than there is.
-pub fn number_of(place: usize) -> Result<u32, Memory>
-    ensures { IfOk result (λ n. n ≡ place) }
-{
-    if place > u32::MAX as usize {
-        return Err(Memory);
-    }
-    Ok(place as u32)
 }

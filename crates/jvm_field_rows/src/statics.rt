@@ -18,13 +18,13 @@ ghost use Rattle.jvm_field_rows.specs.Sites.{ResolvesTo};
 ghost use Rattle.jvm_field_rows.specs.Turned.{StaysBeginsOrGoes, TurnsWhole};
 
 use crate::access::Access;
-use crate::sites::{field_at, is_static, number_of};
+use crate::sites::{field_at, is_static};
 use crate::turning::turn_of;
 use class_family::Walker;
 use class_link::FieldRef;
 use class_model::{ClassId, Kind, Memory};
 use class_table::Program;
-use jvm_begin::{Readied, make_ready};
+use jvm_begin::{Readied, make_ready, number_of};
 use jvm_frames::Frames;
 use jvm_heap_rows::{Effect, throw};
 use jvm_link::Site;

@@ -12,3 +12,4 @@ mod values;
 
 pub use frames::{Args, Frames, Place};
 pub use laws::stays_are_steps;
+pub use values::is_of_kind;

@@ -119,8 +119,9 @@ pub fn width(v: Value) -> usize
     }
 }
 
-// Whether a value is of a kind. Of references this asks no class.
-fn is_of_kind(kind: &Kind, v: Value) -> bool
+/// Whether a value is of a kind. Of references this asks no class.
+#[inline(always)]
+pub fn is_of_kind(kind: &Kind, v: Value) -> bool
     ensures { result ≡ is_of_kind (kind_of kind.now) v }
 {
     match kind {

@@ -1,7 +1,7 @@
 // Kinds of elements and of values.
 
 ghost use Rattle.std.specs.Prelude.{◌≡◌};
-ghost use Rattle.program_rules.specs.Kinds.{is_of_kind, narrow_value};
+ghost use Rattle.program_rules.specs.Kinds.{narrow_value};
 ghost use Rattle.machine_rules.specs.Arrays.{serves};
 ghost use Rattle.class_link.specs.Symbols.{kind_of};
 
@@ -20,20 +20,6 @@ pub fn serves(element: Element, kind: &Kind) -> bool
         Element::ByteElement => matches!(kind, Kind::Byte | Kind::Boolean),
         Element::CharElement => matches!(kind, Kind::Char),
         Element::ShortElement => matches!(kind, Kind::Short),
-    }
-}
-
-/// Whether a value is of a kind. Of references this asks no class.
-#[inline(always)]
-pub fn is_of_kind(kind: &Kind, v: Value) -> bool
-    ensures { result ≡ is_of_kind (kind_of kind.now) v }
-{
-    match kind {
-        Kind::Long => matches!(v, Value::Long(_)),
-        Kind::Ref(_) => matches!(v, Value::Ref(_) | Value::Null),
-        Kind::Boolean | Kind::Byte | Kind::Char | Kind::Short | Kind::Int => {
-            matches!(v, Value::Int(_))
-        }
     }
 }
 

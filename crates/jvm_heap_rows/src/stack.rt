@@ -6,9 +6,8 @@ ghost use Rattle.class_link.specs.Symbols.{kind_of};
 ghost use Rattle.jvm_frames.specs.Frames.{stack_of};
 ghost use Rattle.jvm_heap_rows.specs.Rows.{TakesKind, NoKind};
 
-use crate::kinds::is_of_kind;
 use class_model::Kind;
-use jvm_frames::Frames;
+use jvm_frames::{Frames, is_of_kind};
 use program_rules::Value;
 
 /// The int at a place of the stack.

@@ -86,9 +86,9 @@ pub fn throw_without(
     Ok(Turn::of(thrown))
 }
 
-// The method of a class, with what its frame takes.
+/// The method of a class, with what its frame takes.
 #[inline(always)]
-fn code_of(site: Site, number: u32, max_locals: u16, max_stack: u16) -> Code
+pub fn code_of(site: Site, number: u32, max_locals: u16, max_stack: u16) -> Code
     ensures { result ≡ record {
       class = site.class;
       method = number;

@@ -9,7 +9,7 @@ mod ready;
 mod resolving;
 mod statics;
 
-pub use calling::{call_found, enter_code, throw_without};
+pub use calling::{call_found, code_of, enter_code, throw_without};
 pub use heads::{Body, Head, flags_at, head_at};
 pub use invoked::Invoked;
 pub use ready::is_ready;

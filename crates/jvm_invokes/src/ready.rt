@@ -1,27 +1,12 @@
 //! Whether a class is initialised, or its initializer runs (JVMS 5.5).
 
 ghost use Rattle.std.specs.Prelude.{◌≡◌, ◌<◌, length, true};
-ghost use Rattle.machine_rules.specs.Initialisation.{is_begun};
 ghost use Rattle.jvm_world.specs.View.{IsWorldOf};
 ghost use Rattle.jvm_invokes.specs.Rows.{IsReady};
 
 use class_model::ClassId;
 use class_table::Program;
-use jvm_world::World;
-use machine_rules::InitState;
-
-// Whether a class is done, or its initializer runs.
-#[inline(always)]
-fn is_begun(state: InitState) -> bool
-    ensures { result ≡ is_begun state }
-{
-    match state {
-        InitState::Fresh => false,
-        InitState::Running => true,
-        InitState::Done => true,
-        InitState::Failed => false,
-    }
-}
+use jvm_world::{World, is_begun};
 
 /// Whether a class has begun, so that nothing stands before its use. Classes of the library have
 /// from the start.

@@ -9,18 +9,8 @@ ghost use Rattle.jvm_layout.specs.Layouts.{own_values};
 use class_link::LinkedField;
 use class_model::flags::is_static;
 use class_model::{Kind, Memory};
+use jvm_world::default_value;
 use program_rules::Value;
-
-// What a field of a kind holds at first.
-fn default_of(kind: &Kind) -> Value
-    ensures { result ≡ default_of (kind_of kind.now) }
-{
-    match kind {
-        Kind::Long => Value::Long(0),
-        Kind::Ref(_) => Value::Null,
-        Kind::Boolean | Kind::Byte | Kind::Char | Kind::Short | Kind::Int => Value::Int(0),
-    }
-}
 
 /// Adds the defaults of the fields that aren't static, the last field's first.
 #[tactic(auto, using(crate::proofs::Climbing::own_front))]
@@ -52,7 +42,7 @@ fn push_default(
     if all_static || is_static(field.flags) {
         return Ok(());
     }
-    values.push(default_of(&field.kind))?;
+    values.push(default_value(&field.kind))?;
     Ok(())
 }
 

@@ -19,7 +19,7 @@ use crate::machine::Machine;
 use class_family::Walker;
 use class_model::Memory;
 use class_table::Program;
-use jvm_act::{MethodCode, act_beyond};
+use jvm_act::{MethodCode, act_beyond, op_at};
 use jvm_field_rows::{Layouts, Slots};
 use jvm_frames::Frames;
 use jvm_lines::is_marked;
@@ -65,17 +65,6 @@ fn stay(frames: &mut Frames, method: &MethodCode, marks: &[bool], limit: u64) ->
         marks,
         limit,
     )
-}
-
-// The instruction at a place, which has a next number.
-fn op_at(ops: &[Op], at: usize) -> Option<Op>
-    ensures some { IfSome result (λ op. slice_get ops.now at ≡ Some op) }
-    ensures next { IfSome result (λ op. at + 1 < 2 ^ 64) }
-{
-    if at >= ops.len() {
-        return None;
-    }
-    ops.get(at).copied()
 }
 
 // Executes the instruction at which the running frame stands, where it has a mark and goes beyond

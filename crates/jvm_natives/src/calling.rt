@@ -25,7 +25,7 @@ use class_model::{Kind, Memory};
 use class_table::Program;
 use jvm_calls::Callee as Code;
 use jvm_frames::{Args, Frames};
-use jvm_invokes::{Body, enter_code, head_at, throw_without};
+use jvm_invokes::{Body, code_of, enter_code, head_at, throw_without};
 use jvm_link::Site;
 use jvm_unwind::Turn;
 use jvm_world::World;
@@ -88,23 +88,6 @@ fn call_native(
             let filled = fill(frames, world, p, args);
             Ok(filled)
         }
-    }
-}
-
-// The method of a class, with what its frame takes.
-fn code_of(site: Site, number: u32, max_locals: u16, max_stack: u16) -> Code
-    ensures { result ≡ record {
-      class = site.class;
-      method = number;
-      max_locals = max_locals;
-      max_stack = max_stack;
-    } }
-{
-    Code {
-        class: site.class,
-        method: number,
-        max_locals,
-        max_stack,
     }
 }
 

@@ -2,7 +2,7 @@
 
 ghost use Rattle.std.specs.Prelude.{◌≡◌, ◌+◌, ◌<◌, ◌^◌, ◌-ℤ◌, List, drop, IfSome};
 ghost use Rattle.program_rules.specs.Instructions as def;
-ghost use Rattle.machine_rules.specs.Steps.{table_target, key_target};
+ghost use Rattle.machine_rules.specs.Steps.{table_target};
 ghost use Rattle.class_link.specs.Info.{Info};
 ghost use Rattle.jvm_state.specs.Tops.{TakesInt};
 ghost use Rattle.jvm_frames.specs.Frames.{stack_of};
@@ -12,20 +12,7 @@ ghost use Rattle.jvm_plain_rows.specs.Plain.{RunsAs, IsJump, jump_row};
 
 use jvm_frames::Frames;
 use jvm_heap_rows::{Effect, int_at};
-use jvm_state::Op;
-
-// The target of an index.
-fn target_at(default: u32, targets: &[u32], place: i64) -> u32
-    ensures { result ≡ table_target default targets.now place }
-{
-    if place < 0 {
-        return default;
-    }
-    match targets.get(place as usize) {
-        Some(to) => *to,
-        None => default,
-    }
-}
+use jvm_state::{Op, key_target, target_at};
 
 // The target of a number in a table.
 fn target_of(default: u32, low: i32, targets: &[u32], z: i32) -> u32
@@ -33,18 +20,6 @@ fn target_of(default: u32, low: i32, targets: &[u32], z: i32) -> u32
 {
     let place = z as i64 - low as i64;
     target_at(default, targets, place)
-}
-
-// The target of a key.
-fn key_target(default: u32, keys: &[(i32, u32)], z: i32) -> u32
-    ensures { result ≡ key_target default keys.now z }
-{
-    for key in keys {
-        if key.0 == z {
-            return key.1;
-        }
-    }
-    default
 }
 
 // A jump that an int takes.

@@ -184,9 +184,9 @@ fn table_target(default: u32, low: i32, targets: &[u32], z: i32) -> u32
     target_at(default, targets, place)
 }
 
-// The target of an index.
+/// The target of an index.
 #[inline(always)]
-fn target_at(default: u32, targets: &[u32], place: i64) -> u32
+pub fn target_at(default: u32, targets: &[u32], place: i64) -> u32
     ensures { result ≡ table_target default targets.now place }
 {
     if place < 0 {
@@ -198,8 +198,8 @@ fn target_at(default: u32, targets: &[u32], place: i64) -> u32
     }
 }
 
-// The target of a key.
-fn key_target(default: u32, keys: &[(i32, u32)], z: i32) -> u32
+/// The target of a key.
+pub fn key_target(default: u32, keys: &[(i32, u32)], z: i32) -> u32
     ensures { result ≡ key_target default keys.now z }
 {
     for key in keys {

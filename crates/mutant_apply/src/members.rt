@@ -6,18 +6,7 @@ ghost use Rattle.mutant_apply.specs.Edited.{changed_at, with_code, member_with, 
 
 use crate::items::with_item;
 use class_model::{Attr, Body, Class, Code, Edit, Member, Memory, Seq};
-
-// The code of a method: its first attribute that is Code.
-fn code_of(attrs: &[Attr]) -> Option<&Code>
-    ensures { option_copied result ≡ code_of attrs.now }
-{
-    for attr in attrs {
-        if let Body::Code(code) = &attr.body {
-            return Some(code);
-        }
-    }
-    None
-}
+use mutator_ops::code_of;
 
 /// The code that an edit names.
 pub fn named_code<'a>(edit: &Edit, class: &'a Class) -> Option<&'a Code>

@@ -3,6 +3,7 @@
 use class_model::{
     Arg, Attr, Body, Class, Code, Const, Insn, Member, Memory, Name, NewInsn, Note, Seq,
 };
+use class_model::names::ascii;
 use mutator_ops::{Mutant, class_mutants, count_mutants};
 use std::alloc::Global;
 use std::test::Fail;
@@ -30,18 +31,9 @@ pub const PLAIN: Case<'static> = Case {
     called: ("g", "()V"),
 };
 
-/// The name of a text of ASCII characters.
-pub fn units(alloc: Global, text: &str) -> Result<Name, Memory> {
-    let mut name = Name::new(alloc);
-    for byte in text.as_bytes() {
-        name.push(u16::from(*byte))?;
-    }
-    Ok(name)
-}
-
 fn push_texts(alloc: Global, pool: &mut Seq<Const>, texts: &[&str]) -> Result<(), Memory> {
     for text in texts {
-        pool.push(Const::Utf8(units(alloc, text)?))?;
+        pool.push(Const::Utf8(ascii(alloc, text)?))?;
     }
     Ok(())
 }

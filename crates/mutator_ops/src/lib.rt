@@ -22,6 +22,7 @@ pub use laws::{
 };
 pub use listing::class_mutants;
 pub use mutant::{CellTable, Mutant, State, Verdict};
+pub use parts::code_of;
 pub use pool::Pool;
 pub use printing::{id_lines, id_text};
 pub use program::{count_all, mutants};

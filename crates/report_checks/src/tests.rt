@@ -2,6 +2,7 @@
 
 use crate::{report_text, summary_text};
 use class_model::{Edit, Memory, Mutator, Name, Seq};
+use class_model::names::ascii;
 use class_table::Test;
 use mutator_ops::{Mutant, State, Verdict};
 use report_schema::{ReportInput, file_key};
@@ -20,18 +21,10 @@ struct Case<'a> {
     covering: &'a [u32],
 }
 
-fn name(alloc: Global, text: &str) -> Result<Name, Memory> {
-    let mut name = Name::new(alloc);
-    for byte in text.as_bytes() {
-        name.push(u16::from(*byte))?;
-    }
-    Ok(name)
-}
-
 fn test(alloc: Global, method: &str) -> Result<Test, Memory> {
     Ok(Test {
-        class: name(alloc, "T")?,
-        method: name(alloc, method)?,
+        class: ascii(alloc, "T")?,
+        method: ascii(alloc, method)?,
         script: Seq::new(alloc),
         expected: None,
     })
@@ -39,9 +32,9 @@ fn test(alloc: Global, method: &str) -> Result<Test, Memory> {
 
 fn mutant(alloc: Global, case: &Case<'_>) -> Result<Mutant, Memory> {
     Ok(Mutant {
-        class: name(alloc, case.class)?,
-        method: name(alloc, "f")?,
-        desc: name(alloc, "(I)Z")?,
+        class: ascii(alloc, case.class)?,
+        method: ascii(alloc, "f")?,
+        desc: ascii(alloc, "(I)Z")?,
         at: 1,
         mutator: case.mutator,
         line: case.line,
@@ -74,11 +67,11 @@ fn input_of(alloc: Global, cases: &[Case<'_>]) -> Result<ReportInput, Memory> {
     };
     input.tests.push(test(alloc, "neg")?)?;
     input.tests.push(test(alloc, "zero")?)?;
-    input.test_keys.push(name(alloc, "T.java")?)?;
+    input.test_keys.push(ascii(alloc, "T.java")?)?;
     for case in cases {
         input.mutants.push(mutant(alloc, case)?)?;
         input.verdicts.push(verdict(alloc, case)?)?;
-        input.keys.push(name(alloc, case.key)?)?;
+        input.keys.push(ascii(alloc, case.key)?)?;
     }
     Ok(input)
 }
@@ -181,7 +174,7 @@ fn a_class_lies_in_the_file_of_its_outermost_class(rt: HostRuntime) -> Result<()
         ("p/$A", "p/$A.java"),
     ] {
         assert!(rt;
-            file_key(alloc, &name(alloc, class)?)?.as_slice() == name(alloc, key)?.as_slice()
+            file_key(alloc, &ascii(alloc, class)?)?.as_slice() == ascii(alloc, key)?.as_slice()
         );
     }
     Ok(())
