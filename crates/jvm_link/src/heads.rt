@@ -2,6 +2,7 @@
 #![tactic(auto, unfolding(class_link::specs::View::linked_of))]
 
 ghost use Rattle.std.specs.Prelude.{◌≡◌, ◌<◌, length, slice_get, Some};
+ghost use Rattle.program_rules.specs.Linked.{is_interface};
 ghost use Rattle.program_rules.specs.Outlines.{Head, is_interface_class, is_abstractly};
 ghost use Rattle.class_link.specs.Info.{class_of};
 ghost use Rattle.class_link.specs.declared.linked.LinkedMethod.{LinkedMethod};
@@ -11,12 +12,18 @@ use class_link::{ClassInfo, LinkedBody, LinkedMethod};
 use class_model::{ClassId, flags};
 use class_table::Program;
 
+fn has_interface_flag(info: &ClassInfo) -> bool
+    ensures { result ≡ is_interface (class_of info.now).flags }
+{
+    flags::is_interface(info.linked().flags)
+}
+
 /// Whether a class is an interface.
 pub fn is_interface(program: &Program, id: ClassId) -> bool
     requires { id.0 < length program.now }
     ensures { result ≡ is_interface_class (outline_at program.now id.0) }
 {
-    flags::is_interface(program.info(id).linked().flags)
+    has_interface_flag(program.info(id))
 }
 
 fn flags_in(methods: &[LinkedMethod], place: usize) -> u16

@@ -1,3 +1,0 @@
-mod Members
-mod OrderedLaws
-pub mod Seen
