@@ -3,29 +3,35 @@
 ghost use Rattle.std.specs.Prelude.{◌≡◌, None};
 ghost use Rattle.mt_edge.specs.Causes.{HasCause};
 
-use crate::listing::{files_below, is_absent};
+use crate::known::KnownFiles;
+use crate::listing::files_below;
 use crate::outside::{EdgeFault, Sink, Tree};
 use crate::replacing::replace_file;
+use crate::standing::if_held;
 use class_model::Bytes;
-use std::io::ErrorKind;
+use std::fs::File;
+use std::io::{ErrorKind, Read};
 use std::rt::Files;
 use std::{fs, io};
 
-/// The files of the system. What isn't there, or stands below a file, holds nothing.
+/// The files of the system. What isn't there, or stands below a file, holds nothing, nor does a
+/// folder. A file that was read as a class is not replaced, nor one by two paths.
 #[derive(Drop)]
-pub struct HostTree<'a, R: Files + AllocGlobal> {
+pub struct HostTree<'a, R: Files<File = File> + AllocGlobal> {
     rt: &'a R,
+    known: KnownFiles,
     reading: u64,
     writing: u64,
 }
 
-impl<'a, R: Files + AllocGlobal> HostTree<'a, R> {
+impl<'a, R: Files<File = File> + AllocGlobal> HostTree<'a, R> {
     /// The files that the runtime reaches, with no fault counted yet.
     pub fn new(rt: &'a R) -> HostTree<'a, R>
         ensures { (result.reading ≡ 0) × (result.writing ≡ 0) }
     {
         HostTree {
             rt,
+            known: KnownFiles::new(rt.alloc()),
             reading: 0,
             writing: 0,
         }
@@ -50,23 +56,34 @@ fn counted<T: Drop>(count: &mut u64, outcome: io::Result<T>) -> Result<T, EdgeFa
 
 // What is no regular file, as a pipe, tells no length: it is read as it comes.
 fn length_if_there<R: Files + AllocGlobal>(rt: &R, path: &str) -> io::Result<Option<u64>> {
-    match fs::metadata(rt, path) {
-        Ok(about) if about.is_file() => Ok(Some(about.len())),
-        Ok(_) => Ok(Some(0)),
-        Err(error) if is_absent(&error) => Ok(None),
-        Err(error) => Err(error),
+    match if_held(path, fs::metadata(rt, path))? {
+        Some(about) if about.is_dir() => Ok(None),
+        Some(about) if about.is_file() => Ok(Some(about.len())),
+        Some(_) => Ok(Some(0)),
+        None => Ok(None),
     }
 }
 
-fn read_if_there<R: Files + AllocGlobal>(rt: &R, path: &str) -> io::Result<Option<Bytes>> {
-    match fs::read(rt, path) {
-        Ok(items) => Ok(Some(Bytes::from_vec(items))),
-        Err(error) if is_absent(&error) => Ok(None),
-        Err(error) => Err(error),
+// The bytes that are held at the path. A class file is remembered.
+fn read_if_there<R: Files<File = File> + AllocGlobal>(
+    rt: &R,
+    path: &str,
+    known: &mut KnownFiles,
+) -> io::Result<Option<Bytes>> {
+    let Some(mut file) = if_held(path, File::open(rt, path))? else {
+        return Ok(None);
+    };
+    let about = file.metadata()?;
+    if about.is_dir() {
+        return Ok(None);
     }
+    known.note_read(path, &about)?;
+    let mut items = Vec::new(rt.alloc());
+    file.read_to_end(&mut items)?;
+    Ok(Some(Bytes::from_vec(items)))
 }
 
-impl<'a, R: Files + AllocGlobal> Tree for HostTree<'a, R> {
+impl<'a, R: Files<File = File> + AllocGlobal> Tree for HostTree<'a, R> {
     ghost holds = { λ _. None };
 
     ghost reading = { λ t. t.reading };
@@ -84,12 +101,12 @@ impl<'a, R: Files + AllocGlobal> Tree for HostTree<'a, R> {
     }
 
     fn read(&mut self, path: &str) -> Result<Option<Bytes>, EdgeFault> {
-        let read = read_if_there(self.rt, path);
+        let read = read_if_there(self.rt, path, &mut self.known);
         counted(&mut self.reading, read)
     }
 
     fn replace(&mut self, path: &str, bytes: &[u8]) -> Result<(), EdgeFault> {
-        let replaced = replace_file(self.rt, path, bytes);
+        let replaced = replace_file(self.rt, path, bytes, &mut self.known);
         counted(&mut self.writing, replaced)
     }
 }

@@ -3,13 +3,16 @@
 //! the files and the standard output.
 #![tactic(auto)]
 
+mod beside;
 mod host;
+mod known;
 mod listing;
 mod mem_sink;
 mod mem_tree;
 mod outside;
 mod replacing;
 mod script;
+mod standing;
 mod steps;
 
 pub use host::{HostSink, HostTree};

@@ -1,65 +1,82 @@
 //! The files below a real folder.
 
+use crate::standing::{if_held, is_absent, real_path};
 use std::collections::BTreeSet;
+use std::fs::Metadata;
 use std::io::{Error, ErrorKind, Read};
 use std::rt::Files;
 use std::{fs, io};
 
-// Whether nothing is held at a path: there is nothing, or the path goes on below a file or round in
-// links.
-pub fn is_absent(error: &Error) -> bool {
-    matches!(
-        error.kind(),
-        ErrorKind::NotFound | ErrorKind::NotADirectory | ErrorKind::FilesystemLoop
-    )
-}
+// How many names may stand below a folder, of files, folders and what else there is.
+const MOST_NAMES: u32 = 200_000;
 
-// The files that were found, the folders that are still to be entered, and the real paths of those
-// that were.
+// What may still be found and how much of it: the front of all real paths below the folder, and
+// how many names are left to its limit; the files that were found, the folders that are still to
+// be entered, and the real paths of those that were.
 #[derive(Drop)]
 struct Walk {
+    below: String,
+    left: u32,
     files: Vec<String>,
     folders: BTreeSet<String>,
     entered: BTreeSet<String>,
 }
 
-// The names in a folder, each with a zero byte behind it. They are read as bytes, since a name need
-// not be text.
-fn names_in<R: Files + AllocGlobal>(rt: &R, folder: &str) -> io::Result<Vec<u8>> {
-    let folder = format!(in rt.alloc(); "{folder}/")?;
-    let mut names = Vec::new(rt.alloc());
-    let mut listing = rt.open_dir(folder.as_str())?;
-    let mut piece = [0u8; 4096];
-    for _ in 0..u64::MAX {
-        let length = listing.read(&mut piece)?;
-        if length == 0 {
-            break;
-        }
-        names.extend_from_slice(&piece[..length])?;
+// What stands at a path, be it by a link that stays below the folder; none where a link leads
+// elsewhere or nowhere.
+fn standing_at<R: Files + AllocGlobal>(
+    rt: &R,
+    path: &str,
+    below: &str,
+) -> io::Result<Option<Metadata>> {
+    match fs::symlink_metadata(rt, path) {
+        Ok(about) if about.is_symlink() => linked_at(rt, path, below),
+        Ok(about) => Ok(Some(about)),
+        Err(error) if is_absent(&error) => Ok(None),
+        Err(error) => Err(error),
     }
-    Ok(names)
 }
 
-// A regular file is listed, and a folder is to be entered, be it by a link. What else stands there
-// is let be.
-fn note<R: Files>(rt: &R, path: String, walk: &mut Walk) -> io::Result<()> {
-    let about = match fs::metadata(rt, path.as_str()) {
-        Ok(about) => about,
-        Err(error) if is_absent(&error) => return Ok(()),
-        Err(error) => return Err(error),
+fn linked_at<R: Files + AllocGlobal>(
+    rt: &R,
+    link: &str,
+    below: &str,
+) -> io::Result<Option<Metadata>> {
+    let Some(about) = if_held(link, fs::metadata(rt, link))? else {
+        return Ok(None);
     };
-    if about.is_dir() {
-        walk.folders.insert(path)?;
-    } else if about.is_file() {
-        walk.files.push(path)?;
+    let real = real_path(rt, link)?;
+    Ok(if real.starts_with(below) {
+        Some(about)
+    } else {
+        None
+    })
+}
+
+// A regular file is listed, and a folder is to be entered. What else stands there is let be.
+fn note<R: Files + AllocGlobal>(rt: &R, path: String, walk: &mut Walk) -> io::Result<()> {
+    let Some(left) = walk.left.checked_sub(1) else {
+        return Err(Error::from(ErrorKind::QuotaExceeded));
+    };
+    walk.left = left;
+    match standing_at(rt, path.as_str(), walk.below.as_str())? {
+        Some(about) if about.is_dir() => {
+            walk.folders.insert(path)?;
+        }
+        Some(about) if about.is_file() => walk.files.push(path)?,
+        _ => (),
     }
     Ok(())
 }
 
-// A name that isn't text is let be, unless it is a class file's.
-fn enter<R: Files + AllocGlobal>(rt: &R, folder: &str, walk: &mut Walk) -> io::Result<()> {
-    let names = names_in(rt, folder)?;
-    for name in names.as_slice().split(|byte| *byte == 0) {
+// Names with a zero byte behind each. One that isn't text is let be, unless it is a class file's.
+fn note_all<R: Files + AllocGlobal>(
+    rt: &R,
+    folder: &str,
+    names: &[u8],
+    walk: &mut Walk,
+) -> io::Result<()> {
+    for name in names.split(|byte| *byte == 0) {
         match str::from_utf8(name) {
             Ok("" | "." | "..") => (),
             Ok(name) => note(rt, format!(in rt.alloc(); "{folder}/{name}")?, walk)?,
@@ -72,23 +89,40 @@ fn enter<R: Files + AllocGlobal>(rt: &R, folder: &str, walk: &mut Walk) -> io::R
     Ok(())
 }
 
-// Whether there is such a folder, which wasn't entered by another path.
-fn is_new<R: Files + AllocGlobal>(rt: &R, folder: &str, walk: &mut Walk) -> io::Result<bool> {
-    match fs::canonicalize(rt, folder) {
-        Ok(real) => {
-            let real = String::from_str(rt.alloc(), real.as_path().as_str())?;
-            Ok(fs::metadata(rt, real.as_str())?.is_dir() && walk.entered.insert(real)?)
+// The names are read as bytes, since a name need not be text. No read ends inside a name.
+fn enter<R: Files + AllocGlobal>(rt: &R, folder: &str, walk: &mut Walk) -> io::Result<()> {
+    let named = format!(in rt.alloc(); "{folder}/")?;
+    let mut listing = rt.open_dir(named.as_str())?;
+    let mut piece = [0u8; 4096];
+    for _ in 0..u64::MAX {
+        let length = listing.read(&mut piece)?;
+        if length == 0 {
+            break;
         }
-        Err(error) if is_absent(&error) => Ok(false),
-        Err(error) => Err(error),
+        note_all(rt, folder, &piece[..length], walk)?;
     }
+    Ok(())
 }
 
-/// The regular files below the folder, in byte order of their paths. Links are followed, and each
-/// real folder is entered once, by the least of its paths that were found, so that it doesn't
-/// matter in which order the system lists them.
-pub fn files_below<R: Files + AllocGlobal>(rt: &R, folder: &str) -> io::Result<Vec<String>> {
+// Whether the folder wasn't entered by another path.
+fn is_new<R: Files + AllocGlobal>(rt: &R, folder: &str, walk: &mut Walk) -> io::Result<bool> {
+    let real = real_path(rt, folder)?;
+    Ok(walk.entered.insert(real)?)
+}
+
+// Only the root folder's path ends with a slash.
+fn front_below<R: Files + AllocGlobal>(rt: &R, folder: &str) -> io::Result<String> {
+    let mut front = real_path(rt, folder)?;
+    if !front.ends_with('/') {
+        front.push('/')?;
+    }
+    Ok(front)
+}
+
+fn walked<R: Files + AllocGlobal>(rt: &R, folder: &str) -> io::Result<Vec<String>> {
     let mut walk = Walk {
+        below: front_below(rt, folder)?,
+        left: MOST_NAMES,
         files: Vec::new(rt.alloc()),
         folders: BTreeSet::new(rt.alloc()),
         entered: BTreeSet::new(rt.alloc()),
@@ -105,4 +139,15 @@ pub fn files_below<R: Files + AllocGlobal>(rt: &R, folder: &str) -> io::Result<V
     let mut files = walk.files;
     files.sort()?;
     Ok(files)
+}
+
+/// The regular files below the folder, in byte order of their paths. A link is followed where it
+/// stays below the folder, and each real folder is entered once, by the least of its paths that
+/// were found, so that it doesn't matter in which order the system lists them. More names than a
+/// limit are an error.
+pub fn files_below<R: Files + AllocGlobal>(rt: &R, folder: &str) -> io::Result<Vec<String>> {
+    match if_held(folder, fs::metadata(rt, folder))? {
+        Some(about) if about.is_dir() => walked(rt, folder),
+        _ => Ok(Vec::new(rt.alloc())),
+    }
 }

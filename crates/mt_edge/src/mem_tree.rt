@@ -1,4 +1,4 @@
-ghost use Rattle.std.specs.Prelude.{◌≡◌, ◌↔◌, ◌++◌, ◌∷◌, [], IfOk, OnOk, OnErr, IsErrOf, IsTrue, string_bytes};
+ghost use Rattle.std.specs.Prelude.{◌≡◌, ◌↔◌, ◌++◌, ◌∷◌, [], IfOk, OnOk, OnErr, IsErr, IsErrOf, IsTrue, string_bytes};
 ghost use Rattle.std.specs.FinMap.{get};
 ghost use Rattle.mt_edge.specs.Answered.{ListsBelow, TellsLength, ReadsAt, IsReplaced, OldOrReplaced, NamesWith, LendsAt};
 ghost use Rattle.mt_edge.specs.Causes.{HasCause};
@@ -78,7 +78,7 @@ impl MemTree {
     ghost use Rattle.mt_edge.specs.Shown.{tree_files, tree_script};
 
     /// A tree of these files; of two at one path the later counts. `failing` has the numbers of the
-    /// calls, counted from 0, that are to fail.
+    /// calls of `list`, `read` and `replace`, counted from 0, that are to fail.
     pub fn new(
         alloc: Global,
         files: Vec<(String, Bytes)>,
@@ -137,18 +137,15 @@ impl Tree for MemTree {
         Ok(names(self.alloc, &self.files, prefix.as_bytes())?)
     }
 
+    /// It never fails, and is no call that the script counts.
     fn length(&mut self, path: &str) -> Result<Option<u64>, EdgeFault>
         ensures length { TellsLength path.now (tree_holds self.old) result }
         ensures same { tree_holds self.new ≡ tree_holds self.old }
         ensures cause { HasCause (tree_reading self.old) (tree_reading self.new) result }
         ensures other { tree_writing self.new ≡ tree_writing self.old }
-        ensures told { IsErrOf result Failed ↔ IsTrue (fails (tree_script self.old)) }
-        ensures counted { tree_script self.new ≡ after_call (tree_script self.old) }
+        ensures told { ¬ IsErr result }
+        ensures uncounted { tree_script self.new ≡ tree_script self.old }
     {
-        if self.script.next_fails() {
-            self.reading = self.reading.saturating_add(1);
-            return Err(EdgeFault::Failed);
-        }
         Ok(length_at(&self.files, path))
     }
 

@@ -1,7 +1,9 @@
 //! A real file that gets new bytes.
 
-use crate::listing::is_absent;
-use std::fs::{File, OpenFile, OpenOptions, Permissions};
+use crate::beside::own_file_beside;
+use crate::known::KnownFiles;
+use crate::standing::{is_absent, real_path};
+use std::fs::{File, Metadata, OpenOptions, Permissions};
 use std::io::{Error, ErrorKind, Write};
 use std::rt::Files;
 use std::{fs, io};
@@ -17,89 +19,92 @@ fn pass_on<R: Files>(rt: &R, path: &str, bytes: &[u8]) -> io::Result<()> {
 }
 
 // The path behind all links. A link that leads nowhere is refused.
-fn real_path<R: Files + AllocGlobal>(rt: &R, path: &str) -> io::Result<String> {
-    match fs::canonicalize(rt, path) {
-        Ok(real) => Ok(String::from_str(rt.alloc(), real.as_path().as_str())?),
+fn place_of<R: Files + AllocGlobal>(rt: &R, path: &str) -> io::Result<String> {
+    match real_path(rt, path) {
         Err(error) if is_absent(&error) && fs::symlink_metadata(rt, path).is_err() => {
             Ok(String::from_str(rt.alloc(), path)?)
         }
-        Err(error) => Err(error),
+        place => place,
     }
 }
 
-// The permissions of the regular file at the path, none where nothing is there.
-fn permissions_at<R: Files>(rt: &R, path: &str) -> io::Result<Option<Permissions>> {
+// What is told of the regular file at a path, none where nothing is there.
+fn file_at<R: Files>(rt: &R, path: &str) -> io::Result<Option<Metadata>> {
     match fs::metadata(rt, path) {
-        Ok(about) if about.is_file() => Ok(Some(about.permissions())),
+        Ok(about) if about.is_file() => Ok(Some(about)),
         Ok(_) => Err(Error::from(ErrorKind::InvalidInput)),
         Err(error) if error.kind() == ErrorKind::NotFound => Ok(None),
         Err(error) => Err(error),
     }
 }
 
-// How many names for a file of its own are tried.
-const TRIES: u32 = 1000;
-
-// A file beside the path that nothing stood in the place of, so that two runs at once have two, and
-// its name.
-fn new_beside<R: Files + AllocGlobal>(rt: &R, path: &str) -> io::Result<(String, R::File)> {
-    for number in 0..TRIES {
-        let name = format!(in rt.alloc(); "{path}.mutest-{number}")?;
-        match File::create_new(rt, name.as_str()) {
-            Ok(file) => return Ok((name, file)),
-            Err(error) if error.kind() == ErrorKind::AlreadyExists => (),
-            Err(error) => return Err(error),
-        }
-    }
-    Err(Error::from(ErrorKind::AlreadyExists))
-}
-
 // The permissions come first, so that nobody reads the bytes who may not.
-fn fill<F: Write + OpenFile>(
-    file: &mut F,
-    bytes: &[u8],
-    permissions: Option<Permissions>,
-) -> io::Result<()> {
+fn fill(file: &mut File, bytes: &[u8], permissions: Option<Permissions>) -> io::Result<Metadata> {
     if let Some(permissions) = permissions {
         file.set_permissions(permissions)?;
     }
     file.write_all(bytes)?;
     file.flush()?;
-    file.sync_all()
+    file.sync_all()?;
+    file.metadata()
 }
 
-fn sync_folder_of<R: Files>(rt: &R, path: &str) -> io::Result<()> {
+// A folder that may be written and not read can't be opened.
+fn sync_folder_of<R: Files<File = File>>(rt: &R, path: &str) -> io::Result<()> {
     let folder = match path.rsplit_once('/') {
         Some(("", _)) => "/",
         Some((folder, _)) => folder,
         None => ".",
     };
-    File::open(rt, folder)?.sync_all()
+    match File::open(rt, folder) {
+        Ok(folder) => folder.sync_all(),
+        Err(error) if error.kind() == ErrorKind::PermissionDenied => Ok(()),
+        Err(error) => Err(error),
+    }
+}
+
+// A file of its own takes the place of what stood there. It is held until it has.
+fn put_in_place<R: Files<File = File> + AllocGlobal>(
+    rt: &R,
+    place: &str,
+    bytes: &[u8],
+    permissions: Option<Permissions>,
+) -> io::Result<Metadata> {
+    let (beside, mut file) = own_file_beside(rt, place)?;
+    let replaced = match fill(&mut file, bytes, permissions) {
+        Ok(about) => fs::rename(rt, beside.as_str(), place).map(|()| about),
+        Err(error) => Err(error),
+    };
+    if replaced.is_err() {
+        let _ = fs::remove_file(rt, beside.as_str());
+    }
+    replaced
 }
 
 /// Puts the bytes in the place of what the file at the path held, by a file of its own that then
 /// takes its place, so that the path never holds a part of them. It stays what it was for all but
-/// its bytes: a link stays a link, and a file keeps its permissions.
-pub fn replace_file<R: Files + AllocGlobal>(rt: &R, path: &str, bytes: &[u8]) -> io::Result<()> {
+/// its bytes: a link stays a link, and a file keeps its permissions. A file that is known by
+/// another path isn't replaced.
+pub fn replace_file<R: Files<File = File> + AllocGlobal>(
+    rt: &R,
+    path: &str,
+    bytes: &[u8],
+    known: &mut KnownFiles,
+) -> io::Result<()> {
     if is_passed_on(path) {
         return pass_on(rt, path, bytes);
     }
-    let real = real_path(rt, path)?;
-    if is_passed_on(real.as_str()) {
-        return pass_on(rt, real.as_str(), bytes);
+    let place = place_of(rt, path)?;
+    if is_passed_on(place.as_str()) {
+        return pass_on(rt, place.as_str(), bytes);
     }
-    let permissions = permissions_at(rt, real.as_str())?;
-    let (beside, mut file) = new_beside(rt, real.as_str())?;
-    let written = fill(&mut file, bytes, permissions);
-    let replaced = match written {
-        Ok(()) => fs::rename(rt, beside.as_str(), real.as_str()),
-        Err(error) => Err(error),
+    let old = file_at(rt, place.as_str())?;
+    let permissions = match &old {
+        Some(about) if known.may_replace(path, about) => Some(about.permissions()),
+        Some(_) => return Err(Error::from(ErrorKind::InvalidInput)),
+        None => None,
     };
-    match replaced {
-        Ok(()) => sync_folder_of(rt, real.as_str()),
-        Err(error) => {
-            let _ = fs::remove_file(rt, beside.as_str());
-            Err(error)
-        }
-    }
+    let new = put_in_place(rt, place.as_str(), bytes, permissions)?;
+    known.note_replaced(path, &old, &new)?;
+    sync_folder_of(rt, place.as_str())
 }

@@ -66,50 +66,70 @@ fn both_trees_list_read_and_replace(rt: HostRuntime) -> Result<(), Fail> {
 type LinkRow = (&'static str, &'static str);
 
 // Links that are made in the folder, by what they lead to and by their names.
-const LINKS: [LinkRow; 6] = [
+const LINKS: [LinkRow; 8] = [
     ("kept/A.class", "/link.class"),
     ("kept", "/again"),
     (".", "/loop"),
     ("itself", "/itself"),
     ("missing", "/nowhere"),
     ("/dev/null", "/null"),
+    ("/", "/outside"),
+    ("theirs", "/report.mutest-0"),
 ];
 
-// Calls of the real tree, as above: with these links, the folder `kept` and a file of somebody else
-// in it.
-const CAREFUL_CALLS: [CallRow; 21] = [
-    (Call::Replace, "/kept/A.class", "first", "done"),
+// Calls of the real tree, as above: with these links, the folder `kept`, somebody else's file
+// `theirs`, and a file that an earlier run left beside the report.
+const CAREFUL_CALLS: [CallRow; 36] = [
+    (Call::Replace, "/link.class", "newer", "done"),
     (Call::Replace, "/link.class", "new", "done"),
-    (Call::Read, "/kept/A.class", "", "new"),
     (Call::Length, "/link.class", "", "3"),
     (Call::Length, "/null", "", "0"),
     (Call::Length, "/nowhere", "", "nothing"),
     (Call::Length, "/itself", "", "nothing"),
     (Call::Length, "/kept/A.class/below", "", "nothing"),
-    (Call::Read, "/kept/A.class.mutest-0", "", "theirs"),
-    // Each real folder once, and neither the device nor what leads nowhere.
+    // Each real folder once, and neither the device nor what leads nowhere or out of the folder.
     (
         Call::List,
         "",
         "",
-        "/again/A.class /again/A.class.mutest-0 /link.class ",
+        "/again/A.class /link.class /report.mutest-0 /report.mutest-1 /theirs ",
     ),
     (
         Call::List,
         "/loop",
         "",
-        "/again/A.class /again/A.class.mutest-0 /link.class ",
+        "/again/A.class /link.class /report.mutest-0 /report.mutest-1 /theirs ",
     ),
+    (Call::List, "/again", "", "/A.class "),
     (Call::List, "/kept/A.class", "", ""),
     (Call::Read, "/kept/A.class/below", "", "nothing"),
     (Call::Read, "/nowhere", "", "nothing"),
     (Call::Read, "/itself", "", "nothing"),
-    (Call::Read, "/kept", "", "failed"),
+    // A folder is no file, and at such a name there can be none.
+    (Call::Length, "/kept", "", "nothing"),
+    (Call::Read, "/kept", "", "nothing"),
+    (Call::List, "/zero\0byte", "", ""),
+    (Call::Length, "/zero\0byte", "", "nothing"),
+    (Call::Read, "/zero\0byte", "", "nothing"),
+    (Call::Replace, "/zero\0byte", "", "failed"),
     (Call::Replace, "/null", "bytes", "done"),
     (Call::Replace, "/kept", "", "failed"),
     (Call::Replace, "/nowhere", "", "failed"),
     (Call::Replace, "/none/A.class", "", "failed"),
     (Call::Replace, "/kept/A.class/below", "", "failed"),
+    // What was left serves for the report; what a link leads to is kept.
+    (Call::Replace, "/report", "report", "done"),
+    (Call::Read, "/report.mutest-0", "", "theirs"),
+    (Call::Read, "/report.mutest-1", "", "nothing"),
+    // One file isn't replaced by two paths, nor a class that was read.
+    (Call::Replace, "/./report", "history", "failed"),
+    (Call::Replace, "/loop/report", "history", "failed"),
+    (Call::Replace, "/report", "again", "done"),
+    (Call::Read, "/report", "", "again"),
+    (Call::Replace, "/report", "once more", "done"),
+    (Call::Replace, "/kept/A.class", "report", "failed"),
+    (Call::Read, "/kept/A.class", "", "new"),
+    (Call::Replace, "/link.class", "report", "failed"),
 ];
 
 fn link_all(rt: &HostRuntime, folder: &str, rows: &[LinkRow]) -> Result<(), Fail> {
@@ -125,12 +145,13 @@ fn make_links(rt: &HostRuntime, folder: &str) -> Result<(), Fail> {
 }
 
 // A folder in which all that is asked of care stands: links, a file that only its owner may read,
-// and somebody else's file by the name that a new one would be given first.
+// somebody else's file, and a file by the second name that a new one beside the report is given.
 fn make_careful(rt: &HostRuntime, folder: &str) -> Result<(), Fail> {
     let kept = format!(in rt.alloc(); "{folder}/kept/A.class")?;
-    let theirs = format!(in rt.alloc(); "{folder}/kept/A.class.mutest-0")?;
+    let left = format!(in rt.alloc(); "{folder}/report.mutest-1")?;
     fs::create_dir_all(rt, format!(in rt.alloc(); "{folder}/kept")?)?;
-    fs::write(rt, theirs.as_str(), "theirs")?;
+    fs::write(rt, format!(in rt.alloc(); "{folder}/theirs")?, "theirs")?;
+    fs::write(rt, left.as_str(), "left")?;
     fs::write(rt, kept.as_str(), "first")?;
     fs::set_permissions(rt, kept.as_str(), Permissions::from_mode(0o600))?;
     make_links(rt, folder)
@@ -173,8 +194,8 @@ fn unlinked(rt: &HostRuntime, folder: &str) -> Result<usize, Fail> {
 fn the_real_tree_takes_care(rt: HostRuntime) -> Result<(), Fail> {
     let folder = own_folder(&rt, "care")?;
     make_careful(&rt, folder.as_str())?;
-    assert_eq!(rt; other_of_careful_calls(&rt, folder.as_str())?, 21);
-    assert_eq!(rt; unlinked(&rt, folder.as_str())?, 6);
+    assert_eq!(rt; other_of_careful_calls(&rt, folder.as_str())?, 36);
+    assert_eq!(rt; unlinked(&rt, folder.as_str())?, 8);
     let kept = format!(in rt.alloc(); "{folder}/kept/A.class")?;
     let mode = fs::metadata(&rt, kept.as_str())?.permissions().mode();
     assert_eq!(rt; mode & 0o777, 0o600);
@@ -289,12 +310,15 @@ fn no_device_is_replaced(rt: HostRuntime) -> Result<(), Fail> {
     Ok(())
 }
 
-// The third call of the tree and the second one of the sink are to fail.
+// The third call of the tree and the second one of the sink are to fail. That a length is asked is
+// no such call.
 #[test]
 fn what_is_in_memory_fails_as_it_is_told(rt: HostRuntime) -> Result<(), Fail> {
     let failing = vec![in rt.alloc(); 2; 1]?;
     let mut tree = MemTree::new(rt.alloc(), Vec::new(rt.alloc()), failing)?;
     for wanted in ["done", "done", "failed", "done"] {
+        let length = answer(rt.alloc(), &mut tree, Call::Length, "b", "")?;
+        assert_eq!(rt; length.as_str(), "nothing");
         let said = answer(rt.alloc(), &mut tree, Call::Replace, "a", wanted)?;
         assert_eq!(rt; said.as_str(), wanted);
     }
