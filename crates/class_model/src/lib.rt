@@ -20,6 +20,7 @@ mod kind;
 mod list;
 mod memory;
 mod mutator;
+mod outcome;
 mod shared;
 mod text;
 
@@ -40,5 +41,6 @@ pub use kind::{Kind, MethodType};
 pub use list::{Bytes, Name, Seq};
 pub use memory::Memory;
 pub use mutator::Mutator;
+pub use outcome::{Cause, Outcome};
 pub use shared::SharedBytes;
 pub use text::{read_text, write_text};
