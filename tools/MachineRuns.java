@@ -119,11 +119,11 @@ public class MachineRuns {
     static String end(Class<?> test, String method, String expected) throws Exception {
         try {
             test.getMethod(method).invoke(test.getDeclaredConstructor().newInstance());
-            return expected.equals("-") ? "Passed" : "Failed";
+            return expected.equals("-") ? "Passed" : "Failed Returned";
         } catch (InvocationTargetException e) {
             Throwable thrown = e.getCause();
             boolean met = !expected.equals("-") && Class.forName(expected.replace('/', '.')).isInstance(thrown);
-            return met ? "Passed" : "Failed " + thrown;
+            return met ? "Passed" : "Failed " + thrown.getClass().getName().replace('.', '/');
         }
     }
 

@@ -14,6 +14,9 @@ pub enum Mutator {
     TrueReturns,
     NullReturns,
     PrimitiveReturns,
+    NonVoidMethodCalls,
+    ConstructorCalls,
+    RemoveConditionals,
 }
 
 impl Mutator {
@@ -35,6 +38,9 @@ impl Mutator {
             Mutator::TrueReturns => "TRUE_RETURNS",
             Mutator::NullReturns => "NULL_RETURNS",
             Mutator::PrimitiveReturns => "PRIMITIVE_RETURNS",
+            Mutator::NonVoidMethodCalls => "NON_VOID_METHOD_CALLS",
+            Mutator::ConstructorCalls => "CONSTRUCTOR_CALLS",
+            Mutator::RemoveConditionals => "REMOVE_CONDITIONALS",
         }
     }
 }

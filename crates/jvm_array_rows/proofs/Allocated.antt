@@ -1,7 +1,7 @@
 -- What the definitions allocate where arrays of arrays are built in the heap of a world.
 use Rattle.std.proofs.Common.{◌≡◌, ◌∙◌, sym, ap, refl, subst, arith, ℕ, ◌+◌, ◌≤◌, Bool, true, false, nat_le, leb-true, List, [], ◌∷◌, length, Option, None, Some, is_some}
 use Rattle.program_rules.specs.Names.{Name}
-use Rattle.machine_rules.specs.declared.machine.Outcome.TheVariants.{MemoryOut}
+use Rattle.machine_rules.specs.declared.machine.Stop.TheVariants.{HeapPassed}
 use Rattle.machine_rules.specs.State as def
 use Rattle.machine_rules.specs.NewObjects.{new_arrays}
 use Rattle.class_link.specs.Info.{Info}
@@ -45,7 +45,7 @@ none_of : {A : Type 0} (o : Option A) → is_some o ≡ false → o ≡ None
 none_of None e = refl
 none_of (Some a) e = absurd cc
 
-pub full : (p : List Info) (old new : World) (make : def.World → Option (def.World × ℕ)) → TellsMade p old make false → Moves p old new (λ v. record v { over = Some MemoryOut }) → Allocates p old new make None
+pub full : (p : List Info) (old new : World) (make : def.World → Option (def.World × ℕ)) → TellsMade p old make false → Moves p old new (λ v. record v { over = Some HeapPassed }) → Allocates p old new make None
 full p old new make t moves = λ v m. record { means = moves v m; full = none_of (make v) (t v m) }
 
 -- A world with another heap is one of the program still.

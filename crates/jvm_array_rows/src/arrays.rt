@@ -19,7 +19,7 @@ use jvm_frames::Frames;
 use jvm_heap_rows::{Effect, throw};
 use jvm_object_rows::{push_made, without_room};
 use jvm_world::World;
-use machine_rules::Outcome;
+use machine_rules::Stop;
 use program_rules::{Fault, Value};
 use std::alloc::Global;
 
@@ -39,7 +39,7 @@ fn build_in(
     ensures kept { OnOk result (IsKept p.now world.old world.new) }
 {
     if !has_room(world.heap.words(), counts, world.limits.heap) {
-        world.end(p, Outcome::MemoryOut);
+        world.end(p, Stop::HeapPassed);
         return Ok(None);
     }
     let number = world.heap.count() + 1;

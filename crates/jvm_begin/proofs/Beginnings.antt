@@ -6,7 +6,7 @@ use Rattle.std.proofs.lemmas.List.{length-map}
 use Rattle.program_rules.specs.declared.fault.Fault.TheVariants.{StackOverflowError}
 use Rattle.machine_rules.specs.declared.machine.InitState.TheVariants.{Running, Done}
 use Rattle.machine_rules.specs.declared.machine.Limits.{Limits}
-use Rattle.machine_rules.specs.declared.machine.Outcome.TheVariants.{MemoryOut}
+use Rattle.machine_rules.specs.declared.machine.Stop.TheVariants.{HeapPassed}
 use Rattle.machine_rules.specs.State as def
 use Rattle.machine_rules.specs.Effects.{Effect, NoRow, goes_with, unless_full, throws}
 use Rattle.machine_rules.specs.Initialisation as rules
@@ -87,7 +87,7 @@ module _ (p : List Info) (q : Limits) (a : ℕ) (old : NumberedFrames) where
   full_done w u none sets v m =
       let s = sets v m in
       record {
-        world = record v { over = Some MemoryOut };
+        world = record v { over = Some HeapPassed };
         means = s.means;
         goes = ap (λ o. by o v) none
             ∙ ap (λ o. unless_full v (frames_of p old) o (rules.done_with (frames_of p old) (name_at p a))) s.none;
@@ -128,7 +128,7 @@ module _ (p : List Info) (q : Limits) (a : ℕ) (old : NumberedFrames) where
     full_running w u e sets v m =
         let s = sets v m in
         record {
-          world = record v { over = Some MemoryOut };
+          world = record v { over = Some HeapPassed };
           means = s.means;
           goes = begins_by v true e
               ∙ ap (λ o. unless_full v (frames_of p old) o (rules.runs_initializer q (frames_of p old) (name_at p a) (initializer_of i))) s.none;

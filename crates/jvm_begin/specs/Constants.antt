@@ -6,7 +6,7 @@ use Rattle.program_rules.specs.Names.{Name, same}
 use Rattle.program_rules.specs.Kinds.{Kind}
 use Rattle.program_rules.specs.Linked.{LinkedField, FieldConstant, IntField, LongField, TextField, fits_kind, is_static}
 use Rattle.machine_rules.specs.declared.machine.Limits.{Limits}
-use Rattle.machine_rules.specs.declared.machine.Outcome.TheVariants.{MemoryOut}
+use Rattle.machine_rules.specs.declared.machine.Stop.TheVariants.{HeapPassed}
 use Rattle.machine_rules.specs.State as def
 use Rattle.machine_rules.specs.NewObjects.{made_for}
 use Rattle.machine_rules.specs.Initialisation.{Constant, sets_constant, sets_constants}
@@ -124,7 +124,7 @@ pub record SetUpTo
 pub record IsFull (p : List Info) (new : World) (v : def.World) (o : Option def.World) : Type 0
   where
     pub none : o ≡ None
-    pub means : Means p new (record v { over = Some MemoryOut })
+    pub means : Means p new (record v { over = Some HeapPassed })
 
 -- All are set, or nothing is and the run is over.
 abbrev pub SetsOrEnds : List Info → World → World → Setting → Bool → Type 0

@@ -19,7 +19,7 @@ use class_model::{ClassId, Kind, Memory, Name};
 use class_table::Program;
 use jvm_heap_rows::narrow_to;
 use jvm_world::{Made, World};
-use machine_rules::Outcome;
+use machine_rules::Stop;
 use program_rules::Value;
 use std::alloc::Global;
 
@@ -315,7 +315,7 @@ pub fn set_constants(
     ensures kept { OnOk result (IsKept p.now world.old world.new) }
 {
     if !have_room(world, alloc, p, class)? {
-        world.end(p, Outcome::MemoryOut);
+        world.end(p, Stop::HeapPassed);
         return Ok(false);
     }
     set_all(world, p, class)?;

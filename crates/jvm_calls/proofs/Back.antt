@@ -4,7 +4,7 @@ use Rattle.std.specs.Prelude.{if◌then◌else◌, slice_get, nat_le}
 use Rattle.program_rules.specs.declared.value.Value.{Value}
 use Rattle.program_rules.specs.Kinds.{Kind}
 use Rattle.machine_rules.specs.State as def
-use Rattle.machine_rules.specs.declared.machine.Outcome.TheVariants.{Failed}
+use Rattle.machine_rules.specs.declared.machine.Stop.TheVariants.{TestReturned}
 use Rattle.machine_rules.specs.declared.machine.InitState.TheVariants.{Done}
 use Rattle.machine_rules.specs.Effects.{Effect, NoRow, on_some, goes_with, jumps, Current}
 use Rattle.machine_rules.specs.Initialisation.{marks}
@@ -28,13 +28,13 @@ use Rattle.jvm_calls.proofs.Given.{int_returns, long_returns, reference_returns}
 
 abbrev ends : def.World → Bool → Effect
 ends v b =
-    if b then goes_with (record v { running = None; over = Some Failed }) []
+    if b then goes_with (record v { running = None; over = Some TestReturned }) []
     else goes_with (record v { running = None }) []
 
-pub finished_failed : (p : List Info) (w u z : World) → ((v : def.World) → Means p w v → is_awaited v ≡ true) → Moves p w u (λ v. record v { over = Some Failed }) → Moves p u z (λ v. record v { running = None }) → ComesAt p w z [] None finishes
+pub finished_failed : (p : List Info) (w u z : World) → ((v : def.World) → Means p w v → is_awaited v ≡ true) → Moves p w u (λ v. record v { over = Some TestReturned }) → Moves p u z (λ v. record v { running = None }) → ComesAt p w z [] None finishes
 finished_failed p w u z awaits over done v m = record {
-  world = record v { running = None; over = Some Failed };
-  means = done (record v { over = Some Failed }) (over v m);
+  world = record v { running = None; over = Some TestReturned };
+  means = done (record v { over = Some TestReturned }) (over v m);
   goes = ap (ends v) (awaits v m);
 }
 

@@ -15,7 +15,7 @@ use class_table::Program;
 use jvm_frames::Frames;
 use jvm_unwind::{Turn, is_awaited};
 use jvm_world::World;
-use machine_rules::{InitState, Outcome};
+use machine_rules::{InitState, Stop};
 use program_rules::Value;
 
 // The call of the script has returned. A test that was to throw has failed then.
@@ -25,7 +25,7 @@ fn finish(world: &mut World, p: &Program)
     ensures kept { IsKept p.now world.old world.new }
 {
     if is_awaited(world, p) {
-        world.end(p, Outcome::Failed);
+        world.end(p, Stop::TestReturned);
     }
     world.finish_call(p);
 }

@@ -3,7 +3,6 @@ mod Leaving
 mod Ends
 mod Finished
 mod Placed
-mod AtLimit
 pub mod Going
 pub mod Stepped
 pub mod Ran

@@ -16,8 +16,8 @@ use Rattle.jvm_unwind.specs.Turns.{frames_on, frames_of}
 use Rattle.jvm_unwind.proofs.Left.{with_some}
 use Rattle.jvm_invokes.specs.Invoked.{IsOfMethod}
 use Rattle.jvm_machine.specs.declared.machine.Machine.{Machine}
-use Rattle.jvm_machine.specs.declared.outcome.Outcome.{Outcome}
-use Rattle.jvm_machine.specs.Ending.{ending_of}
+use Rattle.jvm_machine.specs.declared.ending.Ending.{Ending}
+use Rattle.jvm_machine.specs.Ending.{ending_in}
 use Rattle.jvm_machine.specs.Machines.{IsMachineOf, StandsFor}
 
 script_is : (p : List Info) (w : World) (h : History) (v : def.World) → v ≡ world_of p w h → v.script ≡ map call_of w.script.rest
@@ -47,7 +47,7 @@ place_at p class method at = record {
   at = at;
 }
 
-pub at_frame : (p : List Info) (m : Machine) (class method at : ℕ) (o : Outcome) → IsSomeAnd m.frames.frame (IsAt class method at) → ending_of o ≡ StuckAt (record { class = name_at p class; method = method_text (method_in (look p (name_at p class)) method); at = at }) → (s : def.MachineState) → StandsFor p m s → ending_of o ≡ StuckAt (place_of (look p) s)
+pub at_frame : (p : List Info) (m : Machine) (class method at : ℕ) (o : Ending) → IsSomeAnd m.frames.frame (IsAt class method at) → o ≡ ending_in (StuckAt (record { class = name_at p class; method = method_text (method_in (look p (name_at p class)) method); at = at })) → (s : def.MachineState) → StandsFor p m s → o ≡ ending_in (StuckAt (place_of (look p) s))
 at_frame p m class method at o there told s is =
     let f = with_some m.frames.frame (IsAt class method at) there in
     let e : place_of (look p) s ≡ place_at p class method at =
@@ -56,11 +56,11 @@ at_frame p m class method at o there told s is =
     ∙ ap (λ k. place_at p k f.0.method f.0.at) f.2.class
     ∙ ap (λ k. place_at p class k f.0.at) f.2.method
     ∙ ap (place_at p class method) f.2.at in
-    told ∙ ap StuckAt (sym e)
+    told ∙ ap (λ x. ending_in (StuckAt x)) (sym e)
 
-pub at_call : (p : List Info) (m : Machine) (o : Outcome) → m.frames.frame ≡ None → ending_of o ≡ StuckAt (call_place (map call_of m.world.script.rest)) → (s : def.MachineState) → StandsFor p m s → ending_of o ≡ StuckAt (place_of (look p) s)
+pub at_call : (p : List Info) (m : Machine) (o : Ending) → m.frames.frame ≡ None → o ≡ ending_in (StuckAt (call_place (map call_of m.world.script.rest))) → (s : def.MachineState) → StandsFor p m s → o ≡ ending_in (StuckAt (place_of (look p) s))
 at_call p m o none told s is =
-    told ∙ ap StuckAt (sym (place_is p m s is
+    told ∙ ap (λ x. ending_in (StuckAt x)) (sym (place_is p m s is
     ∙ ap (λ k. place_with (look p) (map call_of m.world.script.rest) (frames_on p k m.frames.callers)) none))
 
 pub class_within : (p : List Info) (m : Machine) (class method at : ℕ) → IsMachineOf p m → IsSomeAnd m.frames.frame (IsAt class method at) → class < length p

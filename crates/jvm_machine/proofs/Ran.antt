@@ -1,11 +1,13 @@
 -- A run, one step on, and what it comes to.
-use Rattle.std.proofs.Common.{◌≡◌, ◌∙◌, refl, sym, ap, subst, ℕ, zero, suc, ◌+◌, ◌-◌, ◌<◌, ◌≤◌, ◌⊎◌, inl, inr, List, arith}
+use Rattle.std.proofs.Common.{◌≡◌, ◌∙◌, refl, sym, ap, subst, ℕ, zero, suc, ◌+◌, ◌-◌, ◌<◌, ◌≤◌, ◌⊎◌, inl, inr, List, Option, None, Some, arith}
+use Rattle.std.specs.Option.{option_map}
+use Rattle.program_rules.specs.Objects.{Object}
 use Rattle.std.specs.Prelude.{◌^◌}
 use Rattle.machine_rules.specs.declared.machine.Limits.{Limits}
-use Rattle.machine_rules.specs.declared.machine.Outcome.{Outcome}
+use Rattle.machine_rules.specs.Outcomes.{Outcome}
 use Rattle.machine_rules.specs.State as def
-use Rattle.machine_rules.specs.Steps.{Stepped, Next, Ended, Stuck, Place, place_of, step_of}
-use Rattle.machine_rules.specs.Runs.{Ran, With, StuckAt, comes_to, run_from, then_run}
+use Rattle.machine_rules.specs.Steps.{Stepped, Next, Ended, Stuck, Place, outcome_of, place_of, step_of}
+use Rattle.machine_rules.specs.Runs.{Ending, Ran, With, StuckAt, at_limit, comes_to, run_from, then_run}
 use Rattle.machine_rules.specs.TypeRows.{monitor_count}
 use Rattle.machine_laws.specs.FrameLaw.{IfNext}
 use Rattle.machine_laws.proofs.Monitors.{steps_open}
@@ -16,15 +18,19 @@ use Rattle.class_table.specs.Table.{look}
 use Rattle.jvm_world.specs.Holding.{opened}
 use Rattle.jvm_machine.specs.declared.machine.Machine.{Machine}
 use Rattle.jvm_machine.specs.declared.machine.Step.TheVariants as step
-use Rattle.jvm_machine.specs.declared.outcome.Outcome as code
+use Rattle.class_model.specs.declared.outcome.Outcome as class
+use Rattle.jvm_machine.specs.declared.ending.Ending as code
+use Rattle.jvm_machine.specs.declared.ending.Ending.TheVariants as ending
+use Rattle.jvm_machine.specs.declared.ending.End.TheVariants as last
+use Rattle.jvm_machine.specs.declared.machine.StateEnd.{StateEnd}
 use Rattle.jvm_machine.specs.declared.result.RunResult.{RunResult}
-use Rattle.jvm_machine.specs.declared.running.End.{End}
-use Rattle.jvm_machine.specs.declared.running.End.TheVariants as end
-use Rattle.jvm_machine.specs.Ending.{ending_of}
-use Rattle.jvm_machine.specs.Machines.{Answers, HasFewMonitors, HasMeaning, IsMachineOf, IsMachineStill, StandsFor}
+use Rattle.jvm_machine.specs.declared.running.RunEnd.{RunEnd}
+use Rattle.jvm_machine.specs.declared.running.RunEnd.TheVariants as end
+use Rattle.jvm_machine.specs.Ending.{IsOutcomeBy, end_in, ending_in, outcome_in}
+use Rattle.jvm_machine.specs.Machines.{Answers, HasFewMonitors, HasMeaning, IsMachineOf, IsMachineStill, StandsFor, TellsEnd, outcome_by, run_outcome}
 use Rattle.jvm_machine.specs.Result.{IsResultOf, TellsRun}
 use Rattle.jvm_machine.proofs.Going.{counts_are}
-use Rattle.jvm_machine.specs.Running.{EndsAtLimit, EndsSo, HasRun, HasSteps, IsEndOf, IsNext, IsStuckResult, after, next_or, start_of}
+use Rattle.jvm_machine.specs.Running.{EndsSo, HasRun, HasSteps, IsNext, IsStuckResult, after, next_or, start_of}
 
 -- ---- one step on, in the definitions
 
@@ -124,40 +130,48 @@ goes_on p q limit i s m new lt h answer still =
     }
 
 -- What a step answers within these limits.
-ended_at : (p : List Info) (q : Limits) (limit i : ℕ) (s : def.MachineState) (m new : Machine) (o : Outcome) → HasRun p q limit i s m → Answers p (step.Ended o) m new → step_of (look p) q (after (look p) q i s) ≡ Ended o
-ended_at p q limit i s m new o h answer =
-    subst (λ k. step_of (look p) k (after (look p) q i s) ≡ Ended o) h.limits (answer.1 (after (look p) q i s) h.stands)
+ended_at : (p : List Info) (q : Limits) (limit i : ℕ) (s : def.MachineState) (m new : Machine) (e : StateEnd) → HasRun p q limit i s m → Answers p (step.Ended e) m new → step_of (look p) q (after (look p) q i s) ≡ Ended (outcome_by (after (look p) q i s).world.heap e)
+ended_at p q limit i s m new e h answer =
+    let here = after (look p) q i s in
+    subst (λ k. step_of (look p) k here ≡ Ended (outcome_by here.world.heap e)) h.limits (answer.1 here h.stands)
 
 stuck_in : (p : List Info) (q : Limits) (limit i : ℕ) (s : def.MachineState) (m new : Machine) → HasRun p q limit i s m → Answers p step.Stuck m new → step_of (look p) q (after (look p) q i s) ≡ Stuck (place_of (look p) (after (look p) q i s))
 stuck_in p q limit i s m new h answer =
     let here = after (look p) q i s in
     subst (λ k. step_of (look p) k here ≡ Stuck (place_of (look p) here)) h.limits (answer here h.stands)
 
-pub ended : (p : List Info) (q : Limits) (limit i : ℕ) (s : def.MachineState) (m new : Machine) (o : Outcome) → i < limit → HasRun p q limit i s m → Answers p (step.Ended o) m new → EndsSo p q limit s (end.With o) i new
-ended p q limit i s m new o lt h answer = (
-  subst (λ k. StandsFor p k (after (look p) q i s)) (sym answer.0) h.stands,
-  h.rest ∙ run_on (look p) q limit i (after (look p) q i s) (Ended o) lt (ended_at p q limit i s m new o h answer),
-)
+pub ended : (p : List Info) (q : Limits) (limit i : ℕ) (s : def.MachineState) (m new : Machine) (e : StateEnd) → i < limit → HasRun p q limit i s m → Answers p (step.Ended e) m new → EndsSo p q limit s (end.At (Some e)) i new
+ended p q limit i s m new e lt h answer =
+    let here = after (look p) q i s in (
+      subst (λ k. StandsFor p k here) (sym answer.0) h.stands,
+      h.rest ∙ run_on (look p) q limit i here (Ended (outcome_by here.world.heap e)) lt (ended_at p q limit i s m new e h answer),
+    )
 
 pub stuck : (p : List Info) (q : Limits) (limit i : ℕ) (s : def.MachineState) (m new : Machine) → i < limit → HasRun p q limit i s m → Answers p step.Stuck m new → EndsSo p q limit s end.Stuck i new
 stuck p q limit i s m new lt h answer =
     let here = after (look p) q i s in
     (h.steps, h.rest ∙ run_on (look p) q limit i here (Stuck (place_of (look p) here)) lt (stuck_in p q limit i s m new h answer))
 
-pub at_limit_is : (p : List Info) (q : Limits) (limit : ℕ) (s : def.MachineState) (m : Machine) (o : Outcome) → HasRun p q limit limit s m → EndsAtLimit p m o → EndsSo p q limit s (end.With o) limit m
-at_limit_is p q limit s m o h ends =
+limit_outcome : (h : List Object) (e : Option StateEnd) → at_limit (option_map (outcome_by h) e) ≡ With (run_outcome h e)
+limit_outcome h None = refl
+limit_outcome h (Some e) = refl
+
+pub at_limit_is : (p : List Info) (q : Limits) (limit : ℕ) (s : def.MachineState) (m : Machine) (e : Option StateEnd) → HasRun p q limit limit s m → TellsEnd p m e → EndsSo p q limit s (end.At e) limit m
+at_limit_is p q limit s m e h tells =
     let here = after (look p) q limit s in
-    let e : limit - limit ≡ 0 = omega arith in
-    (h.stands, h.rest ∙ ap (λ n. run_from (look p) q n here limit) e ∙ ap (λ k. comes_to k limit here.world) (ends here h.stands))
+    let none : limit - limit ≡ 0 = omega arith in
+    let ends : at_limit (outcome_of here) ≡ With (run_outcome here.world.heap e) = ap at_limit (tells here h.stands) ∙ limit_outcome here.world.heap e in
+    (h.stands, h.rest ∙ ap (λ n. run_from (look p) q n here limit) none ∙ ap (λ k. comes_to k limit here.world) ends)
 
 pub least : (p : List Info) (q : Limits) (limit i : ℕ) (s : def.MachineState) (m : Machine) → HasRun p q limit i s m → i ≤ (run_from (look p) q limit s 0).steps
 least p q limit i s m h = subst (λ r. i ≤ r.steps) (sym h.rest) (run_least (look p) q (limit - i) (after (look p) q i s) i)
 
 -- ---- it runs again
 
-pub not_ended : (p : List Info) (q : Limits) (limit i : ℕ) (s : def.MachineState) (m new : Machine) (o : Outcome) → i < limit → HasSteps p q limit s → HasRun p q limit i s m → Answers p (step.Ended o) m new → ⊥
-not_ended p q limit i s m new o lt steps h answer =
-    not_next_ended (step_of (look p) q (after (look p) q i s)) o (ended_at p q limit i s m new o h answer) (steps i lt)
+pub not_ended : (p : List Info) (q : Limits) (limit i : ℕ) (s : def.MachineState) (m new : Machine) (e : StateEnd) → i < limit → HasSteps p q limit s → HasRun p q limit i s m → Answers p (step.Ended e) m new → ⊥
+not_ended p q limit i s m new e lt steps h answer =
+    let here = after (look p) q i s in
+    not_next_ended (step_of (look p) q here) (outcome_by here.world.heap e) (ended_at p q limit i s m new e h answer) (steps i lt)
 
 pub not_stuck : (p : List Info) (q : Limits) (limit i : ℕ) (s : def.MachineState) (m new : Machine) → i < limit → HasSteps p q limit s → HasRun p q limit i s m → Answers p step.Stuck m new → ⊥
 not_stuck p q limit i s m new lt steps h answer =
@@ -166,26 +180,25 @@ not_stuck p q limit i s m new lt steps h answer =
 
 -- ---- what it gives
 
-result_of : (p : List Info) (m : Machine) (r : RunResult) (o : code.Outcome) (n : ℕ) (s : def.MachineState) (ran : Ran) → StandsFor p m s → TellsRun p m r o n → ran ≡ comes_to (ending_of o) n s.world → IsResultOf p r ran
-result_of p m r o n s ran is tells e =
+result_of : (p : List Info) (m : Machine) (r : RunResult) (told : code.Ending) (e : Ending) (n : ℕ) (s : def.MachineState) (ran : Ran) → StandsFor p m s → TellsRun p m r told n → told ≡ ending_in e → ran ≡ comes_to e n s.world → IsResultOf p r ran
+result_of p m r told e n s ran is tells ends comes =
     let t = tells s is in
     record {
-      ending = ap ending_of t.outcome ∙ sym (ap (λ k. k.ending) e);
-      steps = t.steps ∙ sym (ap (λ k. k.steps) e);
-      consulted = t.consulted ∙ sym (ap (λ k. k.consulted) e);
-      reached = t.reached ∙ sym (ap (λ k. k.reached) e);
+      ending = t.ending ∙ ends ∙ sym (ap (λ k. ending_in k.ending) comes);
+      steps = t.steps ∙ sym (ap (λ k. k.steps) comes);
+      consulted = t.consulted ∙ sym (ap (λ k. k.consulted) comes);
+      reached = t.reached ∙ sym (ap (λ k. k.reached) comes);
     }
 
-pub with_result : (p : List Info) (q : Limits) (limit n : ℕ) (s : def.MachineState) (m : Machine) (o : Outcome) (told : code.Outcome) (r : RunResult) → EndsSo p q limit s (end.With o) n m → ending_of told ≡ With o → TellsRun p m r told n → IsResultOf p r (run_from (look p) q limit s 0)
-with_result p q limit n s m o told r h e tells =
-    result_of p m r told n (after (look p) q n s) (run_from (look p) q limit s 0) h.0 tells
-    (h.1 ∙ ap (λ k. comes_to k n (after (look p) q n s).world) (sym e))
+pub with_result : (p : List Info) (q : Limits) (limit n : ℕ) (s : def.MachineState) (m : Machine) (e : Option StateEnd) (o : class.Outcome) (r : RunResult) → EndsSo p q limit s (end.At e) n m → IsOutcomeBy p m e o → TellsRun p m r (ending.With o) n → IsResultOf p r (run_from (look p) q limit s 0)
+with_result p q limit n s m e o r h is tells =
+    let here = after (look p) q n s in
+    result_of p m r (ending.With o) (With (run_outcome here.world.heap e)) n here (run_from (look p) q limit s 0) h.0 tells (ap ending.With (is here h.0)) h.1
 
-pub stuck_result : (p : List Info) (q : Limits) (n : ℕ) (s : def.MachineState) (m : Machine) (told : code.Outcome) (r : RunResult) → StandsFor p m (after (look p) q n s) → ((t : def.MachineState) → StandsFor p m t → ending_of told ≡ StuckAt (place_of (look p) t)) → TellsRun p m r told n → IsStuckResult p q n s r
+pub stuck_result : (p : List Info) (q : Limits) (n : ℕ) (s : def.MachineState) (m : Machine) (told : code.Ending) (r : RunResult) → StandsFor p m (after (look p) q n s) → ((t : def.MachineState) → StandsFor p m t → told ≡ ending_in (StuckAt (place_of (look p) t))) → TellsRun p m r told n → IsStuckResult p q n s r
 stuck_result p q n s m told r is place tells =
     let here = after (look p) q n s in
-    result_of p m r told n here (comes_to (StuckAt (place_of (look p) here)) n here.world) is tells
-    (ap (λ k. comes_to k n here.world) (sym (place here is)))
+    result_of p m r told (StuckAt (place_of (look p) here)) n here (comes_to (StuckAt (place_of (look p) here)) n here.world) is tells (place here is) refl
 
 pub stuck_long : (p : List Info) (q : Limits) (limit n : ℕ) (s : def.MachineState) (m : Machine) → EndsSo p q limit s end.Stuck n m → HasSteps p q n s
 stuck_long p q limit n s m h = h.0
@@ -194,11 +207,14 @@ pub stuck_is : (p : List Info) (q : Limits) (limit n : ℕ) (s : def.MachineStat
 stuck_is p q limit n s m r h is = subst (IsResultOf p r) (sym h.1) is
 
 -- The run has so many steps.
-pub steps_of : (p : List Info) (q : Limits) (limit n : ℕ) (s : def.MachineState) (m : Machine) (e : End) → EndsSo p q limit s e n m → (run_from (look p) q limit s 0).steps ≡ n
-steps_of p q limit n s m (end.With o) h = ap (λ r. r.steps) h.1
+pub steps_of : (p : List Info) (q : Limits) (limit n : ℕ) (s : def.MachineState) (m : Machine) (e : RunEnd) → EndsSo p q limit s e n m → (run_from (look p) q limit s 0).steps ≡ n
+steps_of p q limit n s m (end.At o) h = ap (λ r. r.steps) h.1
 steps_of p q limit n s m end.Stuck h = ap (λ r. r.steps) h.1
 
--- So is its end.
-pub end_of_run : (p : List Info) (q : Limits) (limit n : ℕ) (s : def.MachineState) (m : Machine) (e : End) → EndsSo p q limit s e n m → IsEndOf e (run_from (look p) q limit s 0).ending
-end_of_run p q limit n s m (end.With o) h = ap (λ r. r.ending) h.1
-end_of_run p q limit n s m end.Stuck h = (place_of (look p) (after (look p) q n s), ap (λ r. r.ending) h.1)
+-- How it ends, but for the place where it is stuck.
+pub end_with : (p : List Info) (q : Limits) (limit n : ℕ) (s : def.MachineState) (m : Machine) (e : Option StateEnd) (o : class.Outcome) → EndsSo p q limit s (end.At e) n m → IsOutcomeBy p m e o → last.With o ≡ end_in (run_from (look p) q limit s 0).ending
+end_with p q limit n s m e o h is =
+    ap last.With (is (after (look p) q n s) h.0) ∙ sym (ap (λ r. end_in r.ending) h.1)
+
+pub end_stuck : (p : List Info) (q : Limits) (limit n : ℕ) (s : def.MachineState) (m : Machine) → EndsSo p q limit s end.Stuck n m → last.Stuck ≡ end_in (run_from (look p) q limit s 0).ending
+end_stuck p q limit n s m h = sym (ap (λ r. end_in r.ending) h.1)

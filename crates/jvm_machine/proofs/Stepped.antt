@@ -1,7 +1,7 @@
 -- One step.
 use Rattle.std.proofs.Common.{◌≡◌, ◌∙◌, refl, ap, ℕ, List, Option, None, Some}
 use Rattle.machine_rules.specs.declared.machine.Limits.{Limits}
-use Rattle.machine_rules.specs.declared.machine.Outcome.{Outcome}
+use Rattle.machine_rules.specs.Outcomes.{Outcome}
 use Rattle.machine_rules.specs.State as def
 use Rattle.machine_rules.specs.Effects.{Effect, NoRow}
 use Rattle.machine_rules.specs.Effects as effect
@@ -17,9 +17,10 @@ use Rattle.jvm_unwind.specs.declared.turn.Turn.TheVariants as turn
 use Rattle.jvm_unwind.specs.Turns.{frames_of}
 use Rattle.jvm_act.specs.Standing.{AreFramesOf}
 use Rattle.jvm_machine.specs.declared.machine.Machine.{Machine}
+use Rattle.jvm_machine.specs.declared.machine.StateEnd.{StateEnd}
 use Rattle.jvm_machine.specs.declared.machine.Step.TheVariants as step
 use Rattle.jvm_machine.specs.Going.{going, GoesTo}
-use Rattle.jvm_machine.specs.Machines.{Answers, IsMachineOf, IsMachineStill, StandsFor, StepsTo, TellsEnd}
+use Rattle.jvm_machine.specs.Machines.{Answers, IsMachineOf, IsMachineStill, StandsFor, StepsTo, TellsEnd, outcome_by}
 
 by_end : (p : Look) (q : Limits) (s : def.MachineState) (o : Option Outcome) → steps.outcome_of s ≡ o → step_of p q s ≡ steps.unless_ended o (steps.next_or (steps.place_of p s) (goes p q s.world s.thrown s.frames))
 unfolding step_of
@@ -33,8 +34,8 @@ goes_is p m s h =
     ap (λ x. goes (look p) m.world.limits s.world x s.frames) h.thrown
     ∙ ap (goes (look p) m.world.limits s.world m.thrown) h.frames
 
-pub ended : (p : List Info) (m : Machine) (o : Outcome) → TellsEnd p m (Some o) → Answers p (step.Ended o) m m
-ended p m o tells = (refl, λ s h. by_end (look p) m.world.limits s (Some o) (tells s h))
+pub ended : (p : List Info) (m : Machine) (e : StateEnd) → TellsEnd p m (Some e) → Answers p (step.Ended e) m m
+ended p m e tells = (refl, λ s h. by_end (look p) m.world.limits s (Some (outcome_by s.world.heap e)) (tells s h))
 
 pub stuck : (p : List Info) (m new : Machine) (fs : NumberedFrames) (u : World) → TellsEnd p m None → GoesTo p m.thrown turn.NoRow m.frames fs m.world u → Answers p step.Stuck m new
 stuck p m new fs u tells h = λ s is.

@@ -5,9 +5,9 @@ use Rattle.machine_rules.specs.Runs.{Ran}
 use Rattle.class_link.specs.Info.{Info}
 use Rattle.jvm_world.specs.View.{named}
 use Rattle.jvm_machine.specs.declared.machine.Machine.{Machine}
-use Rattle.jvm_machine.specs.declared.outcome.Outcome.{Outcome}
+use Rattle.jvm_machine.specs.declared.ending.Ending.{Ending}
 use Rattle.jvm_machine.specs.declared.result.RunResult.{RunResult}
-use Rattle.jvm_machine.specs.Ending.{ending_of}
+use Rattle.jvm_machine.specs.Ending.{ending_in}
 use Rattle.jvm_machine.specs.Machines.{StandsFor}
 
 -- The pairs of a class by its number and a line, by the class's name.
@@ -16,19 +16,19 @@ pairs_of r = map (λ x. (x.0.0, x.1)) r.reached
 
 -- The result of a run is the run that is defined.
 pub record IsResultOf (p : List Info) (r : RunResult) (ran : Ran) : Type 0 where
-  pub ending : ending_of r.outcome ≡ ran.ending
+  pub ending : r.ending ≡ ending_in ran.ending
   pub steps : r.steps ≡ ran.steps
   pub consulted : r.consulted ≡ ran.consulted
   pub reached : map (named p) (pairs_of r) ≡ ran.reached
 
 -- It has this end and these steps, and what this state has consulted and reached.
 pub record IsOf
-    (p : List Info) (r : RunResult) (o : Outcome) (n : ℕ) (s : MachineState) : Type 0 where
-  pub outcome : r.outcome ≡ o
+    (p : List Info) (r : RunResult) (e : Ending) (n : ℕ) (s : MachineState) : Type 0 where
+  pub ending : r.ending ≡ e
   pub steps : r.steps ≡ n
   pub consulted : r.consulted ≡ s.world.consulted
   pub reached : map (named p) (pairs_of r) ≡ s.world.reached
 
 -- So it is of each state that a machine stands for.
-abbrev pub TellsRun : List Info → Machine → RunResult → Outcome → ℕ → Type 0
-TellsRun p m r o n = (s : MachineState) → StandsFor p m s → IsOf p r o n s
+abbrev pub TellsRun : List Info → Machine → RunResult → Ending → ℕ → Type 0
+TellsRun p m r e n = (s : MachineState) → StandsFor p m s → IsOf p r e n s

@@ -1,10 +1,9 @@
 -- A machine that runs, and the run of the definitions.
 use Rattle.std.specs.Prelude.{◌≡◌, ℕ, zero, suc, ◌-◌, ◌<◌, ◌≤◌, List}
 use Rattle.machine_rules.specs.declared.machine.Limits.{Limits}
-use Rattle.machine_rules.specs.declared.machine.Outcome.{Outcome}
 use Rattle.machine_rules.specs.State.{MachineState, start}
-use Rattle.machine_rules.specs.Steps.{Stepped, Place, Next, Ended, Stuck, outcome_of, place_of, step_of}
-use Rattle.machine_rules.specs.Runs.{Ending, With, StuckAt, at_limit, comes_to, run_from}
+use Rattle.machine_rules.specs.Steps.{Stepped, Next, Ended, Stuck, place_of, step_of}
+use Rattle.machine_rules.specs.Runs.{With, StuckAt, comes_to, run_from}
 use Rattle.program_rules.specs.Programs.{Look}
 use Rattle.class_link.specs.Info.{Info}
 use Rattle.class_table.specs.declared.scripted.Test.{Test}
@@ -13,9 +12,9 @@ use Rattle.jvm_world.specs.Holding.{opened}
 use Rattle.jvm_world.specs.View.{test_of}
 use Rattle.jvm_machine.specs.declared.machine.Machine.{Machine}
 use Rattle.jvm_machine.specs.declared.result.RunResult.{RunResult}
-use Rattle.jvm_machine.specs.declared.running.End.{End}
-use Rattle.jvm_machine.specs.declared.running.End.TheVariants as end
-use Rattle.jvm_machine.specs.Machines.{IsMachineOf, StandsFor}
+use Rattle.jvm_machine.specs.declared.running.RunEnd.{RunEnd}
+use Rattle.jvm_machine.specs.declared.running.RunEnd.TheVariants as end
+use Rattle.jvm_machine.specs.Machines.{IsMachineOf, StandsFor, run_outcome}
 use Rattle.jvm_machine.specs.Result.{IsResultOf}
 
 -- The state in which a test begins.
@@ -56,23 +55,15 @@ pub record HasRun
 
 -- The run comes to this end after so many steps. Where it is stuck nothing is said of the machine.
 abbrev pub EndsSo :
-    List Info → Limits → ℕ → MachineState → End → ℕ → Machine → Type 0
-EndsSo p q limit s (end.With o) n m =
+    List Info → Limits → ℕ → MachineState → RunEnd → ℕ → Machine → Type 0
+EndsSo p q limit s (end.At e) n m =
     let t = after (look p) q n s in
-    StandsFor p m t × (run_from (look p) q limit s 0 ≡ comes_to (With o) n t.world)
+    StandsFor p m t
+    × (run_from (look p) q limit s 0 ≡ comes_to (With (run_outcome t.world.heap e)) n t.world)
 EndsSo p q limit s end.Stuck n m =
     let t = after (look p) q n s in
     HasSteps p q n s
     × (run_from (look p) q limit s 0 ≡ comes_to (StuckAt (place_of (look p) t)) n t.world)
-
--- It is how the run ends, but for the place where it is stuck.
-abbrev pub IsEndOf : End → Ending → Type 0
-IsEndOf (end.With o) e = e ≡ With o
-IsEndOf end.Stuck e = (place : Place) × (e ≡ StuckAt place)
-
--- How a run ends that has taken all its steps.
-abbrev pub EndsAtLimit : List Info → Machine → Outcome → Type 0
-EndsAtLimit p m o = (s : MachineState) → StandsFor p m s → at_limit (outcome_of s) ≡ With o
 
 -- What a run gives that is stuck behind so many steps.
 abbrev pub IsStuckResult : List Info → Limits → ℕ → MachineState → RunResult → Type 0

@@ -9,7 +9,7 @@ ghost use Rattle.jvm_machine.specs.Machines.{HasFewMonitors, HasMeaning, IsMachi
 ghost use Rattle.jvm_machine.specs.Programs.{IsRunnable};
 ghost use Rattle.jvm_machine.specs.Tables.{AreTablesOf};
 
-use crate::machine::{Machine, Step};
+use crate::machine::{Machine, StateEnd, Step};
 use crate::passing::pass_on;
 use crate::stepping::step;
 use crate::tables::Tables;
@@ -17,7 +17,6 @@ use crate::taking::Taken;
 use class_model::Memory;
 use class_table::Program;
 use jvm_lines::MethodMarks;
-use machine_rules::Outcome;
 use std::alloc::Global;
 
 /// What a machine came to that was to go on.
@@ -26,7 +25,7 @@ pub enum Went {
     /// So many steps, one at least.
     Steps(u64),
     /// Its state had ended before.
-    Ended(Outcome),
+    Ended(StateEnd),
     /// No row applies behind so many steps. Nothing is known of the machine any more.
     Stuck(u64),
 }
@@ -37,7 +36,7 @@ fn went_by(stepped: Step) -> Went
 {
     match stepped {
         Step::Next => Went::Steps(1),
-        Step::Ended(outcome) => Went::Ended(outcome),
+        Step::Ended(end) => Went::Ended(end),
         Step::Stuck => Went::Stuck(0),
     }
 }

@@ -3,8 +3,8 @@
 ghost use Rattle.std.specs.Prelude.{◌≡◌, map, IfOk};
 ghost use Rattle.jvm_machine.specs.Result.{TellsRun};
 
+use crate::ending::Ending;
 use crate::machine::Machine;
-use crate::outcome::Outcome;
 use crate::result::RunResult;
 use class_model::{ClassId, Memory, Seq};
 use class_table::Program;
@@ -24,16 +24,16 @@ pub fn finish(
     alloc: Global,
     p: &Program,
     m: &Machine,
-    outcome: Outcome,
+    ending: Ending,
     steps: u64,
 ) -> Result<RunResult, Memory>
-    ensures { IfOk result (λ r. TellsRun p.now m.now r outcome steps) }
+    ensures { IfOk result (λ r. TellsRun p.now m.now r ending steps) }
 {
     let _ = p.len();
     let consulted = m.world.consulted.names().copy()?;
     let reached = copy_pairs(alloc, m.world.reached.pairs())?;
     Ok(RunResult {
-        outcome,
+        ending,
         steps,
         consulted,
         reached,

@@ -2,6 +2,7 @@
 #![tactic(auto)]
 
 mod advancing;
+mod ending;
 mod executing;
 mod finish;
 mod machine;
@@ -14,9 +15,9 @@ mod stepping;
 mod tables;
 mod taking;
 
-pub use machine::{Machine, Step};
-pub use outcome::Outcome;
+pub use ending::{End, Ending};
+pub use machine::{Machine, StateEnd, Step};
 pub use result::RunResult;
-pub use running::{End, execute, execute_to_end};
+pub use running::{execute, execute_to_end};
 pub use stepping::step;
 pub use tables::Tables;

@@ -11,7 +11,7 @@ use class_model::Memory;
 use class_table::{Program, Test};
 use jvm_frames::Frames;
 use jvm_world::{MachineClasses, World};
-use machine_rules::{Limits, Outcome};
+use machine_rules::{Limits, Stop};
 use std::alloc::Global;
 
 /// A machine that runs a test: its frames, the object that is thrown, if one is, and all else. What
@@ -23,33 +23,44 @@ pub struct Machine {
     pub world: World,
 }
 
+/// How a state has ended.
+#[derive(Clone, Copy)]
+pub enum StateEnd {
+    /// Its script is done.
+    Done,
+    /// This object has left a call of its script.
+    Left(u32),
+    /// It is over though its script isn't.
+    Over(Stop),
+}
+
 /// What a step came to.
 #[derive(Clone, Copy)]
 pub enum Step {
     Next,
     /// The state had ended before the step, and is as it was.
-    Ended(Outcome),
+    Ended(StateEnd),
     /// No row applies. Nothing is known of the machine any more.
     Stuck,
 }
 
 // How a machine has ended, if it has.
-fn end_of(m: &Machine) -> Option<Outcome>
+fn end_of(m: &Machine) -> Option<StateEnd>
     ensures { result ≡ end_of m.now }
 {
-    if m.world.over.is_some() {
-        return m.world.over;
+    if let Some(stop) = m.world.over {
+        return Some(StateEnd::Over(stop));
     }
     if m.frames.place().is_some() {
         return None;
     }
-    if m.thrown.is_some() {
-        return Some(Outcome::Failed);
+    if let Some(object) = m.thrown {
+        return Some(StateEnd::Left(object));
     }
     if m.world.script.next().is_some() {
         return None;
     }
-    Some(Outcome::Passed)
+    Some(StateEnd::Done)
 }
 
 impl Machine {
@@ -78,7 +89,7 @@ impl Machine {
 
     /// How the machine has ended, if it has: an object has left the script, or the script is done,
     /// or the world says so.
-    pub fn end(&self, p: &Program) -> Option<Outcome>
+    pub fn end(&self, p: &Program) -> Option<StateEnd>
         ensures tells { TellsEnd p.now self.now result }
         ensures end { result ≡ end_of self.now }
     {

@@ -9,11 +9,11 @@ ghost use Rattle.machine_rules.specs.State.{MachineState};
 ghost use Rattle.machine_rules.specs.Steps.{method_text, call_place, place_of};
 ghost use Rattle.class_table.specs.Table.{look, name_at};
 ghost use Rattle.jvm_world.specs.View.{call_of};
-ghost use Rattle.jvm_machine.specs.Ending.{ending_of};
+ghost use Rattle.jvm_machine.specs.Ending.{ending_in};
 ghost use Rattle.jvm_machine.specs.Machines.{IsMachineOf, StandsFor};
 
+use crate::ending::Ending;
 use crate::machine::Machine;
-use crate::outcome::Outcome;
 use class_model::{ClassId, Memory, Name, Seq};
 use class_table::{Call, Program};
 use jvm_frames::Place;
@@ -45,31 +45,31 @@ fn method_text(alloc: Global, p: &Program, class: ClassId, method: u32) -> Resul
 }
 
 // The place of a frame.
-fn frame_place(alloc: Global, p: &Program, place: Place) -> Result<Outcome, Memory>
+fn frame_place(alloc: Global, p: &Program, place: Place) -> Result<Ending, Memory>
     requires { place.class.0 < length p.now }
-    ensures { IfOk result (λ o. ending_of o ≡ StuckAt (record {
+    ensures { IfOk result (λ e. e ≡ ending_in (StuckAt (record {
       class = name_at p.now place.class.0;
       method = method_text (method_in (look p.now (name_at p.now place.class.0)) place.method);
       at = place.at;
-    })) }
+    }))) }
 {
     let method = method_text(alloc, p, place.class, place.method)?;
     let class = p.info(place.class).name().copy()?;
     let at = place.at;
-    Ok(Outcome::Stuck { class, method, at })
+    Ok(Ending::Stuck { class, method, at })
 }
 
 // The place of a call of the script.
-fn named_place(call: &Call) -> Result<Outcome, Memory>
-    ensures { IfOk result (λ o. ending_of o ≡ StuckAt (record {
+fn named_place(call: &Call) -> Result<Ending, Memory>
+    ensures { IfOk result (λ e. e ≡ ending_in (StuckAt (record {
       class = call.now.class;
       method = call.now.method ++ plain_descriptor;
       at = 0;
-    })) }
+    }))) }
 {
     let method = joined(&call.method, PLAIN.as_slice())?;
     let class = call.class.copy()?;
-    Ok(Outcome::Stuck {
+    Ok(Ending::Stuck {
         class,
         method,
         at: 0,
@@ -77,16 +77,16 @@ fn named_place(call: &Call) -> Result<Outcome, Memory>
 }
 
 // The place of the next call of a script.
-fn call_place(alloc: Global, script: &Script) -> Result<Outcome, Memory>
-    ensures { IfOk result (λ o.
-        ending_of o ≡ StuckAt (call_place (map call_of script.now.rest))) }
+fn call_place(alloc: Global, script: &Script) -> Result<Ending, Memory>
+    ensures { IfOk result (λ e.
+        e ≡ ending_in (StuckAt (call_place (map call_of script.now.rest)))) }
 {
     match script.next() {
         Some(call) => {
-            let outcome = named_place(call)?;
-            Ok(outcome)
+            let ending = named_place(call)?;
+            Ok(ending)
         }
-        None => Ok(Outcome::Stuck {
+        None => Ok(Ending::Stuck {
             class: Seq::new(alloc),
             method: Seq::new(alloc),
             at: 0,
@@ -96,19 +96,19 @@ fn call_place(alloc: Global, script: &Script) -> Result<Outcome, Memory>
 
 /// Where a machine stands, as the place where it is stuck.
 #[tactic(auto, using(crate::proofs::Placed::at_frame, crate::proofs::Placed::at_call, crate::proofs::Placed::class_within))]
-pub fn stuck_at(alloc: Global, p: &Program, m: &Machine) -> Result<Outcome, Memory>
+pub fn stuck_at(alloc: Global, p: &Program, m: &Machine) -> Result<Ending, Memory>
     requires { IsMachineOf p.now m.now }
-    ensures { IfOk result (λ o. (s : MachineState) → StandsFor p.now m.now s →
-        ending_of o ≡ StuckAt (place_of (look p.now) s)) }
+    ensures { IfOk result (λ e. (s : MachineState) → StandsFor p.now m.now s →
+        e ≡ ending_in (StuckAt (place_of (look p.now) s))) }
 {
     match m.frames.place() {
         Some(place) => {
-            let outcome = frame_place(alloc, p, place)?;
-            Ok(outcome)
+            let ending = frame_place(alloc, p, place)?;
+            Ok(ending)
         }
         None => {
-            let outcome = call_place(alloc, &m.world.script)?;
-            Ok(outcome)
+            let ending = call_place(alloc, &m.world.script)?;
+            Ok(ending)
         }
     }
 }

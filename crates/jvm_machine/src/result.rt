@@ -1,12 +1,12 @@
 //! What a run gives.
 
-use crate::outcome::Outcome;
+use crate::ending::Ending;
 use class_model::{ClassId, Name, Seq};
 
 /// What a run gives.
 #[derive(Drop)]
 pub struct RunResult {
-    pub outcome: Outcome,
+    pub ending: Ending,
     pub steps: u64,
     /// The names that were consulted, in order of first use.
     pub consulted: Seq<Name>,

@@ -9,13 +9,15 @@ ghost use Rattle.jvm_lines.specs.Marking.{AreMarkedRight};
 ghost use Rattle.jvm_machine.specs.Machines.{IsMachineOf, StandsFor};
 ghost use Rattle.jvm_machine.specs.Programs.{IsRunnable};
 ghost use Rattle.jvm_machine.specs.Result.{IsResultOf};
-ghost use Rattle.jvm_machine.specs.Running.{EndsSo, EndsAtLimit, HasSteps, IsEndOf, IsStuckResult, after, start_of};
+ghost use Rattle.jvm_machine.specs.Ending.{end_in};
+ghost use Rattle.jvm_machine.specs.Running.{EndsSo, HasSteps, IsStuckResult, after, start_of};
 ghost use Rattle.jvm_machine.specs.Tables.{AreTablesOf};
 
 use crate::advancing::{Went, advance};
+use crate::ending::{End, Ending};
 use crate::finish::finish;
-use crate::machine::{Machine, Step};
-use crate::outcome::Outcome;
+use crate::machine::{Machine, StateEnd, Step};
+use crate::outcome::outcome_of;
 use crate::places::stuck_at;
 use crate::result::RunResult;
 use crate::stepping::step;
@@ -27,21 +29,12 @@ use machine_rules::Limits;
 use mt_edge::MeterPart;
 use std::alloc::Global;
 
-/// How a run came to its end, but for the place where it is stuck.
+// How a machine that runs came to its end.
 #[derive(Clone, Copy)]
-pub enum End {
-    With(machine_rules::Outcome),
+enum RunEnd {
+    // At a state that has ended so, or at one that hasn't ended within the steps of the run.
+    At(Option<StateEnd>),
     Stuck,
-}
-
-// How a run ends that has taken all its steps.
-fn outcome_at_limit(p: &Program, m: &Machine) -> machine_rules::Outcome
-    ensures { EndsAtLimit p.now m.now result }
-{
-    match m.end(p) {
-        Some(outcome) => outcome,
-        None => machine_rules::Outcome::TimedOut,
-    }
 }
 
 // Counts so many steps.
@@ -65,7 +58,7 @@ fn run(
     test: &Test,
     limit: u64,
     part: &mut MeterPart,
-) -> Result<(End, u64), Memory>
+) -> Result<(RunEnd, u64), Memory>
     requires machine { IsMachineOf p.now m.old }
     requires marked { AreMarkedRight p.now marks.old.items (lines_of p.now m.old.world) }
     requires stands { StandsFor p.now m.old (start_of p.now test.now) }
@@ -88,15 +81,15 @@ fn run(
                 tick_all(part, n);
                 done += n;
             }
-            Went::Ended(outcome) => return Ok((End::With(outcome), done)),
+            Went::Ended(end) => return Ok((RunEnd::At(Some(end)), done)),
             Went::Stuck(n) => {
                 tick_all(part, n);
-                return Ok((End::Stuck, done + n));
+                return Ok((RunEnd::Stuck, done + n));
             }
         }
     }
-    let outcome = outcome_at_limit(p, m);
-    Ok((End::With(outcome), limit))
+    let end = m.end(p);
+    Ok((RunEnd::At(end), limit))
 }
 
 // Runs a machine that stands at the start of a test for so many steps as it has, and not further.
@@ -149,8 +142,8 @@ fn finish_again(
     ensures tables { AreTablesOf p.now tables.new }
 {
     run_again(m, alloc, p, tables, test, steps)?;
-    let outcome = stuck_at(alloc, p, m)?;
-    let result = finish(alloc, p, m, outcome, steps)?;
+    let ending = stuck_at(alloc, p, m)?;
+    let result = finish(alloc, p, m, ending, steps)?;
     Ok(result)
 }
 
@@ -188,7 +181,7 @@ fn finish_run(
     test: &Test,
     limits: Limits,
     limit: u64,
-    end: End,
+    end: RunEnd,
     steps: u64,
 ) -> Result<RunResult, Memory>
     requires tables { AreTablesOf p.now tables.old }
@@ -200,12 +193,12 @@ fn finish_run(
     ensures tables { AreTablesOf p.now tables.new }
 {
     match end {
-        End::With(outcome) => {
-            let told = Outcome::of(outcome);
-            let result = finish(alloc, p, m, told, steps)?;
+        RunEnd::At(end) => {
+            let outcome = outcome_of(alloc, p, m, end)?;
+            let result = finish(alloc, p, m, Ending::With(outcome), steps)?;
             Ok(result)
         }
-        End::Stuck => {
+        RunEnd::Stuck => {
             let result = finish_stuck(m, alloc, p, tables, test, limits, steps)?;
             Ok(result)
         }
@@ -271,7 +264,7 @@ pub fn execute(
 }
 
 // Runs a machine that stands at the start of a test, and gives how the run ends.
-#[tactic(auto, using(crate::proofs::Ran::steps_of, crate::proofs::Ran::end_of_run))]
+#[tactic(auto, using(crate::proofs::Ran::steps_of))]
 fn run_to_end(
     m: &mut Machine,
     alloc: Global,
@@ -286,8 +279,8 @@ fn run_to_end(
     requires tables { AreTablesOf p.now tables.old }
     requires runnable { IsRunnable (look p.now) }
     requires room { part.old + limit < 2 ^ 64 }
-    ensures ending { IfOk result (λ e. IsEndOf e
-        (run_of (look p.now) (test_of test.now) m.old.world.limits limit).ending) }
+    ensures ending { IfOk result (λ e.
+        e ≡ end_in (run_of (look p.now) (test_of test.now) m.old.world.limits limit).ending) }
     ensures steps { OnOk result (part.new ≡ part.old
         + (run_of (look p.now) (test_of test.now) m.old.world.limits limit).steps) }
     ensures memory { OnErr result (part.new ≤ part.old
@@ -295,8 +288,14 @@ fn run_to_end(
     ensures tables { AreTablesOf p.now tables.new }
 {
     let mut marks = Vec::new(alloc);
-    let ran = run(m, alloc, p, tables, &mut marks, test, limit, part)?;
-    Ok(ran.0)
+    let (end, _steps) = run(m, alloc, p, tables, &mut marks, test, limit, part)?;
+    match end {
+        RunEnd::At(end) => {
+            let outcome = outcome_of(alloc, p, m, end)?;
+            Ok(End::With(outcome))
+        }
+        RunEnd::Stuck => Ok(End::Stuck),
+    }
 }
 
 /// Runs a test on a program as `execute` does, and gives how the run ends, and neither names nor
@@ -314,8 +313,8 @@ pub fn execute_to_end(
     requires runnable { IsRunnable (look p.now) }
     requires small { limits.heap < 2 ^ 31 }
     requires room { part.old + limit < 2 ^ 64 }
-    ensures ending { IfOk result (λ e. IsEndOf e
-        (run_of (look p.now) (test_of test.now) limits limit).ending) }
+    ensures ending { IfOk result (λ e.
+        e ≡ end_in (run_of (look p.now) (test_of test.now) limits limit).ending) }
     ensures steps { OnOk result (part.new ≡ part.old
         + (run_of (look p.now) (test_of test.now) limits limit).steps) }
     ensures memory { OnErr result (part.new ≤ part.old

@@ -210,7 +210,7 @@ pub fn step(
     ensures tables { AreTablesOf p.now tables.new }
 {
     match m.end(p) {
-        Some(outcome) => return Ok(Step::Ended(outcome)),
+        Some(end) => return Ok(Step::Ended(end)),
         None => {}
     }
     let done = turn(&mut m.frames, &mut m.world, alloc, p, tables, m.thrown)?;

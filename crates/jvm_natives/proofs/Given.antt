@@ -4,7 +4,7 @@ use Rattle.std.specs.Prelude.{if◌then◌else◌, nat_le}
 use Rattle.program_rules.specs.declared.value.Value.{Value}
 use Rattle.program_rules.specs.declared.value.Value.TheVariants.{Ref}
 use Rattle.program_rules.specs.Instructions.{MethodRef}
-use Rattle.machine_rules.specs.declared.machine.Outcome.TheVariants.{MemoryOut}
+use Rattle.machine_rules.specs.declared.machine.Stop.TheVariants.{HeapPassed}
 use Rattle.machine_rules.specs.declared.machine.Limits.{Limits}
 use Rattle.machine_rules.specs.State as def
 use Rattle.machine_rules.specs.Effects.{Effect, NoRow, goes_with, jumps, pushes, unless_full}
@@ -102,16 +102,16 @@ advance_gives p r w count old new h =
 
 -- ---- the run is over
 
-pub cut_fills : (p : List Info) (r : MethodRef) (w u : World) (count : ℕ) (old new : NumberedFrames) → IsCut count old new → Moves p w u (λ v. record v { over = Some MemoryOut }) → Invokes p r (filling count) (Turned turn.Goes) old new w u
+pub cut_fills : (p : List Info) (r : MethodRef) (w u : World) (count : ℕ) (old new : NumberedFrames) → IsCut count old new → Moves p w u (λ v. record v { over = Some HeapPassed }) → Invokes p r (filling count) (Turned turn.Goes) old new w u
 cut_fills p r w u count old new h moves =
     args_at old.frame
     (λ f. new ≡ record old { frame = Some (cut count f) })
     (λ f. (z : def.World) → Means p w z → InvokedTo p w.limits r (Turned turn.Goes) f old new u (row_at p (filling count w.limits f.room) f old z))
     h
     (λ f e z m. record {
-      world = record z { over = Some MemoryOut };
+      world = record z { over = Some HeapPassed };
       means = moves z m;
-      goes = ap (λ (s : NumberedFrames). goes_with (record z { over = Some MemoryOut }) (frames_of p s)) (sym e);
+      goes = ap (λ (s : NumberedFrames). goes_with (record z { over = Some HeapPassed }) (frames_of p s)) (sym e);
     })
 
 -- ---- a new object
@@ -147,9 +147,9 @@ none_made p r w u count make old new h is =
     let g = h z m in
     let fs = map (frame_of p) old.callers in
     record {
-      world = record z { over = Some MemoryOut };
+      world = record z { over = Some HeapPassed };
       means = g.means;
       goes = ap (λ a. unless_full z (without count (frame_of p f) ∷ fs) a
           (λ b. pushes b.0 (without count (frame_of p f)) fs f.room (Ref b.1) (drop count f.stack))) g.full
-          ∙ ap (λ (s : NumberedFrames). goes_with (record z { over = Some MemoryOut }) (frames_of p s)) (sym e);
+          ∙ ap (λ (s : NumberedFrames). goes_with (record z { over = Some HeapPassed }) (frames_of p s)) (sym e);
     })

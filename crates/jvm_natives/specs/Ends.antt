@@ -4,7 +4,7 @@ use Rattle.program_rules.specs.declared.value.Value.{Value}
 use Rattle.program_rules.specs.declared.value.Value.TheVariants.{Ref}
 use Rattle.program_rules.specs.Deeds.{Deed, Meaning}
 use Rattle.machine_rules.specs.declared.machine.Limits.{Limits}
-use Rattle.machine_rules.specs.declared.machine.Outcome.TheVariants.{MemoryOut}
+use Rattle.machine_rules.specs.declared.machine.Stop.TheVariants.{HeapPassed}
 use Rattle.machine_rules.specs.State as def
 use Rattle.machine_rules.specs.Effects.{goes_with, pushes, unless_full}
 use Rattle.machine_rules.specs.Performing.{NativeResult, HeapFull, performs}
@@ -48,7 +48,7 @@ giving count v = λ q room w f fs. goes_on w (without count f) fs room v
 -- The run is over, in the frame without so many values.
 abbrev pub filling : ℕ → RowOf
 filling count = λ q room w f fs.
-    goes_with (record w { over = Some MemoryOut }) (without count f ∷ fs)
+    goes_with (record w { over = Some HeapPassed }) (without count f ∷ fs)
 
 -- The reference to a new object is pushed in the place of so many values, or the run is over.
 abbrev pub making : ℕ → (Limits → def.World → Option (def.World × ℕ)) → RowOf

@@ -17,7 +17,7 @@ use class_table::Program;
 use jvm_frames::{Args, Frames};
 use jvm_unwind::Turn;
 use jvm_world::World;
-use machine_rules::Outcome;
+use machine_rules::Stop;
 use program_rules::Value;
 
 // A value is pushed in the place of so many. Where it has no room, no row applies.
@@ -68,7 +68,7 @@ pub fn fill(frames: &mut Frames, world: &mut World, p: &Program, args: Args) -> 
     ensures kept { IsKept p.now world.old world.new }
 {
     frames.cut(args);
-    world.end(p, Outcome::MemoryOut);
+    world.end(p, Stop::HeapPassed);
     Turn::Goes
 }
 

@@ -12,7 +12,7 @@ use Rattle.program_rules.specs.Objects as objects
 use Rattle.program_rules.specs.Objects.{Plain}
 use Rattle.program_rules.specs.Programs.{Family}
 use Rattle.machine_rules.specs.declared.machine.Limits.{Limits}
-use Rattle.machine_rules.specs.declared.machine.Outcome.TheVariants.{MemoryOut}
+use Rattle.machine_rules.specs.declared.machine.Stop.TheVariants.{HeapPassed}
 use Rattle.machine_rules.specs.State as def
 use Rattle.machine_rules.specs.Effects.{Effect, NoRow, on_some, goes_with, jumps, pushes, allocate, unless_full, throws}
 use Rattle.machine_rules.specs.Arrays.{array_kind, on_array, on_count, makes_array, makes_primitive_array, pushes_new}
@@ -60,7 +60,7 @@ full_at p w u make count (Some f) cs a = (
     goes = λ class v fs m.
         let k = a v m in
         record {
-          world = record v { over = Some MemoryOut };
+          world = record v { over = Some HeapPassed };
           means = k.means;
           goes = ap (λ b. unless_full v (framed class f ∷ fs) b (pushes_new (framed class f) fs f.room (drop count f.stack))) k.full;
         };
@@ -93,16 +93,16 @@ no_room_runs p w make count old t h =
     no_push v (framed class f ∷ fs) (make w.limits v) (pushes_new (framed class f) fs f.room (drop count f.stack)) (t v m)
     (λ a. ap (λ b. if b then jumps a.0 (framed class f) fs (f.at + 1) (Ref a.1 ∷ drop count f.stack) else NoRow) e)) h)
 
-full_none : (v : def.World) (fs : List def.Frame) (o : Option (def.World × ℕ)) (go : def.World × ℕ → Effect) → is_some o ≡ false → unless_full v fs o go ≡ goes_with (record v { over = Some MemoryOut }) fs
+full_none : (v : def.World) (fs : List def.Frame) (o : Option (def.World × ℕ)) (go : def.World × ℕ → Effect) → is_some o ≡ false → unless_full v fs o go ≡ goes_with (record v { over = Some HeapPassed }) fs
 full_none v fs None go e = refl
 full_none v fs (Some a) go e = absurd cc
 
-over_at : (p : List Info) (w u : World) (make : Make) (count : ℕ) (o : Option NumberedFrame) (cs : List NumberedFrame) → TellsMade p w (make w.limits) false → Moves p w u (λ v. record v { over = Some MemoryOut }) → Runs p (made_row make count) effect.Goes (record { frame = o; callers = cs }) (record { frame = o; callers = cs }) w u
+over_at : (p : List Info) (w u : World) (make : Make) (count : ℕ) (o : Option NumberedFrame) (cs : List NumberedFrame) → TellsMade p w (make w.limits) false → Moves p w u (λ v. record v { over = Some HeapPassed }) → Runs p (made_row make count) effect.Goes (record { frame = o; callers = cs }) (record { frame = o; callers = cs }) w u
 over_at p w u make count None cs t moves = tt
 over_at p w u make count (Some f) cs t moves = (
   record {
     goes = λ class v fs m. record {
-      world = record v { over = Some MemoryOut };
+      world = record v { over = Some HeapPassed };
       means = moves v m;
       goes = full_none v (framed class f ∷ fs) (make w.limits v) (pushes_new (framed class f) fs f.room (drop count f.stack)) (t v m);
     };
@@ -113,7 +113,7 @@ over_at p w u make count (Some f) cs t moves = (
   refl,
 )
 
-pub over_runs : (p : List Info) (w u : World) (make : Make) (count : ℕ) (old : NumberedFrames) → TellsMade p w (make w.limits) false → Moves p w u (λ v. record v { over = Some MemoryOut }) → Runs p (made_row make count) effect.Goes old old w u
+pub over_runs : (p : List Info) (w u : World) (make : Make) (count : ℕ) (old : NumberedFrames) → TellsMade p w (make w.limits) false → Moves p w u (λ v. record v { over = Some HeapPassed }) → Runs p (made_row make count) effect.Goes old old w u
 over_runs p w u make count old t moves = over_at p w u make count old.frame old.callers t moves
 
 -- Whether the words are left decides whether an object is made.

@@ -14,7 +14,7 @@ use class_table::Program;
 use jvm_frames::Frames;
 use jvm_heap_rows::Effect;
 use jvm_world::World;
-use machine_rules::Outcome;
+use machine_rules::Stop;
 use program_rules::Value;
 
 /// A value is pushed in the place of so many. Where it has no room, no row applies.
@@ -71,6 +71,6 @@ pub fn without_room(world: &mut World, p: &Program, there: bool) -> Effect
     if there {
         return Effect::NoRow;
     }
-    world.end(p, Outcome::MemoryOut);
+    world.end(p, Stop::HeapPassed);
     Effect::Goes
 }

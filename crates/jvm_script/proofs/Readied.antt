@@ -11,7 +11,7 @@ use Rattle.program_rules.specs.Objects as objects
 use Rattle.program_rules.specs.Programs.{Family, family}
 use Rattle.program_rules.specs.Resolution.{MethodAt, same_bool}
 use Rattle.machine_rules.specs.declared.machine.Limits.{Limits}
-use Rattle.machine_rules.specs.declared.machine.Outcome.TheVariants.{MemoryOut}
+use Rattle.machine_rules.specs.declared.machine.Stop.TheVariants.{HeapPassed}
 use Rattle.machine_rules.specs.State as def
 use Rattle.machine_rules.specs.Effects.{Effect, NoRow, on_some, allocate, unless_full, goes_with}
 use Rattle.machine_rules.specs.Initialisation.{when_ready}
@@ -93,7 +93,7 @@ module _ (p : List Info) (s : Site) (l : Layout) (o : Object) (more : ℕ) (w mi
   made_full a new there allocates none m is q limits v k =
       let h : Allocates p w mid (λ v. allocate w.limits v (object_of p o) (1 + more)) None = subst (Allocates p w mid (λ v. allocate w.limits v (object_of p o) (1 + more))) there allocates in
       let g = h v k in
-      let z : def.World = record v { over = Some MemoryOut } in
+      let z : def.World = record v { over = Some HeapPassed } in
       record {
         world = z;
         means = g.means;

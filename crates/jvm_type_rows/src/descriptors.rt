@@ -16,8 +16,8 @@ use jvm_catch::{class_behind, object_name};
 use jvm_values::ObjKind;
 use std::alloc::Global;
 
-// The name of the class of a number, empty where there is none.
-fn name_at(alloc: Global, p: &Program, class: ClassId) -> Result<Name, Memory>
+/// The name of the class of a number, empty where there is none.
+pub fn name_at(alloc: Global, p: &Program, class: ClassId) -> Result<Name, Memory>
     ensures { IfOk result (λ n. n ≡ name_at p.now class.0) }
 {
     match p.get(class) {

@@ -9,6 +9,7 @@ mod texts;
 mod within;
 
 pub use casting::{check_cast, is_instance, test_instance, truth};
+pub use descriptors::name_at;
 pub use instance::is_kind_within;
 pub use storing::store_reference;
 pub use texts::without_first;

@@ -7,7 +7,7 @@ use Rattle.program_rules.specs.declared.value.Value.{Value}
 use Rattle.program_rules.specs.Kinds.{Kind}
 use Rattle.program_rules.specs.Objects as objects
 use Rattle.program_rules.specs.Tests as tests
-use Rattle.machine_rules.specs.declared.machine.Outcome.TheVariants.{MemoryOut}
+use Rattle.machine_rules.specs.declared.machine.Stop.TheVariants.{HeapPassed}
 use Rattle.machine_rules.specs.State as def
 use Rattle.program_rules.specs.declared.fault.Fault.{Fault}
 use Rattle.machine_rules.specs.Arrays.{array_kind}
@@ -167,7 +167,7 @@ pub record Gives
 -- The heap would have been passed, so the run is over.
 pub record Fills
     (p : List Info) (new : World) (v : def.World) (a : Option (def.World × ℕ)) : Type 0 where
-  pub means : Means p new (record v { over = Some MemoryOut })
+  pub means : Means p new (record v { over = Some HeapPassed })
   pub full : a ≡ None
 
 -- What takes words of the heap gives an object, or ends the run.

@@ -28,7 +28,7 @@ use class_model::{ClassId, Kind, Memory, Name, Seq};
 use class_table::{Consulted, Program, Test};
 use jvm_marks::{Begun, Reached};
 use jvm_values::{ArrayKind, Heap, HeapFault, Kept, ObjKind, Object};
-use machine_rules::{InitState, Limits, Outcome};
+use machine_rules::{InitState, Limits, Stop};
 use program_rules::{Fault, Value};
 use std::alloc::Global;
 
@@ -52,7 +52,7 @@ pub struct World {
     pub instance: Option<u32>,
     pub script: Script,
     /// Set where the run is over though the script isn't.
-    pub over: Option<Outcome>,
+    pub over: Option<Stop>,
     pub limits: Limits,
     pub classes: MachineClasses,
 }
@@ -255,7 +255,7 @@ impl World {
         match self.heap.add(object, more) {
             Ok(number) => Ok(Some(number)),
             Err(HeapFault::Full) => {
-                self.over = Some(Outcome::MemoryOut);
+                self.over = Some(Stop::HeapPassed);
                 Ok(None)
             }
             Err(HeapFault::Memory) => Err(Memory),
@@ -273,7 +273,7 @@ impl World {
         match self.heap.array(of, len) {
             Ok(number) => Ok(Some(number)),
             Err(HeapFault::Full) => {
-                self.over = Some(Outcome::MemoryOut);
+                self.over = Some(Stop::HeapPassed);
                 Ok(None)
             }
             Err(HeapFault::Memory) => Err(Memory),
@@ -291,7 +291,7 @@ impl World {
         match self.heap.text(units) {
             Ok(number) => Ok(Some(number)),
             Err(HeapFault::Full) => {
-                self.over = Some(Outcome::MemoryOut);
+                self.over = Some(Stop::HeapPassed);
                 Ok(None)
             }
             Err(HeapFault::Memory) => Err(Memory),
@@ -409,11 +409,11 @@ impl World {
     }
 
     /// The run is over.
-    pub fn end(&mut self, p: &Program, outcome: Outcome)
+    pub fn end(&mut self, p: &Program, stop: Stop)
         requires world { IsWorldOf p.now self.old }
-        ensures moves { Moves p.now self.old self.new (λ v. record v { over = Some outcome }) }
+        ensures moves { Moves p.now self.old self.new (λ v. record v { over = Some stop }) }
         ensures kept { IsKept p.now self.old self.new }
     {
-        self.over = Some(outcome);
+        self.over = Some(stop);
     }
 }

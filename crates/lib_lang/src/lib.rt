@@ -11,3 +11,4 @@ mod order;
 mod throwable;
 
 pub use natives::lang_deed;
+pub use object::dotted;

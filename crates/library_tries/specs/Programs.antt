@@ -9,11 +9,10 @@ use Rattle.program_rules.specs.Linked.{Linked, LinkedRow}
 use Rattle.program_rules.specs.declared.call_kind.CallKind.TheVariants.{ClassWide}
 use Rattle.program_rules.specs.Programs.{Look}
 use Rattle.program_rules.specs.Library.{class_among, first_of}
-use Rattle.machine_rules.specs.declared.machine.Outcome.{Outcome}
-use Rattle.machine_rules.specs.declared.machine.Outcome.TheVariants.{Passed, Failed}
+use Rattle.machine_rules.specs.Outcomes.{Outcome, Passed}
 use Rattle.machine_rules.specs.Runs.{With, Ran, run_of}
 use Rattle.lib_table.specs.Library.{library_meant}
-use Rattle.machine_tries.specs.Tries.{a_call, a_class, a_code, a_member, a_row, only_t, told}
+use Rattle.machine_tries.specs.Tries.{a_call, a_class, a_code, a_member, a_row, only_t, thrown_by, told}
 
 -- A part of a program: code that gives nothing; code that has to give this int; code that has to
 -- give the object that this instruction gives. Code is a straight line, and beside it stand the
@@ -75,13 +74,13 @@ passes xs = record {
   steps = 2 + all_steps xs + 1;
 }
 
--- Behind these parts this code throws what nothing catches. Steps: as above, then the code, those
--- inside, of which one pops each frame, and the one that pops T's frame.
+-- Behind these parts this code throws an AssertionError, which nothing catches. Steps: as above, then
+-- the code, those inside, of which one pops each frame, and the one that pops T's frame.
 abbrev pub fails : List Part → List Instruction → ℕ → Try
 fails xs is n = record {
   code = with_parts [] xs ++ (is ++ PlainReturn ∷ []);
   rows = [];
-  ends = Failed;
+  ends = thrown_by (codes "java/lang/AssertionError");
   steps = 2 + all_steps xs + length is + n + 1;
 }
 

@@ -6,9 +6,9 @@ ghost use Rattle.jvm_machine.specs.Programs.{IsRunnable};
 ghost use Rattle.jvm_machine.specs.Tables.{AreTablesOf};
 
 use crate::case::{Case, case_of};
-use class_model::{Memory, Name};
+use class_model::{Cause, Memory, Name, Outcome};
 use class_table::{Program, Test};
-use jvm_machine::{Outcome, RunResult, Tables, execute};
+use jvm_machine::{Ending, RunResult, Tables, execute};
 use mt_edge::Meter;
 use std::alloc::Global;
 
@@ -27,13 +27,29 @@ fn push_number(out: &mut String, number: u64, unit: &str) -> Result<(), Memory> 
     push(out, text.as_str())
 }
 
+fn push_cause(out: &mut String, cause: &Cause) -> Result<(), Memory> {
+    match cause {
+        Cause::Returned => push(out, "Returned"),
+        Cause::Thrown(class) => push_name(out, class),
+    }
+}
+
 fn push_outcome(out: &mut String, outcome: &Outcome) -> Result<(), Memory> {
     match outcome {
         Outcome::Passed => push(out, "Passed"),
-        Outcome::Failed => push(out, "Failed"),
+        Outcome::Failed(cause) => {
+            push(out, "Failed ")?;
+            push_cause(out, cause)
+        }
         Outcome::TimedOut => push(out, "TimedOut"),
         Outcome::MemoryOut => push(out, "MemoryOut"),
-        Outcome::Stuck { class, method, at } => {
+    }
+}
+
+fn push_ending(out: &mut String, ending: &Ending) -> Result<(), Memory> {
+    match ending {
+        Ending::With(outcome) => push_outcome(out, outcome),
+        Ending::Stuck { class, method, at } => {
             push(out, "Stuck at ")?;
             push_name(out, class)?;
             push(out, ".")?;
@@ -44,7 +60,7 @@ fn push_outcome(out: &mut String, outcome: &Outcome) -> Result<(), Memory> {
 }
 
 fn push_ran(out: &mut String, ran: &RunResult) -> Result<(), Memory> {
-    push_outcome(out, &ran.outcome)?;
+    push_ending(out, &ran.ending)?;
     push_number(out, ran.steps, "steps")?;
     push_number(out, ran.consulted.len() as u64, "names")?;
     push_number(out, ran.reached.len() as u64, "lines\n")

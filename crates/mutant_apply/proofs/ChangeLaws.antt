@@ -234,6 +234,9 @@ module _ (insn : Insn) where
       let k = behind (null_return asked) (returned_class asked insn) c e in
       when_right (not asked.is_not_null && is_none (empty_value k.0) && not (is_boolean_class k.0)) (change.Returns (value.Constant 0x01)) c (returns_right (value.Constant 0x01) (reference_plain asked k.0 k.1) refl) k.2
   row_right mutator.PrimitiveReturns asked c form e = zero_case asked c (insn.op == 0xac) refl e
+  row_right mutator.NonVoidMethodCalls asked c form e = absurd cc
+  row_right mutator.ConstructorCalls asked c form e = absurd cc
+  row_right mutator.RemoveConditionals asked c form e = absurd cc
 
 -- ---- what a change puts there
 

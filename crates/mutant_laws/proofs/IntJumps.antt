@@ -43,6 +43,9 @@ all_put mutator.FalseReturns asked insn = refl
 all_put mutator.TrueReturns asked insn = refl
 all_put mutator.NullReturns asked insn = refl
 all_put mutator.PrimitiveReturns asked insn = refl
+all_put mutator.NonVoidMethodCalls asked insn = refl
+all_put mutator.ConstructorCalls asked insn = refl
+all_put mutator.RemoveConditionals asked insn = refl
 
 made_puts : (by : Mutator) (asked : Asked) (insn : Insn) (made : Change) → row by asked insn ≡ Some made → is_int_jump insn.op ≡ true → puts_int_jump (new_insns asked.pool made insn) ≡ true
 unfolding row_puts puts

@@ -156,6 +156,9 @@ row_in P mutator.PrimitiveReturns asked insn op go h =
     (not_either (insn.op == 0xac) (when (gives_number asked.gives) (change.Returns (value.Constant 0x03))) (when (insn.op == 0xad && gives_long asked.gives) (change.Returns (value.Constant 0x09)))
     (not_when (gives_number asked.gives) (change.Returns (value.Constant 0x03)) (returns (value.Constant 0x03)))
     (not_when (insn.op == 0xad && gives_long asked.gives) (change.Returns (value.Constant 0x09)) (returns (value.Constant 0x09)))) h)
+row_in P mutator.NonVoidMethodCalls asked insn op go h = absurd cc
+row_in P mutator.ConstructorCalls asked insn op go h = absurd cc
+row_in P mutator.RemoveConditionals asked insn op go h = absurd cc
 
 kept_in : (means : ℕ → Symbol) (a : Arg) (pairs : List (ℕ × ℕ)) → (pairs ≡ bounds) ⊎ ((pairs ≡ operations) ⊎ (pairs ≡ opposites)) → all_pairs (is_kept means a) pairs ≡ true
 kept_in means a pairs k =
@@ -243,6 +246,9 @@ returned_at mutator.FalseReturns asked insn v h = truth_case 0x03 asked insn (ch
 returned_at mutator.TrueReturns asked insn v h = truth_case 0x04 asked insn (change.Returns v) (insn.op == 0xac) refl h
 returned_at mutator.NullReturns asked insn v h = given_at (null_return asked) asked insn (change.Returns v) h
 returned_at mutator.PrimitiveReturns asked insn v h = zero_case asked insn (change.Returns v) (insn.op == 0xac) refl h
+returned_at mutator.NonVoidMethodCalls asked insn v h = absurd cc
+returned_at mutator.ConstructorCalls asked insn v h = absurd cc
+returned_at mutator.RemoveConditionals asked insn v h = absurd cc
 
 -- ---- the instructions that a change puts there
 

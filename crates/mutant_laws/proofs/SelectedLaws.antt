@@ -6,7 +6,7 @@ use Rattle.std.specs.List.{AllByRecursion, enumerate_from}
 use Rattle.std.specs.Option.{option_map, option_map_or, option_or}
 use Rattle.std.proofs.lemmas.List.Elements.{recursion_from_All}
 use Rattle.machine_rules.specs.declared.machine.Limits.{Limits}
-use Rattle.machine_rules.specs.declared.machine.Outcome.TheVariants.{Passed}
+use Rattle.machine_rules.specs.Outcomes.{Passed}
 use Rattle.program_rules.specs.Programs.{Look}
 use Rattle.machine_rules.specs.Runs.{With, Ran}
 use Rattle.machine_laws.specs.FrameLaw.{HasEnded}

@@ -36,7 +36,7 @@ use Rattle.type_rules.specs.Rules.{method_fault}
 use Rattle.machine_rules.specs.Initialisation.{need_of}
 use Rattle.machine_rules.specs.Lookups.{is_instance}
 use Rattle.machine_rules.specs.Steps.{act, step_of}
-use Rattle.machine_rules.specs.declared.machine.Outcome.TheVariants.{Passed}
+use Rattle.machine_rules.specs.Outcomes.{Passed}
 use Rattle.machine_rules.specs.Runs.{With}
 use Rattle.machine_rules.specs.Worked.{roomy}
 use Rattle.machine_laws.specs.FrameLaw.{HasEnded}

@@ -2,7 +2,7 @@
 use Rattle.std.specs.Prelude.{◌≡◌, ◌≢◌, ◌⊎◌, ℕ, List, map, filter, All, Some, true, false}
 use Rattle.std.specs.List.{enumerate_from}
 use Rattle.program_rules.specs.Programs.{Look}
-use Rattle.machine_rules.specs.declared.machine.Outcome.TheVariants.{Passed}
+use Rattle.machine_rules.specs.Outcomes.{Passed}
 use Rattle.machine_rules.specs.declared.machine.Limits.{Limits}
 use Rattle.machine_rules.specs.Runs.{With, StuckAt, Ran, run_of}
 use Rattle.machine_laws.specs.Consulted.{IsLibraryWhole}

@@ -9,19 +9,14 @@ use Rattle.machine_rules.specs.declared.machine.Limits.{Limits}
 use Rattle.program_rules.specs.Programs.{Look}
 use Rattle.machine_rules.specs.State.{World, MachineState, start}
 use Rattle.machine_rules.specs.Steps.{Stepped, Next, Ended, Stuck, step_of}
-use Rattle.machine_rules.specs.Runs.{Ending, With, StuckAt, Ran, then_run, limit_of, run_from, run_of}
-use Rattle.machine_rules.specs.declared.machine.Outcome.{Outcome}
+use Rattle.machine_rules.specs.Runs.{Ran, then_run, limit_of, run_from, run_of}
 use Rattle.class_link.specs.Info.{Info}
 use Rattle.class_table.specs.declared.scripted.Test.{Test}
 use Rattle.jvm_world.specs.View.{named, test_of}
 use Rattle.jvm_machine.specs.Result.{pairs_of, IsResultOf}
 use Rattle.jvm_machine.specs.declared.result.RunResult.{RunResult}
-use Rattle.jvm_machine.specs.declared.running.End.{End}
-use Rattle.jvm_machine.specs.declared.running.End.TheVariants as end
-use Rattle.jvm_machine.specs.Running.{IsEndOf}
 use Rattle.mutator_ops.specs.declared.mutant.Mutant.{Mutant}
 use Rattle.mutator_ops.specs.declared.mutant.State.{State}
-use Rattle.mutator_ops.specs.declared.mutant.State.TheVariants as state
 use Rattle.mutant_runs.specs.Needed.{up_to_detecting, picked, runs_picked, steps_picked}
 use Rattle.mutant_runs.specs.Runs.{Timed, mutant_run, timed, steps_in, is_at, reaches, detected, most_steps}
 
@@ -125,10 +120,3 @@ runs_most q p ts ns (k ∷ ks) h = by (slice_get (timed ts ns) k) refl (runs_mos
 -- The steps of the runs of 65,535 tests at most.
 pub all_runs_most : (q : Limits) (p : Look) (ts : List Test) (ns : List ℕ) (ks : List ℕ) → length ks ≤ 65535 → All (λ n. n ≤ most_steps) ns → steps_picked (runs_picked q p (timed ts ns) ks) ≤ 825741000000
 all_runs_most q p ts ns ks few h = let most = runs_most q p ts ns ks h in omega (arith, few, most)
-
--- What a run's end says of a mutant, whichever place it is stuck at.
-pub detected_with : (x : End) (o : Outcome) (e : Ending) → x ≡ end.With o → IsEndOf x e → detected e ≡ detected (With o)
-detected_with x o e is h = let same : e ≡ With o = subst (λ y. IsEndOf y e) is h in ap detected same
-
-pub detected_stuck : (x : End) (e : Ending) → x ≡ end.Stuck → IsEndOf x e → detected e ≡ Some state.RunError
-detected_stuck x e is h = let stuck : IsEndOf end.Stuck e = subst (λ y. IsEndOf y e) is h in ap detected stuck.1

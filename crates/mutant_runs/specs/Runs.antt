@@ -1,13 +1,17 @@
 -- The runs of the tests on a mutant, and what they say of it (this project's own).
 use Rattle.std.specs.Prelude.{ℕ, Bool, ◌&&◌, ◌==◌, List, map, Option, Some, None, sum_by}
 use Rattle.std.specs.List.{list_any, zip}
+use Rattle.class_model.specs.declared.outcome.Outcome.{Outcome}
+use Rattle.class_model.specs.declared.outcome.Outcome.TheVariants as outcome
 use Rattle.program_rules.specs.Names.{Name, same}
 use Rattle.program_rules.specs.Programs.{Look}
-use Rattle.machine_rules.specs.Runs.{Ending, With, StuckAt, Ran, limit_of, run_of}
+use Rattle.machine_rules.specs.Runs.{Ending, Ran, limit_of, run_of}
 use Rattle.machine_rules.specs.declared.machine.Limits.{Limits}
-use Rattle.machine_rules.specs.declared.machine.Outcome.TheVariants as outcome
 use Rattle.class_table.specs.declared.scripted.Test.{Test}
 use Rattle.jvm_world.specs.View.{test_of}
+use Rattle.jvm_machine.specs.declared.ending.End.{End}
+use Rattle.jvm_machine.specs.declared.ending.End.TheVariants as end
+use Rattle.jvm_machine.specs.Ending.{end_in}
 use Rattle.mutator_ops.specs.declared.mutant.Mutant.{Mutant}
 use Rattle.mutator_ops.specs.declared.mutant.State.{State}
 use Rattle.mutator_ops.specs.declared.mutant.State.TheVariants as state
@@ -41,13 +45,22 @@ is_at m at = same at.0 m.class && at.1 == m.line
 abbrev pub reaches : Mutant → Ran → Bool
 reaches m run = list_any (is_at m) run.reached
 
--- The state of a mutant by the end of a run that detects it. A run that passes doesn't detect it.
+-- The state of a mutant by the outcome of a run that detects it. A run that passes doesn't detect
+-- it.
+abbrev pub detected_by : Outcome → Option State
+detected_by outcome.Passed = None
+detected_by (outcome.Failed c) = Some (state.Killed c)
+detected_by outcome.TimedOut = Some state.TimedOut
+detected_by outcome.MemoryOut = Some state.MemoryError
+
+-- The same by the end of a run, which may be stuck.
+abbrev pub detected_at : End → Option State
+detected_at (end.With o) = detected_by o
+detected_at end.Stuck = Some state.RunError
+
+-- The same as the definitions say how it ends.
 abbrev pub detected : Ending → Option State
-detected (With outcome.Passed) = None
-detected (With outcome.Failed) = Some state.Killed
-detected (With outcome.TimedOut) = Some state.TimedOut
-detected (With outcome.MemoryOut) = Some state.MemoryError
-detected (StuckAt place) = Some state.RunError
+detected e = detected_at (end_in e)
 
 -- ---- bounds
 

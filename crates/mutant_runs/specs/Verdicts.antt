@@ -24,9 +24,10 @@ killer (r ∷ runs) = option_or (option_map (λ s. (r.0, s)) (detected r.1.endin
 
 -- The verdict by the tests that reach the mutant's line, and the first that detects it.
 abbrev pub verdict_by : List ℕ → Option (ℕ × State) → Verdict
-verdict_by [] first = record { state = state.NoCoverage; killer = None; covering = [] }
-verdict_by (n ∷ ns) None = record { state = state.Survived; killer = None; covering = n ∷ ns }
-verdict_by (n ∷ ns) (Some first) = record { state = first.1; killer = Some first.0; covering = n ∷ ns }
+verdict_by [] first = record { state = state.NoCoverage; killers = []; covering = [] }
+verdict_by (n ∷ ns) None = record { state = state.Survived; killers = []; covering = n ∷ ns }
+verdict_by (n ∷ ns) (Some first) =
+    record { state = first.1; killers = first.0 ∷ []; covering = n ∷ ns }
 
 -- The verdict by the runs of all tests, which are numbered from 0.
 unfoldable pub verdict_of_runs : Mutant → List Ran → Verdict
@@ -34,7 +35,7 @@ verdict_of_runs m runs = verdict_by (covering m (enumerate_from 0 runs)) (killer
 
 -- The verdict on a mutant whose edited class has no layout or is refused: no test is run.
 abbrev pub not_viable : Verdict
-not_viable = record { state = state.NonViable; killer = None; covering = [] }
+not_viable = record { state = state.NonViable; killers = []; covering = [] }
 
 -- The runs of all tests on a mutant that is viable.
 abbrev pub mutant_runs : Limits → ClassFiles → Look → List Timed → Mutant → Option (List Ran)

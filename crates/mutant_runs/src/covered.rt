@@ -74,7 +74,8 @@ fn run_covering(
 {
     let covering = covering_tests(alloc, program, cover, mutant)?;
     if covering.is_empty() {
-        return Ok(verdict_by(covering, None));
+        let verdict = verdict_by(alloc, covering, None)?;
+        return Ok(verdict);
     }
     run_mutant(
         alloc, program, tables, tests, steps, mutant, covering, limits, part, kept,

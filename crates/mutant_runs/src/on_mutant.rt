@@ -158,7 +158,8 @@ fn run_on(
         limits,
         part,
     )?;
-    Ok(verdict_by(covering, killer))
+    let verdict = verdict_by(alloc, covering, killer)?;
+    Ok(verdict)
 }
 
 /// The verdict on a mutant that is viable, by the tests of these numbers, which cover it. The

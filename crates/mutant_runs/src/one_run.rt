@@ -1,18 +1,17 @@
 //! What the run of one test says of a mutant.
 
 ghost use Rattle.std.specs.Prelude.{◌≡◌, ◌+◌, ◌≤◌, ◌<◌, ◌^◌, IfOk, OnOk};
-ghost use Rattle.machine_rules.specs.Runs.{Ending, With, limit_of};
+ghost use Rattle.machine_rules.specs.Runs.{limit_of};
 ghost use Rattle.class_table.specs.Table.{look};
 ghost use Rattle.jvm_machine.specs.Programs.{IsRunnable};
-ghost use Rattle.jvm_machine.specs.Running.{IsEndOf};
 ghost use Rattle.jvm_machine.specs.Tables.{AreTablesOf};
 ghost use Rattle.mutant_runs.specs.Promises.{run_in};
-ghost use Rattle.mutant_runs.specs.Runs.{detected, most_steps, most_limit};
+ghost use Rattle.mutant_runs.specs.Runs.{detected, detected_at, detected_by, most_steps, most_limit};
 
-use class_model::Memory;
+use class_model::{Memory, Outcome};
 use class_table::{Program, Test};
 use jvm_machine::{End, Tables, execute_to_end};
-use machine_rules::{Limits, Outcome};
+use machine_rules::Limits;
 use mt_edge::MeterPart;
 use mutator_ops::State;
 use std::alloc::Global;
@@ -28,19 +27,19 @@ fn limit_of(steps: u64) -> u64
 
 // The state that an outcome gives to a mutant.
 fn detected_by(outcome: Outcome) -> Option<State>
-    ensures { result ≡ detected (With outcome) }
+    ensures { result ≡ detected_by outcome }
 {
     match outcome {
         Outcome::Passed => None,
-        Outcome::Failed => Some(State::Killed),
+        Outcome::Failed(cause) => Some(State::Killed(cause)),
         Outcome::TimedOut => Some(State::TimedOut),
         Outcome::MemoryOut => Some(State::MemoryError),
     }
 }
 
 // The state that the end of a run gives to a mutant.
-fn detected(end: End) -> Option<State>
-    ensures { (e : Ending) → IsEndOf end e → result ≡ detected e }
+fn detected_at(end: End) -> Option<State>
+    ensures { result ≡ detected_at end }
 {
     match end {
         End::With(outcome) => detected_by(outcome),
@@ -72,5 +71,5 @@ pub fn run_test(
     ensures tables { AreTablesOf program.now tables.new }
 {
     let end = execute_to_end(alloc, program, tables, test, limits, limit_of(steps), part)?;
-    Ok(detected(end))
+    Ok(detected_at(end))
 }

@@ -1,35 +1,43 @@
 //! The verdict on a mutant, by the tests that cover it and the first that detects it.
 
-ghost use Rattle.std.specs.Prelude.{◌≡◌};
+ghost use Rattle.std.specs.Prelude.{◌≡◌, IfOk};
 ghost use Rattle.mutant_runs.specs.Verdicts.{verdict_by, not_viable};
 
-use class_model::Seq;
+use class_model::{Memory, Seq};
 use mutator_ops::{State, Verdict};
 use std::alloc::Global;
 
 /// The verdict by the tests that cover a mutant, and the first that detects it with the state that
 /// it gives.
-pub fn verdict_by(covering: Seq<u32>, killer: Option<(u32, State)>) -> Verdict
-    ensures { result ≡ verdict_by covering killer }
+pub fn verdict_by(
+    alloc: Global,
+    covering: Seq<u32>,
+    killer: Option<(u32, State)>,
+) -> Result<Verdict, Memory>
+    ensures { IfOk result (λ v. v ≡ verdict_by covering killer) }
 {
+    let mut killers = Seq::new(alloc);
     if covering.is_empty() {
-        return Verdict {
+        return Ok(Verdict {
             state: State::NoCoverage,
-            killer: None,
+            killers,
             covering,
-        };
+        });
     }
     match killer {
-        None => Verdict {
+        None => Ok(Verdict {
             state: State::Survived,
-            killer: None,
+            killers,
             covering,
-        },
-        Some((test, state)) => Verdict {
-            state,
-            killer: Some(test),
-            covering,
-        },
+        }),
+        Some((test, state)) => {
+            killers.push(test)?;
+            Ok(Verdict {
+                state,
+                killers,
+                covering,
+            })
+        }
     }
 }
 
@@ -39,7 +47,7 @@ pub fn not_viable(alloc: Global) -> Verdict
 {
     Verdict {
         state: State::NonViable,
-        killer: None,
+        killers: Seq::new(alloc),
         covering: Seq::new(alloc),
     }
 }

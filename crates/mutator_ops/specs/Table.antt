@@ -161,3 +161,7 @@ row mutator.FalseReturns asked insn = truth 0x03 asked insn
 row mutator.TrueReturns asked insn = truth 0x04 asked insn
 row mutator.NullReturns asked insn = option_and_then (null_return asked) (returned_class asked insn)
 row mutator.PrimitiveReturns asked insn = zero_return asked insn
+-- these aren't among the mutators yet
+row mutator.NonVoidMethodCalls asked insn = None
+row mutator.ConstructorCalls asked insn = None
+row mutator.RemoveConditionals asked insn = None

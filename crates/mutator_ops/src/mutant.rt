@@ -1,6 +1,6 @@
 ghost use Rattle.std.specs.Prelude.{◌≡◌, IfOk};
 
-use class_model::{Copied, Edit, Memory, Mutator, Name, Seq};
+use class_model::{Cause, Copied, Edit, Memory, Mutator, Name, Seq};
 
 /// A mutant: one instruction of one method, the mutator that changes it, and what it puts in its
 /// place.
@@ -41,14 +41,14 @@ impl Copied for Mutant {
 }
 
 /// What the tests say of a mutant.
-#[derive(Clone, Copy, Debug, PartialEq, Eq)]
+#[derive(Drop)]
 pub enum State {
     /// The edit has no layout, or the edited program isn't accepted.
     NonViable,
     /// No test reaches the mutant's class and line.
     NoCoverage,
-    /// The first test that detects it fails.
-    Killed,
+    /// The first test that detects it fails, for this cause.
+    Killed(Cause),
     /// The first test that detects it doesn't end within its steps.
     TimedOut,
     /// The first test that detects it passes the heap's limit.
@@ -59,12 +59,12 @@ pub enum State {
     Survived,
 }
 
-/// A mutant's state, the first test that detects it, and the tests that reach its class and line,
-/// by the numbers of the tests.
+/// A mutant's state, the tests that detect it, as far as they were run, and the tests that reach
+/// its class and line, by the numbers of the tests.
 #[derive(Drop)]
 pub struct Verdict {
     pub state: State,
-    pub killer: Option<u32>,
+    pub killers: Seq<u32>,
     pub covering: Seq<u32>,
 }
 

@@ -12,8 +12,8 @@ use Rattle.jvm_machine.specs.declared.result.RunResult.{RunResult}
 use Rattle.jvm_world.specs.View.{named}
 use Rattle.line_coverage.specs.Coverage.{Covered, Covers, AddsRun}
 use Rattle.machine_rules.specs.Runs.{Ending, With, StuckAt}
-use Rattle.machine_rules.specs.declared.machine.Outcome.{Outcome}
-use Rattle.machine_rules.specs.declared.machine.Outcome.TheVariants as outcome
+use Rattle.class_model.specs.declared.outcome.Outcome.{Outcome}
+use Rattle.machine_rules.specs.Outcomes.{Passed, Failed, TimedOut, MemoryOut}
 use Rattle.mutant_laws.specs.Covered.{original_run as run_on, AllPass}
 use Rattle.mutator_ops.specs.declared.mutant.Mutant.{Mutant}
 use Rattle.needed_laws.specs.Suites.{SuitesAreSafe, FoundTestsFit}
@@ -81,11 +81,11 @@ measured_more p ts i t old new lt is adds h = subst (λ l. AreMeasured p l new) 
 abbrev Told : Type 0
 Told = List ℕ × Outcome
 
-passed : (t : Test) (e : Ending) → failure_of t e ≡ Ok None → e ≡ With outcome.Passed
-passed t (With outcome.Passed) h = refl
-passed t (With outcome.Failed) h = absurd cc
-passed t (With outcome.TimedOut) h = absurd cc
-passed t (With outcome.MemoryOut) h = absurd cc
+passed : (t : Test) (e : Ending) → failure_of t e ≡ Ok None → e ≡ With Passed
+passed t (With Passed) h = refl
+passed t (With (Failed c)) h = absurd cc
+passed t (With TimedOut) h = absurd cc
+passed t (With MemoryOut) h = absurd cc
 passed t (StuckAt place) h = absurd cc
 
 none_told : (a : Result (Option Told) Refusal) (b : Result (List Told) Refusal) → and_then a (λ first. and_then b (λ others. Ok (with_first first others))) ≡ Ok [] → (a ≡ Ok None) × (b ≡ Ok [])
@@ -94,7 +94,7 @@ none_told (Ok (Some x)) (Ok others) h = absurd cc
 none_told (Ok o) (Err q) h = absurd cc
 none_told (Err q) b h = absurd cc
 
-each_passed : (p : Look) (ts : List Test) → failures_of p ts ≡ Ok [] → AllByRecursion (λ t. run_ending p t ≡ With outcome.Passed) ts
+each_passed : (p : Look) (ts : List Test) → failures_of p ts ≡ Ok [] → AllByRecursion (λ t. run_ending p t ≡ With Passed) ts
 each_passed p [] h = tt
 each_passed p (t ∷ ts) h =
     let both = none_told (run_failure p t) (failures_of p ts) h in
@@ -107,7 +107,7 @@ none_failed (Err q) h = absurd cc
 
 all_pass : (p : List Info) (ts : List Test) → originals_pass (look p) ts ≡ Ok tt → AllPass p run_limits 10000000 ts
 unfolding original_run
-all_pass p ts h = All-from_recursion (λ t. run_ending (look p) t ≡ With outcome.Passed) ts (each_passed (look p) ts (none_failed (failures_of (look p) ts) h))
+all_pass p ts h = All-from_recursion (λ t. run_ending (look p) t ≡ With Passed) ts (each_passed (look p) ts (none_failed (failures_of (look p) ts) h))
 
 -- ---- the tests that cover a mutant
 

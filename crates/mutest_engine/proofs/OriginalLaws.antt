@@ -2,8 +2,8 @@
 use Rattle.std.proofs.Common.{◌≡◌, ◌∙◌, ℕ, zero, suc, ◌+◌, ◌*◌, ◌<◌, ◌≤◌, List, [], ◌∷◌, ◌++◌, length, drop, get_or, Option, None, Some, Result, Ok, Err, refl, sym, ap, append_assoc, arith}
 use Rattle.std.proofs.lemmas.List.{append-nil}
 use Rattle.codec_rules.specs.Reading.{with_values}
-use Rattle.machine_rules.specs.declared.machine.Outcome.{Outcome}
-use Rattle.machine_rules.specs.declared.machine.Outcome.TheVariants as outcome
+use Rattle.class_model.specs.declared.outcome.Outcome.{Outcome}
+use Rattle.machine_rules.specs.Outcomes.{Passed, Failed, TimedOut, MemoryOut}
 use Rattle.machine_rules.specs.declared.machine.Limits.{Limits}
 use Rattle.program_rules.specs.Programs.{Look}
 use Rattle.machine_rules.specs.State.{World, MachineState, start}
@@ -53,10 +53,10 @@ made_most p (t ∷ ts) =
     omega (arith, first, rest)
 
 stuck_steps : (t : Test) (e : Ending) (s : Refusal) (n : ℕ) → failure_of t e ≡ Err s → unless_stuck e n ≡ 0
-stuck_steps t (With outcome.Passed) s n h = absurd cc
-stuck_steps t (With outcome.Failed) s n h = absurd cc
-stuck_steps t (With outcome.TimedOut) s n h = absurd cc
-stuck_steps t (With outcome.MemoryOut) s n h = absurd cc
+stuck_steps t (With Passed) s n h = absurd cc
+stuck_steps t (With (Failed c)) s n h = absurd cc
+stuck_steps t (With TimedOut) s n h = absurd cc
+stuck_steps t (With MemoryOut) s n h = absurd cc
 stuck_steps t (StuckAt place) s n h = refl
 
 -- ---- one run more, and where a run ends all

@@ -2,8 +2,8 @@
 use Rattle.std.proofs.Common.{◌≡◌, ℕ, Bool, true, false, List, [], ◌∷◌, length, Option, None, Some, Result, Ok, Err, refl, subst}
 use Rattle.std.specs.Prelude.{IfSome, map, nat_lt, if◌then◌else◌}
 use Rattle.std.specs.List.{flat_map}
-use Rattle.machine_rules.specs.declared.machine.Outcome.{Outcome}
-use Rattle.machine_rules.specs.declared.machine.Outcome.TheVariants as outcome
+use Rattle.class_model.specs.declared.outcome.Outcome.{Outcome}
+use Rattle.machine_rules.specs.Outcomes.{Passed, Failed, TimedOut, MemoryOut}
 use Rattle.machine_rules.specs.Runs.{Ending, With, StuckAt}
 use Rattle.program_rules.specs.Names.{Name}
 use Rattle.program_rules.specs.Programs.{Look}
@@ -49,10 +49,10 @@ abbrev pub IsOfRuns : Refusal → Type 0
 IsOfRuns r = IsOfSuite r × (IsBeforeRuns r → ⊥)
 
 of_settled : (t : Test) (e : Ending) (r : Refusal) → failure_of t e ≡ Err r → IsOfRuns r
-of_settled t (With outcome.Passed) r h = absurd cc
-of_settled t (With outcome.Failed) r h = absurd cc
-of_settled t (With outcome.TimedOut) r h = absurd cc
-of_settled t (With outcome.MemoryOut) r h = absurd cc
+of_settled t (With Passed) r h = absurd cc
+of_settled t (With (Failed c)) r h = absurd cc
+of_settled t (With TimedOut) r h = absurd cc
+of_settled t (With MemoryOut) r h = absurd cc
 of_settled t (StuckAt place) r h = let e : MachineCheck (test_text t) place.class place.method place.at ≡ r = cc in subst IsOfRuns e (tt, λ before. before)
 
 of_all : (p : Look) (ts : List Test) (r : Refusal) → failures_of p ts ≡ Err r → IsOfRuns r

@@ -1,10 +1,10 @@
 -- Whether the classes of a suite are a program, and the runs of tests on the program as it is (this
 -- project's own).
-use Rattle.std.specs.Prelude.{◌≡◌, ℕ, ◌+◌, List, [], ◌∷◌, ◌++◌, codes, map, Option, Some, None, Result, Ok, Err}
+use Rattle.std.specs.Prelude.{◌≡◌, ℕ, ◌+◌, Bool, true, false, if◌then◌else◌, List, [], ◌∷◌, ◌++◌, codes, map, Option, Some, None, Result, Ok, Err}
 use Rattle.class_model.specs.declared.class.Class.{Class}
+use Rattle.class_model.specs.declared.outcome.Outcome.{Outcome}
+use Rattle.class_model.specs.declared.outcome.Outcome.TheVariants as outcome
 use Rattle.machine_rules.specs.declared.machine.Limits.{Limits}
-use Rattle.machine_rules.specs.declared.machine.Outcome.{Outcome}
-use Rattle.machine_rules.specs.declared.machine.Outcome.TheVariants as outcome
 use Rattle.machine_rules.specs.Runs.{Ending, With, StuckAt, Ran, run_of}
 use Rattle.program_rules.specs.Programs.{Look}
 use Rattle.class_link.specs.Info.{Info}
@@ -12,6 +12,9 @@ use Rattle.class_link.specs.declared.loaded.Loaded.{Loaded}
 use Rattle.class_table.specs.Table.{look}
 use Rattle.class_table.specs.declared.scripted.Test.{Test}
 use Rattle.jvm_world.specs.View.{named, test_of}
+use Rattle.jvm_machine.specs.declared.ending.Ending.{Ending as RunEnding}
+use Rattle.jvm_machine.specs.declared.ending.Ending.TheVariants as ending
+use Rattle.jvm_machine.specs.Ending.{ending_in}
 use Rattle.jvm_machine.specs.Result.{pairs_of}
 use Rattle.jvm_machine.specs.declared.result.RunResult.{RunResult}
 use Rattle.line_coverage.specs.Coverage.{Covered}
@@ -68,14 +71,25 @@ run_steps p t = (original_run p t).steps
 abbrev pub test_text : Test → List ℕ
 test_text t = printed t.class ++ codes "." ++ printed t.method
 
+abbrev pub has_passed : Outcome → Bool
+has_passed outcome.Passed = true
+has_passed (outcome.Failed c) = false
+has_passed outcome.TimedOut = false
+has_passed outcome.MemoryOut = false
+
+-- A test with its outcome, unless it passed.
+abbrev pub unless_passed : Test → Outcome → Option (List ℕ × Outcome)
+unless_passed t o = if has_passed o then None else Some (test_text t, o)
+
 -- What is told of a test whose run came to this end: nothing where it passed, its outcome, or where
 -- the machine is stuck.
+abbrev pub failure_by : Test → RunEnding → Result (Option (List ℕ × Outcome)) Refusal
+failure_by t (ending.With o) = Ok (unless_passed t o)
+failure_by t (ending.Stuck class method at) = Err (MachineCheck (test_text t) class method at)
+
+-- the same as the definitions say how it ends
 abbrev pub failure_of : Test → Ending → Result (Option (List ℕ × Outcome)) Refusal
-failure_of t (With outcome.Passed) = Ok None
-failure_of t (With outcome.Failed) = Ok (Some (test_text t, outcome.Failed))
-failure_of t (With outcome.TimedOut) = Ok (Some (test_text t, outcome.TimedOut))
-failure_of t (With outcome.MemoryOut) = Ok (Some (test_text t, outcome.MemoryOut))
-failure_of t (StuckAt place) = Err (MachineCheck (test_text t) place.class place.method place.at)
+failure_of t e = failure_by t (ending_in e)
 
 -- the same of its run on the program as it is
 abbrev pub run_failure : Look → Test → Result (Option (List ℕ × Outcome)) Refusal

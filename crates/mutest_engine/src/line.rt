@@ -5,16 +5,15 @@ ghost use Rattle.class_model.specs.Fault.{number_of};
 ghost use Rattle.mutator_ops.specs.Printing.{printed};
 ghost use Rattle.mutest_engine.specs.Lines.{fault_text, outcome_name, named_line, count_text, place_text, not_green_line, not_green_lines};
 
-use class_model::{Bytes, ClassFault, Memory, Name};
-use machine_rules::Outcome;
+use class_model::{Bytes, ClassFault, Memory, Name, Outcome};
 use std::alloc::Global;
 
-fn outcome_name(outcome: Outcome) -> &'static str
-    ensures { result.now ≡ outcome_name outcome }
+fn outcome_name(outcome: &Outcome) -> &'static str
+    ensures { result.now ≡ outcome_name outcome.now }
 {
     match outcome {
         Outcome::Passed => "Passed",
-        Outcome::Failed => "Failed",
+        Outcome::Failed(_) => "Failed",
         Outcome::TimedOut => "TimedOut",
         Outcome::MemoryOut => "MemoryOut",
     }
@@ -111,7 +110,7 @@ fn put_not_green(lines: &mut Bytes, test: &(Bytes, Outcome)) -> Result<(), Memor
 {
     put_str(lines, "mutest: NotGreen ")?;
     lines.extend_from_slice(test.0.as_slice())?;
-    put_named(lines, " ", outcome_name(test.1).as_bytes())
+    put_named(lines, " ", outcome_name(&test.1).as_bytes())
 }
 
 /// The lines of tests whose original runs didn't pass.

@@ -3,9 +3,9 @@
 ghost use Rattle.std.specs.Prelude.{◌≡◌, ◌+◌, ◌<◌, ◌≤◌, ◌^◌, ◌++◌, [], length, IfOk, OnOk};
 ghost use Rattle.class_table.specs.Table.{look};
 ghost use Rattle.mutest_engine.specs.Steps.{Gives, GivesBy, Counts};
-ghost use Rattle.mutest_engine.specs.Originals.{test_text, failure_of, run_ending, run_steps, run_failure, with_first, failures_of, all_passed, steps_if_passed, original_steps, steps_made};
+ghost use Rattle.mutest_engine.specs.Originals.{test_text, has_passed, unless_passed, failure_by, run_ending, run_steps, run_failure, with_first, failures_of, all_passed, steps_if_passed, original_steps, steps_made};
 ghost use Rattle.mutest_engine.specs.Originals.{AreMeasured, IsRunOf, MeasuresRun};
-ghost use Rattle.jvm_machine.specs.Ending.{ending_of};
+ghost use Rattle.jvm_machine.specs.Ending.{ending_in};
 ghost use Rattle.jvm_machine.specs.Programs.{IsRunnable};
 ghost use Rattle.jvm_machine.specs.Tables.{AreTablesOf};
 ghost use Rattle.mutant_runs.specs.Ready.{IsReady};
@@ -13,11 +13,11 @@ ghost use Rattle.mutant_runs.specs.Ready.{IsReady};
 use crate::line::{put_name, put_str};
 use crate::refusal::Refusal;
 use crate::stop::Stop;
-use class_model::{Bytes, Memory, Seq};
+use class_model::{Bytes, Memory, Outcome, Seq};
 use class_table::{Program, Test};
-use jvm_machine::{Outcome, RunResult, Tables, execute};
+use jvm_machine::{Ending, RunResult, Tables, execute};
 use line_coverage::Coverage;
-use machine_rules::{Limits, Outcome as Ended};
+use machine_rules::Limits;
 use mt_edge::MeterPart;
 use mutant_runs::ready_may_run;
 use std::alloc::Global;
@@ -50,26 +50,47 @@ fn test_text(alloc: Global, test: &Test) -> Result<Bytes, Memory>
     Ok(text)
 }
 
+fn has_passed(outcome: &Outcome) -> bool
+    ensures { result ≡ has_passed outcome.now }
+{
+    matches!(outcome, Outcome::Passed)
+}
+
+// A test with its outcome, unless it passed.
+fn unless_passed(
+    alloc: Global,
+    test: &Test,
+    outcome: Outcome,
+) -> Result<Option<(Bytes, Outcome)>, Memory>
+    ensures { IfOk result (λ failure. failure ≡ unless_passed test.now outcome) }
+{
+    if has_passed(&outcome) {
+        return Ok(None);
+    }
+    let text = test_text(alloc, test)?;
+    Ok(Some((text, outcome)))
+}
+
 // A test whose run came to this end: nothing where it passed, its outcome, or where the machine is
 // stuck.
-fn failure_of(alloc: Global, test: &Test, outcome: Outcome) -> Result<Option<(Bytes, Ended)>, Stop>
-    ensures { Gives (failure_of test.now (ending_of outcome)) result }
+fn failure_by(alloc: Global, test: &Test, ending: Ending) -> Result<Option<(Bytes, Outcome)>, Stop>
+    ensures { Gives (failure_by test.now ending) result }
 {
-    let ended = match outcome {
-        Outcome::Passed => return Ok(None),
-        Outcome::Failed => Ended::Failed,
-        Outcome::TimedOut => Ended::TimedOut,
-        Outcome::MemoryOut => Ended::MemoryOut,
-        Outcome::Stuck { class, method, at } => {
-            return Err(Stop::Refused(Refusal::MachineCheck {
-                test: test_text(alloc, test)?,
+    match ending {
+        Ending::With(outcome) => {
+            let failure = unless_passed(alloc, test, outcome)?;
+            Ok(failure)
+        }
+        Ending::Stuck { class, method, at } => {
+            let test = test_text(alloc, test)?;
+            Err(Stop::Refused(Refusal::MachineCheck {
+                test,
                 class,
                 method,
                 at: at as u64,
-            }));
+            }))
         }
-    };
-    Ok(Some((test_text(alloc, test)?, ended)))
+    }
 }
 
 // The run of a test on the program as it is. Its steps are counted in the part. The program's
@@ -85,7 +106,7 @@ fn run_of(
     requires tables { AreTablesOf program.now tables.old }
     requires room { part.old + 10000000 < 2 ^ 64 }
     ensures ending { IfOk result (λ r.
-        ending_of r.outcome ≡ run_ending (look program.now) test.now) }
+        r.ending ≡ ending_in (run_ending (look program.now) test.now)) }
     ensures count { IfOk result (λ r. r.steps ≡ run_steps (look program.now) test.now) }
     ensures run { IfOk result (IsRunOf program.now test.now) }
     ensures steps { OnOk result (part.new ≡ part.old + run_steps (look program.now) test.now) }
@@ -120,7 +141,7 @@ fn original(
     test: &Test,
     cover: &mut Coverage,
     part: &mut MeterPart,
-) -> Result<(Option<(Bytes, Ended)>, u64), Stop>
+) -> Result<(Option<(Bytes, Outcome)>, u64), Stop>
     requires runnable { IsRunnable (look program.now) }
     requires tables { AreTablesOf program.now tables.old }
     requires room { part.old + 10000000 < 2 ^ 64 }
@@ -134,12 +155,12 @@ fn original(
 {
     let run = run_of(alloc, program, tables, test, part)?;
     add_run(cover, program, test, &run)?;
-    let ended = failure_of(alloc, test, run.outcome)?;
-    Ok((ended, run.steps))
+    let failure = failure_by(alloc, test, run.ending)?;
+    Ok((failure, run.steps))
 }
 
 // Notes how a run ended, unless its test passed.
-fn note(failed: &mut Seq<(Bytes, Ended)>, ended: Option<(Bytes, Ended)>) -> Result<(), Memory>
+fn note(failed: &mut Seq<(Bytes, Outcome)>, ended: Option<(Bytes, Outcome)>) -> Result<(), Memory>
     ensures { OnOk result (failed.new ≡ failed.old ++ with_first ended []) }
 {
     if let Some(ended) = ended {
@@ -157,7 +178,7 @@ fn failures_of(
     tests: &[Test],
     cover: &mut Coverage,
     part: &mut MeterPart,
-) -> Result<(Seq<(Bytes, Ended)>, Seq<u64>), Stop>
+) -> Result<(Seq<(Bytes, Outcome)>, Seq<u64>), Stop>
     requires runnable { IsRunnable (look program.now) }
     requires tables { AreTablesOf program.now tables.old }
     requires few { length tests.now ≤ 65535 }
@@ -180,7 +201,7 @@ fn failures_of(
     Ok((failed, counts))
 }
 
-fn all_passed(tests: Seq<(Bytes, Ended)>) -> Result<(), Refusal>
+fn all_passed(tests: Seq<(Bytes, Outcome)>) -> Result<(), Refusal>
     ensures { result ≡ all_passed tests }
 {
     if tests.is_empty() {
@@ -196,7 +217,7 @@ fn find_failures(
     tests: &[Test],
     cover: &mut Coverage,
     part: &mut MeterPart,
-) -> Result<(Seq<(Bytes, Ended)>, Seq<u64>), Stop>
+) -> Result<(Seq<(Bytes, Outcome)>, Seq<u64>), Stop>
     requires ready { IsReady program.now }
     requires few { length tests.now ≤ 65535 }
     requires start { part.old ≡ 0 }

@@ -9,8 +9,7 @@ ghost use Rattle.mutest_engine.specs.Refusals.{test_line, refusal_number, refusa
 use crate::line::{
     class_text, not_green_lines, place_text, put_count, put_name, put_named, put_number, put_str,
 };
-use class_model::{Bytes, ClassFault, Memory, Name, Seq};
-use machine_rules::Outcome;
+use class_model::{Bytes, ClassFault, Memory, Name, Outcome, Seq};
 use std::alloc::Global;
 use suite_program::ProgramFault;
 use test_discovery::{Rule, TestFault};

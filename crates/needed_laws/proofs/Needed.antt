@@ -13,7 +13,7 @@ use Rattle.class_reader.specs.Spells.{IsClass}
 use Rattle.class_writer.specs.Writing.{HasClassForm}
 use Rattle.mutant_apply.specs.Fitting.{Fits}
 use Rattle.machine_rules.specs.declared.machine.Limits.{Limits}
-use Rattle.machine_rules.specs.declared.machine.Outcome.TheVariants.{Passed}
+use Rattle.machine_rules.specs.Outcomes.{Passed}
 use Rattle.machine_rules.specs.Runs.{With, Ran}
 use Rattle.machine_laws.specs.FrameLaw.{HasEnded}
 use Rattle.machine_laws.specs.Consulted.{IsLibraryWhole}

@@ -13,7 +13,7 @@ use Rattle.mutator_ops.specs.Printing.{printed}
 use Rattle.mutator_ops.specs.declared.mutant.Mutant.{Mutant}
 use Rattle.mutator_ops.specs.declared.mutant.Verdict.{Verdict}
 use Rattle.report_schema.specs.Keyed.{Entry, different, entries_at, by_key, members_by}
-use Rattle.report_schema.specs.Report.{test_id, ids_of, killed_by, status_reason, member_if, mutant_entry, mutant_entries, file, test_entry, test_entries, test_file, report}
+use Rattle.report_schema.specs.Report.{test_id, ids_of, array_if, killed_by, status_reason, member_if, mutant_entry, mutant_entries, file, test_entry, test_entries, test_file, report}
 use Rattle.report_schema.specs.declared.input.ReportInput.{ReportInput}
 
 abbrev IsPlain : Data → Type 0
@@ -71,13 +71,12 @@ ids_plain tests (n ∷ ns) = by (slice_get tests n) (ids_plain tests ns)
     by None h = h
     by (Some test) h = h
 
-killed_plain : (tests : List Test) (killer : Option ℕ) → IfSome (killed_by tests killer) IsPlain
-killed_plain tests None = tt
-killed_plain tests (Some n) = by (slice_get tests n)
-  where
-    by : (o : Option Test) → IfSome (option_map (λ (id : Data). array (item id no_items)) (option_map (λ (test : Test). string (test_id test)) o)) IsPlain
-    by None = tt
-    by (Some test) = refl
+array_plain : (ds : List Data) → ArePlain ds → IfSome (array_if ds) IsPlain
+array_plain [] h = tt
+array_plain (d ∷ ds) h = h
+
+killed_plain : (tests : List Test) (killers : List ℕ) → IfSome (killed_by tests killers) IsPlain
+killed_plain tests ks = array_plain (ids_of tests ks) (ids_plain tests ks)
 
 reason_plain : (o : Option (List ℕ)) → IfSome (option_map string o) IsPlain
 reason_plain None = tt
@@ -90,7 +89,7 @@ member_if_plain name (Some d) ms p q = λ i. p i || q i
 mutant_plain : (tests : List Test) (m : Mutant) (v : Verdict) → IsPlain (mutant_entry tests m v)
 mutant_plain tests m v =
     let last = member_if_plain (codes "statusReason") (option_map string (status_reason v.state)) no_members (reason_plain (status_reason v.state)) refl in
-    let behind = member_if_plain (codes "killedBy") (killed_by tests v.killer) _ (killed_plain tests v.killer) last in
+    let behind = member_if_plain (codes "killedBy") (killed_by tests v.killers) _ (killed_plain tests v.killers) last in
     λ i. ids_plain tests v.covering i || behind i
 
 mutants_plain : (tests : List Test) (ms : List (Mutant × (Verdict × List ℕ))) → EntriesPlain (map (λ m. (printed m.1.1, mutant_entry tests m.0 m.1.0)) ms)

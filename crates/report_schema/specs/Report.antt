@@ -1,14 +1,17 @@
 -- The report of a run: a JSON text in the mutation testing report schema, version 1
 -- (stryker-mutator/mutation-testing-elements); which members stand in it is this project's own.
-use Rattle.std.specs.Prelude.{ℕ, ◌==◌, if◌then◌else◌, length, List, [], ◌++◌, map, codes, Option, None, Some, option_map, option_and_then, slice_get}
+use Rattle.std.specs.Prelude.{ℕ, ◌==◌, if◌then◌else◌, length, List, [], ◌∷◌, ◌++◌, map, codes, Option, None, Some, option_map, slice_get}
 use Rattle.std.specs.List.{zip, flat_map}
 use Rattle.std.specs.Option.{option_to_list, option_map_or}
 use Rattle.std.specs.Str.Lossy.{utf8_valid_len}
-use Rattle.serde_json.specs.Data.{Data, number, unsigned, string, array, object, item, no_items, Members, no_members, member, put}
+use Rattle.serde_json.specs.Data.{Data, number, unsigned, string, array, object, Members, no_members, member, put}
 use Rattle.serde_json.specs.View.{items_of}
 use Rattle.serde_json.specs.Written.{compact_text}
 use Rattle.class_model.specs.MutatorName.{mutator_name}
+use Rattle.class_model.specs.declared.outcome.Cause.{Cause}
+use Rattle.class_model.specs.declared.outcome.Cause.TheVariants as cause
 use Rattle.class_table.specs.declared.scripted.Test.{Test}
+use Rattle.library_rules.specs.Objects.{dotted}
 use Rattle.mutator_ops.specs.Printing.{printed, id_text}
 use Rattle.mutator_ops.specs.declared.mutant.Mutant.{Mutant}
 use Rattle.mutator_ops.specs.declared.mutant.Verdict.{Verdict}
@@ -31,24 +34,34 @@ id_of tests index = option_map (λ test. string (test_id test)) (slice_get tests
 abbrev pub ids_of : List Test → List ℕ → List Data
 ids_of tests numbers = flat_map (λ index. option_to_list (id_of tests index)) numbers
 
--- the one test that kills, if one does
-abbrev pub killed_by : List Test → Option ℕ → Option Data
-killed_by tests killer =
-    option_map (λ id. array (item id no_items)) (option_and_then (id_of tests) killer)
+-- an array, if anything stands in it
+abbrev pub array_if : List Data → Option Data
+array_if [] = None
+array_if (value ∷ values) = Some (array (items_of (value ∷ values)))
+
+-- the tests that kill, if one does
+abbrev pub killed_by : List Test → List ℕ → Option Data
+killed_by tests killers = array_if (ids_of tests killers)
 
 -- ---- mutants
 
 abbrev pub status : State → List ℕ
 status state.NonViable = codes "CompileError"
 status state.NoCoverage = codes "NoCoverage"
-status state.Killed = codes "Killed"
+status (state.Killed c) = codes "Killed"
 status state.TimedOut = codes "Timeout"
 status state.MemoryError = codes "RuntimeError"
 status state.RunError = codes "RuntimeError"
 status state.Survived = codes "Survived"
 
--- which of the two states that share a status it is
+-- why a test failed: the class of what it threw, with `.` for `/`
+abbrev pub cause_text : Cause → List ℕ
+cause_text cause.Returned = codes "no exception"
+cause_text (cause.Thrown class) = printed (dotted class)
+
+-- why the test that kills failed, or which of the two states that share a status it is
 abbrev pub status_reason : State → Option (List ℕ)
+status_reason (state.Killed c) = Some (cause_text c)
 status_reason state.MemoryError = Some (codes "MEMORY_ERROR")
 status_reason state.RunError = Some (codes "RUN_ERROR")
 status_reason other = None
@@ -78,7 +91,7 @@ abbrev pub mutant_entry : List Test → Mutant → Verdict → Data
 mutant_entry tests mutant verdict = object (
     member (codes "coveredBy") (array (items_of (ids_of tests verdict.covering)))
     (member (codes "id") (string (id_text mutant))
-    (member_if (codes "killedBy") (killed_by tests verdict.killer)
+    (member_if (codes "killedBy") (killed_by tests verdict.killers)
     (member (codes "location") (location (line_from_1 mutant.line))
     (member (codes "mutatorName") (string (mutator_name mutant.mutator))
     (member (codes "status") (string (status verdict.state))

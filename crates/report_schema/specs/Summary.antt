@@ -5,7 +5,7 @@ use Rattle.mutator_ops.specs.declared.mutant.State.{State}
 use Rattle.mutator_ops.specs.declared.mutant.State.TheVariants as state
 
 abbrev pub is_killed : State → Bool
-is_killed state.Killed = true
+is_killed (state.Killed c) = true
 is_killed other = false
 
 abbrev pub is_survived : State → Bool

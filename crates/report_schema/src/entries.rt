@@ -5,11 +5,11 @@ ghost use Rattle.std.specs.Option.{option_to_list};
 ghost use Rattle.serde_json.specs.Data.{string};
 ghost use Rattle.serde_json.specs.View.{view, items_view};
 ghost use Rattle.report_schema.specs.Keyed.{entries_view};
-ghost use Rattle.report_schema.specs.Report.{id_of, ids_of, killed_by, status, status_reason, line_from_1, place, location, mutant_entry, mutant_entries, test_entry, test_entries};
+ghost use Rattle.report_schema.specs.Report.{id_of, ids_of, array_if, killed_by, status, cause_text, status_reason, line_from_1, place, location, mutant_entry, mutant_entries, test_entry, test_entries};
 
-use crate::text::{mutant_id, printed, test_id};
+use crate::text::{class_text, mutant_id, printed, test_id};
 use crate::values::{array, object, put, put_if, text};
-use class_model::{Memory, Name};
+use class_model::{Cause, Memory, Name};
 use class_table::Test;
 use mutator_ops::{Mutant, State, Verdict};
 use serde_json::{Map, Value};
@@ -48,19 +48,22 @@ fn ids_of(alloc: Global, tests: &[Test], numbers: &[u32]) -> Result<Vec<Value>, 
     Ok(ids)
 }
 
-// The one test that kills, if one does.
-fn killed_by(alloc: Global, tests: &[Test], killer: Option<u32>) -> Result<Option<Value>, Memory>
-    ensures { IfOk result (λ ids. option_map view ids ≡ killed_by tests.now killer) }
+// An array, if anything stands in it.
+fn array_if(values: Vec<Value>) -> Option<Value>
+    ensures { option_map view result ≡ array_if (map view values.items) }
 {
-    let Some(number) = killer else {
-        return Ok(None);
-    };
-    let Some(id) = id_of(alloc, tests, number)? else {
-        return Ok(None);
-    };
-    let mut ids = Vec::new(alloc);
-    ids.push(id)?;
-    Ok(Some(array(ids)))
+    if values.is_empty() {
+        return None;
+    }
+    Some(array(values))
+}
+
+// The tests that kill, if one does.
+fn killed_by(alloc: Global, tests: &[Test], killers: &[u32]) -> Result<Option<Value>, Memory>
+    ensures { IfOk result (λ ids. option_map view ids ≡ killed_by tests.now killers.now) }
+{
+    let ids = ids_of(alloc, tests, killers)?;
+    Ok(array_if(ids))
 }
 
 fn status(state: &State) -> &'static str
@@ -69,24 +72,34 @@ fn status(state: &State) -> &'static str
     match state {
         State::NonViable => "CompileError",
         State::NoCoverage => "NoCoverage",
-        State::Killed => "Killed",
+        State::Killed(_) => "Killed",
         State::TimedOut => "Timeout",
         State::MemoryError | State::RunError => "RuntimeError",
         State::Survived => "Survived",
     }
 }
 
-// Which of the two states that share a status it is.
+// Why a test failed: the class of what it threw, with `.` for `/`.
+fn cause_value(alloc: Global, cause: &Cause) -> Result<Value, Memory>
+    ensures { IfOk result (λ value. view value ≡ string (cause_text cause.now)) }
+{
+    match cause {
+        Cause::Returned => Ok(Value::try_from_str(alloc, "no exception")?),
+        Cause::Thrown(class) => Ok(text(class_text(alloc, class)?)),
+    }
+}
+
+// Why the test that kills failed, or which of the two states that share a status it is.
 fn status_reason(alloc: Global, state: &State) -> Result<Option<Value>, Memory>
     ensures { IfOk result (λ reason.
         option_map view reason ≡ option_map string (status_reason state.now)) }
 {
-    let reason = match state {
-        State::MemoryError => "MEMORY_ERROR",
-        State::RunError => "RUN_ERROR",
-        _ => return Ok(None),
-    };
-    Ok(Some(Value::try_from_str(alloc, reason)?))
+    match state {
+        State::Killed(cause) => Ok(Some(cause_value(alloc, cause)?)),
+        State::MemoryError => Ok(Some(Value::try_from_str(alloc, "MEMORY_ERROR")?)),
+        State::RunError => Ok(Some(Value::try_from_str(alloc, "RUN_ERROR")?)),
+        State::NonViable | State::NoCoverage | State::TimedOut | State::Survived => Ok(None),
+    }
 }
 
 // A line as the schema counts, from 1.
@@ -125,7 +138,7 @@ fn mutant_entry(
 {
     let covered_by = array(ids_of(alloc, tests, verdict.covering.as_slice())?);
     let id = text(mutant_id(alloc, mutant)?);
-    let killed_by = killed_by(alloc, tests, verdict.killer)?;
+    let killed_by = killed_by(alloc, tests, verdict.killers.as_slice())?;
     let location = location(alloc, line_from_1(mutant.line))?;
     let mutator = Value::try_from_str(alloc, mutant.mutator.name())?;
     let status = Value::try_from_str(alloc, status(&verdict.state))?;

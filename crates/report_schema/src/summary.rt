@@ -7,38 +7,38 @@ use class_model::{Bytes, Memory, Seq};
 use mutator_ops::{State, Verdict};
 use std::alloc::Global;
 
-fn is_killed(state: State) -> bool
-    ensures { result ≡ is_killed state }
+fn is_killed(state: &State) -> bool
+    ensures { result ≡ is_killed state.now }
 {
-    matches!(state, State::Killed)
+    matches!(state, State::Killed(_))
 }
 
-fn is_survived(state: State) -> bool
-    ensures { result ≡ is_survived state }
+fn is_survived(state: &State) -> bool
+    ensures { result ≡ is_survived state.now }
 {
     matches!(state, State::Survived)
 }
 
-fn is_not_covered(state: State) -> bool
-    ensures { result ≡ is_not_covered state }
+fn is_not_covered(state: &State) -> bool
+    ensures { result ≡ is_not_covered state.now }
 {
     matches!(state, State::NoCoverage)
 }
 
-fn is_timed_out(state: State) -> bool
-    ensures { result ≡ is_timed_out state }
+fn is_timed_out(state: &State) -> bool
+    ensures { result ≡ is_timed_out state.now }
 {
     matches!(state, State::TimedOut)
 }
 
-fn is_not_viable(state: State) -> bool
-    ensures { result ≡ is_not_viable state }
+fn is_not_viable(state: &State) -> bool
+    ensures { result ≡ is_not_viable state.now }
 {
     matches!(state, State::NonViable)
 }
 
-fn is_error(state: State) -> bool
-    ensures { result ≡ is_error state }
+fn is_error(state: &State) -> bool
+    ensures { result ≡ is_error state.now }
 {
     matches!(state, State::MemoryError | State::RunError)
 }
@@ -66,12 +66,12 @@ fn counts_of(verdicts: &[Verdict]) -> Counts
 {
     Counts {
         mutants: verdicts.len(),
-        killed: verdicts.iter().filter(|v| is_killed(v.state)).count(),
-        survived: verdicts.iter().filter(|v| is_survived(v.state)).count(),
-        no_coverage: verdicts.iter().filter(|v| is_not_covered(v.state)).count(),
-        timed_out: verdicts.iter().filter(|v| is_timed_out(v.state)).count(),
-        non_viable: verdicts.iter().filter(|v| is_not_viable(v.state)).count(),
-        errors: verdicts.iter().filter(|v| is_error(v.state)).count(),
+        killed: verdicts.iter().filter(|v| is_killed(&v.state)).count(),
+        survived: verdicts.iter().filter(|v| is_survived(&v.state)).count(),
+        no_coverage: verdicts.iter().filter(|v| is_not_covered(&v.state)).count(),
+        timed_out: verdicts.iter().filter(|v| is_timed_out(&v.state)).count(),
+        non_viable: verdicts.iter().filter(|v| is_not_viable(&v.state)).count(),
+        errors: verdicts.iter().filter(|v| is_error(&v.state)).count(),
     }
 }
 

@@ -2,10 +2,12 @@
 
 ghost use Rattle.std.specs.Prelude.{◌≡◌, IfOk, string_bytes};
 ghost use Rattle.mutator_ops.specs.Printing.{printed, id_text};
+ghost use Rattle.library_rules.specs.Objects.{dotted};
 ghost use Rattle.report_schema.specs.Report.{test_id};
 
 use class_model::{Memory, Name};
 use class_table::Test;
+use lib_lang::dotted;
 use mutator_ops::Mutant;
 use std::alloc::Global;
 
@@ -14,6 +16,14 @@ pub fn printed(alloc: Global, name: &Name) -> Result<String, Memory>
     ensures { IfOk result (λ text. string_bytes text ≡ printed name.now) }
 {
     Ok(String::from_utf16_lossy(alloc, name.as_slice())?)
+}
+
+/// The name of a class in UTF-8, with `.` for `/`.
+pub fn class_text(alloc: Global, class: &Name) -> Result<String, Memory>
+    ensures { IfOk result (λ text. string_bytes text ≡ printed (dotted class.now)) }
+{
+    let dotted = dotted(alloc, class.as_slice())?;
+    printed(alloc, &dotted)
 }
 
 /// The identifier of a test: class, `.`, method.

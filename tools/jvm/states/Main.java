@@ -59,7 +59,7 @@ public final class Main {
         boolean green = true;
         Map<String, byte[]> files = runs.with(null, null, probes);
         for (Suite.Test test : tests) {
-            if (!runs.passes(files, test, MOST_STEPS)) {
+            if (runs.failure(files, test, MOST_STEPS) != null) {
                 System.err.println("not green: " + test.id());
                 green = false;
             }
@@ -73,6 +73,7 @@ public final class Main {
         List<String> covering = new ArrayList<>();
         String state = "NON_VIABLE";
         String killer = "-";
+        String reason = "-";
         if (mutant.edited != null && isAccepted(mutant)) {
             Map<String, byte[]> files = runs.with(mutant.owner, mutant.edited, probes);
             int line = probes.number(mutant.owner, mutant.line);
@@ -82,8 +83,10 @@ public final class Main {
                 if (covers) {
                     covering.add(tests.get(at).id());
                 }
-                if (killer.equals("-") && !runs.passes(files, tests.get(at), limits.get(at))) {
+                String failure = killer.equals("-") ? runs.failure(files, tests.get(at), limits.get(at)) : null;
+                if (failure != null) {
                     killer = tests.get(at).id();
+                    reason = failure;
                     state = Probe.isExceeded() ? "TIMED_OUT" : "KILLED";
                     if (!covers) {
                         System.err.println("a test that does not reach the line detects: " + mutant.id + " " + killer);
@@ -96,7 +99,7 @@ public final class Main {
             }
         }
         counts.merge(state, 1, Integer::sum);
-        System.out.println(mutant.id + "\t" + state + "\t" + killer + "\t" + (covering.isEmpty() ? "-" : String.join(" ", covering)));
+        System.out.println(String.join("\t", mutant.id, state, killer, covering.isEmpty() ? "-" : String.join(" ", covering), reason));
     }
 
     /** Whether the JVM's verifier accepts the edited class; it is linked here, and not begun. */

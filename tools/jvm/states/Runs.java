@@ -58,9 +58,12 @@ final class Runs {
         return files;
     }
 
-    /** Whether the test passes within so many steps, which the probe counts. */
-    boolean passes(Map<String, byte[]> files, Suite.Test test, long limit) throws InterruptedException {
-        boolean[] passed = {false};
+    /**
+     * Why the test fails within so many steps, which the probe counts: the class of what leaves it, `no exception` where it was to throw, or `-`
+     * where it takes more steps; null where it passes.
+     */
+    String failure(Map<String, byte[]> files, Suite.Test test, long limit) throws InterruptedException {
+        Throwable[] failed = {null};
         Throwable[] odd = {null};
         Probe.begin(limit);
         Thread thread = new Thread(null, () -> {
@@ -68,7 +71,7 @@ final class Runs {
             Thread.currentThread().setContextClassLoader(loader);
             try {
                 Class<?> owner = loader.loadClass(test.owner.replace('/', '.'));
-                passed[0] = test.isOfFive ? passesFive(owner, test.method) : passesFour(owner, test.method);
+                failed[0] = test.isOfFive ? failureOfFive(owner, test.method) : failureOfFour(owner, test.method);
             } catch (Throwable thrown) {
                 odd[0] = thrown;
             }
@@ -82,24 +85,48 @@ final class Runs {
         if (odd[0] != null && !(odd[0] instanceof StackOverflowError)) {
             throw new IllegalStateException(test.id(), odd[0]);
         }
-        return !Probe.isExceeded() && passed[0];
+        if (Probe.isExceeded()) {
+            return "-";
+        }
+        Throwable thrown = odd[0] == null ? failed[0] : odd[0];
+        return thrown == null ? null : reason(thrown);
     }
 
-    private static boolean passesFour(Class<?> owner, String method) {
+    /** JUnit 4 has its own exceptions where a test was to throw, and JUnit its own errors for assertions, which are AssertionErrors. */
+    private static String reason(Throwable thrown) {
+        StackTraceElement[] places = thrown.getStackTrace();
+        if (places.length > 0 && places[0].getClassName().endsWith(".ExpectException")) {
+            return thrown.getCause() == null ? "no exception" : reason(thrown.getCause());
+        }
+        Class<?> type = thrown.getClass();
+        while (type.getName().startsWith("org.junit.") || type.getName().startsWith("org.opentest4j.")) {
+            type = type.getSuperclass();
+        }
+        return type.getName();
+    }
+
+    private static Throwable failureOfFour(Class<?> owner, String method) {
         Result result = new JUnitCore().run(Request.method(owner, method));
-        return result.getRunCount() == 1 && result.getIgnoreCount() == 0 && result.wasSuccessful();
+        if (result.getRunCount() != 1 || result.getIgnoreCount() != 0) {
+            throw new IllegalStateException("not run");
+        }
+        return result.wasSuccessful() ? null : result.getFailures().get(0).getException();
     }
 
-    private boolean passesFive(Class<?> owner, String method) {
+    private Throwable failureOfFive(Class<?> owner, String method) {
         LauncherDiscoveryRequest request = LauncherDiscoveryRequestBuilder.request().selectors(DiscoverySelectors.selectMethod(owner, method)).build();
-        int[] counts = {0, 0};
+        int[] count = {0};
+        Throwable[] failed = {null};
         launcher.execute(request, new TestExecutionListener() {
             @Override
             public void executionFinished(TestIdentifier test, TestExecutionResult result) {
-                counts[0] += test.isTest() ? 1 : 0;
-                counts[1] += result.getStatus() == TestExecutionResult.Status.SUCCESSFUL ? 0 : 1;
+                count[0] += test.isTest() ? 1 : 0;
+                result.getThrowable().filter(thrown -> failed[0] == null).ifPresent(thrown -> failed[0] = thrown);
             }
         });
-        return counts[0] == 1 && counts[1] == 0;
+        if (count[0] != 1 && failed[0] == null) {
+            throw new IllegalStateException("not run");
+        }
+        return failed[0];
     }
 }

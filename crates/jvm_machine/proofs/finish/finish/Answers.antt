@@ -6,10 +6,10 @@ pub returns : goal.returns
 returns c =
     tells_run c.args.p.now c.args.m.now
     (record {
-      outcome = c.args.outcome;
+      ending = c.args.ending;
       steps = c.args.steps;
       consulted = c.in_ok-consulted.consulted;
       reached = c.in_ok-reached.reached;
     })
-    c.args.outcome c.args.steps refl refl (c.in_ok-consulted.ensures ∙ c.names.ensures)
+    c.args.ending c.args.steps refl refl (c.in_ok-consulted.ensures ∙ c.names.ensures)
     (same_mapped (λ x. (x.0.0, x.1)) c.in_ok-reached.reached c.pairs.result.now c.args.m.now.world.reached c.in_ok-reached.ensures c.pairs.ensures)

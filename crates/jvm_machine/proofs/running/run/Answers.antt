@@ -21,7 +21,7 @@ pub returns-in-Ended-clause-run : goal.returns-in-Ended-clause-run
 returns-in-Ended-clause-run c =
     let p = c.args.p.now in
     let lt : c.loop-done.done < c.args.limit = omega arith in
-    ended p c.args.m.now.world.limits c.args.limit c.loop-done.done (start_of p c.args.test.now) c.loop-done.m c.advance.new.m c.in-Ended.outcome lt c.loop-done.invariant.run
+    ended p c.args.m.now.world.limits c.args.limit c.loop-done.done (start_of p c.args.test.now) c.loop-done.m c.advance.new.m c.in-Ended.end lt c.loop-done.invariant.run
     (subst (λ r. WentTo p r c.loop-done.m c.advance.new.m) c.in-Ended.is c.in_ok-went.ensures.went)
 
 pub returns-in-Stuck-clause-run : goal.returns-in-Stuck-clause-run

@@ -6,7 +6,7 @@ use Rattle.jvm_machine.proofs.stepping.step.Goals as goal
 
 pub returns-in-Some-clause-step : goal.returns-in-Some-clause-step
 returns-in-Some-clause-step c =
-    ended c.args.p.now c.args.m.now c.in-Some.outcome (subst (TellsEnd c.args.p.now c.args.m.now) c.in-Some.is c.end.ensures.tells)
+    ended c.args.p.now c.args.m.now c.in-Some.end (subst (TellsEnd c.args.p.now c.args.m.now) c.in-Some.is c.end.ensures.tells)
 
 pub returns-in-NoRow-clause-step : goal.returns-in-NoRow-clause-step
 returns-in-NoRow-clause-step c =

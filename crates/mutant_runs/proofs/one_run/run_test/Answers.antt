@@ -1,9 +1,8 @@
 use Rattle.std.proofs.Common.{◌≡◌, ◌∙◌, ap, subst, ℕ, ◌+◌, ◌≤◌, arith}
 use Rattle.class_table.specs.Table.{look}
-use Rattle.machine_rules.specs.Runs.{Ran, run_of}
-use Rattle.jvm_world.specs.View.{test_of}
+use Rattle.machine_rules.specs.Runs.{Ran}
 use Rattle.mutant_runs.specs.Promises.{run_in}
-use Rattle.mutant_runs.specs.Runs.{detected}
+use Rattle.mutant_runs.specs.Runs.{detected, detected_at}
 use Rattle.mutant_runs.proofs.RunLaws.{of_run}
 use Rattle.mutant_runs.proofs.one_run.run_test.Goals as goal
 
@@ -16,7 +15,7 @@ returns-in_err-end-clause-most c =
 pub returns-clause-detected : goal.returns-clause-detected
 returns-clause-detected c =
     let is = of_run c.args.limits (look c.args.program.now) c.args.test.now c.args.steps c.limit_of.result c.limit_of.ensures.value in
-    c.detected.ensures (run_of (look c.args.program.now) (test_of c.args.test.now) c.args.limits c.limit_of.result).ending c.in_ok-end.ensures.ending ∙ ap detected (ap (λ (r : Ran). r.ending) is)
+    c.detected_at.ensures ∙ ap detected_at c.in_ok-end.ensures.ending ∙ ap detected (ap (λ (r : Ran). r.ending) is)
 
 pub returns-clause-steps : goal.returns-clause-steps
 returns-clause-steps c =
