@@ -6,9 +6,9 @@ ghost use Rattle.jvm_world.specs.View.{object_of};
 ghost use Rattle.jvm_machine.specs.Ending.{IsOutcomeBy, TellsThrown, outcome_in};
 
 use crate::machine::{Machine, StateEnd};
+use class_model::names::ascii;
 use class_model::{Cause, Memory, Name, Outcome, Seq};
 use class_table::Program;
-use jvm_catch::ascii;
 use jvm_type_rows::name_at;
 use jvm_values::{ObjKind, Object};
 use jvm_world::World;
