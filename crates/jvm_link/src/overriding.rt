@@ -6,7 +6,7 @@ ghost use Rattle.jvm_link.specs.Candidates.{can_choose};
 ghost use Rattle.jvm_link.specs.Answers.{named};
 ghost use Rattle.jvm_link.specs.Overriding.{can_open, is_opened_at, StandsAbove, SharesPackage, Declares, OpensAt, IsShut, StandsBelow, Reach, Takes};
 
-use crate::heads::{flags_at, is_open};
+use crate::heads::flags_at;
 use crate::interfaces::can_choose;
 use crate::methods::declared_method;
 use crate::site::Site;
@@ -14,6 +14,7 @@ use crate::text::same_package;
 use class_family::class_at;
 use class_link::MethodRef;
 use class_model::ClassId;
+use class_model::flags::is_open;
 use class_table::Program;
 
 // Whether a class stands above another one.
