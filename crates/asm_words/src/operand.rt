@@ -7,8 +7,7 @@ ghost use Rattle.asm_words.specs.Operands.{small_number, number, local, incremen
 use crate::labels::{Labels, start_in};
 use crate::number::{s1, s2, s4, u1, u2};
 use crate::word::{COLON, says};
-use class_model::{Arg, Memory, Name, Seq};
-use class_model::parted_at;
+use class_model::{Arg, Memory, Name, Seq, parted_at};
 use std::alloc::Global;
 
 /// `bipush`.

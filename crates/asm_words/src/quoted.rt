@@ -3,8 +3,7 @@
 ghost use Rattle.std.specs.Prelude.{◌≡◌, IfOk};
 ghost use Rattle.asm_words.specs.Quoted.{hex_digit, quote_step, unquoted, is_closed, is_quoted, quoted_in};
 
-use class_model::{Memory, Name, Seq};
-use class_model::parted_at;
+use class_model::{Memory, Name, Seq, parted_at};
 use std::alloc::Global;
 
 const QUOTE: u16 = b'"' as u16;

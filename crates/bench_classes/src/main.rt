@@ -9,7 +9,7 @@
 use class_model::{Class, ClassFault, LayoutFault, Memory};
 use class_reader::read_class;
 use class_writer::{what_is_spelled_is_written, write_class};
-use mt_edge::{EdgeFault, HostTree, Tree};
+use mt_edge::{HostTree, Tree};
 use mutator_ops::{class_mutants, id_lines};
 use std::alloc::Global;
 use std::env;
@@ -121,13 +121,6 @@ impl Counts {
     }
 }
 
-fn read<T: Drop>(outcome: Result<T, EdgeFault>) -> anyhow::Result<T> {
-    match outcome {
-        Ok(value) => Ok(value),
-        Err(_) => anyhow::bail!("the files could not be read"),
-    }
-}
-
 fn main(rt: HostRuntime) -> anyhow::Result<()> {
     let alloc = rt.alloc();
     let mut words = env::args(&rt)?.skip(1);
@@ -148,11 +141,11 @@ fn main(rt: HostRuntime) -> anyhow::Result<()> {
         mutants: 0,
     };
     let mut tree = HostTree::new(&rt);
-    for path in read(tree.list(folder.as_str()))? {
+    for path in tree.list(folder.as_str())? {
         if !path.as_str().ends_with(".class") {
             continue;
         }
-        let Some(bytes) = read(tree.read(path.as_str()))? else {
+        let Some(bytes) = tree.read(path.as_str())? else {
             continue;
         };
         let outcome = outcome_of(alloc, task, bytes.as_slice());

@@ -1,6 +1,6 @@
 //! The whole class that an edited class file says.
 
-ghost use Rattle.std.specs.Prelude.{◌≡◌, ◌++◌, IfOk, OnOk};
+ghost use Rattle.std.specs.Prelude.{◌≡◌, ◌++◌, IfOk};
 ghost use Rattle.class_link.specs.Edits.{with_attrs_at, class_edited};
 
 use crate::loaded::EditedFile;

@@ -33,7 +33,7 @@ pub use linked::{
     Entry, FieldConstant, FieldRef, LinkedBody, LinkedClass, LinkedCode, LinkedField, LinkedLine,
     LinkedMethod, LinkedRow, MethodRef, Switch,
 };
-pub use long_pool::at_place;
 pub use loaded::{ClassBody, EditedFile, LibBody, LibClass, LibField, LibMethod, Loaded};
+pub use long_pool::at_place;
 pub use program_rules::{CallKind, Comparison, Conversion, Element, Operation, ShiftKind};
 pub use shared::Shared;

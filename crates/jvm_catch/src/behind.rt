@@ -1,7 +1,7 @@
 //! The class that is looked up for a name.
 
 ghost use Rattle.std.specs.Prelude.{◌≡◌, IfOk};
-ghost use Rattle.program_rules.specs.Names.{is_array_name, element_of, without_last};
+ghost use Rattle.program_rules.specs.Names.{element_of};
 ghost use Rattle.program_rules.specs.Names.{class_behind, object_name};
 
 use class_link::names::{is_array_name, without_last};

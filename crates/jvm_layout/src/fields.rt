@@ -1,8 +1,6 @@
 //! The fields that a class declares for its instances (JVMS 2.4).
 
 ghost use Rattle.std.specs.Prelude.{◌≡◌, ◌≤◌, ◌++◌, ◌∷◌, [], length, map, reverse, OnOk};
-ghost use Rattle.program_rules.specs.Kinds.{default_of};
-ghost use Rattle.class_link.specs.Symbols.{kind_of};
 ghost use Rattle.class_link.specs.View.{field_of};
 ghost use Rattle.jvm_layout.specs.Layouts.{own_values};
 

@@ -2,7 +2,6 @@
 
 ghost use Rattle.std.specs.Prelude.{◌≡◌};
 ghost use Rattle.program_rules.specs.Layout.{native_words, words_among};
-ghost use Rattle.program_rules.specs.Names.{same};
 ghost use Rattle.jvm_layout.specs.Layouts.{number_words};
 
 use class_model::names::is_text;

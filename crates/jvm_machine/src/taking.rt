@@ -1,6 +1,6 @@
 //! Steps by instructions of one method whose lines were reached.
 
-ghost use Rattle.std.specs.Prelude.{◌≡◌, ◌+◌, ◌≤◌, ◌<◌, ◌^◌, true, Some, IfOk, IfSome, IfNone, OnOk, IsSomeAnd, slice_get};
+ghost use Rattle.std.specs.Prelude.{◌≡◌, ◌+◌, ◌≤◌, ◌<◌, ◌^◌, true, Some, IfOk, IfSome, IfNone, OnOk, IsSomeAnd};
 ghost use Rattle.class_table.specs.Faults.{HasRightKinds};
 ghost use Rattle.class_table.specs.Table.{look};
 ghost use Rattle.jvm_act.specs.Acts.{RunsCode, acting};

@@ -16,8 +16,8 @@ mod words;
 pub use acting::act;
 pub use frame::Frame;
 pub use jumping::{
-    branch_on_int, branch_on_ints, branch_on_null, branch_on_references, go_on, go_to,
-    key_target, switch_by_keys, switch_by_table, target_at,
+    branch_on_int, branch_on_ints, branch_on_null, branch_on_references, go_on, go_to, key_target,
+    switch_by_keys, switch_by_table, target_at,
 };
 pub use locals::{
     increment, load_int, load_long, load_reference, store_int, store_long, store_reference,

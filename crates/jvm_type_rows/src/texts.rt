@@ -1,7 +1,7 @@
 // Names and field descriptors as texts (JVMS 4.2.1, 4.3.2).
 
 ghost use Rattle.std.specs.Prelude.{◌≡◌, nat_eq, length};
-ghost use Rattle.program_rules.specs.Names.{same, is_array_name, without_first, without_last};
+ghost use Rattle.program_rules.specs.Names.{same, without_first};
 ghost use Rattle.program_rules.specs.Subtypes.{is_above_arrays};
 ghost use Rattle.jvm_type_rows.specs.Instances.{name_in, begins_class};
 

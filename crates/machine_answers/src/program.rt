@@ -8,15 +8,8 @@ use class_model::{Bytes, Seq, SharedBytes};
 use class_reader::read_class;
 use class_table::{LibClass, Loaded, Program, TableFault};
 use lib_table::classes;
-use mt_edge::{EdgeFault, HostTree, Tree};
+use mt_edge::{HostTree, Tree};
 use std::alloc::Global;
-
-fn done<T: Drop>(outcome: Result<T, EdgeFault>) -> anyhow::Result<T> {
-    match outcome {
-        Ok(value) => Ok(value),
-        Err(_) => anyhow::bail!("the files could not be read"),
-    }
-}
 
 fn loaded(alloc: Global, bytes: Bytes) -> anyhow::Result<Loaded> {
     let class = read_class(alloc, bytes.as_slice())?;
@@ -30,11 +23,11 @@ fn classes_below<T: Tree>(
     folder: &str,
 ) -> anyhow::Result<Seq<Loaded>> {
     let mut classes = Seq::new(alloc);
-    for path in done(tree.list(folder))? {
+    for path in tree.list(folder)? {
         if !path.as_str().ends_with(".class") {
             continue;
         }
-        if let Some(bytes) = done(tree.read(path.as_str()))? {
+        if let Some(bytes) = tree.read(path.as_str())? {
             classes.push(loaded(alloc, bytes)?)?;
         }
     }

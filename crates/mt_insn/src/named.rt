@@ -1,6 +1,7 @@
 //! What an instruction may name in the constant pool.
 
 ghost use Rattle.std.specs.Prelude.{◌≡◌};
+ghost use Rattle.class_model.specs.Pool.{entry_of};
 ghost use Rattle.mt_insn.specs.Named.{names, is_loaded, is_long, is_field, is_method, is_any_method, is_interface_method, is_class, loaded_refusal, long_refusal, is_array_kind, array_refusal};
 
 use class_model::{CheckedPool, ClassFault, Const};

@@ -1,7 +1,6 @@
 //! The method that an edit names.
 
 ghost use Rattle.std.specs.Prelude.{◌≡◌, IfOk, option_copied};
-ghost use Rattle.mutator_ops.specs.Mutants.{code_of};
 ghost use Rattle.mutant_apply.specs.Edited.{changed_at, with_code, member_with, named_code};
 
 use crate::items::with_item;

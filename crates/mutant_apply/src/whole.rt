@@ -1,6 +1,6 @@
 //! An edit of a class.
 
-ghost use Rattle.std.specs.Prelude.{◌≡◌, ◌++◌, IfOk, OnOk};
+ghost use Rattle.std.specs.Prelude.{◌≡◌, ◌++◌, IfOk};
 ghost use Rattle.class_writer.specs.Writing.{HasClassForm};
 ghost use Rattle.mutant_apply.specs.Edited.{edited_parts, class_with, applied};
 ghost use Rattle.mutant_apply.specs.Fitting.{Fits};

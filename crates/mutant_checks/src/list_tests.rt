@@ -1,8 +1,8 @@
 //! The mutants of class A, and of a small method for each row of the table.
 
 use crate::small_methods::{Case, PLAIN, agrees, only};
-use class_model::{ClassId, Seq, SharedBytes};
 use class_model::names::ascii;
+use class_model::{ClassId, Seq, SharedBytes};
 use class_reader::read_class;
 use class_table::{LibClass, Loaded, Program};
 use mutator_ops::{class_mutants, id_lines, mutants};

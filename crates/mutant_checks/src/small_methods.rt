@@ -1,9 +1,9 @@
 //! Small methods, and what the mutators make of them as texts.
 
+use class_model::names::ascii;
 use class_model::{
     Arg, Attr, Body, Class, Code, Const, Insn, Member, Memory, Name, NewInsn, Note, Seq,
 };
-use class_model::names::ascii;
 use mutator_ops::{Mutant, class_mutants, count_mutants};
 use std::alloc::Global;
 use std::test::Fail;

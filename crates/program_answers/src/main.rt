@@ -19,25 +19,18 @@ use crate::lines::push_lines;
 use crate::verdicts::{refusal, verdicts_of};
 use class_model::Bytes;
 use class_table::Program;
-use mt_edge::{EdgeFault, HostTree, Tree};
+use mt_edge::{HostTree, Tree};
 use std::alloc::Global;
 use std::time::Instant;
 use std::{env, fs};
 
-fn done<T: Drop>(outcome: Result<T, EdgeFault>) -> anyhow::Result<T> {
-    match outcome {
-        Ok(value) => Ok(value),
-        Err(_) => anyhow::bail!("the files could not be read"),
-    }
-}
-
 fn bytes_of<T: Tree>(alloc: Global, tree: &mut T, folder: &str) -> anyhow::Result<Vec<Bytes>> {
     let mut files = Vec::new(alloc);
-    for path in done(tree.list(folder))? {
+    for path in tree.list(folder)? {
         if !path.as_str().ends_with(".class") {
             continue;
         }
-        if let Some(bytes) = done(tree.read(path.as_str()))? {
+        if let Some(bytes) = tree.read(path.as_str())? {
             files.push(bytes)?;
         }
     }

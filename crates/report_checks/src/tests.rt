@@ -1,8 +1,8 @@
 //! Reports and summaries of a few mutants, as the schema has them.
 
 use crate::{report_text, summary_text};
-use class_model::{Edit, Memory, Mutator, Name, Seq};
 use class_model::names::ascii;
+use class_model::{Edit, Memory, Mutator, Name, Seq};
 use class_table::Test;
 use mutator_ops::{Mutant, State, Verdict};
 use report_schema::{ReportInput, file_key};

@@ -4,7 +4,7 @@ ghost use Rattle.std.specs.Prelude.{◌≡◌, [], All, None, IfOk, OnOk, IfSome
 ghost use Rattle.std.specs.HashMap.{get};
 ghost use Rattle.type_rules.specs.References.{dimensions, base_of, component_of};
 ghost use Rattle.type_rules.specs.Rows.{is_of_references};
-ghost use Rattle.program_rules.specs.Names.{same, without_last};
+ghost use Rattle.program_rules.specs.Names.{same};
 ghost use Rattle.vframes.specs.Named.{IsClosed, IsNamed, IsShaped};
 ghost use Rattle.type_verifier.specs.Tables.{IsTable, Adds, NameLasts, ComponentLasts, EndsAt};
 
