@@ -107,25 +107,10 @@ fn input_of(
 fn files_stand_in_byte_order_with_sources_tests_and_killers(rt: HostRuntime) -> Result<(), Fail> {
     let alloc = rt.alloc();
     let mut verdicts = Seq::new(alloc);
-    verdicts.push(verdict(
-        alloc,
-        State::RunError,
-        [9].as_slice(),
-        [9].as_slice(),
-    )?)?;
+    verdicts.push(verdict(alloc, State::RunError, [9].as_slice(), [9].as_slice())?)?;
     let thrown = State::Killed(Cause::Thrown(name(alloc, "java/lang/Error")?));
-    verdicts.push(verdict(
-        alloc,
-        thrown,
-        [1].as_slice(),
-        [0, 1].as_slice(),
-    )?)?;
-    verdicts.push(verdict(
-        alloc,
-        State::NoCoverage,
-        [].as_slice(),
-        [].as_slice(),
-    )?)?;
+    verdicts.push(verdict(alloc, thrown, [1].as_slice(), [0, 1].as_slice())?)?;
+    verdicts.push(verdict(alloc, State::NoCoverage, [].as_slice(), [].as_slice())?)?;
     let mut input = input_of(
         alloc,
         [
