@@ -295,8 +295,7 @@ pub fn row(mutator: Mutator, asked: &Asked, insn: &Insn) -> Option<Change>
         Mutator::TrueReturns => truth(ICONST_1, asked, insn),
         Mutator::NullReturns => null_return(asked, returned_class(asked, insn)?),
         Mutator::PrimitiveReturns => zero_return(asked, insn),
-        Mutator::NonVoidMethodCalls
-        | Mutator::ConstructorCalls
-        | Mutator::RemoveConditionals => None,
+        Mutator::NonVoidMethodCalls | Mutator::ConstructorCalls | Mutator::RemoveConditionals =>
+            None,
     }
 }

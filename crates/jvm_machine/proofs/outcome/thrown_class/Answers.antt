@@ -6,4 +6,4 @@ pub returns-in_ok-class-in-Some : goal.returns-in_ok-class-in-Some
 returns-in_ok-class-in-Some c = λ v m. c.in_ok-class-in-Some.ensures ∙ sym (ap thrown_class (c.in-Some.ensures v m))
 
 pub returns-in-None : goal.returns-in-None
-returns-in-None c = λ v m. sym (ap thrown_class (c.in-None.ensures v m))
+returns-in-None c = λ v m. c.new.ensures ∙ sym (ap thrown_class (c.in-None.ensures v m))
