@@ -54,11 +54,7 @@ fn linked_at<R: Files + AllocGlobal>(
 }
 
 // A regular file is listed, and a folder is to be entered. What else stands there is let be.
-fn note<R: Files + AllocGlobal>(rt: &R, path: String, walk: &mut Walk) -> io::Result<()> {
-    let Some(left) = walk.left.checked_sub(1) else {
-        return Err(Error::from(ErrorKind::QuotaExceeded));
-    };
-    walk.left = left;
+fn note_path<R: Files + AllocGlobal>(rt: &R, path: String, walk: &mut Walk) -> io::Result<()> {
     match standing_at(rt, path.as_str(), walk.below.as_str())? {
         Some(about) if about.is_dir() => {
             walk.folders.insert(path)?;
@@ -69,7 +65,25 @@ fn note<R: Files + AllocGlobal>(rt: &R, path: String, walk: &mut Walk) -> io::Re
     Ok(())
 }
 
-// Names with a zero byte behind each. One that isn't text is let be, unless it is a class file's.
+// A name that isn't text is let be, unless it is a class file's.
+fn note<R: Files + AllocGlobal>(
+    rt: &R,
+    folder: &str,
+    name: &[u8],
+    walk: &mut Walk,
+) -> io::Result<()> {
+    let Some(left) = walk.left.checked_sub(1) else {
+        return Err(Error::from(ErrorKind::QuotaExceeded));
+    };
+    walk.left = left;
+    match str::from_utf8(name) {
+        Ok(name) => note_path(rt, format!(in rt.alloc(); "{folder}/{name}")?, walk),
+        Err(_) if name.ends_with(b".class") => Err(Error::from(ErrorKind::InvalidFilename)),
+        Err(_) => Ok(()),
+    }
+}
+
+// Names with a zero byte behind each.
 fn note_all<R: Files + AllocGlobal>(
     rt: &R,
     folder: &str,
@@ -77,13 +91,8 @@ fn note_all<R: Files + AllocGlobal>(
     walk: &mut Walk,
 ) -> io::Result<()> {
     for name in names.split(|byte| *byte == 0) {
-        match str::from_utf8(name) {
-            Ok("" | "." | "..") => (),
-            Ok(name) => note(rt, format!(in rt.alloc(); "{folder}/{name}")?, walk)?,
-            Err(_) if name.ends_with(b".class") => {
-                return Err(Error::from(ErrorKind::InvalidFilename));
-            }
-            Err(_) => (),
+        if !matches!(name, b"" | b"." | b"..") {
+            note(rt, folder, name, walk)?;
         }
     }
     Ok(())

@@ -7,8 +7,11 @@ use mt_edge::{HostSink, HostTree, Meter};
 use mutest_engine::{Status, run};
 use std::env;
 use std::env::Env;
+use std::fs::File;
 use std::io::ErrorKind;
+use std::os::fd::AsRawFd;
 use std::process::ExitCode;
+use std::rt::Files;
 
 // The words behind the program's name. Words that are no text count as no words, which no command
 // has.
@@ -26,7 +29,17 @@ fn words(rt: &(impl Env + AllocGlobal)) -> Result<Vec<String>, Memory> {
     }
 }
 
+// What stands for an input or output that isn't there: else the next file that is opened would be
+// taken for it. To write there fails. Nothing is held where all three are there.
+fn stand_in<R: Files<File = File>>(rt: &R) -> Option<File> {
+    match File::open(rt, "/dev/null") {
+        Ok(file) if file.as_raw_fd() <= 2 => Some(file),
+        _ => None,
+    }
+}
+
 fn main(rt: HostRuntime) -> ExitCode {
+    let _held = (stand_in(&rt), stand_in(&rt), stand_in(&rt));
     let mut tree = HostTree::new(&rt);
     let mut out = HostSink::new(&rt);
     let mut meter = Meter::new();

@@ -125,7 +125,7 @@ fn what_else_may_fail_is_told(rt: HostRuntime) -> Result<(), Fail> {
     assert_eq!(rt; unread.0, 10);
     assert!(rt; !unread.2);
     assert_eq!(rt; unread.1.as_slice(), b"mutest: ReadFault\n".as_slice());
-    let unwritten = called(rt.alloc(), &WORDS, TEXT.as_bytes(), &[2])?;
+    let unwritten = called(rt.alloc(), &WORDS, TEXT.as_bytes(), &[1])?;
     assert_eq!(rt; unwritten.0, 11);
     assert!(rt; !unwritten.2);
     assert_eq!(rt;

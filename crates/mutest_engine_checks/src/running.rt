@@ -109,8 +109,8 @@ fn tests_run_until_one_detects_the_mutant(rt: HostRuntime) -> Result<(), Fail> {
 
 #[test]
 fn a_report_that_cannot_be_replaced_is_told(rt: HostRuntime) -> Result<(), Fail> {
-    // Two folders are listed before, and of two files the length is asked and then the bytes.
-    let told = run_of(rt.alloc(), &A, &T, &[6])?;
+    // Two folders are listed before, and two files are read.
+    let told = run_of(rt.alloc(), &A, &T, &[4])?;
     assert_eq!(rt; told.0, 11);
     assert_eq!(rt;
         told.1.as_slice(),
