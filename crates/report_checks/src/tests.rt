@@ -63,7 +63,7 @@ fn state_of(alloc: Global, number: u8) -> Result<State, Memory> {
         0 => Ok(State::NonViable),
         1 => Ok(State::NoCoverage),
         2 => Ok(State::Killed(Cause::Returned)),
-        3 => Ok(State::Killed(Cause::Thrown(name(alloc, "p/q/E$1")?))),
+        3 => Ok(State::Killed(Cause::Thrown(ascii(alloc, "p/q/E$1")?))),
         4 => Ok(State::TimedOut),
         5 => Ok(State::MemoryError),
         6 => Ok(State::RunError),
@@ -101,7 +101,7 @@ fn files_stand_in_byte_order_with_sources_tests_and_killers(rt: HostRuntime) -> 
     let alloc = rt.alloc();
     let mut verdicts = Seq::new(alloc);
     verdicts.push(verdict(alloc, State::RunError, [9].as_slice(), [9].as_slice())?)?;
-    let thrown = State::Killed(Cause::Thrown(name(alloc, "java/lang/Error")?));
+    let thrown = State::Killed(Cause::Thrown(ascii(alloc, "java/lang/Error")?));
     verdicts.push(verdict(alloc, thrown, [1].as_slice(), [0, 1].as_slice())?)?;
     verdicts.push(verdict(alloc, State::NoCoverage, [].as_slice(), [].as_slice())?)?;
     let mut input = input_of(
