@@ -2,7 +2,7 @@
 use Rattle.std.proofs.Common.{◌≡◌, ◌≢◌, ℕ, List, Result, Ok, Err, ap, ◌∙◌}
 use Rattle.class_model.specs.declared.class.Class.{Class}
 use Rattle.class_writer.specs.Writing.{layout}
-use Rattle.asm_text.specs.declared.fault.AsmFault.{AsmFault}
+use Rattle.class_asm.specs.declared.fault.AsmFault.{AsmFault}
 use Rattle.class_asm.specs.Assembled.{AssembledClass}
 use Rattle.asm_laws.specs.Answered.{TextsHaveOneAnswer}
 

@@ -39,7 +39,7 @@ use Rattle.asm_words.specs.Words.{says}
 use Rattle.class_asm.specs.Numbering.{text_index, behind}
 use Rattle.class_asm.specs.File.{tokens_of, elements_in, note_of, notes_of}
 use Rattle.class_asm.specs.ClassFile.{with_notes}
-use Rattle.asm_insns.specs.declared.stated.StatedNote.{StatedNote}
+use Rattle.asm_words.specs.declared.stated.StatedNote.{StatedNote}
 use Rattle.asm_laws.specs.Fit.{IsFitResult, IsFitNote}
 use Rattle.asm_laws.proofs.PoolLaws.{IsIn, IsNumberOf, IsFormed}
 use Rattle.asm_laws.proofs.Numbered.{stays, joined, each_numbered}

@@ -33,9 +33,9 @@ use Rattle.class_asm.specs.File.{with_pool}
 use Rattle.class_asm.specs.ClassFile.{code_attr, codes_of, with_notes, attrs_of, member_of, members_of, interfaces_of, with_source, class_of}
 use Rattle.class_asm.specs.Assembled.{no_entries}
 use Rattle.class_asm.specs.declared.numbering.Entries.{Entries}
-use Rattle.asm_insns.specs.declared.stated.StatedCode.{StatedCode}
-use Rattle.asm_insns.specs.declared.stated.StatedMember.{StatedMember}
-use Rattle.asm_insns.specs.declared.stated.StatedClass.{StatedClass}
+use Rattle.asm_words.specs.declared.stated.StatedCode.{StatedCode}
+use Rattle.asm_words.specs.declared.stated.StatedMember.{StatedMember}
+use Rattle.asm_words.specs.declared.stated.StatedClass.{StatedClass}
 use Rattle.asm_laws.specs.Fit.{IsFitName, SaysClass, IsFitCode, IsFitNote, IsFitField, IsFitMethod, IsFitClass}
 use Rattle.asm_laws.proofs.PoolLaws.{IsIn, all_in, IsNumberOf, IsFormed, none_formed, pool_formed}
 use Rattle.asm_laws.proofs.Numbered.{stays, made, joined, each_numbered}

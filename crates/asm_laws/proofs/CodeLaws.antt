@@ -15,17 +15,17 @@ use Rattle.mt_attrs.specs.Named.{is_caught, IsIndex}
 use Rattle.mt_attrs.specs.Naming.{IsNamedRow, IsNamedVItem, IsNamedShape, IsNamedFrame}
 use Rattle.class_asm.specs.Numbering.{class_index, entry_index}
 use Rattle.class_asm.specs.File.{with_pool, arg_of, insn_of, insns_of, item_of, items_of, shape_of, frame_of, frames_of, caught_index, row_of, rows_of}
-use Rattle.asm_insns.specs.Stated.{insn_with}
+use Rattle.asm_words.specs.Stated.{insn_with}
 use Rattle.class_asm.specs.declared.numbering.Entries.{Entries}
-use Rattle.asm_insns.specs.declared.stated.StatedInsn.{StatedInsn}
-use Rattle.asm_insns.specs.declared.stated.Operand.{Operand}
-use Rattle.asm_insns.specs.declared.stated.Operand.TheVariants as operand
-use Rattle.asm_insns.specs.declared.stated.StatedItem.{StatedItem}
-use Rattle.asm_insns.specs.declared.stated.StatedItem.TheVariants as item
-use Rattle.asm_insns.specs.declared.stated.StatedShape.{StatedShape}
-use Rattle.asm_insns.specs.declared.stated.StatedShape.TheVariants as stated
-use Rattle.asm_insns.specs.declared.stated.StatedFrame.{StatedFrame}
-use Rattle.asm_insns.specs.declared.stated.StatedRow.{StatedRow}
+use Rattle.asm_words.specs.declared.stated.StatedInsn.{StatedInsn}
+use Rattle.asm_words.specs.declared.stated.Operand.{Operand}
+use Rattle.asm_words.specs.declared.stated.Operand.TheVariants as operand
+use Rattle.asm_words.specs.declared.stated.StatedItem.{StatedItem}
+use Rattle.asm_words.specs.declared.stated.StatedItem.TheVariants as item
+use Rattle.asm_words.specs.declared.stated.StatedShape.{StatedShape}
+use Rattle.asm_words.specs.declared.stated.StatedShape.TheVariants as stated
+use Rattle.asm_words.specs.declared.stated.StatedFrame.{StatedFrame}
+use Rattle.asm_words.specs.declared.stated.StatedRow.{StatedRow}
 use Rattle.asm_laws.specs.Fit.{IsFitName, SaysClass, IsFitOperand, IsFitInsn, IsFitItem, IsFitShape, IsFitFrame, IsFitRow}
 use Rattle.asm_laws.proofs.PoolLaws.{IsIn, IsFormed}
 use Rattle.asm_laws.proofs.Numbered.{IsNumbered, stays, made, joined, each_numbered}

@@ -7,9 +7,9 @@ use Rattle.class_model.specs.Pool.{entry_of, class_in, pair_in, text_in, text_of
 use Rattle.class_model.specs.declared.constant.Const.{Const}
 use Rattle.class_model.specs.declared.constant.Const.TheVariants as const
 use Rattle.class_asm.specs.Numbering.{text_index, class_index, string_index, pair_index, member_index, entry_index}
-use Rattle.asm_insns.specs.declared.stated.MemberName.{MemberName}
-use Rattle.asm_insns.specs.declared.stated.StatedConstant.{StatedConstant}
-use Rattle.asm_insns.specs.declared.stated.StatedConstant.TheVariants as entry
+use Rattle.asm_words.specs.declared.stated.MemberName.{MemberName}
+use Rattle.asm_words.specs.declared.stated.StatedConstant.{StatedConstant}
+use Rattle.asm_words.specs.declared.stated.StatedConstant.TheVariants as entry
 use Rattle.asm_laws.specs.Fit.{IsFitName, IsFitPart, IsFitEntry, SaysClass, SaysText, SaysPart, Says}
 use Rattle.asm_laws.proofs.PoolLaws.{IsIn, IsNumberOf, IsOfWidth, IsFormed, interned_is, wide_interned_is}
 use Rattle.asm_laws.proofs.Numbered.{IsNumbered}

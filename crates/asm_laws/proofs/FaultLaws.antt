@@ -9,15 +9,15 @@ use Rattle.asm_words.specs.Keywords.{line_kind, begins_part}
 use Rattle.asm_words.specs.Labels.{labels_of, insns_in}
 use Rattle.asm_words.specs.Lines.{pieces, lines_from}
 use Rattle.asm_words.specs.declared.line.Line.{Line}
-use Rattle.asm_insns.specs.declared.stated.StatedClass.{StatedClass}
-use Rattle.asm_insns.specs.declared.stated.StatedCode.{StatedCode}
-use Rattle.asm_insns.specs.declared.stated.StatedMember.{StatedMember}
-use Rattle.asm_insns.specs.declared.stated.StatedNote.{StatedNote}
-use Rattle.asm_text.specs.Classes.{class_in, head_step, head_from, own, is_field, is_end, ended, part_step, parts_from, stated_by}
-use Rattle.asm_text.specs.Members.{body_step, body_from, beginning, code_of, add_note, notes_from, notes_of, field_in, field_of, with_code, method_in, method_of}
-use Rattle.asm_text.specs.declared.class.End.{End}
-use Rattle.asm_text.specs.declared.fault.AsmFault.{AsmFault}
-use Rattle.asm_text.specs.declared.fault.AsmFault.TheVariants as asm_fault
+use Rattle.asm_words.specs.declared.stated.StatedClass.{StatedClass}
+use Rattle.asm_words.specs.declared.stated.StatedCode.{StatedCode}
+use Rattle.asm_words.specs.declared.stated.StatedMember.{StatedMember}
+use Rattle.asm_words.specs.declared.stated.StatedNote.{StatedNote}
+use Rattle.class_asm.specs.Classes.{class_in, head_step, head_from, own, is_field, is_end, ended, part_step, parts_from, stated_by}
+use Rattle.class_asm.specs.Members.{body_step, body_from, beginning, code_of, add_note, notes_from, notes_of, field_in, field_of, with_code, method_in, method_of}
+use Rattle.class_asm.specs.declared.class.End.{End}
+use Rattle.class_asm.specs.declared.fault.AsmFault.{AsmFault}
+use Rattle.class_asm.specs.declared.fault.AsmFault.TheVariants as asm_fault
 use Rattle.class_asm.specs.Assembled.{stated_in, no_entries, with_end, with_room, within_limits, AssembledClass}
 use Rattle.class_asm.specs.ClassFile as class_file
 use Rattle.asm_laws.specs.Faults.{FaultsAreLines}

@@ -11,21 +11,21 @@ use Rattle.class_reader.specs.Reading.{is_major}
 use Rattle.asm_words.specs.Lines.{pieces, lines_from}
 use Rattle.asm_words.specs.Numbers.{up_to}
 use Rattle.asm_words.specs.Keywords.{line_kind, begins_part}
-use Rattle.asm_insns.specs.Entries.{is_class_entry}
+use Rattle.asm_words.specs.Entries.{is_class_entry}
 use Rattle.asm_words.specs.Operands.{both}
-use Rattle.asm_insns.specs.Named as named
-use Rattle.asm_text.specs.Members.{class_note_in, field_of, method_of}
-use Rattle.asm_text.specs.Classes.{empty_class, are_keywords, headed, class_by, class_in, is_past_interfaces, implemented, sourced, class_noted, head_by, head_step, head_from, own_count, own, ended, is_field, with_field, with_method, part_step, is_end, parts_from, stated_by}
+use Rattle.asm_words.specs.Named as named
+use Rattle.class_asm.specs.Members.{class_note_in, field_of, method_of}
+use Rattle.class_asm.specs.Classes.{empty_class, are_keywords, headed, class_by, class_in, is_past_interfaces, implemented, sourced, class_noted, head_by, head_step, head_from, own_count, own, ended, is_field, with_field, with_method, part_step, is_end, parts_from, stated_by}
 use Rattle.class_asm.specs.Assembled.{stated_in}
 use Rattle.asm_words.specs.declared.line.Line.{Line}
-use Rattle.asm_text.specs.declared.class.End.{End}
+use Rattle.class_asm.specs.declared.class.End.{End}
 use Rattle.asm_words.specs.declared.keyword.LineKind.{LineKind}
 use Rattle.asm_words.specs.declared.keyword.LineKind.TheVariants as kind
-use Rattle.asm_text.specs.declared.fault.AsmFault.{AsmFault}
-use Rattle.asm_text.specs.declared.fault.AsmFault.TheVariants as asm_fault
-use Rattle.asm_insns.specs.declared.stated.StatedClass.{StatedClass}
+use Rattle.class_asm.specs.declared.fault.AsmFault.{AsmFault}
+use Rattle.class_asm.specs.declared.fault.AsmFault.TheVariants as asm_fault
+use Rattle.asm_words.specs.declared.stated.StatedClass.{StatedClass}
 use Rattle.asm_words.proofs.IfSome.{of_map, of_then, of_if, of_unless, weaker}
-use Rattle.asm_text.proofs.CodeLaws.{all_none, of_step, of_bind, if_ok, any_ok}
+use Rattle.class_asm.proofs.CodeLaws.{all_none, of_step, of_bind, if_ok, any_ok}
 use Rattle.asm_laws.specs.Fit.{IsFitName, IsFitNote, IsFitField, IsFitMethod, IsFitClass}
 use Rattle.asm_laws.proofs.FittingUnits.{AreUnits, IsUnitLine, every_take, lines_are}
 use Rattle.asm_laws.proofs.FittingNames.{fit_name, named_class, class_in_is as name_is}

@@ -12,23 +12,23 @@ use Rattle.mt_attrs.specs.Naming.{IsNamedVItem}
 use Rattle.asm_words.specs.Words.{says}
 use Rattle.asm_words.specs.Numbers.{up_to}
 use Rattle.asm_words.specs.Labels.{start_in, end_in, is_instruction}
-use Rattle.asm_insns.specs.Named.{class_in}
-use Rattle.asm_insns.specs.Insns.{insn_of}
-use Rattle.asm_text.specs.Frames.{known_item, object_item, known_or_object, item_of, new_item, item_at, items_from, items_in, one_item, few, few_items, slash, full_shape, chopped, chop_shape, same_shape, shape_by, shape_of}
-use Rattle.asm_text.specs.Codes.{here, line_in, numbered, is_behind, with_frame, framed, caught, row_of, row_in, guarded, with_insn, is_first_label}
-use Rattle.asm_text.specs.Members.{code_by}
+use Rattle.asm_words.specs.Named.{class_in}
+use Rattle.asm_words.specs.Insns.{insn_of}
+use Rattle.class_asm.specs.Frames.{known_item, object_item, known_or_object, item_of, new_item, item_at, items_from, items_in, one_item, few, few_items, slash, full_shape, chopped, chop_shape, same_shape, shape_by, shape_of}
+use Rattle.class_asm.specs.Codes.{here, line_in, numbered, is_behind, with_frame, framed, caught, row_of, row_in, guarded, with_insn, is_first_label}
+use Rattle.class_asm.specs.Members.{code_by}
 use Rattle.asm_words.specs.declared.keyword.LineKind.{LineKind}
 use Rattle.asm_words.specs.declared.keyword.LineKind.TheVariants as kind
 use Rattle.asm_words.specs.declared.line.Line.{Line}
 use Rattle.asm_words.specs.declared.labels.Labels.{Labels}
-use Rattle.asm_insns.specs.declared.stated.StatedItem.{StatedItem}
-use Rattle.asm_insns.specs.declared.stated.StatedItem.TheVariants as item
-use Rattle.asm_insns.specs.declared.stated.StatedShape.{StatedShape}
-use Rattle.asm_insns.specs.declared.stated.StatedShape.TheVariants as shape
-use Rattle.asm_insns.specs.declared.stated.StatedCode.{StatedCode}
+use Rattle.asm_words.specs.declared.stated.StatedItem.{StatedItem}
+use Rattle.asm_words.specs.declared.stated.StatedItem.TheVariants as item
+use Rattle.asm_words.specs.declared.stated.StatedShape.{StatedShape}
+use Rattle.asm_words.specs.declared.stated.StatedShape.TheVariants as shape
+use Rattle.asm_words.specs.declared.stated.StatedCode.{StatedCode}
 use Rattle.asm_words.proofs.IfSome.{of_map, of_then, of_if, of_unless, of_else, of_only, weaker, always}
 use Rattle.asm_words.proofs.NumberLaws.{up_to_is}
-use Rattle.asm_text.proofs.CodeLaws.{all_none}
+use Rattle.class_asm.proofs.CodeLaws.{all_none}
 use Rattle.asm_laws.specs.Fit.{IsFitName, IsFitInsn, IsFitItem, IsFitShape, IsFitFrame, IsFitRow}
 use Rattle.asm_laws.proofs.FittingUnits.{AreUnits, IsUnitLine, every_take, every_drop}
 use Rattle.asm_laws.proofs.FittingNames.{class_in_is}

@@ -16,12 +16,12 @@ use Rattle.class_model.specs.TextVerdicts.{words as words_of_kind}
 use Rattle.mt_insn.specs.Named.{names, is_some_and, is_loaded, is_field, is_interface_method, counted, desc_counted, entry_counted, is_counted}
 use Rattle.asm_words.specs.Words.{says, last_parted}
 use Rattle.asm_words.specs.Numbers.{between}
-use Rattle.asm_insns.specs.Entries.{is_class_entry, member_name, fits_byte, call_words_of}
-use Rattle.asm_insns.specs.Named.{class_in, class_entry, plain_constant, constant, interface_method}
+use Rattle.asm_words.specs.Entries.{is_class_entry, member_name, fits_byte, call_words_of}
+use Rattle.asm_words.specs.Named.{class_in, class_entry, plain_constant, constant, interface_method}
 use Rattle.asm_words.specs.Quoted.{is_quoted, quoted_in}
-use Rattle.asm_insns.specs.declared.stated.MemberName.{MemberName}
-use Rattle.asm_insns.specs.declared.stated.StatedConstant.{StatedConstant}
-use Rattle.asm_insns.specs.declared.stated.StatedConstant.TheVariants as entry
+use Rattle.asm_words.specs.declared.stated.MemberName.{MemberName}
+use Rattle.asm_words.specs.declared.stated.StatedConstant.{StatedConstant}
+use Rattle.asm_words.specs.declared.stated.StatedConstant.TheVariants as entry
 use Rattle.asm_words.proofs.IfSome.{of_map, of_then, of_if, of_else, weaker}
 use Rattle.asm_words.proofs.NumberLaws.{between_is, IsBetween, fits_four}
 use Rattle.asm_laws.specs.Fit.{IsFitName, IsFitPart, IsFitEntry, Says, SaysPart}

@@ -18,20 +18,20 @@ use Rattle.mt_insn.specs.declared.opcode.Form.{Form}
 use Rattle.mt_insn.specs.declared.opcode.Form.TheVariants as form
 use Rattle.asm_words.specs.Words.{says}
 use Rattle.asm_words.specs.Numbers.{up_to, between}
-use Rattle.asm_insns.specs.Mnemonics.{opcode_of}
-use Rattle.asm_insns.specs.Forms.{usable, operand_form}
+use Rattle.asm_words.specs.Mnemonics.{opcode_of}
+use Rattle.asm_words.specs.Forms.{usable, operand_form}
 use Rattle.asm_words.specs.Operands.{only, both, small_number, number, local, increment, jump, table, lookup, array}
-use Rattle.asm_insns.specs.Entries.{member_name, call_words_of}
-use Rattle.asm_insns.specs.Named.{constant, long_constant, field_entry, field, method_entry, method, interface_method, any_method, interface_entry, interface, class_in, class_entry, class, dimensions_entry, dimensions}
-use Rattle.asm_insns.specs.Insns.{plain, operand_of, plain_insn, wide_arg, wide_insn, insn_by, insn_of}
-use Rattle.asm_insns.specs.Stated.{insn_with}
+use Rattle.asm_words.specs.Entries.{member_name, call_words_of}
+use Rattle.asm_words.specs.Named.{constant, long_constant, field_entry, field, method_entry, method, interface_method, any_method, interface_entry, interface, class_in, class_entry, class, dimensions_entry, dimensions}
+use Rattle.asm_words.specs.Insns.{plain, operand_of, plain_insn, wide_arg, wide_insn, insn_by, insn_of}
+use Rattle.asm_words.specs.Stated.{insn_with}
 use Rattle.asm_words.specs.declared.line.Line.{Line}
 use Rattle.asm_words.specs.declared.labels.Labels.{Labels}
-use Rattle.asm_insns.specs.declared.stated.StatedConstant.{StatedConstant}
-use Rattle.asm_insns.specs.declared.stated.StatedConstant.TheVariants as entry
-use Rattle.asm_insns.specs.declared.stated.Operand.{Operand}
-use Rattle.asm_insns.specs.declared.stated.Operand.TheVariants as operand
-use Rattle.asm_insns.specs.declared.stated.StatedInsn.{StatedInsn}
+use Rattle.asm_words.specs.declared.stated.StatedConstant.{StatedConstant}
+use Rattle.asm_words.specs.declared.stated.StatedConstant.TheVariants as entry
+use Rattle.asm_words.specs.declared.stated.Operand.{Operand}
+use Rattle.asm_words.specs.declared.stated.Operand.TheVariants as operand
+use Rattle.asm_words.specs.declared.stated.StatedInsn.{StatedInsn}
 use Rattle.asm_words.proofs.IfSome.{of_map, of_then, of_if, of_else, weaker, always}
 use Rattle.asm_words.proofs.NumberLaws.{between_is, IsBetween}
 use Rattle.asm_laws.specs.Fit.{IsFitName, IsFitPart, IsFitOperand, IsFitInsn}

@@ -13,20 +13,20 @@ use Rattle.asm_words.specs.Words.{says}
 use Rattle.asm_words.specs.Numbers.{up_to}
 use Rattle.asm_words.specs.Keywords.{line_kind}
 use Rattle.asm_words.specs.Labels.{insns_in, labels_of, weight, is_instruction}
-use Rattle.asm_insns.specs.Entries.{is_result_desc}
-use Rattle.asm_text.specs.Members.{plain_note, class_note_in, expecting_note, note_in, named_member, field_by, field_in, empty_code, code_in, method_by, method_in, code_step, noted, is_over, coded, is_note, body_step, beginning, body_from, code_of, note_of, add_note, notes_from, notes_of, field_of, with_code, with_lines, method_of}
+use Rattle.asm_words.specs.Entries.{is_result_desc}
+use Rattle.class_asm.specs.Members.{plain_note, class_note_in, expecting_note, note_in, named_member, field_by, field_in, empty_code, code_in, method_by, method_in, code_step, noted, is_over, coded, is_note, body_step, beginning, body_from, code_of, note_of, add_note, notes_from, notes_of, field_of, with_code, with_lines, method_of}
 use Rattle.asm_words.specs.declared.keyword.LineKind.{LineKind}
 use Rattle.asm_words.specs.declared.keyword.LineKind.TheVariants as kind
 use Rattle.asm_words.specs.declared.line.Line.{Line}
 use Rattle.asm_words.specs.declared.labels.Labels.{Labels}
-use Rattle.asm_text.specs.declared.fault.AsmFault.{AsmFault}
-use Rattle.asm_text.specs.declared.fault.AsmFault.TheVariants as asm_fault
-use Rattle.asm_insns.specs.declared.stated.StatedCode.{StatedCode}
-use Rattle.asm_insns.specs.declared.stated.StatedNote.{StatedNote}
-use Rattle.asm_insns.specs.declared.stated.StatedMember.{StatedMember}
+use Rattle.class_asm.specs.declared.fault.AsmFault.{AsmFault}
+use Rattle.class_asm.specs.declared.fault.AsmFault.TheVariants as asm_fault
+use Rattle.asm_words.specs.declared.stated.StatedCode.{StatedCode}
+use Rattle.asm_words.specs.declared.stated.StatedNote.{StatedNote}
+use Rattle.asm_words.specs.declared.stated.StatedMember.{StatedMember}
 use Rattle.asm_words.proofs.IfSome.{of_map, of_then, of_if, of_unless, weaker}
 use Rattle.asm_words.proofs.NumberLaws.{up_to_is}
-use Rattle.asm_text.proofs.CodeLaws.{all_none, of_step, of_bind, if_ok}
+use Rattle.class_asm.proofs.CodeLaws.{all_none, of_step, of_bind, if_ok}
 use Rattle.asm_laws.specs.Fit.{IsFitInsn, IsFitFrame, IsFitRow, IsFitCode, IsFitNote, IsFitField, IsFitMethod}
 use Rattle.asm_laws.proofs.FittingUnits.{AreUnits, IsUnitLine, domain}
 use Rattle.asm_laws.proofs.FittingInsns.{both_of}

@@ -14,8 +14,8 @@ use Rattle.class_model.specs.declared.kind.Kind.{Kind}
 use Rattle.class_model.specs.declared.kind.MethodType.{MethodType}
 use Rattle.class_model.specs.declared.fault.DescFault.{DescFault}
 use Rattle.class_model.proofs.PoolLaws.{HasKind-from_read, HasMethodType-from_read}
-use Rattle.asm_insns.specs.Entries.{is_class_entry}
-use Rattle.asm_insns.specs.Named.{class_in}
+use Rattle.asm_words.specs.Entries.{is_class_entry}
+use Rattle.asm_words.specs.Named.{class_in}
 use Rattle.asm_words.proofs.IfSome.{of_if}
 use Rattle.asm_words.proofs.NumberLaws.{IsBetween, and_left, and_right}
 use Rattle.asm_laws.specs.Fit.{IsFitName}

@@ -15,3 +15,20 @@ mod Fitting
 mod SpelledLaws
 mod AnsweredLaws
 mod FaultLaws
+mod TextEntryLaws
+mod FrameLaws
+mod InsnLaws
+pub mod LabelLaws
+mod LineLaws
+mod MnemonicLaws
+mod NumberLaws
+mod OperandLaws
+mod QuotedLaws
+pub mod WordLaws
+mod Body
+mod Gathering
+mod Members
+mod Ordered
+mod Texts
+mod Whole
+mod WitnessLaws

@@ -15,8 +15,8 @@ use Rattle.class_reader.specs.Spells.{class_bytes, Spells}
 use Rattle.class_writer.specs.Writing.{pool_bound, members_bound, class_bound, layout, WrittenIsSpelled}
 use Rattle.class_asm.specs.ClassFile.{class_of}
 use Rattle.class_asm.specs.Assembled.{stated_in, no_entries, with_end, with_room, within_limits, AssembledClass}
-use Rattle.asm_text.specs.declared.class.End.{End}
-use Rattle.asm_insns.specs.declared.stated.StatedClass.{StatedClass}
+use Rattle.class_asm.specs.declared.class.End.{End}
+use Rattle.asm_words.specs.declared.stated.StatedClass.{StatedClass}
 use Rattle.class_asm.proofs.AssembledLaws.{stated_text, class_written}
 use Rattle.asm_laws.specs.Spelled.{AssembledIsSpelled}
 use Rattle.asm_laws.proofs.ClassLaws.{class_named}

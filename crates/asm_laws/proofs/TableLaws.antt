@@ -31,8 +31,8 @@ use Rattle.class_asm.specs.Numbering.{text_index, behind}
 use Rattle.class_asm.specs.File.{with_pool, insns_of, frames_of, rows_of, starts_of}
 use Rattle.class_asm.specs.ClassFile.{with_lines, with_frames, framed, code_by, code_attr}
 use Rattle.class_asm.specs.declared.numbering.Entries.{Entries}
-use Rattle.asm_insns.specs.declared.stated.StatedFrame.{StatedFrame}
-use Rattle.asm_insns.specs.declared.stated.StatedCode.{StatedCode}
+use Rattle.asm_words.specs.declared.stated.StatedFrame.{StatedFrame}
+use Rattle.asm_words.specs.declared.stated.StatedCode.{StatedCode}
 use Rattle.class_asm.proofs.FormLaws.{each_length}
 use Rattle.class_asm.specs.File.{insn_of}
 use Rattle.asm_laws.specs.Fit.{IsFitFrame, IsFitCode}

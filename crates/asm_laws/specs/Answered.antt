@@ -1,8 +1,8 @@
 -- What assembling a text may give, and that it is one answer where memory lasts (this project's
 -- own).
 use Rattle.std.specs.Prelude.{◌≡◌, ◌≢◌, ℕ, List, MatchResult, Result, Err}
-use Rattle.asm_text.specs.declared.fault.AsmFault.{AsmFault}
-use Rattle.asm_text.specs.declared.fault.AsmFault.TheVariants as asm_fault
+use Rattle.class_asm.specs.declared.fault.AsmFault.{AsmFault}
+use Rattle.class_asm.specs.declared.fault.AsmFault.TheVariants as asm_fault
 use Rattle.class_asm.specs.Assembled.{AssembledClass, IsAssembled}
 
 -- what `assemble` says of its result

@@ -13,24 +13,24 @@ use Rattle.class_model.specs.declared.instruction.Arg.TheVariants as arg
 use Rattle.mt_insn.specs.Code.{NamesRight}
 use Rattle.mt_attrs.specs.Naming.{IsNamedVItem}
 use Rattle.class_reader.specs.Reading.{is_major}
-use Rattle.asm_insns.specs.Entries.{is_result_desc}
-use Rattle.asm_insns.specs.Stated.{insn_with}
-use Rattle.asm_insns.specs.declared.stated.MemberName.{MemberName}
-use Rattle.asm_insns.specs.declared.stated.StatedConstant.{StatedConstant}
-use Rattle.asm_insns.specs.declared.stated.StatedConstant.TheVariants as entry
-use Rattle.asm_insns.specs.declared.stated.Operand.{Operand}
-use Rattle.asm_insns.specs.declared.stated.Operand.TheVariants as operand
-use Rattle.asm_insns.specs.declared.stated.StatedInsn.{StatedInsn}
-use Rattle.asm_insns.specs.declared.stated.StatedItem.{StatedItem}
-use Rattle.asm_insns.specs.declared.stated.StatedItem.TheVariants as item
-use Rattle.asm_insns.specs.declared.stated.StatedShape.{StatedShape}
-use Rattle.asm_insns.specs.declared.stated.StatedShape.TheVariants as shape
-use Rattle.asm_insns.specs.declared.stated.StatedFrame.{StatedFrame}
-use Rattle.asm_insns.specs.declared.stated.StatedRow.{StatedRow}
-use Rattle.asm_insns.specs.declared.stated.StatedCode.{StatedCode}
-use Rattle.asm_insns.specs.declared.stated.StatedNote.{StatedNote}
-use Rattle.asm_insns.specs.declared.stated.StatedMember.{StatedMember}
-use Rattle.asm_insns.specs.declared.stated.StatedClass.{StatedClass}
+use Rattle.asm_words.specs.Entries.{is_result_desc}
+use Rattle.asm_words.specs.Stated.{insn_with}
+use Rattle.asm_words.specs.declared.stated.MemberName.{MemberName}
+use Rattle.asm_words.specs.declared.stated.StatedConstant.{StatedConstant}
+use Rattle.asm_words.specs.declared.stated.StatedConstant.TheVariants as entry
+use Rattle.asm_words.specs.declared.stated.Operand.{Operand}
+use Rattle.asm_words.specs.declared.stated.Operand.TheVariants as operand
+use Rattle.asm_words.specs.declared.stated.StatedInsn.{StatedInsn}
+use Rattle.asm_words.specs.declared.stated.StatedItem.{StatedItem}
+use Rattle.asm_words.specs.declared.stated.StatedItem.TheVariants as item
+use Rattle.asm_words.specs.declared.stated.StatedShape.{StatedShape}
+use Rattle.asm_words.specs.declared.stated.StatedShape.TheVariants as shape
+use Rattle.asm_words.specs.declared.stated.StatedFrame.{StatedFrame}
+use Rattle.asm_words.specs.declared.stated.StatedRow.{StatedRow}
+use Rattle.asm_words.specs.declared.stated.StatedCode.{StatedCode}
+use Rattle.asm_words.specs.declared.stated.StatedNote.{StatedNote}
+use Rattle.asm_words.specs.declared.stated.StatedMember.{StatedMember}
+use Rattle.asm_words.specs.declared.stated.StatedClass.{StatedClass}
 
 -- ---- entries of the constant pool
 

@@ -2,3 +2,15 @@ pub mod Answered
 pub mod Faults
 pub mod Fit
 pub mod Spelled
+pub mod CodeText
+pub mod HasText
+pub mod Insns
+pub mod Lines
+pub mod LinesHaveText
+pub mod LineStatement
+pub mod Statement
+pub mod Words
+pub mod ClassText
+pub mod ClassHasText
+pub mod ClassStatement
+pub mod Witness

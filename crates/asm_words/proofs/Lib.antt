@@ -1,3 +1,5 @@
+pub mod MnemonicLaws
+pub mod InsnLaws
 pub mod IfSome
 pub mod NumberLaws
 pub mod LineLaws

@@ -1,3 +1,9 @@
+pub mod Entries
+pub mod Named
+pub mod Mnemonics
+pub mod Forms
+pub mod Insns
+pub mod Stated
 pub mod Words
 pub mod Lines
 pub mod Numbers

@@ -9,15 +9,14 @@ ghost use Rattle.std.specs.Prelude.{◌≡◌, All, Ok, IfOk};
 ghost use Rattle.class_link.specs.declared.loaded.ClassBody.TheVariants as content;
 ghost use Rattle.class_reader.specs.Spells.{IsClass};
 ghost use Rattle.class_writer.specs.Writing.{HasClassForm, layout};
-ghost use Rattle.edited_bytes.specs.Places.{places_of};
+ghost use Rattle.mutant_apply.specs.Places.{places_of};
 ghost use Rattle.mutant_apply.specs.Fitting.{Fits};
 
 use class_link::{ClassBody, ClassInfo, EditedFile, Loaded, Shared};
 use class_model::{Attr, Bytes, Class, Edit, Memory, Seq, SharedBytes};
 use class_reader::read_class;
 use class_writer::{what_is_spelled_is_written, write_class};
-use edited_bytes::{Places, parts_and_bytes};
-use mutant_apply::{Parts, apply, mutants_fit, with_code};
+use mutant_apply::{Parts, Places, apply, mutants_fit, parts_and_bytes, with_code};
 use mutant_runs::entries_add_alone;
 use mutator_ops::{Mutant, class_mutants};
 use std::alloc::Global;

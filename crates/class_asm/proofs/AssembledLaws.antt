@@ -9,16 +9,16 @@ use Rattle.asm_words.specs.Lines.{pieces, lines_from}
 use Rattle.class_asm.specs.File.{insns_of}
 use Rattle.class_asm.specs.ClassFile.{class_of}
 use Rattle.class_asm.specs.Assembled.{stated_in, no_entries, within_limits, IsWithin, AssembledClass, IsAssembled}
-use Rattle.asm_text.specs.declared.fault.AsmFault.TheVariants as asm_fault
+use Rattle.class_asm.specs.declared.fault.AsmFault.TheVariants as asm_fault
 use Rattle.class_model.specs.declared.constant.Const.{Const}
 use Rattle.codec_rules.specs.Sequence.{◌>>=◌}
-use Rattle.asm_insns.specs.Stated.{IsStatedCode, IsStatedClass}
-use Rattle.asm_text.specs.declared.class.End.{End}
-use Rattle.asm_text.specs.declared.fault.AsmFault.{AsmFault}
+use Rattle.asm_words.specs.Stated.{IsStatedCode, IsStatedClass}
+use Rattle.class_asm.specs.declared.class.End.{End}
+use Rattle.class_asm.specs.declared.fault.AsmFault.{AsmFault}
 use Rattle.class_asm.specs.declared.numbering.Entries.{Entries}
-use Rattle.asm_insns.specs.declared.stated.StatedCode.{StatedCode}
-use Rattle.asm_insns.specs.declared.stated.StatedClass.{StatedClass}
-use Rattle.asm_text.proofs.ClassLaws.{stated_is, IsEnded}
+use Rattle.asm_words.specs.declared.stated.StatedCode.{StatedCode}
+use Rattle.asm_words.specs.declared.stated.StatedClass.{StatedClass}
+use Rattle.class_asm.proofs.ClassLaws.{stated_is, IsEnded}
 use Rattle.class_asm.proofs.FormLaws.{insns_formed}
 use Rattle.class_asm.proofs.AttrForm.{class_form}
 

@@ -29,17 +29,17 @@ use Rattle.class_writer.specs.Writing.{HasMemberForm, HasClassForm}
 use Rattle.class_asm.specs.Numbering.{text_index, class_index, behind}
 use Rattle.class_asm.specs.File.{insn_of, insns_of, item_of, items_of, shape_of, frame_of, frames_of, row_of, rows_of, notes_of, starts_of, places_by, with_pool}
 use Rattle.class_asm.specs.ClassFile.{with_lines, with_frames, framed, code_behind, kept, code_attr, with_notes, codes_of, member_of, members_of, interfaces_of, with_source, class_of}
-use Rattle.asm_insns.specs.Stated.{IsStatedItem, IsStatedShape, AreFrames, IsStatedRow, Keeps, IsStatedCode, IsCodeIn, IsStatedMember, IsStatedClass}
-use Rattle.asm_insns.specs.declared.stated.StatedItem.{StatedItem}
-use Rattle.asm_insns.specs.declared.stated.StatedItem.TheVariants as item
-use Rattle.asm_insns.specs.declared.stated.StatedShape.{StatedShape}
-use Rattle.asm_insns.specs.declared.stated.StatedShape.TheVariants as stated
-use Rattle.asm_insns.specs.declared.stated.StatedFrame.{StatedFrame}
-use Rattle.asm_insns.specs.declared.stated.StatedRow.{StatedRow}
-use Rattle.asm_insns.specs.declared.stated.StatedNote.{StatedNote}
-use Rattle.asm_insns.specs.declared.stated.StatedCode.{StatedCode}
-use Rattle.asm_insns.specs.declared.stated.StatedMember.{StatedMember}
-use Rattle.asm_insns.specs.declared.stated.StatedClass.{StatedClass}
+use Rattle.asm_words.specs.Stated.{IsStatedItem, IsStatedShape, AreFrames, IsStatedRow, Keeps, IsStatedCode, IsCodeIn, IsStatedMember, IsStatedClass}
+use Rattle.asm_words.specs.declared.stated.StatedItem.{StatedItem}
+use Rattle.asm_words.specs.declared.stated.StatedItem.TheVariants as item
+use Rattle.asm_words.specs.declared.stated.StatedShape.{StatedShape}
+use Rattle.asm_words.specs.declared.stated.StatedShape.TheVariants as stated
+use Rattle.asm_words.specs.declared.stated.StatedFrame.{StatedFrame}
+use Rattle.asm_words.specs.declared.stated.StatedRow.{StatedRow}
+use Rattle.asm_words.specs.declared.stated.StatedNote.{StatedNote}
+use Rattle.asm_words.specs.declared.stated.StatedCode.{StatedCode}
+use Rattle.asm_words.specs.declared.stated.StatedMember.{StatedMember}
+use Rattle.asm_words.specs.declared.stated.StatedClass.{StatedClass}
 use Rattle.class_asm.specs.declared.numbering.Entries.{Entries}
 use Rattle.class_asm.proofs.FormLaws.{insns_formed, each_all, each_length, all_first}
 

@@ -8,12 +8,12 @@ use Rattle.class_model.specs.declared.instruction.Insn.{Insn}
 use Rattle.mt_insn.specs.Code.{HasForm, HasTargets}
 use Rattle.class_asm.specs.Numbering.{Numbered, index_of, found_or, added, interned, text_index, parts_index, added_wide, entry_index, is_same}
 use Rattle.class_asm.specs.File.{each, near_index, with_pool, arg_of, insn_of, insns_of}
-use Rattle.asm_insns.specs.Stated.{insn_with, IsOperand, IsStatedInsn}
-use Rattle.asm_insns.specs.declared.stated.StatedConstant.{StatedConstant}
-use Rattle.asm_insns.specs.declared.stated.StatedConstant.TheVariants as entry
-use Rattle.asm_insns.specs.declared.stated.StatedInsn.{StatedInsn}
-use Rattle.asm_insns.specs.declared.stated.Operand.{Operand}
-use Rattle.asm_insns.specs.declared.stated.Operand.TheVariants as operand
+use Rattle.asm_words.specs.Stated.{insn_with, IsOperand, IsStatedInsn}
+use Rattle.asm_words.specs.declared.stated.StatedConstant.{StatedConstant}
+use Rattle.asm_words.specs.declared.stated.StatedConstant.TheVariants as entry
+use Rattle.asm_words.specs.declared.stated.StatedInsn.{StatedInsn}
+use Rattle.asm_words.specs.declared.stated.Operand.{Operand}
+use Rattle.asm_words.specs.declared.stated.Operand.TheVariants as operand
 use Rattle.class_asm.specs.declared.numbering.Entries.{Entries}
 
 -- ---- indices take two bytes

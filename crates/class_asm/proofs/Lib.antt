@@ -3,3 +3,5 @@ pub mod AttrForm
 pub mod FormLaws
 pub mod EachLaws
 pub mod PlaceLaws
+pub mod CodeLaws
+pub mod ClassLaws

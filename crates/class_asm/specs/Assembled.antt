@@ -5,13 +5,13 @@ use Rattle.class_model.specs.declared.class.Class.{Class}
 use Rattle.class_model.specs.declared.fault.LayoutFault.{LayoutFault}
 use Rattle.class_writer.specs.Writing.{layout}
 use Rattle.asm_words.specs.Lines.{pieces, lines_from}
-use Rattle.asm_text.specs.Classes.{stated_by}
+use Rattle.class_asm.specs.Classes.{stated_by}
 use Rattle.class_asm.specs.ClassFile.{class_of}
-use Rattle.asm_insns.specs.declared.stated.StatedClass.{StatedClass}
-use Rattle.asm_text.specs.declared.class.End.{End}
+use Rattle.asm_words.specs.declared.stated.StatedClass.{StatedClass}
+use Rattle.class_asm.specs.declared.class.End.{End}
 use Rattle.class_asm.specs.declared.numbering.Entries.{Entries}
-use Rattle.asm_text.specs.declared.fault.AsmFault.{AsmFault}
-use Rattle.asm_text.specs.declared.fault.AsmFault.TheVariants as asm_fault
+use Rattle.class_asm.specs.declared.fault.AsmFault.{AsmFault}
+use Rattle.class_asm.specs.declared.fault.AsmFault.TheVariants as asm_fault
 
 -- the class that a text states, and where it ends
 abbrev pub stated_in : List ℕ → Result (StatedClass × End) AsmFault

@@ -12,11 +12,11 @@ use Rattle.class_model.specs.declared.class.Member.{Member}
 use Rattle.mt_attrs.specs.CodeParts.{attr_of}
 use Rattle.class_asm.specs.Numbering.{Numbered, behind, text_index, class_index}
 use Rattle.class_asm.specs.File.{each, with_pool, insns_of, frames_of, rows_of, notes_of, starts_of}
-use Rattle.asm_insns.specs.declared.stated.StatedCode.{StatedCode}
-use Rattle.asm_insns.specs.declared.stated.StatedFrame.{StatedFrame}
-use Rattle.asm_insns.specs.declared.stated.StatedNote.{StatedNote}
-use Rattle.asm_insns.specs.declared.stated.StatedMember.{StatedMember}
-use Rattle.asm_insns.specs.declared.stated.StatedClass.{StatedClass}
+use Rattle.asm_words.specs.declared.stated.StatedCode.{StatedCode}
+use Rattle.asm_words.specs.declared.stated.StatedFrame.{StatedFrame}
+use Rattle.asm_words.specs.declared.stated.StatedNote.{StatedNote}
+use Rattle.asm_words.specs.declared.stated.StatedMember.{StatedMember}
+use Rattle.asm_words.specs.declared.stated.StatedClass.{StatedClass}
 use Rattle.class_asm.specs.declared.numbering.Entries.{Entries}
 
 -- ---- the attributes of a code, where it has lines or frames

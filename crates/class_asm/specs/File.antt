@@ -17,16 +17,16 @@ use Rattle.class_model.specs.declared.annotation.Token.TheVariants as token
 use Rattle.class_model.specs.declared.fault.LayoutFault.{LayoutFault}
 use Rattle.mt_insn.specs.Code.{layout, places}
 use Rattle.class_asm.specs.Numbering.{Numbered, behind, text_index, class_index, entry_index}
-use Rattle.asm_insns.specs.declared.stated.StatedInsn.{StatedInsn}
-use Rattle.asm_insns.specs.declared.stated.Operand.{Operand}
-use Rattle.asm_insns.specs.declared.stated.Operand.TheVariants as operand
-use Rattle.asm_insns.specs.declared.stated.StatedItem.{StatedItem}
-use Rattle.asm_insns.specs.declared.stated.StatedItem.TheVariants as item
-use Rattle.asm_insns.specs.declared.stated.StatedShape.{StatedShape}
-use Rattle.asm_insns.specs.declared.stated.StatedShape.TheVariants as stated
-use Rattle.asm_insns.specs.declared.stated.StatedFrame.{StatedFrame}
-use Rattle.asm_insns.specs.declared.stated.StatedRow.{StatedRow}
-use Rattle.asm_insns.specs.declared.stated.StatedNote.{StatedNote}
+use Rattle.asm_words.specs.declared.stated.StatedInsn.{StatedInsn}
+use Rattle.asm_words.specs.declared.stated.Operand.{Operand}
+use Rattle.asm_words.specs.declared.stated.Operand.TheVariants as operand
+use Rattle.asm_words.specs.declared.stated.StatedItem.{StatedItem}
+use Rattle.asm_words.specs.declared.stated.StatedItem.TheVariants as item
+use Rattle.asm_words.specs.declared.stated.StatedShape.{StatedShape}
+use Rattle.asm_words.specs.declared.stated.StatedShape.TheVariants as stated
+use Rattle.asm_words.specs.declared.stated.StatedFrame.{StatedFrame}
+use Rattle.asm_words.specs.declared.stated.StatedRow.{StatedRow}
+use Rattle.asm_words.specs.declared.stated.StatedNote.{StatedNote}
 use Rattle.class_asm.specs.declared.numbering.Entries.{Entries}
 
 -- A list of values, one after the other, each with what the one before left.

@@ -3,3 +3,8 @@ pub mod ClassFile
 pub mod File
 pub mod Numbering
 pub mod Places
+pub mod Adding
+pub mod Codes
+pub mod Frames
+pub mod Members
+pub mod Classes

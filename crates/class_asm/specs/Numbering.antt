@@ -5,9 +5,9 @@ use Rattle.std.specs.Prelude.{ℕ, ◌+◌, ◌==◌, nat_lt, nat_eq, ℤ, Bool,
 use Rattle.std.specs.Cmp.Lexicographic.{pointwise}
 use Rattle.class_model.specs.declared.constant.Const.{Const}
 use Rattle.class_model.specs.declared.constant.Const.TheVariants as const
-use Rattle.asm_insns.specs.declared.stated.MemberName.{MemberName}
-use Rattle.asm_insns.specs.declared.stated.StatedConstant.{StatedConstant}
-use Rattle.asm_insns.specs.declared.stated.StatedConstant.TheVariants as entry
+use Rattle.asm_words.specs.declared.stated.MemberName.{MemberName}
+use Rattle.asm_words.specs.declared.stated.StatedConstant.{StatedConstant}
+use Rattle.asm_words.specs.declared.stated.StatedConstant.TheVariants as entry
 
 -- What is given by numbering: a value with indices, and the pool that has their entries.
 abbrev pub Numbered : Type 0 → Type 0

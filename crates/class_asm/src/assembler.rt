@@ -2,16 +2,15 @@
 
 ghost use Rattle.std.specs.Prelude.{◌≡◌, ◌≢◌, MatchResult, Err};
 ghost use Rattle.codec_rules.specs.Meets.{Gives};
-ghost use Rattle.asm_text.specs.declared.fault.AsmFault.TheVariants as asm_fault;
+ghost use Rattle.class_asm.specs.declared.fault.AsmFault.TheVariants as asm_fault;
 ghost use Rattle.class_asm.specs.Assembled.{AssembledClass, IsAssembled, IsWithin, stated_in};
 ghost use Rattle.class_writer.specs.Writing.{HasClassForm};
 
 use crate::file::class_of;
 use crate::numbering::Entries;
 use crate::pool::Pool;
-use asm_insns::StatedClass;
-use asm_text::{AsmFault, End, stated_by};
-use asm_words::{lines_in, lines_of};
+use crate::{AsmFault, End, stated_by};
+use asm_words::{StatedClass, lines_in, lines_of};
 use class_model::{Bytes, Class, LayoutFault};
 use class_writer::write_class;
 use std::alloc::Global;

@@ -2,11 +2,11 @@
 
 ghost use Rattle.std.specs.Prelude.{◌≡◌, All, IfOk};
 ghost use Rattle.class_asm.specs.ClassFile.{with_lines, with_frames, code_attr, with_notes, attrs_of, member_of, members_of, interfaces_of, with_source, class_of};
-ghost use Rattle.asm_insns.specs.Stated.{IsStatedCode, IsStatedMember, IsStatedClass};
+ghost use Rattle.asm_words.specs.Stated.{IsStatedCode, IsStatedMember, IsStatedClass};
 
 use crate::numbering::{Entries, frames_of, insns_of, notes_of, rows_of, starts_of};
 use crate::pool::{Pool, class_index, text_index, word_index};
-use asm_insns::{StatedClass, StatedCode, StatedFrame, StatedMember, StatedNote};
+use asm_words::{StatedClass, StatedCode, StatedFrame, StatedMember, StatedNote};
 use class_model::{Attr, Body, Class, Code, Member, Memory, Name, Seq};
 
 // ---- the attributes of a code, where it has lines or frames

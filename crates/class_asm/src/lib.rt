@@ -1,11 +1,18 @@
-//! An assembler: the text of a class, and its class file (JVMS 4).
+//! The assembler: the class file that a text states, or the first wrong line.
 #![tactic(auto)]
 
 mod assembler;
+mod class;
+mod code;
 mod const_key;
+mod fault;
 mod file;
+mod frame;
+mod member;
+mod note;
 mod numbering;
 mod pool;
 
-pub use asm_text::AsmFault;
 pub use assembler::assemble;
+pub use class::{End, stated_by};
+pub use fault::AsmFault;

@@ -5,7 +5,7 @@ ghost use Rattle.mt_insn.specs.Code.{HasForm, HasTargets};
 ghost use Rattle.class_asm.specs.File.{near_index, arg_of, insn_of, insns_of, item_of, items_of, shape_of, frames_of, row_of, rows_of, tokens_of, elements_in, note_of, notes_of, starts_of};
 
 use crate::pool::{Pool, class_index, entry_index, text_index, word_index};
-use asm_insns::{Operand, StatedFrame, StatedInsn, StatedItem, StatedNote, StatedRow, StatedShape};
+use asm_words::{Operand, StatedFrame, StatedInsn, StatedItem, StatedNote, StatedRow, StatedShape};
 use class_model::{
     Arg, Bytes, Frame, Insn, LayoutFault, Memory, Name, Note, Row, Seq, Shape, Token, VItem,
 };

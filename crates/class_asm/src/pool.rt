@@ -5,7 +5,7 @@ ghost use Rattle.class_asm.specs.Numbering.{index_of, interned, text_index, clas
 ghost use Rattle.class_asm.specs.Places.{entry_of};
 
 use crate::const_key::ConstKey;
-use asm_insns::{MemberName, StatedConstant};
+use asm_words::{MemberName, StatedConstant};
 use class_model::{Const, Memory, Name, Seq};
 use std::alloc::Global;
 use std::collections::HashMap;

@@ -21,8 +21,8 @@ mod kind;
 mod list;
 mod memory;
 mod mutator;
-mod outcome;
 pub mod names;
+mod outcome;
 mod shared;
 mod text;
 

@@ -14,11 +14,11 @@ use Rattle.class_link.specs.View.{entry_symbol, method_ref_of}
 use Rattle.jvm_frames.specs.Frames.{NumberedFrame, NumberedFrames, IsAt}
 use Rattle.jvm_world.specs.declared.world.World.{World}
 use Rattle.jvm_world.specs.View.{IsKept}
-use Rattle.jvm_heap_rows.specs.declared.effect.Effect.TheVariants as effect
-use Rattle.jvm_heap_rows.specs.Effects.{RowOf}
-use Rattle.jvm_heap_rows.proofs.Ends.{some_and}
-use Rattle.jvm_plain_rows.specs.Plain.{means_row}
-use Rattle.jvm_resolved.specs.References.{IsEntry}
+use Rattle.jvm_rows.specs.declared.effect.Effect.TheVariants as effect
+use Rattle.jvm_rows.specs.Effects.{RowOf}
+use Rattle.jvm_rows.proofs.Ends.{some_and}
+use Rattle.jvm_rows.specs.Plain.{means_row}
+use Rattle.jvm_link.specs.References.{IsEntry}
 use Rattle.jvm_unwind.specs.declared.turn.Turn.{Turn}
 use Rattle.jvm_unwind.specs.declared.turn.Turn.TheVariants as turn
 use Rattle.jvm_unwind.specs.Turns.{row_at}

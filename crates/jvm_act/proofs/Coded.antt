@@ -24,8 +24,8 @@ use Rattle.class_link.specs.View as view
 use Rattle.class_table.specs.Table.{look, name_at, entries_at}
 use Rattle.jvm_state.specs.declared.op.Op.{Op}
 use Rattle.jvm_state.specs.Ops.{instruction_of}
-use Rattle.jvm_catch.specs.declared.row.CatchRow.{CatchRow}
-use Rattle.jvm_catch.specs.Rows.{catch_row_of, IsCatchRow, AreRowsOf}
+use Rattle.jvm_unwind.specs.declared.row.CatchRow.{CatchRow}
+use Rattle.jvm_unwind.specs.Rows.{catch_row_of, IsCatchRow, AreRowsOf}
 use Rattle.jvm_code.specs.Decoded.{named_by, AreDecoded}
 use Rattle.jvm_unwind.specs.declared.unwinding.Handlers.{Handlers}
 use Rattle.jvm_unwind.specs.Unwinding.{AreHandlersOf}

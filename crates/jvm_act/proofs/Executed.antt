@@ -17,10 +17,10 @@ use Rattle.jvm_code.specs.Decoded.{named_by}
 use Rattle.jvm_frames.specs.Frames.{NumberedFrame, NumberedFrames, IsAt}
 use Rattle.jvm_world.specs.declared.world.World.{World}
 use Rattle.jvm_world.specs.View.{IsWorldOf, IsKept}
-use Rattle.jvm_heap_rows.proofs.Ends.{some_and}
+use Rattle.jvm_rows.proofs.Ends.{some_and}
 use Rattle.jvm_unwind.proofs.Left.{with_some}
-use Rattle.jvm_heap_rows.specs.declared.effect.Effect as code
-use Rattle.jvm_plain_rows.specs.Plain.{means_row}
+use Rattle.jvm_rows.specs.declared.effect.Effect as code
+use Rattle.jvm_rows.specs.Plain.{means_row}
 use Rattle.jvm_unwind.specs.declared.turn.Turn.{Turn}
 use Rattle.jvm_unwind.specs.declared.turn.Turn.TheVariants as turn
 use Rattle.jvm_unwind.specs.Turns.{frame_of, row_at}
@@ -30,7 +30,7 @@ use Rattle.jvm_act.specs.Turned.{TurnedTo, Turned, turn_of}
 use Rattle.jvm_act.specs.Standing.{HasNext, AreFramesOf}
 use Rattle.jvm_act.specs.Methods.{IsCodeOf, meaning, current_of, fetched}
 use Rattle.jvm_act.specs.declared.acting.Acted.TheVariants as answer
-use Rattle.jvm_field_rows.specs.declared.access.Access.TheVariants as access
+use Rattle.jvm_members.specs.declared.access.Access.TheVariants as access
 use Rattle.jvm_act.specs.declared.groups.FieldUse.TheVariants as field
 use Rattle.jvm_act.specs.declared.groups.MemberOp.{MemberOp}
 use Rattle.jvm_act.specs.declared.groups.MemberOp.TheVariants as member

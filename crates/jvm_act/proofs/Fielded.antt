@@ -10,20 +10,20 @@ use Rattle.class_link.specs.Opcodes.{on_class, on_field}
 use Rattle.class_link.specs.View.{entry_symbol, field_ref_of}
 use Rattle.jvm_frames.specs.Frames.{NumberedFrames}
 use Rattle.jvm_world.specs.declared.world.World.{World}
-use Rattle.jvm_heap_rows.specs.declared.effect.Effect.{Effect}
-use Rattle.jvm_heap_rows.specs.declared.effect.Effect.TheVariants as effect
-use Rattle.jvm_plain_rows.specs.Plain.{means_row}
-use Rattle.jvm_member_rows.specs.Whole.{RunsWhole}
-use Rattle.jvm_resolved.specs.References.{IsEntry}
+use Rattle.jvm_rows.specs.declared.effect.Effect.{Effect}
+use Rattle.jvm_rows.specs.declared.effect.Effect.TheVariants as effect
+use Rattle.jvm_rows.specs.Plain.{means_row}
+use Rattle.jvm_members.specs.Whole.{RunsWhole}
+use Rattle.jvm_link.specs.References.{IsEntry}
 use Rattle.jvm_unwind.specs.declared.turn.Turn.{Turn}
 use Rattle.jvm_unwind.specs.declared.turn.Turn.TheVariants as turn
-use Rattle.jvm_begin.specs.Begins.{AreWhole}
-use Rattle.jvm_field_rows.specs.declared.access.Access.{Access}
-use Rattle.jvm_field_rows.specs.declared.access.Access.TheVariants as access
-use Rattle.jvm_field_rows.specs.declared.sites.ObjectField.{ObjectField}
-use Rattle.jvm_field_rows.specs.Rows.{get_row, put_row, instance_row, get_static_row, put_static_row, static_row, new_row}
-use Rattle.jvm_field_rows.specs.Slots.{IsKnown}
-use Rattle.jvm_field_rows.specs.Turned.{TurnsWhole}
+use Rattle.jvm_initialization.specs.Begins.{AreWhole}
+use Rattle.jvm_members.specs.declared.access.Access.{Access}
+use Rattle.jvm_members.specs.declared.access.Access.TheVariants as access
+use Rattle.jvm_members.specs.declared.sites.ObjectField.{ObjectField}
+use Rattle.jvm_members.specs.FieldRows.{get_row, put_row, instance_row, get_static_row, put_static_row, static_row, new_row}
+use Rattle.jvm_members.specs.Slots.{IsKnown}
+use Rattle.jvm_members.specs.Turned.{TurnsWhole}
 use Rattle.jvm_act.specs.declared.groups.FieldUse.{FieldUse}
 use Rattle.jvm_act.specs.declared.groups.FieldUse.TheVariants as field
 use Rattle.jvm_act.specs.Turned.{turn_of}

@@ -10,18 +10,18 @@ use Rattle.class_table.specs.Table.{name_at}
 use Rattle.jvm_state.specs.Rows.{Row}
 use Rattle.jvm_frames.specs.Frames.{NumberedFrame, NumberedFrames, IsCut, cut, left_behind}
 use Rattle.jvm_world.specs.declared.world.World.{World}
-use Rattle.jvm_heap_rows.specs.declared.effect.Effect as code
-use Rattle.jvm_heap_rows.specs.declared.effect.Effect.TheVariants as effect
-use Rattle.jvm_heap_rows.specs.Effects.{GoesOn, RowOf}
-use Rattle.jvm_member_rows.specs.Whole.{WholeTo, RunsWhole}
+use Rattle.jvm_rows.specs.declared.effect.Effect as code
+use Rattle.jvm_rows.specs.declared.effect.Effect.TheVariants as effect
+use Rattle.jvm_rows.specs.Effects.{GoesOn, RowOf}
+use Rattle.jvm_members.specs.Whole.{WholeTo, RunsWhole}
 use Rattle.jvm_unwind.specs.Turns.{frame_of}
 use Rattle.jvm_unwind.specs.Unwinding.{IsOf, IsLeftOrOn}
 use Rattle.jvm_unwind.proofs.Left.{with_some}
 use Rattle.jvm_calls.specs.Returns.{GoesBack, StaysOrBack}
-use Rattle.jvm_begin.specs.Begins as begins
-use Rattle.jvm_begin.specs.Begins.{AreWhole, HasBegun, StaysOrBegins, all_on}
+use Rattle.jvm_initialization.specs.Begins as begins
+use Rattle.jvm_initialization.specs.Begins.{AreWhole, HasBegun, StaysOrBegins, all_on}
 use Rattle.jvm_invokes.specs.Invoked.{IsOfMethod, HasEntered, HasCut, StaysOrEnters}
-use Rattle.jvm_field_rows.specs.Turned.{HasGoneOn, StaysBeginsOrGoes}
+use Rattle.jvm_members.specs.Turned.{HasGoneOn, StaysBeginsOrGoes}
 use Rattle.jvm_act.specs.Standing.{HasNext, Waits, AreFramesOf}
 use Rattle.jvm_act.specs.Laws.{WholesKeepFrames, CallsKeepFrames, BeginsKeepFrames, FieldsKeepFrames, ReturnsKeepFrames, ThrowsKeepFrames}
 

@@ -4,7 +4,7 @@ use Rattle.class_link.specs.Info.{Info}
 use Rattle.jvm_state.specs.declared.op.Op.{Op}
 use Rattle.jvm_frames.specs.Frames.{NumberedFrames}
 use Rattle.jvm_world.specs.declared.world.World.{World}
-use Rattle.jvm_heap_rows.proofs.Ends.{some_and}
+use Rattle.jvm_rows.proofs.Ends.{some_and}
 use Rattle.jvm_unwind.specs.declared.turn.Turn.{Turn}
 use Rattle.jvm_act.specs.declared.methods.MethodCode.{MethodCode}
 use Rattle.jvm_act.specs.Acts.{StandsAtOp, TurnsIn, acting}

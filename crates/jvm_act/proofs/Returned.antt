@@ -8,8 +8,8 @@ use Rattle.machine_rules.specs.Steps.{act}
 use Rattle.class_link.specs.Info.{Info}
 use Rattle.jvm_frames.specs.Frames.{NumberedFrame, NumberedFrames}
 use Rattle.jvm_world.specs.declared.world.World.{World}
-use Rattle.jvm_heap_rows.proofs.Ends.{if_some}
-use Rattle.jvm_plain_rows.specs.Plain.{means_row}
+use Rattle.jvm_rows.proofs.Ends.{if_some}
+use Rattle.jvm_rows.specs.Plain.{means_row}
 use Rattle.jvm_unwind.specs.declared.turn.Turn.{Turn}
 use Rattle.jvm_unwind.specs.Turns.{row_at, TurnsTo, Turns}
 use Rattle.jvm_calls.specs.Returns.{IsCaller, HasCaller, returning_int, returning_long, returning_reference, returning_plain}

@@ -23,21 +23,21 @@ use Rattle.jvm_code.specs.Decoded.{named_by}
 use Rattle.jvm_frames.specs.Frames.{NumberedFrame, NumberedFrames}
 use Rattle.jvm_world.specs.declared.world.World.{World}
 use Rattle.jvm_world.specs.View.{Moves}
-use Rattle.jvm_heap_rows.specs.declared.effect.Effect.{Effect}
-use Rattle.jvm_heap_rows.specs.declared.effect.Effect.TheVariants as effect
-use Rattle.jvm_heap_rows.specs.Effects.{ComesTo, RowOf, Runs}
-use Rattle.jvm_heap_rows.specs.Rows.{taking_element, entering, exiting, throwing_object, throwing}
-use Rattle.jvm_heap_rows.specs.Storing.{storing_element}
-use Rattle.jvm_heap_rows.proofs.Ends.{each}
-use Rattle.jvm_plain_rows.specs.Plain.{means_row, RunsAs, RunsOp}
-use Rattle.jvm_object_rows.specs.Making.{length_row, primitive_array_row, text_row}
+use Rattle.jvm_rows.specs.declared.effect.Effect.{Effect}
+use Rattle.jvm_rows.specs.declared.effect.Effect.TheVariants as effect
+use Rattle.jvm_rows.specs.Effects.{ComesTo, RowOf, Runs}
+use Rattle.jvm_rows.specs.Rows.{taking_element, entering, exiting, throwing_object, throwing}
+use Rattle.jvm_rows.specs.Storing.{storing_element}
+use Rattle.jvm_rows.proofs.Ends.{each}
+use Rattle.jvm_rows.specs.Plain.{means_row, RunsAs, RunsOp}
+use Rattle.jvm_rows.specs.Making.{length_row, primitive_array_row, text_row}
 use Rattle.jvm_array_rows.specs.Rows.{arrays_row}
 use Rattle.jvm_link.specs.Named.{ResolvesClass}
-use Rattle.jvm_resolved.specs.References.{IsEntry}
-use Rattle.jvm_member_rows.specs.Rows.{array_whole, class_whole, cast_whole, test_whole}
-use Rattle.jvm_member_rows.specs.Whole.{RunsWhole}
-use Rattle.jvm_member_rows.proofs.Resolved.{found_class, lost_class}
-use Rattle.jvm_member_rows.proofs.Wholes.{whole}
+use Rattle.jvm_link.specs.References.{IsEntry}
+use Rattle.jvm_members.specs.ClassRows.{array_whole, class_whole, cast_whole, test_whole}
+use Rattle.jvm_members.specs.Whole.{RunsWhole}
+use Rattle.jvm_members.proofs.Resolved.{found_class, lost_class}
+use Rattle.jvm_members.proofs.Wholes.{whole}
 use Rattle.jvm_act.specs.declared.groups.ClassUse.{ClassUse}
 use Rattle.jvm_act.specs.declared.groups.ClassUse.TheVariants as using
 use Rattle.jvm_act.specs.declared.groups.ClassOp.TheVariants as class_op

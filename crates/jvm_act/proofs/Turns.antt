@@ -10,19 +10,19 @@ use Rattle.jvm_state.specs.Rows.{Row}
 use Rattle.jvm_frames.specs.Frames.{NumberedFrame, NumberedFrames, framed}
 use Rattle.jvm_world.specs.declared.world.World.{World}
 use Rattle.jvm_world.specs.View.{Means, Comes}
-use Rattle.jvm_heap_rows.specs.declared.effect.Effect as code
-use Rattle.jvm_heap_rows.specs.declared.effect.Effect.TheVariants as effect
-use Rattle.jvm_heap_rows.specs.Effects.{GoesOn, RowOf, Runs}
-use Rattle.jvm_member_rows.specs.Whole.{WholeTo, RunsWhole}
-use Rattle.jvm_member_rows.proofs.Wholes.{whole}
+use Rattle.jvm_rows.specs.declared.effect.Effect as code
+use Rattle.jvm_rows.specs.declared.effect.Effect.TheVariants as effect
+use Rattle.jvm_rows.specs.Effects.{GoesOn, RowOf, Runs}
+use Rattle.jvm_members.specs.Whole.{WholeTo, RunsWhole}
+use Rattle.jvm_members.proofs.Wholes.{whole}
 use Rattle.jvm_unwind.specs.declared.turn.Turn.{Turn}
 use Rattle.jvm_unwind.specs.declared.turn.Turn.TheVariants as turn
 use Rattle.jvm_unwind.specs.Turns.{frame_of, frames_on, frames_of, row_at, TurnsTo, Turns}
 use Rattle.jvm_unwind.proofs.Left.{with_some}
 use Rattle.jvm_invokes.specs.declared.invoked.Invoked.TheVariants as invoked
 use Rattle.jvm_invokes.specs.Invoked.{InvokedTo, Invokes}
-use Rattle.jvm_field_rows.specs.Turned as fields
-use Rattle.jvm_field_rows.specs.Turned.{TurnsWhole}
+use Rattle.jvm_members.specs.Turned as fields
+use Rattle.jvm_members.specs.Turned.{TurnsWhole}
 use Rattle.jvm_act.specs.Turned.{TurnedTo, Turned, turn_of, always}
 use Rattle.jvm_act.specs.Laws.{RunsAreTurned, WholesAreTurned, TurnsAreTurned, InvokedAreTurned, FieldsAreTurned}
 

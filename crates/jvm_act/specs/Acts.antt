@@ -17,10 +17,10 @@ use Rattle.class_link.specs.View.{meaning_at}
 use Rattle.jvm_state.specs.declared.op.Op.{Op}
 use Rattle.jvm_frames.specs.Frames.{NumberedFrame, NumberedFrames}
 use Rattle.jvm_world.specs.declared.world.World.{World}
-use Rattle.jvm_heap_rows.specs.declared.effect.Effect.{Effect}
-use Rattle.jvm_heap_rows.specs.Effects.{RowOf}
-use Rattle.jvm_plain_rows.specs.Plain.{means_row}
-use Rattle.jvm_member_rows.specs.Whole.{RunsWhole}
+use Rattle.jvm_rows.specs.declared.effect.Effect.{Effect}
+use Rattle.jvm_rows.specs.Effects.{RowOf}
+use Rattle.jvm_rows.specs.Plain.{means_row}
+use Rattle.jvm_members.specs.Whole.{RunsWhole}
 use Rattle.jvm_unwind.specs.declared.turn.Turn.{Turn}
 use Rattle.jvm_unwind.specs.Turns.{row_at}
 use Rattle.jvm_unwind.specs.Unwinding.{unwinding}
@@ -31,7 +31,7 @@ use Rattle.jvm_act.specs.declared.methods.MethodCode.{MethodCode}
 use Rattle.jvm_act.specs.declared.acting.Acted.{Acted}
 use Rattle.jvm_act.specs.declared.acting.Acted.TheVariants as acted
 use Rattle.jvm_act.specs.declared.groups.FieldUse.{FieldUse}
-use Rattle.jvm_field_rows.specs.declared.access.Access.TheVariants as access
+use Rattle.jvm_members.specs.declared.access.Access.TheVariants as access
 use Rattle.jvm_act.specs.declared.groups.FieldUse.TheVariants as field
 use Rattle.jvm_act.specs.declared.groups.MemberOp.{MemberOp}
 use Rattle.jvm_act.specs.declared.groups.MemberOp.TheVariants as member

@@ -5,7 +5,7 @@ use Rattle.class_link.specs.Info.{Info}
 use Rattle.class_link.specs.Opcodes.{on_method}
 use Rattle.jvm_frames.specs.Frames.{NumberedFrame, NumberedFrames}
 use Rattle.jvm_world.specs.declared.world.World.{World}
-use Rattle.jvm_heap_rows.specs.Effects.{RowOf}
+use Rattle.jvm_rows.specs.Effects.{RowOf}
 use Rattle.jvm_unwind.specs.declared.turn.Turn.{Turn}
 use Rattle.jvm_invokes.specs.declared.invoked.Invoked.{Invoked}
 use Rattle.jvm_invokes.specs.declared.invoked.Invoked.TheVariants as invoked

@@ -18,7 +18,7 @@ use Rattle.jvm_act.specs.declared.groups.ClassOp.TheVariants as class
 use Rattle.jvm_act.specs.declared.groups.FrameOp.{FrameOp}
 use Rattle.jvm_act.specs.declared.groups.FrameOp.TheVariants as frame
 use Rattle.jvm_act.specs.declared.groups.FieldUse.{FieldUse}
-use Rattle.jvm_field_rows.specs.declared.access.Access.TheVariants as access
+use Rattle.jvm_members.specs.declared.access.Access.TheVariants as access
 use Rattle.jvm_act.specs.declared.groups.FieldUse.TheVariants as field
 use Rattle.jvm_act.specs.declared.groups.MemberOp.{MemberOp}
 use Rattle.jvm_act.specs.declared.groups.MemberOp.TheVariants as member

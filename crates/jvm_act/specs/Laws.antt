@@ -5,15 +5,15 @@ use Rattle.class_link.specs.Info.{Info}
 use Rattle.jvm_state.specs.Rows.{Row}
 use Rattle.jvm_frames.specs.Frames.{NumberedFrame, NumberedFrames}
 use Rattle.jvm_world.specs.declared.world.World.{World}
-use Rattle.jvm_heap_rows.specs.declared.effect.Effect.{Effect}
-use Rattle.jvm_heap_rows.specs.Effects.{RowOf, Runs}
-use Rattle.jvm_member_rows.specs.Whole.{RunsWhole}
+use Rattle.jvm_rows.specs.declared.effect.Effect.{Effect}
+use Rattle.jvm_rows.specs.Effects.{RowOf, Runs}
+use Rattle.jvm_members.specs.Whole.{RunsWhole}
 use Rattle.jvm_unwind.specs.declared.turn.Turn.{Turn}
 use Rattle.jvm_unwind.specs.Turns.{Turns}
 use Rattle.jvm_unwind.specs.Unwinding.{IsHandled, IsLeftOrOn}
 use Rattle.jvm_calls.specs.Returns.{StaysOrBack}
-use Rattle.jvm_begin.specs.Begins.{StaysOrBegins}
-use Rattle.jvm_field_rows.specs.Turned.{TurnsWhole, StaysBeginsOrGoes}
+use Rattle.jvm_initialization.specs.Begins.{StaysOrBegins}
+use Rattle.jvm_members.specs.Turned.{TurnsWhole, StaysBeginsOrGoes}
 use Rattle.jvm_invokes.specs.declared.invoked.Invoked.TheVariants as invoked
 use Rattle.jvm_invokes.specs.Invoked.{Invokes, IsOfMethod, StaysOrEnters}
 use Rattle.jvm_act.specs.declared.methods.MethodCode.{MethodCode}

@@ -18,7 +18,7 @@ use Rattle.class_table.specs.Table.{look, name_at, entries_at}
 use Rattle.jvm_state.specs.declared.op.Op.{Op}
 use Rattle.jvm_state.specs.Ops.{instruction_of}
 use Rattle.jvm_code.specs.Decoded.{named_by, AreDecoded}
-use Rattle.jvm_heap_rows.specs.Effects.{RowOf}
+use Rattle.jvm_rows.specs.Effects.{RowOf}
 use Rattle.jvm_unwind.specs.Unwinding.{AreHandlersOf}
 use Rattle.jvm_act.specs.declared.methods.MethodCode.{MethodCode}
 

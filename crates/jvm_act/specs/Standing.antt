@@ -2,7 +2,7 @@
 use Rattle.std.specs.Prelude.{◌≡◌, ℕ, ◌+◌, ◌<◌, ◌^◌, All, List, IfSome}
 use Rattle.class_link.specs.Info.{Info}
 use Rattle.jvm_frames.specs.Frames.{NumberedFrame, NumberedFrames}
-use Rattle.jvm_begin.specs.Begins.{AreWhole}
+use Rattle.jvm_initialization.specs.Begins.{AreWhole}
 use Rattle.jvm_invokes.specs.Invoked.{IsOfMethod}
 
 -- There is a number for the instruction behind the one at which a frame stands.

@@ -7,9 +7,9 @@ use Rattle.jvm_state.specs.Rows.{Row}
 use Rattle.jvm_frames.specs.Frames.{NumberedFrames}
 use Rattle.jvm_world.specs.declared.world.World.{World}
 use Rattle.jvm_world.specs.View.{Means}
-use Rattle.jvm_heap_rows.specs.declared.effect.Effect as code
-use Rattle.jvm_heap_rows.specs.declared.effect.Effect.TheVariants as effect
-use Rattle.jvm_heap_rows.specs.Effects.{RowOf}
+use Rattle.jvm_rows.specs.declared.effect.Effect as code
+use Rattle.jvm_rows.specs.declared.effect.Effect.TheVariants as effect
+use Rattle.jvm_rows.specs.Effects.{RowOf}
 use Rattle.jvm_unwind.specs.declared.turn.Turn.{Turn}
 use Rattle.jvm_unwind.specs.declared.turn.Turn.TheVariants as turn
 use Rattle.jvm_unwind.specs.Turns.{frames_of, row_at, ComesAt}

@@ -2,18 +2,18 @@
 
 ghost use Rattle.std.specs.Prelude.{IfOk, IfSome, OnOk};
 ghost use Rattle.class_link.specs.declared.linked.Entry.TheVariants as entry;
-ghost use Rattle.jvm_resolved.specs.References.{IsEntry, IsTableOf};
+ghost use Rattle.jvm_link.specs.References.{IsEntry, IsTableOf};
 ghost use Rattle.jvm_world.specs.View.{IsWorldOf, IsKept};
-ghost use Rattle.jvm_member_rows.specs.Whole.{RunsWhole};
+ghost use Rattle.jvm_members.specs.Whole.{RunsWhole};
 ghost use Rattle.jvm_act.specs.Acts.{arrays_whole};
 ghost use Rattle.jvm_act.specs.Standing.{HasNext};
 
 use class_model::{ClassId, Memory, Name};
 use class_table::Program;
 use jvm_frames::Frames;
-use jvm_heap_rows::{Effect, throw};
-use jvm_member_rows::resolve_class;
-use jvm_resolved::References;
+use jvm_link::References;
+use jvm_members::resolve_class;
+use jvm_rows::{Effect, throw};
 use jvm_world::World;
 use std::alloc::Global;
 

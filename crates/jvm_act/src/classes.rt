@@ -5,8 +5,8 @@ ghost use Rattle.program_rules.specs.Instructions as def;
 ghost use Rattle.class_link.specs.declared.linked.Entry.TheVariants as entry;
 ghost use Rattle.class_link.specs.Opcodes.{array_of, on_text, on_class};
 ghost use Rattle.class_link.specs.Symbols.{kind_of};
-ghost use Rattle.jvm_plain_rows.specs.Plain.{RunsAs};
-ghost use Rattle.jvm_resolved.specs.References.{IsEntry, IsTableOf};
+ghost use Rattle.jvm_rows.specs.Plain.{RunsAs};
+ghost use Rattle.jvm_link.specs.References.{IsEntry, IsTableOf};
 ghost use Rattle.jvm_world.specs.View.{IsWorldOf, IsKept};
 ghost use Rattle.jvm_act.specs.Acts.{RunsWholeAs, symbol_at, use_named};
 ghost use Rattle.jvm_act.specs.Groups.{class_in};
@@ -21,10 +21,9 @@ use crate::symbols::{class_at, text_at};
 use class_model::{ClassId, Kind, Memory, Name};
 use class_table::Program;
 use jvm_frames::Frames;
-use jvm_heap_rows::Effect;
-use jvm_member_rows::{Purpose, check_cast, test_instance};
-use jvm_object_rows::make_primitive_array;
-use jvm_resolved::References;
+use jvm_link::References;
+use jvm_members::{Purpose, check_cast, test_instance};
+use jvm_rows::{Effect, make_primitive_array};
 use jvm_world::World;
 use std::alloc::Global;
 
@@ -46,7 +45,7 @@ fn load_text(
 {
     match text_at(p, class, index) {
         Some(text) => {
-            let done = jvm_object_rows::load_text(frames, world, p, text)?;
+            let done = jvm_rows::load_text(frames, world, p, text)?;
             Ok(done)
         }
         None => Ok(Effect::NoRow),
@@ -124,14 +123,14 @@ fn use_named(
     match how {
         ClassUse::Load => {
             let to = Purpose::Load;
-            let done = jvm_member_rows::use_class(
+            let done = jvm_members::use_class(
                 frames, world, alloc, p, references, class, index, name, to,
             )?;
             Ok(done)
         }
         ClassUse::MakeArray => {
             let to = Purpose::MakeArray;
-            let done = jvm_member_rows::use_class(
+            let done = jvm_members::use_class(
                 frames, world, alloc, p, references, class, index, name, to,
             )?;
             Ok(done)

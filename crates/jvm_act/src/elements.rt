@@ -2,7 +2,7 @@
 
 ghost use Rattle.std.specs.Prelude.{IfOk, IfSome, OnOk};
 ghost use Rattle.program_rules.specs.Instructions as def;
-ghost use Rattle.jvm_plain_rows.specs.Plain.{RunsAs};
+ghost use Rattle.jvm_rows.specs.Plain.{RunsAs};
 ghost use Rattle.jvm_world.specs.View.{IsWorldOf, IsKept};
 ghost use Rattle.jvm_act.specs.Groups.{element_in};
 ghost use Rattle.jvm_act.specs.Standing.{HasNext};
@@ -11,7 +11,7 @@ use crate::groups::ElementOp;
 use class_model::Memory;
 use class_table::Program;
 use jvm_frames::Frames;
-use jvm_heap_rows::{Effect, load_element, store_element};
+use jvm_rows::{Effect, load_element, store_element};
 use jvm_type_rows::store_reference;
 use jvm_world::World;
 use program_rules::Element;

@@ -9,7 +9,7 @@ ghost use Rattle.jvm_act.specs.declared.groups.FrameOp.TheVariants as frame;
 ghost use Rattle.jvm_act.specs.declared.groups.Group.TheVariants as group;
 ghost use Rattle.jvm_act.specs.declared.groups.MemberOp.TheVariants as member;
 
-use jvm_field_rows::Access;
+use jvm_members::Access;
 use jvm_receivers::Invocation;
 use jvm_state::Op;
 use program_rules::Element;

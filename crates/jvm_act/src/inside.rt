@@ -1,7 +1,7 @@
 //! The instructions by which the running frame stays where it is, or goes on.
 
 ghost use Rattle.std.specs.Prelude.{IfOk, IfSome, OnOk};
-ghost use Rattle.jvm_resolved.specs.References.{IsTableOf};
+ghost use Rattle.jvm_link.specs.References.{IsTableOf};
 ghost use Rattle.jvm_world.specs.View.{IsWorldOf, IsKept};
 ghost use Rattle.jvm_act.specs.Acts.{RunsWholeAs};
 ghost use Rattle.jvm_act.specs.Asking.{AsksOf};
@@ -18,9 +18,8 @@ use crate::switches::take_switch;
 use class_model::{ClassId, Memory};
 use class_table::Program;
 use jvm_frames::Frames;
-use jvm_heap_rows::Effect;
-use jvm_plain_rows::act_alone;
-use jvm_resolved::References;
+use jvm_link::References;
+use jvm_rows::{Effect, act_alone};
 use jvm_state::Op;
 use jvm_world::World;
 use std::alloc::Global;

@@ -5,9 +5,9 @@ ghost use Rattle.program_rules.specs.Instructions as def;
 ghost use Rattle.class_link.specs.Opcodes.{on_class, on_field};
 ghost use Rattle.class_table.specs.Faults.{HasRightKinds};
 ghost use Rattle.class_table.specs.Table.{look};
-ghost use Rattle.jvm_field_rows.specs.Layouts.{AreLayouts};
-ghost use Rattle.jvm_field_rows.specs.Slots.{AreSlots};
-ghost use Rattle.jvm_resolved.specs.References.{IsTableOf};
+ghost use Rattle.jvm_members.specs.Layouts.{AreLayouts};
+ghost use Rattle.jvm_members.specs.Slots.{AreSlots};
+ghost use Rattle.jvm_link.specs.References.{IsTableOf};
 ghost use Rattle.jvm_world.specs.View.{IsWorldOf, IsKept};
 ghost use Rattle.jvm_act.specs.Acts.{TurnsAs, field_named, member_at, symbol_at};
 ghost use Rattle.jvm_act.specs.Standing.{HasNext, AreFramesOf};
@@ -19,11 +19,9 @@ use crate::turning::turn_of;
 use class_family::Walker;
 use class_model::{ClassId, Memory};
 use class_table::Program;
-use jvm_field_rows::{
-    Access, Layouts, Slots, access_field, access_known, access_static, make_object,
-};
 use jvm_frames::Frames;
-use jvm_resolved::References;
+use jvm_link::References;
+use jvm_members::{Access, Layouts, Slots, access_field, access_known, access_static, make_object};
 use jvm_unwind::Turn;
 use jvm_world::World;
 use std::alloc::Global;

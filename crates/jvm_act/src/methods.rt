@@ -10,10 +10,9 @@ ghost use Rattle.jvm_unwind.specs.Unwinding.{AreHandlersOf};
 use class_link::{LinkedCode, LinkedMethod, Shared};
 use class_model::{ClassId, Kind, Memory};
 use class_table::Program;
-use jvm_begin::is_initializer;
-use jvm_catch::catch_rows;
 use jvm_code::Code;
-use jvm_unwind::Handlers;
+use jvm_initialization::is_initializer;
+use jvm_unwind::{Handlers, catch_rows};
 use std::alloc::Global;
 
 /// What a step needs of a method with code: its linked code with switches, lines and the room of

@@ -1,7 +1,7 @@
 //! What asks an object alone: the length of an array, `athrow`, monitors.
 
 ghost use Rattle.std.specs.Prelude.{IfOk, IfSome, OnOk};
-ghost use Rattle.jvm_plain_rows.specs.Plain.{RunsAs};
+ghost use Rattle.jvm_rows.specs.Plain.{RunsAs};
 ghost use Rattle.jvm_world.specs.View.{IsWorldOf, IsKept};
 ghost use Rattle.jvm_act.specs.Asking.{AsksOfObject};
 ghost use Rattle.jvm_act.specs.Groups.{object_in};
@@ -11,8 +11,7 @@ use crate::groups::ObjectOp;
 use class_model::Memory;
 use class_table::Program;
 use jvm_frames::Frames;
-use jvm_heap_rows::{Effect, enter_monitor, exit_monitor, throw_object};
-use jvm_object_rows::array_length;
+use jvm_rows::{Effect, array_length, enter_monitor, exit_monitor, throw_object};
 use jvm_world::World;
 use std::alloc::Global;
 

@@ -6,7 +6,7 @@ ghost use Rattle.class_link.specs.Info.{Info};
 ghost use Rattle.class_link.specs.View.{table_of, lookup_of};
 ghost use Rattle.class_link.specs.declared.linked.Entry.{Entry};
 ghost use Rattle.jvm_code.specs.Decoded.{named_by};
-ghost use Rattle.jvm_plain_rows.specs.Plain.{RunsAs};
+ghost use Rattle.jvm_rows.specs.Plain.{RunsAs};
 ghost use Rattle.jvm_world.specs.declared.world.World as code;
 ghost use Rattle.jvm_act.specs.Groups.{switch_in};
 ghost use Rattle.jvm_act.specs.Standing.{HasNext};
@@ -15,8 +15,7 @@ use crate::groups::SwitchOp;
 use crate::methods::MethodCode;
 use class_link::Switch;
 use jvm_frames::Frames;
-use jvm_heap_rows::Effect;
-use jvm_plain_rows::{switch_by_keys, switch_by_table};
+use jvm_rows::{Effect, switch_by_keys, switch_by_table};
 
 // The switch of a number.
 fn switch_of(switches: &[Switch], number: u32) -> Option<&Switch>

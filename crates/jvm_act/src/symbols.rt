@@ -2,13 +2,13 @@
 
 ghost use Rattle.std.specs.Prelude.{◌≡◌, IfSome, IfNone};
 ghost use Rattle.class_link.specs.declared.linked.Entry.TheVariants as entry;
-ghost use Rattle.jvm_resolved.specs.References.{IsEntry};
+ghost use Rattle.jvm_link.specs.References.{IsEntry};
 ghost use Rattle.jvm_act.specs.Acts.{NamesNoText, NamesNoClass, NamesNoField};
 
 use class_link::{Entry, FieldRef};
 use class_model::{ClassId, Name};
 use class_table::Program;
-use jvm_resolved::entry;
+use jvm_link::entry;
 
 /// The text at an index.
 #[tactic(auto, using(crate::proofs::Unnamed::no_text))]

@@ -3,7 +3,7 @@
 ghost use Rattle.std.specs.Prelude.{◌≡◌};
 ghost use Rattle.jvm_act.specs.Turned.{turn_of};
 
-use jvm_heap_rows::Effect;
+use jvm_rows::Effect;
 use jvm_unwind::Turn;
 
 /// The turn of a row by which the running frame stays.

@@ -14,9 +14,9 @@ use Rattle.machine_rules.specs.NewObjects.{new_arrays}
 use Rattle.class_link.specs.Info.{Info}
 use Rattle.jvm_frames.specs.Frames.{NumberedFrame, NumberedFrames, framed, stack_of}
 use Rattle.jvm_world.specs.declared.world.World.{World}
-use Rattle.jvm_heap_rows.specs.Effects.{RowOf}
-use Rattle.jvm_heap_rows.specs.Rows.{throwing}
-use Rattle.jvm_heap_rows.proofs.Ends.{SameAt, AreSame, nothing, each}
+use Rattle.jvm_rows.specs.Effects.{RowOf}
+use Rattle.jvm_rows.specs.Rows.{throwing}
+use Rattle.jvm_rows.proofs.Ends.{SameAt, AreSame, nothing, each}
 use Rattle.jvm_array_rows.specs.Rows.{NoCounts, made_arrays_row, counted_row, dimensioned_row}
 
 -- Rows that are one at each frame.

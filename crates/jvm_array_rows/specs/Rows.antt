@@ -7,9 +7,9 @@ use Rattle.program_rules.specs.declared.fault.Fault.TheVariants.{NegativeArraySi
 use Rattle.program_rules.specs.Names.{Name, class_behind}
 use Rattle.machine_rules.specs.Effects.{Effect, NoRow}
 use Rattle.machine_rules.specs.Arrays.{on_counts, has_dimensions, makes_arrays_in}
-use Rattle.jvm_heap_rows.specs.Effects.{RowOf}
-use Rattle.jvm_heap_rows.specs.Rows.{throwing}
-use Rattle.jvm_object_rows.specs.Making.{made_row}
+use Rattle.jvm_rows.specs.Effects.{RowOf}
+use Rattle.jvm_rows.specs.Rows.{throwing}
+use Rattle.jvm_rows.specs.Making.{made_row}
 use Rattle.jvm_array_rows.specs.Built.{making}
 
 -- So many counts stand on a stack, the outer one lowest.

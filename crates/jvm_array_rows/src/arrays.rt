@@ -5,7 +5,7 @@ ghost use Rattle.program_rules.specs.Names.{class_behind};
 ghost use Rattle.class_table.specs.Table.{name_at};
 ghost use Rattle.jvm_frames.specs.Frames.{stack_of};
 ghost use Rattle.jvm_world.specs.View.{IsWorldOf, IsKept, Allocates};
-ghost use Rattle.jvm_heap_rows.specs.Effects.{Runs};
+ghost use Rattle.jvm_rows.specs.Effects.{Runs};
 ghost use Rattle.jvm_array_rows.specs.Built.{making};
 ghost use Rattle.jvm_array_rows.specs.Rows.{made_arrays_row, counted_row, dimensioned_row, arrays_row};
 
@@ -16,8 +16,7 @@ use crate::room::{has_room, has_room_in};
 use class_model::{ClassId, Memory, Name};
 use class_table::Program;
 use jvm_frames::Frames;
-use jvm_heap_rows::{Effect, throw};
-use jvm_object_rows::{push_made, without_room};
+use jvm_rows::{Effect, push_made, throw, without_room};
 use jvm_world::World;
 use machine_rules::Stop;
 use program_rules::{Fault, Value};

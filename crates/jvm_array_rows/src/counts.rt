@@ -8,7 +8,7 @@ ghost use Rattle.jvm_array_rows.specs.Rows.{TakesCounts, NoCounts};
 
 use class_model::Memory;
 use jvm_frames::Frames;
-use jvm_heap_rows::int_at;
+use jvm_rows::int_at;
 use std::alloc::Global;
 
 /// So many counts on the stack, the outer one first, which is the lowest; none where there aren't

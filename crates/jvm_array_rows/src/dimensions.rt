@@ -8,10 +8,10 @@ ghost use Rattle.machine_rules.specs.Arrays.{has_dimensions};
 ghost use Rattle.jvm_array_rows.specs.Built.{plain_of, component_of};
 ghost use Rattle.jvm_array_rows.specs.Descriptors.{is_letter, IsBehind};
 
+use class_family::element_of;
 use class_link::names::{is_array_name, without_last};
 use class_model::names::is_text;
 use class_model::{Kind, Memory, Seq};
-use jvm_catch::element_of;
 use jvm_type_rows::without_first;
 use std::alloc::Global;
 

@@ -18,7 +18,7 @@ use Rattle.jvm_frames.specs.Frames.{NumberedFrame, NumberedFrames, AreArgs, HasW
 use Rattle.jvm_frames.specs.declared.frames.Args.{Args}
 use Rattle.jvm_world.specs.declared.world.World.{World}
 use Rattle.jvm_world.specs.View.{Means}
-use Rattle.jvm_heap_rows.proofs.Ends.{each, some_and}
+use Rattle.jvm_rows.proofs.Ends.{each, some_and}
 use Rattle.jvm_unwind.specs.declared.turn.Turn.{Turn}
 use Rattle.jvm_unwind.specs.Turns.{row_at, Turns}
 use Rattle.jvm_calls.specs.declared.calling.Callee as calls_code

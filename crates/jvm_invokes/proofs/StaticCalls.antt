@@ -21,9 +21,9 @@ use Rattle.class_table.specs.Table.{look, name_at}
 use Rattle.jvm_frames.specs.Frames.{NumberedFrames, HasArgs, NoArgs, TakesArgs, args_on}
 use Rattle.jvm_world.specs.declared.world.World.{World}
 use Rattle.jvm_world.specs.View.{Means, Moves}
-use Rattle.jvm_heap_rows.specs.Effects.{RowOf}
-use Rattle.jvm_heap_rows.specs.Rows.{throwing}
-use Rattle.jvm_heap_rows.proofs.Ends.{each, if_some}
+use Rattle.jvm_rows.specs.Effects.{RowOf}
+use Rattle.jvm_rows.specs.Rows.{throwing}
+use Rattle.jvm_rows.proofs.Ends.{each, if_some}
 use Rattle.jvm_unwind.specs.declared.turn.Turn.TheVariants as turn
 use Rattle.jvm_unwind.specs.Turns.{frame_of, row_at}
 use Rattle.jvm_link.specs.declared.site.Site.{Site}
@@ -31,7 +31,7 @@ use Rattle.jvm_link.specs.declared.site.Callee.{Callee}
 use Rattle.jvm_link.specs.declared.site.Callee.TheVariants as callee
 use Rattle.jvm_link.specs.Sites.{IsMethod}
 use Rattle.jvm_link.specs.Answers.{IsCallee}
-use Rattle.jvm_resolved.specs.References.{ResolvesMethodRef}
+use Rattle.jvm_link.specs.References.{ResolvesMethodRef}
 use Rattle.jvm_invokes.specs.declared.invoked.Invoked.{Invoked}
 use Rattle.jvm_invokes.specs.declared.invoked.Invoked.TheVariants as invoked
 use Rattle.jvm_invokes.specs.declared.heads.Head as heads

@@ -11,7 +11,7 @@ use Rattle.class_link.specs.Info.{Info}
 use Rattle.class_table.specs.Table.{look}
 use Rattle.jvm_state.specs.Rows.{Row}
 use Rattle.jvm_frames.specs.Frames.{args_on}
-use Rattle.jvm_heap_rows.specs.Effects.{RowOf}
+use Rattle.jvm_rows.specs.Effects.{RowOf}
 use Rattle.jvm_calls.specs.declared.calling.Callee as calls
 use Rattle.jvm_calls.specs.Calls.{enters_from}
 use Rattle.jvm_link.specs.declared.site.Site.{Site}

@@ -13,7 +13,7 @@ use Rattle.jvm_state.specs.Rows.{Row}
 use Rattle.jvm_frames.specs.Frames.{NumberedFrame, NumberedFrames, AreArgs, IsCut, args_on, cut}
 use Rattle.jvm_world.specs.declared.world.World.{World}
 use Rattle.jvm_world.specs.View.{Means, Comes}
-use Rattle.jvm_heap_rows.specs.Effects.{RowOf}
+use Rattle.jvm_rows.specs.Effects.{RowOf}
 use Rattle.jvm_unwind.specs.declared.turn.Turn.TheVariants as turn
 use Rattle.jvm_unwind.specs.Turns.{frame_of, frames_of, row_at}
 use Rattle.jvm_link.specs.declared.site.Site.{Site}

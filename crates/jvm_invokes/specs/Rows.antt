@@ -12,7 +12,7 @@ use Rattle.class_link.specs.Info.{Info}
 use Rattle.class_table.specs.Table.{look, name_at}
 use Rattle.jvm_world.specs.declared.world.World.{World}
 use Rattle.jvm_world.specs.View.{Means}
-use Rattle.jvm_heap_rows.specs.Effects.{RowOf}
+use Rattle.jvm_rows.specs.Effects.{RowOf}
 
 -- A row that names a method, by what it does once that was found.
 abbrev pub naming : List Info → MethodRef → (MethodAt → RowOf) → RowOf

@@ -12,7 +12,7 @@ use Rattle.program_rules.specs.Programs.{Node, family}
 use Rattle.class_link.specs.Info.{Info}
 use Rattle.class_table.specs.Table.{look, name_at}
 use Rattle.class_family.specs.Families.{node_of, rising_at, GoesOn, EndsAt}
-use Rattle.jvm_object_rows.specs.Making.{AreInstances}
+use Rattle.jvm_rows.specs.Making.{AreInstances}
 use Rattle.jvm_layout.specs.Layouts.{own_values, own_at, rising_from, Climbs}
 
 twice : {A : Type 0} (xs : List A) → reverse (reverse xs) ≡ xs

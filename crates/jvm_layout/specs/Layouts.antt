@@ -11,7 +11,7 @@ use Rattle.program_rules.specs.Programs.{Node, family}
 use Rattle.class_link.specs.Info.{Info}
 use Rattle.class_table.specs.Table.{look, name_at}
 use Rattle.class_family.specs.Families.{rising_at}
-use Rattle.jvm_object_rows.specs.Making.{AreInstances}
+use Rattle.jvm_rows.specs.Making.{AreInstances}
 use Rattle.jvm_layout.specs.declared.layout.Layout.{Layout}
 
 -- The last rows of the table of words beside fields.

@@ -1,3 +1,6 @@
+mod Keeping
+mod Finding
+mod Selected
 mod Members
 mod Found
 mod HeadPlaces

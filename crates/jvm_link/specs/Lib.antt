@@ -1,3 +1,6 @@
+pub mod Selecting
+pub mod References
+pub mod Holding
 pub mod Sites
 pub mod Candidates
 pub mod Overriding

@@ -4,9 +4,9 @@ ghost use Rattle.std.specs.Prelude.{IfOk, OnOk};
 ghost use Rattle.class_table.specs.Seen.{IsConsultedOf};
 ghost use Rattle.jvm_link.specs.Named.{Consults, ResolvesClass};
 
+use class_family::class_behind;
 use class_model::{ClassId, Memory, Name};
 use class_table::{Consulted, Program};
-use jvm_catch::class_behind;
 use program_rules::Fault;
 use std::alloc::Global;
 

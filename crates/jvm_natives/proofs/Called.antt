@@ -16,7 +16,7 @@ use Rattle.class_table.specs.Table.{look}
 use Rattle.jvm_frames.specs.Frames.{NumberedFrame, NumberedFrames, args_on, HasArgs, NoArgs}
 use Rattle.jvm_world.specs.declared.world.World.{World}
 use Rattle.jvm_world.specs.View.{Means}
-use Rattle.jvm_heap_rows.proofs.Ends.{each, if_some}
+use Rattle.jvm_rows.proofs.Ends.{each, if_some}
 use Rattle.jvm_unwind.specs.declared.turn.Turn.{Turn}
 use Rattle.jvm_unwind.specs.declared.turn.Turn.TheVariants as turn
 use Rattle.jvm_unwind.specs.Turns.{frame_of, row_at}

@@ -20,7 +20,7 @@ use Rattle.jvm_frames.specs.Frames.{NumberedFrame, NumberedFrames, AreArgs, HasW
 use Rattle.jvm_world.specs.declared.world.World.{World}
 use Rattle.jvm_world.specs.View.{Means, IsWorldOf, AreShort, Allocates, objects_of, object_of}
 use Rattle.jvm_world.proofs.Slots.{objects_at}
-use Rattle.jvm_heap_rows.proofs.Ends.{if_some, if_both}
+use Rattle.jvm_rows.proofs.Ends.{if_some, if_both}
 use Rattle.jvm_unwind.specs.declared.turn.Turn.{Turn}
 use Rattle.jvm_unwind.specs.declared.turn.Turn.TheVariants as turn
 use Rattle.jvm_unwind.specs.Turns.{frame_of, row_at}

@@ -2,7 +2,7 @@
 use Rattle.std.proofs.Common.{◌≡◌, ◌∙◌, sym, refl, ap, subst, arith, ℕ, zero, suc, ◌+◌, ◌<◌, ◌≤◌, List, [], ◌∷◌, drop, length, Option, Some, None, IfSome, IsSomeAnd}
 use Rattle.program_rules.specs.declared.value.Value.{Value}
 use Rattle.jvm_frames.specs.Frames.{NumberedFrame, NumberedFrames, AreArgs, HasBelow, HasWords}
-use Rattle.jvm_heap_rows.proofs.Ends.{if_some, some_and}
+use Rattle.jvm_rows.proofs.Ends.{if_some, some_and}
 
 none_on : (o : Option NumberedFrame) (P : NumberedFrame → Type 0) → IsSomeAnd o P → IsSomeAnd o (λ f. AreArgs 0 0 f.stack)
 none_on None P h = absurd h

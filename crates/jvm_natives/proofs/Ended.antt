@@ -21,8 +21,8 @@ use Rattle.jvm_state.specs.Rows.{Row}
 use Rattle.jvm_frames.specs.Frames.{NumberedFrame, NumberedFrames}
 use Rattle.jvm_world.specs.declared.world.World.{World}
 use Rattle.jvm_world.specs.View.{Means}
-use Rattle.jvm_heap_rows.specs.Effects.{RowOf}
-use Rattle.jvm_heap_rows.proofs.Ends.{each}
+use Rattle.jvm_rows.specs.Effects.{RowOf}
+use Rattle.jvm_rows.proofs.Ends.{each}
 use Rattle.jvm_type_rows.specs.Instances.{TellsInstance, instance_in}
 use Rattle.jvm_unwind.specs.declared.turn.Turn.{Turn}
 use Rattle.jvm_unwind.specs.declared.turn.Turn.TheVariants as turn

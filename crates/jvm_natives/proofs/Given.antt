@@ -12,7 +12,7 @@ use Rattle.class_link.specs.Info.{Info}
 use Rattle.jvm_frames.specs.Frames.{NumberedFrame, NumberedFrames, GoOn, Does, IsPut, IsCut, IsAdvanced, AreArgs, HasWords, stack_of, replacing, has_room_for, advanced, cut}
 use Rattle.jvm_world.specs.declared.world.World.{World}
 use Rattle.jvm_world.specs.View.{Means, Moves, Comes, Allocates}
-use Rattle.jvm_heap_rows.proofs.Ends.{each, if_some, some_and}
+use Rattle.jvm_rows.proofs.Ends.{each, if_some, some_and}
 use Rattle.jvm_unwind.specs.declared.turn.Turn.{Turn}
 use Rattle.jvm_unwind.specs.declared.turn.Turn.TheVariants as turn
 use Rattle.jvm_unwind.specs.Turns.{frame_of, frames_of, row_at}

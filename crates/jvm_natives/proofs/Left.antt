@@ -10,7 +10,7 @@ use Rattle.jvm_frames.specs.Frames.{NumberedFrame, NumberedFrames, AreArgs}
 use Rattle.jvm_frames.specs.declared.frames.Args.{Args}
 use Rattle.jvm_world.specs.declared.world.World.{World}
 use Rattle.jvm_world.specs.View.{Means}
-use Rattle.jvm_heap_rows.specs.Effects.{RowOf}
+use Rattle.jvm_rows.specs.Effects.{RowOf}
 use Rattle.jvm_unwind.specs.declared.turn.Turn.{Turn}
 use Rattle.jvm_unwind.specs.declared.turn.Turn.TheVariants as turn
 use Rattle.jvm_unwind.specs.Turns.{row_at}

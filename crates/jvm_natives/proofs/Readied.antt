@@ -20,10 +20,10 @@ use Rattle.jvm_unwind.specs.declared.turn.Turn.TheVariants as turn
 use Rattle.jvm_unwind.specs.Turns.{frame_of, row_at, TurnsTo}
 use Rattle.jvm_link.specs.declared.site.Site.{Site}
 use Rattle.jvm_link.specs.Sites.{IsMethod}
-use Rattle.jvm_begin.specs.declared.ready.Readied.{Readied}
-use Rattle.jvm_begin.specs.declared.ready.Readied.TheVariants as readied
-use Rattle.jvm_begin.specs.Begins.{StaysOrBegins}
-use Rattle.jvm_begin.specs.Needs.{Use, ReadiesTo, using}
+use Rattle.jvm_initialization.specs.declared.ready.Readied.{Readied}
+use Rattle.jvm_initialization.specs.declared.ready.Readied.TheVariants as readied
+use Rattle.jvm_initialization.specs.Begins.{StaysOrBegins}
+use Rattle.jvm_initialization.specs.Needs.{Use, ReadiesTo, using}
 use Rattle.jvm_invokes.specs.declared.invoked.Invoked.TheVariants.{Turned}
 use Rattle.jvm_invokes.specs.Calls.{calls_args}
 use Rattle.jvm_invokes.specs.Invoked.{Leaves, InvokedTo, Invokes, calls_ready}

@@ -5,10 +5,10 @@ use Rattle.program_rules.specs.Resolution.{MethodAt}
 use Rattle.class_link.specs.Info.{Info}
 use Rattle.jvm_frames.specs.Frames.{NumberedFrames}
 use Rattle.jvm_world.specs.declared.world.World.{World}
-use Rattle.jvm_heap_rows.specs.Effects.{RowOf}
+use Rattle.jvm_rows.specs.Effects.{RowOf}
 use Rattle.jvm_unwind.specs.declared.turn.Turn.{Turn}
 use Rattle.jvm_unwind.specs.Unwinding.{IsOf}
-use Rattle.jvm_begin.specs.Begins.{HasBegun}
+use Rattle.jvm_initialization.specs.Begins.{HasBegun}
 use Rattle.jvm_link.specs.declared.site.Site.{Site}
 use Rattle.jvm_link.specs.Sites.{IsMethod}
 use Rattle.jvm_invokes.specs.declared.invoked.Invoked.{Invoked}

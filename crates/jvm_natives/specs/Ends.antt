@@ -15,7 +15,7 @@ use Rattle.class_table.specs.Table.{look}
 use Rattle.jvm_frames.specs.Frames.{args_on}
 use Rattle.jvm_world.specs.declared.world.World.{World}
 use Rattle.jvm_world.specs.View.{Means}
-use Rattle.jvm_heap_rows.specs.Effects.{RowOf}
+use Rattle.jvm_rows.specs.Effects.{RowOf}
 use Rattle.lib_core.specs.declared.performing.NativeEnd.{NativeEnd}
 use Rattle.lib_core.specs.View.{result_of}
 

@@ -6,7 +6,7 @@ ghost use Rattle.class_link.specs.View.{method_ref_of};
 ghost use Rattle.class_table.specs.Faults.{HasRightKinds};
 ghost use Rattle.class_table.specs.Table.{look};
 ghost use Rattle.jvm_world.specs.View.{IsWorldOf, IsKept};
-ghost use Rattle.jvm_begin.specs.Begins.{AreWhole};
+ghost use Rattle.jvm_initialization.specs.Begins.{AreWhole};
 ghost use Rattle.jvm_invokes.specs.declared.invoked.Invoked.TheVariants.{Copies, Native, Readies};
 ghost use Rattle.jvm_natives.specs.Completed.{Completes, GoesOnOrEnters};
 ghost use Rattle.jvm_natives.specs.Natives.{AreNatives};

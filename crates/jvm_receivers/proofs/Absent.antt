@@ -19,14 +19,14 @@ use Rattle.machine_rules.specs.Calls.{calls_method}
 use Rattle.class_link.specs.Info.{Info}
 use Rattle.class_table.specs.Table.{look}
 use Rattle.jvm_frames.specs.Frames.{NumberedFrames, args_on}
-use Rattle.jvm_heap_rows.proofs.Ends.{each}
+use Rattle.jvm_rows.proofs.Ends.{each}
 use Rattle.jvm_link.specs.Answers.{AnswersCall, IsCallee}
 use Rattle.jvm_link.specs.Candidates.{family_at}
 use Rattle.jvm_link.specs.Sites.{IsMethod}
 use Rattle.jvm_link.specs.declared.site.Callee.{Callee}
 use Rattle.jvm_link.specs.declared.site.Callee.TheVariants as callee
 use Rattle.jvm_link.specs.declared.site.Site.{Site}
-use Rattle.jvm_resolved.specs.declared.rows.Receiver.{Receiver}
+use Rattle.jvm_link.specs.declared.rows.Receiver.{Receiver}
 use Rattle.jvm_unwind.specs.declared.turn.Turn.TheVariants as turn
 use Rattle.jvm_unwind.specs.Turns.{frame_of, row_at}
 use Rattle.jvm_values.specs.declared.object.Object as code

@@ -10,7 +10,7 @@ use Rattle.machine_rules.specs.Lookups.{is_array}
 use Rattle.class_model.specs.declared.class.ClassId.{ClassId}
 use Rattle.class_link.specs.Info.{Info}
 use Rattle.class_table.specs.Table.{look, name_at, name_or_none, names}
-use Rattle.jvm_resolved.specs.declared.rows.Receiver.{Receiver}
+use Rattle.jvm_link.specs.declared.rows.Receiver.{Receiver}
 use Rattle.jvm_receivers.specs.Objects.{FindsClass, FindsPlace, FindsReceiver, IsClassOf, text_name}
 
 pub class_is : (p : List Info) (n : Name) (id : ClassId) → id.0 < length p → name_at p id.0 ≡ n → IsClassOf p n id

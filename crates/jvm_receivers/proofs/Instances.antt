@@ -21,12 +21,12 @@ use Rattle.class_link.specs.declared.linked.Entry.TheVariants as entry
 use Rattle.class_link.specs.declared.linked.MethodRef as code
 use Rattle.class_table.specs.Table.{look, name_at}
 use Rattle.jvm_frames.specs.Frames.{NumberedFrame, NumberedFrames, args_on}
-use Rattle.jvm_heap_rows.proofs.Ends.{each}
+use Rattle.jvm_rows.proofs.Ends.{each}
 use Rattle.jvm_link.specs.declared.site.Callee.{Callee}
 use Rattle.jvm_link.specs.Answers.{AnswersCall}
-use Rattle.jvm_resolved.specs.References.{IsEntry, IsTableOf, KeepsMethodClass}
-use Rattle.jvm_resolved.specs.declared.rows.Kept.{Kept}
-use Rattle.jvm_resolved.specs.declared.rows.Receiver.{Receiver}
+use Rattle.jvm_link.specs.References.{IsEntry, IsTableOf, KeepsMethodClass}
+use Rattle.jvm_link.specs.declared.rows.Kept.{Kept}
+use Rattle.jvm_link.specs.declared.rows.Receiver.{Receiver}
 use Rattle.jvm_type_rows.specs.Instances.{is_kind_within}
 use Rattle.jvm_type_rows.proofs.Described.{class_is}
 use Rattle.jvm_unwind.specs.Turns.{frame_of, row_at}

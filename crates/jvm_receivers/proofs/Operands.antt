@@ -12,8 +12,8 @@ use Rattle.jvm_frames.specs.Frames.{NumberedFrame, NumberedFrames, AreArgs, HasA
 use Rattle.jvm_frames.specs.declared.frames.Args.{Args}
 use Rattle.jvm_world.specs.declared.world.World.{World}
 use Rattle.jvm_world.specs.View.{Means}
-use Rattle.jvm_heap_rows.specs.Rows.{throwing}
-use Rattle.jvm_heap_rows.proofs.Ends.{if_some, some_and}
+use Rattle.jvm_rows.specs.Rows.{throwing}
+use Rattle.jvm_rows.proofs.Ends.{if_some, some_and}
 use Rattle.jvm_unwind.specs.declared.turn.Turn.TheVariants as turn
 use Rattle.jvm_unwind.specs.Turns.{frame_of, row_at}
 use Rattle.jvm_invokes.specs.declared.invoked.Invoked.{Invoked}

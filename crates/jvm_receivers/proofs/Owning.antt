@@ -4,8 +4,8 @@ use Rattle.std.specs.Prelude.{◌&&◌, nat_eq, if◌then◌else◌}
 use Rattle.class_link.specs.declared.linked.Entry.TheVariants as entry
 use Rattle.class_link.specs.declared.linked.MethodRef.{MethodRef}
 use Rattle.class_link.specs.Info.{Info}
-use Rattle.jvm_resolved.specs.Holding.{held, Holds, HoldSame}
-use Rattle.jvm_resolved.specs.References.{IsEntry}
+use Rattle.jvm_link.specs.Holding.{held, Holds, HoldSame}
+use Rattle.jvm_link.specs.References.{IsEntry}
 use Rattle.jvm_receivers.specs.Owned.{AreOwned, TellsOwn}
 use Rattle.jvm_receivers.specs.Receivers.{is_own}
 

@@ -5,7 +5,7 @@ use Rattle.program_rules.specs.Instructions.{MethodRef}
 use Rattle.program_rules.specs.Resolution.{MethodAt}
 use Rattle.class_link.specs.Info.{Info}
 use Rattle.jvm_frames.specs.Frames.{NumberedFrames}
-use Rattle.jvm_heap_rows.specs.Rows.{throwing}
+use Rattle.jvm_rows.specs.Rows.{throwing}
 use Rattle.jvm_world.specs.declared.world.World.{World}
 use Rattle.jvm_invokes.specs.declared.invoked.Invoked.{Invoked}
 use Rattle.jvm_invokes.specs.Invoked.{Invokes}

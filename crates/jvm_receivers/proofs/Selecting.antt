@@ -13,16 +13,16 @@ use Rattle.class_link.specs.View.{method_ref_of}
 use Rattle.class_link.specs.declared.linked.MethodRef as code
 use Rattle.class_table.specs.Table.{look}
 use Rattle.jvm_frames.specs.Frames.{NumberedFrames}
-use Rattle.jvm_heap_rows.specs.Effects.{RowOf}
-use Rattle.jvm_heap_rows.specs.Rows.{throwing}
-use Rattle.jvm_heap_rows.proofs.Ends.{each}
+use Rattle.jvm_rows.specs.Effects.{RowOf}
+use Rattle.jvm_rows.specs.Rows.{throwing}
+use Rattle.jvm_rows.proofs.Ends.{each}
 use Rattle.jvm_link.specs.declared.site.Site.{Site}
 use Rattle.jvm_link.specs.declared.site.Callee.{Callee}
 use Rattle.jvm_link.specs.declared.site.Callee.TheVariants as callee
 use Rattle.jvm_link.specs.Answers.{AnswersCall, IsCallee}
 use Rattle.jvm_link.specs.Named.{method_named}
 use Rattle.jvm_link.specs.Sites.{IsMethod}
-use Rattle.jvm_resolved.specs.References.{ResolvesMethodRef}
+use Rattle.jvm_link.specs.References.{ResolvesMethodRef}
 use Rattle.jvm_unwind.specs.Turns.{row_at}
 use Rattle.jvm_world.specs.declared.world.World.{World}
 use Rattle.jvm_world.specs.View.{Means, Moves}

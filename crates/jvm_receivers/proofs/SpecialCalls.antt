@@ -16,8 +16,8 @@ use Rattle.class_table.specs.Table.{look, name_at, IsProgram}
 use Rattle.class_family.specs.Families.{node_of, rising_at, EndsAt, GoesOn}
 use Rattle.class_family.proofs.Levels.{rising_step}
 use Rattle.jvm_frames.specs.Frames.{NumberedFrame, NumberedFrames}
-use Rattle.jvm_heap_rows.specs.Effects.{RowOf}
-use Rattle.jvm_heap_rows.proofs.Ends.{each, if_some}
+use Rattle.jvm_rows.specs.Effects.{RowOf}
+use Rattle.jvm_rows.proofs.Ends.{each, if_some}
 use Rattle.jvm_link.specs.Sites.{node_at, outline_at}
 use Rattle.jvm_unwind.specs.declared.turn.Turn.TheVariants as turn
 use Rattle.jvm_unwind.specs.Turns.{row_at}

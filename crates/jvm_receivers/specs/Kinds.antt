@@ -5,7 +5,7 @@ use Rattle.program_rules.specs.Linked.{is_private, is_static}
 use Rattle.program_rules.specs.Resolution.{MethodAt}
 use Rattle.class_link.specs.Info.{Info}
 use Rattle.jvm_frames.specs.Frames.{NumberedFrames}
-use Rattle.jvm_heap_rows.specs.Effects.{RowOf}
+use Rattle.jvm_rows.specs.Effects.{RowOf}
 use Rattle.jvm_receivers.specs.declared.invoking.Invocation.{Invocation}
 use Rattle.jvm_receivers.specs.declared.invoking.Invocation.TheVariants as how
 use Rattle.jvm_receivers.specs.Receivers.{RunsIn, special_row, special_found, special_on, virtual_row, virtual_found, virtual_of, selecting_on, interface_row, interface_found, interface_on}

@@ -16,8 +16,8 @@ use Rattle.class_link.specs.Info.{Info}
 use Rattle.class_table.specs.Table.{look, name_at}
 use Rattle.jvm_link.specs.declared.site.Callee.{Callee}
 use Rattle.jvm_link.specs.Answers.{AnswersCall}
-use Rattle.jvm_resolved.specs.References.{IsTableOf}
-use Rattle.jvm_resolved.specs.declared.rows.Receiver.{Receiver}
+use Rattle.jvm_link.specs.References.{IsTableOf}
+use Rattle.jvm_link.specs.declared.rows.Receiver.{Receiver}
 use Rattle.jvm_type_rows.specs.Instances.{is_kind_within}
 use Rattle.jvm_world.specs.declared.world.World.{World}
 use Rattle.jvm_world.specs.View.{Means}

@@ -13,7 +13,7 @@ use Rattle.machine_rules.specs.Lookups.{Known, is_instance, looks_up, methods_of
 use Rattle.class_link.specs.Info.{Info}
 use Rattle.class_table.specs.Table.{look, name_at}
 use Rattle.jvm_frames.specs.Frames.{NumberedFrames, args_on}
-use Rattle.jvm_heap_rows.specs.Effects.{RowOf}
+use Rattle.jvm_rows.specs.Effects.{RowOf}
 use Rattle.jvm_link.specs.Sites.{outline_at}
 use Rattle.jvm_receivers.specs.Targets.{Receives}
 

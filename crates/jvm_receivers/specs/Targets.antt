@@ -8,7 +8,7 @@ use Rattle.machine_rules.specs.Calls.{on_receiver}
 use Rattle.machine_rules.specs.Effects.{Effect, NoRow, on_args, on_reference}
 use Rattle.class_link.specs.Info.{Info}
 use Rattle.jvm_frames.specs.Frames.{NumberedFrames, AreArgs, HasWords, args_on}
-use Rattle.jvm_heap_rows.specs.Effects.{RowOf}
+use Rattle.jvm_rows.specs.Effects.{RowOf}
 use Rattle.jvm_world.specs.declared.world.World.{World}
 use Rattle.jvm_invokes.specs.declared.invoked.Invoked.{Invoked}
 use Rattle.jvm_receivers.specs.declared.targets.Target.{Target}

@@ -10,7 +10,7 @@ ghost use Rattle.class_link.specs.declared.linked.Entry.TheVariants.{Method as M
 ghost use Rattle.class_table.specs.Table.{look, name_at};
 ghost use Rattle.jvm_frames.specs.Frames.{HasWords};
 ghost use Rattle.jvm_link.specs.Answers.{AnswersCall};
-ghost use Rattle.jvm_resolved.specs.References.{IsEntry, IsTableOf};
+ghost use Rattle.jvm_link.specs.References.{IsEntry, IsTableOf};
 ghost use Rattle.jvm_type_rows.specs.Instances.{is_kind_within};
 ghost use Rattle.jvm_world.specs.View.{IsWorldOf, IsKept, kind_in};
 ghost use Rattle.jvm_invokes.specs.Invoked.{Invokes, StaysOrEnters};
@@ -27,8 +27,7 @@ use class_model::{ClassId, Memory};
 use class_table::Program;
 use jvm_frames::{Args, Frames};
 use jvm_invokes::Invoked;
-use jvm_link::Callee;
-use jvm_resolved::{Receiver, References};
+use jvm_link::{Callee, Receiver, References};
 use jvm_type_rows::is_kind_within;
 use jvm_values::ObjKind;
 use jvm_world::World;

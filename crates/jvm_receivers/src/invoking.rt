@@ -10,7 +10,7 @@ ghost use Rattle.class_table.specs.Table.{look};
 ghost use Rattle.jvm_frames.specs.Frames.{HasWords};
 ghost use Rattle.jvm_link.specs.Answers.{IsCallee};
 ghost use Rattle.jvm_link.specs.Named.{method_named};
-ghost use Rattle.jvm_resolved.specs.References.{IsEntry, ResolvesMethodRef};
+ghost use Rattle.jvm_link.specs.References.{IsEntry, ResolvesMethodRef};
 ghost use Rattle.jvm_world.specs.View.{IsWorldOf, IsKept};
 ghost use Rattle.jvm_invokes.specs.Calls.{IsThere};
 ghost use Rattle.jvm_invokes.specs.Invoked.{Invokes, StaysOrEnters};

@@ -7,7 +7,7 @@ use crate::owned::Owned;
 use class_model::names::ascii;
 use class_model::{ClassId, Memory};
 use class_table::Program;
-use jvm_resolved::{References, Selections};
+use jvm_link::{References, Selections};
 use std::alloc::Global;
 
 /// What references resolve to and what objects select, as far as it was asked, which of them name

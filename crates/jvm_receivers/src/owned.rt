@@ -8,14 +8,14 @@ ghost use Rattle.class_link.specs.Info.{Info};
 ghost use Rattle.class_link.specs.declared.linked.Entry.TheVariants.{Method};
 ghost use Rattle.class_table.specs.Table.{name_at};
 ghost use Rattle.jvm_link.specs.Sites.{outline_at};
-ghost use Rattle.jvm_resolved.specs.References.{IsEntry};
+ghost use Rattle.jvm_link.specs.References.{IsEntry};
 ghost use Rattle.jvm_receivers.specs.Owned.{AreOwned};
 ghost use Rattle.jvm_receivers.specs.Receivers.{is_own};
 
 use class_link::{MethodRef, Shared};
 use class_model::{ClassId, Memory, Name};
 use class_table::Program;
-use jvm_resolved::{Held, held_at, hold};
+use jvm_link::{Held, held_at, hold};
 use std::alloc::Global;
 use std::marker::Model;
 

@@ -8,11 +8,11 @@ ghost use Rattle.class_table.specs.Table.{name_at};
 ghost use Rattle.jvm_world.specs.View.{kind_in};
 ghost use Rattle.jvm_receivers.specs.Objects.{FindsClass, FindsPlace, FindsReceiver, text_name};
 
+use class_family::{class_behind, object_name};
 use class_link::names::is_array_name;
 use class_model::{ClassId, Kind, Memory, Name, Seq};
 use class_table::Program;
-use jvm_catch::{class_behind, object_name};
-use jvm_resolved::Receiver;
+use jvm_link::Receiver;
 use jvm_values::ObjKind;
 use std::alloc::Global;
 

@@ -8,7 +8,7 @@ ghost use Rattle.class_link.specs.declared.linked.Entry.TheVariants.{Method as M
 ghost use Rattle.jvm_frames.specs.Frames.{HasWords};
 ghost use Rattle.jvm_link.specs.Answers.{IsCallee};
 ghost use Rattle.jvm_link.specs.Sites.{outline_at};
-ghost use Rattle.jvm_resolved.specs.References.{IsEntry};
+ghost use Rattle.jvm_link.specs.References.{IsEntry};
 ghost use Rattle.jvm_world.specs.View.{IsWorldOf, IsKept};
 ghost use Rattle.jvm_invokes.specs.Calls.{IsThere};
 ghost use Rattle.jvm_invokes.specs.Invoked.{Invokes, StaysOrEnters};
@@ -24,8 +24,7 @@ use class_model::{ClassId, Memory, Name};
 use class_table::Program;
 use jvm_frames::{Args, Frames};
 use jvm_invokes::{Invoked, call_found};
-use jvm_link::Callee;
-use jvm_resolved::Receiver;
+use jvm_link::{Callee, Receiver};
 use jvm_unwind::Turn;
 use jvm_world::World;
 use std::alloc::Global;

@@ -9,10 +9,10 @@ use Rattle.class_link.specs.Info.{Info}
 use Rattle.class_table.specs.Table.{look}
 use Rattle.jvm_frames.specs.Frames.{NumberedFrames, framed, IsAdvanced}
 use Rattle.jvm_world.specs.declared.world.World.{World}
-use Rattle.jvm_heap_rows.specs.declared.effect.Effect.TheVariants as effect
-use Rattle.jvm_heap_rows.specs.Effects.{RowOf, Runs}
-use Rattle.jvm_heap_rows.specs.Rows.{putting}
-use Rattle.jvm_heap_rows.proofs.Ends.{SameAt, AreSame, AdvancesBy, nothing, each, advance_runs}
+use Rattle.jvm_rows.specs.declared.effect.Effect.TheVariants as effect
+use Rattle.jvm_rows.specs.Effects.{RowOf, Runs}
+use Rattle.jvm_rows.specs.Rows.{putting}
+use Rattle.jvm_rows.proofs.Ends.{SameAt, AreSame, AdvancesBy, nothing, each, advance_runs}
 use Rattle.jvm_type_rows.specs.Instances.{is_kind_within, instance_in, TellsInstance, cast_end_row, cast_found_row, test_found_row, truth_value}
 
 -- ---- what an object is of

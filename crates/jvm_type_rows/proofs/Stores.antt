@@ -19,11 +19,11 @@ use Rattle.class_table.specs.Table.{look}
 use Rattle.jvm_state.specs.Tops.{TakesInt, TakesReference, NoReference}
 use Rattle.jvm_frames.specs.Frames.{NumberedFrame, NumberedFrames, framed, stack_of}
 use Rattle.jvm_world.specs.declared.world.World.{World}
-use Rattle.jvm_heap_rows.specs.declared.elements.Sought.TheVariants as sought
-use Rattle.jvm_heap_rows.specs.Rows.{throwing, Finds, IsElement, TakesKind, NoKind}
-use Rattle.jvm_heap_rows.specs.Storing.{storing_element}
-use Rattle.jvm_heap_rows.proofs.Ends.{SameAt, AreSame, nothing, each}
-use Rattle.jvm_heap_rows.proofs.Seeking.{element_is}
+use Rattle.jvm_rows.specs.declared.elements.Sought.TheVariants as sought
+use Rattle.jvm_rows.specs.Rows.{throwing, Finds, IsElement, TakesKind, NoKind}
+use Rattle.jvm_rows.specs.Storing.{storing_element}
+use Rattle.jvm_rows.proofs.Ends.{SameAt, AreSame, nothing, each}
+use Rattle.jvm_rows.proofs.Seeking.{element_is}
 use Rattle.jvm_type_rows.specs.Storing.{component_in, fits_in, FitsArray, reference_value, storing_value, storing_known}
 
 -- ---- a reference on the stack

@@ -17,8 +17,8 @@ use Rattle.class_link.specs.Info.{Info}
 use Rattle.class_table.specs.Table.{look}
 use Rattle.jvm_world.specs.declared.world.World.{World}
 use Rattle.jvm_world.specs.View.{Means}
-use Rattle.jvm_heap_rows.specs.Effects.{RowOf}
-use Rattle.jvm_heap_rows.specs.Rows.{putting}
+use Rattle.jvm_rows.specs.Effects.{RowOf}
+use Rattle.jvm_rows.specs.Rows.{putting}
 
 -- Whether a descriptor begins as a class's one: `L` is 76 (JVMS 4.3.2).
 abbrev pub begins_class : Name → Bool

@@ -17,8 +17,8 @@ use Rattle.class_link.specs.Info.{Info}
 use Rattle.class_table.specs.Table.{look}
 use Rattle.jvm_world.specs.declared.world.World.{World}
 use Rattle.jvm_world.specs.View.{Means}
-use Rattle.jvm_heap_rows.specs.Effects.{RowOf}
-use Rattle.jvm_heap_rows.specs.Storing.{storing_at}
+use Rattle.jvm_rows.specs.Effects.{RowOf}
+use Rattle.jvm_rows.specs.Storing.{storing_at}
 
 -- The kind of an array's elements, if the object is one.
 abbrev pub component_in : Option Object → Option Kind

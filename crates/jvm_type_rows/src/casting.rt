@@ -4,15 +4,14 @@ ghost use Rattle.std.specs.Prelude.{◌≡◌, ◌+◌, ◌<◌, ◌≤◌, ◌^
 ghost use Rattle.class_table.specs.Table.{look};
 ghost use Rattle.jvm_frames.specs.Frames.{stack_of};
 ghost use Rattle.jvm_world.specs.View.{IsWorldOf, IsKept};
-ghost use Rattle.jvm_heap_rows.specs.Effects.{Runs};
+ghost use Rattle.jvm_rows.specs.Effects.{Runs};
 ghost use Rattle.jvm_type_rows.specs.Instances.{TellsInstance, cast_end_row, cast_found_row, test_found_row, truth_value};
 
 use crate::instance::is_kind_within;
 use class_model::{Memory, Name};
 use class_table::Program;
 use jvm_frames::Frames;
-use jvm_heap_rows::{Effect, throw};
-use jvm_object_rows::put_within;
+use jvm_rows::{Effect, put_within, throw};
 use jvm_world::World;
 use program_rules::{Fault, Value};
 use std::alloc::Global;

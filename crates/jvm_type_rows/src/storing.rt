@@ -8,15 +8,15 @@ ghost use Rattle.class_link.specs.Symbols.{kind_of};
 ghost use Rattle.class_table.specs.Table.{look};
 ghost use Rattle.jvm_frames.specs.Frames.{stack_of};
 ghost use Rattle.jvm_world.specs.View.{kind_in, IsWorldOf, IsKept};
-ghost use Rattle.jvm_heap_rows.specs.Effects.{Runs};
-ghost use Rattle.jvm_heap_rows.specs.Storing.{storing_element};
+ghost use Rattle.jvm_rows.specs.Effects.{Runs};
+ghost use Rattle.jvm_rows.specs.Storing.{storing_element};
 ghost use Rattle.jvm_type_rows.specs.Storing.{FitsKind, FitsArray, reference_value, storing_value, storing_known};
 
 use crate::casting::is_instance;
 use class_model::{Kind, Memory};
 use class_table::Program;
 use jvm_frames::Frames;
-use jvm_heap_rows::{Effect, Sought, find_element, int_at, reference_at, store_in, throw};
+use jvm_rows::{Effect, Sought, find_element, int_at, reference_at, store_in, throw};
 use jvm_values::ObjKind;
 use jvm_world::World;
 use program_rules::{Element, Fault, Value};

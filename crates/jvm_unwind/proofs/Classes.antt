@@ -13,7 +13,7 @@ use Rattle.class_link.specs.Info.{Info}
 use Rattle.class_order.specs.Supers.{IsBelow, next, further, is_super_missing, lacks_superclass}
 use Rattle.class_order.proofs.Within.{or_either, or_first, or_second, walked_within}
 use Rattle.class_table.specs.Table.{IsProgram, look, name_at, name_or_none, names}
-use Rattle.jvm_catch.specs.Searches.{AreAbove}
+use Rattle.jvm_unwind.specs.Searches.{AreAbove}
 
 not_true : (b : Bool) → (b ≡ true → ⊥) → b ≡ false
 not_true true h = absurd (h refl)

@@ -17,8 +17,8 @@ use Rattle.class_link.specs.Info.{Info}
 use Rattle.class_table.specs.Table.{look, name_at}
 use Rattle.jvm_world.specs.declared.world.World.{World}
 use Rattle.jvm_world.specs.View.{Moves, Throws}
-use Rattle.jvm_catch.specs.declared.row.Catch.{Catch}
-use Rattle.jvm_catch.specs.Rows.{catch_name}
+use Rattle.jvm_unwind.specs.declared.row.Catch.{Catch}
+use Rattle.jvm_unwind.specs.Rows.{catch_name}
 use Rattle.jvm_unwind.specs.declared.thrown.Thrown.{Thrown}
 use Rattle.jvm_unwind.specs.Thrown.{names_of}
 use Rattle.jvm_unwind.specs.Turns.{ComesAt}

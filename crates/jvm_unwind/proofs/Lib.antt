@@ -1,3 +1,4 @@
+mod Tested
 mod Classes
 mod Worlds
 pub mod Left

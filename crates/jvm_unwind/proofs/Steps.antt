@@ -18,8 +18,8 @@ use Rattle.jvm_state.specs.Rows.{Row}
 use Rattle.jvm_frames.specs.Frames.{NumberedFrame, NumberedFrames, framed, left_behind, landing, Does, GoOn, IsLanded}
 use Rattle.jvm_world.specs.declared.world.World.{World}
 use Rattle.jvm_world.specs.View.{Means, Comes}
-use Rattle.jvm_catch.specs.declared.row.CatchRow.{CatchRow}
-use Rattle.jvm_catch.specs.Rows.{catch_row_of}
+use Rattle.jvm_unwind.specs.declared.row.CatchRow.{CatchRow}
+use Rattle.jvm_unwind.specs.Rows.{catch_row_of}
 use Rattle.jvm_unwind.specs.declared.thrown.Thrown.{Thrown}
 use Rattle.jvm_unwind.specs.declared.turn.Turn.{Turn}
 use Rattle.jvm_unwind.specs.declared.turn.Turn.TheVariants as turn

@@ -11,11 +11,11 @@ use Rattle.class_table.specs.Seen.{Seen, IsConsultedOf}
 use Rattle.class_table.specs.Table.{look}
 use Rattle.jvm_world.specs.declared.world.World.{World}
 use Rattle.jvm_world.specs.View.{Means, IsWorldOf, IsKept, world_of, call_of}
-use Rattle.jvm_catch.specs.declared.row.Catch.{Catch}
-use Rattle.jvm_catch.specs.declared.row.CatchRow.{CatchRow}
-use Rattle.jvm_catch.specs.Rows.{catch_name, catch_row_of}
-use Rattle.jvm_catch.specs.Searches as searches
-use Rattle.jvm_catch.specs.Searches.{having, AreAbove, Finds}
+use Rattle.jvm_unwind.specs.declared.row.Catch.{Catch}
+use Rattle.jvm_unwind.specs.declared.row.CatchRow.{CatchRow}
+use Rattle.jvm_unwind.specs.Rows.{catch_name, catch_row_of}
+use Rattle.jvm_unwind.specs.Searches as searches
+use Rattle.jvm_unwind.specs.Searches.{having, AreAbove, Finds}
 use Rattle.jvm_unwind.specs.declared.thrown.Thrown.{Thrown}
 use Rattle.jvm_unwind.specs.Thrown.{names_of}
 use Rattle.jvm_unwind.specs.Unwinding.{Searches, Tests}

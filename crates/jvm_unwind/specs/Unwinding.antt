@@ -15,10 +15,10 @@ use Rattle.jvm_state.specs.Rows.{Row}
 use Rattle.jvm_frames.specs.Frames.{NumberedFrame, NumberedFrames, left_behind}
 use Rattle.jvm_world.specs.declared.world.World.{World}
 use Rattle.jvm_world.specs.View.{Means, Comes}
-use Rattle.jvm_catch.specs.declared.row.Catch.{Catch}
-use Rattle.jvm_catch.specs.declared.row.CatchRow.{CatchRow}
-use Rattle.jvm_catch.specs.Rows.{catch_name, catch_row_of, IsCatch, IsCatchRow}
-use Rattle.jvm_catch.specs.Searches.{having}
+use Rattle.jvm_unwind.specs.declared.row.Catch.{Catch}
+use Rattle.jvm_unwind.specs.declared.row.CatchRow.{CatchRow}
+use Rattle.jvm_unwind.specs.Rows.{catch_name, catch_row_of, IsCatch, IsCatchRow}
+use Rattle.jvm_unwind.specs.Searches.{having}
 use Rattle.jvm_unwind.specs.declared.thrown.Thrown.{Thrown}
 use Rattle.jvm_unwind.specs.declared.unwinding.Handlers.{Handlers}
 use Rattle.jvm_unwind.specs.Thrown.{names_of}

@@ -12,10 +12,10 @@ ghost use Rattle.jvm_unwind.specs.Unwinding.{Leaves, IsAwaited, failing, leaving
 
 use crate::searching::is_caught;
 use crate::thrown::Thrown;
+use crate::{Catch, catch_named};
 use class_link::Shared;
 use class_model::{ClassId, Memory};
 use class_table::Program;
-use jvm_catch::{Catch, catch_named};
 use jvm_world::World;
 use machine_rules::InitState;
 use program_rules::{CallKind, Fault};

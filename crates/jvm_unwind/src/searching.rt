@@ -1,15 +1,15 @@
 //! The search for a handler, in a world.
 
 ghost use Rattle.std.specs.Prelude.{◌≡◌, [], None, All, IfOk, OnOk};
-ghost use Rattle.jvm_catch.specs.Rows.{IsCatch, IsCatchRow};
+ghost use Rattle.jvm_unwind.specs.Rows.{IsCatch, IsCatchRow};
 ghost use Rattle.jvm_world.specs.View.{IsWorldOf, IsKept};
 ghost use Rattle.jvm_unwind.specs.Thrown.{IsClass};
 ghost use Rattle.jvm_unwind.specs.Unwinding.{Searches, Tests};
 
 use crate::thrown::Thrown;
+use crate::{Catch, CatchRow, find_handler};
 use class_model::Memory;
 use class_table::Program;
-use jvm_catch::{Catch, CatchRow, find_handler};
 use jvm_world::World;
 
 /// The instruction at which these rows go on with an object of this class, thrown at an

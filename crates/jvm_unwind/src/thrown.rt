@@ -7,13 +7,13 @@ ghost use Rattle.program_rules.specs.Objects.{class_of_object};
 ghost use Rattle.class_link.specs.Symbols.{kind_of};
 ghost use Rattle.class_table.specs.Table.{IsProgram};
 ghost use Rattle.jvm_world.specs.View.{kind_in, IsWorldOf};
-ghost use Rattle.jvm_catch.specs.Searches.{IsThrown, AreAbove};
+ghost use Rattle.jvm_unwind.specs.Searches.{IsThrown, AreAbove};
 ghost use Rattle.jvm_unwind.specs.Thrown.{class_name, names_of, IsClass, IsClassIn};
 
+use class_family::{class_behind, object_name};
 use class_model::names::ascii;
 use class_model::{ClassId, Kind, Memory, Name, Seq};
 use class_table::Program;
-use jvm_catch::{class_behind, object_name};
 use jvm_values::ObjKind;
 use jvm_world::World;
 use std::alloc::Global;

@@ -7,13 +7,13 @@ ghost use Rattle.jvm_unwind.specs.Thrown.{IsClass};
 ghost use Rattle.jvm_unwind.specs.Turns.{Turns};
 ghost use Rattle.jvm_unwind.specs.Unwinding.{IsHandled, IsLeftOrOn, Passes, popping, unwinding};
 
+use crate::CatchRow;
 use crate::leaving::{fail_class, leave_script};
 use crate::searching::handler;
 use crate::thrown::{Thrown, thrown_at};
 use crate::turn::Turn;
 use class_model::{ClassId, Memory};
 use class_table::Program;
-use jvm_catch::CatchRow;
 use jvm_frames::Frames;
 use jvm_world::World;
 use std::alloc::Global;

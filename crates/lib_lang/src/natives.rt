@@ -7,11 +7,10 @@ ghost use Rattle.lib_core.specs.Answers.{Answers, AnswersAmong, AnswersKnown, An
 ghost use Rattle.lib_core.specs.Known.{IsKnown};
 ghost use Rattle.lib_core.specs.View.{objects_of, deed_of};
 
-use crate::{boxes, naming, number, object, optional, order, throwable};
+use crate::{boxes, builder_deed, naming, number, object, optional, order, text_deed, throwable};
 use class_model::{Memory, Name};
 use jvm_values::Object;
 use lib_core::{Deed, Known};
-use lib_text::{builder_deed, text_deed};
 use library_rules::{
     BoxNative, LangNative, NumberNative, ObjectNative, OptionalNative, OrderNative, ThrowableNative,
 };

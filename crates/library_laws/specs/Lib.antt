@@ -1,2 +1,10 @@
+pub mod Fits
+pub mod Hosts
+pub mod Natives
+pub mod KeepingHosts
+pub mod Fitting
+pub mod Linked
+pub mod Facts
+pub mod NativeFacts
 pub mod Beside
 pub mod Bounded

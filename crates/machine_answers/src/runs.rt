@@ -2,13 +2,14 @@
 
 ghost use Rattle.std.specs.Prelude.{◌<◌, ◌^◌};
 ghost use Rattle.class_table.specs.Table.{look};
-ghost use Rattle.jvm_machine.specs.Programs.{IsRunnable};
-ghost use Rattle.jvm_machine.specs.Tables.{AreTablesOf};
+ghost use Rattle.jvm_step.specs.Programs.{IsRunnable};
+ghost use Rattle.jvm_step.specs.Tables.{AreTablesOf};
 
 use crate::case::{Case, case_of};
 use class_model::{Cause, Memory, Name, Outcome};
 use class_table::{Program, Test};
-use jvm_machine::{Ending, RunResult, Tables, execute};
+use jvm_run::{Ending, RunResult, execute};
+use jvm_step::Tables;
 use mt_edge::Meter;
 use std::alloc::Global;
 

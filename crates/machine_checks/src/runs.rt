@@ -4,13 +4,14 @@ ghost use Rattle.std.specs.Prelude.{◌≡◌, ◌+◌, ◌≤◌, ◌<◌, ◌^
 ghost use Rattle.machine_rules.specs.Runs.{run_of};
 ghost use Rattle.class_table.specs.Table.{look};
 ghost use Rattle.jvm_world.specs.View.{test_of};
-ghost use Rattle.jvm_machine.specs.Programs.{IsRunnable};
-ghost use Rattle.jvm_machine.specs.Result.{IsResultOf};
-ghost use Rattle.jvm_machine.specs.Tables.{AreTablesOf};
+ghost use Rattle.jvm_step.specs.Programs.{IsRunnable};
+ghost use Rattle.jvm_run.specs.Result.{IsResultOf};
+ghost use Rattle.jvm_step.specs.Tables.{AreTablesOf};
 
 use class_model::Memory;
 use class_table::{Program, Test};
-use jvm_machine::{RunResult, Tables};
+use jvm_run::RunResult;
+use jvm_step::Tables;
 use machine_rules::Limits;
 use mt_edge::MeterPart;
 use std::alloc::Global;
@@ -36,6 +37,6 @@ pub fn execute(
         + (run_of (look p.now) (test_of test.now) limits limit).steps) }
     ensures tables { AreTablesOf p.now tables.new }
 {
-    let run = jvm_machine::execute(alloc, p, tables, test, limits, limit, part)?;
+    let run = jvm_run::execute(alloc, p, tables, test, limits, limit, part)?;
     Ok(run)
 }

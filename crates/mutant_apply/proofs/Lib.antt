@@ -11,3 +11,12 @@ pub mod ChangeLaws
 pub mod FitLaws
 pub mod PoolLaws
 pub mod NamesKept
+mod Naming
+mod Grown
+mod Pools
+mod SpelledKeeping
+mod WitnessLaws
+pub mod SplicedMembers
+pub mod Bounds
+pub mod Splices
+pub mod Applied

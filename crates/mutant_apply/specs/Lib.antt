@@ -4,3 +4,8 @@ pub mod Edited
 pub mod Room
 pub mod Fitting
 pub mod Laws
+pub mod Spelled
+pub mod Witness
+pub mod Places
+pub mod Spliced
+pub mod BytesLaws

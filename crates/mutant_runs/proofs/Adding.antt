@@ -25,7 +25,7 @@ use Rattle.mt_attrs.specs.declared.owner.Owner.TheVariants.{OfField, OfMethod}
 use Rattle.mutant_apply.proofs.NamesKept.{same_names}
 use Rattle.mutant_apply.proofs.PoolLaws.{entry_kept}
 use Rattle.mutant_runs.proofs.Longer.{each_same, field_by, method_by}
-use Rattle.apply_laws.specs.Spelled.{SpelledIsNamed}
+use Rattle.mutant_apply.specs.Spelled.{SpelledIsNamed}
 
 pub parent_case : (pool more : List Const) (i : ℕ) (b : Bool) → (b ≡ false → class_name_of (pool ++ more) i ≡ class_name_of pool i) → (if b then None else Some (class_named (pool ++ more) i)) ≡ (if b then None else Some (class_named pool i))
 parent_case pool more i true same = refl

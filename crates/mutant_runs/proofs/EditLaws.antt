@@ -17,8 +17,8 @@ use Rattle.class_link.specs.Edits.{with_attrs_at, class_edited}
 use Rattle.class_link.specs.Info.{Info, file_in}
 use Rattle.mutant_apply.specs.Edited.{changed_at, member_with, class_with, applied}
 use Rattle.mutant_apply.specs.declared.parts.Parts.{Parts}
-use Rattle.edited_bytes.specs.Laws.{PartsAreOfApplied}
-use Rattle.edited_bytes.specs.Spliced.{parts_and_bytes}
+use Rattle.mutant_apply.specs.BytesLaws.{PartsAreOfApplied}
+use Rattle.mutant_apply.specs.Spliced.{parts_and_bytes}
 use Rattle.mutant_runs.specs.Files.{attrs_in, edited_file, made_file, HasBytes, IsRightFor, IsKeptOf, IsKept}
 use Rattle.mutant_runs.specs.declared.class_bytes.ClassBytes.{ClassBytes}
 

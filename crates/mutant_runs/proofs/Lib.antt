@@ -8,3 +8,6 @@ pub mod EditLaws
 pub mod Longer
 pub mod Adding
 pub mod NamedLaws
+mod Putting
+mod Keeping
+mod Codes

@@ -16,10 +16,10 @@ use Rattle.class_link.specs.Linking.{link}
 use Rattle.class_table.specs.Table.{place_in, names, number_of, name_at, class_at, look, AreDistinct, IsAlike, CanSwap}
 use Rattle.class_table.proofs.Places.{name_at_place, name_of_class, number_named, names_kept}
 use Rattle.class_reader.specs.Spells.{IsClass, Spells, class_bytes}
-use Rattle.accepted_edits.specs.Codes.{IsSpelledBody, SpelledAreBounded}
-use Rattle.accepted_edits.specs.Put.{IsPut, EditsArePut}
-use Rattle.apply_laws.specs.Spelled.{EditsAreSpelled}
-use Rattle.edited_bytes.specs.Laws.{PartsAreOfApplied}
+use Rattle.mutant_runs.specs.Codes.{IsSpelledBody, SpelledAreBounded}
+use Rattle.mutant_runs.specs.Put.{IsPut, EditsArePut}
+use Rattle.mutant_apply.specs.Spelled.{EditsAreSpelled}
+use Rattle.mutant_apply.specs.BytesLaws.{PartsAreOfApplied}
 use Rattle.mutant_apply.specs.Edited.{applied}
 use Rattle.mutant_apply.specs.Fitting.{Fits}
 use Rattle.mutator_ops.specs.declared.mutant.Mutant.{Mutant}

@@ -14,14 +14,14 @@ use Rattle.type_laws.specs.Alike.{HeadsAlike, head_of}
 use Rattle.type_laws.specs.Bounds.{BoundedHaveRoom, HasBoundedCodes}
 use Rattle.type_laws.specs.Faults.{FirstAreFound}
 use Rattle.type_rules.specs.Rules.{ClassAccepted}
-use Rattle.program_verifier.specs.Programs.{IsRefused, place_of}
-use Rattle.program_verifier.specs.declared.end.VerifyFault.{VerifyFault}
+use Rattle.type_verifier.specs.Programs.{IsRefused, place_of}
+use Rattle.type_verifier.specs.declared.end.VerifyFault.{VerifyFault}
 use Rattle.jvm_world.specs.Finding.{lacks}
-use Rattle.jvm_machine.specs.Programs.{HasRoomToLand}
-use Rattle.jvm_machine.specs.Tables.{looked_up}
-use Rattle.accepted_edits.specs.Codes.{IsBoundedBody, BoundedAreNumbered, PutStayNumbered, BoundedByName}
-use Rattle.accepted_edits.specs.Kept.{PutKeepKinds, PutKeepLibrary, PutStayAccepted}
-use Rattle.accepted_edits.specs.Put.{PutStayAlike}
+use Rattle.jvm_step.specs.Programs.{HasRoomToLand}
+use Rattle.jvm_step.specs.Tables.{looked_up}
+use Rattle.mutant_runs.specs.Codes.{IsBoundedBody, BoundedAreNumbered, PutStayNumbered, BoundedByName}
+use Rattle.mutant_runs.specs.Kept.{PutKeepKinds, PutKeepLibrary, PutStayAccepted}
+use Rattle.mutant_runs.specs.Put.{PutStayAlike}
 use Rattle.mutant_runs.specs.Edited.{EditedAreReady, ReadyMayRun, TellsAccepted}
 use Rattle.mutant_runs.specs.Ready.{IsReady}
 

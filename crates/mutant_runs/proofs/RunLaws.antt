@@ -13,8 +13,8 @@ use Rattle.machine_rules.specs.Runs.{Ran, then_run, limit_of, run_from, run_of}
 use Rattle.class_link.specs.Info.{Info}
 use Rattle.class_table.specs.declared.scripted.Test.{Test}
 use Rattle.jvm_world.specs.View.{named, test_of}
-use Rattle.jvm_machine.specs.Result.{pairs_of, IsResultOf}
-use Rattle.jvm_machine.specs.declared.result.RunResult.{RunResult}
+use Rattle.jvm_run.specs.Result.{pairs_of, IsResultOf}
+use Rattle.jvm_run.specs.declared.result.RunResult.{RunResult}
 use Rattle.mutator_ops.specs.declared.mutant.Mutant.{Mutant}
 use Rattle.mutator_ops.specs.declared.mutant.State.{State}
 use Rattle.mutant_runs.specs.Needed.{up_to_detecting, picked, runs_picked, steps_picked}

@@ -8,8 +8,8 @@ use Rattle.class_link.specs.declared.loaded.EditedFile.{EditedFile}
 use Rattle.class_link.specs.declared.loaded.Loaded.{Loaded}
 use Rattle.class_link.specs.Info.{Info, IsInfo}
 use Rattle.class_table.specs.Table.{number_of, name_at, look, IsProgram}
-use Rattle.jvm_machine.specs.Programs.{IsRunnable}
-use Rattle.program_verifier.specs.Programs.{AreNumbered, IsLibraryAccepted}
+use Rattle.jvm_step.specs.Programs.{IsRunnable}
+use Rattle.type_verifier.specs.Programs.{AreNumbered, IsLibraryAccepted}
 use Rattle.mutator_ops.specs.declared.mutant.Mutant.{Mutant}
 use Rattle.mutant_runs.specs.Files.{made_file}
 use Rattle.mutant_runs.specs.Programs.{files_of, IsMutantOf, Makes}

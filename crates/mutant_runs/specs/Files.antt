@@ -10,8 +10,8 @@ use Rattle.class_link.specs.declared.loaded.EditedFile.{EditedFile}
 use Rattle.class_link.specs.declared.loaded.Loaded.{Loaded}
 use Rattle.class_link.specs.Info.{Info, file_in}
 use Rattle.class_writer.specs.Writing.{layout}
-use Rattle.edited_bytes.specs.Places.{places_of}
-use Rattle.edited_bytes.specs.Spliced.{parts_and_bytes}
+use Rattle.mutant_apply.specs.Places.{places_of}
+use Rattle.mutant_apply.specs.Spliced.{parts_and_bytes}
 use Rattle.mutant_apply.specs.Edited.{with_code}
 use Rattle.mutant_apply.specs.declared.parts.Parts.{Parts}
 use Rattle.mutant_runs.specs.declared.class_bytes.ClassBytes.{ClassBytes}

@@ -7,3 +7,6 @@ pub mod Needed
 pub mod Edited
 pub mod Promises
 pub mod Laws
+pub mod Put
+pub mod Kept
+pub mod Codes

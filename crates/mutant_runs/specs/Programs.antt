@@ -13,8 +13,8 @@ use Rattle.class_link.specs.Info.{Info, own_name, file_in}
 use Rattle.class_link.specs.Linking.{link}
 use Rattle.class_table.specs.Table.{number_of, name_at, look}
 use Rattle.type_rules.specs.Faults.{class_fault}
-use Rattle.accepted_edits.specs.Codes.{IsBoundedBody}
-use Rattle.accepted_edits.specs.Put.{IsPut}
+use Rattle.mutant_runs.specs.Codes.{IsBoundedBody}
+use Rattle.mutant_runs.specs.Put.{IsPut}
 use Rattle.mutant_apply.specs.Edited.{applied}
 use Rattle.mutant_apply.specs.Fitting.{Fits}
 use Rattle.mutator_ops.specs.declared.mutant.Mutant.{Mutant}

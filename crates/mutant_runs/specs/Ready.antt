@@ -5,8 +5,8 @@ use Rattle.class_table.specs.Faults.{HasRightKinds}
 use Rattle.class_table.specs.Table.{look}
 use Rattle.type_rules.specs.Rules.{Accepted}
 use Rattle.jvm_world.specs.Finding.{lacks}
-use Rattle.jvm_machine.specs.Tables.{looked_up}
-use Rattle.accepted_edits.specs.Codes.{IsBoundedBody}
+use Rattle.jvm_step.specs.Tables.{looked_up}
+use Rattle.mutant_runs.specs.Codes.{IsBoundedBody}
 
 -- Supers are of the right kinds, the code of each class is accepted and within the bounds of a
 -- class file, and the classes are there that the machine and native methods look up.

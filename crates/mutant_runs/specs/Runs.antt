@@ -9,9 +9,9 @@ use Rattle.machine_rules.specs.Runs.{Ending, Ran, limit_of, run_of}
 use Rattle.machine_rules.specs.declared.machine.Limits.{Limits}
 use Rattle.class_table.specs.declared.scripted.Test.{Test}
 use Rattle.jvm_world.specs.View.{test_of}
-use Rattle.jvm_machine.specs.declared.ending.End.{End}
-use Rattle.jvm_machine.specs.declared.ending.End.TheVariants as end
-use Rattle.jvm_machine.specs.Ending.{end_in}
+use Rattle.jvm_run.specs.declared.ending.End.{End}
+use Rattle.jvm_run.specs.declared.ending.End.TheVariants as end
+use Rattle.jvm_run.specs.Ending.{end_in}
 use Rattle.mutator_ops.specs.declared.mutant.Mutant.{Mutant}
 use Rattle.mutator_ops.specs.declared.mutant.State.{State}
 use Rattle.mutator_ops.specs.declared.mutant.State.TheVariants as state

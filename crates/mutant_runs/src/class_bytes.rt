@@ -7,7 +7,7 @@ ghost use Rattle.mutant_runs.specs.Files.{HasBytes, IsRightFor};
 
 use class_model::{Bytes, Class, ClassId, LayoutFault, Memory};
 use class_writer::{what_is_spelled_is_written, write_class};
-use edited_bytes::Places;
+use mutant_apply::Places;
 use std::alloc::Global;
 
 /// The bytes of the class file of a class, and the places in them of what edits make anew.

@@ -1,7 +1,7 @@
 //! The verdict on one mutant, by the tests that reach its class and line.
 
 ghost use Rattle.std.specs.Prelude.{◌≡◌, ◌+◌, ◌≤◌, ◌<◌, ◌^◌, true, All, length, IfOk, OnOk};
-ghost use Rattle.jvm_machine.specs.Tables.{AreNamedOf};
+ghost use Rattle.jvm_step.specs.Tables.{AreNamedOf};
 ghost use Rattle.mutant_runs.specs.Files.{IsKept};
 ghost use Rattle.mutant_runs.specs.Programs.{files_of, IsMutantOf};
 ghost use Rattle.mutant_runs.specs.Promises.{AreCovering, IsVerdictBy, steps_of, TellsViable};
@@ -13,7 +13,7 @@ use crate::on_mutant::run_mutant;
 use crate::verdict::{not_viable, verdict_by};
 use class_model::{Memory, Seq};
 use class_table::{Program, Test};
-use jvm_machine::Tables;
+use jvm_step::Tables;
 use line_coverage::Coverage;
 use machine_rules::Limits;
 use mt_edge::MeterPart;

@@ -9,8 +9,7 @@ ghost use Rattle.mutant_runs.specs.Files.{edited_attrs, edited_file, made_file, 
 use crate::class_bytes::{ClassBytes, bytes_of};
 use class_link::{EditedFile, Loaded, Shared};
 use class_model::{Attr, Bytes, Class, ClassId, Edit, Memory, Seq, SharedBytes};
-use edited_bytes::parts_and_bytes;
-use mutant_apply::{Parts, with_code};
+use mutant_apply::{Parts, parts_and_bytes, with_code};
 use std::alloc::Global;
 
 // The attributes of the edited method.

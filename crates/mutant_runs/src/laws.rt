@@ -3,13 +3,13 @@
 ghost use Rattle.mutant_runs.specs.Edited.{EditsMake, EditedAreReady, ReadyMayRun};
 ghost use Rattle.mutant_runs.specs.Laws.{FilesAreFound, MutantsAreOf, EntriesAddAlone};
 
-use accepted_edits::{
+use crate::{
     accepted_classes_have_room, edited_programs_are_accepted, edits_are_put,
     instructions_have_numbers, kinds_stay_right, put_classes_stay_alike,
 };
-use apply_laws::{edits_are_spelled, what_is_spelled_is_named};
-use edited_bytes::parts_are_of_applied;
-use mutant_apply::mutants_fit;
+use mutant_apply::{
+    edits_are_spelled, mutants_fit, parts_are_of_applied, what_is_spelled_is_named,
+};
 use mutator_ops::listed_exactly;
 use type_laws::accepted_code_has_room_for_what_it_catches;
 

@@ -2,6 +2,7 @@
 //! its line are run on the program with it, up to the first that detects it.
 #![tactic(auto)]
 
+mod accepted_edits;
 mod all;
 mod class_bytes;
 mod covered;
@@ -12,6 +13,10 @@ mod one_run;
 mod tests_run;
 mod verdict;
 
+pub use accepted_edits::{
+    accepted_classes_have_room, edited_programs_are_accepted, edits_are_put,
+    instructions_have_numbers, kinds_stay_right, put_classes_stay_alike,
+};
 pub use all::{verdicts, viable};
 pub use laws::{
     edited_are_ready, edits_make, entries_add_alone, files_are_found, mutants_are_of, ready_may_run,

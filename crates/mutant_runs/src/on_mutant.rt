@@ -3,8 +3,8 @@
 ghost use Rattle.std.specs.Prelude.{◌≡◌, ◌+◌, ◌≤◌, ◌<◌, ◌^◌, true, All, length, IfOk, OnOk};
 ghost use Rattle.class_link.specs.Info.{IsInfo};
 ghost use Rattle.class_table.specs.Table.{look, IsProgram};
-ghost use Rattle.jvm_machine.specs.Tables.{AreNamedOf, AreTablesOf};
-ghost use Rattle.program_verifier.specs.Programs.{AreNumbered, IsLibraryAccepted};
+ghost use Rattle.jvm_step.specs.Tables.{AreNamedOf, AreTablesOf};
+ghost use Rattle.type_verifier.specs.Programs.{AreNumbered, IsLibraryAccepted};
 ghost use Rattle.mutant_runs.specs.Edited.{TellsAccepted};
 ghost use Rattle.mutant_runs.specs.Files.{IsKept};
 ghost use Rattle.mutant_runs.specs.Programs.{files_of, IsMutantOf, ComesOf};
@@ -20,15 +20,15 @@ use crate::tests_run::run_tests;
 use crate::verdict::verdict_by;
 use class_model::{ClassId, Memory, Seq};
 use class_table::{ClassBody, ClassInfo, Program, Test};
-use edited_bytes::parts_are_of_applied;
-use jvm_machine::Tables;
+use jvm_step::Tables;
 use machine_rules::Limits;
 use mt_edge::MeterPart;
+use mutant_apply::parts_are_of_applied;
 use mutator_ops::{Mutant, Verdict};
-use program_verifier::{VerifyEnd, verify_class};
 use std::alloc::Global;
 use std::sync::Arc;
 use type_laws::first_faults_are_found;
+use type_verifier::{VerifyEnd, verify_class};
 
 // The form of a program is known. Only the prover reads this.
 fn is_program(program: &Program)

@@ -13,7 +13,7 @@ use Rattle.mutant_runs.specs.Programs.{files_of, viable, IsMutantOf}
 use Rattle.mutant_runs.specs.Promises.{AreViable, AreVerdicts, steps_for_all}
 use Rattle.mutator_ops.specs.declared.mutant.Mutant.{Mutant}
 use Rattle.mutator_ops.specs.declared.mutant.Verdict.{Verdict}
-use Rattle.needed_laws.specs.Tested.{ArePlaces, IsListed, IsPlace}
+use Rattle.suite_laws.specs.Tested.{ArePlaces, IsListed, IsPlace}
 use Rattle.test_select.specs.Cells.{cells}
 use Rattle.test_select.specs.declared.mutant.MutantPlace.{MutantPlace}
 use Rattle.class_table.specs.declared.scripted.Test.{Test}

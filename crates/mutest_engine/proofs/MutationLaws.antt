@@ -13,7 +13,7 @@ use Rattle.class_link.specs.declared.loaded.Loaded.{Loaded}
 use Rattle.mutant_apply.specs.Laws.{MutantsFit}
 use Rattle.mutant_runs.specs.Programs.{ClassFiles, files_of}
 use Rattle.mutant_runs.specs.Ready.{IsReady}
-use Rattle.needed_laws.specs.Tested.{IsListed}
+use Rattle.suite_laws.specs.Tested.{IsListed}
 use Rattle.test_discovery.specs.Discovery.{Tests}
 use Rattle.test_discovery.specs.declared.fault.TestFault.{TestFault}
 use Rattle.report_schema.specs.declared.input.ReportInput.{ReportInput}

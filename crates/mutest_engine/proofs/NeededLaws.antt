@@ -8,16 +8,16 @@ use Rattle.class_link.specs.Info.{Info}
 use Rattle.class_model.specs.declared.class.ClassId.{ClassId}
 use Rattle.class_table.specs.Table.{look}
 use Rattle.class_table.specs.declared.scripted.Test.{Test}
-use Rattle.jvm_machine.specs.declared.result.RunResult.{RunResult}
+use Rattle.jvm_run.specs.declared.result.RunResult.{RunResult}
 use Rattle.jvm_world.specs.View.{named}
 use Rattle.line_coverage.specs.Coverage.{Covered, Covers, AddsRun}
 use Rattle.machine_rules.specs.Runs.{Ending, With, StuckAt}
 use Rattle.class_model.specs.declared.outcome.Outcome.{Outcome}
 use Rattle.machine_rules.specs.Outcomes.{Passed, Failed, TimedOut, MemoryOut}
-use Rattle.mutant_laws.specs.Covered.{original_run as run_on, AllPass}
+use Rattle.suite_laws.specs.Covered.{original_run as run_on, AllPass}
 use Rattle.mutator_ops.specs.declared.mutant.Mutant.{Mutant}
-use Rattle.needed_laws.specs.Suites.{SuitesAreSafe, FoundTestsFit}
-use Rattle.needed_laws.specs.Tested.{AreNeeded, CoveringTestsAreNeeded}
+use Rattle.suite_laws.specs.Suites.{SuitesAreSafe, FoundTestsFit}
+use Rattle.suite_laws.specs.Tested.{AreNeeded, CoveringTestsAreNeeded}
 use Rattle.program_rules.specs.Programs.{Look}
 use Rattle.mutest_engine.specs.Mutation.{verdicts_by, AreCovered, SuitesAreCovered}
 use Rattle.mutest_engine.specs.Originals.{run_limits, original_run, run_ending, run_failure, failure_of, with_first, failures_of, all_passed, originals_pass, AreMeasured, IsRunOf, MeasuresRun}

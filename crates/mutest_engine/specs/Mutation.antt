@@ -21,8 +21,8 @@ use Rattle.mutant_runs.specs.Runs.{Timed, timed}
 use Rattle.mutant_runs.specs.Verdicts.{verdict_of}
 use Rattle.mutant_runs.specs.Needed.{needed_of_all}
 use Rattle.mutant_runs.specs.Promises.{AreViable, AreVerdicts, steps_for_all}
-use Rattle.needed_laws.specs.Suites.{IsOfSuite}
-use Rattle.needed_laws.specs.Tested.{IsListed, ArePlaces}
+use Rattle.suite_laws.specs.Suites.{IsOfSuite}
+use Rattle.suite_laws.specs.Tested.{IsListed, ArePlaces}
 use Rattle.report_schema.specs.FileKey.{file_key}
 use Rattle.report_schema.specs.declared.input.ReportInput.{ReportInput}
 use Rattle.mutest_engine.specs.Refusals.{IsBeforeRuns}

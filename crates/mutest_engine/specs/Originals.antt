@@ -12,14 +12,14 @@ use Rattle.class_link.specs.declared.loaded.Loaded.{Loaded}
 use Rattle.class_table.specs.Table.{look}
 use Rattle.class_table.specs.declared.scripted.Test.{Test}
 use Rattle.jvm_world.specs.View.{named, test_of}
-use Rattle.jvm_machine.specs.declared.ending.Ending.{Ending as RunEnding}
-use Rattle.jvm_machine.specs.declared.ending.Ending.TheVariants as ending
-use Rattle.jvm_machine.specs.Ending.{ending_in}
-use Rattle.jvm_machine.specs.Result.{pairs_of}
-use Rattle.jvm_machine.specs.declared.result.RunResult.{RunResult}
+use Rattle.jvm_run.specs.declared.ending.Ending.{Ending as RunEnding}
+use Rattle.jvm_run.specs.declared.ending.Ending.TheVariants as ending
+use Rattle.jvm_run.specs.Ending.{ending_in}
+use Rattle.jvm_run.specs.Result.{pairs_of}
+use Rattle.jvm_run.specs.declared.result.RunResult.{RunResult}
 use Rattle.line_coverage.specs.Coverage.{Covered}
 use Rattle.mutator_ops.specs.Printing.{printed}
-use Rattle.needed_laws.specs.Tested.{IsMeasured}
+use Rattle.suite_laws.specs.Tested.{IsMeasured}
 use Rattle.suite_program.specs.Faults.{first_fault}
 use Rattle.suite_program.specs.declared.fault.ProgramEnd.{ProgramEnd}
 use Rattle.suite_program.specs.declared.fault.ProgramEnd.TheVariants as end

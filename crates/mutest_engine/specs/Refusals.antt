@@ -7,7 +7,7 @@ use Rattle.class_model.specs.Fault.{number_of}
 use Rattle.class_model.specs.declared.fault.ClassFault.{ClassFault}
 use Rattle.class_model.specs.declared.fault.ClassFault.TheVariants as class_fault
 use Rattle.class_asm.specs.Assembled.{AssembledClass}
-use Rattle.asm_text.specs.declared.fault.AsmFault.TheVariants as asm_fault
+use Rattle.class_asm.specs.declared.fault.AsmFault.TheVariants as asm_fault
 use Rattle.test_discovery.specs.declared.fault.Rule.{Rule}
 use Rattle.test_discovery.specs.declared.fault.Rule.TheVariants as rule
 use Rattle.test_discovery.specs.declared.fault.TestFault.{TestFault}

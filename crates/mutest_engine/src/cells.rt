@@ -3,7 +3,7 @@
 
 ghost use Rattle.std.specs.Prelude.{◌≡◌, All, IfOk};
 ghost use Rattle.mutant_runs.specs.Promises.{AreViable};
-ghost use Rattle.needed_laws.specs.Tested.{ArePlaces, IsListed, IsPlace};
+ghost use Rattle.suite_laws.specs.Tested.{ArePlaces, IsListed, IsPlace};
 ghost use Rattle.mutest_engine.specs.Mutation.{refuse_many_cells, IsCellCount};
 
 use crate::refusal::{Limit, Refusal};

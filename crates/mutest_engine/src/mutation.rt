@@ -3,7 +3,7 @@
 ghost use Rattle.std.specs.Prelude.{◌≡◌, ◌+◌, ◌<◌, ◌≤◌, ◌^◌, ◌++◌, length, map, All, IfOk, IfErr};
 ghost use Rattle.class_table.specs.Table.{look};
 ghost use Rattle.mutant_runs.specs.Ready.{IsReady};
-ghost use Rattle.needed_laws.specs.Tested.{IsListed};
+ghost use Rattle.suite_laws.specs.Tested.{IsListed};
 ghost use Rattle.report_schema.specs.FileKey.{file_key};
 ghost use Rattle.mutest_engine.specs.Steps.{Gives, Refuses, Counts};
 ghost use Rattle.mutest_engine.specs.SuiteFiles.{IsFormed};
@@ -24,9 +24,9 @@ use mt_edge::{Meter, MeterPart};
 use mutant_apply::mutants_fit;
 use mutant_runs::{verdicts, viable};
 use mutator_ops::{Mutant, Verdict};
-use needed_laws::{covering_tests_are_needed, found_tests_fit, suites_are_safe};
 use report_schema::{ReportInput, file_key};
 use std::alloc::Global;
+use suite_laws::{covering_tests_are_needed, found_tests_fit, suites_are_safe};
 use suite_program::program_of;
 
 // What the tests that cover a mutant say of it is what all say, of a suite whose tests all pass.

@@ -2,12 +2,12 @@
 
 ghost use Rattle.std.specs.Prelude.{◌≡◌, ◌<◌, length};
 ghost use Rattle.class_table.specs.Table.{look};
-ghost use Rattle.program_verifier.specs.Programs.{AreNumbered, IsLibraryAccepted};
+ghost use Rattle.type_verifier.specs.Programs.{AreNumbered, IsLibraryAccepted};
 
 use class_model::{ClassId, Memory, Name};
 use class_table::Program;
-use program_verifier::{VerifyEnd, VerifyFault, is_numbered, verify_class, verify_library};
 use std::alloc::Global;
+use type_verifier::{VerifyEnd, VerifyFault, is_numbered, verify_class, verify_library};
 
 /// How many classes are accepted, and the first fault of each other one.
 #[derive(Drop)]

@@ -6,10 +6,10 @@ use Rattle.class_link.specs.declared.loaded.LibClass.{LibClass}
 use Rattle.class_link.specs.Info.{Info, IsInfo}
 use Rattle.class_table.specs.Faults.{HasRightKinds, look_of, AreProgram}
 use Rattle.class_table.specs.Table.{AreDistinct, bodies_of, look}
-use Rattle.accepted_edits.specs.Codes.{IsBoundedBody, BoundedAreNumbered}
+use Rattle.mutant_runs.specs.Codes.{IsBoundedBody, BoundedAreNumbered}
 use Rattle.lib_table.specs.Library.{library_meant}
 use Rattle.library_laws.specs.Bounded.{AreBounded}
-use Rattle.linked_files.specs.Bounded.{LinkedFilesAreBounded}
+use Rattle.program_laws.specs.Bounded.{LinkedFilesAreBounded}
 use Rattle.suite_program.specs.Building.{IsBuilt}
 use Rattle.library_laws.specs.Beside.{program_of}
 use Rattle.suite_program.specs.Programs.{classes_in, AreSpelled}

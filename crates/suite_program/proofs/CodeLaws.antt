@@ -9,8 +9,8 @@ use Rattle.type_rules.specs.Rules.{MethodFault, Accepted, ClassAccepted, IsFirst
 use Rattle.type_laws.specs.Faults.{AcceptedHaveNone, FirstAreFound}
 use Rattle.class_link.specs.Info.{Info}
 use Rattle.class_table.specs.Table.{look, names, name_at}
-use Rattle.program_verifier.specs.Programs.{comes_before, place_of, IsFirstRefused}
-use Rattle.program_verifier.specs.declared.end.VerifyFault.{VerifyFault}
+use Rattle.type_verifier.specs.Programs.{comes_before, place_of, IsFirstRefused}
+use Rattle.type_verifier.specs.declared.end.VerifyFault.{VerifyFault}
 use Rattle.suite_program.specs.Building.{found_fault, first_in}
 use Rattle.suite_program.specs.Faults.{code_fault, refused_code, first_refused}
 use Rattle.suite_program.specs.Duplicates.{least}

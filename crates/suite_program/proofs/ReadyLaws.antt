@@ -15,11 +15,11 @@ use Rattle.program_rules.specs.Names.{Name, same}
 use Rattle.program_rules.specs.Linked.{Linked}
 use Rattle.program_rules.specs.Library.{class_among}
 use Rattle.type_laws.specs.Bounds.{HasBoundedCodes}
-use Rattle.linked_files.specs.Bounded.{LinkedFilesAreBounded}
+use Rattle.program_laws.specs.Bounded.{LinkedFilesAreBounded}
 use Rattle.lib_table.specs.Library.{library_meant, class_meant}
 use Rattle.library_laws.specs.Beside.{AreOfFiles, AreApart, behind_others, named, program_of}
-use Rattle.accepted_edits.specs.Codes.{IsBoundedBody}
-use Rattle.program_verifier.specs.Programs.{IsLibraryAccepted}
+use Rattle.mutant_runs.specs.Codes.{IsBoundedBody}
+use Rattle.type_verifier.specs.Programs.{IsLibraryAccepted}
 use Rattle.suite_program.specs.Programs.{classes_in, names_in}
 use Rattle.suite_program.proofs.DuplicateLaws.{In, apart_lists}
 

@@ -9,9 +9,9 @@ use Rattle.class_table.specs.declared.fault.TableFault.{TableFault}
 use Rattle.class_table.specs.declared.fault.TableFault.TheVariants as fault
 use Rattle.class_table.specs.Faults.{HasRightKinds}
 use Rattle.class_table.specs.Table.{look, names, name_at}
-use Rattle.program_verifier.specs.declared.end.VerifyFault.{VerifyFault}
-use Rattle.program_verifier.specs.Programs.{AreNumbered, IsLibraryAccepted, place_of}
-use Rattle.accepted_edits.specs.Codes.{IsBoundedBody}
+use Rattle.type_verifier.specs.declared.end.VerifyFault.{VerifyFault}
+use Rattle.type_verifier.specs.Programs.{AreNumbered, IsLibraryAccepted, place_of}
+use Rattle.mutant_runs.specs.Codes.{IsBoundedBody}
 use Rattle.mutant_runs.specs.Programs.{files_of}
 use Rattle.suite_program.specs.declared.fault.ProgramFault.{ProgramFault}
 use Rattle.suite_program.specs.declared.fault.ProgramFault.TheVariants.{Duplicate, SuperMissing, SuperCycle, SuperKind}

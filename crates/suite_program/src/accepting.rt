@@ -4,18 +4,18 @@ ghost use Rattle.std.specs.Prelude.{◌≡◌, ◌++◌, ◌<◌, length, None, 
 ghost use Rattle.class_table.specs.Table.{look, name_at};
 ghost use Rattle.machine_rules.specs.Steps.{method_text};
 ghost use Rattle.program_rules.specs.Linked.{method_in};
-ghost use Rattle.program_verifier.specs.Programs.{AreNumbered, IsLibraryAccepted, IsFirstRefused};
-ghost use Rattle.program_verifier.specs.declared.end.VerifyEnd.TheVariants as verdict;
-ghost use Rattle.program_verifier.specs.declared.end.VerifyFault.{VerifyFault};
+ghost use Rattle.type_verifier.specs.Programs.{AreNumbered, IsLibraryAccepted, IsFirstRefused};
+ghost use Rattle.type_verifier.specs.declared.end.VerifyEnd.TheVariants as verdict;
+ghost use Rattle.type_verifier.specs.declared.end.VerifyFault.{VerifyFault};
 ghost use Rattle.suite_program.specs.Building.{found_fault, first_in, TellsFirst, RefusesCode};
 ghost use Rattle.type_rules.specs.Rules.{Accepted};
 
 use crate::fault::{ProgramEnd, ProgramFault};
 use class_model::{ClassId, Memory, Name, Seq};
 use class_table::Program;
-use program_verifier::{VerifyEnd, VerifyFault, verify};
 use std::alloc::Global;
 use type_laws::first_faults_are_found;
+use type_verifier::{VerifyEnd, VerifyFault, verify};
 
 // Two names written together.
 fn joined(first: &Name, second: &Name) -> Result<Name, Memory>

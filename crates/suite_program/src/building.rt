@@ -11,12 +11,12 @@ ghost use Rattle.suite_program.specs.Programs.{classes_in, AreSpelled, class_fil
 
 use crate::accepting::accept;
 use crate::fault::{ProgramEnd, ProgramFault};
-use accepted_edits::instructions_have_numbers;
 use class_model::Seq;
 use class_table::{Loaded, Program, TableFault};
 use lib_table::classes as library_classes;
 use library_laws::{library_is_accepted_behind, library_is_bounded};
-use linked_files::linked_files_are_bounded;
+use mutant_runs::instructions_have_numbers;
+use program_laws::linked_files_are_bounded;
 use std::alloc::Global;
 
 // Why there is no program, by the table's fault.

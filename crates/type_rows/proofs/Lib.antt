@@ -3,3 +3,4 @@ pub mod Stored
 pub mod Settings
 pub mod Homes
 pub mod News
+mod Switched

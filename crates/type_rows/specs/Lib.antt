@@ -3,3 +3,4 @@ pub mod Items
 pub mod Locals
 pub mod Sites
 pub mod Words
+pub mod Means

@@ -1,12 +1,16 @@
-//! What each instruction makes of the frame before it: one function for each row of the type rules
-//! (JVMS 4.10.1.9), which answers as the row does.
+//! The row of each instruction for the type checker: what it takes from a frame and what it gives
+//! (JVMS 4.10.1.9).
 #![tactic(auto)]
 
 mod answer;
 mod arithmetic_rows;
 mod array_rows;
+mod by_index;
+mod by_number;
 mod call_rows;
+mod dispatch;
 mod field_rows;
+mod indices;
 mod item;
 mod jump_rows;
 mod local_rows;
@@ -27,6 +31,7 @@ pub use array_rows::{
     array_length, array_load, array_store, new_array, new_multi_array, new_reference_array,
 };
 pub use call_rows::{call_method, call_static};
+pub use dispatch::row;
 pub use field_rows::{get_field, get_static, put_field, put_static};
 pub use item::{Called, Item, Signature};
 pub use jump_rows::{goto, if_int, if_ints, if_reference, if_references, leads};

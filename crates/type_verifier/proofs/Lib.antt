@@ -3,3 +3,18 @@ pub mod Owns
 pub mod Firsts
 mod Indices
 mod Kept
+pub mod Stands
+pub mod Nexts
+pub mod Stepping
+pub mod Placing
+pub mod Expanding
+pub mod Naming
+mod Fitting
+mod Falling
+mod Judging
+mod HeadLaws
+mod CodeLaws
+mod MethodLaws
+mod ClassLaws
+mod LibraryLaws
+mod ProgramLaws

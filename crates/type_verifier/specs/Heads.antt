@@ -19,7 +19,7 @@ use Rattle.vframes.specs.View.{types_in}
 use Rattle.type_rows.specs.declared.site.Given.{Given}
 use Rattle.type_rows.specs.declared.site.CommonNames.{CommonNames}
 use Rattle.type_rows.specs.Sites.{IsGiven}
-use Rattle.type_row.specs.Means.{AreCommon}
+use Rattle.type_rows.specs.Means.{AreCommon}
 use Rattle.type_verifier.specs.declared.names.Names.{Names}
 use Rattle.type_verifier.specs.Tables.{NameLasts}
 

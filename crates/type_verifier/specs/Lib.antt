@@ -4,3 +4,14 @@ pub mod Pool
 pub mod PoolTexts
 pub mod Meanings
 pub mod Heads
+pub mod Standing
+pub mod Steps
+pub mod Expansions
+pub mod Caught
+pub mod Handlers
+pub mod Passes
+pub mod ProgramHeads
+pub mod ProgramTables
+pub mod Methods
+pub mod Programs
+pub mod Libraries

@@ -6,3 +6,5 @@ pub mod FreshLaws
 pub mod Closed
 pub mod StatedLaws
 pub mod StatedTables
+mod Retaining
+mod Sweeping

@@ -6,3 +6,4 @@ pub mod Stated
 pub mod StatedFrames
 pub mod Takes
 pub mod Fits
+pub mod Sweeps

@@ -8,11 +8,13 @@ mod by_name;
 mod frame;
 mod fresh;
 mod full;
+mod handlers;
 mod named;
 mod slot_type;
 mod stack;
 mod stated;
 mod stated_frames;
+mod sweep;
 
 pub use assign::{is_assignable, is_below, is_frame_assignable, is_interface, is_name_assignable};
 pub use base::Base;
@@ -20,6 +22,7 @@ pub use by_name::assignable;
 pub use frame::Frame;
 pub use fresh::Fresh;
 pub use full::frame_in_full;
+pub use handlers::Handler;
 pub use named::{Named, is_same_name, name_parts, named_at};
 pub use slot_type::SlotType;
 pub use stack::{Stack, Two, words_of};
@@ -28,3 +31,4 @@ pub use stated::{
     push_locals,
 };
 pub use stated_frames::StatedFrames;
+pub use sweep::Sweep;

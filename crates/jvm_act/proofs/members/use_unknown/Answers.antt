@@ -1,5 +1,5 @@
 use Rattle.class_link.specs.View.{field_ref_of}
-use Rattle.jvm_field_rows.specs.Rows.{instance_row}
+use Rattle.jvm_members.specs.FieldRows.{instance_row}
 use Rattle.jvm_act.specs.declared.groups.FieldUse.TheVariants as field
 use Rattle.jvm_act.proofs.Fielded.{no_field, object_at}
 use Rattle.jvm_act.proofs.Framed.{wholes_keep_frames}

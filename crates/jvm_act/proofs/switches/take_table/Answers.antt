@@ -4,7 +4,7 @@ use Rattle.std.proofs.lemmas.Int.{to_z-of_z}
 use mir.Val.{SFits}
 use Rattle.program_rules.specs.Instructions as def
 use Rattle.class_link.specs.View.{table_of}
-use Rattle.jvm_plain_rows.specs.Plain.{RunsAs}
+use Rattle.jvm_rows.specs.Plain.{RunsAs}
 use Rattle.jvm_act.proofs.Rows.{no_table}
 use Rattle.jvm_act.proofs.switches.take_table.Goals as goal
 

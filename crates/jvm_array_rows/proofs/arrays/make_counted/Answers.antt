@@ -1,7 +1,7 @@
 use Rattle.std.proofs.Common.{◌∙◌, sym}
 use Rattle.program_rules.specs.declared.fault.Fault.TheVariants.{NegativeArraySizeException}
-use Rattle.jvm_heap_rows.specs.Rows.{throwing}
-use Rattle.jvm_heap_rows.proofs.Ends.{along}
+use Rattle.jvm_rows.specs.Rows.{throwing}
+use Rattle.jvm_rows.proofs.Ends.{along}
 use Rattle.jvm_array_rows.specs.Rows.{counted_row}
 use Rattle.jvm_array_rows.proofs.Ways.{below_zero}
 use Rattle.jvm_array_rows.proofs.arrays.make_counted.Goals as goal

@@ -1,6 +1,6 @@
 use Rattle.std.proofs.Common.{subst, MatchOption}
 use Rattle.jvm_frames.specs.Frames.{stack_of}
-use Rattle.jvm_heap_rows.proofs.Ends.{no_row}
+use Rattle.jvm_rows.proofs.Ends.{no_row}
 use Rattle.jvm_array_rows.specs.Rows.{TakesCounts, NoCounts, dimensioned_row}
 use Rattle.jvm_array_rows.proofs.Ways.{no_counts}
 use Rattle.jvm_array_rows.proofs.arrays.make_dimensioned.Goals as goal

@@ -1,7 +1,7 @@
 use Rattle.program_rules.specs.declared.value.Value.TheVariants.{Null}
 use Rattle.jvm_array_rows.specs.Built.{making}
-use Rattle.jvm_heap_rows.proofs.Ends.{fits_there}
-use Rattle.jvm_object_rows.proofs.Making.{room_not}
+use Rattle.jvm_rows.proofs.Ends.{fits_there}
+use Rattle.jvm_rows.proofs.Making.{room_not}
 use Rattle.jvm_array_rows.proofs.arrays.push_arrays.Goals as goal
 
 pub returns-then-not-fits-clause-row : goal.returns-then-not-fits-clause-row

@@ -1,6 +1,6 @@
 use Rattle.std.proofs.Common.{subst}
 use Rattle.class_link.specs.View.{method_ref_of}
-use Rattle.jvm_resolved.specs.References.{ResolvesMethodRef}
+use Rattle.jvm_link.specs.References.{ResolvesMethodRef}
 use Rattle.jvm_invokes.proofs.StaticCalls.{invoked_static, failed_static}
 use Rattle.jvm_invokes.proofs.statics.invoke_static.Goals as goal
 

@@ -1,4 +1,4 @@
-use Rattle.jvm_heap_rows.proofs.Ends.{fits_there}
+use Rattle.jvm_rows.proofs.Ends.{fits_there}
 use Rattle.jvm_natives.proofs.giving.put.Goals as goal
 
 pub put-requires-clause-room : goal.put-requires-clause-room

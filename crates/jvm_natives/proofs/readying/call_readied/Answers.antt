@@ -1,7 +1,7 @@
 use Rattle.std.proofs.Common.{subst, ◌+◌, ◌<◌}
 use Rattle.std.specs.Prelude.{◌^◌}
 use Rattle.jvm_frames.specs.Frames.{NumberedFrame}
-use Rattle.jvm_begin.specs.Needs.{ReadiesTo}
+use Rattle.jvm_initialization.specs.Needs.{ReadiesTo}
 use Rattle.jvm_natives.proofs.Readied.{frames_after, next_after, ready_call, turned_call}
 use Rattle.jvm_natives.proofs.readying.call_readied.Goals as goal
 

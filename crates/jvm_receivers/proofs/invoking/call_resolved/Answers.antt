@@ -1,7 +1,7 @@
 use Rattle.std.proofs.Common.{◌∙◌, sym, ap, true, false}
 use Rattle.program_rules.specs.declared.fault.Fault.TheVariants.{IncompatibleClassChangeError}
 use Rattle.class_link.specs.View.{method_ref_of}
-use Rattle.jvm_heap_rows.specs.Rows.{throwing}
+use Rattle.jvm_rows.specs.Rows.{throwing}
 use Rattle.jvm_receivers.specs.Kinds.{is_barred, on_row}
 use Rattle.jvm_receivers.specs.Targets.{receiving}
 use Rattle.jvm_receivers.proofs.Rows.{bars_or_calls}

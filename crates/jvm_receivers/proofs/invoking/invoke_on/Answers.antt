@@ -1,6 +1,6 @@
 use Rattle.std.proofs.Common.{subst}
 use Rattle.class_link.specs.View.{method_ref_of}
-use Rattle.jvm_resolved.specs.References.{ResolvesMethodRef}
+use Rattle.jvm_link.specs.References.{ResolvesMethodRef}
 use Rattle.jvm_receivers.specs.Kinds.{found_row}
 use Rattle.jvm_receivers.proofs.Rows.{names_method}
 use Rattle.jvm_receivers.proofs.Selecting.{resolved_call, resolved_fault}

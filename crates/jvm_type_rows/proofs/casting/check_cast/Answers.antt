@@ -1,6 +1,6 @@
 use Rattle.std.proofs.Common.{subst}
 use Rattle.class_table.specs.Table.{look}
-use Rattle.jvm_heap_rows.proofs.Ends.{along, no_row}
+use Rattle.jvm_rows.proofs.Ends.{along, no_row}
 use Rattle.jvm_type_rows.specs.Instances.{TellsInstance, cast_end_row, cast_found_row}
 use Rattle.jvm_type_rows.proofs.Casts.{cast_is, cast_nothing}
 use Rattle.jvm_type_rows.proofs.casting.check_cast.Goals as goal

@@ -1,6 +1,6 @@
 use Rattle.std.proofs.Common.{subst, sym}
-use Rattle.jvm_heap_rows.specs.declared.effect.Effect.TheVariants as effect
-use Rattle.jvm_heap_rows.specs.Effects.{Runs}
+use Rattle.jvm_rows.specs.declared.effect.Effect.TheVariants as effect
+use Rattle.jvm_rows.specs.Effects.{Runs}
 use Rattle.jvm_type_rows.specs.Instances.{cast_end_row}
 use Rattle.jvm_type_rows.proofs.Casts.{cast_passes}
 use Rattle.jvm_type_rows.proofs.casting.end_cast.Goals as goal

@@ -1,8 +1,8 @@
 use Rattle.std.proofs.Common.{subst}
 use Rattle.class_table.specs.Table.{look}
-use Rattle.jvm_heap_rows.specs.Effects.{Runs}
-use Rattle.jvm_heap_rows.specs.Rows.{putting}
-use Rattle.jvm_heap_rows.proofs.Ends.{along, no_row}
+use Rattle.jvm_rows.specs.Effects.{Runs}
+use Rattle.jvm_rows.specs.Rows.{putting}
+use Rattle.jvm_rows.proofs.Ends.{along, no_row}
 use Rattle.jvm_type_rows.specs.Instances.{TellsInstance, test_found_row, truth_value}
 use Rattle.jvm_type_rows.proofs.Casts.{test_is, test_nothing}
 use Rattle.jvm_type_rows.proofs.casting.test_instance.Goals as goal

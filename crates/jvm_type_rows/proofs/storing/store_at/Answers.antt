@@ -5,8 +5,8 @@ use mir.Val.{SFits}
 use Rattle.program_rules.specs.declared.value.Value.TheVariants.{Ref, Null}
 use Rattle.program_rules.specs.declared.operation.Element.TheVariants.{ReferenceElement}
 use Rattle.class_table.specs.Table.{look}
-use Rattle.jvm_heap_rows.specs.Effects.{Runs}
-use Rattle.jvm_heap_rows.specs.Storing.{storing_at}
+use Rattle.jvm_rows.specs.Effects.{Runs}
+use Rattle.jvm_rows.specs.Storing.{storing_at}
 use Rattle.jvm_type_rows.specs.Storing.{reference_value, storing_value}
 use Rattle.jvm_type_rows.proofs.storing.store_at.Goals as goal
 

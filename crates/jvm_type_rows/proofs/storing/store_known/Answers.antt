@@ -4,8 +4,8 @@ use Rattle.std.proofs.lemmas.Int.{to_z-of_z}
 use mir.Val.{SFits}
 use Rattle.program_rules.specs.declared.value.Value.TheVariants.{Ref}
 use Rattle.program_rules.specs.declared.operation.Element.TheVariants.{ReferenceElement}
-use Rattle.jvm_heap_rows.specs.Effects.{Runs}
-use Rattle.jvm_heap_rows.specs.Storing.{storing_at}
+use Rattle.jvm_rows.specs.Effects.{Runs}
+use Rattle.jvm_rows.specs.Storing.{storing_at}
 use Rattle.jvm_type_rows.specs.Storing.{storing_known}
 use Rattle.jvm_type_rows.proofs.storing.store_known.Goals as goal
 

@@ -5,9 +5,9 @@ use mir.Val.{SFits}
 use Rattle.program_rules.specs.declared.value.Value.TheVariants.{Ref}
 use Rattle.program_rules.specs.declared.fault.Fault.TheVariants.{ArrayIndexOutOfBoundsException}
 use Rattle.class_table.specs.Table.{look}
-use Rattle.jvm_heap_rows.specs.Effects.{Runs}
-use Rattle.jvm_heap_rows.specs.Rows.{throwing}
-use Rattle.jvm_heap_rows.proofs.Ends.{along, no_row}
+use Rattle.jvm_rows.specs.Effects.{Runs}
+use Rattle.jvm_rows.specs.Rows.{throwing}
+use Rattle.jvm_rows.proofs.Ends.{along, no_row}
 use Rattle.jvm_type_rows.specs.Storing.{FitsArray, storing_value, storing_known}
 use Rattle.jvm_type_rows.proofs.Stores.{value_nowhere, value_outside, value_known, value_unknown}
 use Rattle.jvm_type_rows.proofs.storing.store_object.Goals as goal

@@ -7,11 +7,11 @@ use Rattle.program_rules.specs.declared.operation.Element.TheVariants.{Reference
 use Rattle.class_table.specs.Table.{look}
 use Rattle.jvm_state.specs.Tops.{TakesReference}
 use Rattle.jvm_frames.specs.Frames.{stack_of}
-use Rattle.jvm_heap_rows.specs.Effects.{Runs}
-use Rattle.jvm_heap_rows.specs.Rows.{throwing}
-use Rattle.jvm_heap_rows.specs.Storing.{storing_element}
-use Rattle.jvm_heap_rows.proofs.Ends.{along, no_row}
-use Rattle.jvm_heap_rows.proofs.Stored.{no_value_taken, no_place, no_target, null_target}
+use Rattle.jvm_rows.specs.Effects.{Runs}
+use Rattle.jvm_rows.specs.Rows.{throwing}
+use Rattle.jvm_rows.specs.Storing.{storing_element}
+use Rattle.jvm_rows.proofs.Ends.{along, no_row}
+use Rattle.jvm_rows.proofs.Stored.{no_value_taken, no_place, no_target, null_target}
 use Rattle.jvm_type_rows.specs.Storing.{reference_value, storing_value}
 use Rattle.jvm_type_rows.proofs.Stores.{takes_value, no_value, a_place}
 use Rattle.jvm_type_rows.proofs.storing.store_reference.Goals as goal

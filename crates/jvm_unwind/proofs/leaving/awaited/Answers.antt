@@ -1,5 +1,5 @@
 use Rattle.std.proofs.Common.{rules, ◌≡◌, ◌∙◌, sym, subst, Some, IsSomeAnd}
-use Rattle.jvm_catch.specs.Rows.{catch_name}
+use Rattle.jvm_unwind.specs.Rows.{catch_name}
 use Rattle.jvm_unwind.proofs.Worlds.{expected_is, none_expected}
 use Rattle.jvm_unwind.proofs.leaving.awaited.Goals as goal
 

@@ -1,5 +1,5 @@
 use Rattle.std.proofs.Common.{◌≡◌, Err, rules}
-use Rattle.program_verifier.specs.declared.end.VerifyEnd.TheVariants.{Refused}
+use Rattle.type_verifier.specs.declared.end.VerifyEnd.TheVariants.{Refused}
 use Rattle.mutant_runs.proofs.ReadyLaws.{told_refused}
 use Rattle.mutant_runs.proofs.on_mutant.is_accepted.Goals as goal
 

@@ -1,5 +1,5 @@
 use Rattle.std.proofs.Common.{take}
-use Rattle.needed_laws.specs.Tested.{ArePlaces}
+use Rattle.suite_laws.specs.Tested.{ArePlaces}
 use Rattle.mutest_engine.proofs.cells.places_of.Given as goal
 
 abbrev pub invariant-loop-mutant : goal.invariant-loop-mutant

@@ -6,7 +6,7 @@ use Rattle.class_table.specs.Table.{look}
 use Rattle.mutant_runs.specs.Programs.{files_of, IsMutantOf}
 use Rattle.mutant_runs.specs.Promises.{AreViable, steps_for_all}
 use Rattle.mutant_runs.specs.Ready.{IsReady}
-use Rattle.needed_laws.specs.Tested.{IsListed}
+use Rattle.suite_laws.specs.Tested.{IsListed}
 use Rattle.mutest_engine.specs.Originals.{run_limits}
 use Rattle.mutest_engine.proofs.CellLaws.{all_fit, count_is, are_refused, verdicts_are, steps_are}
 use Rattle.mutest_engine.proofs.StepLaws.{counts_each, counts_few, cells_then, cells_refused, needed_then, none_needed}

@@ -1,7 +1,7 @@
 use Rattle.std.proofs.Common.{◌≡◌, ◌+◌, drop, take}
 use Rattle.codec_rules.specs.Reading.{with_values}
 use Rattle.class_table.specs.Table.{look}
-use Rattle.jvm_machine.specs.Tables.{AreTablesOf}
+use Rattle.jvm_step.specs.Tables.{AreTablesOf}
 use Rattle.mutest_engine.specs.Originals.{failures_of, original_steps, steps_made, AreMeasured}
 use Rattle.mutest_engine.proofs.originals.failures_of.Given as goal
 

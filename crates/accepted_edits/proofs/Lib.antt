@@ -1,3 +1,0 @@
-mod Putting
-mod Keeping
-mod Codes

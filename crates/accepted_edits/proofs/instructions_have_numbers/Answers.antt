@@ -1,5 +1,0 @@
-use Rattle.accepted_edits.proofs.Codes.{spelled_bounded, bounded_numbered, put_numbered}
-use Rattle.accepted_edits.proofs.instructions_have_numbers.Goals as goal
-
-pub returns : goal.returns
-returns c = record { spelled = spelled_bounded; numbered = bounded_numbered; put = put_numbered }

@@ -1,5 +1,0 @@
-mod Naming
-mod Grown
-mod Pools
-mod Keeping
-mod WitnessLaws

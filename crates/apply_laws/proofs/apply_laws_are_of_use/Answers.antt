@@ -1,5 +1,0 @@
-use Rattle.apply_laws.proofs.WitnessLaws.{sample_has_mutant}
-use Rattle.apply_laws.proofs.apply_laws_are_of_use.Goals as goal
-
-pub returns : goal.returns
-returns c = sample_has_mutant c.files_are_read_as_spelled.ensures.read

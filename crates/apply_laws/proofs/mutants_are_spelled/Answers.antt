@@ -1,5 +1,0 @@
-use Rattle.apply_laws.proofs.Keeping.{mutants_spelled}
-use Rattle.apply_laws.proofs.mutants_are_spelled.Goals as goal
-
-pub returns : goal.returns
-returns c = mutants_spelled c.edits_are_spelled.ensures c.what_is_spelled_is_written.ensures c.mutants_fit.ensures

@@ -1,2 +1,0 @@
-pub mod MnemonicLaws
-pub mod InsnLaws

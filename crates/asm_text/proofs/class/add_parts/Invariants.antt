@@ -1,6 +1,0 @@
-use Rattle.std.proofs.Common.{◌≡◌, drop}
-use Rattle.asm_text.specs.Classes.{parts_from}
-use Rattle.asm_text.proofs.class.add_parts.Given as goal
-
-abbrev pub invariant-loop-place : goal.invariant-loop-place
-invariant-loop-place l = parts_from l.last l.class (drop l.place l.lines) ≡ parts_from l.last l.fn.class l.lines

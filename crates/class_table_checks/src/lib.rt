@@ -1,4 +1,0 @@
-//! The functions over which wrong bodies are tried.
-#![tactic(auto)]
-
-pub mod calls;

@@ -1,7 +1,0 @@
-mod Body
-mod Gathering
-mod Members
-mod Ordered
-mod Texts
-mod Whole
-mod WitnessLaws

@@ -1,4 +1,0 @@
-pub mod ClassText
-pub mod HasText
-pub mod Statement
-pub mod Witness

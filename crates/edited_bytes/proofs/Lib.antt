@@ -1,4 +1,0 @@
-pub mod Members
-pub mod Bounds
-pub mod Splices
-pub mod Applied

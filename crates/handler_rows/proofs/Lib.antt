@@ -1,2 +1,0 @@
-mod Retaining
-mod Sweeping

@@ -1,9 +1,0 @@
-pub mod Turned
-mod Declared
-mod Slotted
-mod Past
-mod Fielded
-mod Known
-mod Readied
-mod Laid
-mod Made

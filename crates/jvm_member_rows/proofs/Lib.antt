@@ -1,4 +1,0 @@
-pub mod Wholes
-pub mod Resolved
-mod Classed
-mod Casted

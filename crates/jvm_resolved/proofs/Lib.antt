@@ -1,3 +1,0 @@
-mod Keeping
-mod Finding
-mod Selected

@@ -1,0 +1,12 @@
+pub mod Operands
+pub mod Making
+pub mod Static
+pub mod Ends
+pub mod Taken
+pub mod Seeking
+pub mod Loading
+pub mod Fielding
+pub mod Monitoring
+pub mod Stored
+pub mod Acting
+pub mod Switched

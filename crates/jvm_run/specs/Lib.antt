@@ -1,0 +1,5 @@
+pub mod Ending
+pub mod Result
+pub mod Running
+pub mod Advancing
+pub mod Passing

@@ -1,0 +1,16 @@
+//! A whole run of a test on the machine.
+#![tactic(auto)]
+
+mod advancing;
+mod ending;
+mod finish;
+mod outcome;
+mod passing;
+mod places;
+mod result;
+mod running;
+mod taking;
+
+pub use ending::{End, Ending};
+pub use result::RunResult;
+pub use running::{execute, execute_to_end};

@@ -1,4 +1,0 @@
-mod Worlds
-mod Entered
-mod Readied
-mod Scripted

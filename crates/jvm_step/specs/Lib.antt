@@ -1,0 +1,5 @@
+pub mod Steps
+pub mod Tables
+pub mod Programs
+pub mod Machines
+pub mod Going

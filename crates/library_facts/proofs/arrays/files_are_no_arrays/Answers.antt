@@ -1,5 +1,0 @@
-use Rattle.library_facts.proofs.FileNames.{no_arrays}
-use Rattle.library_facts.proofs.arrays.files_are_no_arrays.Goals as goal
-
-pub returns : goal.returns
-returns c = no_arrays

@@ -1,6 +1,0 @@
-pub mod Stands
-pub mod Nexts
-pub mod Stepping
-pub mod Placing
-pub mod Expanding
-pub mod Naming

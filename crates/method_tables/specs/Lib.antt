@@ -1,4 +1,0 @@
-pub mod Standing
-pub mod Steps
-pub mod Expansions
-pub mod Caught

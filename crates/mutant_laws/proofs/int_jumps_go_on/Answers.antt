@@ -1,5 +1,0 @@
-use Rattle.mutant_laws.proofs.Edits as edits
-use Rattle.mutant_laws.proofs.int_jumps_go_on.Goals as goal
-
-pub returns : goal.returns
-returns c = edits.int_jumps_go_on c.listed_exactly.ensures c.applied_is_made.ensures

@@ -1,5 +1,0 @@
-use Rattle.mutant_laws.proofs.Premises.{listed_are_mutated}
-use Rattle.mutant_laws.proofs.listed_are_mutated.Goals as goal
-
-pub returns : goal.returns
-returns c = listed_are_mutated

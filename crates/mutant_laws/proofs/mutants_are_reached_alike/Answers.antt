@@ -1,5 +1,0 @@
-use Rattle.mutant_laws.proofs.RunLaws as runs
-use Rattle.mutant_laws.proofs.mutants_are_reached_alike.Goals as goal
-
-pub returns : goal.returns
-returns c = runs.reaching_is_alike c.mutants_are_edits.ensures c.runs_reach_the_line_alike.ensures.tests

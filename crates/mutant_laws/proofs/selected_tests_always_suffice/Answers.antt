@@ -1,5 +1,0 @@
-use Rattle.mutant_laws.proofs.AcceptedLaws as accepted
-use Rattle.mutant_laws.proofs.selected_tests_always_suffice.Goals as goal
-
-pub returns : goal.returns
-returns c = accepted.always_suffice c.viable_mutants_are_never_stuck.ensures c.selected_tests_suffice.ensures

@@ -1,4 +1,0 @@
-pub mod Edited
-pub mod Covered
-pub mod Accepted
-pub mod Witness

@@ -1,9 +1,0 @@
-pub mod Forms
-pub mod Made
-pub mod Objects
-pub mod Throwables
-pub mod Texts
-pub mod Numbers
-pub mod Assertions
-pub mod Rows
-pub mod Listed

@@ -1,6 +1,0 @@
-mod Covering
-mod Named
-mod Picked
-mod Needed
-mod Natives
-mod Safe

@@ -1,7 +1,0 @@
-use Rattle.std.proofs.Common.{refl}
-use Rattle.mutant_runs.specs.Programs.{files_of}
-use Rattle.needed_laws.proofs.found_tests_fit.Goals as goal
-
-pub returns : goal.returns
-returns c = λ classes p most names ts h found.
-    c.found_in_programs_fit.ensures p (files_of p) most names ts h.program refl h.ready.accepted found

@@ -1,2 +1,0 @@
-mod Built
-pub mod Walks

@@ -1,5 +1,0 @@
-use Rattle.order_laws.proofs.Walks.{laid_out}
-use Rattle.order_laws.proofs.ordered_has_layout.Goals as goal
-
-pub returns : goal.returns
-returns c = λ p ok. laid_out p ok

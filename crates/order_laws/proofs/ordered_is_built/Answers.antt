@@ -1,5 +1,0 @@
-use Rattle.order_laws.proofs.Built.{built}
-use Rattle.order_laws.proofs.ordered_is_built.Goals as goal
-
-pub returns : goal.returns
-returns c = λ p ok arrays. built p ok arrays

@@ -1,5 +1,0 @@
-use Rattle.pass_laws.proofs.Entering.{fault_step, fault_end}
-use Rattle.pass_laws.proofs.faults_follow.Goals as goal
-
-pub returns : goal.returns
-returns c = record { next = fault_step; end = fault_end }

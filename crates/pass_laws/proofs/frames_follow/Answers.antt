@@ -1,5 +1,0 @@
-use Rattle.pass_laws.proofs.Entering.{before, next_is}
-use Rattle.pass_laws.proofs.frames_follow.Goals as goal
-
-pub returns : goal.returns
-returns c = record { begin = before; go_on = next_is }

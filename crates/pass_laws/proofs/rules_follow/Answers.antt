@@ -1,5 +1,0 @@
-use Rattle.pass_laws.proofs.Entering.{out_is, unreached, refused, judged}
-use Rattle.pass_laws.proofs.rules_follow.Goals as goal
-
-pub returns : goal.returns
-returns c = record { out = out_is; unreached = unreached; not_taken = refused; asked = judged }

@@ -1,0 +1,3 @@
+mod Built
+pub mod Walks
+pub mod Codes

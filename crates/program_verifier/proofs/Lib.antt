@@ -1,6 +1,0 @@
-mod HeadLaws
-mod CodeLaws
-mod MethodLaws
-mod ClassLaws
-mod LibraryLaws
-mod ProgramLaws

@@ -1,6 +1,0 @@
-use Rattle.std.proofs.Common.{ℕ, ◌<◌}
-use Rattle.program_verifier.specs.Libraries.{IsAcceptedInLibrary}
-use Rattle.program_verifier.proofs.library.verify_library.Given as goal
-
-abbrev pub invariant-loop-id : goal.invariant-loop-id
-invariant-loop-id l = (j : ℕ) → j < l.id → IsAcceptedInLibrary l.program j

@@ -1,8 +1,0 @@
-use Rattle.std.proofs.Common.{◌≡◌, ◌<◌, ℕ, All, Some}
-use Rattle.std.specs.Prelude.{slice_get}
-use Rattle.class_link.specs.Info.{Info}
-use Rattle.program_verifier.specs.Tables.{HasShortCode}
-use Rattle.program_verifier.proofs.numbers.is_numbered.Given as goal
-
-abbrev pub invariant-loop-id : goal.invariant-loop-id
-invariant-loop-id l = (k : ℕ) (x : Info) → k < l.id → slice_get l.program k ≡ Some x → All HasShortCode x.linked.methods

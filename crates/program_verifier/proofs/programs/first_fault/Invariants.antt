@@ -1,5 +1,0 @@
-use Rattle.program_verifier.specs.Programs.{FoundAmong}
-use Rattle.program_verifier.proofs.programs.first_fault.Given as goal
-
-abbrev pub invariant-loop-id : goal.invariant-loop-id
-invariant-loop-id l = FoundAmong l.program l.id l.found

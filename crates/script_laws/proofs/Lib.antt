@@ -1,6 +1,0 @@
-mod Lists
-mod Placed
-mod Usable
-mod Above
-mod Scripts
-mod Programs

@@ -1,0 +1,74 @@
+-- No run on a viable mutant of an accepted program is stuck.
+use Rattle.std.proofs.Common.{◌≡◌, ◌∙◌, refl, sym, ap, subst, ℕ, true, List, [], ◌∷◌, Option, Some, None, inr}
+use Rattle.std.specs.Prelude.{IfSome, if◌then◌else◌, is_some, option_and_then}
+use Rattle.std.specs.List.{AllByRecursion}
+use Rattle.std.proofs.lemmas.Bool.{true≢false}
+use Rattle.std.proofs.lemmas.List.Elements.{recursion_from_All, All-from_recursion}
+use Rattle.program_rules.specs.Programs.{Look}
+use Rattle.machine_rules.specs.declared.machine.Limits.{Limits}
+use Rattle.type_rules.specs.Faults.{Placed, class_fault}
+use Rattle.type_rules.specs.Rules.{ClassAccepted}
+use Rattle.type_laws.specs.Alike.{EditedStaysAccepted}
+use Rattle.type_laws.specs.Faults.{FaultlessAreAccepted}
+use Rattle.type_laws.specs.Soundness.{IsStuck, NeverStuck}
+use Rattle.program_laws.specs.Ordered.{OrderedIsBuilt}
+use Rattle.machine_laws.specs.Edit.{Edit, IsEdited}
+use Rattle.class_link.specs.Info.{Info}
+use Rattle.class_table.specs.declared.scripted.Test.{Test}
+use Rattle.class_table.specs.Table.{look}
+use Rattle.jvm_world.specs.View.{test_of}
+use Rattle.mutator_ops.specs.declared.mutant.Mutant.{Mutant}
+use Rattle.mutant_runs.specs.Programs.{with_accepted}
+use Rattle.mutant_runs.specs.Runs.{mutant_run}
+use Rattle.library_laws.specs.Linked.{descriptors}
+use Rattle.suite_laws.specs.Edited.{MutantsAreEdits}
+use Rattle.suite_laws.specs.Covered.{edited_run, NotStuckThere, SelectedSuffice}
+use Rattle.suite_laws.specs.Accepted.{IsSafeMutant, FitsProgram, ViableAreNeverStuck, SelectedAlwaysSuffice}
+use Rattle.suite_laws.proofs.Alike.{heads, others, built, faults, library, layout, script}
+use Rattle.suite_laws.proofs.Kept.{linked}
+
+-- ---- the edited class
+
+none_found : (p' : Look) (o : Option Placed) → (if is_some o then None else Some p') ≡ Some p' → o ≡ None
+none_found p' None h = refl
+none_found p' (Some f) h = absurd cc
+
+class_accepted : FaultlessAreAccepted → (e : Edit) (p p' : Look) (ed : IsEdited e p p') → class_fault p' e.class ≡ None → ClassAccepted p' e.class
+class_accepted law e p p' ed none =
+    law p' e.class (subst (λ o. IfSome o (λ c. c.library ≡ true → ClassAccepted p' e.class)) (sym ed.has) (λ l. absurd (true≢false (sym l ∙ ed.from_file)))) none
+
+-- ---- the laws
+
+pub never_stuck : MutantsAreEdits → FaultlessAreAccepted → EditedStaysAccepted → OrderedIsBuilt → NeverStuck → ViableAreNeverStuck
+never_stuck edits faultless stays order sound p m p' t q limit y fits stuck =
+    let x = edits p m p' y.mutated in
+    let e = x.edit in
+    let ed = x.edited in
+    let s = y.safe in
+    let taken : with_accepted m.class p' ≡ Some p' = sym (ap (option_and_then (with_accepted m.class)) y.mutated.made) ∙ y.accepted in
+    let none : class_fault p' m.class ≡ None = none_found p' (class_fault p' m.class) taken in
+    let class = class_accepted faultless e (look p) p' ed (ap (class_fault p') x.class ∙ none) in
+    let was_built = order (look p) (record { present = s.program.present; kinds = s.kinds; ranks = s.program.ranks }) s.arrays in
+    sound p' descriptors (test_of t) q limit
+    (built e (look p) p' ed was_built)
+    (faults e (look p) p' ed s.faults)
+    (library e (look p) p' ed s.library)
+    (layout e (look p) p' ed s.layout)
+    (linked e (look p) p' ed descriptors s.linked x.meant)
+    (stays (look p) p' e.class (heads e (look p) p' ed) (others e (look p) p' ed) s.accepted class)
+    (script e (look p) p' ed None (test_of t).script fits)
+    stuck
+
+module _ (p : List Info) (m : Mutant) (p' : Look) (q : Limits) (limit : ℕ) (y : IsSafeMutant p m p') (law : ViableAreNeverStuck) where
+  goes_past : (t : Test) → FitsProgram p t → NotStuckThere m (edited_run p p' t q limit)
+  unfolding mutant_run
+  goes_past t fits stuck = law p m p' t q _ y fits (subst IsStuck (sym stuck) tt)
+
+  all_go_past : (tests : List Test) → AllByRecursion (FitsProgram p) tests → AllByRecursion (λ t. NotStuckThere m (edited_run p p' t q limit)) tests
+  all_go_past [] h = tt
+  all_go_past (t ∷ tests) h = (goes_past t h.0, all_go_past tests h.1)
+
+pub always_suffice : ViableAreNeverStuck → SelectedSuffice → SelectedAlwaysSuffice
+always_suffice law suffice p m p' q limit tests y whole fits pass =
+    suffice p m p' q limit tests y.mutated y.accepted whole pass
+    (inr (All-from_recursion (λ t. NotStuckThere m (edited_run p p' t q limit)) tests (all_go_past p m p' q limit y law tests (recursion_from_All (FitsProgram p) tests fits))))

@@ -1,3 +1,0 @@
-mod Fitting
-mod Falling
-mod Judging

@@ -1,0 +1,36 @@
+use Rattle.std.proofs.Common.{◌≡◌, ◌∙◌, Some, refl, sym, ap, subst, length, arith}
+use Rattle.std.specs.Prelude.{slice_get}
+use Rattle.std.proofs.lemmas.Option.{slice_get_read, slice_get_within}
+use Rattle.type_verifier.specs.Methods.{BodyFaultIs}
+use Rattle.type_verifier.proofs.LibraryLaws.{one_more_body}
+use Rattle.type_verifier.proofs.library.refused_body.Goals as goal
+
+pub returns-in-Some : goal.returns-in-Some
+returns-in-Some c =
+    let ms = c.args.methods.now in
+    let k = c.loop-k.k in
+    let there = slice_get_read ms (length ms) k c.index-methods-k.result refl c.loop-k-test.true c.index-methods-k.is in (
+      refl,
+      record {
+        method = c.index-methods-k.result;
+        there = ap (λ l. slice_get l k) (sym c.requires.methods) ∙ there;
+        fault = subst (BodyFaultIs c.args.own.now c.index-methods-k.result) c.in-Some.is c.in_ok-fault.ensures.fault;
+        before = c.loop-k.invariant.1;
+      },
+    )
+
+pub loop-k-preserved : goal.loop-k-preserved
+loop-k-preserved c =
+    let ms = c.args.methods.now in
+    let k = c.loop-k.k in
+    let there = slice_get_read ms (length ms) k c.index-methods-k.result refl c.loop-k-test.true c.index-methods-k.is in
+    let own_there : slice_get c.args.own.now.linked.now.methods k ≡ Some c.index-methods-k.result = ap (λ l. slice_get l k) (sym c.requires.methods) ∙ there in (
+      c.in_ok-fault.ensures.tables,
+      one_more_body c.args.own.now.program.now c.args.own.now.name.now c.args.own.now.linked.now k c.index-methods-k.result own_there
+          (subst (BodyFaultIs c.args.own.now c.index-methods-k.result) c.in_default.is c.in_ok-fault.ensures.fault) c.loop-k.invariant.1,
+    )
+
+pub returns : goal.returns
+returns c j m at =
+    let within = slice_get_within c.args.own.now.linked.now.methods j m at in
+    c.loop-k.invariant.1 j m (omega (arith, within, ap length c.requires.methods, c.loop-k-test.false)) at
