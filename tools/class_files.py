@@ -10,8 +10,9 @@ BEHIND = {**{op: 0 for op in range(256)}, **{op: 1 for op in (0x10, 0x12, 0xbc, 
           0xc5: 3, 0xb9: 4, 0xba: 4, 0xc8: 4, 0xc9: 4}
 INVOKEDYNAMIC, LDC, LDC_W, LDC2_W = 0xba, 0x12, 0x13, 0x14
 FIELDS, CALLS, CLASSES = range(0xb2, 0xb6), range(0xb6, 0xba), {0xbb, 0xbd, 0xc0, 0xc1, 0xc5}
-# The opcodes whose instruction names something or may be refused; and those of more than one length.
-JUDGED = {*FLOAT_OPCODES, *FIELDS, *CALLS, *CLASSES, LDC, LDC_W, LDC2_W, 0xa8, 0xa9, INVOKEDYNAMIC, 0xbc, 0xc4, *range(0xc9, 256)}
+# The opcodes whose instruction names something or may be refused; those of more than one length.
+JUDGED = {*FLOAT_OPCODES, *FIELDS, *CALLS, *CLASSES, LDC, LDC_W, LDC2_W, 0xa8, 0xa9, INVOKEDYNAMIC,
+          0xbc, 0xc4, *range(0xc9, 256)}
 VARYING = {0xaa, 0xab, 0xc4}
 SIZES = [1 + BEHIND[op] for op in range(256)]
 INTERFACE, ABSTRACT, NATIVE, PRIVATE, STATIC, FINAL, ENUM = 0x200, 0x400, 0x100, 0x2, 0x8, 0x10, 0x4000
@@ -236,21 +237,25 @@ class ClassFile:
             name, *key = self.member(code[at + 1] << 8 | code[at + 2])
             method.uses.append((placed(at), op, name, tuple(key)))
         elif op in CLASSES:
-            method.uses.append((placed(at), op, self.class_name(code[at + 1] << 8 | code[at + 2]), None))
+            name = self.class_name(code[at + 1] << 8 | code[at + 2])
+            method.uses.append((placed(at), op, name, None))
         elif op in (LDC, LDC_W, LDC2_W):
             index = code[at + 1] if op == LDC else code[at + 1] << 8 | code[at + 2]
             kind = self.pool[index][0]
             if kind in (4, 6):
                 self.faults.append((placed(at), 'has a float or a double constant [5]'))
             elif kind in (15, 16, 17):
-                self.faults.append((placed(at), 'has a constant of a method or a dynamic constant [5]'))
+                what = 'has a constant of a method or a dynamic constant [5]'
+                self.faults.append((placed(at), what))
             elif kind == 7:
                 method.uses.append((placed(at), op, self.class_name(index), None))
-        elif op in FLOAT_OPCODES or op == 0xbc and code[at + 1] in (6, 7) or op == 0xc4 and code[at + 1] in FLOAT_OPCODES:
+        elif (op in FLOAT_OPCODES or op == 0xbc and code[at + 1] in (6, 7)
+              or op == 0xc4 and code[at + 1] in FLOAT_OPCODES):
             self.faults.append((placed(at), 'computes with a float or a double [5]'))
         elif op == INVOKEDYNAMIC:
             name = self.text(self.pool[self.pool[code[at + 1] << 8 | code[at + 2]][1][1]][1][0])
-            how = {'makeConcatWithConstants': 'strings are joined: compile with --release 8'}.get(name, f'a lambda or a method reference, for {name}')
+            how = (f'a lambda or a method reference, for {name}' if name != 'makeConcatWithConstants'
+                   else 'strings are joined: compile with --release 8')
             self.faults.append((placed(at), f'has a dynamic call ({how}) [5]'))
         elif op in (0xa8, 0xa9, 0xc9) or op > 0xc9:
             self.faults.append((placed(at), f'has the opcode {op:#x}, which is not read [5]'))

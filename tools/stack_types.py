@@ -1,8 +1,9 @@
 """The types on the stack of each instruction of a method, by its stack map frames (JVMS 4.10.1).
 
-For tools/lacks. It takes code that `javac` made, which is typed: it asks of no item whether it may stand there, but
-of each class whether it is assignable to the one that is wanted, for that changes where classes
-are missing. A class's or an array's type is its name; the others are numbers, as in a frame.
+For tools/lacks. It takes code that `javac` made, which is typed: it asks of no item whether it may
+stand there, but of each class whether it is assignable to the one that is wanted, for that changes
+where classes are missing. A class's or an array's type is its name; the others are numbers, as in
+a frame.
 """
 from class_files import CALLS, FIELDS, INVOKEDYNAMIC, SIZES, VARYING, Reader, Refused
 
