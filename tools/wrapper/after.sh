@@ -128,8 +128,8 @@ not_green() {
     local all failed
     all=$(grep -c '^mutest: NotGreen' "$answer")
     failed=$(grep -c '^mutest: NotGreen .* Failed' "$answer")
-    echo "of the tests $failed fail on the classes as they are," \
-        "$((all - failed)) take more steps or memory than a test may"
+    echo "tests don't pass on the classes as they are: $failed failed," \
+        "$((all - failed)) ran into a limit of steps or memory"
     [ "$failed" -eq 0 ] || lacking
 }
 
