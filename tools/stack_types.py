@@ -261,7 +261,7 @@ class Flow:
     def switch(self, at, op):
         self.stack.pop()
         start = at + 1 + -(at + 1) % 4
-        end = at + self.file.size_of(self.bytes, at)
+        end = min(at + self.file.size_of(self.bytes, at), len(self.bytes))
         step, first = (4, start + 12) if op == 0xaa else (8, start + 12)
         for place in (start, *range(first, end, step)):
             to = at + int.from_bytes(self.bytes[place:place + 4], 'big', signed=True)
