@@ -1,4 +1,5 @@
 """Class files as tools/lacks reads them: what they declare, what each instruction names, and what of them no class file of the profile has."""
+import bisect
 import struct
 
 FLOAT_OPCODES = {*range(0x0b, 0x10), 0x17, 0x18, *range(0x22, 0x2a), 0x30, 0x31, 0x38, 0x39, *range(0x43, 0x4b), 0x51, 0x52, 0x62, 0x63, 0x66, 0x67, 0x6a,
@@ -9,7 +10,13 @@ BEHIND = {**{op: 0 for op in range(256)}, **{op: 1 for op in (0x10, 0x12, 0xbc, 
           0xc5: 3, 0xb9: 4, 0xba: 4, 0xc8: 4, 0xc9: 4}
 INVOKEDYNAMIC, LDC, LDC_W, LDC2_W = 0xba, 0x12, 0x13, 0x14
 FIELDS, CALLS, CLASSES = range(0xb2, 0xb6), range(0xb6, 0xba), {0xbb, 0xbd, 0xc0, 0xc1, 0xc5}
+# The opcodes whose instruction names something or may be refused; those of more than one length.
+JUDGED = {*FLOAT_OPCODES, *FIELDS, *CALLS, *CLASSES, LDC, LDC_W, LDC2_W, 0xa8, 0xa9, INVOKEDYNAMIC,
+          0xbc, 0xc4, *range(0xc9, 256)}
+VARYING = {0xaa, 0xab, 0xc4}
+SIZES = [1 + BEHIND[op] for op in range(256)]
 INTERFACE, ABSTRACT, NATIVE, PRIVATE, STATIC, FINAL, ENUM = 0x200, 0x400, 0x100, 0x2, 0x8, 0x10, 0x4000
+ANNOTATION = 0x2000
 
 
 class Refused(Exception):
@@ -48,10 +55,28 @@ def has_float(descriptor):
 class Member:
     def __init__(self, flags, name, descriptor):
         self.flags, self.name, self.descriptor = flags, name, descriptor
-        self.annotations, self.uses, self.catches, self.has_code = [], [], [], False
+        self.annotations, self.uses, self.catches, self.code = [], [], [], None
 
     def is_static(self):
         return bool(self.flags & STATIC)
+
+
+class Code:
+    """The code of a method: its instructions, its frames as the file has them, and its lines."""
+
+    def __init__(self, place, instructions, rows, most_locals):
+        self.place, self.instructions, self.rows = place, instructions, rows
+        self.most_locals, self.frames, self.starts, self.lines = most_locals, b'', [], []
+
+    def set_lines(self, lines):
+        """Takes pairs of a start and a line. Of two with one start the later one counts."""
+        lines.sort(key=lambda pair: pair[0])
+        self.starts, self.lines = [start for start, _ in lines], [line for _, line in lines]
+
+    def placed(self, at):
+        row = bisect.bisect_right(self.starts, at)
+        line = self.lines[row - 1] if row else 0
+        return f'{self.place} line {line}' if line else f'{self.place} byte {at}'
 
 
 class Class:
@@ -72,6 +97,7 @@ class ClassFile:
             raise Refused('it does not begin as a class file [5]')
         reader.take('H')
         self.major = reader.take('H')
+        self.texts, self.members = {}, {}
         self.read_pool()
         self.behind_pool = reader.at
         if self.major not in (51, 52):
@@ -113,10 +139,14 @@ class ClassFile:
                 raise Refused(f'{tag} is no tag of an entry of the constant pool [5]')
 
     def text(self, index):
-        kind, value = self.pool[index] if index < len(self.pool) else (0, None)
-        if kind != 1:
-            raise Refused('an index names no text [5]')
-        return value.replace(b'\xc0\x80', b'\0').decode('utf-8', 'surrogatepass')
+        found = self.texts.get(index)
+        if found is None:
+            kind, value = self.pool[index] if index < len(self.pool) else (0, None)
+            if kind != 1:
+                raise Refused('an index names no text [5]')
+            found = value.replace(b'\xc0\x80', b'\0').decode('utf-8', 'surrogatepass')
+            self.texts[index] = found
+        return found
 
     def class_name(self, index):
         kind, value = self.pool[index] if index < len(self.pool) else (0, None)
@@ -126,9 +156,13 @@ class ClassFile:
 
     def member(self, index):
         """The class, the name and the descriptor of a member of the pool, and whether it is named as an interface's."""
-        kind, value = self.pool[index]
-        name, descriptor = self.pool[value[1]][1]
-        return self.class_name(value[0]), self.text(name), self.text(descriptor), kind == 11
+        found = self.members.get(index)
+        if found is None:
+            kind, value = self.pool[index]
+            name, descriptor = self.pool[value[1]][1]
+            found = self.class_name(value[0]), self.text(name), self.text(descriptor), kind == 11
+            self.members[index] = found
+        return found
 
     def attributes(self, reader=None):
         reader = reader or self.reader
@@ -147,7 +181,6 @@ class ClassFile:
                 if what in ('RuntimeVisibleAnnotations', 'RuntimeInvisibleAnnotations'):
                     member.annotations += self.annotations(Reader(content))
                 elif what == 'Code' and not word:
-                    member.has_code = True
                     self.read_code(Reader(content), member, place)
 
     def annotations(self, reader):
@@ -171,60 +204,61 @@ class ClassFile:
             reader.bytes(4 if tag == 'e' else 2)
 
     def read_code(self, reader, method, place):
-        reader.bytes(4)
-        code = reader.bytes(reader.take('I'))
+        reader.take('H')
+        most_locals = reader.take('H')
+        instructions = reader.bytes(reader.take('I'))
         rows = [[reader.take('H') for _ in range(4)] for _ in range(reader.take('H'))]
+        code = method.code = Code(place, instructions, rows, most_locals)
         lines = []
         for what, content in self.attributes(reader):
             if what == 'LineNumberTable':
-                table = Reader(content)
-                lines += [(table.take('H'), table.take('H')) for _ in range(table.take('H'))]
-
-        def line_of(at):
-            rows = [row for row in enumerate(lines) if row[1][0] <= at]
-            return max(rows, key=lambda row: (row[1][0], row[0]))[1][1] if rows else 0
-
-        def placed(at):
-            return f'{place} line {line_of(at)}' if line_of(at) else f'{place} byte {at}'
-
-        self.read_instructions(code, method, placed)
+                lines += struct.iter_unpack('>HH', content[2:])
+            elif what == 'StackMapTable':
+                code.frames = content
+        code.set_lines(lines)
+        self.read_instructions(instructions, method, code.placed)
         for start, _, _, index in rows:
             if index:
-                method.catches.append((placed(start), self.class_name(index)))
+                method.catches.append((code.placed(start), self.class_name(index)))
 
     def read_instructions(self, code, method, placed):
         at = 0
         while at < len(code):
-            op, here = code[at], placed(at)
-            if op in FLOAT_OPCODES or op == 0xbc and code[at + 1] in (6, 7) or op == 0xc4 and code[at + 1] in FLOAT_OPCODES:
-                self.faults.append((here, 'computes with a float or a double [5]'))
-            elif op == INVOKEDYNAMIC:
-                name = self.text(self.pool[self.pool[struct.unpack_from('>H', code, at + 1)[0]][1][1]][1][0])
-                how = {'makeConcatWithConstants': 'strings are joined: compile with --release 8'}.get(name, f'a lambda or a method reference, for {name}')
-                self.faults.append((here, f'has a dynamic call ({how}) [5]'))
-            elif op in (0xa8, 0xa9, 0xc9) or op > 0xc9:
-                self.faults.append((here, f'has the opcode {op:#x}, which is not read [5]'))
-            elif op in (LDC, LDC_W, LDC2_W):
-                index = code[at + 1] if op == LDC else struct.unpack_from('>H', code, at + 1)[0]
-                kind = self.pool[index][0]
-                if kind in (4, 6):
-                    self.faults.append((here, 'has a float or a double constant [5]'))
-                elif kind in (15, 16, 17):
-                    self.faults.append((here, 'has a constant of a method or a dynamic constant [5]'))
-                elif kind == 7:
-                    method.uses.append((here, op, self.class_name(index), None))
-            elif op in FIELDS or op in CALLS:
-                method.uses.append((here, op, *self.split(struct.unpack_from('>H', code, at + 1)[0])))
-            elif op in CLASSES:
-                method.uses.append((here, op, self.class_name(struct.unpack_from('>H', code, at + 1)[0]), None))
-            size = self.size_of(code, at)
+            op = code[at]
+            if op in JUDGED:
+                self.judge_instruction(code, at, op, method, placed)
+            size = self.size_of(code, at) if op in VARYING else SIZES[op]
             if size < 1:
                 raise Refused('an instruction has no length [5]')
             at += size
 
-    def split(self, index):
-        name, member, descriptor, interface = self.member(index)
-        return name, (member, descriptor, interface)
+    def judge_instruction(self, code, at, op, method, placed):
+        if op in FIELDS or op in CALLS:
+            name, *key = self.member(code[at + 1] << 8 | code[at + 2])
+            method.uses.append((placed(at), op, name, tuple(key)))
+        elif op in CLASSES:
+            name = self.class_name(code[at + 1] << 8 | code[at + 2])
+            method.uses.append((placed(at), op, name, None))
+        elif op in (LDC, LDC_W, LDC2_W):
+            index = code[at + 1] if op == LDC else code[at + 1] << 8 | code[at + 2]
+            kind = self.pool[index][0]
+            if kind in (4, 6):
+                self.faults.append((placed(at), 'has a float or a double constant [5]'))
+            elif kind in (15, 16, 17):
+                what = 'has a constant of a method or a dynamic constant [5]'
+                self.faults.append((placed(at), what))
+            elif kind == 7:
+                method.uses.append((placed(at), op, self.class_name(index), None))
+        elif (op in FLOAT_OPCODES or op == 0xbc and code[at + 1] in (6, 7)
+              or op == 0xc4 and code[at + 1] in FLOAT_OPCODES):
+            self.faults.append((placed(at), 'computes with a float or a double [5]'))
+        elif op == INVOKEDYNAMIC:
+            name = self.text(self.pool[self.pool[code[at + 1] << 8 | code[at + 2]][1][1]][1][0])
+            how = (f'a lambda or a method reference, for {name}' if name != 'makeConcatWithConstants'
+                   else 'strings are joined: compile with --release 8')
+            self.faults.append((placed(at), f'has a dynamic call ({how}) [5]'))
+        elif op in (0xa8, 0xa9, 0xc9) or op > 0xc9:
+            self.faults.append((placed(at), f'has the opcode {op:#x}, which is not read [5]'))
 
     @staticmethod
     def size_of(code, at):
@@ -235,4 +269,4 @@ class ClassFile:
             start = at + 1 + -(at + 1) % 4
             first, second = struct.unpack_from('>ii', code, start + 4)
             return start - at + (12 + 4 * (second - first + 1) if op == 0xaa else 8 + 8 * first)
-        return 1 + BEHIND[op]
+        return SIZES[op]

@@ -43,9 +43,14 @@ public final class Probe {
         return reached;
     }
 
-    /** Stands before each instruction. A run with too many steps stops here for good: an exception could be caught. */
+    /** Stands before each instruction. */
     public static void at(int line) {
-        steps++;
+        at(line, 1);
+    }
+
+    /** Stands before so many instructions of a line. A run with too many steps stops here for good: an exception could be caught. */
+    public static void at(int line, int count) {
+        steps += count;
         if (steps > limit) {
             end();
             while (true) {

@@ -1,0 +1,5 @@
+package outside;
+
+/** An annotation type. */
+public @interface Marked {
+}

@@ -1,0 +1,82 @@
+# shellcheck shell=bash disable=SC2034
+# The words of a command line as the program reads them, for what is said beside its answer.
+# A further command or option: its line here and in help.txt.
+
+# The options that a command needs, and how many plain words.
+declare -A NEEDED=([run]='--classes --tests --report' [list]='' [asm]='--out')
+declare -A PLAIN=([run]=0 [list]=1 [asm]=1)
+# The options that name a file to be written, with what the program calls it.
+declare -A WRITTEN=([--report]=report [--new-history]=history)
+
+declare -A given=()
+plain=()
+fault=
+
+# Reads the words into `given` and `plain`; `fault` is what is wrong with them, if something is.
+read_words() {
+    local command=$1 option
+    [ $# -gt 0 ] || { fault="no command is named: run, list or asm"; return; }
+    if [ -z "${PLAIN[$command]+known}" ]; then
+        fault="'$command' is no command: run, list or asm"
+        return
+    fi
+    shift
+    while [ $# -gt 0 ]; do
+        option=$1
+        if [[ $option != -* ]]; then
+            plain+=("$option")
+            shift
+            continue
+        elif [[ " ${NEEDED[$command]} " != *" $option "* ]]; then
+            fault="$command has no option '$option'"
+            [[ $option != *=* ]] || fault="'$option': an option and its value are two words"
+        elif [ -n "${given[$option]+twice}" ]; then
+            fault="$option stands twice"
+        elif [ -z "$2" ] || [[ $2 == -* ]]; then
+            fault="$option has no value"
+        fi
+        [ -z "$fault" ] || return
+        given[$option]=$2
+        shift 2
+    done
+    for option in ${NEEDED[$command]}; do
+        [ -n "${given[$option]}" ] || { fault="$command needs $option"; return; }
+    done
+    if [ "${#plain[@]}" -gt "${PLAIN[$command]}" ]; then
+        fault="'${plain[${PLAIN[$command]}]}' is a word too many for $command"
+    elif [ "${#plain[@]}" -lt "${PLAIN[$command]}" ] || [ "${plain[0]-named}" = '' ]; then
+        fault="$command needs a file"
+    fi
+}
+
+# Text with its control characters written out, those behind ASCII and those of direction too, so
+# that a terminal shows them and does nothing else. It reads from standard input.
+shown() {
+    LC_ALL=C tr '\000' '\377' | LC_ALL=C sed "$(written_out)"
+}
+
+# The rules of sed by which it does so.
+written_out() {
+    local code
+    for code in {1..9} {11..31} 127; do
+        rule '' "$code" x "$code"
+    done
+    for code in {128..159}; do
+        rule '\xc2' "$code" u00 "$code"
+    done
+    for code in {170..174}; do
+        rule '\xe2\x80' "$code" u20 $((code - 128))
+    done
+    for code in {166..169}; do
+        rule '\xe2\x81' "$code" u20 $((code - 64))
+    done
+    rule '' 255 x 0
+}
+
+# rule BEFORE BYTE PREFIX NUMBER: the byte, behind these others, is written so.
+rule() {
+    local byte number
+    printf -v byte '\\x%02x' "$2"
+    printf -v number '%02x' "$4"
+    printf 's/%b%b/\\\\%s%s/g\n' "$1" "$byte" "$3" "$number"
+}
