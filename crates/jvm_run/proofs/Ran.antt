@@ -21,12 +21,11 @@ use Rattle.jvm_step.specs.declared.machine.Step.TheVariants as step
 use Rattle.class_model.specs.declared.outcome.Outcome as class
 use Rattle.jvm_run.specs.declared.ending.Ending as code
 use Rattle.jvm_run.specs.declared.ending.Ending.TheVariants as ending
-use Rattle.jvm_run.specs.declared.ending.End.TheVariants as last
 use Rattle.jvm_step.specs.declared.machine.StateEnd.{StateEnd}
 use Rattle.jvm_run.specs.declared.result.RunResult.{RunResult}
 use Rattle.jvm_run.specs.declared.running.RunEnd.{RunEnd}
 use Rattle.jvm_run.specs.declared.running.RunEnd.TheVariants as end
-use Rattle.jvm_run.specs.Ending.{IsOutcomeBy, end_in, ending_in, outcome_in}
+use Rattle.jvm_run.specs.Ending.{IsOutcomeBy, ending_in}
 use Rattle.jvm_step.specs.Machines.{Answers, HasFewMonitors, HasMeaning, IsMachineOf, IsMachineStill, StandsFor, TellsEnd, outcome_by, run_outcome}
 use Rattle.jvm_run.specs.Result.{IsResultOf, TellsRun}
 use Rattle.jvm_step.proofs.Going.{counts_are}
@@ -210,11 +209,3 @@ stuck_is p q limit n s m r h is = subst (IsResultOf p r) (sym h.1) is
 pub steps_of : (p : List Info) (q : Limits) (limit n : ℕ) (s : def.MachineState) (m : Machine) (e : RunEnd) → EndsSo p q limit s e n m → (run_from (look p) q limit s 0).steps ≡ n
 steps_of p q limit n s m (end.At o) h = ap (λ r. r.steps) h.1
 steps_of p q limit n s m end.Stuck h = ap (λ r. r.steps) h.1
-
--- How it ends, but for the place where it is stuck.
-pub end_with : (p : List Info) (q : Limits) (limit n : ℕ) (s : def.MachineState) (m : Machine) (e : Option StateEnd) (o : class.Outcome) → EndsSo p q limit s (end.At e) n m → IsOutcomeBy p m e o → last.With o ≡ end_in (run_from (look p) q limit s 0).ending
-end_with p q limit n s m e o h is =
-    ap last.With (is (after (look p) q n s) h.0) ∙ sym (ap (λ r. end_in r.ending) h.1)
-
-pub end_stuck : (p : List Info) (q : Limits) (limit n : ℕ) (s : def.MachineState) (m : Machine) → EndsSo p q limit s end.Stuck n m → last.Stuck ≡ end_in (run_from (look p) q limit s 0).ending
-end_stuck p q limit n s m h = sym (ap (λ r. end_in r.ending) h.1)

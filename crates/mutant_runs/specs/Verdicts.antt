@@ -22,9 +22,13 @@ abbrev pub killer : List (ℕ × Ran) → Option (ℕ × State)
 killer [] = None
 killer (r ∷ runs) = option_or (option_map (λ s. (r.0, s)) (detected r.1.ending)) (killer runs)
 
+-- The verdict on a mutant whose line no test reaches.
+abbrev pub not_covered : Verdict
+not_covered = record { state = state.NoCoverage; killers = []; covering = [] }
+
 -- The verdict by the tests that reach the mutant's line, and the first that detects it.
 abbrev pub verdict_by : List ℕ → Option (ℕ × State) → Verdict
-verdict_by [] first = record { state = state.NoCoverage; killers = []; covering = [] }
+verdict_by [] first = not_covered
 verdict_by (n ∷ ns) None = record { state = state.Survived; killers = []; covering = n ∷ ns }
 verdict_by (n ∷ ns) (Some first) =
     record { state = first.1; killers = first.0 ∷ []; covering = n ∷ ns }

@@ -10,7 +10,7 @@ ghost use Rattle.mutant_runs.specs.Runs.{most_steps};
 
 use crate::class_bytes::ClassBytes;
 use crate::on_mutant::run_mutant;
-use crate::verdict::{not_viable, verdict_by};
+use crate::verdict::{not_covered, not_viable};
 use class_model::{Memory, Seq};
 use class_table::{Program, Test};
 use jvm_step::Tables;
@@ -74,8 +74,7 @@ fn run_covering(
 {
     let covering = covering_tests(alloc, program, cover, mutant)?;
     if covering.is_empty() {
-        let verdict = verdict_by(alloc, covering, None)?;
-        return Ok(verdict);
+        return Ok(not_covered(alloc));
     }
     run_mutant(
         alloc, program, tables, tests, steps, mutant, covering, limits, part, kept,

@@ -1,7 +1,7 @@
 //! The verdict on a mutant, by the tests that cover it and the first that detects it.
 
 ghost use Rattle.std.specs.Prelude.{◌≡◌, IfOk};
-ghost use Rattle.mutant_runs.specs.Verdicts.{verdict_by, not_viable};
+ghost use Rattle.mutant_runs.specs.Verdicts.{verdict_by, not_covered, not_viable};
 
 use class_model::{Memory, Seq};
 use mutator_ops::{State, Verdict};
@@ -16,14 +16,10 @@ pub fn verdict_by(
 ) -> Result<Verdict, Memory>
     ensures { IfOk result (λ v. v ≡ verdict_by covering killer) }
 {
-    let mut killers = Seq::new(alloc);
     if covering.is_empty() {
-        return Ok(Verdict {
-            state: State::NoCoverage,
-            killers,
-            covering,
-        });
+        return Ok(not_covered(alloc));
     }
+    let mut killers = Seq::new(alloc);
     match killer {
         None => Ok(Verdict {
             state: State::Survived,
@@ -38,6 +34,17 @@ pub fn verdict_by(
                 covering,
             })
         }
+    }
+}
+
+/// The verdict on a mutant whose line no test reaches.
+pub fn not_covered(alloc: Global) -> Verdict
+    ensures { result ≡ not_covered }
+{
+    Verdict {
+        state: State::NoCoverage,
+        killers: Seq::new(alloc),
+        covering: Seq::new(alloc),
     }
 }
 

@@ -5,7 +5,7 @@ use Rattle.std.specs.List.{AllByRecursion, filter, zip, slice_get}
 use Rattle.std.specs.Option.{IfSome, option_to_list}
 use Rattle.std.specs.Ordering.{nat_cmp, match_ordering}
 use Rattle.std.specs.Str.{bytes_eq}
-use Rattle.serde_json.specs.Data.{Data, string, array, item, no_items, Members, no_members, member, put}
+use Rattle.serde_json.specs.Data.{Data, string, Members, no_members, member, put}
 use Rattle.serde_json.specs.View.{items_of}
 use Rattle.serde_json.specs.Written.{has_float, items_have_float, members_have_float}
 use Rattle.class_table.specs.declared.scripted.Test.{Test}

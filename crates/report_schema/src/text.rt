@@ -23,7 +23,8 @@ pub fn class_text(alloc: Global, class: &Name) -> Result<String, Memory>
     ensures { IfOk result (λ text. string_bytes text ≡ printed (dotted class.now)) }
 {
     let dotted = dotted(alloc, class.as_slice())?;
-    printed(alloc, &dotted)
+    let text = printed(alloc, &dotted)?;
+    Ok(text)
 }
 
 /// The identifier of a test: class, `.`, method.

@@ -1,16 +1,18 @@
-use Rattle.std.proofs.Common.{◌≡◌, ◌∙◌, sym, ap, subst, ℕ, ◌<◌, List, [], length, All, arith, rules}
+use Rattle.std.proofs.Common.{◌≡◌, ◌∙◌, sym, ap, subst, ℕ, ◌<◌, List, [], None, length, All, arith, rules}
 use Rattle.class_table.specs.Table.{look}
 use Rattle.mutant_runs.specs.Needed.{verdict_picked}
 use Rattle.mutant_runs.specs.Programs.{files_of}
 use Rattle.mutant_runs.specs.Promises.{covering_at}
 use Rattle.mutant_runs.specs.Runs.{timed}
+use Rattle.mutant_runs.specs.Verdicts.{verdict_by}
 use Rattle.mutant_runs.proofs.MutantLaws.{uncovered_verdict, uncovered_steps, covering_below, covering_few}
 use Rattle.mutant_runs.proofs.covered.run_covering.Goals as goal
 
 pub returns-then-is_empty-clause-told : goal.returns-then-is_empty-clause-told
 returns-then-is_empty-clause-told c =
     let none : c.in_ok-covering.covering ≡ [] = search rules in
-    c.verdict_by.ensures
+    c.not_covered.ensures
+    ∙ ap (λ ks. verdict_by ks None) (sym none)
     ∙ uncovered_verdict c.args.limits c.args.program.now c.args.tests.now c.args.steps.now c.args.mutant.now c.in_ok-covering.covering none c.requires.viable
     ∙ ap (λ ks. verdict_picked c.args.limits (files_of c.args.program.now) (look c.args.program.now) (timed c.args.tests.now c.args.steps.now) ks c.args.mutant.now) c.in_ok-covering.ensures
 
