@@ -1,4 +1,4 @@
-//! Calls of `asm_insns`.
+//! Calls of `asm_words` for instructions.
 
 ghost use Rattle.std.specs.Prelude.{◌≡◌, IfOk};
 ghost use Rattle.asm_words.specs.Insns.{insn_of};

@@ -1,4 +1,4 @@
-//! The call of `asm_text`.
+//! The call of `class_asm` for the lines of a class.
 
 ghost use Rattle.codec_rules.specs.Meets.{Gives};
 ghost use Rattle.class_asm.specs.Classes.{stated_by};

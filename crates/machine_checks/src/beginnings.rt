@@ -12,7 +12,7 @@ use class_table::Program;
 use jvm_initialization::Need;
 use jvm_world::World;
 
-/// `need_for` of `jvm_begin`.
+/// `need_for` of `jvm_initialization`.
 pub fn need_for(
     world: &World,
     p: &Program,

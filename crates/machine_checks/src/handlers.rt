@@ -9,7 +9,7 @@ use class_model::{ClassId, Memory};
 use class_table::{Consulted, Program};
 use jvm_unwind::CatchRow;
 
-/// `find_handler` of `jvm_catch`.
+/// `find_handler` of `jvm_unwind`.
 pub fn find_handler(
     program: &Program,
     seen: &mut Consulted,

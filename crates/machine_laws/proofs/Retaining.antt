@@ -1,5 +1,5 @@
--- The small parts of rows: what is so of the monitors and of the lines
--- that were reached before a part is so behind it.
+-- The small parts of rows: what is so of the monitors, of the lines that were reached and of the
+-- names that were consulted before a part is so behind it.
 use Rattle.std.proofs.Common.{ℕ, ◌+◌, ◌++◌, Bool, true, false, List, [], ◌∷◌, length, Option, Some, None}
 use Rattle.std.specs.Prelude.{ℤ, nat_lt, nat_le, if◌then◌else◌}
 use Rattle.program_rules.specs.declared.value.Value.{Value}
@@ -11,7 +11,7 @@ use Rattle.program_rules.specs.declared.fault.Fault.{Fault}
 use Rattle.program_rules.specs.declared.fault.Fault.TheVariants.{StackOverflowError, NullPointerException, NoClassDefFoundError}
 use Rattle.program_rules.specs.Faults.{Answer, Found, Fails}
 use Rattle.program_rules.specs.Outlines.{is_present}
-use Rattle.program_rules.specs.Programs.{Look, Family, family}
+use Rattle.program_rules.specs.Programs.{Look, Family, family, consulted_with}
 use Rattle.program_rules.specs.Objects.{Object, object_at}
 use Rattle.machine_rules.specs.State.{Frame, World}
 use Rattle.machine_rules.specs.Effects.{Effect, Goes, NoRow, on_some, on_top, on_int, on_ints, on_long, on_longs, on_reference, on_kind, is_wide, on_word, on_two_words, on_reversed, lays, pushes, locals_of, allocate, unless_full, fault_object, throws, on_found, unless_null, enters}
@@ -25,17 +25,31 @@ Monitors = List (ℕ × ℕ)
 abbrev pub Lines : Type 0
 Lines = List (Name × ℕ)
 
--- A fact of the monitors and the lines of the state that goes on, if one does.
-abbrev pub Retains : (Monitors → Lines → Type 0) → Effect → Type 0
-Retains P (Goes t) = P t.world.monitors t.world.reached
+-- A fact of the monitors, the lines that were reached and the names that were consulted.
+abbrev pub Fact : Type 1
+Fact = Monitors → Lines → List Name → Type 0
+
+-- It holds of a world.
+abbrev pub Holds : Fact → World → Type 0
+Holds P w = P w.monitors w.reached w.consulted
+
+-- It stays so where a class is consulted.
+abbrev pub Closed : Fact → Look → Type 0
+Closed P p =
+    (n : Name) (ms : Monitors) (rs : Lines) (ns : List Name) → P ms rs ns →
+    P ms rs (consulted_with p n ns)
+
+-- A fact of the state that goes on, if one does.
+abbrev pub Retains : Fact → Effect → Type 0
+Retains P (Goes t) = Holds P t.world
 Retains P NoRow = Unit {0}
 
 -- The same of a world with something that was made in it, if there was room.
-abbrev pub RetainsMade : {A : Type 0} → (Monitors → Lines → Type 0) → Option (World × A) → Type 0
+abbrev pub RetainsMade : {A : Type 0} → Fact → Option (World × A) → Type 0
 RetainsMade P None = Unit {0}
-RetainsMade P (Some a) = P a.0.monitors a.0.reached
+RetainsMade P (Some a) = Holds P a.0
 
-module _ (P : Monitors → Lines → Type 0) where
+module _ (P : Fact) where
   -- ---- what a row takes
 
   pub retains_some :
@@ -126,26 +140,26 @@ module _ (P : Monitors → Lines → Type 0) where
 
   pub retains_lays :
       (w : World) (f : Frame) (fs : List Frame) (room : ℕ) (stack : List Value) →
-      P w.monitors w.reached →
+      Holds P w →
       Retains P (lays w f fs room stack)
   retains_lays w f fs room stack h = retains_test (nat_le (height_of stack) room) _ h
 
   pub retains_pushes :
       (w : World) (f : Frame) (fs : List Frame) (room : ℕ) (v : Value) (stack : List Value) →
-      P w.monitors w.reached → Retains P (pushes w f fs room v stack)
+      Holds P w → Retains P (pushes w f fs room v stack)
   retains_pushes w f fs room v stack h = retains_lays w f fs room (v ∷ stack) h
 
   -- where the heap was passed the world is as it was
   pub retains_full :
       {A : Type 0} (w : World) (fs : List Frame) (o : Option (World × A))
-      (go : World × A → Effect) → P w.monitors w.reached → RetainsMade P o →
-      ((a : World × A) → P a.0.monitors a.0.reached → Retains P (go a)) →
+      (go : World × A → Effect) → Holds P w → RetainsMade P o →
+      ((a : World × A) → Holds P a.0 → Retains P (go a)) →
       Retains P (unless_full w fs o go)
   retains_full w fs None go h m k = h
   retains_full w fs (Some a) go h m k = k a m
 
   allocated_case :
-      (b : Bool) (w : World) (o : Object) (words : ℕ) → P w.monitors w.reached →
+      (b : Bool) (w : World) (o : Object) (words : ℕ) → Holds P w →
       RetainsMade P (if b
       then Some (record w { heap = w.heap ++ o ∷ []; used = w.used + words }, length w.heap + 1)
       else None)
@@ -153,12 +167,12 @@ module _ (P : Monitors → Lines → Type 0) where
   allocated_case false w o words h = tt
 
   pub allocated_made :
-      (q : Limits) (w : World) (o : Object) (words : ℕ) → P w.monitors w.reached →
+      (q : Limits) (w : World) (o : Object) (words : ℕ) → Holds P w →
       RetainsMade P (allocate q w o words)
   allocated_made q w o words h = allocated_case (nat_le (w.used + words) q.heap) w o words h
 
   pub retains_throws :
-      (q : Limits) (w : World) (fs : List Frame) (fault : Fault) → P w.monitors w.reached →
+      (q : Limits) (w : World) (fs : List Frame) (fault : Fault) → Holds P w →
       Retains P (throws q w fs fault)
   retains_throws q w fs fault h =
       retains_full w fs (allocate q w (fault_object fault) 3) _ h
@@ -166,19 +180,19 @@ module _ (P : Monitors → Lines → Type 0) where
 
   pub retains_found :
       {A : Type 0} (q : Limits) (w : World) (fs : List Frame) (a : Answer A) (go : A → Effect) →
-      P w.monitors w.reached → ((x : A) → Retains P (go x)) → Retains P (on_found q w fs a go)
+      Holds P w → ((x : A) → Retains P (go x)) → Retains P (on_found q w fs a go)
   retains_found q w fs (Found x) go h k = k x
   retains_found q w fs (Fails fault) go h k = retains_throws q w fs fault h
 
   pub retains_null :
       (q : Limits) (w : World) (fs : List Frame) (o : Option ℕ) (go : ℕ → Effect) →
-      P w.monitors w.reached → ((x : ℕ) → Retains P (go x)) → Retains P (unless_null q w fs o go)
+      Holds P w → ((x : ℕ) → Retains P (go x)) → Retains P (unless_null q w fs o go)
   retains_null q w fs None go h k = retains_throws q w fs NullPointerException h
   retains_null q w fs (Some x) go h k = k x
 
   pub retains_enters :
       (q : Limits) (w : World) (fs : List Frame) (n : Name) (k max_locals : ℕ)
-      (args : List Value) → P w.monitors w.reached → Retains P (enters q w fs n k max_locals args)
+      (args : List Value) → Holds P w → Retains P (enters q w fs n k max_locals args)
   retains_enters q w fs n k max_locals args h =
       retains_test (nat_le (length (locals_of args)) max_locals) _
       (retains_if (nat_lt (length fs) q.depth) _ _ h (retains_throws q w fs StackOverflowError h))
@@ -186,14 +200,15 @@ module _ (P : Monitors → Lines → Type 0) where
   -- ---- what reads the program
 
   pub retains_resolves :
-      (p : Look) (q : Limits) (w : World) (fs : List Frame) (n : Name)
-      (go : World → Family → Effect) → P w.monitors w.reached →
-      ((u : World) (c : Family) → P u.monitors u.reached → Retains P (go u c)) →
+      (p : Look) → Closed P p → (q : Limits) (w : World) (fs : List Frame) (n : Name)
+      (go : World → Family → Effect) → Holds P w →
+      ((u : World) (c : Family) → Holds P u → Retains P (go u c)) →
       Retains P (resolves p q w fs n go)
-  retains_resolves p q w fs n go h k =
+  retains_resolves p closed q w fs n go h k =
       let u = consult p (class_behind n) w in
       let c = family p (class_behind n) in
-      retains_if (is_present c.class) _ _ (k u c h) (retains_throws q u fs NoClassDefFoundError h)
+      let g : Holds P u = closed (class_behind n) w.monitors w.reached w.consulted h in
+      retains_if (is_present c.class) _ _ (k u c g) (retains_throws q u fs NoClassDefFoundError g)
 
   pub retains_known :
       (p : Look) (w : World) (x : ℕ) (go : Known → Effect) →

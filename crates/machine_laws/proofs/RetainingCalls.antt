@@ -29,16 +29,16 @@ use Rattle.machine_rules.specs.Performing.{NativeResult, Returns, Raises, Return
 use Rattle.machine_rules.specs.Calls.{goes_on, ends_native, calls, calls_method, static_method_at, invokes, invokes_static, on_receiver, virtual_at, invokes_virtual, interface_at, invokes_interface, calls_above, special_from, special_at, invokes_special, room_of, is_awaited, returns, returns_int, returns_long, is_reference_kind, returns_reference, returns_plain}
 use Rattle.machine_rules.specs.Throwing.{rows_of, matches, find_handler, expects, pops, breaks, is_initializer_method, pops_frame, lands, unwinds}
 use Rattle.machine_rules.specs.Script.{needs_static, begins_call, makes_once_ready, calls_instance, calls_kind, calls_next}
-use Rattle.machine_laws.proofs.Retaining.{Monitors, Lines, Retains, allocated_made, retains_some, retains_if, retains_test, retains_top, retains_int, retains_long, retains_reference, retains_reversed, retains_pushes, retains_full, retains_throws, retains_found, retains_null, retains_enters, retains_resolves, retains_known}
+use Rattle.machine_laws.proofs.Retaining.{Fact, Closed, Holds, Retains, allocated_made, retains_some, retains_if, retains_test, retains_top, retains_int, retains_long, retains_reference, retains_reversed, retains_pushes, retains_full, retains_throws, retains_found, retains_null, retains_enters, retains_resolves, retains_known}
 use Rattle.machine_laws.proofs.RetainingWorlds.{RetainsResult, deeds_retain, retains_handler, retains_ready}
 use Rattle.machine_laws.proofs.RetainingRows.{retains_copies}
 
-module _ (P : Monitors → Lines → Type 0) (p : Look) (q : Limits) where
+module _ (P : Fact) (p : Look) (closed : Closed P p) (q : Limits) where
   -- ---- a method that was found is called
 
   on_case :
       (w : World) (f : Frame) (fs : List Frame) (room : ℕ) (v : Option Value) →
-      P w.monitors w.reached →
+      Holds P w →
       Retains P (goes_on w f fs room v)
   on_case w f fs room None h = h
   on_case w f fs room (Some v) h = retains_pushes P w f fs room v f.stack h
@@ -46,7 +46,7 @@ module _ (P : Monitors → Lines → Type 0) (p : Look) (q : Limits) where
   -- behind a native method, whichever it is
   native_case :
       (w : World) (f : Frame) (fs : List Frame) (room : ℕ) (d : NativeResult) →
-      P w.monitors w.reached →
+      Holds P w →
       RetainsResult P d → Retains P (ends_native p q w f fs room d)
   native_case w f fs room (Returns u v) h k = on_case u f fs room v k
   native_case w f fs room (Raises x) h k = retains_throws P q w (f ∷ fs) x h
@@ -58,26 +58,26 @@ module _ (P : Monitors → Lines → Type 0) (p : Look) (q : Limits) where
 
   calls_case :
       (w : World) (f : Frame) (fs : List Frame) (room : ℕ) (args : List Value) (class : Name)
-      (k : ℕ) (c : Callable) → P w.monitors w.reached →
+      (k : ℕ) (c : Callable) → Holds P w →
       Retains P (calls p q w f fs room args class k c)
   calls_case w f fs room args class k (Written n) h =
       retains_enters P q w (f ∷ fs) class k n args h
   calls_case w f fs room args class k (Natively meaning) h =
       let d = meaning w.heap args in
       native_case w f fs room (performs q.heap w d) h (deeds_retain P q.heap w h d)
-  calls_case w f fs room args class k Copies h = retains_copies P p q w f fs h room args
+  calls_case w f fs room args class k Copies h = retains_copies P p closed q w f fs h room args
   calls_case w f fs room args class k Abstractly h =
       retains_throws P q w (f ∷ fs) AbstractMethodError h
 
   method_case :
       (w : World) (f : Frame) (fs : List Frame) (room : ℕ) (args rest : List Value)
-      (m : MethodAt) → P w.monitors w.reached → Retains P (calls_method p q w f fs room args rest m)
+      (m : MethodAt) → Holds P w → Retains P (calls_method p q w f fs room args rest m)
   method_case w f fs room args rest m h =
       calls_case w (record f { stack = rest }) fs room args m.class m.place m.callable h
 
   found_case :
       (w : World) (f : Frame) (fs : List Frame) (room : ℕ) (args rest : List Value)
-      (a : Answer MethodAt) → P w.monitors w.reached →
+      (a : Answer MethodAt) → Holds P w →
       Retains P (on_found q w (f ∷ fs) a (calls_method p q w f fs room args rest))
   found_case w f fs room args rest a h =
       retains_found P q w (f ∷ fs) a _ h (λ m. method_case w f fs room args rest m h)
@@ -86,32 +86,32 @@ module _ (P : Monitors → Lines → Type 0) (p : Look) (q : Limits) where
 
   resolved_case :
       (w : World) (f : Frame) (fs : List Frame) (r : MethodRef) (go : World → MethodAt → Effect)
-      (c : Family) → P w.monitors w.reached → ((m : MethodAt) → Retains P (go w m)) →
+      (c : Family) → Holds P w → ((m : MethodAt) → Retains P (go w m)) →
       Retains P (invokes q f fs r go w c)
   resolved_case w f fs r go c h k = retains_found P q w (f ∷ fs) (resolve_method r c) _ h k
 
   static_case :
       (w : World) (f : Frame) (fs : List Frame) (room : ℕ) (r : MethodRef) (m : MethodAt) →
-      P w.monitors w.reached → Retains P (static_method_at p q w f fs room r m)
+      Holds P w → Retains P (static_method_at p q w f fs room r m)
   static_case w f fs room r m h =
       retains_if P (is_static m.flags) _ _
-      (retains_ready P q p w (f ∷ fs) m.class _ h (λ u c k.
+      (retains_ready P q p closed w (f ∷ fs) m.class _ h (λ u c k.
       retains_reversed P (reversed_onto r.args []) [] f.stack _ (λ args rest.
       method_case u f fs room args rest m k)))
       (retains_throws P q w (f ∷ fs) IncompatibleClassChangeError h)
 
   pub retains_invokes_static :
       (w : World) (f : Frame) (fs : List Frame) (room : ℕ) (r : MethodRef) →
-      P w.monitors w.reached →
+      Holds P w →
       Retains P (invokes_static p q w f fs room r)
   retains_invokes_static w f fs room r h =
-      retains_resolves P p q w (f ∷ fs) r.class _ h (λ u c k.
+      retains_resolves P p closed q w (f ∷ fs) r.class _ h (λ u c k.
       resolved_case u f fs r (λ v m. static_method_at p q v f fs room r m) c k (λ m.
       static_case u f fs room r m k))
 
   receiver_case :
       (w : World) (f : Frame) (fs : List Frame) (r : MethodRef)
-      (go : ℕ → List Value → List Value → Effect) → P w.monitors w.reached →
+      (go : ℕ → List Value → List Value → Effect) → Holds P w →
       ((x : ℕ) (args rest : List Value) → Retains P (go x args rest)) →
       Retains P (on_receiver q w f fs r go)
   receiver_case w f fs r go h k =
@@ -121,7 +121,7 @@ module _ (P : Monitors → Lines → Type 0) (p : Look) (q : Limits) where
 
   virtual_case :
       (f : Frame) (fs : List Frame) (room : ℕ) (r : MethodRef) (w : World) (m : MethodAt) →
-      P w.monitors w.reached → Retains P (virtual_at p q f fs room r w m)
+      Holds P w → Retains P (virtual_at p q f fs room r w m)
   virtual_case f fs room r w m h =
       retains_if P (is_static m.flags) _ _
       (retains_throws P q w (f ∷ fs) IncompatibleClassChangeError h)
@@ -130,16 +130,16 @@ module _ (P : Monitors → Lines → Type 0) (p : Look) (q : Limits) where
 
   pub retains_invokes_virtual :
       (w : World) (f : Frame) (fs : List Frame) (room : ℕ) (r : MethodRef) →
-      P w.monitors w.reached →
+      Holds P w →
       Retains P (invokes_virtual p q w f fs room r)
   retains_invokes_virtual w f fs room r h =
-      retains_resolves P p q w (f ∷ fs) r.class _ h (λ u c k.
+      retains_resolves P p closed q w (f ∷ fs) r.class _ h (λ u c k.
       resolved_case u f fs r (virtual_at p q f fs room r) c k (λ m.
       virtual_case f fs room r u m k))
 
   interface_case :
       (f : Frame) (fs : List Frame) (room : ℕ) (r : MethodRef) (w : World) (m : MethodAt) →
-      P w.monitors w.reached → Retains P (interface_at p q f fs room r w m)
+      Holds P w → Retains P (interface_at p q f fs room r w m)
   interface_case f fs room r w m h =
       retains_if P (is_static m.flags || is_private m.flags) _ _
       (retains_throws P q w (f ∷ fs) IncompatibleClassChangeError h)
@@ -150,24 +150,25 @@ module _ (P : Monitors → Lines → Type 0) (p : Look) (q : Limits) where
 
   pub retains_invokes_interface :
       (w : World) (f : Frame) (fs : List Frame) (room : ℕ) (r : MethodRef) →
-      P w.monitors w.reached →
+      Holds P w →
       Retains P (invokes_interface p q w f fs room r)
   retains_invokes_interface w f fs room r h =
-      retains_resolves P p q w (f ∷ fs) r.class _ h (λ u c k.
+      retains_resolves P p closed q w (f ∷ fs) r.class _ h (λ u c k.
       resolved_case u f fs r (interface_at p q f fs room r) c k (λ m.
       interface_case f fs room r u m k))
 
   above_case :
       (f : Frame) (fs : List Frame) (room : ℕ) (r : MethodRef) (args rest : List Value)
-      (w : World) (above : List Name) → P w.monitors w.reached →
+      (w : World) (above : List Name) → Holds P w →
       Retains P (calls_above p q f fs room r args rest w above)
   above_case f fs room r args rest w [] h = tt
   above_case f fs room r args rest w (n ∷ ns) h =
-      found_case (consult p n w) f fs room args rest (select_named r (family p n)) h
+      found_case (consult p n w) f fs room args rest (select_named r (family p n))
+      (closed n w.monitors w.reached w.consulted h)
 
   from_case :
       (f : Frame) (fs : List Frame) (room : ℕ) (r : MethodRef) (m : MethodAt)
-      (args rest : List Value) (w : World) (c : Family) → P w.monitors w.reached →
+      (args rest : List Value) (w : World) (c : Family) → Holds P w →
       Retains P (special_from p q f fs room r m args rest w c)
   from_case f fs room r m args rest w c h =
       retains_if P (same r.class f.class || is_listed r.class (interfaces_in c.class)) _ _
@@ -176,47 +177,48 @@ module _ (P : Monitors → Lines → Type 0) (p : Look) (q : Limits) where
 
   special_case :
       (f : Frame) (fs : List Frame) (room : ℕ) (r : MethodRef) (w : World) (m : MethodAt) →
-      P w.monitors w.reached → Retains P (special_at p q f fs room r w m)
+      Holds P w → Retains P (special_at p q f fs room r w m)
   special_case f fs room r w m h =
       retains_if P (is_static m.flags) _ _
       (retains_throws P q w (f ∷ fs) IncompatibleClassChangeError h)
       (receiver_case w f fs r _ h (λ x args rest. retains_if P (is_initializer_name r.name) _ _
       (method_case w f fs room args rest m h)
-      (from_case f fs room r m args rest (consult p f.class w) (family p f.class) h)))
+      (from_case f fs room r m args rest (consult p f.class w) (family p f.class)
+      (closed f.class w.monitors w.reached w.consulted h))))
 
   pub retains_invokes_special :
       (w : World) (f : Frame) (fs : List Frame) (room : ℕ) (r : MethodRef) →
-      P w.monitors w.reached →
+      Holds P w →
       Retains P (invokes_special p q w f fs room r)
   retains_invokes_special w f fs room r h =
-      retains_resolves P p q w (f ∷ fs) r.class _ h (λ u c k.
+      retains_resolves P p closed q w (f ∷ fs) r.class _ h (λ u c k.
       resolved_case u f fs r (special_at p q f fs room r) c k (λ m.
       special_case f fs room r u m k))
 
   -- ---- returns
 
   returns_case :
-      (w : World) (fs : List Frame) (v : Option Value) → P w.monitors w.reached →
+      (w : World) (fs : List Frame) (v : Option Value) → Holds P w →
       Retains P (returns p w fs v)
   returns_case w [] v h = retains_if P (is_awaited w) _ _ h h
   returns_case w (f ∷ fs) v h = retains_some P (room_of p f) _ (λ room. on_case w f fs room v h)
 
   pub retains_returns_int :
-      (w : World) (f : Frame) (fs : List Frame) (result : Option Kind) → P w.monitors w.reached →
+      (w : World) (f : Frame) (fs : List Frame) (result : Option Kind) → Holds P w →
       Retains P (returns_int p w f fs result)
   retains_returns_int w f fs result h =
       retains_some P result _ (λ k. retains_test P (is_int_kind k) _
       (retains_int P f.stack _ (λ z rest. returns_case w fs _ h)))
 
   pub retains_returns_long :
-      (w : World) (f : Frame) (fs : List Frame) (result : Option Kind) → P w.monitors w.reached →
+      (w : World) (f : Frame) (fs : List Frame) (result : Option Kind) → Holds P w →
       Retains P (returns_long p w f fs result)
   retains_returns_long w f fs result h =
       retains_some P result _ (λ k. retains_test P (is_long_kind k) _
       (retains_long P f.stack _ (λ z rest. returns_case w fs (Some (Long z)) h)))
 
   pub retains_returns_reference :
-      (w : World) (f : Frame) (fs : List Frame) (result : Option Kind) → P w.monitors w.reached →
+      (w : World) (f : Frame) (fs : List Frame) (result : Option Kind) → Holds P w →
       Retains P (returns_reference p w f fs result)
   retains_returns_reference w f fs result h =
       retains_some P result _ (λ k. retains_test P (is_reference_kind k) _
@@ -224,7 +226,7 @@ module _ (P : Monitors → Lines → Type 0) (p : Look) (q : Limits) where
       (returns_case w fs (Some v) h))))
 
   pub retains_returns_plain :
-      (w : World) (f : Frame) (fs : List Frame) (here : Current) → P w.monitors w.reached →
+      (w : World) (f : Frame) (fs : List Frame) (here : Current) → Holds P w →
       Retains P (returns_plain p w f fs here)
   retains_returns_plain w f fs here h =
       retains_test P (is_none here.result) _
@@ -233,21 +235,23 @@ module _ (P : Monitors → Lines → Type 0) (p : Look) (q : Limits) where
   -- ---- an object is thrown
 
   expects_case :
-      (w : World) (x : ℕ) (names : List Name) (o : Option Name) → P w.monitors w.reached →
+      (w : World) (x : ℕ) (names : List Name) (o : Option Name) → Holds P w →
       Retains P (expects p w x names o)
   expects_case w x names None h = tt
   expects_case w x names (Some n) h =
-      retains_if P (matches names n (family p (class_behind n)).class) _ _ h h
+      let u = consult p (class_behind n) w in
+      let g : Holds P u = closed (class_behind n) w.monitors w.reached w.consulted h in
+      retains_if P (matches names n (family p (class_behind n)).class) _ _ g g
 
   pops_case :
-      (w : World) (fs : List Frame) (x : ℕ) (names : List Name) → P w.monitors w.reached →
+      (w : World) (fs : List Frame) (x : ℕ) (names : List Name) → Holds P w →
       Retains P (pops p w fs x names)
   pops_case w [] x names h =
       retains_if P (is_awaited w) _ _ (expects_case w x names w.expected h) h
   pops_case w (f ∷ fs) x names h = h
 
   breaks_case :
-      (w : World) (fs : List Frame) (x : ℕ) (names : List Name) → P w.monitors w.reached →
+      (w : World) (fs : List Frame) (x : ℕ) (names : List Name) → Holds P w →
       Retains P (breaks q w fs x names)
   breaks_case w fs x names h =
       retains_if P (is_listed (codes "java/lang/Error") names) _ _ h
@@ -255,7 +259,7 @@ module _ (P : Monitors → Lines → Type 0) (p : Look) (q : Limits) where
 
   frame_case :
       (w : World) (f : Frame) (fs : List Frame) (x : ℕ) (names : List Name) →
-      P w.monitors w.reached →
+      Holds P w →
       Retains P (pops_frame p q w f fs x names)
   frame_case w f fs x names h =
       retains_if P (is_initializer_method (method_in (p f.class) f.method)) _ _
@@ -263,24 +267,25 @@ module _ (P : Monitors → Lines → Type 0) (p : Look) (q : Limits) where
 
   lands_case :
       (f : Frame) (fs : List Frame) (x : ℕ) (names : List Name) (w : World) (o : Option ℕ) →
-      P w.monitors w.reached → Retains P (lands p q f fs x names w o)
+      Holds P w → Retains P (lands p q f fs x names w o)
   lands_case f fs x names w (Some to) h = h
   lands_case f fs x names w None h = frame_case w f fs x names h
 
   pub retains_unwinds :
-      (w : World) (f : Frame) (fs : List Frame) (x : ℕ) → P w.monitors w.reached →
+      (w : World) (f : Frame) (fs : List Frame) (x : ℕ) → Holds P w →
       Retains P (unwinds p q w f fs x)
   retains_unwinds w f fs x h =
       retains_known P p w x _ (λ o.
       let names = o.family.names in
       let c = find_handler p names f.at (rows_of p f) w in
-      lands_case f fs x names c.world c.target (retains_handler P p names f.at (rows_of p f) w h))
+      lands_case f fs x names c.world c.target
+      (retains_handler P p closed names f.at (rows_of p f) w h))
 
   -- ---- the script
 
   begins_case :
       (w : World) (c : Call) (rest : List Call) (k : ℕ) (args : List Value) (a : Callable) →
-      P w.monitors w.reached → Retains P (begins_call q w c rest k args a)
+      Holds P w → Retains P (begins_call q w c rest k args a)
   begins_case w c rest k args (Written n) h =
       retains_enters P q (record w { running = Some c; script = rest }) [] c.class k n args h
   begins_case w c rest k args (Natively n) h = tt
@@ -288,14 +293,14 @@ module _ (P : Monitors → Lines → Type 0) (p : Look) (q : Limits) where
   begins_case w c rest k args Abstractly h = tt
 
   instance_case :
-      (w : World) (c : Call) (rest : List Call) (m : MethodAt) → P w.monitors w.reached →
+      (w : World) (c : Call) (rest : List Call) (m : MethodAt) → Holds P w →
       Retains P (calls_instance q w c rest m)
   instance_case w c rest m h =
       retains_some P w.instance _ (λ x. begins_case w c rest m.place (Ref x ∷ []) m.callable h)
 
   makes_case :
       (c : Call) (rest : List Call) (m : MethodAt) (w : World) (d : Family) →
-      P w.monitors w.reached →
+      Holds P w →
       Retains P (makes_once_ready q c rest m w d)
   makes_case c rest m w d h =
       let o = new_object c.class d.rising in
@@ -305,20 +310,21 @@ module _ (P : Monitors → Lines → Type 0) (p : Look) (q : Limits) where
 
   kind_case :
       (w : World) (c : Call) (rest : List Call) (m : MethodAt) (kind : CallKind) →
-      P w.monitors w.reached →
+      Holds P w →
       Retains P (calls_kind p q w c rest m kind)
   kind_case w c rest m ClassWide h =
-      retains_ready P q p w [] c.class _ h (λ u d k. begins_case u c rest m.place [] m.callable k)
+      retains_ready P q p closed w [] c.class _ h (λ u d k. begins_case u c rest m.place [] m.callable k)
   kind_case w c rest m Make h =
-      retains_ready P q p w [] c.class _ h (λ u d k. makes_case c rest m u d k)
+      retains_ready P q p closed w [] c.class _ h (λ u d k. makes_case c rest m u d k)
   kind_case w c rest m Around h = instance_case w c rest m h
   kind_case w c rest m TestMethod h = instance_case w c rest m h
 
   pub retains_calls_next :
-      (w : World) (cs : List Call) → P w.monitors w.reached → Retains P (calls_next p q w cs)
+      (w : World) (cs : List Call) → Holds P w → Retains P (calls_next p q w cs)
   retains_calls_next w [] h = tt
   retains_calls_next w (c ∷ rest) h =
       let d = family p c.class in
       retains_some P (first_declared c.method plain_descriptor (take 1 d.rising)) _ (λ m.
       retains_test P (same_bool (is_static m.flags) (needs_static c.kind)) _
-      (kind_case (consult p c.class w) c rest m c.kind h))
+      (kind_case (consult p c.class w) c rest m c.kind
+      (closed c.class w.monitors w.reached w.consulted h)))

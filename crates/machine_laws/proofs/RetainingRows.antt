@@ -29,13 +29,13 @@ use Rattle.machine_rules.specs.Fields.{reads_static, writes_static, static_in, g
 use Rattle.machine_rules.specs.Arrays.{array_kind, on_array, serves, taken_by, element_at, if_inside, on_element, loads_element, fits_component, if_storable, stores_element, measures_array, on_count, pushes_new, makes_array, makes_primitive_array, makes_reference_array, on_counts, has_dimensions, makes_arrays, copies}
 use Rattle.machine_rules.specs.TypeRows.{loads_text, loads_class, makes_object, casts_to, casts, truth, tests_for, tests, throws_object}
 use Rattle.machine_rules.specs.Steps.{int_local, long_local, reference_local, loads_int, loads_long, loads_reference, stores_int, stores_long, stores_reference, increments, pops_word, pops_two, doubles, doubles_under_one, doubles_under_two, doubles_two, doubles_two_under_one, doubles_two_under_two, swaps, operates_int, operates_long, converts}
-use Rattle.machine_laws.proofs.Retaining.{Monitors, Lines, Retains, RetainsMade, allocated_made, retains_some, retains_if, retains_test, retains_int, retains_ints, retains_long, retains_longs, retains_reference, retains_kind, retains_word, retains_two, retains_lays, retains_pushes, retains_full, retains_throws, retains_found, retains_null, retains_resolves, retains_known}
+use Rattle.machine_laws.proofs.Retaining.{Fact, Closed, Holds, Retains, RetainsMade, allocated_made, retains_some, retains_if, retains_test, retains_int, retains_ints, retains_long, retains_longs, retains_reference, retains_kind, retains_word, retains_two, retains_lays, retains_pushes, retains_full, retains_throws, retains_found, retains_null, retains_resolves, retains_known}
 use Rattle.machine_laws.proofs.RetainingWorlds.{literal_made, class_made, array_made, arrays_made, retains_ready}
 
 -- ---- rows that touch the frame alone
 
-module _ (P : Monitors → Lines → Type 0) (q : Limits) (w : World) (f : Frame) (fs : List Frame)
-    (h : P w.monitors w.reached) where
+module _ (P : Fact) (q : Limits) (w : World) (f : Frame) (fs : List Frame)
+    (h : Holds P w) where
   pub retains_loads_int : (room n : ℕ) → Retains P (loads_int w f fs room n)
   retains_loads_int room n =
       retains_some P (slice_get f.locals n) _ (λ l. retains_some P (int_local l) _ (λ z.
@@ -140,10 +140,10 @@ module _ (P : Monitors → Lines → Type 0) (q : Limits) (w : World) (f : Frame
 
 -- ---- elements
 
-module _ (P : Monitors → Lines → Type 0) (q : Limits) where
+module _ (P : Fact) (q : Limits) where
   array_case :
       (w : World) (fs : List Frame) (o : Option ℕ) (go : ℕ → Object → Kind → Effect) →
-      P w.monitors w.reached → ((x : ℕ) (b : Object) (k : Kind) → Retains P (go x b k)) →
+      Holds P w → ((x : ℕ) (b : Object) (k : Kind) → Retains P (go x b k)) →
       Retains P (on_array q w fs o go)
   array_case w fs o go h k =
       retains_null P q w fs o _ h (λ x. retains_some P (object_at w.heap x) _ (λ b.
@@ -151,14 +151,14 @@ module _ (P : Monitors → Lines → Type 0) (q : Limits) where
 
   inside_case :
       (w : World) (fs : List Frame) (o : Option Value) (go : Value → Effect) →
-      P w.monitors w.reached →
+      Holds P w →
       ((v : Value) → Retains P (go v)) → Retains P (if_inside q w fs o go)
   inside_case w fs None go h k = retains_throws P q w fs ArrayIndexOutOfBoundsException h
   inside_case w fs (Some v) go h k = k v
 
   element_case :
       (w : World) (fs : List Frame) (e : Element) (i : ℤ) (o : Option ℕ)
-      (go : ℕ → Object → Kind → Value → Effect) → P w.monitors w.reached →
+      (go : ℕ → Object → Kind → Value → Effect) → Holds P w →
       ((x : ℕ) (b : Object) (k : Kind) (v : Value) → Retains P (go x b k v)) →
       Retains P (on_element q w fs e i o go)
   element_case w fs e i o go h k =
@@ -166,7 +166,7 @@ module _ (P : Monitors → Lines → Type 0) (q : Limits) where
       (inside_case w fs (element_at b.values i) _ h (λ v. k x b kind v)))
 
   count_case :
-      (w : World) (fs : List Frame) (z : ℤ) (go : ℕ → Effect) → P w.monitors w.reached →
+      (w : World) (fs : List Frame) (z : ℤ) (go : ℕ → Effect) → Holds P w →
       ((n : ℕ) → Retains P (go n)) → Retains P (on_count q w fs z go)
   count_case w fs (pos n) go h k = k n
   count_case w fs (negsuc n) go h k = retains_throws P q w fs NegativeArraySizeException h
@@ -180,13 +180,13 @@ module _ (P : Monitors → Lines → Type 0) (q : Limits) where
 
   new_case :
       (w : World) (f : Frame) (fs : List Frame) (room : ℕ) (rest : List Value)
-      (o : Option (World × ℕ)) → P w.monitors w.reached → RetainsMade P o →
+      (o : Option (World × ℕ)) → Holds P w → RetainsMade P o →
       Retains P (unless_full w (f ∷ fs) o (pushes_new f fs room rest))
   new_case w f fs room rest o h m =
       retains_full P w (f ∷ fs) o _ h m (λ a k. retains_pushes P a.0 f fs room (Ref a.1) rest k)
 
   makes_case :
-      (w : World) (f : Frame) (fs : List Frame) (room : ℕ) (k : Kind) → P w.monitors w.reached →
+      (w : World) (f : Frame) (fs : List Frame) (room : ℕ) (k : Kind) → Holds P w →
       Retains P (makes_array q w f fs room k)
   makes_case w f fs room k h =
       retains_int P f.stack _ (λ z rest. count_case w (f ∷ fs) z _ h (λ n.
@@ -194,8 +194,8 @@ module _ (P : Monitors → Lines → Type 0) (q : Limits) where
 
 -- ---- rows of arrays, types and fields
 
-module _ (P : Monitors → Lines → Type 0) (p : Look) (q : Limits) (w : World) (f : Frame) (fs : List Frame)
-    (h : P w.monitors w.reached) where
+module _ (P : Fact) (p : Look) (closed : Closed P p) (q : Limits) (w : World) (f : Frame)
+    (fs : List Frame) (h : Holds P w) where
   pub retains_loads_element : (room : ℕ) (e : Element) → Retains P (loads_element q w f fs room e)
   retains_loads_element room e =
       retains_int P f.stack _ (λ i rest. retains_reference P rest _ (λ o below.
@@ -235,12 +235,12 @@ module _ (P : Monitors → Lines → Type 0) (p : Look) (q : Limits) (w : World)
   pub retains_reference_array :
       (room : ℕ) (n : Name) → Retains P (makes_reference_array p q w f fs room n)
   retains_reference_array room n =
-      retains_resolves P p q w (f ∷ fs) n _ h (λ u c k.
+      retains_resolves P p closed q w (f ∷ fs) n _ h (λ u c k.
       makes_case P q u f fs room (OfReference n) k)
 
   pub retains_arrays : (room : ℕ) (n : Name) (k : ℕ) → Retains P (makes_arrays p q w f fs room n k)
   retains_arrays room n k =
-      retains_resolves P p q w (f ∷ fs) n _ h (λ u c i.
+      retains_resolves P p closed q w (f ∷ fs) n _ h (λ u c i.
       retains_test P (nat_lt 0 k && has_dimensions (class_behind n) n k) _
       (counts_case P q k [] f.stack _ (λ zs rest. retains_if P (list_any is_negative zs) _ _
       (retains_throws P q u (f ∷ fs) NegativeArraySizeException i)
@@ -266,13 +266,13 @@ module _ (P : Monitors → Lines → Type 0) (p : Look) (q : Limits) (w : World)
 
   pub retains_loads_class : (room : ℕ) (n : Name) → Retains P (loads_class p q w f fs room n)
   retains_loads_class room n =
-      retains_resolves P p q w (f ∷ fs) n _ h (λ u c k.
+      retains_resolves P p closed q w (f ∷ fs) n _ h (λ u c k.
       new_case P q u f fs room f.stack (object_of_class q u n) k (class_made P q u n k))
 
   pub retains_makes_object : (room : ℕ) (n : Name) → Retains P (makes_object p q w f fs room n)
   retains_makes_object room n =
-      retains_resolves P p q w (f ∷ fs) n _ h (λ u c k. retains_if P (is_array_name n) NoRow _ tt
-      (retains_ready P q p u (f ∷ fs) n _ k (λ v d m. retains_if P (is_abstract_class d.class) _ _
+      retains_resolves P p closed q w (f ∷ fs) n _ h (λ u c k. retains_if P (is_array_name n) NoRow _ tt
+      (retains_ready P q p closed u (f ∷ fs) n _ k (λ v d m. retains_if P (is_abstract_class d.class) _ _
       (retains_throws P q v (f ∷ fs) InstantiationError m)
       (new_case P q v f fs room f.stack _ m
       (allocated_made P q v (new_object n d.rising) (words_of d.rising) m)))))
@@ -282,7 +282,7 @@ module _ (P : Monitors → Lines → Type 0) (p : Look) (q : Limits) (w : World)
   casts_case : (n : Name) (o : Option ℕ) → Retains P (casts_to p q w f fs n o)
   casts_case n None = h
   casts_case n (Some x) =
-      retains_resolves P p q w (f ∷ fs) n _ h (λ u c k. retains_known P p u x _ (λ o.
+      retains_resolves P p closed q w (f ∷ fs) n _ h (λ u c k. retains_known P p u x _ (λ o.
       retains_if P (is_instance o n) (jumps u f fs (f.at + 1) f.stack) _ k
       (retains_throws P q u (f ∷ fs) ClassCastException k)))
 
@@ -294,7 +294,7 @@ module _ (P : Monitors → Lines → Type 0) (p : Look) (q : Limits) (w : World)
       Retains P (tests_for p q w f fs room n o rest)
   tests_case room n None rest = retains_pushes P w f fs room (Int (pos 0)) rest h
   tests_case room n (Some x) rest =
-      retains_resolves P p q w (f ∷ fs) n _ h (λ u c k. retains_known P p u x _ (λ o.
+      retains_resolves P p closed q w (f ∷ fs) n _ h (λ u c k. retains_known P p u x _ (λ o.
       retains_pushes P u f fs room (Int (truth (is_instance o n))) rest k))
 
   pub retains_tests : (room : ℕ) (n : Name) → Retains P (tests p q w f fs room n)
@@ -308,37 +308,37 @@ module _ (P : Monitors → Lines → Type 0) (p : Look) (q : Limits) (w : World)
 
   static_case :
       (r : FieldRef) (go : FieldAt → World → Family → Effect) (u : World) (c : Family) →
-      P u.monitors u.reached →
-      ((x : FieldAt) (v : World) (d : Family) → P v.monitors v.reached → Retains P (go x v d)) →
+      Holds P u →
+      ((x : FieldAt) (v : World) (d : Family) → Holds P v → Retains P (go x v d)) →
       Retains P (static_in p q f fs r go u c)
   static_case r go u c k m =
       retains_found P q u (f ∷ fs) (resolve_field r c) _ k (λ x. retains_if P x.static _ _
-      (retains_ready P q p u (f ∷ fs) x.class _ k (m x))
+      (retains_ready P q p closed u (f ∷ fs) x.class _ k (m x))
       (retains_throws P q u (f ∷ fs) IncompatibleClassChangeError k))
 
   pub retains_gets_static : (room : ℕ) (r : FieldRef) → Retains P (gets_static p q w f fs room r)
   retains_gets_static room r =
-      retains_resolves P p q w (f ∷ fs) r.class _ h (λ u c k.
+      retains_resolves P p closed q w (f ∷ fs) r.class _ h (λ u c k.
       static_case r (reads_static f fs room) u c k (λ x v d m.
       retains_pushes P v f fs room _ f.stack m))
 
   pub retains_puts_static : (r : FieldRef) → Retains P (puts_static p q w f fs r)
   retains_puts_static r =
-      retains_resolves P p q w (f ∷ fs) r.class _ h (λ u c k.
+      retains_resolves P p closed q w (f ∷ fs) r.class _ h (λ u c k.
       static_case r (writes_static f fs) u c k (λ x v d m.
       retains_kind P x.kind f.stack _ (λ y rest. m)))
 
   -- ---- fields of objects
 
   owner_case :
-      (u : World) (o : Option ℕ) (go : ℕ → Object → Effect) → P u.monitors u.reached →
+      (u : World) (o : Option ℕ) (go : ℕ → Object → Effect) → Holds P u →
       ((x : ℕ) (b : Object) → Retains P (go x b)) → Retains P (on_owner q u f fs o go)
   owner_case u o go k m =
       retains_null P q u (f ∷ fs) o _ k (λ x. retains_some P (object_at u.heap x) _ (λ b.
       retains_if P (is_array b.kind) _ _ tt (m x b)))
 
   instance_case :
-      (u : World) (go : FieldAt → Effect) (x : FieldAt) → P u.monitors u.reached →
+      (u : World) (go : FieldAt → Effect) (x : FieldAt) → Holds P u →
       Retains P (go x) →
       Retains P (instance_at q u f fs go x)
   instance_case u go x k m =
@@ -346,7 +346,7 @@ module _ (P : Monitors → Lines → Type 0) (p : Look) (q : Limits) (w : World)
 
   pub retains_gets_field : (room : ℕ) (r : FieldRef) → Retains P (gets_field p q w f fs room r)
   retains_gets_field room r =
-      retains_resolves P p q w (f ∷ fs) r.class _ h (λ u c k.
+      retains_resolves P p closed q w (f ∷ fs) r.class _ h (λ u c k.
       retains_found P q u (f ∷ fs) (resolve_field r c) _ k (λ x.
       instance_case u (reads_field q u f fs room) x k
       (retains_reference P f.stack _ (λ o rest. owner_case u o _ k (λ n b.
@@ -354,7 +354,7 @@ module _ (P : Monitors → Lines → Type 0) (p : Look) (q : Limits) (w : World)
 
   pub retains_puts_field : (r : FieldRef) → Retains P (puts_field p q w f fs r)
   retains_puts_field r =
-      retains_resolves P p q w (f ∷ fs) r.class _ h (λ u c k.
+      retains_resolves P p closed q w (f ∷ fs) r.class _ h (λ u c k.
       retains_found P q u (f ∷ fs) (resolve_field r c) _ k (λ x.
       instance_case u (writes_field q u f fs) x k
       (retains_kind P x.kind f.stack _ (λ v rest. retains_reference P rest _ (λ o below.

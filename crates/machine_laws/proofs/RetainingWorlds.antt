@@ -20,22 +20,22 @@ use Rattle.machine_rules.specs.NewObjects.{made_for, text_object, class_object, 
 use Rattle.machine_rules.specs.Initialisation.{Constant, ClassBegin, Initializer, Need, Ready, Begins, Failing, need_of, with_text, sets_constant, then_world, sets_constants, done_with, runs_initializer, begins_with, when_needed, when_ready}
 use Rattle.machine_rules.specs.Performing.{NativeResult, Returns, Raises, ReturnsWithin, HeapFull, NoResult, performs, perform_change, perform_boxing, box_among, number_of, perform_class}
 use Rattle.machine_rules.specs.Throwing.{Caught, matches, chooses, catch_by, find_handler}
-use Rattle.machine_laws.proofs.Retaining.{Monitors, Lines, Retains, RetainsMade, allocated_made, retains_if, retains_throws, retains_enters}
+use Rattle.machine_laws.proofs.Retaining.{Fact, Closed, Holds, Retains, RetainsMade, allocated_made, retains_if, retains_throws, retains_enters}
 
 -- A fact of the monitors and the lines of a world, if the heap had room for it.
-abbrev RetainsWorld : (Monitors → Lines → Type 0) → Option World → Type 0
+abbrev RetainsWorld : Fact → Option World → Type 0
 RetainsWorld P None = Unit {0}
-RetainsWorld P (Some w) = P w.monitors w.reached
+RetainsWorld P (Some w) = Holds P w
 
 -- The same of the world that a native method's deed gives, if it gives one.
-abbrev pub RetainsResult : (Monitors → Lines → Type 0) → NativeResult → Type 0
-RetainsResult P (Returns u v) = P u.monitors u.reached
+abbrev pub RetainsResult : Fact → NativeResult → Type 0
+RetainsResult P (Returns u v) = Holds P u
 RetainsResult P (Raises x) = Unit {0}
 RetainsResult P (ReturnsWithin x n v fault) = Unit {0}
 RetainsResult P HeapFull = Unit {0}
 RetainsResult P NoResult = Unit {0}
 
-module _ (P : Monitors → Lines → Type 0) (q : Limits) where
+module _ (P : Fact) (q : Limits) where
   -- ---- texts and the objects of classes
 
   literal_kept :
@@ -44,14 +44,14 @@ module _ (P : Monitors → Lines → Type 0) (q : Limits) where
   literal_kept t (Some a) h = h
 
   literal_case :
-      (w : World) (t : Name) (o : Option ℕ) → P w.monitors w.reached →
+      (w : World) (t : Name) (o : Option ℕ) → Holds P w →
       RetainsMade P (literal_or q w t o)
   literal_case w t None h =
       literal_kept t (allocate q w (text_object t) (2 + length t))
       (allocated_made P q w (text_object t) (2 + length t) h)
   literal_case w t (Some x) h = h
 
-  pub literal_made : (w : World) (t : Name) → P w.monitors w.reached → RetainsMade P (literal q w t)
+  pub literal_made : (w : World) (t : Name) → Holds P w → RetainsMade P (literal q w t)
   literal_made w t h = literal_case w t (made_for t w.literals) h
 
   class_kept :
@@ -60,24 +60,24 @@ module _ (P : Monitors → Lines → Type 0) (q : Limits) where
   class_kept n (Some a) h = h
 
   class_case :
-      (w : World) (n : Name) (o : Option ℕ) → P w.monitors w.reached →
+      (w : World) (n : Name) (o : Option ℕ) → Holds P w →
       RetainsMade P (class_or q w n o)
   class_case w n None h =
       class_kept n (allocate q w (class_object n) 3) (allocated_made P q w (class_object n) 3 h)
   class_case w n (Some x) h = h
 
-  pub class_made : (w : World) (n : Name) → P w.monitors w.reached →
+  pub class_made : (w : World) (n : Name) → Holds P w →
       RetainsMade P (object_of_class q w n)
   class_made w n h = class_case w n (made_for n w.class_objects) h
 
   -- ---- arrays
 
   pub array_made :
-      (w : World) (k : Kind) (n : ℕ) → P w.monitors w.reached → RetainsMade P (new_array q w k n)
+      (w : World) (k : Kind) (n : ℕ) → Holds P w → RetainsMade P (new_array q w k n)
   array_made w k n h = allocated_made P q w (array_of k (replicate n (default_of k))) (2 + n) h
 
   abbrev MakesIn : (World → Option (World × ℕ)) → Type 0
-  MakesIn make = (w : World) → P w.monitors w.reached → RetainsMade P (make w)
+  MakesIn make = (w : World) → Holds P w → RetainsMade P (make w)
 
   component_made :
       (vs : List Value) (o : Option (World × ℕ)) → RetainsMade P o →
@@ -93,7 +93,7 @@ module _ (P : Monitors → Lines → Type 0) (q : Limits) where
 
   components_made :
       (make : World → Option (World × ℕ)) → MakesIn make → (n : ℕ) (w : World) →
-      P w.monitors w.reached →
+      Holds P w →
       RetainsMade P (components make n w)
   components_made make m zero w h = h
   components_made make m (suc n) w h =
@@ -129,7 +129,7 @@ module _ (P : Monitors → Lines → Type 0) (q : Limits) where
   text_set class place (Some a) h = h
 
   constant_set :
-      (class : Name) (c : Constant) (w : World) (v : FieldConstant) → P w.monitors w.reached →
+      (class : Name) (c : Constant) (w : World) (v : FieldConstant) → Holds P w →
       RetainsWorld P (sets_constant q class c w v)
   constant_set class c w (IntField z) h = h
   constant_set class c w (LongField z) h = h
@@ -138,13 +138,13 @@ module _ (P : Monitors → Lines → Type 0) (q : Limits) where
 
   then_set :
       (o : Option World) (go : World → Option World) → RetainsWorld P o →
-      ((w : World) → P w.monitors w.reached → RetainsWorld P (go w)) →
+      ((w : World) → Holds P w → RetainsWorld P (go w)) →
       RetainsWorld P (then_world o go)
   then_set None go h k = tt
   then_set (Some w) go h k = k w h
 
   constants_set :
-      (class : Name) (cs : List Constant) (w : World) → P w.monitors w.reached →
+      (class : Name) (cs : List Constant) (w : World) → Holds P w →
       RetainsWorld P (sets_constants q class cs w)
   constants_set class [] w h = h
   constants_set class (c ∷ cs) w h =
@@ -153,15 +153,15 @@ module _ (P : Monitors → Lines → Type 0) (q : Limits) where
 
   world_case :
       (w : World) (fs : List Frame) (o : Option World) (go : World → Effect) →
-      P w.monitors w.reached →
-      RetainsWorld P o → ((u : World) → P u.monitors u.reached → Retains P (go u)) →
+      Holds P w →
+      RetainsWorld P o → ((u : World) → Holds P u → Retains P (go u)) →
       Retains P (unless_full w fs o go)
   world_case w fs None go h m k = h
   world_case w fs (Some u) go h m k = k u m
 
   begin_case :
       (w : World) (fs : List Frame) (b : ClassBegin) (o : Option Initializer) →
-      P w.monitors w.reached →
+      Holds P w →
       Retains P (begins_with q w fs b o)
   begin_case w fs b None h =
       world_case w fs (sets_constants q b.class b.constants w) (done_with fs b.class) h
@@ -174,7 +174,7 @@ module _ (P : Monitors → Lines → Type 0) (q : Limits) where
       (retains_throws P q w fs StackOverflowError h)
 
   need_case :
-      (w : World) (fs : List Frame) (need : Need) (d : Effect) → P w.monitors w.reached →
+      (w : World) (fs : List Frame) (need : Need) (d : Effect) → Holds P w →
       Retains P d →
       Retains P (when_needed q w fs need d)
   need_case w fs Ready d h k = k
@@ -182,18 +182,19 @@ module _ (P : Monitors → Lines → Type 0) (q : Limits) where
   need_case w fs Failing d h k = retains_throws P q w fs NoClassDefFoundError h
 
   pub retains_ready :
-      (p : Look) (w : World) (fs : List Frame) (n : Name) (go : World → Family → Effect) →
-      P w.monitors w.reached → ((u : World) (c : Family) → P u.monitors u.reached →
-      Retains P (go u c)) →
+      (p : Look) → Closed P p → (w : World) (fs : List Frame) (n : Name)
+      (go : World → Family → Effect) → Holds P w →
+      ((u : World) (c : Family) → Holds P u → Retains P (go u c)) →
       Retains P (when_ready p q w fs n go)
-  retains_ready p w fs n go h k =
+  retains_ready p closed w fs n go h k =
       let u = consult p n w in
       let c = family p n in
-      need_case u fs (need_of u.inits c) _ h (k u c h)
+      let g : Holds P u = closed n w.monitors w.reached w.consulted h in
+      need_case u fs (need_of u.inits c) _ g (k u c g)
 
 -- ---- natives, by one pass over the deeds
 
-module _ (P : Monitors → Lines → Type 0) (limit : ℕ) (w : World) (h : P w.monitors w.reached) where
+module _ (P : Fact) (limit : ℕ) (w : World) (h : Holds P w) where
   within_case :
       (b : Bool) (x : NativeResult) → RetainsResult P x →
       RetainsResult P (if b then x else HeapFull)
@@ -228,34 +229,34 @@ module _ (P : Monitors → Lines → Type 0) (limit : ℕ) (w : World) (h : P w.
 
 -- ---- the search for a handler
 
-module _ (P : Monitors → Lines → Type 0) (p : Look) (names : List Name) where
+module _ (P : Fact) (p : Look) (closed : Closed P p) (names : List Name) where
   choice_case :
-      (b : Bool) (w : World) (to : ℕ) (rest : World → Caught) → P w.monitors w.reached →
-      ((u : World) → P u.monitors u.reached → P (rest u).world.monitors (rest u).world.reached) →
-      P (chooses b w to rest).world.monitors (chooses b w to rest).world.reached
+      (b : Bool) (w : World) (to : ℕ) (rest : World → Caught) → Holds P w →
+      ((u : World) → Holds P u → Holds P (rest u).world) →
+      Holds P (chooses b w to rest).world
   choice_case true w to rest h k = h
   choice_case false w to rest h k = k w h
 
   catch_case :
-      (o : Option Name) (to : ℕ) (w : World) (rest : World → Caught) → P w.monitors w.reached →
-      ((u : World) → P u.monitors u.reached → P (rest u).world.monitors (rest u).world.reached) →
-      P (catch_by p names o to w rest).world.monitors (catch_by p names o to w rest).world.reached
+      (o : Option Name) (to : ℕ) (w : World) (rest : World → Caught) → Holds P w →
+      ((u : World) → Holds P u → Holds P (rest u).world) →
+      Holds P (catch_by p names o to w rest).world
   catch_case None to w rest h k = h
   catch_case (Some n) to w rest h k =
       choice_case (matches names n (outline_of (p (class_behind n))))
-      (consult p (class_behind n) w) to rest h k
+      (consult p (class_behind n) w) to rest
+      (closed (class_behind n) w.monitors w.reached w.consulted h) k
 
   covers_case :
-      (b : Bool) (x y : Caught) → P x.world.monitors x.world.reached →
-      P y.world.monitors y.world.reached →
-      P (if b then x else y).world.monitors (if b then x else y).world.reached
+      (b : Bool) (x y : Caught) → Holds P x.world →
+      Holds P y.world →
+      Holds P (if b then x else y).world
   covers_case true x y h k = h
   covers_case false x y h k = k
 
   pub retains_handler :
-      (at : ℕ) (rows : List LinkedRow) (w : World) → P w.monitors w.reached →
-      P (find_handler p names at rows w).world.monitors
-      (find_handler p names at rows w).world.reached
+      (at : ℕ) (rows : List LinkedRow) (w : World) → Holds P w →
+      Holds P (find_handler p names at rows w).world
   retains_handler at [] w h = h
   retains_handler at (r ∷ rows) w h =
       covers_case (covers at r)

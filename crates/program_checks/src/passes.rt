@@ -1,4 +1,4 @@
-//! The calls of `type_pass` over which wrong bodies are tried, with their contracts.
+//! Calls of `type_verifier` for one code, over which wrong bodies are tried, with their contracts.
 
 ghost use Rattle.std.specs.Prelude.{◌<◌, ◌^◌, IfOk, length};
 ghost use Rattle.type_rows.specs.Means.{IsSite};
@@ -10,7 +10,7 @@ use type_rows::{Answer, Site};
 use type_verifier::Fault;
 use vframes::{Frame, Handler};
 
-/// `type_pass::row_with_handlers`
+/// `type_verifier::row_with_handlers`
 pub fn row_with_handlers(
     site: &Site,
     at: u32,
@@ -25,7 +25,7 @@ pub fn row_with_handlers(
     Ok(answer)
 }
 
-/// `type_pass::check_code`
+/// `type_verifier::check_code`
 pub fn check_code(site: &Site, handlers: &[Handler], first: Frame) -> Result<Option<Fault>, Memory>
     requires site { IsSite site.now }
     requires few { length site.now.code.now.instructions < 2 ^ 32 }

@@ -1,4 +1,4 @@
-//! The calls of `program_verifier` over which wrong bodies are tried, with their contracts.
+//! Calls of `type_verifier` for programs, over which wrong bodies are tried, with their contracts.
 
 ghost use Rattle.std.specs.Prelude.{◌≡◌, true, Err, IfOk, OnOk};
 ghost use Rattle.type_rules.specs.Rules.{Accepted};
@@ -11,7 +11,7 @@ use class_table::Program;
 use std::alloc::Global;
 use type_verifier::VerifyEnd;
 
-/// `program_verifier::verify`
+/// `type_verifier::verify`
 pub fn verify(alloc: Global, program: &Program) -> Result<(), VerifyEnd>
     requires numbered { AreNumbered program.now }
     requires library { IsLibraryAccepted (look program.now) }

@@ -1,5 +1,5 @@
 //! What a run says: the report in the mutation testing report schema, and the summary line. Its
-//! tests and wrong bodies stand in `report_checks`.
+//! tests and wrong bodies stand in `mutant_checks`.
 #![tactic(auto)]
 
 mod class_file;

@@ -1,7 +1,7 @@
 //! Laws of mutants, over definitions alone: the program that a mutant's edit makes is the program
-//! with one instruction edited in the sense of `edit_laws`, whichever mutator the mutant is of, so
-//! the laws of edits hold of it. Each law is the contract of a function that does nothing but call
-//! the functions whose laws it rests on.
+//! with one instruction edited in the sense of `machine_laws`, whichever mutator the mutant is of,
+//! so the laws of edits hold of it. Each law is the contract of a function that does nothing but
+//! call the functions whose laws it rests on.
 
 ghost use Rattle.suite_laws.specs.Edited.{ListedAreMutated, MutantsAreEdits, IntJumpsGoOn, IntJumpsAreExchanged};
 ghost use Rattle.suite_laws.specs.Covered.{UnreachedIsAlike, ReachingIsAlike, CoveringIsAlike, SelectedSuffice};

@@ -1,0 +1,9 @@
+pub mod Tests
+pub mod Held
+pub mod Matched
+pub mod Growing
+pub mod Reused
+pub mod Made
+pub mod Jobs
+pub mod Costs
+pub mod Finding

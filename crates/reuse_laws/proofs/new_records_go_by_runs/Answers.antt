@@ -1,0 +1,5 @@
+use Rattle.reuse_laws.proofs.Jobs.{old_apart}
+use Rattle.reuse_laws.proofs.new_records_go_by_runs.Goals as goal
+
+pub returns : goal.returns
+returns c = old_apart

@@ -1,0 +1,4 @@
+pub mod Asking
+pub mod Reuse
+pub mod Jobs
+pub mod Finding

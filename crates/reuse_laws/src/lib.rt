@@ -1,0 +1,53 @@
+//! Why an old result may be reused: a true record that matches a run is that run's record.
+//!
+//! Each law is the contract of a function that does nothing. They are over the definitions of
+//! programs, the machine and records alone, and stand on the frame law and the law of limits.
+#![tactic(auto)]
+
+ghost use Rattle.reuse_laws.specs.Reuse.{MatchingRecordsAreRuns, TrueUnderLimits};
+ghost use Rattle.reuse_laws.specs.Reuse.{RecordsOfRunsAreTrue};
+ghost use Rattle.reuse_laws.specs.Finding.{KeptAreEnough, MatchesHold};
+ghost use Rattle.reuse_laws.specs.Jobs.{ReuseChangesNothing, KnownIsRecord, ReusedAreTrue};
+ghost use Rattle.reuse_laws.specs.Jobs.{OldHaveNoPart, NeedCostsNoMore};
+
+/// A true record that matches a run has its outcome, its steps, what it consulted and what it
+/// reached: with the run's limit it is the record of that run. It is so on every program, an edited
+/// one as well, whatever other classes there are, and for a run that is timed out too.
+pub fn matching_records_are_runs()
+    ensures { MatchingRecordsAreRuns }
+{}
+
+/// So a record that is written again with the limit of a run which it matches is true.
+pub fn true_under_limits()
+    ensures { TrueUnderLimits }
+{}
+
+/// The record that is made of a run is true.
+pub fn records_of_runs_are_true()
+    ensures { RecordsOfRunsAreTrue }
+{}
+
+/// With true old records a job has of each run what it would have without them; what is known of a
+/// run is its record but for the limit; and what it keeps of an old record is true.
+pub fn reuse_changes_nothing()
+    ensures same { ReuseChangesNothing }
+    ensures known { KnownIsRecord }
+    ensures kept { ReusedAreTrue }
+{}
+
+/// Old records have no part in the new ones.
+pub fn new_records_go_by_runs()
+    ensures { OldHaveNoPart }
+{}
+
+/// The runs that are needed cost no more than all that might be made.
+pub fn need_costs_no_more()
+    ensures { NeedCostsNoMore }
+{}
+
+/// What an index may leave out: records that don't match, as those of another test and those that
+/// have a class under other bytes.
+pub fn indices_may_leave_out()
+    ensures enough { KeptAreEnough }
+    ensures held { MatchesHold }
+{}
