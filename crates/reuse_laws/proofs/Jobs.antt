@@ -30,7 +30,7 @@ first_is m [] x f all h = absurd cc
 first_is m (r ∷ rs) x f all h =
     match_case m x r (first_match rs x) (matches r x) f refl (All-head (IsTrueRecord m) r rs all) (λ e. first_is m rs x f (All-tail (IsTrueRecord m) r rs all) e) h
 
-fits_of : (r : RunRecord) (x : Asked) → matches r x ≡ true → fits_limit r x.limit ≡ true
+pub fits_of : (r : RunRecord) (x : Asked) → matches r x ≡ true → fits_limit r x.limit ≡ true
 fits_of r x h = (is_match r x h).fits
 
 end_case : (m : Profile) (old : List RunRecord) (x : Asked) (o : Option RunRecord) → o ≡ first_match old x → IsProfile m → AreTrue m old → IsAsked m x → option_or (option_map (with_limit x.limit) o) (record_of x) ≡ record_of x

@@ -5,5 +5,8 @@ pub mod Growing
 pub mod Reused
 pub mod Made
 pub mod Jobs
+pub mod Closing
+pub mod KnownAlike
+pub mod Own
 pub mod Costs
 pub mod Finding

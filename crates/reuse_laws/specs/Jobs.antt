@@ -1,5 +1,5 @@
 -- What reuse leaves as it is, and what it saves.
-use Rattle.std.specs.Prelude.{◌≡◌, ◌≤◌, List, All, map, Some}
+use Rattle.std.specs.Prelude.{◌≡◌, ◌≤◌, List, All, map, Some, is_some}
 use Rattle.record_rules.specs.declared.record.RunRecord.{RunRecord}
 use Rattle.record_rules.specs.Profiles.{Profile}
 use Rattle.record_rules.specs.Records.{Asked, record_of}
@@ -36,6 +36,14 @@ abbrev pub OldHaveNoPart : Type 0
 OldHaveNoPart =
     (old : List RunRecord) (needed : List Asked) →
     map (λ k. k.entry) (all_kept old needed) ≡ new_records needed
+
+-- Of two runs with equal records an old record matches both or neither, so that it is one question
+-- whether a new record was known.
+abbrev pub EqualRecordsAreKnownAlike : Type 0
+EqualRecordsAreKnownAlike =
+    (m : Profile) (old : List RunRecord) (x y : Asked) (r : RunRecord) → IsProfile m →
+    AreTrue m old → IsAsked m x → IsAsked m y → record_of x ≡ Some r → record_of y ≡ Some r →
+    is_some (first_match old x) ≡ is_some (first_match old y)
 
 -- The runs that are needed cost no more than all.
 abbrev pub NeedCostsNoMore : Type 0

@@ -6,9 +6,10 @@
 
 ghost use Rattle.reuse_laws.specs.Reuse.{MatchingRecordsAreRuns, TrueUnderLimits};
 ghost use Rattle.reuse_laws.specs.Reuse.{RecordsOfRunsAreTrue};
+ghost use Rattle.reuse_laws.specs.Closing.{RunsAreClosed, OwnProgramsAreAlike};
 ghost use Rattle.reuse_laws.specs.Finding.{KeptAreEnough, MatchesHold};
 ghost use Rattle.reuse_laws.specs.Jobs.{ReuseChangesNothing, KnownIsRecord, ReusedAreTrue};
-ghost use Rattle.reuse_laws.specs.Jobs.{OldHaveNoPart, NeedCostsNoMore};
+ghost use Rattle.reuse_laws.specs.Jobs.{OldHaveNoPart, EqualRecordsAreKnownAlike, NeedCostsNoMore};
 
 /// A true record that matches a run has its outcome, its steps, what it consulted and what it
 /// reached: with the run's limit it is the record of that run. It is so on every program, an edited
@@ -35,14 +36,24 @@ pub fn reuse_changes_nothing()
     ensures kept { ReusedAreTrue }
 {}
 
-/// Old records have no part in the new ones.
+/// Old records have no part in the new ones, and whether a new record was known is one question for
+/// all runs that it stands for.
 pub fn new_records_go_by_runs()
-    ensures { OldHaveNoPart }
+    ensures apart { OldHaveNoPart }
+    ensures alike { EqualRecordsAreKnownAlike }
 {}
 
 /// The runs that are needed cost no more than all that might be made.
 pub fn need_costs_no_more()
     ensures { NeedCostsNoMore }
+{}
+
+/// What a run consulted are different names, none of the library, and with each class all that
+/// stands above it. So its class files are a program by themselves, where its program is one: under
+/// each name that was consulted that program has the same class, with the same supers.
+pub fn runs_are_closed()
+    ensures closed { RunsAreClosed }
+    ensures alike { OwnProgramsAreAlike }
 {}
 
 /// What an index may leave out: records that don't match, as those of another test and those that

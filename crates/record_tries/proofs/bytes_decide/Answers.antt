@@ -1,0 +1,7 @@
+use Rattle.std.proofs.Common.{refl}
+use Rattle.record_rules.specs.Matching.{matches}
+use Rattle.record_tries.proofs.bytes_decide.Goals as goal
+
+pub returns : goal.returns
+unfolding matches
+returns c = record { further = refl; rewritten = refl; edited = refl; absent = refl; there = refl }
