@@ -6,7 +6,6 @@ use Rattle.program_rules.specs.Linked.{code_of, method_in}
 use Rattle.machine_rules.specs.declared.machine.Limits.{Limits}
 use Rattle.machine_rules.specs.State as def
 use Rattle.machine_rules.specs.Calls.{room_in}
-use Rattle.machine_rules.specs.Steps.{over_or}
 use Rattle.machine_laws.specs.Lines.{KeepsLines}
 use Rattle.class_link.specs.Info.{Info}
 use Rattle.class_table.specs.Table.{look, name_at, entries_at}
@@ -40,7 +39,7 @@ use Rattle.jvm_step.specs.declared.machine.Step.TheVariants as step
 use Rattle.jvm_run.specs.declared.taking.Taken.{Taken}
 use Rattle.jvm_run.specs.declared.taking.Taken.TheVariants as taken
 use Rattle.jvm_step.specs.Going.{GoesTo}
-use Rattle.jvm_step.specs.Machines.{Answers, HasMeaning, IsMachineOf, IsMachineStill, TellsEnd, ended_with}
+use Rattle.jvm_step.specs.Machines.{Answers, HasMeaning, IsMachineOf, IsMachineStill, TellsEnd, ended_with, over_or}
 use Rattle.jvm_run.specs.Passing.{Fits, HasMark, IsCalm, IsReachedIn, IsUpTo, RunsReached, StaysReady, Took, plus, went_of}
 use Rattle.jvm_run.specs.Running.{HasRun}
 use Rattle.jvm_step.proofs.Ends.{tells_end}

@@ -8,7 +8,7 @@ use Rattle.machine_rules.specs.declared.machine.Limits.{Limits}
 use Rattle.machine_rules.specs.State as def
 use Rattle.machine_rules.specs.Effects.{goes_with}
 use Rattle.machine_rules.specs.Calls.{room_in}
-use Rattle.machine_rules.specs.Steps.{Stepped, Next, over_or, reaches, step_of}
+use Rattle.machine_rules.specs.Steps.{Stepped, Next, reaches, step_of}
 use Rattle.machine_laws.specs.FrameLaw.{IfNext}
 use Rattle.machine_laws.specs.Lines.{KeepsLines}
 use Rattle.machine_laws.proofs.Monitors.{keep_lines}
@@ -37,7 +37,7 @@ use Rattle.jvm_step.specs.declared.machine.Step.TheVariants as step
 use Rattle.jvm_run.specs.declared.advancing.Went.TheVariants as went
 use Rattle.jvm_run.specs.Advancing.{WentTo}
 use Rattle.jvm_step.specs.Going.{going}
-use Rattle.jvm_step.specs.Machines.{Answers, HasMeaning, IsMachineStill}
+use Rattle.jvm_step.specs.Machines.{Answers, HasMeaning, IsMachineStill, over_or}
 use Rattle.jvm_run.specs.Running.{HasRun}
 use Rattle.jvm_step.proofs.Ends.{tells_end}
 use Rattle.jvm_run.proofs.Ran as ran
