@@ -34,7 +34,7 @@ class Browser:
         target = self.command('Target.createTarget', url='about:blank')['targetId']
         attached = self.command('Target.attachToTarget', targetId=target, flatten=True)
         self.session = attached['sessionId']
-        for domain in ('Page', 'Runtime', 'Log', 'Network'):
+        for domain in ('Page', 'Runtime', 'Log', 'Network', 'Performance'):
             self.command(f'{domain}.enable')
         self.command('Emulation.setDeviceMetricsOverride', width=width, height=height,
                      deviceScaleFactor=1, mobile=False)
@@ -105,6 +105,11 @@ class Browser:
             self.command(
                 'Input.dispatchMouseEvent', type=kind, button='left', clickCount=1, **place)
         self.settle()
+
+    def seconds(self):
+        """The processor time that the tab has taken, which a busy machine doesn't lengthen."""
+        metrics = self.command('Performance.getMetrics')['metrics']
+        return {metric['name']: metric['value'] for metric in metrics}['ProcessTime']
 
     def settle(self):
         """Waits until what was done is drawn."""

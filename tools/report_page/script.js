@@ -23,6 +23,8 @@ const STATES = {
 const BAR = ['Killed', 'Timeout', 'RuntimeError', 'CompileError', 'NoCoverage', 'Survived'];
 const FIRST_SHOWN = 100;
 const FIRST_TESTS = 8;
+const OPENED_AT_ONCE = 200;
+const LINES_OF_BLOCK = 50; // what is not in view is laid out by blocks, once it comes there
 
 const KEYWORDS = new Set(`abstract assert boolean break byte case catch char class const continue
   default do double else enum extends final finally float for goto if implements import instanceof
@@ -79,9 +81,10 @@ function putFirst(items, make, parent, size = FIRST_SHOWN) {
     parent.append(...items.slice(start, start + size).map(make));
     const left = items.length - start - size;
     if (left <= 0) return;
-    const more = element('button', {
-      class: 'more', click: () => { more.remove(); putFrom(start + size); },
-    }, `${grouped(Math.min(left, size))} more of ${grouped(left)}`);
+    const button = element('button', { click: () => { more.remove(); putFrom(start + size); } },
+      `${grouped(Math.min(left, size))} more of ${grouped(left)}`);
+    const more = parent.matches('tbody') ? element('tr', {}, element('td', {}, button))
+      : element(parent.matches('ul') ? 'li' : 'div', { class: 'more' }, button);
     parent.append(more);
   };
   putFrom(0);
@@ -202,7 +205,7 @@ const isOpen = (mutant) => stateOf(mutant.status).isOpen;
 const openMutants = () => mutants.filter((mutant) => isOpen(mutant) && isShown(mutant));
 
 // The address of a place in this page: what stands behind `#`.
-const addressOf = (words) => `#${new URLSearchParams(words)}`;
+const addressOf = (names) => `#${new URLSearchParams(names)}`;
 const addressOfMutant = ({ file, index }) => addressOf({ file: file.name, mutant: index });
 
 // Source lines
@@ -265,7 +268,7 @@ function differing(one, other) {
   let end = 0;
   while (end < most - start && one.at(-1 - end) === other.at(-1 - end)) end += 1;
   const isInside = (text, at) => (
-    at > 0 && /^(?:\w\w|[^\w\s()]{2})$/.test(text.slice(at - 1, at + 1)));
+    at > 0 && /^(?:\w\w|[^\w\s();]{2})$/.test(text.slice(at - 1, at + 1)));
   while (isInside(one, start) || isInside(other, start)) start -= 1;
   while (isInside(one, one.length - end) || isInside(other, other.length - end)) end -= 1;
   return { start, end };
@@ -283,17 +286,19 @@ function barOf(counts) {
   return bar;
 }
 
-const wordsOf = ({ mutatorName }) => data.words[mutatorName] ?? [mutatorName, ''];
+// What a mutator does, in a few words and in full.
+const words = new Map(Object.entries(data.words));
+const wordsOf = ({ mutatorName }) => words.get(mutatorName) ?? [mutatorName, ''];
 
 function headOf(mutant, place) {
   const { word, says } = stateOf(mutant.status);
   const reason = mutant.statusReason ? `: ${mutant.statusReason}` : '';
-  const [words, inFull] = wordsOf(mutant);
+  const [few, inFull] = wordsOf(mutant);
   return element('div', { class: 'head' },
     element('span', { class: `state ${mutant.status}`, title: says },
       symbolOf(mutant.status), ` ${word}${reason}`),
     place,
-    element('strong', { title: inFull }, shown(mutant.description ?? words)),
+    element('strong', { title: inFull }, shown(mutant.description ?? few)),
     element('code', { class: 'faint' }, shown(methodOf(mutant))));
 }
 
@@ -313,9 +318,9 @@ function testsOfMutant(mutant) {
     return others.length === 0 ? element('p', {}, 'No test reaches this line.')
       : [element('p', {}, `Reached by ${counted(others.length, 'test')}:`), testList(others)];
   }
-  const further = element('details', {},
-    element('summary', {}, `Reached by ${counted(others.length, 'further test')}`),
-    testList(others));
+  const further = element('details', {
+    toggle: () => { if (!further.querySelector('ul')) further.append(testList(others)); },
+  }, element('summary', {}, `Reached by ${counted(others.length, 'further test')}`));
   return [element('p', {}, 'Noticed by:'), testList(killers), others.length > 0 ? further : null];
 }
 
@@ -324,7 +329,8 @@ function mutantCard(mutant) {
   return element('div', { class: 'mutant', id: `mutant-${mutant.index}` },
     headOf(mutant, null),
     diffOf(mutant),
-    mutant.newLine === null && inFull ? element('p', { class: 'faint' }, `${inFull}.`) : null,
+    mutant.newLine === null && inFull
+      ? element('p', { class: 'faint meaning' }, `${inFull}.`) : null,
     mutant.replacement
       ? element('p', {}, 'Becomes ', element('code', {}, shown(mutant.replacement))) : null,
     testsOfMutant(mutant),
@@ -386,25 +392,27 @@ function fileView(file) {
       element('button', { title: 'All its mutants (e)', click: () => openAll(file) }, 'Open all'),
       element('button', { title: 'Close them (Escape)', click: closeAll }, 'Close')));
   const notes = [
-    file.source === ''
-      ? 'There is no source of this file, so only its lines with mutants stand here. '
-        + 'tools/report-page REPORT --sources DIR looks for it below DIR.' : null,
+    file.source === '' ? [
+      'There is no source of this file: only its lines with mutants are shown. ',
+      element('code', {}, 'tools/report-page REPORT --sources DIR'), ' adds sources.'] : null,
     file.mutants.some(isShown) ? null : 'No mutant of this file is in a state that is shown.']
     .filter((note) => note !== null).map((note) => element('p', { class: 'faint' }, note));
   return [heading, ...notes, sourceOf(file)];
 }
 
 function sourceOf(file) {
+  const marked = file.source === '' ? [] : markedLines(file);
+  const beyond = [...file.byLine.keys()].filter((line) => line > marked.length);
+  const gap = element('div', { class: 'gap' },
+    'The source ends here. The class files name further lines: are they of this source?');
+  const lines = [
+    ...marked.map((nodes, index) => lineOf(file, index + 1, nodes)),
+    ...marked.length > 0 && beyond.length > 0 ? [gap] : [],
+    ...beyond.map((line) => lineOf(file, line, []))];
   const source = element('div', { class: 'source' });
-  if (file.source !== '') {
-    markedLines(file).forEach((nodes, index) => source.append(lineOf(file, index + 1, nodes)));
+  while (lines.length > 0) {
+    source.append(element('div', { class: 'block' }, lines.splice(0, LINES_OF_BLOCK)));
   }
-  const beyond = [...file.byLine.keys()].filter((line) => line > file.lines.length);
-  if (beyond.length > 0 && file.source !== '') {
-    source.append(element('div', { class: 'gap' },
-      'The source ends here. The class files name further lines: are they of this source?'));
-  }
-  for (const line of beyond) source.append(lineOf(file, line, []));
   return source;
 }
 
@@ -472,12 +480,27 @@ function closePanel(number) {
   byId(`line-${number}`).querySelector('.marks').setAttribute('aria-expanded', 'false');
 }
 
+// Opens the panels of all lines, some at a time, as long as it isn't told otherwise.
+let opening = 0;
+
 function openAll(file) {
-  for (const number of file?.byLine.keys() ?? []) openPanel(file, number);
+  opening += 1;
+  const mine = opening;
+  const lines = [...file?.byLine.keys() ?? []];
+  const openNext = () => {
+    if (opening !== mine) return;
+    for (const number of lines.splice(0, OPENED_AT_ONCE)) openPanel(file, number);
+    if (lines.length > 0) setTimeout(openNext);
+  };
+  openNext();
 }
 
 function closeAll() {
-  for (const number of place().file?.byLine.keys() ?? []) if (panelOf(number)) closePanel(number);
+  opening += 1;
+  for (const panel of document.querySelectorAll('.panel')) {
+    panel.previousElementSibling.querySelector('.marks').setAttribute('aria-expanded', 'false');
+    panel.remove();
+  }
 }
 
 // Going about
@@ -486,16 +509,16 @@ let shownName = null; // of the view: a step within a file doesn't make it anew
 
 // What the address of the page names.
 function place() {
-  const words = new URLSearchParams(location.hash.slice(1));
-  const named = (list, word) => (words.has(word)
-    ? list.find(({ address }) => address === words.get(word)) : undefined);
-  const file = named(files, 'file');
+  const named = new URLSearchParams(location.hash.slice(1));
+  const found = (list, word) => (named.has(word)
+    ? list.find(({ address }) => address === named.get(word)) : undefined);
+  const file = found(files, 'file');
   return {
     file,
-    test: named(tests, 'test'),
-    mutant: file?.mutants.find(({ index }) => `${index}` === words.get('mutant')),
-    line: Number(words.get('line')),
-    isTests: words.has('tests'),
+    test: found(tests, 'test'),
+    mutant: file?.mutants.find(({ index }) => `${index}` === named.get('mutant')),
+    line: Number(named.get('line')),
+    isTests: named.has('tests'),
   };
 }
 
@@ -510,6 +533,7 @@ function show(isAnew) {
   const { file, test, mutant, line, isTests } = at;
   const name = JSON.stringify([file?.name, test?.id, isTests]);
   if (isAnew || shownName !== name) {
+    opening += 1;
     byId('view').replaceChildren(...viewOf(at));
     if (shownName !== name) scrollTo(0, 0);
     shownName = name;
@@ -671,8 +695,8 @@ function makeHelp() {
     element('form', { method: 'dialog' }, element('button', {}, 'Close')),
     element('h2', {}, 'Keys'), pairs(KEYS.map(([key, text]) => [element('kbd', {}, key), text])),
     element('h2', {}, 'States'), pairs(statePairs),
-    element('h2', {}, 'Mutators'), pairs(Object.keys(data.words).filter((name) => used.has(name))
-      .map((name) => [element('span', { title: name }, data.words[name][0]), data.words[name][1]])),
+    element('h2', {}, 'Mutators'), pairs([...words].filter(([name]) => used.has(name))
+      .map(([name, [few, inFull]]) => [element('span', { title: name }, few), inFull])),
     element('p', { class: 'faint' }, 'A mutant changes one instruction of a class file. A changed '
       + 'line is what the source would say, and is shown where the line leaves no doubt of it.'));
 }
