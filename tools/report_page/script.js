@@ -4,14 +4,14 @@
 // The states of a mutant, those that ask for a test first.
 const STATES = {
   Survived: {
-    symbol: '\u2717', word: 'survived', isOpen: true, says: 'tests reach its line, none notices',
+    symbol: '\u2717', word: 'survived', isOpen: true, says: 'tests reach its line, none detects',
   },
   NoCoverage: {
     symbol: '\u25cb', word: 'not covered', isOpen: true, says: 'no test reaches its line',
   },
-  Killed: { symbol: '\u2713', word: 'killed', isNoticed: true, says: 'a test fails on it' },
+  Killed: { symbol: '\u2713', word: 'killed', isDetected: true, says: 'a test fails on it' },
   Timeout: {
-    symbol: '\u221e', word: 'timed out', isNoticed: true, says: 'a test takes too many steps on it',
+    symbol: '\u221e', word: 'timed out', isDetected: true, says: 'a test takes too many steps',
   },
   RuntimeError: { symbol: '!', word: 'error', says: 'a run of it passed a limit' },
   CompileError: {
@@ -111,14 +111,14 @@ class Counts {
       stateOf(status)[property] ? sum + count : sum), 0);
   }
 
-  get noticed() { return this.sum('isNoticed'); }
+  get detected() { return this.sum('isDetected'); }
 
   get open() { return this.sum('isOpen'); }
 
   // Rounded down, so that 100 % are all.
   get percent() {
-    const asked = this.noticed + this.open;
-    return asked === 0 ? '\u2013' : `${Math.floor((this.noticed * 100) / asked)} %`;
+    const asked = this.detected + this.open;
+    return asked === 0 ? '\u2013' : `${Math.floor((this.detected * 100) / asked)} %`;
   }
 }
 
@@ -247,7 +247,7 @@ function diffOf(mutant) {
   if (mutant.newLine === null) return element('div', { class: 'diff' }, shown(old));
   if (mutant.newLine === line) {
     return [element('div', { class: 'diff' }, shown(old)),
-      element('p', { class: 'faint' }, 'The line says that already: no test can notice it.')];
+      element('p', { class: 'faint' }, 'The line says that already: no test can detect it.')];
   }
   const changed = mutant.newLine.slice(indent);
   const { start, end } = differing(old, changed);
@@ -321,7 +321,7 @@ function testsOfMutant(mutant) {
   const further = element('details', {
     toggle: () => { if (!further.querySelector('ul')) further.append(testList(others)); },
   }, element('summary', {}, `Reached by ${counted(others.length, 'further test')}`));
-  return [element('p', {}, 'Noticed by:'), testList(killers), others.length > 0 ? further : null];
+  return [element('p', {}, 'Detected by:'), testList(killers), others.length > 0 ? further : null];
 }
 
 function mutantCard(mutant) {
@@ -362,18 +362,18 @@ function numberCell(number) {
 function overview() {
   const open = openMutants();
   return [
-    element('h1', {}, `${grouped(allCounts.noticed)} of ${
-      counted(allCounts.noticed + allCounts.open, 'mutant')} noticed`),
+    element('h1', {}, `${grouped(allCounts.detected)} of ${
+      counted(allCounts.detected + allCounts.open, 'mutant')} detected`),
     element('p', { class: 'faint' }, `A mutant is the code with one small change. Survived: ${
-      grouped(allCounts.of('Survived'))}, which tests reach and none notices. Not covered: ${
+      grouped(allCounts.of('Survived'))}, which tests reach and none detects. Not covered: ${
       grouped(allCounts.of('NoCoverage'))}, on lines that no test reaches.`),
     fileTable(),
-    element('h2', {}, open.length > 0 ? 'What no test notices' : 'No survivors are shown'),
+    element('h2', {}, open.length > 0 ? 'What no test detects' : 'No survivors are shown'),
     mutantList(open)];
 }
 
 function fileTable() {
-  const headings = ['File', 'noticed', '',
+  const headings = ['File', 'detected', '',
     ...states.map((state) => [symbolOf(state), ` ${stateOf(state).word}`]), 'all'];
   return tableOf(headings, files.map((file) => () => [
     element('td', {}, element('a', { href: addressOf({ file: file.name }) }, shown(file.name))),
@@ -387,7 +387,7 @@ function fileView(file) {
   const heading = element('div', { class: 'heading' },
     element('h1', {}, shown(file.name)),
     element('span', { class: 'faint' },
-      `${file.counts.percent} noticed of ${counted(file.counts.all, 'mutant')}`),
+      `${file.counts.percent} detected of ${counted(file.counts.all, 'mutant')}`),
     element('span', { class: 'tools' },
       element('button', { title: 'All its mutants (e)', click: () => openAll(file) }, 'Open all'),
       element('button', { title: 'Close them (Escape)', click: closeAll }, 'Close')));
@@ -441,9 +441,9 @@ function testsView() {
   return [
     element('h1', {}, counted(tests.length, 'test')),
     element('p', { class: 'faint' }, 'A mutant counts for the tests that the report names as its '
-      + 'killers. Mostly that is the first that notices it: a test that notices nothing here may '
+      + 'killers. Mostly that is the first that detects it: a test that detects nothing here may '
       + 'only come behind others.'),
-    tableOf(['Test', 'notices', 'reaches'], tests.map((test) => () => [
+    tableOf(['Test', 'detects', 'reaches'], tests.map((test) => () => [
       element('td', {}, testLink(test.id)),
       numberCell(test.kills.length), numberCell(test.reaches.length)]))];
 }
@@ -455,8 +455,8 @@ function testView(test) {
     element('h1', {}, shown(test.id)),
     element('p', { class: 'faint' }, `It reaches ${counted(test.reaches.length, 'mutant')}, and is `
       + `named as the killer of ${test.kills.length}.`),
-    element('h2', {}, `Notices: ${grouped(kills.length)}`), mutantList(kills),
-    element('h2', {}, `Reaches, and no test notices: ${grouped(missed.length)}`),
+    element('h2', {}, `Detects: ${grouped(kills.length)}`), mutantList(kills),
+    element('h2', {}, `Reaches, and no test detects: ${grouped(missed.length)}`),
     mutantList(missed)];
 }
 
@@ -602,9 +602,9 @@ function stepFile(by) {
 // What stands around the views
 
 function makeHeader() {
-  document.title = `${allCounts.percent} of mutants noticed`;
+  document.title = `${allCounts.percent} of mutants detected`;
   byId('score').append(element('strong', {}, allCounts.percent), element('span', { class: 'faint' },
-    ` ${grouped(allCounts.noticed)} of ${grouped(allCounts.noticed + allCounts.open)} noticed`));
+    ` ${grouped(allCounts.detected)} of ${grouped(allCounts.detected + allCounts.open)} detected`));
   byId('filters').append(...states.map((state) => element('button', {
     class: 'filter', 'aria-pressed': 'true', title: stateOf(state).says, 'data-state': state,
     click: toggleState,
@@ -645,7 +645,7 @@ function fileLink(file) {
   const worst = states.find((state) => file.counts.of(state) > 0) ?? 'Killed';
   return element('a', {
     class: 'file', href: addressOf({ file: file.name }), 'data-file': file.name,
-    title: `${file.name}: ${open} of ${counted(all, 'mutant')} not noticed`,
+    title: `${file.name}: ${open} of ${counted(all, 'mutant')} not detected`,
   }, element('span', { class: 'name' }, shown(file.shortName)),
   element('span', { class: 'open' }, open > 0 ? `${grouped(open)} ` : '', symbolOf(worst)),
   barOf(file.counts));

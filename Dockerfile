@@ -1,0 +1,16 @@
+# An image for CI systems: ./mutest with its tools, on Debian 12. The folder in which it is built is an unpacked archive of
+# tools/package, or this repository. No container engine was at hand: as a Dockerfile it is untried (docs/RELEASE.md).
+FROM debian:bookworm-slim
+# python3 is for tools/survivors, tools/report-page and tools/lacks, git for `survivors --changed`.
+# hadolint ignore=DL3008
+RUN apt-get update \
+    && apt-get install -y --no-install-recommends git python3 \
+    && rm -rf /var/lib/apt/lists/*
+COPY mutest /opt/mutest/mutest
+COPY dist /opt/mutest/dist
+COPY tools /opt/mutest/tools
+COPY examples /opt/mutest/examples
+COPY crates/lib_table/specs /opt/mutest/crates/lib_table/specs
+ENV MUTEST=/opt/mutest PATH=/opt/mutest:/opt/mutest/tools:$PATH
+WORKDIR /work
+CMD ["mutest"]
