@@ -22,14 +22,14 @@ class Browser:
             os.dup2(high[1], 4)
 
         self.process = subprocess.Popen(
-            [program, '--headless=new', '--no-sandbox', '--remote-debugging-pipe', '--disable-gpu',
-             '--disable-dev-shm-usage', '--no-first-run', '--host-resolver-rules=MAP * ~NOTFOUND',
+            [program, '--headless=new', '--remote-debugging-pipe', '--disable-gpu', '--no-first-run',
+             '--disable-dev-shm-usage', '--host-resolver-rules=MAP * ~NOTFOUND',
+             *(['--no-sandbox'] if os.geteuid() == 0 else []),
              f'--user-data-dir={self.room}', f'--window-size={width},{height}', 'about:blank'],
             preexec_fn=give_pipes, close_fds=False, stdin=subprocess.DEVNULL,
             stdout=subprocess.DEVNULL, stderr=subprocess.DEVNULL)
         os.close(commands)
         os.close(answers)
-        self.answers = os.fdopen(self.from_browser, 'rb', buffering=0)
         self.rest, self.number, self.session, self.events = b'', 0, None, []
         target = self.command('Target.createTarget', url='about:blank')['targetId']
         attached = self.command('Target.attachToTarget', targetId=target, flatten=True)
