@@ -1,5 +1,6 @@
-# An image for CI systems: ./mutest with its tools, on Debian 12. The folder in which it is built is an unpacked archive of
-# tools/package, or this repository. No container engine was at hand: as a Dockerfile it is untried (docs/RELEASE.md).
+# An image for CI systems: mutest with its tools, on Debian 12. It is built in an unpacked archive of
+# tools/package, or in this repository. No container engine was at hand: it is untried as it stands
+# (docs/RELEASE.md says what was tried).
 FROM debian:bookworm-slim
 # python3 is for tools/survivors, tools/report-page and tools/lacks, git for `survivors --changed`.
 # hadolint ignore=DL3008
