@@ -1,6 +1,6 @@
 #!/usr/bin/env python3
-"""Writes class files of up to 4 MiB below the folder that is named, one kind each, at the largest size that the format lets stand: some that are hostile to a reader, and below folders `c`, each with a folder `t` without a test beside it, some that are hostile to the checker of types."""
-import os, struct, sys
+"""hostile.py FOLDER [COLLIDING]: writes class files of up to 4 MiB below the folder, one kind each, at the largest size that the format lets stand: some that are hostile to a reader, and below folders `c`, each with a folder `t` without a test beside it, some that are hostile to the checker of types. With the program COLLIDING, made of colliding.c, also some that are hostile to tables of names, and beside each, by ordinary names of the same length, one that isn't."""
+import os, struct, subprocess, sys
 out = sys.argv[1] if len(sys.argv) > 1 else '.'
 u1, u2, u4 = (lambda n: struct.pack('>B', n)), (lambda n: struct.pack('>H', n)), (lambda n: struct.pack('>I', n))
 
@@ -32,8 +32,8 @@ def member(p, name, desc, flags, attrs=()): return u2(flags) + u2(p.text(name)) 
 def code(p, ops, stack=2, attrs=()): return attr(p, 'Code', u2(stack) + u2(2) + u4(len(ops)) + ops + u2(0) + u2(len(attrs)) + b''.join(attrs))
 
 
-def klass(p, name='A', flags=0x421, interfaces=(), fields=(), methods=(), attrs=()):
-    body = u2(flags) + u2(p.name(name)) + u2(p.name('java/lang/Object')) + u2(len(interfaces)) + b''.join(map(u2, interfaces))
+def klass(p, name='A', flags=0x421, interfaces=(), fields=(), methods=(), attrs=(), parent='java/lang/Object'):
+    body = u2(flags) + u2(p.name(name)) + u2(p.name(parent)) + u2(len(interfaces)) + b''.join(map(u2, interfaces))
     for items in (fields, methods, attrs): body += u2(len(items)) + b''.join(items)
     return b'\xca\xfe\xba\xbe' + u2(0) + u2(52) + u2(p.count + 1) + b''.join(p.bytes) + body
 
@@ -118,3 +118,67 @@ p = Pool(); owner = p.name('A')
 pairs = [p.pair('m', '(L' + 'x' * (UNITS - 6) + ';)V'), p.pair('m', '(' + 'I' * (UNITS - 3) + ')V')]
 for at in range(65000): p.add(u1(10) + u2(owner) + u2(pairs[at % 2]))
 put_run('method-types', klass(p))
+
+
+def put_suite(name, classes=(), tests=()):
+    for side, files in ('c', classes), ('t', tests):
+        folder = os.path.join(out, name, side)
+        os.makedirs(folder, exist_ok=True)
+        open(os.path.join(folder, 'README'), 'wb').close()
+        for at, data in enumerate(files):
+            with open(os.path.join(folder, f'{at}.class'), 'wb') as file: file.write(data)
+
+
+def put_text(name, lines):
+    os.makedirs(os.path.join(out, name), exist_ok=True)
+    with open(os.path.join(out, name, 'A.txt'), 'w', encoding='utf-8', newline='\n') as file: file.writelines(line + '\n' for line in lines)
+
+
+def call(p, opcode, owner, name): return opcode + u2(p.add(u1(10) + u2(p.name(owner)) + u2(p.pair(name, '()V')), ('call', owner, name)))
+
+
+def some_in_each(p, pieces, most):
+    """Static methods m0, m1, .. of one class, each with so many of these pieces of code, and the calls of all."""
+    parts = [b''.join(pieces[at:at + most]) for at in range(0, len(pieces), most)]
+    return ([member(p, f'm{at}', '()V', 9, [code(p, part + b'\xb1')]) for at, part in enumerate(parts)],
+            b''.join(call(p, b'\xb8', 'T', f'm{at}') for at in range(len(parts))))
+
+
+def test_class(p, ops=b'', parent='java/lang/Object', methods=()):
+    init = member(p, '<init>', '()V', 1, [code(p, b'\x2a' + call(p, b'\xb7', parent, '<init>') + b'\xb1')])
+    run = member(p, 't', '()V', 1, [code(p, ops + b'\xb1'), noted(p, u2(1) + u2(p.text('Lorg/junit/Test;')) + u2(0))])
+    return klass(p, 'T', 33, methods=[init, run, *methods], parent=parent)
+
+
+def put_named(front, names, long_names, texts):
+    """Cases for each table that is kept by names of a file, with these names."""
+    put_suite(front + '-classes', [klass(Pool(), name) for name in names[:20000]])
+
+    p = Pool(); put_suite(front + '-methods', [klass(p, methods=[member(p, name, '()V', 0x401) for name in names])])
+
+    # casts to 32,000 classes
+    p = Pool(); casts = [b'\x01\xc0' + u2(p.name(name)) + b'\x57' for name in names[:32000]]
+    put_suite(front + '-casts', [klass(p, 'T', methods=some_in_each(p, casts, 13000)[0])])
+
+    # a test that loads 32,000 literals
+    p = Pool(); loads = [b'\x13' + u2(p.add(u1(8) + u2(p.text(name)))) + b'\x57' for name in names[:32000]]
+    methods, calls = some_in_each(p, loads, 16000)
+    put_suite(front + '-literals', tests=[test_class(p, calls, methods=methods)])
+
+    # a test whose superclass has 28,000 methods
+    p = Pool(); above = klass(p, 'U', 0x421, methods=[member(p, '<init>', '()V', 1, [code(p, b'\x2a' + call(p, b'\xb7', 'java/lang/Object', '<init>') + b'\xb1')]),
+                                                      *(member(p, name, '()V', 0x401) for name in long_names)])
+    put_suite(front + '-heads', tests=[above, test_class(Pool(), parent='U')])
+
+    head = 'class A super java/lang/Object flags 33 major 52'
+    put_text(front + '-labels', [head, 'method 9 m ()V stack 0 locals 0', *(line for name in names for line in (name + ':', 'nop')), 'return', 'end'])
+    put_text(front + '-fields', [head, *(f'field 9 {name} I' for name in texts), 'end'])
+
+
+def made(what, count, blocks, tail):
+    return subprocess.run([sys.argv[2], what, *map(str, (count, blocks, tail))], stdout=subprocess.PIPE, check=True).stdout.decode().split('\n')[:-1]
+
+
+if len(sys.argv) > 2:
+    for front, what in ('ordinary', ('ordinary', 'ordinary')), ('colliding', ('names', 'texts')):
+        put_named(front, made(what[0], 65000, 5, 2), made(what[0], 28000, 15, 0), made(what[1], 65000, 5, 2))
