@@ -1,0 +1,6 @@
+pub mod Hands
+pub mod Ends
+pub mod Workers
+pub mod Settled
+pub mod Exact
+pub mod Leaving

@@ -1,0 +1,15 @@
+//! Workers that share the cells of a claim table.
+#![tactic(auto)]
+
+mod cell;
+mod ends;
+mod laws;
+mod outer;
+mod settled;
+mod working;
+
+pub use ends::{CellEnd, DrawnCell, Job, Plan, WorkEnd};
+pub use laws::{jobs_leave, left_may_settle, settled_is_exact};
+pub use outer::{Gate, Hands, NoJournal, OpenGate, Recorder};
+pub use settled::settle;
+pub use working::{run_workers, work_in};

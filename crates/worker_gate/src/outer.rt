@@ -1,0 +1,88 @@
+//! What a worker is handed from outside: hands that run cells, a recorder, a gate.
+
+ghost use Rattle.std.specs.Prelude.{◌≡◌, ◌<◌, ◌^◌, IfOk, OnOk};
+ghost use Rattle.worker_gate.specs.Hands.{Reading, Runs, detects_found, detects_made, IsCellOf, Finds, Makes, Counts, CountsAtMost};
+
+use class_model::Memory;
+use mt_edge::{EdgeFault, MeterPart};
+use std::sync::Wait;
+
+/// What runs cells for one worker: its own copy of the program, in which the class of the mutant
+/// that it was asked of last stands edited, and all that is kept from run to run. Cells of one
+/// mutant that follow one another ask for one class alone.
+pub trait Hands {
+    /// The record of a run that was made here.
+    type Made: Drop;
+
+    /// A record that old results have.
+    type Found: Drop;
+
+    /// What a record says of a mutant that its run detects.
+    type State;
+
+    // What records say, and how many steps their runs took.
+    ghost reading: { Reading Self.Made Self.Found Self.State };
+
+    // The runs of the job, by mutant. No call changes them.
+    ghost job: { Self → Runs Self.Found };
+
+    /// Whether the run of a made record detects its mutant.
+    fn made_detects(made: &Self::Made) -> bool
+        ensures { result ≡ detects_made reading made.now };
+
+    /// Whether the run of a found record detects its mutant.
+    fn found_detects(found: &Self::Found) -> bool
+        ensures { result ≡ detects_found reading found.now };
+
+    /// The record that old results have of a cell's run.
+    fn find(&mut self, mutant: u64, test: u64) -> Result<Option<Self::Found>, Memory>
+        requires { IsCellOf (job self.old) mutant test }
+        ensures job { job self.new ≡ job self.old }
+        ensures found { IfOk result (Finds (job self.old) mutant test) };
+
+    /// Runs a cell. Its steps are counted in the part.
+    fn run(&mut self, mutant: u64, test: u64, part: &mut MeterPart) -> Result<Self::Made, Memory>
+        requires cell { IsCellOf (job self.old) mutant test }
+        requires room { part.old < 2 ^ 63 }
+        ensures job { job self.new ≡ job self.old }
+        ensures made { IfOk result (Makes reading (job self.old) mutant test) }
+        ensures steps { OnOk result (Counts reading (job self.old) mutant test part.old part.new) }
+        ensures most { CountsAtMost reading (job self.old) mutant test part.old part.new };
+}
+
+/// Keeps the records of runs as soon as they are made. Nothing is said of its answer, since it may
+/// take a lock.
+pub trait Recorder<M> {
+    fn keep<W: Wait>(&self, rt: &W, made: &M) -> Result<(), EdgeFault>;
+}
+
+/// A recorder that keeps nothing.
+pub struct NoJournal;
+
+impl<M> Recorder<M> for NoJournal {
+    fn keep<W: Wait>(&self, _rt: &W, _made: &M) -> Result<(), EdgeFault> {
+        Ok(())
+    }
+}
+
+/// What a worker tells while it works. Nothing is said of a gate, but that its calls return. Cells
+/// are told by the numbers that are drawn.
+pub trait Gate {
+    /// So many cells will be worked on.
+    fn open(&self, _cells: u64) {}
+
+    /// A worker begins a cell.
+    fn begin(&self, worker: u64, cell: u64);
+
+    /// It has ended it.
+    fn end(&self, worker: u64, cell: u64);
+}
+
+/// The gate whose calls return at once.
+pub struct OpenGate;
+
+impl Gate for OpenGate {
+    fn begin(&self, _worker: u64, _cell: u64) {}
+
+    fn end(&self, _worker: u64, _cell: u64) {}
+}
