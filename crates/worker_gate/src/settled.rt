@@ -78,10 +78,7 @@ fn take_apart<C: Drop, M: Drop, F: Drop>(
 }
 
 // Puts an end at the number of its cell. Every number is a cell's, but that isn't asked here.
-fn place_cell<M: Drop, F: Drop>(
-    places: &mut [Option<CellEnd<M, F>>],
-    cell: (u64, CellEnd<M, F>),
-)
+fn place_cell<M: Drop, F: Drop>(places: &mut [Option<CellEnd<M, F>>], cell: (u64, CellEnd<M, F>))
     ensures { places.new ≡ slice_set places.old cell.0 (Some cell.1) }
 {
     let (number, end) = cell;
