@@ -36,7 +36,7 @@ class Lowered:
     """A class file in other words: the file itself and those that were made beside it, what it names, and what was cut out of it."""
 
     def __init__(self, edit):
-        self.edit, self.made, self.names, self.cuts, self.moved = edit, [], set(), {}, 0
+        self.edit, self.made, self.names, self.literals, self.cuts = edit, [], set(), set(), {}
 
 
 class Lowering:
@@ -59,7 +59,7 @@ class Lowering:
                 self.cut(edit, method, why)
                 done.cuts[method.key] = why
         for method in edit.methods:
-            self.add_names(edit, method, done.names)
+            self.add_names(edit, method, done)
         edit.attributes = [row for row in edit.attributes if row[0] in KEPT_OF_CLASS]
         edit.pool.make_plain()
         edit.major = 52
@@ -70,6 +70,7 @@ class Lowering:
             beside = self.lower(made, {})
             done.made += [made, *beside.made]
             done.names |= beside.names
+            done.literals |= beside.literals
         return done
 
     def put_supers(self, edit):
@@ -105,7 +106,6 @@ class Lowering:
                 self.lower_instruction(edit, method, at, op, lambdas, with_bytes, news, dropped)
             if with_bytes:
                 code.replace(with_bytes, dropped)
-                done.moved += len(with_bytes)
         except (Cut, NoLambda) as cut:
             lambdas.reset(mark)
             return str(cut)
@@ -247,9 +247,9 @@ class Lowering:
             method.attributes.append(('Code', None))
 
     @staticmethod
-    def add_names(edit, method, names):
+    def add_names(edit, method, done):
         """The classes that a method names: in its descriptor, its instructions with what these call, its handlers and its frames."""
-        pool, code = edit.pool, method.code
+        pool, code, names = edit.pool, method.code, done.names
         names.update(classes_in(method.descriptor))
         if code is None:
             return
@@ -262,7 +262,11 @@ class Lowering:
                 kind, value = pool.entries[code.code[at + 1] if op == ce.LDC else code.operand(at)]
                 if kind == ce.CLASS:
                     names.update(classes_of(pool.text(value)))
-            elif op in (ce.NEW, ce.ANEWARRAY, ce.CHECKCAST, ce.INSTANCEOF, ce.MULTIANEWARRAY):
+                    done.literals.update(classes_of(pool.text(value)))
+            elif op == ce.ANEWARRAY:
+                names.update(classes_of(pool.class_name(code.operand(at))))
+                done.literals.update(classes_of(pool.class_name(code.operand(at))))
+            elif op in (ce.NEW, ce.CHECKCAST, ce.INSTANCEOF, ce.MULTIANEWARRAY):
                 names.update(classes_of(pool.class_name(code.operand(at))))
         for *_, kind in code.handlers:
             if kind:

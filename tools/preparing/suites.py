@@ -32,7 +32,7 @@ class Suite:
     """What a test class's own file says of its tests."""
 
     def __init__(self):
-        self.tests, self.methods, self.off, self.out = [], {}, None, []
+        self.tests, self.methods, self.around, self.off, self.out = [], {}, [], None, []
 
 
 class Suites:
@@ -99,6 +99,7 @@ class Suites:
                 kinds -= TESTS
         around = kinds & (AROUND_EACH | AROUND_ALL)
         if around:
+            suite.around.append(method.key)
             if method.descriptor != '()V' or bool(method.flags & STATIC) != bool(around & AROUND_ALL) or method.flags & PRIVATE:
                 suite.off = suite.off or f'has {method.name}{method.descriptor}, which can\'t be called around tests'
         if kinds & TESTS and not kinds & OFF and not method.flags & ABSTRACT:

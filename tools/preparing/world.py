@@ -2,8 +2,9 @@
 import os
 import zipfile
 
-from class_files import Class, Member, Refused, has_float
+from class_files import INTERFACE, Class, Member, Refused, has_float
 from preparing.class_edit import ClassEdit
+from preparing import known
 from preparing.companion import MORE
 from preparing.jdk import is_java
 from programs import Program
@@ -43,6 +44,8 @@ class World(Program):
         super().__init__(Classes(self))
         self.library, self.companion, self.jdk = library, companion, jdk
         self.units, self.infos, self.out, self.mores = {}, {}, {}, {}
+        self.known = Class(known.NAME, 0x1021, 'java/lang/Object', [])
+        self.known.methods.update({key: Member(0x9, *key) for key in known.LOOKUPS.items()})
         self.jars = {}
         for path in jars:
             archive = zipfile.ZipFile(path)
@@ -79,6 +82,8 @@ class World(Program):
         """A class's head and members, as it stands once it is lowered; or None."""
         if name in self.library:
             return self.library[name]
+        if name == known.NAME:
+            return self.known
         if name not in self.infos:
             self.infos[name] = None
             unit = self.unit(name)
@@ -116,13 +121,10 @@ class World(Program):
         todo, found, seen = [name], [], set()
         while todo:
             name = todo.pop(0)
-            if name in seen or name.startswith(MORE):
-                if name in self.companion.files and name not in seen:
-                    seen.add(name)
-                    todo += self.heads_above(name)
+            if name in seen:
                 continue
             seen.add(name)
-            if self.is_of_java(name):
+            if not name.startswith(MORE) and self.is_of_java(name):
                 found.append(name)
             todo += self.heads_above(name)
         return found
@@ -140,12 +142,12 @@ class World(Program):
 
     def more_above(self, name):
         """The companion's interfaces that a class of the program gets, but for those that its own supers get."""
-        if name in self.library or name.startswith(MORE):
+        if name in self.library:
             return []
         if name not in self.mores:
             self.mores[name] = []
             unit = self.unit(name)
-            if unit is None:
+            if unit is None or name.startswith(MORE) and unit.edit.flags & INTERFACE:
                 return []
             found = [above for above in self.java_above(name) if above in self.companion.interfaces]
             for above in [unit.edit.above, *unit.edit.interfaces]:
