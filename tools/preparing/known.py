@@ -6,6 +6,7 @@ from preparing import class_edit as ce
 from preparing.builder import add_method, new_class
 
 NAME = 'more/Known'
+PRIMITIVES = ('int', 'long', 'short', 'byte', 'char', 'boolean', 'void')
 LOOKUPS = {
     'named': '(Ljava/lang/String;)Ljava/lang/Class;',
     'array': '(Ljava/lang/String;I)[Ljava/lang/Object;',
@@ -24,7 +25,7 @@ def hash_of(text):
     return code - (1 << 32) if code >= 1 << 31 else code
 
 
-def answer(pool, lookup, info):
+def answer(pool, lookup, info, names_above):
     """The instructions that push what a lookup answers of a class; None where that is null."""
     name = info.name
     if lookup == 'named':
@@ -32,7 +33,7 @@ def answer(pool, lookup, info):
     if lookup == 'array':
         return struct.pack('>BBH', ILOAD_1, ce.ANEWARRAY, pool.add_class(name))
     if lookup == 'above':
-        return struct.pack('>BH', ce.LDC_W, pool.add_string(info.above.replace('/', '.'))) if info.above and not info.is_interface() else None
+        return struct.pack('>BH', ce.LDC_W, pool.add_string(''.join(above.replace('/', '.') + ',' for above in names_above(info))))
     if lookup == 'make':
         if info.flags & (ABSTRACT | INTERFACE) or ('<init>', '()V') not in info.methods:
             return None
@@ -43,13 +44,13 @@ def answer(pool, lookup, info):
     return struct.pack('>BH', ce.INVOKESTATIC, pool.add_member(ce.METHOD_REF, name, 'values', stated))
 
 
-def add_lookup(made, lookup, infos):
+def add_lookup(made, lookup, infos, names_above):
     """A switch over the hash codes of names; behind each case the name itself is compared."""
     pool = made.pool
     equals = pool.add_member(ce.METHOD_REF, 'java/lang/String', 'equals', '(Ljava/lang/Object;)Z')
     cases = {}
     for info in infos:
-        code = answer(pool, lookup, info)
+        code = answer(pool, lookup, info, names_above)
         if code is not None:
             shown = info.name.replace('/', '.')
             head = struct.pack('>BBHBHB', ce.ALOAD_0, ce.LDC_W, pool.add_string(shown), ce.INVOKEVIRTUAL, equals, IFEQ)
@@ -77,10 +78,10 @@ def add_lookup(made, lookup, infos):
     method.code.attributes = [('StackMapTable', struct.pack('>H', len(frames)) + b''.join(frames))]
 
 
-def known(infos):
-    """The class file, for the classes of which these are the heads."""
+def known(infos, names_above):
+    """The class file, for the classes of which these are the heads; `names_above` gives what stands above one, its superclass first."""
     made = new_class(NAME, 0x1021, 'java/lang/Object')
     infos = sorted(infos, key=lambda info: info.name)
     for lookup in LOOKUPS:
-        add_lookup(made, lookup, infos)
+        add_lookup(made, lookup, infos, names_above)
     return made.written()

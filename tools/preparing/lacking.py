@@ -57,7 +57,8 @@ class Lacking:
             return None
         owner, name, descriptor, _ = pool.member(code.operand(at))
         found = world.class_of(owner)
-        if owner.startswith('['):
+        if owner.startswith('[') or owner in self.edits and found is None:
+            calls.append((owner, name, descriptor))
             return None
         if found is None:
             return owner

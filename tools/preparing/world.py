@@ -157,6 +157,18 @@ class World(Program):
             self.mores[name] = [MORE + of for of in found]
         return self.mores[name]
 
+    def all_above(self, info):
+        """The names of all that stands above a class, its superclass first, then interfaces; what the class file itself doesn't say is left out."""
+        todo, found = [info], []
+        while todo:
+            of = todo.pop(0)
+            for name in [*([] if of.above is None or of.is_interface() else [of.above]), *of.interfaces]:
+                head = self.info(name)
+                if head is not None and name not in found:
+                    found.append(name)
+                    todo.append(head)
+        return found
+
     def names_above(self, name):
         """The names of the superclasses of a class, itself among them, as far as they are there."""
         found = []

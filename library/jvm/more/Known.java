@@ -14,6 +14,24 @@ public final class Known {
 
     /** The class of a name, or null. */
     public static Class<?> named(String name) {
+        switch (name) {
+            case "int":
+                return int.class;
+            case "long":
+                return long.class;
+            case "short":
+                return short.class;
+            case "byte":
+                return byte.class;
+            case "char":
+                return char.class;
+            case "boolean":
+                return boolean.class;
+            case "void":
+                return void.class;
+            default:
+                break;
+        }
         try {
             return Class.forName(name, false, Thread.currentThread().getContextClassLoader());
         } catch (ClassNotFoundException | LinkageError none) {
@@ -27,10 +45,22 @@ public final class Known {
         return found == null ? null : (Object[]) Array.newInstance(found, length);
     }
 
-    /** The name of a class's superclass, or null. */
+    /** The names of all that stands above a class, each with a comma behind it, its superclass first; or null. */
     public static String above(String name) {
         Class<?> found = named(name);
-        return found == null || found.getSuperclass() == null ? null : found.getSuperclass().getName();
+        return found == null ? null : above(found, "");
+    }
+
+    private static String above(Class<?> of, String names) {
+        String all = names;
+        Class<?> first = of.getSuperclass();
+        if (first != null) {
+            all = above(first, all + first.getName() + ",");
+        }
+        for (Class<?> next : of.getInterfaces()) {
+            all = above(next, all + next.getName() + ",");
+        }
+        return all;
     }
 
     /** A new object of a class, by its constructor without arguments, or null. */

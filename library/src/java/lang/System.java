@@ -115,11 +115,21 @@ public final class System {
         return of == null ? 0 : of.getClass().hashCode();
     }
 
+    private static final String[] PROPERTIES = {"line.separator", "\n", "file.separator", "/", "path.separator", ":",
+        "java.version", "1.8.0", "java.specification.version", "1.8", "java.class.version", "52.0", "java.vendor", "mutest",
+        "java.vm.name", "mutest", "java.io.tmpdir", "/tmp", "os.name", "Linux", "os.version", "0", "os.arch", "amd64",
+        "user.dir", "/", "user.home", "/", "user.name", "user", "file.encoding", "UTF-8"};
+
     public static String getProperty(String name) {
-        if (name.equals("line.separator")) {
-            return "\n";
+        if (name.isEmpty()) {
+            throw new IllegalArgumentException("key can't be empty");
         }
-        return name.equals("file.separator") ? "/" : name.equals("path.separator") ? ":" : null;
+        for (int at = 0; at < PROPERTIES.length; at += 2) {
+            if (name.equals(PROPERTIES[at])) {
+                return PROPERTIES[at + 1];
+            }
+        }
+        return null;
     }
 
     public static String getProperty(String name, String other) {
@@ -133,6 +143,14 @@ public final class System {
 
     public static String getenv(String name) {
         return null;
+    }
+
+    public static long currentTimeMillis() {
+        return 0;
+    }
+
+    public static long nanoTime() {
+        return 0;
     }
 
     public static void gc() {

@@ -5,6 +5,6 @@ public class AssertionFailedError extends AssertionError {
     }
 
     public AssertionFailedError(String message) {
-        super(message);
+        super(message, null);
     }
 }

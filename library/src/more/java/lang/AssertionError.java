@@ -3,12 +3,16 @@ package more.java.lang;
 import java.lang.String;
 import java.lang.Throwable;
 
-/** Members of java.lang.AssertionError. */
-public final class AssertionError {
-    private AssertionError() {
+/** java.lang.AssertionError with its constructor for whatever. */
+public class AssertionError extends java.lang.AssertionError {
+    public AssertionError() {
     }
 
-    public static java.lang.AssertionError make(java.lang.AssertionError a, java.lang.AssertionError b, Object of) {
-        return new java.lang.AssertionError(String.valueOf(of), of instanceof Throwable ? (Throwable) of : null);
+    public AssertionError(Object of) {
+        super(String.valueOf(of), of instanceof Throwable ? (Throwable) of : null);
+    }
+
+    public AssertionError(String message, Throwable cause) {
+        super(message, cause);
     }
 }

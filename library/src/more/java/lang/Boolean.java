@@ -1,7 +1,10 @@
 package more.java.lang;
 
+import java.lang.Class;
+
 /** Members of java.lang.Boolean. */
 public final class Boolean {
+    public static final Class<?> TYPE = more.Known.named("boolean");
     public static final java.lang.Boolean TRUE = java.lang.Boolean.valueOf(true);
     public static final java.lang.Boolean FALSE = java.lang.Boolean.valueOf(false);
 
@@ -22,6 +25,10 @@ public final class Boolean {
 
     public static java.lang.String toString(boolean of) {
         return of ? "true" : "false";
+    }
+
+    public static boolean getBoolean(java.lang.String name) {
+        return parseBoolean(System.getProperty(name));
     }
 
     public static int compare(boolean one, boolean other) {

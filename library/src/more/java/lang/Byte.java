@@ -1,7 +1,11 @@
 package more.java.lang;
 
+import java.lang.Class;
+
 /** Members of java.lang.Byte. */
 public final class Byte {
+    public static final Class<?> TYPE = more.Known.named("byte");
+
     private Byte() {
     }
 

@@ -1,9 +1,12 @@
 package more.java.lang;
 
+import java.lang.Class;
 import java.lang.CharSequence;
 
 /** Members of java.lang.Character, for ASCII, Latin 1, and the Greek and Cyrillic letters that Texts knows. */
 public final class Character {
+    public static final Class<?> TYPE = more.Known.named("char");
+
     private Character() {
     }
 

@@ -26,7 +26,7 @@ public final class Class {
     }
 
     public static boolean isPrimitive(java.lang.Class of) {
-        return false;
+        return ",int,long,short,byte,char,boolean,void,float,double,".contains("," + of.getName() + ",");
     }
 
     public static String getSimpleName(java.lang.Class of) {
@@ -73,7 +73,17 @@ public final class Class {
 
     public static java.lang.Class getSuperclass(java.lang.Class of) {
         String above = Known.above(of.getName());
-        return above == null ? null : Known.named(above);
+        return above == null || above.isEmpty() ? null : Known.named(above.substring(0, above.indexOf(",")));
+    }
+
+    public static boolean isAssignableFrom(java.lang.Class of, java.lang.Class other) {
+        String above = Known.above(other.getName());
+        return of == other || of == Object.class || above != null && ("," + above).contains("," + of.getName() + ",");
+    }
+
+    public static boolean isEnum(java.lang.Class of) {
+        String above = Known.above(of.getName());
+        return above != null && above.startsWith("java.lang.Enum,");
     }
 
     public static java.lang.Class getComponentType(java.lang.Class of) {

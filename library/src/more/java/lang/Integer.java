@@ -1,9 +1,12 @@
 package more.java.lang;
 
+import java.lang.Class;
 import java.lang.Math;
 
 /** Members of java.lang.Integer. */
 public final class Integer {
+    public static final Class<?> TYPE = more.Known.named("int");
+
     private Integer() {
     }
 

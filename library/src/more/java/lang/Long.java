@@ -1,7 +1,11 @@
 package more.java.lang;
 
+import java.lang.Class;
+
 /** Members of java.lang.Long. */
 public final class Long {
+    public static final Class<?> TYPE = more.Known.named("long");
+
     private Long() {
     }
 

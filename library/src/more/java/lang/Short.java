@@ -1,7 +1,11 @@
 package more.java.lang;
 
+import java.lang.Class;
+
 /** Members of java.lang.Short. */
 public final class Short {
+    public static final Class<?> TYPE = more.Known.named("short");
+
     private Short() {
     }
 

@@ -12,6 +12,7 @@ import java.util.Iterator;
 import java.util.List;
 import java.util.ListIterator;
 import java.util.Map;
+import java.util.Random;
 import java.util.Set;
 
 /** Members of java.util.Collections. */
@@ -464,6 +465,16 @@ public final class Collections {
 
     public static void swap(List of, int one, int other) {
         of.set(one, of.set(other, of.get(one)));
+    }
+
+    public static void shuffle(List of) {
+        shuffle(of, new Random());
+    }
+
+    public static void shuffle(List of, Random by) {
+        for (int at = of.size(); at > 1; at--) {
+            swap(of, at - 1, by.nextInt(at));
+        }
     }
 
     public static int binarySearch(List of, Object key) {
