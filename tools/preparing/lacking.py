@@ -65,7 +65,7 @@ class Lacking:
         if op <= ce.PUTFIELD:
             calls.append((owner, '<clinit>', '()V'))
             return None if world.field(found, (name, descriptor)) else f'{owner}.{name}'
-        if world.method(found, (name, descriptor)) is None:
+        if self.place_of(owner, name, descriptor) is None and world.method(found, (name, descriptor)) is None:
             return f'{owner}.{name}{descriptor}'
         calls.append((owner, name, descriptor))
         if op == ce.INVOKESTATIC:

@@ -12,6 +12,9 @@ public final class Main {
     private static final long MOST_STEPS = 10_000_000;
     private static final String[] STATES = {"KILLED", "SURVIVED", "NO_COVERAGE", "TIMED_OUT", "NON_VIABLE"};
 
+    /** Whether tests that don't reach the line are left out. */
+    private static final boolean COVERING = System.getenv("COVERING") != null;
+
     private final Program program;
     private final Probes probes;
     private final Runs runs;
@@ -82,7 +85,7 @@ public final class Main {
                 if (covers) {
                     covering.add(tests.get(at).id());
                 }
-                if (killer.equals("-") && !runs.passes(files, tests.get(at), limits.get(at))) {
+                if (killer.equals("-") && (covers || !COVERING) && !runs.passes(files, tests.get(at), limits.get(at))) {
                     killer = tests.get(at).id();
                     state = Probe.isExceeded() ? "TIMED_OUT" : "KILLED";
                     if (!covers) {
