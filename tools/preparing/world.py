@@ -96,6 +96,13 @@ class World(Program):
                 self.units[name] = None
         return self.infos[name]
 
+    def leave_out(self, name, why):
+        """Takes a class away, so that what stands below it goes too."""
+        self.out[name] = why
+        self.units[name] = None
+        self.infos.clear()
+        self.mores.clear()
+
     def has_supers(self, edit):
         """Whether all that stands directly above a class is there; a class above itself counts as not there."""
         for above, how in [(edit.above, 'extends'), *((name, 'implements') for name in edit.interfaces)]:
