@@ -75,7 +75,7 @@ class Preparation:
             return self.state.get('status'), self.state.get('summary')
         self.world = World(library(), Companion(os.path.join(HOME, 'library', 'classes')), Jdk(), self.jars)
         self.lowering = Lowering(self.world, self.world.companion, self.world.jdk)
-        self.suites = Suites(self.world.names_above)
+        self.suites = Suites(self.world.names_above, self.edit_of)
         self.take_in()
         self.lowered, self.stubs, self.asked = {}, {}, None
         self.take_decisions(self.state.affected(changed))
@@ -158,6 +158,10 @@ class Preparation:
             self.tests[name] = found
             if off:
                 self.class_off[name] = off
+
+    def edit_of(self, name):
+        unit = self.world.unit(name)
+        return unit.edit if unit is not None else None
 
     # What an earlier call found out.
 

@@ -22,6 +22,12 @@ PLAIN_RUNNERS = {f'Lorg/junit/{name};' for name in ('runners/JUnit4', 'runners/B
 # Rules without which a test that passes is as strong: what they give is missed where it is used, what they limit is limited here too.
 HARMLESS_RULES = {f'Lorg/junit/rules/{name};' for name in ('ExpectedException', 'TemporaryFolder', 'TestName', 'Timeout', 'DisableOnDebug')}
 CASE = 'junit/framework/TestCase'
+EXPECTING = 'Lorg/junit/rules/ExpectedException;'
+ASTORE_1, ALOAD_1 = 0x4c, 0x2b
+
+
+def class_of(kind):
+    return kind[1:-1]
 
 
 def shown(kind):
@@ -36,10 +42,10 @@ class Suite:
 
 
 class Suites:
-    """Reads and lowers the test classes; `edit_of` gives the class file of a name, as long as it is one of the tests' or the code's."""
+    """Reads and lowers the test classes; `above` gives the names of a class and its superclasses, `edit_of` the class file of a name, or None."""
 
-    def __init__(self, above):
-        self.above = above
+    def __init__(self, above, edit_of):
+        self.above, self.edit_of = above, edit_of
 
     def lower(self, edit):
         """Lowers a test class's file in place, and tells what its own methods are."""
@@ -52,15 +58,70 @@ class Suites:
             if found.kind in OF_CLASSES and not (found.kind == RUN_WITH and found.elements.get('value') in PLAIN_RUNNERS):
                 value = found.elements.get('value')
                 value = value[0] if isinstance(value, list) and value else value
-                suite.off = f'has the annotation {shown(found.kind)}' + (f' of {shown(value)}' if isinstance(value, str) else '')
+                if found.kind != NESTED or not self.lower_nested(edit):
+                    suite.off = f'has the annotation {shown(found.kind)}' + (f' of {shown(value)}' if isinstance(value, str) else '')
         annotations.drop(edit, pool, OF_CLASSES.__contains__)
+        expecting = self.expecting_field(edit)
         for field in edit.fields:
             if any(one.kind == RULE for one in annotations.annotations_of(field, pool)) and field.descriptor not in HARMLESS_RULES:
                 suite.off = suite.off or f'has a rule of {shown(field.descriptor)}'
             annotations.drop(field, pool, {RULE, EXTEND_WITH}.__contains__)
-        for method in edit.methods:
+        for method in list(edit.methods):
             self.lower_method(edit, method, suite)
+            if expecting is not None and method.name in suite.tests and method.descriptor == '()V':
+                self.lower_expecting(edit, method, expecting)
         return suite
+
+    def lower_nested(self, edit):
+        """Gives a nested class a constructor without arguments, where nothing runs around the tests of the classes around it."""
+        outer = edit.name.rpartition('$')[0]
+        taken = [method.descriptor for method in edit.methods if method.name == '<init>']
+        for name in self.above(outer):
+            around = self.edit_of(name)
+            if around is not None and any(one.kind in AROUND_EACH | AROUND_ALL for method in around.methods
+                                          for one in annotations.annotations_of(method, around.pool)):
+                return False
+        around, pool = self.edit_of(outer), edit.pool
+        if taken != [f'(L{outer};)V'] or around is None or around.flags & ABSTRACT:
+            return False
+        if any(one.kind == NESTED for one in annotations.annotations_of(around, around.pool)):
+            return False
+        if not any(method.key == ('<init>', '()V') and not method.flags & PRIVATE for method in around.methods):
+            return False
+        code = struct.pack('>BBHBBHBHB', ce.ALOAD_0, ce.NEW, pool.add_class(outer), ce.DUP, ce.INVOKESPECIAL,
+                           pool.add_member(ce.METHOD_REF, outer, '<init>', '()V'), ce.INVOKESPECIAL,
+                           pool.add_member(ce.METHOD_REF, edit.name, '<init>', taken[0]), ce.RETURN)
+        add_method(edit, PUBLIC | SYNTHETIC, '<init>', '()V', code, 3, 1)
+        edit.attributes = [row for row in edit.attributes if row[0] != 'InnerClasses']
+        return True
+
+    def expecting_field(self, edit):
+        """The owner and the name of the field with a rule that expects exceptions, of a class or one above it."""
+        for name in self.above(edit.name):
+            found = self.edit_of(name)
+            for field in found.fields if found is not None else ():
+                if field.descriptor == EXPECTING and not field.flags & STATIC:
+                    return name, field.name
+        return None
+
+    @staticmethod
+    def lower_expecting(edit, method, field):
+        """Puts the rule's question around a test's body, which becomes a method of its own."""
+        pool, name = edit.pool, method.name
+        marks = [row for row in method.attributes if row[0] == annotations.VISIBLE]
+        method.attributes = [row for row in method.attributes if row[0] != annotations.VISIBLE]
+        method.name = name + '$expecting'
+        rule = pool.add_member(ce.FIELD_REF, field[0], field[1], EXPECTING)
+        caught = pool.add_class('java/lang/Throwable')
+        code = struct.pack('>BBHBBHBHB', ce.ALOAD_0, ce.INVOKEVIRTUAL, pool.add_member(ce.METHOD_REF, edit.name, method.name, '()V'),
+                           ce.ALOAD_0, ce.GETFIELD, rule, ce.INVOKEVIRTUAL, pool.add_member(ce.METHOD_REF, class_of(EXPECTING), 'ended', '()V'), ce.RETURN)
+        handler = len(code)
+        code += struct.pack('>BBBHBBHB', ASTORE_1, ce.ALOAD_0, ce.GETFIELD, rule, ALOAD_1, ce.INVOKEVIRTUAL,
+                            pool.add_member(ce.METHOD_REF, class_of(EXPECTING), 'caught', '(Ljava/lang/Throwable;)V'), ce.RETURN)
+        around = add_method(edit, method.flags, name, '()V', code, 2, 2)
+        around.attributes += marks
+        around.code.handlers = [(0, 4, handler, caught)]
+        around.code.attributes = [('StackMapTable', struct.pack('>HBBH', 1, 64 + handler, 7, caught))]
 
     def lower_three(self, edit, suite):
         pool = edit.pool
@@ -77,6 +138,10 @@ class Suites:
             code = struct.pack('>BBHBHB', ce.ALOAD_0, ce.LDC_W, pool.add_string('test'), ce.INVOKESPECIAL,
                                pool.add_member(ce.METHOD_REF, edit.name, '<init>', '(Ljava/lang/String;)V'), ce.RETURN)
             add_method(edit, PUBLIC | SYNTHETIC, '<init>', '()V', code, 2, 1)
+        for descriptor, method in inits.items():
+            # JUnit 4 takes a class with one public constructor.
+            if descriptor != '()V' and method.flags & PUBLIC:
+                method.flags = method.flags & ~PUBLIC | PROTECTED
 
     @staticmethod
     def lower_method(edit, method, suite):
