@@ -3,6 +3,7 @@
 A class `more/X` completes the class X of Java:
 - a static method stands for the method of X with its name; for one of an object, what it is called on is its first argument; `make` stands for a
   constructor, with two nulls of the class before the arguments, in the place of what `new` and `dup` push;
+- `cast` and `isInstance`, of an object, stand for a cast to X and for `instanceof X`;
 - a static field stands for the one of X;
 - where it extends X, a program's `new X`, and a class that extends X, get it instead;
 - where it is an interface, each class of the program that stands below X gets it as one of its interfaces.

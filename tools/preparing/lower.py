@@ -134,12 +134,22 @@ class Lowering:
             name = pool.class_name(code.operand(at))
             if name.startswith('[') and has_float(name):
                 raise Cut(FLOATS)
-            if op == ce.NEW:
+            if op in (ce.CHECKCAST, ce.INSTANCEOF):
+                self.lower_test(edit, code, at, op, name)
+            elif op == ce.NEW:
                 news.setdefault(name, []).append(at)
                 if name in self.companion.subclasses and edit.name != MORE + name:
                     code.put_operand(at, pool.add_class(MORE + name))
         else:
             raise Cut(f'has the opcode {op:#x}, which is not read')
+
+    def lower_test(self, edit, code, at, op, name):
+        """Puts a method of the companion library in the place of a cast, or of a question for a class, where it has one."""
+        called, stated = ('cast', '(Ljava/lang/Object;)Ljava/lang/Object;') if op == ce.CHECKCAST else ('isInstance', '(Ljava/lang/Object;)Z')
+        is_interface = self.companion.methods.get((name, called, stated))
+        if is_interface is not None and edit.name != MORE + name:
+            code.code[at] = ce.INVOKESTATIC
+            code.put_operand(at, edit.pool.add_member(ce.INTERFACE_REF if is_interface else ce.METHOD_REF, MORE + name, called, stated))
 
     @staticmethod
     def judge_constant(pool, index):

@@ -73,7 +73,7 @@ class Suites:
         return suite
 
     def lower_nested(self, edit):
-        """Gives a nested class a constructor without arguments, where nothing runs around the tests of the classes around it."""
+        """Makes a nested class's constructor one without arguments, which makes the object around it, where nothing runs around that one's tests."""
         outer = edit.name.rpartition('$')[0]
         taken = [method.descriptor for method in edit.methods if method.name == '<init>']
         for name in self.above(outer):
@@ -86,12 +86,14 @@ class Suites:
             return False
         if any(one.kind == NESTED for one in annotations.annotations_of(around, around.pool)):
             return False
+        init = next(method for method in edit.methods if method.name == '<init>')
         if not any(method.key == ('<init>', '()V') and not method.flags & PRIVATE for method in around.methods):
             return False
-        code = struct.pack('>BBHBBHBHB', ce.ALOAD_0, ce.NEW, pool.add_class(outer), ce.DUP, ce.INVOKESPECIAL,
-                           pool.add_member(ce.METHOD_REF, outer, '<init>', '()V'), ce.INVOKESPECIAL,
-                           pool.add_member(ce.METHOD_REF, edit.name, '<init>', taken[0]), ce.RETURN)
-        add_method(edit, PUBLIC | SYNTHETIC, '<init>', '()V', code, 3, 1)
+        if init.code.attribute('StackMapTable') is not None or ce.length_of(init.code.code, 0) != 1:
+            return False
+        begin = struct.pack('>BHBBHB', ce.NEW, pool.add_class(outer), ce.DUP, ce.INVOKESPECIAL, pool.add_member(ce.METHOD_REF, outer, '<init>', '()V'), ASTORE_1)
+        init.code.replace({0: begin + bytes(init.code.code[:1])})
+        init.code.stack, init.descriptor = max(init.code.stack, 2), '()V'
         edit.attributes = [row for row in edit.attributes if row[0] != 'InnerClasses']
         return True
 

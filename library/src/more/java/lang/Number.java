@@ -36,7 +36,7 @@ public interface Number {
         if (of instanceof Byte) {
             return ((Byte) of).byteValue();
         }
-        return ((Number) of).longValue();
+        return of instanceof Number ? ((Number) of).longValue() : of.longValue();
     }
 
     static short shortValue(java.lang.Number of) {

@@ -34,31 +34,82 @@ public interface Collection<E> extends more.java.lang.Iterable<E>, java.util.Col
         return changed;
     }
 
+    // For a collection of the profile's own library, by what it has; for one of a JVM, its own member.
+
     static Object[] toArray(java.util.Collection of) {
-        return of instanceof Collection ? ((Collection) of).toArray() : Walked.toArray(of);
+        if (of instanceof Collection) {
+            return ((Collection) of).toArray();
+        }
+        try {
+            return of.toArray();
+        } catch (NoSuchMethodError none) {
+            return Walked.toArray(of);
+        }
     }
 
     static Object[] toArray(java.util.Collection of, Object[] into) {
-        return of instanceof Collection ? ((Collection) of).toArray(into) : Walked.toArray(of, into);
+        if (of instanceof Collection) {
+            return ((Collection) of).toArray(into);
+        }
+        try {
+            return of.toArray(into);
+        } catch (NoSuchMethodError none) {
+            return Walked.toArray(of, into);
+        }
     }
 
     static boolean containsAll(java.util.Collection of, java.util.Collection others) {
-        return of instanceof Collection ? ((Collection) of).containsAll(others) : Walked.containsAll(of, others);
+        if (of instanceof Collection) {
+            return ((Collection) of).containsAll(others);
+        }
+        try {
+            return of.containsAll(others);
+        } catch (NoSuchMethodError none) {
+            return Walked.containsAll(of, others);
+        }
     }
 
     static boolean addAll(java.util.Collection of, java.util.Collection others) {
-        return of instanceof Collection ? ((Collection) of).addAll(others) : Walked.addAll(of, others);
+        if (of instanceof Collection) {
+            return ((Collection) of).addAll(others);
+        }
+        try {
+            return of.addAll(others);
+        } catch (NoSuchMethodError none) {
+            return Walked.addAll(of, others);
+        }
     }
 
     static boolean removeAll(java.util.Collection of, java.util.Collection others) {
-        return of instanceof Collection ? ((Collection) of).removeAll(others) : Walked.keep(of, others, false);
+        if (of instanceof Collection) {
+            return ((Collection) of).removeAll(others);
+        }
+        try {
+            return of.removeAll(others);
+        } catch (NoSuchMethodError none) {
+            return Walked.keep(of, others, false);
+        }
     }
 
     static boolean retainAll(java.util.Collection of, java.util.Collection others) {
-        return of instanceof Collection ? ((Collection) of).retainAll(others) : Walked.keep(of, others, true);
+        if (of instanceof Collection) {
+            return ((Collection) of).retainAll(others);
+        }
+        try {
+            return of.retainAll(others);
+        } catch (NoSuchMethodError none) {
+            return Walked.keep(of, others, true);
+        }
     }
 
     static boolean removeIf(java.util.Collection of, Predicate filter) {
-        return of instanceof Collection ? ((Collection) of).removeIf(filter) : Walked.removeIf(of, filter);
+        if (of instanceof Collection) {
+            return ((Collection) of).removeIf(filter);
+        }
+        try {
+            return of.removeIf(filter);
+        } catch (NoSuchMethodError none) {
+            return Walked.removeIf(of, filter);
+        }
     }
 }

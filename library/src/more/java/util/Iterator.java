@@ -20,7 +20,7 @@ public interface Iterator<E> extends java.util.Iterator<E> {
         if (of instanceof Iterator) {
             ((Iterator) of).remove();
         } else {
-            Walks.remove(of);
+            of.remove();
         }
     }
 

@@ -37,36 +37,84 @@ public interface List<E> extends Collection<E>, java.util.List<E> {
         }
     }
 
-    /** The list itself, or one with all members that goes by it. */
-    static List whole(java.util.List of) {
-        return of instanceof List ? (List) of : (List) (Object) new WrappedList(of);
-    }
+    // For a list of the profile's own library, by what it has; for one of a JVM, its own member.
 
     static int lastIndexOf(java.util.List of, Object sought) {
-        return whole(of).lastIndexOf(sought);
+        if (of instanceof List) {
+            return ((List) of).lastIndexOf(sought);
+        }
+        try {
+            return of.lastIndexOf(sought);
+        } catch (NoSuchMethodError none) {
+            return ((List) (Object) new WrappedList(of)).lastIndexOf(sought);
+        }
     }
 
     static boolean addAll(java.util.List of, int at, java.util.Collection others) {
-        return whole(of).addAll(at, others);
+        if (of instanceof List) {
+            return ((List) of).addAll(at, others);
+        }
+        try {
+            return of.addAll(at, others);
+        } catch (NoSuchMethodError none) {
+            return ((List) (Object) new WrappedList(of)).addAll(at, others);
+        }
     }
 
     static ListIterator listIterator(java.util.List of) {
-        return whole(of).listIterator();
+        if (of instanceof List) {
+            return ((List) of).listIterator();
+        }
+        try {
+            return of.listIterator();
+        } catch (NoSuchMethodError none) {
+            return ((List) (Object) new WrappedList(of)).listIterator();
+        }
     }
 
     static ListIterator listIterator(java.util.List of, int at) {
-        return whole(of).listIterator(at);
+        if (of instanceof List) {
+            return ((List) of).listIterator(at);
+        }
+        try {
+            return of.listIterator(at);
+        } catch (NoSuchMethodError none) {
+            return ((List) (Object) new WrappedList(of)).listIterator(at);
+        }
     }
 
     static java.util.List subList(java.util.List of, int from, int to) {
-        return whole(of).subList(from, to);
+        if (of instanceof List) {
+            return ((List) of).subList(from, to);
+        }
+        try {
+            return of.subList(from, to);
+        } catch (NoSuchMethodError none) {
+            return ((List) (Object) new WrappedList(of)).subList(from, to);
+        }
     }
 
     static void sort(java.util.List of, Comparator by) {
-        whole(of).sort(by);
+        if (of instanceof List) {
+            ((List) of).sort(by);
+            return;
+        }
+        try {
+            of.sort(by);
+        } catch (NoSuchMethodError none) {
+            ((List) (Object) new WrappedList(of)).sort(by);
+        }
     }
 
     static void replaceAll(java.util.List of, UnaryOperator operator) {
-        whole(of).replaceAll(operator);
+        if (of instanceof List) {
+            ((List) of).replaceAll(operator);
+            return;
+        }
+        try {
+            of.replaceAll(operator);
+        } catch (NoSuchMethodError none) {
+            ((List) (Object) new WrappedList(of)).replaceAll(operator);
+        }
     }
 }

@@ -109,64 +109,162 @@ public interface Map<K, V> extends java.util.Map<K, V> {
         return value;
     }
 
-    /** The map itself, or one with all members that goes by it. */
-    static Map whole(java.util.Map of) {
-        return of instanceof Map ? (Map) of : (Map) (Object) new WrappedMap(of);
-    }
+    // For a map of the profile's own library, by what it has; for one of a JVM, its own member.
 
     static Set entrySet(java.util.Map of) {
-        return whole(of).entrySet();
+        if (of instanceof Map) {
+            return ((Map) of).entrySet();
+        }
+        try {
+            return of.entrySet();
+        } catch (NoSuchMethodError none) {
+            return ((Map) (Object) new WrappedMap(of)).entrySet();
+        }
     }
 
     static boolean containsValue(java.util.Map of, Object value) {
-        return whole(of).containsValue(value);
+        if (of instanceof Map) {
+            return ((Map) of).containsValue(value);
+        }
+        try {
+            return of.containsValue(value);
+        } catch (NoSuchMethodError none) {
+            return ((Map) (Object) new WrappedMap(of)).containsValue(value);
+        }
     }
 
     static void putAll(java.util.Map of, java.util.Map others) {
-        whole(of).putAll(others);
+        if (of instanceof Map) {
+            ((Map) of).putAll(others);
+            return;
+        }
+        try {
+            of.putAll(others);
+        } catch (NoSuchMethodError none) {
+            ((Map) (Object) new WrappedMap(of)).putAll(others);
+        }
     }
 
     static Object getOrDefault(java.util.Map of, Object key, Object other) {
-        return whole(of).getOrDefault(key, other);
+        if (of instanceof Map) {
+            return ((Map) of).getOrDefault(key, other);
+        }
+        try {
+            return of.getOrDefault(key, other);
+        } catch (NoSuchMethodError none) {
+            return ((Map) (Object) new WrappedMap(of)).getOrDefault(key, other);
+        }
     }
 
     static Object putIfAbsent(java.util.Map of, Object key, Object value) {
-        return whole(of).putIfAbsent(key, value);
+        if (of instanceof Map) {
+            return ((Map) of).putIfAbsent(key, value);
+        }
+        try {
+            return of.putIfAbsent(key, value);
+        } catch (NoSuchMethodError none) {
+            return ((Map) (Object) new WrappedMap(of)).putIfAbsent(key, value);
+        }
     }
 
     static boolean remove(java.util.Map of, Object key, Object value) {
-        return whole(of).remove(key, value);
+        if (of instanceof Map) {
+            return ((Map) of).remove(key, value);
+        }
+        try {
+            return of.remove(key, value);
+        } catch (NoSuchMethodError none) {
+            return ((Map) (Object) new WrappedMap(of)).remove(key, value);
+        }
     }
 
     static boolean replace(java.util.Map of, Object key, Object old, Object value) {
-        return whole(of).replace(key, old, value);
+        if (of instanceof Map) {
+            return ((Map) of).replace(key, old, value);
+        }
+        try {
+            return of.replace(key, old, value);
+        } catch (NoSuchMethodError none) {
+            return ((Map) (Object) new WrappedMap(of)).replace(key, old, value);
+        }
     }
 
     static Object replace(java.util.Map of, Object key, Object value) {
-        return whole(of).replace(key, value);
+        if (of instanceof Map) {
+            return ((Map) of).replace(key, value);
+        }
+        try {
+            return of.replace(key, value);
+        } catch (NoSuchMethodError none) {
+            return ((Map) (Object) new WrappedMap(of)).replace(key, value);
+        }
     }
 
     static void forEach(java.util.Map of, BiConsumer action) {
-        whole(of).forEach(action);
+        if (of instanceof Map) {
+            ((Map) of).forEach(action);
+            return;
+        }
+        try {
+            of.forEach(action);
+        } catch (NoSuchMethodError none) {
+            ((Map) (Object) new WrappedMap(of)).forEach(action);
+        }
     }
 
     static void replaceAll(java.util.Map of, BiFunction function) {
-        whole(of).replaceAll(function);
+        if (of instanceof Map) {
+            ((Map) of).replaceAll(function);
+            return;
+        }
+        try {
+            of.replaceAll(function);
+        } catch (NoSuchMethodError none) {
+            ((Map) (Object) new WrappedMap(of)).replaceAll(function);
+        }
     }
 
     static Object computeIfAbsent(java.util.Map of, Object key, Function function) {
-        return whole(of).computeIfAbsent(key, function);
+        if (of instanceof Map) {
+            return ((Map) of).computeIfAbsent(key, function);
+        }
+        try {
+            return of.computeIfAbsent(key, function);
+        } catch (NoSuchMethodError none) {
+            return ((Map) (Object) new WrappedMap(of)).computeIfAbsent(key, function);
+        }
     }
 
     static Object computeIfPresent(java.util.Map of, Object key, BiFunction function) {
-        return whole(of).computeIfPresent(key, function);
+        if (of instanceof Map) {
+            return ((Map) of).computeIfPresent(key, function);
+        }
+        try {
+            return of.computeIfPresent(key, function);
+        } catch (NoSuchMethodError none) {
+            return ((Map) (Object) new WrappedMap(of)).computeIfPresent(key, function);
+        }
     }
 
     static Object compute(java.util.Map of, Object key, BiFunction function) {
-        return whole(of).compute(key, function);
+        if (of instanceof Map) {
+            return ((Map) of).compute(key, function);
+        }
+        try {
+            return of.compute(key, function);
+        } catch (NoSuchMethodError none) {
+            return ((Map) (Object) new WrappedMap(of)).compute(key, function);
+        }
     }
 
     static Object merge(java.util.Map of, Object key, Object value, BiFunction function) {
-        return whole(of).merge(key, value, function);
+        if (of instanceof Map) {
+            return ((Map) of).merge(key, value, function);
+        }
+        try {
+            return of.merge(key, value, function);
+        } catch (NoSuchMethodError none) {
+            return ((Map) (Object) new WrappedMap(of)).merge(key, value, function);
+        }
     }
 }
