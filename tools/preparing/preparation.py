@@ -62,7 +62,7 @@ class Preparation:
     def __init__(self, code, tests, out, jars):
         self.folders = ((CODE, code), (TESTS, tests))
         self.state = State(out, tool_sum(jars))
-        self.folder = Folder(out, self.state.get('files'))
+        self.folder = Folder(out, self.state.files)
         self.jars = jars
         self.inputs, self.units_read, self.out = {}, [], {}
 

@@ -21,13 +21,13 @@ def sum_of_files(paths):
 
 class State:
     def __init__(self, out, tool):
-        """The state of a folder; an empty one where another tool, or none, has written it."""
+        """The state of a folder; of one that another version wrote only its files are known."""
         self.path, self.tool = os.path.join(out, NAME), tool
-        self.is_there, self.kept = False, {}
+        self.is_there, self.kept, self.files = False, {}, {}
         try:
             with open(self.path, encoding='utf-8') as stream:
                 kept = json.load(stream)
-            self.is_there = True
+            self.is_there, self.files = True, kept['files']
             if kept['tool'] == tool:
                 self.kept = kept
         except FileNotFoundError:

@@ -1,8 +1,12 @@
 package java.io;
 
+/** Reads one by one; what follows a mark is held, so that it can be read again. */
 public class BufferedReader extends Reader {
     private Reader in;
-    private int ahead = -2;
+    private StringBuffer held;
+    private int at;
+    private boolean isMarked;
+    private boolean skipsNewline;
 
     public BufferedReader(Reader in) {
         this(in, 8192);
@@ -22,21 +26,33 @@ public class BufferedReader extends Reader {
         }
     }
 
-    @Override
-    public int read() throws IOException {
-        ensureOpen();
-        if (ahead == -2) {
-            return in.read();
+    private int next() throws IOException {
+        if (held != null && at < held.length()) {
+            return held.charAt(at++);
         }
-        int next = ahead;
-        ahead = -2;
+        int next = in.read();
+        if (next >= 0 && isMarked) {
+            held.append((char) next);
+            at++;
+        }
         return next;
     }
 
     @Override
-    public int read(char[] into, int at, int count) throws IOException {
+    public int read() throws IOException {
         ensureOpen();
-        if (at < 0 || count < 0 || count > into.length - at) {
+        int next = next();
+        if (skipsNewline) {
+            skipsNewline = false;
+            return next == '\n' ? next() : next;
+        }
+        return next;
+    }
+
+    @Override
+    public int read(char[] into, int from, int count) throws IOException {
+        ensureOpen();
+        if (from < 0 || count < 0 || count > into.length - from) {
             throw new IndexOutOfBoundsException();
         }
         int taken = 0;
@@ -45,7 +61,7 @@ public class BufferedReader extends Reader {
             if (next < 0) {
                 return taken == 0 ? -1 : taken;
             }
-            into[at + taken] = (char) next;
+            into[from + taken] = (char) next;
             taken++;
         }
         return taken;
@@ -61,17 +77,43 @@ public class BufferedReader extends Reader {
             line.append((char) next);
             next = read();
         }
-        if (next == '\r') {
-            next = read();
-            ahead = next == '\n' ? -2 : next;
-        }
+        skipsNewline = next == '\r';
         return line.toString();
     }
 
     @Override
     public boolean ready() throws IOException {
         ensureOpen();
-        return in.ready();
+        return held != null && at < held.length() || in.ready();
+    }
+
+    @Override
+    public boolean markSupported() {
+        return true;
+    }
+
+    @Override
+    public void mark(int most) throws IOException {
+        ensureOpen();
+        if (most < 0) {
+            throw new IllegalArgumentException("Read-ahead limit < 0");
+        }
+        StringBuffer rest = new StringBuffer();
+        if (held != null) {
+            rest.append(held.substring(at));
+        }
+        held = rest;
+        at = 0;
+        isMarked = true;
+    }
+
+    @Override
+    public void reset() throws IOException {
+        ensureOpen();
+        if (!isMarked) {
+            throw new IOException("Stream not marked");
+        }
+        at = 0;
     }
 
     @Override
