@@ -354,7 +354,15 @@ def written_attributes(attributes, pool):
 
 class ClassEdit:
     def __init__(self, data):
-        self.reader = reader = Reader(data)
+        self.reader = Reader(data)
+        try:
+            self.read(data)
+        except (Refused, UnicodeDecodeError, IndexError) as fault:
+            what = fault if isinstance(fault, Refused) else 'a text or an index is wrong'
+            raise Refused(f'{str(what).removesuffix(" [5]")}, before byte {self.reader.at}') from None
+
+    def read(self, data):
+        reader = self.reader
         if reader.take('I') != 0xcafebabe:
             raise Refused('it does not begin as a class file')
         reader.take('H')
@@ -368,10 +376,16 @@ class ClassEdit:
         for method in self.methods:
             for name, content in method.attributes:
                 if name == 'Code':
-                    method.code = Code(content, pool)
+                    method.code = self.code_of(method, content)
         self.attributes = read_attributes(reader, pool)
         if reader.at != len(data):
             raise Refused('bytes follow the class')
+
+    def code_of(self, method, content):
+        try:
+            return Code(content, self.pool)
+        except Refused as fault:
+            raise Refused(f'{str(fault).removesuffix(" [5]")} in the code of {method.name}{method.descriptor}') from None
 
     def read_members(self):
         reader, pool = self.reader, self.pool

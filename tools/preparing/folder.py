@@ -14,7 +14,11 @@ class Folder:
         self.path, self.written = path, dict(written)
 
     def is_as_written(self):
-        return all(self.sum_at(path) == total for path, total in self.written.items())
+        """Whether all files are as they were written; those that aren't count as not written from now on."""
+        changed = [path for path, total in self.written.items() if self.sum_at(path) != total]
+        for path in changed:
+            self.written[path] = None
+        return not changed
 
     def sum_at(self, path):
         try:
@@ -37,7 +41,7 @@ class Folder:
     def put(self, path, data):
         """Writes a file, unless it stands so already."""
         total = sum_of(data)
-        if self.written.get(path) == total and os.path.isfile(os.path.join(self.path, path)):
+        if self.written.get(path) == total:
             return
         full = os.path.join(self.path, path)
         home = os.path.dirname(full)

@@ -1,5 +1,6 @@
 """One call of tools/prepare: reads, lowers what tests reach, writes it, asks mutest, and leaves out what that refuses."""
 import os
+import struct
 import sys
 import time
 
@@ -14,13 +15,17 @@ from preparing.lacking import Lacking
 from preparing.lower import Lowered, Lowering
 from preparing.state import State, sum_of, sum_of_files
 from preparing.suites import Suites, is_concrete
-from preparing.world import CODE, TESTS, Unit, World, class_files
+from preparing.world import CODE, JAR, TESTS, Unit, World, class_files
 from programs import library
 
 HOME = os.path.dirname(os.path.dirname(os.path.dirname(os.path.abspath(__file__))))
 ANNOTATION, MODULE, PUBLIC_FINAL = 0x2000, 0x8000, 0x31
 MOST_ROUNDS = 1000
 LONGEST_NAME = 240
+
+
+# What reading a damaged class file ends in.
+WRONG = (Refused, KeyError, IndexError, ValueError, TypeError, struct.error)
 
 
 class Damaged(Exception):
@@ -71,7 +76,7 @@ class Preparation:
         self.folder.judge((CODE, TESTS), self.state.is_there)
         self.read()
         changed = {row.partition(' ')[2] for row in self.state.changed(self.inputs)}
-        if self.state.kept and not changed and self.folder.is_as_written():
+        if self.folder.is_as_written() and self.state.kept and not changed:
             return self.state.get('status'), self.state.get('summary')
         self.world = World(library(), Companion(os.path.join(HOME, 'library', 'classes')), Jdk(), self.jars)
         self.lowering = Lowering(self.world, self.world.companion, self.world.jdk)
@@ -98,7 +103,7 @@ class Preparation:
                     data = stream.read()
                 try:
                     edit = ClassEdit(data)
-                except (Refused, UnicodeDecodeError) as fault:
+                except Refused as fault:
                     raise Damaged(f'{path} is no class file that is read: {fault}') from None
                 self.judge_name(path, edit.name)
                 self.units_read.append((origin, path, data, edit))
@@ -137,7 +142,10 @@ class Preparation:
         """Lowers the test classes' files as far as tests go, and tells the tests of each class that can have some."""
         units = {name: unit for name, unit in list(self.world.units.items()) if unit and unit.origin == TESTS}
         for unit in units.values():
-            unit.suite = self.suites.lower(unit.edit)
+            try:
+                unit.suite = self.suites.lower(unit.edit)
+            except WRONG as fault:
+                raise Damaged(f'{unit.place} is no class file that is read: {fault}') from None
         self.tests, self.ignored = {}, {}
         for name, unit in units.items():
             self.ignored.update({f'{name}.{test}': why for test, why in unit.suite.out})
@@ -216,6 +224,13 @@ class Preparation:
 
     def fresh(self, name, unit):
         """The lowered class file of a unit, by all that was decided of it."""
+        try:
+            return self.lowered_file(name, unit)
+        except WRONG as fault:
+            what = fault if isinstance(fault, Refused) else 'its code or its attributes are wrong'
+            raise Damaged(f'{unit.place} is no class file that is read: {what}, in {name}') from None
+
+    def lowered_file(self, name, unit):
         edit = ClassEdit(unit.data)
         if unit.origin == TESTS:
             self.suites.lower(edit)
@@ -224,6 +239,19 @@ class Preparation:
             for test, why in sorted(self.off.get(name, {}).items()):
                 self.suites.ignore_test(edit, test, why)
         return self.lowering.lower(edit, self.cuts.get(name, {}))
+
+    def is_lowered(self, name, unit):
+        """Lowers a unit, unless that was done; a class of a jar that is damaged isn't there."""
+        if name not in self.lowered:
+            try:
+                done = self.fresh(name, unit)
+            except Damaged as fault:
+                if unit.origin != JAR:
+                    raise
+                self.world.leave_out(name, str(fault))
+                return False
+            self.lowered[name] = done, [(made.name, made.written()) for made in (done.edit, *done.made)]
+        return True
 
     def lower_reached(self):
         """Lowers all that tests reach, and makes stubs of the classes of Java that are named besides; gives the files by path."""
@@ -241,9 +269,8 @@ class Preparation:
                 files[f'{TESTS}/{name}.class'] = new_class(name, head.flags, head.above, head.interfaces).written()
                 todo += [*head.interfaces, *([head.above] if head.above else [])]
                 continue
-            if name not in self.lowered:
-                done = self.fresh(name, unit)
-                self.lowered[name] = done, [(made.name, made.written()) for made in (done.edit, *done.made)]
+            if not self.is_lowered(name, unit):
+                continue
             done, made = self.lowered[name]
             files.update({self.path_of(unit, own): data for own, data in made})
             todo += done.names
