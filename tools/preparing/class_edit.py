@@ -189,16 +189,6 @@ class Code:
     def put_operand(self, at, index):
         self.code[at + 1:at + 3] = struct.pack('>H', index)
 
-    def lines(self):
-        table = self.attribute('LineNumberTable')
-        if table is None:
-            return []
-        reader = Reader(table)
-        return sorted((reader.take('H'), reader.take('H')) for _ in range(reader.take('H')))
-
-    def line_at(self, at):
-        return next((line for start, line in reversed(self.lines()) if start <= at), 0)
-
     def written(self, pool):
         return b''.join((struct.pack('>HHI', self.stack, self.locals, len(self.code)), self.code, struct.pack('>H', len(self.handlers)),
                          *(struct.pack('>4H', *row) for row in self.handlers), written_attributes(self.attributes, pool)))

@@ -1,7 +1,7 @@
 """Lowers one class file to the profile: what its methods need that the profile lacks is put in other words, one instruction for one, or cut out."""
 import struct
 
-from class_files import ABSTRACT, FLOAT_OPCODES, INTERFACE, NATIVE, STATIC, Reader, Refused, has_float
+from class_files import FLOAT_OPCODES, NATIVE, STATIC, has_float
 from preparing import class_edit as ce
 from preparing.builder import new_code
 from preparing.companion import MORE
@@ -11,7 +11,7 @@ FLOATS = 'computes with a float or a double'
 LEFT_OUT_ERROR = 'java/lang/LinkageError'
 KEPT_OF_CLASS = {'SourceFile', 'RuntimeVisibleAnnotations', 'RuntimeInvisibleAnnotations', 'InnerClasses', 'Synthetic'}
 KEPT_OF_MEMBER = {'Code', 'ConstantValue', 'Exceptions', 'RuntimeVisibleAnnotations', 'RuntimeInvisibleAnnotations', 'Synthetic'}
-SYNCHRONIZED, STRICT = 0x20, 0x800
+STRICT = 0x800
 
 
 class Cut(Exception):
@@ -249,8 +249,9 @@ class Lowering:
         """Puts a body that throws an error in the place of a method's own."""
         pool = edit.pool
         method.flags &= ~(NATIVE | STRICT)
-        code = struct.pack('>BHBBHBHB', ce.NEW, pool.add_class(LEFT_OUT_ERROR), ce.DUP, ce.LDC_W, pool.add_string('cut out: ' + why), ce.INVOKESPECIAL,
-                           pool.add_member(ce.METHOD_REF, LEFT_OUT_ERROR, '<init>', '(Ljava/lang/String;)V'), ce.ATHROW)
+        init = pool.add_member(ce.METHOD_REF, LEFT_OUT_ERROR, '<init>', '(Ljava/lang/String;)V')
+        code = struct.pack('>BHBBHBHB', ce.NEW, pool.add_class(LEFT_OUT_ERROR), ce.DUP, ce.LDC_W, pool.add_string('cut out: ' + why),
+                           ce.INVOKESPECIAL, init, ce.ATHROW)
         slots = slots_of(method.descriptor) + (0 if method.flags & STATIC else 1)
         method.code = new_code(pool, code, 3, slots)
         if not any(name == 'Code' for name, _ in method.attributes):

@@ -82,7 +82,7 @@ class Preparation:
         self.lowering = Lowering(self.world, self.world.companion, self.world.jdk)
         self.suites = Suites(self.world.names_above, self.edit_of)
         self.take_in()
-        self.lowered, self.stubs, self.asked = {}, {}, None
+        self.lowered = {}
         self.take_decisions(self.state.affected(changed))
         self.find_suites()
         self.reuse_lowered(changed)
@@ -112,7 +112,8 @@ class Preparation:
     @staticmethod
     def judge_name(path, name):
         parts = name.split('/')
-        if any(part in ('', '.', '..') or len(part) > LONGEST_NAME for part in parts) or any(sign in name for sign in '\0\n\r\\') or name.startswith('['):
+        is_odd = any(sign in name for sign in '\0\n\r\\') or name.startswith('[')
+        if is_odd or any(part in ('', '.', '..') or len(part) > LONGEST_NAME for part in parts):
             raise Damaged(f'{path} has a class whose name is no path: {name[:LONGEST_NAME]!r}')
 
     def take_in(self):
@@ -155,7 +156,7 @@ class Preparation:
     def find_tests(self, name, unit):
         found, hidden, off = [], set(), None
         for above in self.world.names_above(name):
-            suite = self.world.unit(above).suite if self.world.unit(above) is not None else None
+            suite = self.suite_of(above)
             if suite is not None:
                 found += [test for test in suite.tests if (test, '()V') not in hidden]
                 hidden |= set(suite.methods)
@@ -166,6 +167,10 @@ class Preparation:
             self.tests[name] = found
             if off:
                 self.class_off[name] = off
+
+    def suite_of(self, name):
+        unit = self.world.unit(name)
+        return unit.suite if unit is not None else None
 
     def edit_of(self, name):
         unit = self.world.unit(name)
@@ -315,8 +320,8 @@ class Preparation:
             written = time.time()
             answer = trial.ask(os.path.join(HOME, 'mutest'), os.path.join(HOME, 'library', 'nothing'), self.folder.path)
             if os.environ.get('PREPARE_TRACE'):
-                print(f'lower {lowered - started:.2f} write {written - lowered:.2f} ask {time.time() - written:.2f}: {answer.status} {answer.text[:120]!r}',
-                      file=sys.stderr, flush=True)
+                took = f'lower {lowered - started:.2f} write {written - lowered:.2f} ask {time.time() - written:.2f}'
+                print(f'{took}: {answer.status} {answer.text[:120]!r}', file=sys.stderr, flush=True)
             if not self.learn(answer):
                 break
         return answer
@@ -369,8 +374,8 @@ class Preparation:
                  for done, _ in self.lowered.values() if done.edit is not None for edit in (done.edit, *done.made)}
         lacking, found = Lacking(self.world, edits), {}
         for owner, tests in self.off.items():
-            around = [key[0] for above in self.world.names_above(owner) for unit in [self.world.unit(above)] if unit is not None and unit.suite is not None
-                      for key in unit.suite.around]
+            around = [key[0] for above in self.world.names_above(owner) for suite in [self.suite_of(above)] if suite is not None
+                      for key in suite.around]
             for test, why in tests.items():
                 lacks = lacking.nearest(owner, test, around) if why == 'Failed' else None
                 found[f'{owner}.{test}'] = why if lacks is None else f'{why}, and may come to {lacks}'
@@ -383,8 +388,9 @@ class Preparation:
                 self.lowered[name] = self.fresh(name, self.world.unit(name)), files
 
     def summary(self):
-        off = {**self.ignored, **(self.explained() if any('Failed' in rows.values() for rows in self.off.values()) else {
-            f'{name}.{test}': why for name, tests in self.off.items() for test, why in tests.items()})}
+        has_failed = any('Failed' in tests.values() for tests in self.off.values())
+        off = {f'{name}.{test}': why for name, tests in self.off.items() for test, why in tests.items()}
+        off = {**self.ignored, **(self.explained() if has_failed else off)}
         off.update({f'{name}.{test}': why for name, why in self.class_off.items() for test in self.tests.get(name, ())})
         own = [name for name, unit in self.world.units.items() if unit and unit.origin in (CODE, TESTS)]
         out = {**{name: why for name, why in self.world.out.items() if name in self.own_names()}, **self.out,

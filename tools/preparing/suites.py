@@ -91,7 +91,8 @@ class Suites:
             return False
         if init.code.attribute('StackMapTable') is not None or ce.length_of(init.code.code, 0) != 1:
             return False
-        begin = struct.pack('>BHBBHB', ce.NEW, pool.add_class(outer), ce.DUP, ce.INVOKESPECIAL, pool.add_member(ce.METHOD_REF, outer, '<init>', '()V'), ASTORE_1)
+        made = pool.add_member(ce.METHOD_REF, outer, '<init>', '()V')
+        begin = struct.pack('>BHBBHB', ce.NEW, pool.add_class(outer), ce.DUP, ce.INVOKESPECIAL, made, ASTORE_1)
         init.code.replace({0: begin + bytes(init.code.code[:1])})
         init.code.stack, init.descriptor = max(init.code.stack, 2), '()V'
         edit.attributes = [row for row in edit.attributes if row[0] != 'InnerClasses']
@@ -115,8 +116,9 @@ class Suites:
         method.name = name + '$expecting'
         rule = pool.add_member(ce.FIELD_REF, field[0], field[1], EXPECTING)
         caught = pool.add_class('java/lang/Throwable')
+        ended = pool.add_member(ce.METHOD_REF, class_of(EXPECTING), 'ended', '()V')
         code = struct.pack('>BBHBBHBHB', ce.ALOAD_0, ce.INVOKEVIRTUAL, pool.add_member(ce.METHOD_REF, edit.name, method.name, '()V'),
-                           ce.ALOAD_0, ce.GETFIELD, rule, ce.INVOKEVIRTUAL, pool.add_member(ce.METHOD_REF, class_of(EXPECTING), 'ended', '()V'), ce.RETURN)
+                           ce.ALOAD_0, ce.GETFIELD, rule, ce.INVOKEVIRTUAL, ended, ce.RETURN)
         handler = len(code)
         code += struct.pack('>BBBHBBHB', ASTORE_1, ce.ALOAD_0, ce.GETFIELD, rule, ALOAD_1, ce.INVOKEVIRTUAL,
                             pool.add_member(ce.METHOD_REF, class_of(EXPECTING), 'caught', '(Ljava/lang/Throwable;)V'), ce.RETURN)

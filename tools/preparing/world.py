@@ -19,9 +19,6 @@ class Unit:
         self.origin, self.place, self.data = origin, place, data
         self.edit, self.suite, self.info = None, None, None
 
-    def is_code(self):
-        return self.origin == CODE
-
 
 class Classes:
     """The classes by name, each read when it is asked for."""
