@@ -12,6 +12,9 @@ public final class Main {
     private static final long MOST_STEPS = 10_000_000;
     private static final String[] STATES = {"KILLED", "SURVIVED", "NO_COVERAGE", "TIMED_OUT", "NON_VIABLE"};
 
+    /** Whether tests that don't reach the line are left out. */
+    private static final boolean COVERING = System.getenv("COVERING") != null;
+
     private final Program program;
     private final Probes probes;
     private final Runs runs;
@@ -83,7 +86,8 @@ public final class Main {
                 if (covers) {
                     covering.add(tests.get(at).id());
                 }
-                String failure = killer.equals("-") ? runs.failure(files, tests.get(at), limits.get(at)) : null;
+                String failure = killer.equals("-") && (covers || !COVERING)
+                        ? runs.failure(files, tests.get(at), limits.get(at)) : null;
                 if (failure != null) {
                     killer = tests.get(at).id();
                     reason = failure;

@@ -5,6 +5,7 @@ import java.nio.file.Files;
 import java.nio.file.Path;
 import java.nio.file.Paths;
 import java.util.ArrayList;
+import java.util.Arrays;
 import java.util.List;
 import java.util.Map;
 import java.util.TreeMap;
@@ -14,6 +15,8 @@ import org.objectweb.asm.ClassReader;
 
 /** The class files of the two folders, by name in order. */
 final class Program {
+    private static final List<String> KINDS = Arrays.asList("int", "long", "short", "byte", "char", "boolean", "void");
+
     final Map<String, byte[]> classes;
     final Map<String, byte[]> tests;
 
@@ -30,9 +33,17 @@ final class Program {
         }
         for (Path path : paths) {
             byte[] file = Files.readAllBytes(path);
-            found.put(new ClassReader(file).getClassName(), file);
+            String name = new ClassReader(file).getClassName();
+            if (!isOfJvm(name)) {
+                found.put(name, file);
+            }
         }
         return found;
+    }
+
+    /** Whether a JVM has its own class in the place of one that tools/prepare added: Java's, and what is known of classes by name. */
+    private static boolean isOfJvm(String name) {
+        return name.startsWith("java/") || name.equals("more/Known") || name.indexOf('/') < 0 && KINDS.contains(name);
     }
 
     byte[] file(String name) {

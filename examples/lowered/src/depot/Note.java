@@ -1,0 +1,5 @@
+package depot;
+
+/** An annotation type. */
+public @interface Note {
+}

@@ -1,0 +1,49 @@
+package java.io;
+
+import java.nio.charset.Charset;
+
+/** Takes all bytes of the stream when it is first read. */
+public class InputStreamReader extends Reader {
+    private final InputStream in;
+    private final Charset by;
+    private StringReader text;
+
+    public InputStreamReader(InputStream in) {
+        this(in, java.nio.charset.StandardCharsets.UTF_8);
+    }
+
+    public InputStreamReader(InputStream in, String by) throws UnsupportedEncodingException {
+        this(in, Charset.forName(by));
+    }
+
+    public InputStreamReader(InputStream in, Charset by) {
+        super(in);
+        this.in = in;
+        this.by = by;
+    }
+
+    @Override
+    public int read(char[] into, int at, int count) throws IOException {
+        if (text == null) {
+            ByteArrayOutputStream taken = new ByteArrayOutputStream();
+            byte[] some = new byte[512];
+            int many = in.read(some);
+            while (many >= 0) {
+                taken.write(some, 0, many);
+                many = in.read(some);
+            }
+            text = new StringReader(new String(taken.toByteArray(), by));
+        }
+        return text.read(into, at, count);
+    }
+
+    @Override
+    public boolean ready() throws IOException {
+        return text != null || in.available() > 0;
+    }
+
+    @Override
+    public void close() throws IOException {
+        in.close();
+    }
+}

@@ -1,0 +1,10 @@
+package java.lang;
+
+public class InterruptedException extends Exception {
+    public InterruptedException() {
+    }
+
+    public InterruptedException(String message) {
+        super(message);
+    }
+}

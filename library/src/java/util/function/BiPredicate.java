@@ -1,0 +1,5 @@
+package java.util.function;
+
+public interface BiPredicate<T, U> {
+    boolean test(T one, U other);
+}

@@ -1,0 +1,5 @@
+package junit.framework;
+
+public interface Test {
+    int countTestCases();
+}

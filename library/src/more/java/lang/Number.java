@@ -1,0 +1,49 @@
+package more.java.lang;
+
+import java.lang.Byte;
+import java.lang.Integer;
+import java.lang.Long;
+import java.lang.Short;
+
+/** Members of java.lang.Number. */
+public interface Number {
+    int intValue();
+
+    long longValue();
+
+    default short shortValue() {
+        return (short) intValue();
+    }
+
+    default byte byteValue() {
+        return (byte) intValue();
+    }
+
+    static int intValue(java.lang.Number of) {
+        return of instanceof Number ? ((Number) of).intValue() : (int) longValue(of);
+    }
+
+    static long longValue(java.lang.Number of) {
+        if (of instanceof Integer) {
+            return ((Integer) of).intValue();
+        }
+        if (of instanceof Long) {
+            return ((Long) of).longValue();
+        }
+        if (of instanceof Short) {
+            return ((Short) of).shortValue();
+        }
+        if (of instanceof Byte) {
+            return ((Byte) of).byteValue();
+        }
+        return of instanceof Number ? ((Number) of).longValue() : of.longValue();
+    }
+
+    static short shortValue(java.lang.Number of) {
+        return of instanceof Number ? ((Number) of).shortValue() : (short) longValue(of);
+    }
+
+    static byte byteValue(java.lang.Number of) {
+        return of instanceof Number ? ((Number) of).byteValue() : (byte) longValue(of);
+    }
+}

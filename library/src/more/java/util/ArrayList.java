@@ -1,0 +1,318 @@
+package more.java.util;
+
+import java.util.Collection;
+import java.util.ConcurrentModificationException;
+import java.util.Iterator;
+import java.util.List;
+import java.util.ListIterator;
+import java.util.NoSuchElementException;
+
+/** java.util.ArrayList whole: what the profile's own has not, and what it answers otherwise than Java. */
+public class ArrayList<E> extends java.util.ArrayList<E> implements more.java.util.List<E>, java.util.RandomAccess {
+    protected int modCount;
+
+    public ArrayList() {
+    }
+
+    public ArrayList(int capacity) {
+        if (capacity < 0) {
+            throw new IllegalArgumentException("Illegal Capacity: " + capacity);
+        }
+    }
+
+    public ArrayList(Collection<? extends E> of) {
+        Object[] all = of.toArray();
+        for (int at = 0; at < all.length; at++) {
+            super.add((E) all[at]);
+        }
+    }
+
+    @Override
+    public boolean add(E next) {
+        modCount++;
+        return super.add(next);
+    }
+
+    @Override
+    public void add(int at, E next) {
+        check(at, size());
+        modCount++;
+        super.add(at, next);
+    }
+
+    @Override
+    public E remove(int at) {
+        check(at, size() - 1);
+        modCount++;
+        return super.remove(at);
+    }
+
+    @Override
+    public void clear() {
+        modCount++;
+        super.clear();
+    }
+
+    private void check(int at, int most) {
+        if (at < 0 || at > most) {
+            throw new IndexOutOfBoundsException("Index: " + at + ", Size: " + size());
+        }
+    }
+
+    @Override
+    public int indexOf(Object sought) {
+        for (int at = 0; at < size(); at++) {
+            if (sought == null ? get(at) == null : sought.equals(get(at))) {
+                return at;
+            }
+        }
+        return -1;
+    }
+
+    @Override
+    public boolean contains(Object sought) {
+        return indexOf(sought) >= 0;
+    }
+
+    @Override
+    public boolean remove(Object sought) {
+        int at = indexOf(sought);
+        if (at < 0) {
+            return false;
+        }
+        modCount++;
+        super.remove(at);
+        return true;
+    }
+
+    @Override
+    public boolean containsAll(Collection<?> others) {
+        return Walked.containsAll(this, others);
+    }
+
+    @Override
+    public boolean addAll(Collection<? extends E> others) {
+        return addAll(size(), others);
+    }
+
+    @Override
+    public boolean addAll(int at, Collection<? extends E> others) {
+        check(at, size());
+        Object[] all = others.toArray();
+        modCount++;
+        for (int next = 0; next < all.length; next++) {
+            super.add(at + next, (E) all[next]);
+        }
+        return all.length > 0;
+    }
+
+    @Override
+    public boolean removeAll(Collection<?> others) {
+        return keep(others, false);
+    }
+
+    @Override
+    public boolean retainAll(Collection<?> others) {
+        return keep(others, true);
+    }
+
+    private boolean keep(Collection<?> others, boolean kept) {
+        if (others == null) {
+            throw new NullPointerException();
+        }
+        boolean changed = false;
+        for (Iterator<E> walk = iterator(); walk.hasNext();) {
+            if (others.contains(walk.next()) != kept) {
+                walk.remove();
+                changed = true;
+            }
+        }
+        return changed;
+    }
+
+    @Override
+    protected void removeRange(int from, int to) {
+        modCount++;
+        for (int at = to - 1; at >= from; at--) {
+            super.remove(at);
+        }
+    }
+
+    public void ensureCapacity(int capacity) {
+        modCount++;
+    }
+
+    public void trimToSize() {
+        modCount++;
+    }
+
+    @Override
+    public Object clone() {
+        return new ArrayList<>(this);
+    }
+
+    @Override
+    public Object[] toArray() {
+        return Walked.toArray(this);
+    }
+
+    @Override
+    public <T> T[] toArray(T[] into) {
+        return (T[]) Walked.toArray(this, into);
+    }
+
+    @Override
+    public Iterator<E> iterator() {
+        return new Walk(0);
+    }
+
+    @Override
+    public List<E> subList(int from, int to) {
+        return new WrappedList((List<Object>) this).part(from, to);
+    }
+
+    @Override
+    public String toString() {
+        return new WrappedList((List<Object>) this).toString(this);
+    }
+
+    @Override
+    public int lastIndexOf(Object sought) {
+        for (int at = size() - 1; at >= 0; at--) {
+            if (sought == null ? get(at) == null : sought.equals(get(at))) {
+                return at;
+            }
+        }
+        return -1;
+    }
+
+    @Override
+    public ListIterator<E> listIterator() {
+        return new Walk(0);
+    }
+
+    @Override
+    public ListIterator<E> listIterator(int at) {
+        if (at < 0 || at > size()) {
+            throw new IndexOutOfBoundsException("Index: " + at);
+        }
+        return new Walk(at);
+    }
+
+    @Override
+    public boolean equals(Object other) {
+        if (other == this) {
+            return true;
+        }
+        if (!(other instanceof List)) {
+            return false;
+        }
+        Iterator<E> walk = iterator();
+        Iterator<?> beside = ((List<?>) other).iterator();
+        while (walk.hasNext() && beside.hasNext()) {
+            E next = walk.next();
+            Object same = beside.next();
+            if (!(next == null ? same == null : next.equals(same))) {
+                return false;
+            }
+        }
+        return !walk.hasNext() && !beside.hasNext();
+    }
+
+    @Override
+    public int hashCode() {
+        int code = 1;
+        for (E next : this) {
+            code = 31 * code + (next == null ? 0 : next.hashCode());
+        }
+        return code;
+    }
+
+    private class Walk implements ListIterator<E> {
+        private int at;
+        private int last = -1;
+        private int expected = modCount;
+
+        Walk(int at) {
+            this.at = at;
+        }
+
+        private void check() {
+            if (modCount != expected) {
+                throw new ConcurrentModificationException();
+            }
+        }
+
+        @Override
+        public boolean hasNext() {
+            return at != size();
+        }
+
+        @Override
+        public E next() {
+            check();
+            if (at >= size()) {
+                throw new NoSuchElementException();
+            }
+            E found = get(at);
+            last = at++;
+            return found;
+        }
+
+        @Override
+        public boolean hasPrevious() {
+            return at != 0;
+        }
+
+        @Override
+        public E previous() {
+            check();
+            if (at <= 0) {
+                throw new NoSuchElementException();
+            }
+            E found = get(at - 1);
+            last = --at;
+            return found;
+        }
+
+        @Override
+        public int nextIndex() {
+            return at;
+        }
+
+        @Override
+        public int previousIndex() {
+            return at - 1;
+        }
+
+        @Override
+        public void remove() {
+            if (last < 0) {
+                throw new IllegalStateException();
+            }
+            check();
+            ArrayList.this.remove(last);
+            at -= last < at ? 1 : 0;
+            last = -1;
+            expected = modCount;
+        }
+
+        @Override
+        public void set(E to) {
+            if (last < 0) {
+                throw new IllegalStateException();
+            }
+            check();
+            ArrayList.this.set(last, to);
+            expected = modCount;
+        }
+
+        @Override
+        public void add(E next) {
+            check();
+            ArrayList.this.add(at++, next);
+            last = -1;
+            expected = modCount;
+        }
+    }
+}
