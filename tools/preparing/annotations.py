@@ -54,8 +54,11 @@ def drop(member, pool, is_dropped):
 
 
 def add(member, pool, kind, value=None):
-    """Adds an annotation, with a text as its value where one is given."""
+    """Adds an annotation, with a text as its value where one is given, unless one of the kind is there."""
+    found = annotations_of(member, pool)
+    if any(one.kind == kind for one in found):
+        return
     raw = struct.pack('>HH', pool.add_text(kind), 0 if value is None else 1)
     if value is not None:
         raw += struct.pack('>HBH', pool.add_text('value'), ord('s'), pool.add_text(value))
-    put_annotations(member, [one.raw for one in annotations_of(member, pool)] + [raw])
+    put_annotations(member, [one.raw for one in found] + [raw])

@@ -14,6 +14,8 @@ LOOKUPS = {
     'make': '(Ljava/lang/String;)Ljava/lang/Object;',
     'values': '(Ljava/lang/String;)[Ljava/lang/Object;',
 }
+# How far a method may jump; classes that are too many for it aren't known.
+MOST_BYTES = 32000
 PUBLIC_STATIC, ARETURN, IFEQ, ILOAD_1 = 0x9, 0xb0, 0x99, 0x1b
 
 
@@ -48,13 +50,16 @@ def add_lookup(made, lookup, infos, names_above):
     """A switch over the hash codes of names; behind each case the name itself is compared."""
     pool = made.pool
     equals = pool.add_member(ce.METHOD_REF, 'java/lang/String', 'equals', '(Ljava/lang/Object;)Z')
-    cases = {}
+    cases, size = {}, 0
     for info in infos:
+        if size > MOST_BYTES:
+            break
         code = answer(pool, lookup, info, names_above)
         if code is not None:
             shown = info.name.replace('/', '.')
             head = struct.pack('>BBHBHB', ce.ALOAD_0, ce.LDC_W, pool.add_string(shown), ce.INVOKEVIRTUAL, equals, IFEQ)
             cases.setdefault(hash_of(shown), (head, code + bytes([ARETURN])))
+            size += 8 + len(head) + 2 + len(code) + 1
     start = struct.pack('>BBH', ce.ALOAD_0, ce.INVOKEVIRTUAL, pool.add_member(ce.METHOD_REF, 'java/lang/String', 'hashCode', '()I'))
     at = len(start)
     body_at = at + 1 + -(at + 1) % 4 + 8 + 8 * len(cases)
@@ -65,8 +70,6 @@ def add_lookup(made, lookup, infos, names_above):
         jump_at = place + len(head) - 1
         parts.append(head + struct.pack('>h', none_at - jump_at) + code)
         place += len(parts[-1])
-    if none_at > 32000:
-        raise ce.Refused('the code names too many classes')
     switch = struct.pack('>B', ce.LOOKUPSWITCH) + b'\0' * (-(at + 1) % 4) + struct.pack('>ii', none_at - at, len(cases)) + b''.join(jumps)
     code = start + switch + b''.join(parts) + bytes([ce.ACONST_NULL, ARETURN])
     method = add_method(made, PUBLIC_STATIC, lookup, LOOKUPS[lookup], code, 3, 2 if lookup == 'array' else 1)

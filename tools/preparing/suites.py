@@ -142,6 +142,10 @@ class Suites:
             code = struct.pack('>BBHBHB', ce.ALOAD_0, ce.LDC_W, pool.add_string('test'), ce.INVOKESPECIAL,
                                pool.add_member(ce.METHOD_REF, edit.name, '<init>', '(Ljava/lang/String;)V'), ce.RETURN)
             add_method(edit, PUBLIC | SYNTHETIC, '<init>', '()V', code, 2, 1)
+        for method in edit.methods:
+            # JUnit 4 asks a public `suite` for the tests.
+            if method.name == 'suite' and method.descriptor.startswith('()') and method.flags & STATIC:
+                method.flags = method.flags & ~PUBLIC | PROTECTED
         for descriptor, method in inits.items():
             # JUnit 4 takes a class with one public constructor.
             if descriptor != '()V' and method.flags & PUBLIC:

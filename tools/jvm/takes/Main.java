@@ -49,19 +49,21 @@ public final class Main {
             loader.add(Paths.get(folder));
         }
         List<String> refused = new ArrayList<>();
+        int absent = 0;
         for (String name : loader.files.keySet()) {
             try {
                 // This links the class.
                 loader.loadClass(name).getDeclaredMethods();
-            } catch (NoClassDefFoundError absent) {
+            } catch (NoClassDefFoundError missing) {
                 // A class that a test never comes to may name what isn't there.
-                continue;
+                absent++;
             } catch (LinkageError fault) {
                 refused.add(name + ": " + fault);
             }
         }
         refused.forEach(System.out::println);
-        System.out.println((loader.files.size() - refused.size()) + " taken, " + refused.size() + " refused");
+        int taken = loader.files.size() - refused.size() - absent;
+        System.out.println(taken + " taken, " + absent + " name what isn't there, " + refused.size() + " refused");
         System.exit(refused.isEmpty() ? 0 : 1);
     }
 }

@@ -38,8 +38,8 @@ public class BufferedReader extends Reader {
         return next;
     }
 
-    @Override
-    public int read() throws IOException {
+    /** What read gives; a class below may have its own of that. */
+    private int one() throws IOException {
         ensureOpen();
         int next = next();
         if (skipsNewline) {
@@ -50,6 +50,11 @@ public class BufferedReader extends Reader {
     }
 
     @Override
+    public int read() throws IOException {
+        return one();
+    }
+
+    @Override
     public int read(char[] into, int from, int count) throws IOException {
         ensureOpen();
         if (from < 0 || count < 0 || count > into.length - from) {
@@ -57,7 +62,7 @@ public class BufferedReader extends Reader {
         }
         int taken = 0;
         while (taken < count) {
-            int next = read();
+            int next = one();
             if (next < 0) {
                 return taken == 0 ? -1 : taken;
             }
@@ -68,14 +73,14 @@ public class BufferedReader extends Reader {
     }
 
     public String readLine() throws IOException {
-        int next = read();
+        int next = one();
         if (next < 0) {
             return null;
         }
         StringBuilder line = new StringBuilder();
         while (next >= 0 && next != '\n' && next != '\r') {
             line.append((char) next);
-            next = read();
+            next = one();
         }
         skipsNewline = next == '\r';
         return line.toString();
