@@ -85,6 +85,8 @@ test_rule() {
 missing() {
     if [ -f "$1" ] && [ "$command" = run ]; then
         echo "'$1' is a file: --classes and --tests name the folders in which the packages begin"
+    elif [ -d "$1" ] && [ "$command" != run ]; then
+        echo "'$1' is a folder: $command takes one file"
     elif [ -d "$1" ]; then
         instead_of_classes "$1"
     else
@@ -94,9 +96,7 @@ missing() {
 
 unread() {
     local path=${plain[0]}
-    if [ -n "$path" ] && [ -d "$path" ]; then
-        echo "'$path' is a folder: $command takes one file"
-    elif [ -n "$path" ]; then
+    if [ -n "$path" ]; then
         echo "'$path' can't be read, or is no file"
     else
         echo "a class file or a folder can't be read: closed to you, or its name isn't UTF-8"
