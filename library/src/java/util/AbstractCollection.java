@@ -25,14 +25,13 @@ public abstract class AbstractCollection<E> implements Collection<E> {
 
     public Object[] toArray() {
         Object[] made = new Object[size()];
+        int at = 0;
         Iterator<E> walk = iterator();
-        for (int at = 0; at < made.length; at++) {
-            if (!walk.hasNext()) {
-                return Arrays.copyOf(made, at);
-            }
-            made[at] = walk.next();
+        while (walk.hasNext()) {
+            made = at == made.length ? Arrays.copyOf(made, at * 2 + 1) : made;
+            made[at++] = walk.next();
         }
-        return made;
+        return at == made.length ? made : Arrays.copyOf(made, at);
     }
 
     public <T> T[] toArray(T[] into) {
@@ -41,7 +40,11 @@ public abstract class AbstractCollection<E> implements Collection<E> {
         int at = 0;
         Iterator<E> walk = iterator();
         while (walk.hasNext()) {
+            made = at == made.length ? Arrays.copyOf(made, at * 2 + 1) : made;
             made[at++] = (T) walk.next();
+        }
+        if (made != into && at < made.length) {
+            return Arrays.copyOf(made, at);
         }
         if (at < made.length) {
             made[at] = null;

@@ -43,6 +43,7 @@ public interface Collection<E> extends more.java.lang.Iterable<E>, java.util.Col
         try {
             return of.toArray();
         } catch (NoSuchMethodError none) {
+            Nulls.refuse(of);
             return Walked.toArray(of);
         }
     }
@@ -54,6 +55,7 @@ public interface Collection<E> extends more.java.lang.Iterable<E>, java.util.Col
         try {
             return of.toArray(into);
         } catch (NoSuchMethodError none) {
+            Nulls.refuse(of);
             return Walked.toArray(of, into);
         }
     }
@@ -65,6 +67,7 @@ public interface Collection<E> extends more.java.lang.Iterable<E>, java.util.Col
         try {
             return of.containsAll(others);
         } catch (NoSuchMethodError none) {
+            Nulls.refuse(of);
             return Walked.containsAll(of, others);
         }
     }
@@ -76,6 +79,7 @@ public interface Collection<E> extends more.java.lang.Iterable<E>, java.util.Col
         try {
             return of.addAll(others);
         } catch (NoSuchMethodError none) {
+            Nulls.refuse(of);
             return Walked.addAll(of, others);
         }
     }
@@ -87,6 +91,7 @@ public interface Collection<E> extends more.java.lang.Iterable<E>, java.util.Col
         try {
             return of.removeAll(others);
         } catch (NoSuchMethodError none) {
+            Nulls.refuse(of);
             return Walked.keep(of, others, false);
         }
     }
@@ -98,6 +103,7 @@ public interface Collection<E> extends more.java.lang.Iterable<E>, java.util.Col
         try {
             return of.retainAll(others);
         } catch (NoSuchMethodError none) {
+            Nulls.refuse(of);
             return Walked.keep(of, others, true);
         }
     }
@@ -109,6 +115,7 @@ public interface Collection<E> extends more.java.lang.Iterable<E>, java.util.Col
         try {
             return of.removeIf(filter);
         } catch (NoSuchMethodError none) {
+            Nulls.refuse(of);
             return Walked.removeIf(of, filter);
         }
     }

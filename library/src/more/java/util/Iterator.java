@@ -20,6 +20,7 @@ public interface Iterator<E> extends java.util.Iterator<E> {
         if (of instanceof Iterator) {
             ((Iterator) of).remove();
         } else {
+            Nulls.refuse(of);
             of.remove();
         }
     }

@@ -46,6 +46,7 @@ public interface List<E> extends Collection<E>, java.util.List<E> {
         try {
             return of.lastIndexOf(sought);
         } catch (NoSuchMethodError none) {
+            Nulls.refuse(of);
             return ((List) (Object) new WrappedList(of)).lastIndexOf(sought);
         }
     }
@@ -57,6 +58,7 @@ public interface List<E> extends Collection<E>, java.util.List<E> {
         try {
             return of.addAll(at, others);
         } catch (NoSuchMethodError none) {
+            Nulls.refuse(of);
             return ((List) (Object) new WrappedList(of)).addAll(at, others);
         }
     }
@@ -68,6 +70,7 @@ public interface List<E> extends Collection<E>, java.util.List<E> {
         try {
             return of.listIterator();
         } catch (NoSuchMethodError none) {
+            Nulls.refuse(of);
             return ((List) (Object) new WrappedList(of)).listIterator();
         }
     }
@@ -79,6 +82,7 @@ public interface List<E> extends Collection<E>, java.util.List<E> {
         try {
             return of.listIterator(at);
         } catch (NoSuchMethodError none) {
+            Nulls.refuse(of);
             return ((List) (Object) new WrappedList(of)).listIterator(at);
         }
     }
@@ -90,6 +94,7 @@ public interface List<E> extends Collection<E>, java.util.List<E> {
         try {
             return of.subList(from, to);
         } catch (NoSuchMethodError none) {
+            Nulls.refuse(of);
             return ((List) (Object) new WrappedList(of)).subList(from, to);
         }
     }
@@ -102,6 +107,7 @@ public interface List<E> extends Collection<E>, java.util.List<E> {
         try {
             of.sort(by);
         } catch (NoSuchMethodError none) {
+            Nulls.refuse(of);
             ((List) (Object) new WrappedList(of)).sort(by);
         }
     }
@@ -114,6 +120,7 @@ public interface List<E> extends Collection<E>, java.util.List<E> {
         try {
             of.replaceAll(operator);
         } catch (NoSuchMethodError none) {
+            Nulls.refuse(of);
             ((List) (Object) new WrappedList(of)).replaceAll(operator);
         }
     }

@@ -118,6 +118,7 @@ public interface Map<K, V> extends java.util.Map<K, V> {
         try {
             return of.entrySet();
         } catch (NoSuchMethodError none) {
+            Nulls.refuse(of);
             return ((Map) (Object) new WrappedMap(of)).entrySet();
         }
     }
@@ -129,6 +130,7 @@ public interface Map<K, V> extends java.util.Map<K, V> {
         try {
             return of.containsValue(value);
         } catch (NoSuchMethodError none) {
+            Nulls.refuse(of);
             return ((Map) (Object) new WrappedMap(of)).containsValue(value);
         }
     }
@@ -141,6 +143,7 @@ public interface Map<K, V> extends java.util.Map<K, V> {
         try {
             of.putAll(others);
         } catch (NoSuchMethodError none) {
+            Nulls.refuse(of);
             ((Map) (Object) new WrappedMap(of)).putAll(others);
         }
     }
@@ -152,6 +155,7 @@ public interface Map<K, V> extends java.util.Map<K, V> {
         try {
             return of.getOrDefault(key, other);
         } catch (NoSuchMethodError none) {
+            Nulls.refuse(of);
             return ((Map) (Object) new WrappedMap(of)).getOrDefault(key, other);
         }
     }
@@ -163,6 +167,7 @@ public interface Map<K, V> extends java.util.Map<K, V> {
         try {
             return of.putIfAbsent(key, value);
         } catch (NoSuchMethodError none) {
+            Nulls.refuse(of);
             return ((Map) (Object) new WrappedMap(of)).putIfAbsent(key, value);
         }
     }
@@ -174,6 +179,7 @@ public interface Map<K, V> extends java.util.Map<K, V> {
         try {
             return of.remove(key, value);
         } catch (NoSuchMethodError none) {
+            Nulls.refuse(of);
             return ((Map) (Object) new WrappedMap(of)).remove(key, value);
         }
     }
@@ -185,6 +191,7 @@ public interface Map<K, V> extends java.util.Map<K, V> {
         try {
             return of.replace(key, old, value);
         } catch (NoSuchMethodError none) {
+            Nulls.refuse(of);
             return ((Map) (Object) new WrappedMap(of)).replace(key, old, value);
         }
     }
@@ -196,6 +203,7 @@ public interface Map<K, V> extends java.util.Map<K, V> {
         try {
             return of.replace(key, value);
         } catch (NoSuchMethodError none) {
+            Nulls.refuse(of);
             return ((Map) (Object) new WrappedMap(of)).replace(key, value);
         }
     }
@@ -208,6 +216,7 @@ public interface Map<K, V> extends java.util.Map<K, V> {
         try {
             of.forEach(action);
         } catch (NoSuchMethodError none) {
+            Nulls.refuse(of);
             ((Map) (Object) new WrappedMap(of)).forEach(action);
         }
     }
@@ -220,6 +229,7 @@ public interface Map<K, V> extends java.util.Map<K, V> {
         try {
             of.replaceAll(function);
         } catch (NoSuchMethodError none) {
+            Nulls.refuse(of);
             ((Map) (Object) new WrappedMap(of)).replaceAll(function);
         }
     }
@@ -231,6 +241,7 @@ public interface Map<K, V> extends java.util.Map<K, V> {
         try {
             return of.computeIfAbsent(key, function);
         } catch (NoSuchMethodError none) {
+            Nulls.refuse(of);
             return ((Map) (Object) new WrappedMap(of)).computeIfAbsent(key, function);
         }
     }
@@ -242,6 +253,7 @@ public interface Map<K, V> extends java.util.Map<K, V> {
         try {
             return of.computeIfPresent(key, function);
         } catch (NoSuchMethodError none) {
+            Nulls.refuse(of);
             return ((Map) (Object) new WrappedMap(of)).computeIfPresent(key, function);
         }
     }
@@ -253,6 +265,7 @@ public interface Map<K, V> extends java.util.Map<K, V> {
         try {
             return of.compute(key, function);
         } catch (NoSuchMethodError none) {
+            Nulls.refuse(of);
             return ((Map) (Object) new WrappedMap(of)).compute(key, function);
         }
     }
@@ -264,6 +277,7 @@ public interface Map<K, V> extends java.util.Map<K, V> {
         try {
             return of.merge(key, value, function);
         } catch (NoSuchMethodError none) {
+            Nulls.refuse(of);
             return ((Map) (Object) new WrappedMap(of)).merge(key, value, function);
         }
     }
