@@ -1,20 +1,12 @@
 -- One more class, and one more method that a class declares.
 use Rattle.std.proofs.Common.{◌≡◌, ◌∙◌, sym, ap, refl, ℕ, ◌+◌, ◌<◌, Bool, true, false, ◌||◌, List, [], ◌∷◌, ◌++◌, map, length, take, drop, get_or, cond}
 use Rattle.std.specs.List.{list_any}
-use Rattle.std.specs.Ordering.{is_eq}
-use Rattle.std.specs.Cmp.{both_tied}
-use Rattle.std.proofs.lemmas.Map.Text.{is_eq-slice_cmp}
 use Rattle.std.proofs.lemmas.List.{drop_more, map_more, append_assoc}
 use Rattle.std.proofs.lemmas.List.Folds.{list_any-append}
 use Rattle.class_model.specs.declared.class.Class.{Class}
 use Rattle.program_rules.specs.Names.{Name}
 use Rattle.test_discovery.specs.declared.listed.Listed.{Listed}
-use Rattle.test_discovery.specs.Listed.{same_head, listed_in, listed_above, declares_any}
-use Rattle.test_discovery.specs.Heads.{head_cmp}
-
--- Methods that compare alike are the same.
-pub alike : (a b : Name × Name) → is_eq (head_cmp a b) ≡ same_head a b
-alike a b = sym (both_tied _ _ _ _ (sym (is_eq-slice_cmp a.0 b.0)) (sym (is_eq-slice_cmp a.1 b.1)))
+use Rattle.test_discovery.specs.Listed.{listed_in, listed_above, declares_any}
 
 pub list_any_map : {A B : Type 0} (p : B → Bool) (f : A → B) (xs : List A) → list_any p (map f xs) ≡ list_any (λ x. p (f x)) xs
 list_any_map p f [] = refl

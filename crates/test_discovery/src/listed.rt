@@ -14,7 +14,7 @@ use class_model::{Class, Const, Member, Memory, Name, Seq};
 use class_table::Program;
 use mt_pool::class_name_of;
 use std::alloc::Global;
-use std::collections::BTreeSet;
+use std::collections::HashSet;
 
 /// A method that plays a part in a test: the class that declares it, its name, its descriptor, its
 /// access flags and its parts.
@@ -94,7 +94,7 @@ fn push_as_listed(
 fn push_listed_at(
     alloc: Global,
     listed: &mut Seq<Listed>,
-    hidden: &BTreeSet<(Name, Name)>,
+    hidden: &HashSet<(Name, Name)>,
     class: &Class,
     member: &Member,
 ) -> Result<(), Memory>
@@ -114,7 +114,7 @@ fn push_listed_at(
 // The listed methods of one class.
 fn listed_in(
     alloc: Global,
-    hidden: &BTreeSet<(Name, Name)>,
+    hidden: &HashSet<(Name, Name)>,
     class: &Class,
 ) -> Result<Seq<Listed>, Memory>
     ensures { IfOk result (λ listed. listed ≡ listed_in (has_head hidden.now) class.now) }
@@ -128,7 +128,7 @@ fn listed_in(
 
 fn add_heads(
     alloc: Global,
-    heads: &mut BTreeSet<(Name, Name)>,
+    heads: &mut HashSet<(Name, Name)>,
     pool: &[Const],
     members: &[Member],
 ) -> Result<(), Memory>
@@ -146,7 +146,7 @@ pub fn listed_of(alloc: Global, classes: &[&Class]) -> Result<Vec<Seq<Listed>>, 
     ensures { IfOk result (λ listed. listed.items ≡ listed_of (behind classes.now)) }
 {
     let mut listed = Vec::new(alloc);
-    let mut lower = BTreeSet::new(alloc);
+    let mut lower = HashSet::new(alloc);
     for class in classes {
         listed.push(listed_in(alloc, &lower, class)?)?;
         add_heads(
