@@ -1,12 +1,33 @@
 -- One more class, and one more method that a class declares.
-use Rattle.std.proofs.Common.{◌≡◌, ◌∙◌, sym, ap, refl, ℕ, ◌+◌, ◌<◌, Bool, true, false, ◌||◌, List, [], ◌∷◌, ◌++◌, map, length, take, drop, get_or, cond}
+use Rattle.std.proofs.Common.{◌≡◌, ◌∙◌, sym, ap, refl, ℕ, ◌+◌, ◌<◌, Bool, true, false, ◌||◌, ◌&&◌, not, List, [], ◌∷◌, ◌++◌, map, length, take, drop, get_or, cond}
 use Rattle.std.specs.List.{list_any}
+use Rattle.std.specs.Ordering.{is_eq}
+use Rattle.std.specs.Cmp.{both_tied}
+use Rattle.std.proofs.lemmas.Map.Text.{is_eq-slice_cmp}
 use Rattle.std.proofs.lemmas.List.{drop_more, map_more, append_assoc}
 use Rattle.std.proofs.lemmas.List.Folds.{list_any-append}
 use Rattle.class_model.specs.declared.class.Class.{Class}
 use Rattle.program_rules.specs.Names.{Name}
 use Rattle.test_discovery.specs.declared.listed.Listed.{Listed}
-use Rattle.test_discovery.specs.Listed.{listed_in, listed_above, declares_any}
+use Rattle.class_model.specs.declared.class.Member.{Member}
+use Rattle.test_discovery.specs.Annotations.{marks_of, is_marked}
+use Rattle.test_discovery.specs.Listed.{same_head, head_of, listed_as, listed_at, listed_in, listed_above, declares_any}
+use Rattle.test_discovery.specs.Heads.{head_cmp}
+
+-- Methods that compare alike are the same.
+pub alike : (a b : Name × Name) → is_eq (head_cmp a b) ≡ same_head a b
+alike a b = sym (both_tied _ _ _ _ (sym (is_eq-slice_cmp a.0 b.0)) (sym (is_eq-slice_cmp a.1 b.1)))
+
+-- A marked method is listed unless it is hidden.
+pub shown_at : (hides : Name × Name → Bool) (c : Class) (m : Member) → is_marked (marks_of c.pool m.attrs) ≡ true → hides (head_of c.pool m) ≡ false → listed_at hides c m ≡ listed_as c m ∷ []
+shown_at hides c m marked shown =
+    ap (λ b. cond (b && not (hides (head_of c.pool m))) (listed_as c m ∷ []) []) marked
+    ∙ ap (λ b. cond (true && not b) (listed_as c m ∷ []) []) shown
+
+pub hidden_at : (hides : Name × Name → Bool) (c : Class) (m : Member) → is_marked (marks_of c.pool m.attrs) ≡ true → hides (head_of c.pool m) ≡ true → listed_at hides c m ≡ []
+hidden_at hides c m marked hidden =
+    ap (λ b. cond (b && not (hides (head_of c.pool m))) (listed_as c m ∷ []) []) marked
+    ∙ ap (λ b. cond (true && not b) (listed_as c m ∷ []) []) hidden
 
 pub list_any_map : {A B : Type 0} (p : B → Bool) (f : A → B) (xs : List A) → list_any p (map f xs) ≡ list_any (λ x. p (f x)) xs
 list_any_map p f [] = refl

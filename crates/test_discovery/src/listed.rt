@@ -14,7 +14,7 @@ use class_model::{Class, Const, Member, Memory, Name, Seq};
 use class_table::Program;
 use mt_pool::class_name_of;
 use std::alloc::Global;
-use std::collections::HashSet;
+use std::collections::BTreeSet;
 
 /// A method that plays a part in a test: the class that declares it, its name, its descriptor, its
 /// access flags and its parts.
@@ -91,10 +91,17 @@ fn push_as_listed(
     })
 }
 
+// Whether a lower class declares a method of this name and descriptor.
+fn is_hidden(hidden: &BTreeSet<(Name, Name)>, head: &(Name, Name)) -> bool
+    ensures { result ≡ has_head hidden.now head.now }
+{
+    hidden.contains(head)
+}
+
 fn push_listed_at(
     alloc: Global,
     listed: &mut Seq<Listed>,
-    hidden: &HashSet<(Name, Name)>,
+    hidden: &BTreeSet<(Name, Name)>,
     class: &Class,
     member: &Member,
 ) -> Result<(), Memory>
@@ -104,7 +111,7 @@ fn push_listed_at(
     let marks = marks_of(alloc, pool, member.attrs.as_slice())?;
     if marks.is_marked() {
         let head = head_of(alloc, pool, member)?;
-        if !hidden.contains(&head) {
+        if !is_hidden(hidden, &head) {
             push_as_listed(listed, own_name(alloc, class)?, head, member.flags, marks)?;
         }
     }
@@ -114,7 +121,7 @@ fn push_listed_at(
 // The listed methods of one class.
 fn listed_in(
     alloc: Global,
-    hidden: &HashSet<(Name, Name)>,
+    hidden: &BTreeSet<(Name, Name)>,
     class: &Class,
 ) -> Result<Seq<Listed>, Memory>
     ensures { IfOk result (λ listed. listed ≡ listed_in (has_head hidden.now) class.now) }
@@ -128,7 +135,7 @@ fn listed_in(
 
 fn add_heads(
     alloc: Global,
-    heads: &mut HashSet<(Name, Name)>,
+    heads: &mut BTreeSet<(Name, Name)>,
     pool: &[Const],
     members: &[Member],
 ) -> Result<(), Memory>
@@ -146,7 +153,7 @@ pub fn listed_of(alloc: Global, classes: &[&Class]) -> Result<Vec<Seq<Listed>>, 
     ensures { IfOk result (λ listed. listed.items ≡ listed_of (behind classes.now)) }
 {
     let mut listed = Vec::new(alloc);
-    let mut lower = HashSet::new(alloc);
+    let mut lower = BTreeSet::new(alloc);
     for class in classes {
         listed.push(listed_in(alloc, &lower, class)?)?;
         add_heads(
