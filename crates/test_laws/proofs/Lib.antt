@@ -1,0 +1,5 @@
+mod Lists
+mod Alike
+mod Marks
+mod Edited
+mod Found
