@@ -1,5 +1,5 @@
 -- What is said of records of class files.
-use Rattle.std.specs.Prelude.{◌≡◌, List, true, Some}
+use Rattle.std.specs.Prelude.{◌≡◌, true, Some}
 use Rattle.program_rules.specs.Programs.{Look}
 use Rattle.class_order.specs.Ranks.{HasRanks, IsOrdered}
 use Rattle.record_rules.specs.declared.record.RunRecord.{RunRecord}
@@ -22,7 +22,8 @@ OrderedWalksAreClosed = (p : Look) → HasRanks p → WalksAreClosed p
 -- fault of supers.
 abbrev pub ConsultedFilesBuild : Type 0
 ConsultedFilesBuild =
-    (x : Asked) (r : RunRecord) → IsAsked profile x → IsOrdered x.look → record_of x ≡ Some r → is_program (files_in r.consulted) ≡ true
+    (x : Asked) (r : RunRecord) → IsAsked profile x → IsOrdered x.look → record_of x ≡ Some r →
+    is_program (files_in r.consulted) ≡ true
 
 -- So the record of each such run is true, where each class file spells a class of its name.
 abbrev pub RecordsOfFilesAreTrue : Type 0

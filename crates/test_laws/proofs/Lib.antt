@@ -3,3 +3,4 @@ mod Alike
 mod Marks
 mod Edited
 mod Found
+mod Ending
