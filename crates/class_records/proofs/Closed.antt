@@ -1,14 +1,12 @@
 -- Where classes have ranks, what stands above a class that stands above another stands above that
 -- one.
-use Rattle.std.proofs.Common.{◌≡◌, ◌∙◌, ℕ, zero, suc, ◌<◌, ◌≤◌, Bool, true, false, List, [], ◌∷◌, ◌++◌, refl, sym, ap, subst, arith, ◌⊎◌, inl, inr, ⊎_elim}
-use Rattle.std.specs.Prelude.{◌||◌}
+use Rattle.std.proofs.Common.{◌≡◌, ℕ, zero, suc, ◌≤◌, true, false, List, [], ◌∷◌, sym, subst, arith, ◌⊎◌, inl, inr, ⊎_elim}
 use Rattle.program_rules.specs.Names.{Name, same, is_listed}
 use Rattle.program_rules.specs.Linked.{parents_of}
 use Rattle.program_rules.specs.Programs.{Look, concat_over, supers_within, supers}
 use Rattle.class_order.specs.Supers.{IsBelow, next, further}
 use Rattle.class_order.specs.Ranks.{HasRanks}
-use Rattle.reuse_laws.specs.Closing.{WalksAreClosed}
-use Rattle.reuse_laws.proofs.Tests.{or_either, or_first, or_second, names_are, first_listed}
+use Rattle.reuse_laws.proofs.Tests.{or_either, or_second, names_are, first_listed}
 use Rattle.class_records.specs.Laws.{OrderedWalksAreClosed}
 use Rattle.class_records.proofs.Lists.{listed_either, listed_over}
 

@@ -1,7 +1,6 @@
 -- The class files that a run consulted are a program.
-use Rattle.std.proofs.Common.{◌≡◌, ◌∙◌, ℕ, Bool, true, false, List, [], ◌∷◌, ◌++◌, Option, Some, None, map, length, refl, sym, ap, subst, ◌⊎◌, inl, inr, ⊎_elim}
+use Rattle.std.proofs.Common.{◌≡◌, ◌∙◌, ℕ, Bool, true, false, List, [], ◌∷◌, Option, Some, None, map, length, refl, sym, ap, subst, ◌⊎◌, ⊎_elim}
 use Rattle.std.specs.Prelude.{◌&&◌, ◌||◌, not, is_none, option_and_then, if◌then◌else◌}
-use Rattle.std.specs.List.{list_all}
 use Rattle.program_rules.specs.Names.{Name, same, is_listed}
 use Rattle.program_rules.specs.Linked.{Linked, is_library}
 use Rattle.program_rules.specs.Programs.{Look}
@@ -10,13 +9,13 @@ use Rattle.class_order.specs.Supers.{is_super_missing, is_super_of_wrong_kind}
 use Rattle.machine_laws.specs.Consulted.{Seen}
 use Rattle.lib_table.specs.Library.{library_meant}
 use Rattle.record_rules.specs.declared.record.RunRecord.{RunRecord}
-use Rattle.record_rules.specs.Profiles.{Held, Profile, class_by}
-use Rattle.record_rules.specs.Records.{Asked, run, with_bytes, record_of}
-use Rattle.record_rules.specs.Truth.{held_in, files_with, files_in, IsTrueRecord}
-use Rattle.reuse_laws.specs.Asking.{AreApart, IsProfile, IsAsked}
+use Rattle.record_rules.specs.Profiles.{Held, class_by}
+use Rattle.record_rules.specs.Records.{Asked, run, with_bytes}
+use Rattle.record_rules.specs.Truth.{held_in, files_with, files_in}
+use Rattle.reuse_laws.specs.Asking.{AreApart}
 use Rattle.reuse_laws.specs.Reuse.{RecordsOfRunsAreTrue}
 use Rattle.reuse_laws.specs.Closing.{AreDifferentNames, OwnProgramsAreAlike}
-use Rattle.reuse_laws.proofs.Tests.{or_either, or_first, or_second, names_are, first_listed}
+use Rattle.reuse_laws.proofs.Tests.{or_either, or_first, or_second, names_are}
 use Rattle.reuse_laws.proofs.Reused.{has_outcome}
 use Rattle.record_forms.specs.Building.{is_above, HasNoFaultOfSupers, OwnProgramsBuild}
 use Rattle.class_records.specs.Profile.{class_meant, look_held, are_different, held_files, are_apart, names_with, has_super_fault, are_right_supers, is_program, profile}
@@ -130,9 +129,6 @@ no_fault false true c p q r = absurd cc
 no_fault false false true p q r = absurd cc
 
 module _ (x : Asked) (cs : Entries) (known : (n : Name) → is_listed n (map (λ c. c.0) library_meant) ≡ true → is_library (x.look n) ≡ true) (differ : AreDifferentNames (entry_names cs)) (right : HasNoFaultOfSupers x.look (class_by profile (held_in cs)) (entry_names cs)) where
-  own : Look
-  own = class_by profile (held_in cs)
-
   seen : (n : Name) → is_listed n (names_with (files_in cs)) ≡ true → Seen x.look (entry_names cs) n
   seen n h =
       ⊎_elim (λ (l : is_listed n (file_names (files_in cs)) ≡ true). or_second (is_library (x.look n)) (is_listed n (entry_names cs)) (named cs n l))

@@ -1,7 +1,6 @@
 -- Class files are a profile.
-use Rattle.std.proofs.Common.{◌≡◌, ◌∙◌, ℕ, Bool, true, false, List, [], ◌∷◌, Option, Some, None, is_none, refl, sym, ap, subst}
+use Rattle.std.proofs.Common.{◌≡◌, ℕ, Bool, true, false, List, [], ◌∷◌, Option, Some, None, is_none, refl, ap, subst}
 use Rattle.std.specs.Prelude.{◌&&◌, All, map, option_and_then, if◌then◌else◌}
-use Rattle.std.specs.List.{list_all}
 use Rattle.std.specs.Option.{option_map}
 use Rattle.std.proofs.lemmas.List.Elements.{All-nil, All-cons}
 use Rattle.class_model.specs.declared.class.Class.{Class}
@@ -17,10 +16,9 @@ use Rattle.library_laws.specs.Beside as beside
 use Rattle.library_laws.specs.Facts.{InEachProgram}
 use Rattle.test_discovery.specs.Scripts.{TestOf}
 use Rattle.record_rules.specs.Profiles.{Held, class_by}
-use Rattle.reuse_laws.specs.Asking.{AreApart, IsProfile}
 use Rattle.reuse_laws.proofs.Tests.{and_both}
 use Rattle.jvm_world.specs.View.{test_of}
-use Rattle.class_records.specs.Profile.{file_of, class_meant, files_held, most_superclasses, are_different, held_files, look_held, names_with, are_apart, are_right_supers, is_program, profile}
+use Rattle.class_records.specs.Profile.{file_of, class_meant, most_superclasses, are_different, held_files, look_held, names_with, are_apart, are_right_supers, is_program, profile}
 use Rattle.class_records.specs.Laws.{ClassFilesAreAProfile}
 use Rattle.class_records.proofs.Rising.{same_rising}
 

@@ -1,14 +1,14 @@
 -- The classes above a test class are found by what stands above its name.
-use Rattle.std.proofs.Common.{◌≡◌, ◌∙◌, ℕ, zero, suc, Bool, true, false, List, [], ◌∷◌, ◌++◌, Option, Some, None, refl, sym, ap, subst, ⊎_elim}
-use Rattle.std.specs.Prelude.{◌||◌, ◌==◌, if◌then◌else◌, option_and_then}
+use Rattle.std.proofs.Common.{◌≡◌, ◌∙◌, ℕ, zero, suc, Bool, true, false, List, [], ◌∷◌, Option, Some, None, refl, sym, ap, subst, ⊎_elim}
+use Rattle.std.specs.Prelude.{◌==◌, if◌then◌else◌, option_and_then}
 use Rattle.std.specs.Option.{option_map}
 use Rattle.std.proofs.lemmas.Bool.{eqb-true}
-use Rattle.class_model.specs.Pool.{entry_of, class_name_of}
+use Rattle.class_model.specs.Pool.{class_name_of}
 use Rattle.class_model.specs.declared.class.Class.{Class}
 use Rattle.class_model.specs.declared.constant.Const.{Const}
 use Rattle.program_rules.specs.Names.{Name, same, is_listed}
 use Rattle.program_rules.specs.Linked.{Linked, parents_with, parents_of, is_library}
-use Rattle.program_rules.specs.Programs.{Look, concat_over, supers_within, supers}
+use Rattle.program_rules.specs.Programs.{Look, concat_over, supers_within}
 use Rattle.program_rules.specs.Library.{class_among, first_of}
 use Rattle.class_link.specs.Linking.{link, class_or_none}
 use Rattle.class_link.specs.Symbols.{name_or_empty}
@@ -16,7 +16,7 @@ use Rattle.lib_table.specs.Library.{library_meant}
 use Rattle.test_discovery.specs.Listed.{Files, superclass_of, file_above, rising_from}
 use Rattle.record_rules.specs.Profiles.{Held}
 use Rattle.machine_laws.specs.Consulted.{Seen}
-use Rattle.reuse_laws.proofs.Tests.{or_either, or_first, or_second, names_are, first_listed}
+use Rattle.reuse_laws.proofs.Tests.{or_either, or_first, or_second, first_listed}
 use Rattle.class_records.proofs.Lists.{listed_over}
 use Rattle.class_records.specs.Profile.{file_of, class_meant, files_held}
 

@@ -1,6 +1,6 @@
 -- The class files of a suite by their names.
-use Rattle.std.proofs.Common.{◌≡◌, ◌∙◌, ℕ, Bool, true, false, List, [], ◌∷◌, map, Option, Some, None, Result, Ok, refl, sym, ap, subst}
-use Rattle.std.specs.Prelude.{All, IsTrue, is_some, if◌then◌else◌, option_and_then}
+use Rattle.std.proofs.Common.{◌≡◌, ◌∙◌, ℕ, Bool, true, false, List, [], ◌∷◌, map, Option, Some, None, Result, refl, sym, ap, subst}
+use Rattle.std.specs.Prelude.{IsTrue, is_some, if◌then◌else◌, option_and_then}
 use Rattle.std.specs.List.{AllByRecursion}
 use Rattle.std.specs.Option.{option_map}
 use Rattle.std.specs.Result.{result_ok}
@@ -8,12 +8,10 @@ use Rattle.std.specs.Cmp.Lexicographic.{same_text, bytes_decides}
 use Rattle.std.proofs.lemmas.List.Elements.{recursion_from_All}
 use Rattle.class_model.specs.declared.class.Class.{Class}
 use Rattle.class_model.specs.declared.fault.ClassFault.{ClassFault}
-use Rattle.class_reader.specs.Reading.{class_of_file}
 use Rattle.class_reader.specs.SpellingLaws.{ReadIsSpelled}
 use Rattle.program_rules.specs.Names.{Name, same}
 use Rattle.program_rules.specs.Linked.{Linked}
 use Rattle.program_rules.specs.Library.{class_among, first_of}
-use Rattle.program_rules.specs.Programs.{Look}
 use Rattle.class_link.specs.declared.loaded.Loaded.{Loaded}
 use Rattle.class_link.specs.Info.{Info, own_name}
 use Rattle.class_link.specs.Linking.{link}
@@ -25,7 +23,7 @@ use Rattle.suite_program.proofs.ReadyLaws.{are_apart}
 use Rattle.record_rules.specs.Profiles.{class_by}
 use Rattle.reuse_laws.specs.Asking.{AreApart, AreSpelled}
 use Rattle.class_records.specs.Profile.{with_name, file_of, class_meant, files_held, profile}
-use Rattle.suite_records.specs.Suites.{bytes_of, IsFile, IsSuite, IsReusable, original_asked}
+use Rattle.suite_records.specs.Suites.{bytes_of, IsFile, IsSuite}
 use Rattle.suite_records.specs.Laws.{OriginalsAreReusable}
 
 pub same_itself : (n : Name) → same n n ≡ true

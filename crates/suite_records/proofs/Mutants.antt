@@ -1,7 +1,6 @@
 -- The runs on a mutant are as the laws of reuse ask.
-use Rattle.std.proofs.Common.{◌≡◌, ◌∙◌, ℕ, Bool, true, false, List, [], ◌∷◌, map, Option, Some, None, refl, sym, ap, subst, inr}
-use Rattle.std.specs.Prelude.{All, IsTrue, is_some, filter, if◌then◌else◌, option_and_then}
-use Rattle.std.specs.List.{Contains}
+use Rattle.std.proofs.Common.{◌≡◌, ◌∙◌, ℕ, Bool, true, false, List, [], Option, Some, None, refl, sym, ap, subst, inr}
+use Rattle.std.specs.Prelude.{IsTrue, is_some, filter, if◌then◌else◌, option_and_then}
 use Rattle.std.specs.Option.{option_map}
 use Rattle.std.specs.Cmp.Lexicographic.{same_text}
 use Rattle.std.proofs.lemmas.List.Elements.{All-contains}
@@ -12,7 +11,6 @@ use Rattle.program_rules.specs.Names.{Name, same}
 use Rattle.program_rules.specs.Linked.{Linked}
 use Rattle.program_rules.specs.Library.{class_among, first_of}
 use Rattle.program_rules.specs.Programs.{Look}
-use Rattle.machine_laws.specs.Edit.{Edit, IsEdited}
 use Rattle.machine_laws.proofs.Exchange.{class_alike}
 use Rattle.type_laws.specs.Alike.{head_of, HeadsAlike}
 use Rattle.class_link.specs.declared.loaded.Loaded.{Loaded}
@@ -29,15 +27,15 @@ use Rattle.mutator_ops.specs.Mutants.{class_mutants}
 use Rattle.mutator_ops.specs.declared.mutant.Mutant.{Mutant}
 use Rattle.mutant_apply.specs.Edited.{applied}
 use Rattle.mutant_apply.specs.Spelled.{MutantsAreSpelled}
-use Rattle.mutant_runs.specs.Programs.{files_of, with_class, edited}
+use Rattle.mutant_runs.specs.Programs.{with_class}
 use Rattle.suite_program.specs.Programs.{classes_in, class_file}
 use Rattle.suite_laws.specs.Edited.{IsMutated, MutantsAreEdits}
-use Rattle.record_rules.specs.Profiles.{Held, class_by}
+use Rattle.record_rules.specs.Profiles.{class_by}
 use Rattle.reuse_laws.specs.Asking.{AreApart, AreSpelled}
 use Rattle.class_records.specs.Profile.{file_of, class_meant, files_held, most_superclasses, profile}
 use Rattle.suite_records.specs.Suites.{bytes_of, put_file, IsFile, IsSuite}
 use Rattle.suite_records.specs.Laws.{IsMade, MutantsAreReusable, MutantsAreEdited}
-use Rattle.suite_records.proofs.Files.{same_itself, IsUnder, by_class, file_here, meant_here, all_fit, files_are, program, apart, spelled}
+use Rattle.suite_records.proofs.Files.{IsUnder, by_class, file_here, meant_here, all_fit, files_are, program, apart, spelled}
 use Rattle.suite_records.proofs.Ordered.{ordered_same}
 
 pub are_edited : MutantsAreEdited
@@ -46,9 +44,6 @@ are_edited p m made h =
     ∙ ap (option_map (λ (k : Class × List ℕ). with_class k.0 (look p))) h.applies
 
 module _ (read : ReadIsSpelled) (law : MutantsAreSpelled) (keeps_name : EditKeepsName) (files : List Loaded) (p : List Info) (m : Mutant) (made : Class × List ℕ) (s : IsSuite files p) (h : IsMade p m made) where
-  held : Held
-  held = bytes_of files
-
   at_file : class_file (classes_in files) m.class ≡ Some h.file
   at_file = sym (ap (λ (f : Name → Option Class). f m.class) s.of.files) ∙ h.found
 

@@ -1,12 +1,12 @@
 -- Where each class has the same supers and flags in both programs, both are ordered.
-use Rattle.std.proofs.Common.{◌≡◌, ◌∙◌, ℕ, Bool, true, false, List, [], ◌∷◌, Option, Some, None, refl, sym, ap, subst}
+use Rattle.std.proofs.Common.{◌≡◌, ◌∙◌, ℕ, Bool, true, false, List, [], Option, Some, None, refl, sym, ap, subst}
 use Rattle.std.specs.Prelude.{◌&&◌, ◌||◌, not, is_none}
 use Rattle.std.specs.List.{list_any}
 use Rattle.program_rules.specs.Names.{Name, same, object_name, is_listed}
 use Rattle.program_rules.specs.Linked.{Linked, parents_with, parents_of, is_interface}
 use Rattle.program_rules.specs.Programs.{Look, option_list}
 use Rattle.type_laws.specs.Alike.{head_of, HeadsAlike}
-use Rattle.class_order.specs.Supers.{lacks_superclass, is_super_missing, is_final, is_no_superclass, is_no_interface, is_wrong_superclass, names_wrong_kind, is_super_of_wrong_kind}
+use Rattle.class_order.specs.Supers.{lacks_superclass, is_super_missing, is_final, is_no_superclass, is_no_interface, names_wrong_kind, is_super_of_wrong_kind}
 use Rattle.class_order.specs.Ranks.{IsOrdered}
 
 abbrev Head : Type 0
@@ -17,7 +17,7 @@ Heads = Name → Option Head
 
 -- ---- by heads
 
-parents_in : Option Head → List Name
+abbrev parents_in : Option Head → List Name
 parents_in None = []
 parents_in (Some h) = parents_with h.1 h.2
 
@@ -29,7 +29,7 @@ none_is : (o : Option Linked) → is_none o ≡ is_none (head_of o)
 none_is None = refl
 none_is (Some c) = refl
 
-lacks_in : Name → Option Head → Bool
+abbrev lacks_in : Name → Option Head → Bool
 lacks_in n None = false
 lacks_in n (Some h) = is_none h.1 && not (same n object_name)
 
@@ -37,7 +37,7 @@ lacks_is : (n : Name) (o : Option Linked) → lacks_superclass n o ≡ lacks_in 
 lacks_is n None = refl
 lacks_is n (Some c) = refl
 
-no_superclass_in : Option Head → Bool
+abbrev no_superclass_in : Option Head → Bool
 no_superclass_in None = false
 no_superclass_in (Some h) = is_final h.0 || is_interface h.0
 
@@ -45,7 +45,7 @@ no_superclass_is : (o : Option Linked) → is_no_superclass o ≡ no_superclass_
 no_superclass_is None = refl
 no_superclass_is (Some c) = refl
 
-no_interface_in : Option Head → Bool
+abbrev no_interface_in : Option Head → Bool
 no_interface_in None = false
 no_interface_in (Some h) = not (is_interface h.0)
 
@@ -56,7 +56,7 @@ no_interface_is (Some c) = refl
 abbrev missing_in : Heads → Name → Bool
 missing_in q n = lacks_in n (q n) || list_any (λ m. is_none (q m)) (parents_in (q n))
 
-wrong_in : Heads → Option Head → Bool
+abbrev wrong_in : Heads → Option Head → Bool
 wrong_in q None = false
 wrong_in q (Some h) =
     list_any (λ m. no_superclass_in (q m) || (is_interface h.0 && not (same m object_name))) (option_list h.1)

@@ -1,9 +1,9 @@
 -- The runs of a suite and of its mutants, as records see them (this project's own).
-use Rattle.std.specs.Prelude.{◌≡◌, ℕ, List, [], ◌∷◌, All, Option, Some, None, if◌then◌else◌}
+use Rattle.std.specs.Prelude.{◌≡◌, ℕ, List, [], ◌∷◌, All, Some, None, if◌then◌else◌}
 use Rattle.class_model.specs.declared.class.Class.{Class}
 use Rattle.codec_rules.specs.Input.{IsBytes}
 use Rattle.class_reader.specs.Spells.{Spells}
-use Rattle.program_rules.specs.Names.{Name, same}
+use Rattle.program_rules.specs.Names.{same}
 use Rattle.program_rules.specs.Programs.{Look}
 use Rattle.machine_rules.specs.declared.machine.Limits.{Limits}
 use Rattle.class_order.specs.Ranks.{IsOrdered}

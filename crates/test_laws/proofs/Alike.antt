@@ -26,6 +26,9 @@ pub record Outline : Type 0 where
 abbrev pub outline : List Const → Member → Outline
 outline pool m = record { head = head_of pool m; flags = m.flags; marks = marks_of pool m.attrs }
 
+abbrev pub outline_by : Name × Name → ℕ → Marks → Outline
+outline_by head flags marks = record { head = head; flags = flags; marks = marks }
+
 abbrev pub outlines : Class → List Outline
 outlines c = map (outline c.pool) c.methods
 
@@ -103,11 +106,11 @@ above_same lower' lower (c' ∷ cs') (c ∷ cs) l a = λ i.
 
 -- ---- tests
 
-tests_by : Name → Bool → List (List Listed) → List Test
+abbrev tests_by : Name → Bool → List (List Listed) → List Test
 tests_by class may ls = if may && list_any (λ l. l.marks.test) (downwards ls) then tests_listed class (fixture_of ls) (downwards ls) else []
 
 tests_are : (c : Class) (ls : List (List Listed)) → tests_in c ls ≡ tests_by (own_name c) (may_test c) ls
-unfolding is_test_class tests_by
+unfolding is_test_class
 tests_are c ls = refl
 
 pub tests_same : (cs' cs : List Class) → AreAlike cs' cs → tests_of cs' ≡ tests_of cs

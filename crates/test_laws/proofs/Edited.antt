@@ -49,7 +49,7 @@ use Rattle.std.specs.Cmp.Lexicographic.{same_text}
 use Rattle.test_laws.specs.Laws.{with_file, EditKeepsTests, EditKeepsName}
 use Rattle.test_laws.proofs.Lists.{map_on, map_changed}
 use Rattle.test_laws.proofs.Marks.{has_in, has_lists, has_kept, marks_lists, marks_kept, marks_in}
-use Rattle.test_laws.proofs.Alike.{Outline, outline, outlines, IsAlike, IsOptionAlike, option_itself, rising_alike, tests_same}
+use Rattle.test_laws.proofs.Alike.{Outline, outline, outline_by, outlines, IsAlike, IsOptionAlike, option_itself, rising_alike, tests_same}
 
 -- ---- the annotations of an owner
 
@@ -104,19 +104,16 @@ method_kept pool more m q =
     let name = text_kept pool more m.name (passes_some is_method_name (text_of pool m.name) q.named) in
     let desc = text_kept pool more m.desc (passes_some (λ desc. is_read (method_kinds desc)) (text_of pool m.desc) q.typed) in
     let marks = marks_lists (pool ++ more) m.attrs ∙ marks_kept pool more (map notes_at m.attrs) (notes_named pool OfMethod all_unseen m.attrs q.attrs.1) ∙ sym (marks_lists pool m.attrs) in
-    λ i. record { head = (name_or_empty (name i), name_or_empty (desc i)); flags = m.flags; marks = marks i }
+    λ i. outline_by (name_or_empty (name i), name_or_empty (desc i)) m.flags (marks i)
 
 method_same : (pool : List Const) (new : Code) (m : Member) → outline pool (member_with new m) ≡ outline pool m
 method_same pool new m =
     let marks = marks_lists pool (with_code new m.attrs) ∙ ap (marks_in pool) (notes_same new m.attrs) ∙ sym (marks_lists pool m.attrs) in
-    λ i. record { head = head_of pool m; flags = m.flags; marks = marks i }
+    ap (outline_by (head_of pool m) m.flags) marks
 
 -- ---- the class
 
 module _ (c : Class) (is : IsClass c) (edit : Edit) (parts : Parts) where
-  made : Class
-  made = class_with edit c parts
-
   pub name_same : own_name (class_with edit c parts) ≡ own_name c
   name_same = ap name_or_empty (same_names c parts.added is).this
 

@@ -147,8 +147,8 @@ module _ (p : Look) (files : Files) (ranks : HasRanks p) (named : AreNamed files
 
     few_up : (k : ℕ) (n : Name) → length (rising_from k files (files n)) ≤ length names
     few_up k n =
-        let le = no_more (names_up k files (files n)) names (once_up k n) (among_up k n) in
-        let len = mapped (rising_from k files (files n)) in
+        let le : length (map own_name (rising_from k files (files n))) ≤ length names = no_more (names_up k files (files n)) names (once_up k n) (among_up k n) in
+        let len : length (map own_name (rising_from k files (files n))) ≡ length (rising_from k files (files n)) = mapped (rising_from k files (files n)) in
         omega (arith, le, len)
 
 -- ---- fewer levels

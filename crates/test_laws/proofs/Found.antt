@@ -77,11 +77,11 @@ listed_class class f (l ∷ ls) = all_both (λ (t : Test). t.class ≡ class) (t
     one_case false = tt
 
 tests_class : (c : Class) (ls : List (List Listed)) → AllByRecursion (λ (t : Test). t.class ≡ own_name c) (tests_in c ls)
-tests_class c ls = case (is_test_class c (downwards ls))
+tests_class c ls = by_test (is_test_class c (downwards ls))
   where
-    case : (b : Bool) → AllByRecursion (λ (t : Test). t.class ≡ own_name c) (if b then tests_listed (own_name c) (fixture_of ls) (downwards ls) else [])
-    case true = listed_class (own_name c) (fixture_of ls) (downwards ls)
-    case false = tt
+    by_test : (b : Bool) → AllByRecursion (λ (t : Test). t.class ≡ own_name c) (if b then tests_listed (own_name c) (fixture_of ls) (downwards ls) else [])
+    by_test true = listed_class (own_name c) (fixture_of ls) (downwards ls)
+    by_test false = tt
 
 module _ (files : Files) (named : AreNamed files) where
   -- each is of the class of the name

@@ -27,9 +27,6 @@ use Rattle.test_laws.proofs.Lists.{any_mapped, flat_mapped, any_on, flat_on}
 
 -- ---- by the lists of annotations of an owner
 
-pub lists_of : List Attr → List (List Note)
-lists_of attrs = map notes_at attrs
-
 abbrev pub has_in : List Const → List Name → List (List Note) → Bool
 has_in pool types lists = list_any (λ ns. list_any (is_one_of pool types) ns) lists
 
@@ -46,7 +43,7 @@ marks_by test ignored before after before_all after_all expected = record {
   expected = expected;
 }
 
-abbrev marks_in : List Const → List (List Note) → Marks
+abbrev pub marks_in : List Const → List (List Note) → Marks
 marks_in pool lists =
     marks_by (has_in pool test_types lists) (has_in pool ignored_types lists) (has_in pool before_types lists) (has_in pool after_types lists)
     (has_in pool before_all_types lists) (has_in pool after_all_types lists) (first_said (said_lists pool lists))
