@@ -1,9 +1,9 @@
 -- Tests see the same of an edited class.
-use Rattle.std.proofs.Common.{◌≡◌, ◌∙◌, ℕ, zero, suc, Bool, true, false, List, [], ◌∷◌, ◌++◌, map, Option, Some, None, refl, sym, ap, subst}
-use Rattle.std.specs.Prelude.{◌&&◌, ◌==◌, not, IsSome, if◌then◌else◌, option_and_then}
-use Rattle.std.specs.List.{list_any, flat_map, AllByRecursion}
+use Rattle.std.proofs.Common.{◌≡◌, ◌∙◌, ℕ, Bool, true, false, List, [], ◌∷◌, ◌++◌, map, Option, Some, None, refl, sym, ap, subst}
+use Rattle.std.specs.Prelude.{◌&&◌, ◌==◌, not, IsSome, if◌then◌else◌}
+use Rattle.std.specs.List.{AllByRecursion}
 use Rattle.std.proofs.lemmas.Bool.{eqb-true}
-use Rattle.class_model.specs.Pool.{entry_of, text_of, class_in, class_name_of}
+use Rattle.class_model.specs.Pool.{text_of, class_name_of}
 use Rattle.class_model.specs.DeclaredName.{is_method_name}
 use Rattle.class_model.specs.DescriptorReading.{method_kinds}
 use Rattle.class_model.specs.declared.annotation.Note.{Note}
@@ -21,7 +21,7 @@ use Rattle.mt_attrs.specs.Item.{AllBy}
 use Rattle.mt_attrs.specs.CodeParts.{attr_of, name_of, body_of}
 use Rattle.mt_attrs.specs.Notes.{IsNote}
 use Rattle.mt_attrs.specs.Kinds.{known_of, all_unseen}
-use Rattle.mt_attrs.specs.Attributes.{attr_after, IsBody, IsAttr, AreAttrs}
+use Rattle.mt_attrs.specs.Attributes.{attr_after, IsBody, IsAttr}
 use Rattle.mt_attrs.specs.declared.owner.Owner.{Owner}
 use Rattle.mt_attrs.specs.declared.owner.Owner.TheVariants.{OfClass, OfMethod}
 use Rattle.mt_attrs.specs.declared.kinds.Known.{Known}
@@ -34,22 +34,20 @@ use Rattle.program_rules.specs.Linked.{is_abstract, is_interface}
 use Rattle.class_link.specs.Info.{own_name}
 use Rattle.class_link.specs.Symbols.{name_or_empty}
 use Rattle.test_discovery.specs.Notes.{notes_in, notes_at}
-use Rattle.test_discovery.specs.Annotations.{ignored_types, has_any, marks_of}
-use Rattle.test_discovery.specs.Listed.{Files, superclass_of, head_of, rising_from, rising}
-use Rattle.test_discovery.specs.Rules.{may_test}
-use Rattle.test_discovery.specs.Scripts.{tests_of}
+use Rattle.test_discovery.specs.Annotations.{ignored_types, has_any}
+use Rattle.test_discovery.specs.Listed.{Files, head_of, rising}
 use Rattle.mutator_ops.specs.Mutants.{code_in}
-use Rattle.mutant_apply.specs.Edited.{edited_parts, with_code, member_with, changed_at, class_with, applied}
+use Rattle.mutant_apply.specs.Edited.{with_code, member_with, changed_at, class_with, applied}
 use Rattle.mutant_apply.specs.Laws.{AppliedIsMade}
 use Rattle.mutant_apply.specs.declared.parts.Parts.{Parts}
 use Rattle.mutant_apply.proofs.Keeping.{out_code}
 use Rattle.mutant_apply.proofs.NamesKept.{same_names}
-use Rattle.mutant_apply.proofs.PoolLaws.{some_is, text_kept}
+use Rattle.mutant_apply.proofs.PoolLaws.{text_kept}
 use Rattle.std.specs.Cmp.Lexicographic.{same_text}
 use Rattle.test_laws.specs.Laws.{with_file, EditKeepsTests, EditKeepsName}
 use Rattle.test_laws.proofs.Lists.{map_on, map_changed}
-use Rattle.test_laws.proofs.Marks.{has_in, has_lists, has_kept, marks_lists, marks_kept, marks_in}
-use Rattle.test_laws.proofs.Alike.{Outline, outline, outline_by, outlines, IsAlike, IsOptionAlike, option_itself, rising_alike, tests_same}
+use Rattle.test_laws.proofs.Marks.{has_lists, has_kept, marks_lists, marks_kept, marks_in}
+use Rattle.test_laws.proofs.Alike.{outline, outline_by, IsAlike, IsOptionAlike, option_itself, rising_alike, tests_same}
 
 -- ---- the annotations of an owner
 

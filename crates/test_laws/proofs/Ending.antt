@@ -1,7 +1,6 @@
 -- No more superclasses are found than there are names of class files.
 use Rattle.std.proofs.Common.{◌≡◌, ◌∙◌, ℕ, zero, suc, ◌<◌, ◌≤◌, Bool, true, false, List, [], ◌∷◌, map, take, length, Option, Some, None, refl, sym, ap, subst, arith, ◌⊎◌, inl, inr, ⊎_elim}
 use Rattle.std.specs.Prelude.{◌||◌, ◌==◌, if◌then◌else◌, option_and_then}
-use Rattle.std.specs.List.{list_any}
 use Rattle.std.specs.Cmp.Lexicographic.{same_text, bytes_decides}
 use Rattle.std.proofs.lemmas.Bool.{eqb-true}
 use Rattle.class_model.specs.Pool.{class_name_of}
@@ -14,7 +13,7 @@ use Rattle.class_order.specs.Ranks.{HasRanks}
 use Rattle.class_link.specs.Info.{own_name}
 use Rattle.class_link.specs.Linking.{link, class_or_none}
 use Rattle.class_link.specs.Symbols.{name_or_empty}
-use Rattle.test_discovery.specs.Listed.{Files, superclass_of, file_above, rising_from, rising}
+use Rattle.test_discovery.specs.Listed.{Files, superclass_of, file_above, rising_from}
 use Rattle.test_laws.specs.Laws.{AreNamed, AreMeant, AreAmong, RisingEnds}
 
 -- ---- names among names

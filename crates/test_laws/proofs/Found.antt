@@ -1,7 +1,7 @@
 -- Each test that is found is the test of its class and method.
 use Rattle.std.proofs.Common.{◌≡◌, ◌∙◌, ℕ, zero, suc, Bool, true, false, cond, List, [], ◌∷◌, ◌++◌, Option, Some, None, Ok, refl, sym, ap, subst, ◌⊎◌, inl, inr, ⊎_elim}
-use Rattle.std.specs.Prelude.{◌&&◌, filter, All, if◌then◌else◌}
-use Rattle.std.specs.List.{flat_map, list_any, AllByRecursion, Contains}
+use Rattle.std.specs.Prelude.{filter, if◌then◌else◌}
+use Rattle.std.specs.List.{flat_map, AllByRecursion, Contains}
 use Rattle.std.specs.Cmp.Lexicographic.{same_text, bytes_decides}
 use Rattle.std.proofs.lemmas.List.Elements.{All-from_recursion, recursion_from_All, All-contains_itself}
 use Rattle.class_model.specs.declared.class.Class.{Class}
@@ -14,7 +14,7 @@ use Rattle.test_discovery.specs.declared.script.Fixture.{Fixture}
 use Rattle.test_discovery.specs.Listed.{Files, file_above, rising_from, rising, listed_of, downwards}
 use Rattle.test_discovery.specs.Rules.{is_test_class, first_fault, class_fault}
 use Rattle.test_discovery.specs.Scripts.{fixture_of, test_in, test_at, tests_listed, tests_in, tests_of, first_of, TestOf}
-use Rattle.test_discovery.specs.Discovery.{in_order, risings, unless_refused, tests_among, Tests}
+use Rattle.test_discovery.specs.Discovery.{in_order, risings, unless_refused}
 use Rattle.test_laws.specs.Laws.{AreNamed, AreToldApart, FoundAreTestsOf}
 
 -- ---- lists

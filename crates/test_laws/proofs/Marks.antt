@@ -1,6 +1,6 @@
 -- What annotations make of a method goes by what their indices name.
-use Rattle.std.proofs.Common.{◌≡◌, ◌∙◌, ℕ, zero, suc, ◌+◌, Bool, true, false, List, [], ◌∷◌, ◌++◌, map, Option, Some, None, refl, sym, ap, subst}
-use Rattle.std.specs.Prelude.{◌&&◌, ◌||◌, not, IsSome, if◌then◌else◌, option_and_then, codes}
+use Rattle.std.proofs.Common.{◌≡◌, ◌∙◌, ℕ, zero, suc, ◌+◌, Bool, true, false, List, [], ◌∷◌, ◌++◌, map, Option, Some, None, refl, sym, ap}
+use Rattle.std.specs.Prelude.{◌&&◌, ◌||◌, not, IsSome, if◌then◌else◌, codes}
 use Rattle.std.specs.List.{list_any, flat_map, AllByRecursion}
 use Rattle.std.specs.Option.{option_map}
 use Rattle.class_model.specs.Pool.{entry_of, text_of}
@@ -19,7 +19,7 @@ use Rattle.mt_attrs.specs.declared.due.Due.{Due}
 use Rattle.program_rules.specs.Names.{Name}
 use Rattle.test_discovery.specs.Notes.{is_text as reads_text, notes_at}
 use Rattle.test_discovery.specs.Annotations.{test_type, test_types, before_types, after_types, before_all_types, after_all_types, ignored_types, is_one_of, has_one_of, has_any, marks_of}
-use Rattle.test_discovery.specs.Expected.{class_in, said_by, said_by_pair, said_of, said_at, first_said, first_expected}
+use Rattle.test_discovery.specs.Expected.{class_in, said_by, said_by_pair, said_of, said_at, first_said}
 use Rattle.test_discovery.specs.declared.expected.Expected.{Expected}
 use Rattle.test_discovery.specs.declared.marks.Marks.{Marks}
 use Rattle.mutant_apply.proofs.PoolLaws.{some_is, text_kept}
