@@ -32,9 +32,9 @@ abbrev pub put_file : Class × List ℕ → Held → Held
 put_file made held n = if same n (own_name made.0) then Some made.1 else held n
 
 -- The bytes are the class file of the class.
-pub record IsFile (bytes : List ℕ) (class : Class) : Type 0 where
-  pub bytes : IsBytes bytes
-  pub spelled : Spells bytes class
+pub record IsFile (file : List ℕ) (class : Class) : Type 0 where
+  pub bytes : IsBytes file
+  pub spelled : Spells file class
 
 -- A program that was built of these class files and of the library, and accepted.
 pub record IsSuite (files : List Loaded) (p : List Info) : Type 0 where
