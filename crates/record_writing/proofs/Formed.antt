@@ -116,12 +116,11 @@ passed_formed = record {
   steps = ltb-true 15 (2 ^ 64) refl;
   within = refl;
   few_names = ltb-true 2 (2 ^ 32) refl;
-  names = ((text_is (codes "T") refl, refl, ltb-true 1 (2 ^ 32) refl), (text_is (codes "A") refl, refl, ltb-true 1 (2 ^ 32) refl), tt);
+  names = ((text_is (codes "T") refl, refl, ltb-true 1 (2 ^ 32) refl), ((text_is (codes "A") refl, refl, ltb-true 1 (2 ^ 32) refl), tt));
   few_lines = ltb-true 2 (2 ^ 32) refl;
   lines = (
     record { place_fits = ltb-true 0 (2 ^ 32) refl; place = refl; line_fits = ltb-true 0 (2 ^ 16) refl; line = refl },
-    record { place_fits = ltb-true 1 (2 ^ 32) refl; place = refl; line_fits = ltb-true 3 (2 ^ 16) refl; line = refl },
-    tt,
+    (record { place_fits = ltb-true 1 (2 ^ 32) refl; place = refl; line_fits = ltb-true 3 (2 ^ 16) refl; line = refl }, tt),
   );
 }
 
@@ -145,4 +144,4 @@ timed_out_formed =
 
 pub both_writable : AreWritable (timed_out ∷ passed ∷ [])
 unfolding same_record
-both_writable = ((timed_out_formed, refl), (passed_formed, refl), tt)
+both_writable = ((timed_out_formed, refl), ((passed_formed, refl), tt))
