@@ -1,0 +1,5 @@
+mod Lists
+mod Rising
+mod Profile
+mod Closed
+mod Consulted

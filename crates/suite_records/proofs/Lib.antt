@@ -1,0 +1,4 @@
+mod Files
+mod Ordered
+mod Mutants
+mod Tests

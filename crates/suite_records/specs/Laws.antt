@@ -1,0 +1,69 @@
+-- What is said of the runs of a suite and of its mutants.
+use Rattle.std.specs.Prelude.{◌≡◌, ℕ, List, length, All, Some, Ok}
+use Rattle.std.specs.List.{Contains}
+use Rattle.class_model.specs.declared.class.Class.{Class}
+use Rattle.codec_rules.specs.Input.{IsBytes}
+use Rattle.program_rules.specs.Names.{Name}
+use Rattle.machine_rules.specs.declared.machine.Limits.{Limits}
+use Rattle.class_link.specs.declared.loaded.Loaded.{Loaded}
+use Rattle.class_link.specs.Info.{Info}
+use Rattle.class_table.specs.declared.scripted.Test.{Test}
+use Rattle.class_table.specs.Table.{look}
+use Rattle.test_discovery.specs.Discovery.{Tests}
+use Rattle.test_laws.specs.Laws.{AreToldApart}
+use Rattle.mutator_ops.specs.Mutants.{class_mutants}
+use Rattle.mutator_ops.specs.declared.mutant.Mutant.{Mutant}
+use Rattle.mutant_apply.specs.Edited.{applied}
+use Rattle.mutant_runs.specs.Programs.{files_of, with_class, edited}
+use Rattle.record_rules.specs.declared.record.RunRecord.{RunRecord}
+use Rattle.record_rules.specs.Records.{Asked, record_of}
+use Rattle.record_rules.specs.Truth.{IsTrueRecord}
+use Rattle.record_rules.specs.Jobs.{end_of}
+use Rattle.reuse_laws.specs.Jobs.{AreTrue}
+use Rattle.class_records.specs.Profile.{profile}
+use Rattle.suite_records.specs.Suites.{IsSuite, IsOwnTest, IsReusable, original_asked, mutant_asked}
+
+-- Each test that is found is the one of its class and method, where no two of one class and method
+-- differ.
+abbrev pub FoundAreOwnTests : Type 0
+FoundAreOwnTests =
+    (files : List Loaded) (p : List Info) (names : List Name) (ts : List Test) → IsSuite files p →
+    AreToldApart ts → Tests (length p) (files_of p) names ≡ Ok ts → All (IsOwnTest files) ts
+
+-- The runs of such tests on the program are as the laws of reuse ask.
+abbrev pub OriginalsAreReusable : Type 0
+OriginalsAreReusable =
+    (files : List Loaded) (p : List Info) (t : Test) (q : Limits) (limit : ℕ) → IsSuite files p →
+    IsOwnTest files t → IsReusable (original_asked files p t q limit)
+
+-- The mutant is one of a class file of the program, and its edit makes this class with its bytes.
+pub record IsMade (p : List Info) (m : Mutant) (made : Class × List ℕ) : Type 0 where
+  pub file : Class
+  pub found : files_of p m.class ≡ Some file
+  pub listed : Contains (class_mutants file) m
+  pub applies : applied file m.edit ≡ Some made
+  pub bytes : IsBytes made.1
+
+-- So are those on each mutant, which need not be accepted.
+abbrev pub MutantsAreReusable : Type 0
+MutantsAreReusable =
+    (files : List Loaded) (p : List Info) (m : Mutant) (made : Class × List ℕ) (t : Test)
+    (q : Limits) (limit : ℕ) → IsSuite files p → IsOwnTest files t → IsMade p m made →
+    IsReusable (mutant_asked files p made t q limit)
+
+-- The program of that run is the one that the mutant's edit makes.
+abbrev pub MutantsAreEdited : Type 0
+MutantsAreEdited =
+    (p : List Info) (m : Mutant) (made : Class × List ℕ) → IsMade p m made →
+    edited (files_of p) (look p) m ≡ Some (with_class made.0 (look p))
+
+-- With true old records a job has of each such run what it has without any.
+abbrev pub ReuseChangesNothing : Type 0
+ReuseChangesNothing =
+    (old : List RunRecord) (x : Asked) → AreTrue profile old → IsReusable x →
+    end_of old x ≡ record_of x
+
+-- And the record of each such run is true.
+abbrev pub RecordsAreTrue : Type 0
+RecordsAreTrue =
+    (x : Asked) (r : RunRecord) → IsReusable x → record_of x ≡ Some r → IsTrueRecord profile r

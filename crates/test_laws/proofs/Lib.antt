@@ -1,0 +1,6 @@
+mod Lists
+mod Alike
+mod Marks
+mod Edited
+mod Found
+mod Ending
