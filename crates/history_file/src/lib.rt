@@ -1,0 +1,15 @@
+//! A history as a file: its bytes read into records by number, and records by number written.
+//!
+//! A further item of a record goes to `row`, `record` (read), `spell` (written) and `specs/Rows`;
+//! its text stands in `history_rules`.
+#![tactic(auto)]
+
+mod history;
+mod read;
+mod row;
+mod write;
+
+pub use history::History;
+pub use read::read_history;
+pub use row::{End, Entry, Row};
+pub use write::write_history;
