@@ -1,0 +1,197 @@
+//! Which records match the runs of a program, or would if one class were another.
+
+ghost use Rattle.std.specs.Prelude.{◌≡◌, ◌<◌, ℕ, length, List, Option, slice_get, IfOk, OnOk};
+ghost use Rattle.record_rules.specs.Records.{Asked};
+ghost use Rattle.history_index.specs.Firsts.{whole_at};
+ghost use Rattle.history_index.specs.Numbers.{Indexed};
+ghost use Rattle.history_index.specs.Lookouts.{AddsApart, AddsOpen, AddsRow, AddsWhole, IsAskedBy};
+ghost use Rattle.history_index.specs.Lookouts.{IsEmptyLookout, IsFirstMatch, IsLookout, Lengthens};
+ghost use Rattle.history_index.specs.Lookouts.{Question, earlier, place_swapped};
+
+use crate::firsts::Firsts;
+use crate::index::HistoryIndex;
+use crate::matching::{all_hold_with, first_miss, is_fit};
+use crate::runs::Runs;
+use crate::standings::{Standings, Swap};
+use class_model::Memory;
+use history_file::{Entry, Row};
+use machine_rules::Limits;
+use std::alloc::Global;
+
+/// What look-ups for a program go by, under the same limits, and for each test under one number of
+/// steps. It is found once; a look-up then compares numbers alone, and how many it compares doesn't
+/// go by the records.
+#[derive(Drop)]
+pub struct Lookout {
+    standings: Standings,
+    // for each test the places of the records that match
+    whole: Vec<Vec<usize>>,
+    // how many of these, from the first on, name a name
+    runs: Runs,
+    // the first record that would match if the class of a name were another
+    firsts: Firsts,
+}
+
+// The smaller of two places.
+fn earlier(one: Option<usize>, other: Option<usize>) -> Option<usize>
+    ensures { result ≡ earlier one other }
+{
+    match (one, other) {
+        (Some(a), Some(b)) => Some(if b < a { b } else { a }),
+        (None, place) => place,
+        (place, None) => place,
+    }
+}
+
+impl Lookout {
+    /// The look-out for a program of these standings, under these limits; `bounds` has for each test
+    /// of the history, by number, how many steps a run of it may take. Each record is looked at
+    /// once.
+    pub fn new(
+        alloc: Global,
+        index: &HistoryIndex,
+        standings: Standings,
+        limits: Limits,
+        bounds: &[u64],
+    ) -> Result<Lookout, Memory>
+        ensures { IfOk result (IsLookout index.now
+            (record { limits = limits; bounds = bounds.now }) standings) }
+    {
+        let mut lookout = Lookout::empty(alloc, standings, index.tests().len())?;
+        let mut place = 0;
+        for row in index.history().rows() {
+            lookout.add(index, limits, bounds, place, row)?;
+            place += 1;
+        }
+        Ok(lookout)
+    }
+
+    // One of no records, for so many tests.
+    fn empty(alloc: Global, standings: Standings, tests: usize) -> Result<Lookout, Memory>
+        ensures { IfOk result (IsEmptyLookout tests standings) }
+    {
+        let mut whole = Vec::with_capacity(alloc, tests)?;
+        for _ in 0..tests {
+            whole.push(Vec::new(alloc))?;
+        }
+        Ok(Lookout {
+            standings,
+            whole,
+            runs: Runs::new(alloc),
+            firsts: Firsts::new(alloc),
+        })
+    }
+
+    // One record more, of this place.
+    fn add(
+        &mut self,
+        index: &HistoryIndex,
+        limits: Limits,
+        bounds: &[u64],
+        place: usize,
+        row: &Row,
+    ) -> Result<(), Memory>
+        requires { length self.old.whole.items ≡ length index.now.tests }
+        ensures { OnOk result (AddsRow index.now
+            (record { limits = limits; bounds = bounds.now }) place row.now self.old self.new) }
+    {
+        let Some(test) = index.test_of(row) else {
+            return Ok(());
+        };
+        let Some(limit) = bounds.get(test) else {
+            return Ok(());
+        };
+        if !is_fit(limits, *limit, row) {
+            return Ok(());
+        }
+        self.add_open(test, place, row.consulted.as_slice())
+    }
+
+    // The same of a record that has the limits of its test.
+    fn add_open(&mut self, test: usize, place: usize, consulted: &[Entry]) -> Result<(), Memory>
+        requires { test < length self.old.whole.items }
+        ensures { OnOk result (AddsOpen test place consulted.now self.old self.new) }
+    {
+        match first_miss(&self.standings, consulted) {
+            None => self.add_whole(test, place, consulted),
+            Some(miss) => self.add_apart(test, place, miss, consulted),
+        }
+    }
+
+    // The same of one that matches.
+    fn add_whole(&mut self, test: usize, place: usize, consulted: &[Entry]) -> Result<(), Memory>
+        requires { test < length self.old.whole.items }
+        ensures { OnOk result (AddsWhole test place consulted.now self.old self.new) }
+    {
+        let before = self.whole[test].len();
+        lengthen(&mut self.runs, test, before, consulted)?;
+        self.whole[test].push(place)?;
+        Ok(())
+    }
+
+    // The same of one that doesn't, for this entry first.
+    fn add_apart(
+        &mut self,
+        test: usize,
+        place: usize,
+        miss: Entry,
+        consulted: &[Entry],
+    ) -> Result<(), Memory>
+        ensures { OnOk result (AddsApart test place miss consulted.now self.old self.new) }
+    {
+        if all_hold_with(&self.standings, miss, consulted) {
+            self.firsts.note(test, miss.name, miss.class, place)?;
+        }
+        Ok(())
+    }
+
+    /// The place of the first record of the history that matches the run of a test, by its number if
+    /// it has one: on the program, or on one that has another class file in one place.
+    pub fn lookup(&self, test: Option<usize>, swap: Option<Swap>) -> Option<usize>
+        ensures { (n : Indexed) (q : Question) (s : List (Option ℕ)) (x : Asked) →
+            IsLookout n q s self.now → IsAskedBy n q s test swap x →
+            IsFirstMatch n.history x result }
+    {
+        let test = test?;
+        match swap {
+            Some(swap) => self.lookup_swapped(test, swap),
+            None => self.whole_at(test, 0),
+        }
+    }
+
+    // The same of a program with another class file.
+    fn lookup_swapped(&self, test: usize, swap: Swap) -> Option<usize>
+        ensures { result ≡ place_swapped self.now test swap }
+    {
+        if self.standings.get(swap.name) == swap.class {
+            return self.whole_at(test, 0);
+        }
+        let apart = match swap.class {
+            Some(class) => self.firsts.get(test, swap.name, class),
+            None => None,
+        };
+        earlier(self.whole_at(test, self.runs.get(test, swap.name)), apart)
+    }
+
+    // The place of the record of this number among those of a test that match.
+    fn whole_at(&self, test: usize, number: usize) -> Option<usize>
+        ensures { result ≡ slice_get (whole_at self.now test) number }
+    {
+        match self.whole.get(test) {
+            Some(places) => places.get(number).copied(),
+            None => None,
+        }
+    }
+}
+
+// One record more, behind so many, names these names.
+fn lengthen(runs: &mut Runs, test: usize, before: usize, consulted: &[Entry]) -> Result<(), Memory>
+    ensures { OnOk result (Lengthens test before consulted.now runs.old runs.new) }
+{
+    for entry in consulted {
+        if runs.get(test, entry.name) == before {
+            runs.set(test, entry.name, before + 1)?;
+        }
+    }
+    Ok(())
+}
