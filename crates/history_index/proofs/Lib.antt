@@ -1,0 +1,11 @@
+mod Keys
+mod Positions
+mod Places
+mod Holding
+mod Named
+mod Noting
+mod Testing
+mod Matched
+mod Putting
+mod Adding
+mod Looking

@@ -1,6 +1,7 @@
 -- What maps of a look-out say.
-use Rattle.std.specs.Prelude.{◌≡◌, ℕ, Bool, ◌&&◌, nat_eq, List, [], Option, slice_index_or}
+use Rattle.std.specs.Prelude.{◌≡◌, ℕ, Bool, ◌&&◌, nat_eq, List, [], Option, slice_get}
 use Rattle.std.specs.Prelude.{if◌then◌else◌, Some, None}
+use Rattle.std.specs.Global.{Vec}
 use Rattle.std.specs.BTreeMap.{get}
 use Rattle.std.specs.Option.{option_or, unwrap_or}
 use Rattle.std.specs.Ordering.{nat_cmp, ordering_then}
@@ -35,6 +36,14 @@ SetsRun test name len old new =
     (t k : ℕ) →
     run_at new t k ≡ (if nat_eq test t && nat_eq name k then len else run_at old t k)
 
+-- A list among lists, by place; an empty one where there is none.
+abbrev pub items_of : Option (Vec ℕ) → List ℕ
+items_of None = []
+items_of (Some v) = v.items
+
+abbrev pub list_at : List (Vec ℕ) → ℕ → List ℕ
+list_at lists t = items_of (slice_get lists t)
+
 -- The places that are kept of a test.
 abbrev pub whole_at : Lookout → ℕ → List ℕ
-whole_at l t = (slice_index_or (l.whole.items) t (record { items = [] })).items
+whole_at l t = list_at l.whole.items t

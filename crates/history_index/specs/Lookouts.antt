@@ -2,6 +2,7 @@
 use Rattle.std.specs.Prelude.{◌≡◌, ◌+◌, ℕ, suc, Bool, true, false, not, ◌&&◌, nat_eq, nat_le}
 use Rattle.std.specs.Prelude.{nat_lt, List, [], ◌∷◌, ◌++◌, filter, length, Option, Some, None}
 use Rattle.std.specs.Prelude.{slice_get, option_and_then, if◌then◌else◌, IfSome}
+use Rattle.std.specs.Global.{Vec}
 use Rattle.std.specs.List.{list_all, list_any, position_from, prefix_len}
 use Rattle.std.specs.Option.{option_or}
 use Rattle.machine_rules.specs.declared.machine.Limits.{Limits}
@@ -17,7 +18,7 @@ use Rattle.history_index.specs.declared.standings.Swap.{Swap}
 use Rattle.history_index.specs.declared.firsts.Firsts.{Firsts}
 use Rattle.history_index.specs.declared.runs.Runs.{Runs}
 use Rattle.history_index.specs.declared.lookout.Lookout.{Lookout}
-use Rattle.history_index.specs.Firsts.{first_at, run_at, whole_at}
+use Rattle.history_index.specs.Firsts.{first_at, list_at, run_at, whole_at}
 use Rattle.history_index.specs.Numbers.{Indexed, IsIndexed, pair_of, pair_number, test_number}
 use Rattle.history_index.specs.Numbers.{record_at}
 use Rattle.history_index.specs.Standings.{Standing, standing_in, listed, AreAlike, standing_with}
@@ -106,10 +107,15 @@ pub record IsLookout (n : Indexed) (q : Question) (s : List (Option ℕ)) (l : L
   pub standings : l.standings ≡ s
   pub on : IsLookoutOn n q (listed s) n.history.rows l
 
+-- So many lists, and all are empty.
+pub record AreEmptyLists (count : ℕ) (lists : List (Vec ℕ)) : Type 0 where
+  pub len : length lists ≡ count
+  pub none : (t : ℕ) → list_at lists t ≡ []
+
 -- One of no records.
-pub record IsEmptyLookout (tests : ℕ) (s : List (Option ℕ)) (l : Lookout) : Type 0 where
+pub record IsEmptyLookout (count : ℕ) (s : List (Option ℕ)) (l : Lookout) : Type 0 where
   pub standings : l.standings ≡ s
-  pub tests : length l.whole.items ≡ tests
+  pub tests : length l.whole.items ≡ count
   pub whole : (t : ℕ) → whole_at l t ≡ []
   pub runs : (t k : ℕ) → run_at l.runs t k ≡ 0
   pub firsts : (t k c : ℕ) → first_at l.firsts t k c ≡ None
@@ -204,6 +210,14 @@ place_swapped l test w =
     earlier (slice_get (whole_at l test) (run_at l.runs test w.name))
     (option_and_then (first_at l.firsts test w.name) w.class)
 
+abbrev pub place_of_test : Lookout → ℕ → Option Swap → Option ℕ
+place_of_test l test None = slice_get (whole_at l test) 0
+place_of_test l test (Some w) = place_swapped l test w
+
+abbrev pub place_told : Lookout → Option ℕ → Option Swap → Option ℕ
+place_told l None swap = None
+place_told l (Some test) swap = place_of_test l test swap
+
 -- ---- what is asked for
 
 -- The run of a test, by its number if it has one, on the program for which the look-out was made,
@@ -211,7 +225,7 @@ place_swapped l test w =
 pub record IsAskedBy
     (n : Indexed) (q : Question) (s : List (Option ℕ)) (test : Option ℕ) (swap : Option Swap)
     (x : Asked) : Type 0 where
-  pub test : test_number n x.test.class x.test.method ≡ test
+  pub number : test_number n x.test.class x.test.method ≡ test
   pub limits : x.limits ≡ q.limits
   pub limit : IfSome test (λ t. slice_get q.bounds t ≡ Some x.limit)
   pub program : AreAlike n.history (standing_in n.history x.look x.held) (swapped (listed s) swap)

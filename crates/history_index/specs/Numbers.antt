@@ -1,7 +1,8 @@
 -- Names, classes and tests of a history by number (this project's own).
 use Rattle.std.specs.Prelude.{◌≡◌, ℕ, Bool, ◌&&◌, nat_eq, List, Option, All, is_some, IsTrue}
-use Rattle.std.specs.Prelude.{slice_get, option_map}
+use Rattle.std.specs.Prelude.{slice_get, Some, None, option_map, option_and_then, if◌then◌else◌}
 use Rattle.std.specs.List.{position_from}
+use Rattle.std.specs.Option.{option_or}
 use Rattle.std.specs.BTreeMap as tree
 use Rattle.class_model.specs.Text.{units_of}
 use Rattle.std.specs.Cmp.Lexicographic.{slice_cmp}
@@ -9,7 +10,7 @@ use Rattle.std.specs.Ordering.{nat_cmp, ordering_then}
 use Rattle.program_rules.specs.Names.{Name, same}
 use Rattle.record_rules.specs.declared.record.RunRecord.{RunRecord}
 use Rattle.history_file.specs.declared.row.Row.{Row}
-use Rattle.history_file.specs.Rows.{Numbered, IsNumbered, name_of, name_or_empty}
+use Rattle.history_file.specs.Rows.{Numbered, IsNumbered, name_or_empty}
 use Rattle.history_file.specs.Rows.{record_of}
 use Rattle.history_index.specs.declared.numbers.Numbers.{Numbers}
 use Rattle.history_index.specs.declared.pairs.Pairs.{Pairs}
@@ -20,11 +21,19 @@ use Rattle.history_index.specs.declared.pairs.Pairs.{Pairs}
 abbrev pub number_in : List (List ℕ) → List ℕ → Option ℕ
 number_in slices bytes = position_from (λ s. same s bytes) 0 slices
 
+-- The number that is kept of some bytes.
+abbrev pub number_at : Numbers → List ℕ → Option ℕ
+number_at n q = tree.get_by (λ k. slice_cmp nat_cmp q k.now) n.numbers
+
 -- Each of these is found by its number, and nothing else is found.
 abbrev pub AreNumbersOf : List (List ℕ) → Numbers → Type 0
-AreNumbersOf slices n =
+AreNumbersOf slices n = (q : List ℕ) → number_at n q ≡ number_in slices q
+
+-- A number is kept, unless one was.
+abbrev pub NotesNumber : List ℕ → ℕ → Numbers → Numbers → Type 0
+NotesNumber bytes number old new =
     (q : List ℕ) →
-    tree.get_by (λ k. slice_cmp nat_cmp q k.now) n.numbers ≡ number_in slices q
+    number_at new q ≡ option_or (number_at old q) (if same bytes q then Some number else None)
 
 -- The number of a name among texts.
 abbrev pub name_number : List (List ℕ) → Name → Option ℕ
@@ -70,12 +79,17 @@ pub record AddsPair (pair : ℕ × ℕ) (old new : Pairs) : Type 0 where
       (q : ℕ × ℕ) → IsTrue (is_some (pair_number (pairs_in old) q)) →
       IsTrue (is_some (pair_number (pairs_in new) q))
 
-abbrev pub is_named : List (List ℕ) → Name → Name → ℕ × ℕ → Bool
-is_named texts class method p = same (name_of texts p.0) class && same (name_of texts p.1) method
+-- The number of a test by the numbers of its names, where it has these.
+abbrev pub test_of_class : List (ℕ × ℕ) → Option ℕ → ℕ → Option ℕ
+test_of_class tests method class = option_and_then (λ m. pair_number tests (class, m)) method
 
--- The number of a test by its names.
+abbrev pub test_by : List (ℕ × ℕ) → Option ℕ → Option ℕ → Option ℕ
+test_by tests class method = option_and_then (test_of_class tests method) class
+
+-- By its names.
 abbrev pub test_number : Indexed → Name → Name → Option ℕ
-test_number n class method = position_from (is_named n.history.texts class method) 0 n.tests
+test_number n class method =
+    test_by n.tests (name_number n.history.texts class) (name_number n.history.texts method)
 
 -- The record of a number.
 abbrev pub record_at : Numbered → ℕ → Option RunRecord

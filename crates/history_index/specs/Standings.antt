@@ -1,6 +1,6 @@
 -- How the names of a history stand in a program (this project's own).
 use Rattle.std.specs.Prelude.{◌≡◌, ◌<◌, ℕ, suc, Bool, false, List, length, Option, Some, None}
-use Rattle.std.specs.Prelude.{is_none, nat_eq, if◌then◌else◌, option_map, option_and_then, slice_get}
+use Rattle.std.specs.Prelude.{is_none, nat_eq, if◌then◌else◌, option_map, option_and_then, slice_get, slice_set}
 use Rattle.program_rules.specs.Names.{Name, same}
 use Rattle.program_rules.specs.Programs.{Look}
 use Rattle.record_rules.specs.Profiles.{Held}
@@ -31,14 +31,16 @@ listed s k = option_and_then (λ o. o) (slice_get s k)
 abbrev pub AreAlike : Numbered → Standing → Standing → Type 0
 AreAlike n s t = (k : ℕ) → k < length n.texts → s k ≡ t k
 
-abbrev pub AreStandings : Numbered → Look → Held → List (Option ℕ) → Type 0
-AreStandings n p held s = AreAlike n (standing_in n p held) (listed s)
+pub record AreStandings (n : Numbered) (p : Look) (held : Held) (s : List (Option ℕ))
+    : Type 0 where
+  pub len : length s ≡ length n.texts
+  pub alike : AreAlike n (standing_in n p held) (listed s)
 
 -- ---- one class file more, or another one
 
 -- With the class of one name another.
 abbrev pub standing_with : Standing → ℕ → Option ℕ → Standing
-standing_with s name class k = if nat_eq name k then class else s k
+standing_with s name class k = if nat_eq k name then class else s k
 
 abbrev pub swapped : Standing → Option Swap → Standing
 swapped s None = s
@@ -50,7 +52,7 @@ pub record IsPut
     (name : Name) (file : Option (List ℕ)) (p : Look) (held : Held) (p' : Look) (held' : Held)
     : Type 0 where
   pub there : is_none (p' name) ≡ false
-  pub file : held' name ≡ file
+  pub own : held' name ≡ file
   pub classes : (k : Name) → same k name ≡ false → is_none (p' k) ≡ is_none (p k)
   pub files : (k : Name) → same k name ≡ false → held' k ≡ held k
 
@@ -67,6 +69,18 @@ IsSwap n name bytes swap =
     (p : Look) (held : Held) (p' : Look) (held' : Held) (s : Standing) →
     IsPut name (Some bytes) p held p' held' → AreAlike n (standing_in n p held) s →
     AreAlike n (standing_in n p' held') (swapped s swap)
+
+-- What a look-up is told of it.
+abbrev pub swap_by : List (List ℕ) → List ℕ → Option ℕ → Option Swap
+swap_by classes bytes number =
+    option_map
+    (λ k. record { name = k; class = standing_of classes false (Some bytes) })
+    number
+
+-- A list with another item, if there is a place for it.
+abbrev pub set_at : List (Option ℕ) → Option ℕ → Option ℕ → List (Option ℕ)
+set_at s None class = s
+set_at s (Some k) class = slice_set s k class
 
 -- A program without classes.
 abbrev pub no_look : Look

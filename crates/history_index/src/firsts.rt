@@ -24,13 +24,15 @@ impl Firsts {
     }
 
     /// Keeps a place, if none is kept.
+    #[tactic(auto, using(crate::proofs::Keys::note_kept, crate::proofs::Keys::note_new))]
     pub fn note(&mut self, test: usize, name: u32, class: u32, place: usize) -> Result<(), Memory>
         ensures { OnOk result (Notes test name class place self.old self.new) }
     {
         let key = (test, name, class);
-        if self.places.get(&key).is_none() {
-            self.places.insert(key, place)?;
+        if self.places.contains_key(&key) {
+            return Ok(());
         }
+        self.places.insert(key, place)?;
         Ok(())
     }
 

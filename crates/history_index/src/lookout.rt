@@ -1,12 +1,14 @@
 //! Which records match the runs of a program, or would if one class were another.
 
-ghost use Rattle.std.specs.Prelude.{◌≡◌, ◌<◌, ℕ, length, List, Option, slice_get, IfOk, OnOk};
+ghost use Rattle.std.specs.Prelude.{◌≡◌, ◌<◌, ℕ, length, List, [], Option, slice_get, option_and_then, IfOk, OnOk};
 ghost use Rattle.record_rules.specs.Records.{Asked};
-ghost use Rattle.history_index.specs.Firsts.{whole_at};
+ghost use Rattle.history_index.specs.Firsts.{first_at, whole_at};
 ghost use Rattle.history_index.specs.Numbers.{Indexed};
-ghost use Rattle.history_index.specs.Lookouts.{AddsApart, AddsOpen, AddsRow, AddsWhole, IsAskedBy};
+ghost use Rattle.history_index.specs.Lookouts.{AddsApart, AddsOpen, AddsRow, AddsWhole, AreEmptyLists};
+ghost use Rattle.history_index.specs.Lookouts.{IsAskedBy, IsLookoutOn, is_same};
+ghost use Rattle.history_index.specs.Standings.{listed};
 ghost use Rattle.history_index.specs.Lookouts.{IsEmptyLookout, IsFirstMatch, IsLookout, Lengthens};
-ghost use Rattle.history_index.specs.Lookouts.{Question, earlier, place_swapped};
+ghost use Rattle.history_index.specs.Lookouts.{Question, earlier, place_of_test, place_swapped, place_told};
 
 use crate::firsts::Firsts;
 use crate::index::HistoryIndex;
@@ -43,6 +45,26 @@ fn earlier(one: Option<usize>, other: Option<usize>) -> Option<usize>
     }
 }
 
+fn empty_lists(alloc: Global, count: usize) -> Result<Vec<Vec<usize>>, Memory>
+    ensures { IfOk result (λ lists. AreEmptyLists count lists.items) }
+{
+    let mut lists = Vec::with_capacity(alloc, count)?;
+    while lists.len() < count {
+        lists.push(Vec::new(alloc))?;
+    }
+    Ok(lists)
+}
+
+fn is_same(one: Option<u32>, other: Option<u32>) -> bool
+    ensures { result ≡ is_same one other }
+{
+    match (one, other) {
+        (Some(a), Some(b)) => a == b,
+        (None, None) => true,
+        _ => false,
+    }
+}
+
 impl Lookout {
     /// The look-out for a program of these standings, under these limits; `bounds` has for each test
     /// of the history, by number, how many steps a run of it may take. Each record is looked at
@@ -58,11 +80,7 @@ impl Lookout {
             (record { limits = limits; bounds = bounds.now }) standings) }
     {
         let mut lookout = Lookout::empty(alloc, standings, index.tests().len())?;
-        let mut place = 0;
-        for row in index.history().rows() {
-            lookout.add(index, limits, bounds, place, row)?;
-            place += 1;
-        }
+        lookout.add_all(index, limits, bounds, index.history().rows())?;
         Ok(lookout)
     }
 
@@ -70,19 +88,40 @@ impl Lookout {
     fn empty(alloc: Global, standings: Standings, tests: usize) -> Result<Lookout, Memory>
         ensures { IfOk result (IsEmptyLookout tests standings) }
     {
-        let mut whole = Vec::with_capacity(alloc, tests)?;
-        for _ in 0..tests {
-            whole.push(Vec::new(alloc))?;
-        }
         Ok(Lookout {
             standings,
-            whole,
+            whole: empty_lists(alloc, tests)?,
             runs: Runs::new(alloc),
             firsts: Firsts::new(alloc),
         })
     }
 
+    // All of these records, of no others.
+    #[tactic(auto, using(crate::proofs::Adding::all_more))]
+    fn add_all(
+        &mut self,
+        index: &HistoryIndex,
+        limits: Limits,
+        bounds: &[u64],
+        rows: &[Row],
+    ) -> Result<(), Memory>
+        requires { IsLookoutOn index.now (record { limits = limits; bounds = bounds.now })
+            (listed self.old.standings) [] self.old }
+        ensures standings { OnOk result (self.new.standings ≡ self.old.standings) }
+        ensures on { OnOk result (IsLookoutOn index.now
+            (record { limits = limits; bounds = bounds.now }) (listed self.old.standings)
+            rows.now self.new) }
+    {
+        let mut place = 0;
+        for row in rows {
+            self.add(index, limits, bounds, place, row)?;
+            place += 1;
+        }
+        Ok(())
+    }
+
     // One record more, of this place.
+    #[tactic(auto, using(crate::proofs::Adding::closed_on, crate::proofs::Adding::open_on))]
     fn add(
         &mut self,
         index: &HistoryIndex,
@@ -108,6 +147,7 @@ impl Lookout {
     }
 
     // The same of a record that has the limits of its test.
+    #[tactic(auto, using(crate::proofs::Adding::whole_adds, crate::proofs::Adding::apart_adds))]
     fn add_open(&mut self, test: usize, place: usize, consulted: &[Entry]) -> Result<(), Memory>
         requires { test < length self.old.whole.items }
         ensures { OnOk result (AddsOpen test place consulted.now self.old self.new) }
@@ -152,25 +192,47 @@ impl Lookout {
             IsLookout n q s self.now → IsAskedBy n q s test swap x →
             IsFirstMatch n.history x result }
     {
-        let test = test?;
+        let place = self.place_told(test, swap);
+        place
+    }
+
+    fn place_told(&self, test: Option<usize>, swap: Option<Swap>) -> Option<usize>
+        ensures { result ≡ place_told self.now test swap }
+    {
+        match test {
+            Some(test) => self.place_of_test(test, swap),
+            None => None,
+        }
+    }
+
+    fn place_of_test(&self, test: usize, swap: Option<Swap>) -> Option<usize>
+        ensures { result ≡ place_of_test self.now test swap }
+    {
         match swap {
-            Some(swap) => self.lookup_swapped(test, swap),
+            Some(swap) => self.place_swapped(test, swap),
             None => self.whole_at(test, 0),
         }
     }
 
     // The same of a program with another class file.
-    fn lookup_swapped(&self, test: usize, swap: Swap) -> Option<usize>
+    fn place_swapped(&self, test: usize, swap: Swap) -> Option<usize>
         ensures { result ≡ place_swapped self.now test swap }
     {
-        if self.standings.get(swap.name) == swap.class {
+        if is_same(self.standings.get(swap.name), swap.class) {
             return self.whole_at(test, 0);
         }
-        let apart = match swap.class {
+        let run = self.runs.get(test, swap.name);
+        earlier(self.whole_at(test, run), self.first_at(test, swap))
+    }
+
+    // The place of the first record that would match, if its class is one of the history.
+    fn first_at(&self, test: usize, swap: Swap) -> Option<usize>
+        ensures { result ≡ option_and_then (first_at self.now.firsts test swap.name) swap.class }
+    {
+        match swap.class {
             Some(class) => self.firsts.get(test, swap.name, class),
             None => None,
-        };
-        earlier(self.whole_at(test, self.runs.get(test, swap.name)), apart)
+        }
     }
 
     // The place of the record of this number among those of a test that match.

@@ -61,7 +61,7 @@ fn holds_with(standings: &Standings, other: Entry, entry: Entry) -> bool
     ensures { result ≡ holds
         (standing_with (listed standings.now) other.name (Some other.class)) entry }
 {
-    if other.name == entry.name {
+    if entry.name == other.name {
         other.class == entry.class
     } else {
         holds(standings, entry)

@@ -1,7 +1,7 @@
 //! Slices by number.
 
-ghost use Rattle.std.specs.Prelude.{◌≡◌, ◌<◌, ◌^◌, ℕ, List, map, length, IfOk};
-ghost use Rattle.history_index.specs.Numbers.{AreNumbersOf, number_in};
+ghost use Rattle.std.specs.Prelude.{◌≡◌, ◌<◌, ◌^◌, ℕ, List, map, length, IfOk, OnOk};
+ghost use Rattle.history_index.specs.Numbers.{AreNumbersOf, NotesNumber, number_in};
 
 use class_model::Memory;
 use std::alloc::Global;
@@ -15,7 +15,20 @@ pub struct Numbers<'a> {
 }
 
 impl<'a> Numbers<'a> {
+    // One slice more, whose number is kept if it has none yet.
+    #[tactic(auto, using(crate::proofs::Noting::noted_again, crate::proofs::Noting::noted_first))]
+    fn note(&mut self, slice: &'a [u8], number: u32) -> Result<(), Memory>
+        ensures { OnOk result (NotesNumber slice.now number self.old self.new) }
+    {
+        let old = self.numbers.insert(slice, number)?;
+        if let Some(first) = old {
+            self.numbers.insert(slice, first)?;
+        }
+        Ok(())
+    }
+
     /// How many slices stand before each. Where there are 2^32 or more, memory runs out.
+    #[tactic(auto, using(crate::proofs::Noting::number_more))]
     pub fn of(alloc: Global, slices: &[&'a [u8]]) -> Result<Numbers<'a>, Memory>
         ensures numbers { IfOk result (AreNumbersOf (map (λ s. s.now) slices.now)) }
         ensures few { IfOk result (λ _. length slices.now < 2 ^ 32) }
@@ -23,13 +36,15 @@ impl<'a> Numbers<'a> {
         if slices.len() > u32::MAX as usize {
             return Err(Memory);
         }
-        let mut numbers = BTreeMap::new(alloc);
-        let mut next = slices.len();
-        while 0 < next {
-            next -= 1;
-            numbers.insert(slices[next], next as u32)?;
+        let mut numbers = Numbers {
+            numbers: BTreeMap::new(alloc),
+        };
+        let mut before: usize = 0;
+        for slice in slices {
+            numbers.note(slice, before as u32)?;
+            before += 1;
         }
-        Ok(Numbers { numbers })
+        Ok(numbers)
     }
 
     /// The number of a slice with these bytes, if there is one.

@@ -28,18 +28,21 @@ impl Pairs {
     }
 
     // One test more, if it isn't there.
+    #[tactic(auto, using(crate::proofs::Testing::pair_kept, crate::proofs::Testing::pair_new))]
     fn add(&mut self, pair: (u32, u32)) -> Result<(), Memory>
         requires { ArePairs self.old }
         ensures { OnOk result (AddsPair pair self.old self.new) }
     {
-        if self.numbers.get(&pair).is_none() {
-            self.numbers.insert(pair, self.pairs.len())?;
-            self.pairs.push(pair)?;
+        if self.numbers.contains_key(&pair) {
+            return Ok(());
         }
+        self.numbers.insert(pair, self.pairs.len())?;
+        self.pairs.push(pair)?;
         Ok(())
     }
 
     /// The tests of these records.
+    #[tactic(auto, using(crate::proofs::Testing::pairs_more))]
     pub fn of(alloc: Global, rows: &[Row]) -> Result<Pairs, Memory>
         ensures { IfOk result (λ p. ArePairs p × All (HasPair (pairs_in p)) rows.now) }
     {

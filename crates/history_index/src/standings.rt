@@ -1,7 +1,8 @@
 //! How the names of a history stand in a program: which of its classes are the history's.
 
 ghost use Rattle.std.specs.Prelude.{◌≡◌, false, IfOk, OnOk, option_map, slice_set};
-ghost use Rattle.history_index.specs.Standings.{AreStandings, PutsClass, listed, no_look, no_files, standing_of};
+ghost use Rattle.history_index.specs.Standings.{AreStandings, PutsClass, listed, no_look, no_files};
+ghost use Rattle.history_index.specs.Standings.{set_at, standing_of};
 
 use crate::index::HistoryIndex;
 use class_model::{Memory, Name};
@@ -36,7 +37,7 @@ impl Model for Standings {
 // none.
 fn class_in(index: &HistoryIndex, file: Option<&[u8]>) -> Option<u32>
     ensures { result ≡ standing_of index.now.history.classes false
-        (option_map (λ s. s.now) file) }
+        (option_map (λ s. s.now) file.entry) }
 {
     match file {
         Some(bytes) => index.class(bytes),
@@ -46,12 +47,13 @@ fn class_in(index: &HistoryIndex, file: Option<&[u8]>) -> Option<u32>
 
 impl Standings {
     /// Those of a program without classes.
+    #[tactic(auto, using(crate::proofs::Putting::none_are))]
     pub fn new(alloc: Global, index: &HistoryIndex) -> Result<Standings, Memory>
         ensures { IfOk result (AreStandings index.now.history no_look no_files) }
     {
         let names = index.history().texts().len();
         let mut classes = Vec::with_capacity(alloc, names)?;
-        for _ in 0..names {
+        while classes.len() < names {
             classes.push(Some(0))?;
         }
         Ok(Standings { classes })
@@ -59,6 +61,7 @@ impl Standings {
 
     /// The program has one class more, or another one: of this name, with these bytes if it is of a
     /// class file.
+    #[tactic(auto, using(crate::proofs::Putting::put_is))]
     pub fn put(
         &mut self,
         alloc: Global,
@@ -67,20 +70,26 @@ impl Standings {
         file: Option<&[u8]>,
     ) -> Result<(), Memory>
         ensures { OnOk result (PutsClass index.now.history name.now
-            (option_map (λ s. s.now) file) self.old self.new) }
+            (option_map (λ s. s.now) file.entry) self.old self.new) }
     {
-        if let Some(number) = index.name(alloc, name)? {
-            let class = class_in(index, file);
-            self.set(number, class);
-        }
+        let number = index.name(alloc, name)?;
+        let class = class_in(index, file);
+        self.set(number, class);
         Ok(())
     }
 
-    // Sets the class number of a name, if there is one of that number.
-    fn set(&mut self, name: u32, class: Option<u32>)
-        ensures { self.new ≡ slice_set self.old name class }
+    // Sets the class number of a name by its number, if it has one.
+    fn set(&mut self, number: Option<u32>, class: Option<u32>)
+        ensures { self.new ≡ set_at self.old number class }
     {
-        let at = name as usize;
+        if let Some(number) = number {
+            self.set_at(number as usize, class);
+        }
+    }
+
+    fn set_at(&mut self, at: usize, class: Option<u32>)
+        ensures { self.new ≡ slice_set self.old at class }
+    {
         if at < self.classes.len() {
             self.classes[at] = class;
         }

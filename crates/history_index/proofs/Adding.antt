@@ -1,0 +1,154 @@
+-- What a look-out has of one record more.
+use Rattle.std.proofs.Common.{◌≡◌, ◌∙◌, ℕ, zero, suc, ◌+◌, Bool, true, false, cond, List, [], ◌∷◌, ◌++◌, length, Option, Some, None, refl, sym, ap, subst, arith, append-nil}
+use Rattle.std.specs.Prelude.{◌&&◌, not, filter, nat_eq, slice_get, if◌then◌else◌}
+use Rattle.std.specs.List.{list_all, position_from, prefix_len}
+use Rattle.std.specs.Option.{option_or}
+use Rattle.std.proofs.lemmas.Bool.{eqb-true}
+use Rattle.machine_rules.specs.declared.machine.Limits.{Limits}
+use Rattle.history_file.specs.declared.row.Entry.{Entry}
+use Rattle.history_file.specs.declared.row.Row.{Row}
+use Rattle.history_index.specs.declared.lookout.Lookout.{Lookout}
+use Rattle.history_index.specs.Firsts.{first_at, list_at, run_at, whole_at}
+use Rattle.history_index.specs.Numbers.{Indexed, pair_number, pair_of}
+use Rattle.history_index.specs.Standings.{Standing, listed, standing_with}
+use Rattle.history_index.specs.Lookouts.{AddsApart, AddsOpen, AddsRow, AddsWhole, all_hold, holds, is_apart, is_fit, is_fit_under, is_name_in, is_number, is_open, is_whole, IsEmptyLookout, IsLookoutOn, names, places_from, Question}
+use Rattle.history_index.proofs.Positions.{position_more}
+use Rattle.history_index.proofs.Places.{as_many, filter_more, if_passed, places_more, run_more}
+use Rattle.history_index.proofs.Holding.{all_held, miss_is, missed, only_own}
+
+-- ---- to which test it is open
+
+open_case : (n : Indexed) (q : Question) (test t : ℕ) (limit : ℕ) (r : Row) (b : Bool) → b ≡ nat_eq test t → slice_get q.bounds test ≡ Some limit → is_fit q.limits limit r ≡ true → b && is_fit_under q.limits r (slice_get q.bounds t) ≡ b
+open_case n q test t limit r false e bound fit = refl
+open_case n q test t limit r true e bound fit =
+    ap (λ k. is_fit_under q.limits r (slice_get q.bounds k)) (sym (eqb-true test t (sym e))) ∙ ap (is_fit_under q.limits r) bound ∙ fit
+
+pub open_is : (n : Indexed) (q : Question) (test limit : ℕ) (r : Row) → pair_number n.tests (pair_of r) ≡ Some test → slice_get q.bounds test ≡ Some limit → is_fit q.limits limit r ≡ true → (t : ℕ) → is_open n q t r ≡ nat_eq test t
+open_is n q test limit r pair bound fit t = ap (λ o. is_number o t && is_fit_under q.limits r (slice_get q.bounds t)) pair ∙ open_case n q test t limit r (nat_eq test t) refl bound fit
+
+abbrev pub IsClosed : Indexed → Question → Row → Type 0
+IsClosed n q r = (t : ℕ) → is_open n q t r ≡ false
+
+pub no_pair : (n : Indexed) (q : Question) (r : Row) → pair_number n.tests (pair_of r) ≡ None → IsClosed n q r
+no_pair n q r pair t = ap (λ o. is_number o t && is_fit_under q.limits r (slice_get q.bounds t)) pair
+
+closed_case : (n : Indexed) (q : Question) (test t : ℕ) (r : Row) (b : Bool) → b ≡ nat_eq test t → is_fit_under q.limits r (slice_get q.bounds test) ≡ false → b && is_fit_under q.limits r (slice_get q.bounds t) ≡ false
+closed_case n q test t r false e none = refl
+closed_case n q test t r true e none = ap (λ k. is_fit_under q.limits r (slice_get q.bounds k)) (sym (eqb-true test t (sym e))) ∙ none
+
+unfit : (n : Indexed) (q : Question) (test : ℕ) (r : Row) → pair_number n.tests (pair_of r) ≡ Some test → is_fit_under q.limits r (slice_get q.bounds test) ≡ false → IsClosed n q r
+unfit n q test r pair none t = ap (λ o. is_number o t && is_fit_under q.limits r (slice_get q.bounds t)) pair ∙ closed_case n q test t r (nat_eq test t) refl none
+
+pub no_bound : (n : Indexed) (q : Question) (test : ℕ) (r : Row) → pair_number n.tests (pair_of r) ≡ Some test → slice_get q.bounds test ≡ None → IsClosed n q r
+no_bound n q test r pair none = unfit n q test r pair (ap (is_fit_under q.limits r) none)
+
+pub no_fit : (n : Indexed) (q : Question) (test limit : ℕ) (r : Row) → pair_number n.tests (pair_of r) ≡ Some test → slice_get q.bounds test ≡ Some limit → is_fit q.limits limit r ≡ false → IsClosed n q r
+no_fit n q test limit r pair bound fit = unfit n q test r pair (ap (is_fit_under q.limits r) bound ∙ fit)
+
+-- ---- one that is open to none
+
+closed_places : {X : Type 0} (ps : List X) (x : X) (b : Bool) → b ≡ false → ps ≡ ps ++ if_passed b x
+closed_places ps x true e = absurd cc
+closed_places ps x false e = sym (append-nil ps)
+
+closed_first : (o : Option ℕ) (k : ℕ) (b : Bool) → b ≡ false → o ≡ option_or o (cond b (Some k) None)
+closed_first o k true e = absurd cc
+closed_first None k false e = refl
+closed_first (Some j) k false e = refl
+
+pub closed_on : (n : Indexed) (q : Question) (s : Standing) (r : Row) (l : Lookout) (rows : List Row) → IsClosed n q r → IsLookoutOn n q s rows l → IsLookoutOn n q s (rows ++ r ∷ []) l
+closed_on n q s r l rows closed on = record {
+  tests = on.tests;
+  whole = λ t. on.whole t ∙ closed_places (places_from (is_whole n q s t) 0 rows) (0 + length rows) (is_whole n q s t r) (no t (all_hold s r)) ∙ sym (places_more (is_whole n q s t) 0 rows r);
+  runs = λ t k. on.runs t k ∙ ap (prefix_len (names k)) (closed_places (filter (is_whole n q s t) rows) r (is_whole n q s t r) (no t (all_hold s r)) ∙ sym (filter_more (is_whole n q s t) rows r));
+  firsts = λ t k c. on.firsts t k c ∙ closed_first (position_from (is_apart n q s t k c) 0 rows) (0 + length rows) (is_apart n q s t k c r) (no t (not (all_hold s r) && all_hold (standing_with s k (Some c)) r)) ∙ sym (position_more (is_apart n q s t k c) 0 rows r);
+}
+  where
+    no : (t : ℕ) (b : Bool) → is_open n q t r && b ≡ false
+    no t b = ap (λ z. z && b) (closed t)
+
+-- ---- one that is open
+
+open_places : (a : Bool) (ps qs : List ℕ) (place k : ℕ) (b : Bool) → ps ≡ qs → k ≡ place → b ≡ a → (if a then ps ++ place ∷ [] else ps) ≡ qs ++ if_passed b k
+open_places true ps qs place k true same at e = ap (λ zs. zs ++ place ∷ []) same ∙ ap (λ j. qs ++ j ∷ []) (sym at)
+open_places false ps qs place k false same at e = same ∙ sym (append-nil qs)
+open_places true ps qs place k false same at e = absurd cc
+open_places false ps qs place k true same at e = absurd cc
+
+assoc : (a b z : Bool) → a && (b && z) ≡ (a && b) && z
+assoc true b z = refl
+assoc false b z = refl
+
+-- how long a run is, where a record more is one of a test's or isn't
+run_case : (test t : ℕ) (all named : Bool) (old : Lookout) (m len : ℕ) (f : Row → Bool) (ws : List Row) (r : Row) (b c : Bool) → c ≡ nat_eq test t → b ≡ c && all → f r ≡ named → m ≡ prefix_len f ws → length (whole_at old t) ≡ length ws → (if c && (all && (named && nat_eq m (length (whole_at old test)))) then suc (length (whole_at old test)) else m) ≡ prefix_len f (ws ++ if_passed b r)
+run_case test t all named old m len f ws r true false at is named_is is_run many = absurd cc
+run_case test t false named old m len f ws r true true at is named_is is_run many = absurd cc
+run_case test t true named old m len f ws r false true at is named_is is_run many = absurd cc
+run_case test t all named old m len f ws r false false at is named_is is_run many = is_run ∙ ap (prefix_len f) (sym (append-nil ws))
+run_case test t false named old m len f ws r false true at is named_is is_run many = is_run ∙ ap (prefix_len f) (sym (append-nil ws))
+run_case test t true named old m len f ws r true true at is named_is is_run many =
+    let same : length (whole_at old test) ≡ length ws = ap (λ k. length (whole_at old k)) (eqb-true test t (sym at)) ∙ many in
+    ap (λ n. cond (named && nat_eq m n) (suc n) m) same ∙ ap (λ j. cond (named && nat_eq j (length ws)) (suc (length ws)) j) is_run ∙ ap (λ z. cond (z && nat_eq (prefix_len f ws) (length ws)) (suc (length ws)) (prefix_len f ws)) (sym named_is) ∙ sym (run_more f ws r)
+
+pub open_on : (n : Indexed) (q : Question) (test place : ℕ) (r : Row) (old new : Lookout) (rows : List Row) → ((t : ℕ) → is_open n q t r ≡ nat_eq test t) → length rows ≡ place → AddsOpen test place r.consulted old new → IsLookoutOn n q (listed old.standings) rows old → IsLookoutOn n q (listed old.standings) (rows ++ r ∷ []) new
+open_on n q test place r old new rows opens at adds on =
+    let s = listed old.standings in
+    let from : 0 + length rows ≡ place = (let zero_more : 0 + length rows ≡ length rows = omega arith in zero_more ∙ at) in
+    record {
+      tests = adds.tests ∙ on.tests;
+      whole = λ t. adds.whole t ∙ open_places (nat_eq test t && all_hold s r) (whole_at old t) (places_from (is_whole n q s t) 0 rows) place (0 + length rows) (is_whole n q s t r) (on.whole t) from (ap (λ z. z && all_hold s r) (opens t)) ∙ sym (places_more (is_whole n q s t) 0 rows r);
+      runs = λ t k. adds.runs t k ∙ run_case test t (all_hold s r) (is_name_in k r.consulted) old (run_at old.runs t k) 0 (names k) (filter (is_whole n q s t) rows) r (is_whole n q s t r) (nat_eq test t) refl (ap (λ z. z && all_hold s r) (opens t)) refl (on.runs t k) (ap length (on.whole t) ∙ as_many (is_whole n q s t) 0 rows) ∙ ap (prefix_len (names k)) (sym (filter_more (is_whole n q s t) rows r));
+      firsts = λ t k c. adds.firsts t k c ∙ ap (λ o. option_or o (if nat_eq test t && (not (all_hold s r) && all_hold (standing_with s k (Some c)) r) then Some place else None)) (on.firsts t k c) ∙ ap (λ z. option_or (position_from (is_apart n q s t k c) 0 rows) (if z && (not (all_hold s r) && all_hold (standing_with s k (Some c)) r) then Some place else None)) (sym (opens t)) ∙ ap (λ j. option_or (position_from (is_apart n q s t k c) 0 rows) (cond (is_apart n q s t k c r) (Some j) None)) (sym from) ∙ sym (position_more (is_apart n q s t k c) 0 rows r);
+    }
+
+-- ---- one that matches, and one that doesn't
+
+and_true : (a b : Bool) → b ≡ true → a ≡ a && b
+and_true true b e = sym e
+and_true false b e = refl
+
+pub whole_adds : (test place : ℕ) (es : List Entry) (old new : Lookout) → list_all (holds (listed old.standings)) es ≡ true → AddsWhole test place es old new → AddsOpen test place es old new
+whole_adds test place es old new all adds = record {
+  standings = adds.standings;
+  tests = adds.tests;
+  whole = λ t. adds.whole t ∙ ap (λ b. if b then whole_at old t ++ place ∷ [] else whole_at old t) (and_true (nat_eq test t) (list_all (holds (listed old.standings)) es) all);
+  runs = λ t k. adds.runs t k ∙ ap (λ b. if nat_eq test t && b then suc (length (whole_at old test)) else run_at old.runs t k) (sym (ap (λ z. z && (is_name_in k es && nat_eq (run_at old.runs t k) (length (whole_at old test)))) all));
+  firsts = λ t k c. ap (λ f. first_at f t k c) adds.firsts ∙ or_none (first_at old.firsts t k c) ∙ ap (λ b. option_or (first_at old.firsts t k c) (if b then Some place else None)) (sym (never (nat_eq test t) (list_all (holds (listed old.standings)) es) (list_all (holds (standing_with (listed old.standings) k (Some c))) es) all));
+}
+  where
+    or_none : (o : Option ℕ) → o ≡ option_or o (if false then Some place else None)
+    or_none None = refl
+    or_none (Some x) = refl
+
+    never : (a b c : Bool) → b ≡ true → a && (not b && c) ≡ false
+    never a false c e = absurd cc
+    never true true c e = refl
+    never false true c e = refl
+
+pub apart_adds : (test place : ℕ) (miss : Entry) (es : List Entry) (old new : Lookout) → list_all (holds (listed old.standings)) es ≡ false → ((k c : ℕ) → list_all (holds (standing_with (listed old.standings) k (Some c))) es ≡ (nat_eq miss.name k && nat_eq miss.class c) && list_all (holds (standing_with (listed old.standings) miss.name (Some miss.class))) es) → AddsApart test place miss es old new → AddsOpen test place es old new
+apart_adds test place miss es old new all own adds = record {
+  standings = adds.standings;
+  tests = ap (λ w. length w.items) adds.whole;
+  whole = λ t. ap (λ w. list_at w.items t) adds.whole ∙ ap (λ b. if b then whole_at old t ++ place ∷ [] else whole_at old t) (sym (ap (λ z. nat_eq test t && z) all ∙ and_false (nat_eq test t)));
+  runs = λ t k. ap (λ r. run_at r t k) adds.runs ∙ ap (λ b. if b then suc (length (whole_at old test)) else run_at old.runs t k) (sym (ap (λ z. nat_eq test t && (z && (is_name_in k es && nat_eq (run_at old.runs t k) (length (whole_at old test))))) all ∙ and_false (nat_eq test t)));
+  firsts = λ t k c. adds.firsts t k c ∙ ap (λ b. option_or (first_at old.firsts t k c) (if b then Some place else None)) (moved (nat_eq test t) (nat_eq miss.name k && nat_eq miss.class c) (list_all (holds (standing_with (listed old.standings) miss.name (Some miss.class))) es) (list_all (holds (listed old.standings)) es) (list_all (holds (standing_with (listed old.standings) k (Some c))) es) all (own k c));
+}
+  where
+    and_false : (a : Bool) → a && false ≡ false
+    and_false true = refl
+    and_false false = refl
+
+    moved : (t m a h w : Bool) → h ≡ false → w ≡ m && a → (t && m) && a ≡ t && (not h && w)
+    moved t m a true w e f = absurd cc
+    moved true m a false w e f = sym f
+    moved false m a false w e f = refl
+
+-- ---- at first
+
+pub empty_on : (n : Indexed) (q : Question) (s : Standing) (l : Lookout) (tests : ℕ) (listed_s : List (Option ℕ)) → tests ≡ length n.tests → IsEmptyLookout tests listed_s l → IsLookoutOn n q s [] l
+empty_on n q s l tests listed_s many empty = record { tests = empty.tests ∙ many; whole = empty.whole; runs = empty.runs; firsts = empty.firsts }
+
+-- ---- all
+
+pub all_more : (n : Indexed) (q : Question) (place : ℕ) (r : Row) (s : List (Option ℕ)) (old new : Lookout) (rows : List Row) → AddsRow n q place r old new → length rows ≡ place → old.standings ≡ s → IsLookoutOn n q (listed s) rows old → IsLookoutOn n q (listed s) (rows ++ r ∷ []) new
+all_more n q place r s old new rows adds at is on = subst (λ z. IsLookoutOn n q (listed z) (rows ++ r ∷ []) new) is (adds.on rows at (subst (λ z. IsLookoutOn n q (listed z) rows old) (sym is) on))
