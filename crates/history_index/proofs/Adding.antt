@@ -9,9 +9,9 @@ use Rattle.history_file.specs.declared.row.Entry.{Entry}
 use Rattle.history_file.specs.declared.row.Row.{Row}
 use Rattle.history_index.specs.declared.lookout.Lookout.{Lookout}
 use Rattle.history_index.specs.Firsts.{first_at, list_at, run_at, whole_at}
-use Rattle.history_index.specs.Numbers.{Indexed, pair_number, pair_of}
+use Rattle.history_index.specs.Numbers.{Indexed, IsIndexed, pair_number, pair_of}
 use Rattle.history_index.specs.Standings.{Standing, listed, standing_with}
-use Rattle.history_index.specs.Lookouts.{AddsApart, AddsOpen, AddsRow, AddsWhole, all_hold, holds, is_apart, is_fit, is_fit_under, is_name_in, is_number, is_open, is_whole, IsEmptyLookout, IsLookoutOn, names, places_from, Question}
+use Rattle.history_index.specs.Lookouts.{AddsApart, AddsOpen, AddsRow, AddsWhole, all_hold, holds, is_apart, is_fit, is_fit_under, is_name_in, is_number, is_open, is_whole, IsEmptyLookout, IsLookout, IsLookoutOn, names, places_from, Question}
 use Rattle.history_index.proofs.Positions.{position_more}
 use Rattle.history_index.proofs.Places.{as_many, filter_more, if_passed, places_more, run_more}
 use Rattle.history_index.proofs.Holding.{all_held, miss_is, missed, only_own}
@@ -59,13 +59,13 @@ closed_first (Some j) k false e = refl
 pub closed_on : (n : Indexed) (q : Question) (s : Standing) (r : Row) (l : Lookout) (rows : List Row) → IsClosed n q r → IsLookoutOn n q s rows l → IsLookoutOn n q s (rows ++ r ∷ []) l
 closed_on n q s r l rows closed on = record {
   tests = on.tests;
-  whole = λ t. on.whole t ∙ closed_places (places_from (is_whole n q s t) 0 rows) (0 + length rows) (is_whole n q s t r) (no t (all_hold s r)) ∙ sym (places_more (is_whole n q s t) 0 rows r);
-  runs = λ t k. on.runs t k ∙ ap (prefix_len (names k)) (closed_places (filter (is_whole n q s t) rows) r (is_whole n q s t r) (no t (all_hold s r)) ∙ sym (filter_more (is_whole n q s t) rows r));
-  firsts = λ t k c. on.firsts t k c ∙ closed_first (position_from (is_apart n q s t k c) 0 rows) (0 + length rows) (is_apart n q s t k c r) (no t (not (all_hold s r) && all_hold (standing_with s k (Some c)) r)) ∙ sym (position_more (is_apart n q s t k c) 0 rows r);
+  whole = λ t. on.whole t ∙ closed_places (places_from (is_whole n q s t) 0 rows) (0 + length rows) (is_whole n q s t r) (shut t (all_hold s r)) ∙ sym (places_more (is_whole n q s t) 0 rows r);
+  runs = λ t k. on.runs t k ∙ ap (prefix_len (names k)) (closed_places (filter (is_whole n q s t) rows) r (is_whole n q s t r) (shut t (all_hold s r)) ∙ sym (filter_more (is_whole n q s t) rows r));
+  firsts = λ t k c. on.firsts t k c ∙ closed_first (position_from (is_apart n q s t k c) 0 rows) (0 + length rows) (is_apart n q s t k c r) (shut t (not (all_hold s r) && all_hold (standing_with s k (Some c)) r)) ∙ sym (position_more (is_apart n q s t k c) 0 rows r);
 }
   where
-    no : (t : ℕ) (b : Bool) → is_open n q t r && b ≡ false
-    no t b = ap (λ z. z && b) (closed t)
+    shut : (t : ℕ) (b : Bool) → is_open n q t r && b ≡ false
+    shut t b = ap (λ z. z && b) (closed t)
 
 -- ---- one that is open
 
@@ -152,3 +152,10 @@ empty_on n q s l tests listed_s many empty = record { tests = empty.tests ∙ ma
 
 pub all_more : (n : Indexed) (q : Question) (place : ℕ) (r : Row) (s : List (Option ℕ)) (old new : Lookout) (rows : List Row) → AddsRow n q place r old new → length rows ≡ place → old.standings ≡ s → IsLookoutOn n q (listed s) rows old → IsLookoutOn n q (listed s) (rows ++ r ∷ []) new
 all_more n q place r s old new rows adds at is on = subst (λ z. IsLookoutOn n q (listed z) (rows ++ r ∷ []) new) is (adds.on rows at (subst (λ z. IsLookoutOn n q (listed z) rows old) (sym is) on))
+
+pub made : (n : Indexed) (q : Question) (s : List (Option ℕ)) (rows : List Row) (old new : Lookout) → IsIndexed n → old.standings ≡ s → new.standings ≡ old.standings → rows ≡ n.history.rows → IsLookoutOn n q (listed old.standings) rows new → IsLookout n q s new
+made n q s rows old new indexed was is all on = record {
+  indexed = indexed;
+  standings = is ∙ was;
+  on = subst (λ z. IsLookoutOn n q (listed z) n.history.rows new) was (subst (λ rs. IsLookoutOn n q (listed old.standings) rs new) all on);
+}

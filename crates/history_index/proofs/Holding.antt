@@ -42,7 +42,7 @@ pub both_hold : (s : Standing) (k : ℕ) (c : Option ℕ) (es : List Entry) → 
 both_hold s k c [] apart = refl
 both_hold s k c (e ∷ es) apart = held_case s k c e (holds s e) (nat_eq e.name k) (list_all (holds s) es) (list_all (holds (standing_with s k c)) es) (is_name_in k es) apart refl refl (both_hold s k c es apart)
 
--- where records name no class there is no other one that has it
+-- under none for a name, entries of it never hold
 none_case : (s : Standing) (e : Entry) (x b all with : Bool) → x ≡ holds s e → not all && with ≡ false → not (x && all) && (is_number (if b then None else s e.name) e.class && with) ≡ false
 none_case s e x true all with h g = and_false (not (x && all))
 none_case s e true false all with h g = ap (λ z. not all && (z && with)) (sym h) ∙ g
@@ -78,12 +78,12 @@ entry_is d e h = ap (λ o. unwrap_or o d) h
 
 -- what the first that misses fails, all fail
 missed_case : (g : Entry → Bool) (d e : Entry) (x : Bool) (rest : Option Entry) (all : Bool) → g e ≡ false → (rest ≡ Some e → all ≡ false) → cond (not x) (Some d) rest ≡ Some e → g d && all ≡ false
-missed_case g d e false rest all no h is = ap (λ z. g z && all) (entry_is d e is) ∙ ap (λ z. z && all) no
-missed_case g d e true rest all no h is = ap (λ z. g d && z) (h is) ∙ and_false (g d)
+missed_case g d e false rest all fails h is = ap (λ z. g z && all) (entry_is d e is) ∙ ap (λ z. z && all) fails
+missed_case g d e true rest all fails h is = ap (λ z. g d && z) (h is) ∙ and_false (g d)
 
 pub missed : (s : Standing) (g : Entry → Bool) (e : Entry) (es : List Entry) → g e ≡ false → find (λ e. not (holds s e)) es ≡ Some e → list_all g es ≡ false
-missed s g e [] no is = absurd cc
-missed s g e (d ∷ es) no is = missed_case g d e (holds s d) (find (λ e. not (holds s e)) es) (list_all g es) no (missed s g e es no) is
+missed s g e [] fails is = absurd cc
+missed s g e (d ∷ es) fails is = missed_case g d e (holds s d) (find (λ e. not (holds s e)) es) (list_all g es) fails (missed s g e es fails) is
 
 miss_case : (s : Standing) (d e : Entry) (x : Bool) (rest : Option Entry) → x ≡ holds s d → (rest ≡ Some e → holds s e ≡ false) → cond (not x) (Some d) rest ≡ Some e → holds s e ≡ false
 miss_case s d e false rest f h is = ap (holds s) (sym (entry_is d e is)) ∙ sym f

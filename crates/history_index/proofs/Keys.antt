@@ -1,7 +1,7 @@
 -- Keys of several numbers are equal where each number is.
-use Rattle.std.proofs.Common.{◌≡◌, ◌∙◌, ℕ, ◌<◌, Bool, true, false, cond, eqb, ltb, Option, Some, None, Less, Equal, Greater, refl, sym, ap, subst, arith}
+use Rattle.std.proofs.Common.{◌≡◌, ◌∙◌, ℕ, ◌<◌, Bool, true, false, cond, eqb, ltb, Option, Some, None, Ordering, Less, Equal, Greater, refl, sym, ap, subst, arith}
 use Rattle.std.specs.Prelude.{◌&&◌, is_some, nat_eq, if◌then◌else◌}
-use Rattle.std.specs.Ordering.{Ordering, is_eq, nat_cmp, ordering_then}
+use Rattle.std.specs.Ordering.{is_eq, nat_cmp, ordering_then}
 use Rattle.std.specs.Option.{option_or, unwrap_or}
 use Rattle.std.specs.BTreeMap.{Updates, get}
 use Rattle.std.proofs.lemmas.Bool.{ltb-true, ne_eqb, eqb-true, eq-eqb}

@@ -24,12 +24,12 @@ use Rattle.history_index.proofs.Positions.{position_either, position_same}
 all_match : (n : Indexed) (q : Question) (s : Standing) (t : ℕ) (x : Asked) → IsIndexed n → test_number n x.test.class x.test.method ≡ Some t → x.limits ≡ q.limits → slice_get q.bounds t ≡ Some x.limit → AreAlike n.history (standing_in n.history x.look x.held) s → (rows : List Row) → All (IsRow (length n.history.texts) (length n.history.classes)) rows → AllByRecursion (λ r. matches (record_of n.history.texts n.history.classes r) x ≡ is_open n q t r && all_hold s r) rows
 all_match n q s t x indexed test limits limit alike [] all = tt
 all_match n q s t x indexed test limits limit alike (r ∷ rows) all =
-    (row_matches n q s t x r indexed.history (All-head _ r rows all) test limits limit alike, all_match n q s t x indexed test limits limit alike rows (All-tail _ r rows all))
+    (row_matches n q s t x r indexed.history (All-head (IsRow (length n.history.texts) (length n.history.classes)) r rows all) test limits limit alike, all_match n q s t x indexed test limits limit alike rows (All-tail (IsRow (length n.history.texts) (length n.history.classes)) r rows all))
 
 no_match : (n : Indexed) (x : Asked) → IsIndexed n → test_number n x.test.class x.test.method ≡ None → (rows : List Row) → All (IsRow (length n.history.texts) (length n.history.classes)) rows → All (HasPair n.tests) rows → AllByRecursion (λ r. matches (record_of n.history.texts n.history.classes r) x ≡ false) rows
 no_match n x indexed test [] all pairs = tt
 no_match n x indexed test (r ∷ rows) all pairs =
-    (none_matches n x r indexed.history (All-head _ r rows all) (All-head _ r rows pairs) test, no_match n x indexed test rows (All-tail _ r rows all) (All-tail _ r rows pairs))
+    (none_matches n x r indexed.history (All-head (IsRow (length n.history.texts) (length n.history.classes)) r rows all) (All-head (HasPair n.tests) r rows pairs) test, no_match n x indexed test rows (All-tail (IsRow (length n.history.texts) (length n.history.classes)) r rows all) (All-tail (HasPair n.tests) r rows pairs))
 
 pub found_none : (n : Indexed) (x : Asked) → IsIndexed n → test_number n x.test.class x.test.method ≡ None → IsFirstMatch n.history x None
 found_none n x indexed test = none_found (record_of n.history.texts n.history.classes) x n.history.rows (no_match n x indexed test n.history.rows indexed.history.rows indexed.tests)

@@ -2,7 +2,7 @@
 use Rattle.std.proofs.Common.{◌≡◌, ◌∙◌, ℕ, zero, suc, ◌+◌, ◌<◌, ◌≤◌, Bool, true, false, cond, List, [], ◌∷◌, length, map, Option, Some, None, refl, sym, ap, subst, arith}
 use Rattle.std.specs.Prelude.{◌&&◌, ◌||◌, slice_get, is_some, is_none, IsTrue, nat_eq, nat_le, option_and_then, option_map, All, if◌then◌else◌}
 use Rattle.std.specs.List.{list_all, position_from, AllByRecursion}
-use Rattle.std.proofs.lemmas.Bool.{eqb-true, eq-eqb}
+use Rattle.std.proofs.lemmas.Bool.{eqb-true, eq-eqb, false≢true}
 use Rattle.std.proofs.lemmas.List.Elements.{All-head, All-tail}
 use Rattle.program_rules.specs.Names.{Name, same}
 use Rattle.program_rules.specs.Programs.{Look}
@@ -22,7 +22,7 @@ use Rattle.history_file.specs.Rows.{Numbered, IsNumbered, IsRow, IsEntry, IsText
 use Rattle.history_index.specs.Numbers.{Indexed, IsIndexed, HasPair, is_pair, name_number, number_in, pair_number, pair_of, record_at, test_by, test_number}
 use Rattle.history_index.specs.Standings.{Standing, standing_of, standing_in, AreAlike}
 use Rattle.history_index.specs.Lookouts.{all_hold, holds, is_fit, is_fit_under, is_late, is_number, is_open, Question}
-use Rattle.history_index.proofs.Positions.{position_found, some_is}
+use Rattle.history_index.proofs.Positions.{eq_suc, position_found, some_is, suc_apart, zero_apart}
 use Rattle.history_index.proofs.Named.{AreFresh, at_number, classes_differ, name_of_number, number_at, same_is_number, there}
 
 -- ---- entries
@@ -36,16 +36,16 @@ absent_is true = refl
 absent_is false = refl
 
 never_more : (b : Bool) (k : ℕ) → false ≡ is_number (if b then Some 0 else None) (suc k)
-never_more true k = refl
+never_more true k = sym (zero_apart k)
 never_more false k = refl
 
 never_none : (o : Option ℕ) → false ≡ is_number (option_map suc o) 0
 never_none None = refl
-never_none (Some j) = refl
+never_none (Some j) = sym (suc_apart j)
 
 number_case : (o : Option ℕ) (k : ℕ) → is_number (option_map suc o) (suc k) ≡ is_number o k
 number_case None k = refl
-number_case (Some j) k = refl
+number_case (Some j) k = eq_suc j k
 
 -- bytes are those of a class exactly where they have its number
 bytes_number : (classes : List (List ℕ)) (b x : List ℕ) (k : ℕ) (o : Option ℕ) (a : Bool) → AreFresh [] classes → slice_get classes k ≡ Some x → number_in classes b ≡ o → a ≡ same b x → a ≡ is_number o k
@@ -81,7 +81,7 @@ entry_holds n p held s e numbered entry alike =
 entries_hold : (n : Numbered) (p : Look) (held : Held) (s : Standing) (es : List Entry) → IsNumbered n → All (IsEntry (length n.texts) (length n.classes)) es → AreAlike n (standing_in n p held) s → holds_all p held (map (entry_of n.texts n.classes) es) ≡ list_all (holds s) es
 entries_hold n p held s [] numbered all alike = refl
 entries_hold n p held s (e ∷ es) numbered all alike =
-    ap (λ b. b && holds_all p held (map (entry_of n.texts n.classes) es)) (entry_holds n p held s e numbered (All-head _ e es all) alike) ∙ ap (λ b. holds s e && b) (entries_hold n p held s es numbered (All-tail _ e es all) alike)
+    ap (λ b. b && holds_all p held (map (entry_of n.texts n.classes) es)) (entry_holds n p held s e numbered (All-head (IsEntry (length n.texts) (length n.classes)) e es all) alike) ∙ ap (λ b. holds s e && b) (entries_hold n p held s es numbered (All-tail (IsEntry (length n.texts) (length n.classes)) e es all) alike)
 
 -- ---- limits
 
@@ -170,7 +170,7 @@ no_test n r class method true numbered row has e is =
     let a = same_is_number n.history.texts r.test_class class numbered.texts row.class names.0 in
     let b = same_is_number n.history.texts r.test_method method numbered.texts row.method names.1 in
     let at : test_number n class method ≡ pair_number n.tests (pair_of r) = ap (λ o. test_by n.tests o (name_number n.history.texts method)) a ∙ ap (λ o. test_by n.tests (Some r.test_class) o) b in
-    absurd (subst (λ o. IsTrue (is_some o)) (sym at ∙ e) has)
+    absurd (false≢true (subst (λ o. IsTrue (is_some o)) (sym at ∙ e) has))
 
 -- ---- a record
 

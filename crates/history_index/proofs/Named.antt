@@ -3,7 +3,7 @@ use Rattle.std.proofs.Common.{◌≡◌, ◌∙◌, ℕ, zero, suc, ◌+◌, ◌
 use Rattle.std.specs.Prelude.{◌↔◌, slice_get, is_some, IsTrue, option_and_then, if◌then◌else◌}
 use Rattle.std.specs.List.{position_from}
 use Rattle.std.specs.Cmp.Lexicographic.{same_text}
-use Rattle.std.proofs.lemmas.Cmp.{nat_list_eq_equiv}
+use Rattle.std.proofs.lemmas.Bool.{false≢true}
 use Rattle.class_model.specs.Text.{IsUnits, text, units_of}
 use Rattle.class_model.proofs.TextReading.{units_of-takes}
 use Rattle.program_rules.specs.Names.{Name, same, is_listed}
@@ -140,5 +140,5 @@ unspelled xs name (Some k) h e apart =
     absurd (apart (ap units_of (text_is r.0 name named) ∙ named))
 
 pub name_told : (xs : List (List ℕ)) (name : Name) (b : Bool) → AllBy IsTextBehind with_class [] xs → (IsTrue b ↔ (units_of (text name) ≡ Some name)) → name_number xs name ≡ (if b then number_in xs (text name) else None)
-name_told xs name true h told = name_is_text xs (text name) name h (told.0 tt)
-name_told xs name false h told = unspelled xs name (name_number xs name) h refl (λ e. absurd (told.1 e))
+name_told xs name true h told = name_is_text xs (text name) name h (told.0 refl)
+name_told xs name false h told = unspelled xs name (name_number xs name) h refl (λ e. false≢true (told.1 e))

@@ -1,6 +1,6 @@
 -- Slices by number, with one slice more.
 use Rattle.std.proofs.Common.{◌≡◌, ◌∙◌, ℕ, ◌+◌, Bool, true, false, cond, List, [], ◌∷◌, ◌++◌, length, map, take, Option, Some, None, refl, sym, ap, subst, arith}
-use Rattle.std.specs.Prelude.{if◌then◌else◌}
+use Rattle.std.specs.Prelude.{is_some, if◌then◌else◌}
 use Rattle.std.specs.List.{position_from}
 use Rattle.std.specs.Option.{option_or}
 use Rattle.std.specs.BTreeMap as tree
@@ -25,23 +25,26 @@ Sets old new bytes number =
 set_is : (old new : Numbers) (bytes : List ℕ) (number : ℕ) → Sets old new bytes number → (q : List ℕ) → number_at new q ≡ (if same bytes q then Some number else number_at old q)
 set_is old new bytes number sets q = btree_map_updates_str bytes old.numbers new.numbers (Some number) sets q
 
-pub noted_first : (bytes : List ℕ) (number : ℕ) (old new : Numbers) → number_at old bytes ≡ None → Sets old new bytes number → NotesNumber bytes number old new
+kept_or : (o p : Option ℕ) → is_some o ≡ true → o ≡ option_or o p
+kept_or (Some x) p h = refl
+kept_or None p h = absurd cc
+
+new_or : (o p : Option ℕ) → is_some o ≡ false → p ≡ option_or o p
+new_or None p h = refl
+new_or (Some x) p h = absurd cc
+
+pub noted_again : (bytes : List ℕ) (number : ℕ) (n : Numbers) → is_some (number_at n bytes) ≡ true → NotesNumber bytes number n n
+noted_again bytes number n some q = by (same bytes q) refl
+  where
+    by : (b : Bool) → b ≡ same bytes q → number_at n q ≡ option_or (number_at n q) (if b then Some number else None)
+    by true e = kept_or (number_at n q) (Some number) (subst (λ z. is_some (number_at n z) ≡ true) (bytes_are bytes q (sym e)) some)
+    by false e = or_none (number_at n q)
+
+pub noted_first : (bytes : List ℕ) (number : ℕ) (old new : Numbers) → is_some (number_at old bytes) ≡ false → Sets old new bytes number → NotesNumber bytes number old new
 noted_first bytes number old new none sets q = set_is old new bytes number sets q ∙ by (same bytes q) refl
   where
     by : (b : Bool) → b ≡ same bytes q → (if b then Some number else number_at old q) ≡ option_or (number_at old q) (if b then Some number else None)
-    by true e =
-        let at : number_at old q ≡ None = ap (number_at old) (sym (bytes_are bytes q (sym e))) ∙ none in
-        ap (λ o. option_or o (Some number)) (sym at)
-    by false e = or_none (number_at old q)
-
-pub noted_again : (bytes : List ℕ) (number first : ℕ) (old mid new : Numbers) → number_at old bytes ≡ Some first → Sets old mid bytes number → Sets mid new bytes first → NotesNumber bytes number old new
-noted_again bytes number first old mid new some sets again q =
-    set_is mid new bytes first again q ∙ ap (λ o. if same bytes q then Some first else o) (set_is old mid bytes number sets q) ∙ by (same bytes q) refl
-  where
-    by : (b : Bool) → b ≡ same bytes q → (if b then Some first else (if b then Some number else number_at old q)) ≡ option_or (number_at old q) (if b then Some number else None)
-    by true e =
-        let at : number_at old q ≡ Some first = ap (number_at old) (sym (bytes_are bytes q (sym e))) ∙ some in
-        ap (λ o. option_or o (Some number)) (sym at)
+    by true e = new_or (number_at old q) (Some number) (subst (λ z. is_some (number_at old z) ≡ false) (bytes_are bytes q (sym e)) none)
     by false e = or_none (number_at old q)
 
 -- one slice more among those that have numbers

@@ -4,6 +4,7 @@ use Rattle.std.specs.Prelude.{slice_get, ◌&&◌, not, filter, nat_eq}
 use Rattle.std.specs.List.{position_from, prefix_len}
 use Rattle.history_file.specs.declared.row.Row.{Row}
 use Rattle.history_index.specs.Lookouts.{places_from}
+use Rattle.history_index.proofs.Positions.{eq_suc, zero_apart}
 
 suc_is : (n : ℕ) → 1 + n ≡ suc n
 suc_is n = omega arith
@@ -16,7 +17,7 @@ from_zero k = omega arith
 
 -- ---- one record more
 
-abbrev if_passed : {X : Type 0} → Bool → X → List X
+abbrev pub if_passed : {X : Type 0} → Bool → X → List X
 if_passed b x = cond b (x ∷ []) []
 
 one_place : (k : ℕ) (b : Bool) → cond b (k ∷ []) [] ≡ if_passed b (k + 0)
@@ -56,13 +57,13 @@ none_of true n = refl
 none_of false n = refl
 
 run_case : (b a : Bool) (m n l : ℕ) → m ≡ cond (a && nat_eq n l) (suc l) n → cond b (1 + m) 0 ≡ cond (a && nat_eq (cond b (1 + n) 0) (suc l)) (suc (suc l)) (cond b (1 + n) 0)
-run_case true a m n l h = suc_is m ∙ ap suc h ∙ inner a (nat_eq n l) ∙ ap (λ j. cond (a && nat_eq j (suc l)) (suc (suc l)) j) (sym (suc_is n))
+run_case true a m n l h = suc_is m ∙ ap suc h ∙ inner a (nat_eq n l) ∙ ap (λ z. cond (a && z) (suc (suc l)) (suc n)) (sym (eq_suc n l)) ∙ ap (λ j. cond (a && nat_eq j (suc l)) (suc (suc l)) j) (sym (suc_is n))
   where
     inner : (x y : Bool) → suc (cond (x && y) (suc l) n) ≡ cond (x && y) (suc (suc l)) (suc n)
     inner true true = refl
     inner true false = refl
     inner false y = refl
-run_case false a m n l h = none_of a (suc (suc l))
+run_case false a m n l h = none_of a (suc (suc l)) ∙ ap (λ z. cond (a && z) (suc (suc l)) 0) (sym (zero_apart l))
 
 pub run_more : {X : Type 0} (f : X → Bool) (ws : List X) (r : X) → prefix_len f (ws ++ r ∷ []) ≡ cond (f r && nat_eq (prefix_len f ws) (length ws)) (suc (length ws)) (prefix_len f ws)
 run_more f [] r = run_one (f r)

@@ -1,9 +1,9 @@
 -- The first place at which a test passes, among items with one more behind them.
 use Rattle.std.proofs.Common.{◌≡◌, ◌∙◌, ℕ, zero, suc, ◌+◌, ◌-◌, ◌<◌, ◌≤◌, Bool, true, false, cond, List, [], ◌∷◌, ◌++◌, length, Option, Some, None, refl, sym, ap, subst, arith}
-use Rattle.std.specs.Prelude.{slice_get, ◌||◌, nat_lt}
+use Rattle.std.specs.Prelude.{slice_get, ◌||◌, nat_eq, nat_lt}
 use Rattle.std.specs.List.{position_from}
 use Rattle.std.specs.Option.{option_or, unwrap_or}
-use Rattle.std.proofs.lemmas.Bool.{ltb-true, lt-ltb}
+use Rattle.std.proofs.lemmas.Bool.{eq-eqb, eqb-true, lt-ltb, ltb-true, ne_eqb}
 use Rattle.history_index.specs.Lookouts.{earlier}
 
 pub some_is : (a b : ℕ) → Some a ≡ Some b → a ≡ b
@@ -14,6 +14,24 @@ shifted k n = omega arith
 
 from_zero : (k : ℕ) → k ≡ k + 0
 from_zero k = omega arith
+
+pub zero_apart : (n : ℕ) → nat_eq 0 (suc n) ≡ false
+zero_apart n = ne_eqb 0 (suc n) (λ e. let s = e in omega (arith, s))
+
+pub suc_apart : (n : ℕ) → nat_eq (suc n) 0 ≡ false
+suc_apart n = ne_eqb (suc n) 0 (λ e. let s = e in omega (arith, s))
+
+pub eq_suc : (m n : ℕ) → nat_eq (suc m) (suc n) ≡ nat_eq m n
+eq_suc m n = by (nat_eq (suc m) (suc n)) (nat_eq m n) refl refl
+  where
+    by : (a b : Bool) → a ≡ nat_eq (suc m) (suc n) → b ≡ nat_eq m n → a ≡ b
+    by true true e f = refl
+    by false false e f = refl
+    by true false e f =
+        let s = eqb-true (suc m) (suc n) (sym e) in
+        let is : m ≡ n = omega (arith, s) in
+        sym (eq-eqb m n is) ∙ sym f
+    by false true e f = e ∙ eq-eqb (suc m) (suc n) (ap suc (eqb-true m n (sym f)))
 
 -- ---- one item more
 

@@ -10,7 +10,7 @@ use Rattle.history_index.specs.declared.standings.Swap.{Swap}
 use Rattle.history_index.specs.Numbers.{name_number, number_in}
 use Rattle.history_index.specs.Standings.{AreAlike, AreStandings, IsPut, IsSwap, listed, no_files, no_look, PutsClass, set_at, Standing, standing_in, standing_of, standing_with, swap_by, swapped}
 use Rattle.history_index.proofs.Named.{name_of_number, same_is_number}
-use Rattle.history_index.proofs.Positions.{some_is}
+use Rattle.history_index.proofs.Positions.{eq_suc, some_is, suc_apart, zero_apart}
 
 -- ---- one name
 
@@ -67,9 +67,9 @@ set_len (y ∷ ys) (suc i) x = ap suc (set_len ys i x)
 set_get : (xs : List (Option ℕ)) (i k : ℕ) (x : Option ℕ) → k < length xs → listed (slice_set xs i x) k ≡ (if nat_eq k i then x else listed xs k)
 set_get [] i k x lt = absurd (omega (arith, lt))
 set_get (y ∷ ys) zero zero x lt = refl
-set_get (y ∷ ys) zero (suc k) x lt = refl
-set_get (y ∷ ys) (suc i) zero x lt = refl
-set_get (y ∷ ys) (suc i) (suc k) x lt = set_get ys i k x (omega (arith, lt))
+set_get (y ∷ ys) zero (suc k) x lt = ap (λ b. if b then x else listed ys k) (sym (suc_apart k))
+set_get (y ∷ ys) (suc i) zero x lt = ap (λ b. if b then x else y) (sym (zero_apart i))
+set_get (y ∷ ys) (suc i) (suc k) x lt = set_get ys i k x (omega (arith, lt)) ∙ ap (λ b. if b then x else listed ys k) (sym (eq_suc k i))
 
 pub put_none : (n : Numbered) (name : Name) (file : Option (List ℕ)) (old : List (Option ℕ)) → IsNumbered n → name_number n.texts name ≡ None → PutsClass n name file old old
 put_none n name file old numbered none p held p' held' put are = record {

@@ -17,8 +17,7 @@ abbrev found : Pairs → ℕ × ℕ → Option ℕ
 found p q = get (λ x y. ordering_then (nat_cmp x.0 y.0) (nat_cmp x.1 y.1)) p.numbers q
 
 true_is : (b : Bool) → b ≡ true → IsTrue b
-true_is true e = tt
-true_is false e = absurd cc
+true_is b e = e
 
 pub pair_kept : (pair : ℕ × ℕ) (p : Pairs) → ArePairs p → is_some (found p pair) ≡ true → AddsPair pair p p
 pair_kept pair p known is = record {
@@ -52,12 +51,12 @@ pair_self (a, b) = ap (λ z. z && nat_eq b b) (eq-eqb a a refl) ∙ eq-eqb b b r
 
 some_or : (o p : Option ℕ) → IsTrue (is_some o) → IsTrue (is_some (option_or o p))
 some_or None p h = absurd cc
-some_or (Some x) p h = tt
+some_or (Some x) p h = refl
 
 own_or : (o : Option ℕ) (b : Bool) (n : ℕ) → b ≡ true → IsTrue (is_some (option_or o (cond b (Some n) None)))
 own_or o false n e = absurd cc
-own_or None true n e = tt
-own_or (Some x) true n e = tt
+own_or None true n e = refl
+own_or (Some x) true n e = refl
 
 pub pair_new : (pair : ℕ × ℕ) (old new : Pairs) → ArePairs old → is_some (found old pair) ≡ false → Updates (λ x y. ordering_then (nat_cmp x.0 y.0) (nat_cmp x.1 y.1)) old.numbers new.numbers pair (Some (length (pairs_in old))) → pairs_in new ≡ pairs_in old ++ pair ∷ [] → AddsPair pair old new
 pair_new pair old new known none sets pairs = record {
@@ -69,5 +68,5 @@ pair_new pair old new known none sets pairs = record {
 
 -- records whose tests had numbers have them still
 pub pairs_more : (r : Row) (old new : Pairs) (rows : List Row) → AddsPair (r.test_class, r.test_method) old new → All (HasPair (pairs_in old)) rows → All (HasPair (pairs_in new)) (rows ++ r ∷ [])
-pairs_more r old new [] adds all = All-cons _ r [] adds.there (All-nil _)
-pairs_more r old new (x ∷ rows) adds all = All-cons _ x (rows ++ r ∷ []) (adds.kept (pair_of x) (All-head _ x rows all)) (pairs_more r old new rows adds (All-tail _ x rows all))
+pairs_more r old new [] adds all = All-cons (HasPair (pairs_in new)) r [] adds.there (All-nil (HasPair (pairs_in new)))
+pairs_more r old new (x ∷ rows) adds all = All-cons (HasPair (pairs_in new)) x (rows ++ r ∷ []) (adds.kept (pair_of x) (All-head (HasPair (pairs_in old)) x rows all)) (pairs_more r old new rows adds (All-tail (HasPair (pairs_in old)) x rows all))

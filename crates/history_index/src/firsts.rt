@@ -1,6 +1,6 @@
 //! First records of a test that would match if the class of a name were another.
 
-ghost use Rattle.std.specs.Prelude.{◌≡◌, None, OnOk};
+ghost use Rattle.std.specs.Prelude.{◌≡◌, ℕ, None, OnOk};
 ghost use Rattle.history_index.specs.Firsts.{first_at, Notes};
 
 use class_model::Memory;

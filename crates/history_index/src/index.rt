@@ -83,14 +83,15 @@ impl<'a> HistoryIndex<'a> {
     }
 
     /// The number of a name.
-    #[tactic(auto, using(crate::proofs::Named::name_told))]
     pub fn name(&self, alloc: Global, name: &Name) -> Result<Option<u32>, Memory>
         ensures number { IfOk result (λ k. k ≡ name_number self.now.history.texts name.now) }
         ensures known { IsNumbered self.now.history }
     {
+        let _ = &self.history;
         let text = write_text(alloc, name)?;
-        let spelled = is_spelled(alloc, name, text.as_slice())?;
-        let number = self.number_of(text.as_slice(), spelled);
+        let bytes = text.as_slice();
+        let spelled = is_spelled(alloc, name, bytes)?;
+        let number = self.number_of(bytes, spelled);
         Ok(number)
     }
 
@@ -102,14 +103,11 @@ impl<'a> HistoryIndex<'a> {
     }
 
     /// The number of a class, from 1, by its bytes.
-    #[tactic(auto, using(crate::proofs::Positions::position_within))]
     pub fn class(&self, bytes: &[u8]) -> Option<u32>
         ensures { result ≡ option_map suc (number_in self.now.history.classes bytes.now) }
     {
-        match self.classes.get(bytes) {
-            Some(before) => Some(before + 1),
-            None => None,
-        }
+        let before = self.classes.get(bytes)?;
+        Some(before + 1)
     }
 
     /// The number of a test, by its names.
@@ -149,7 +147,6 @@ impl<'a> HistoryIndex<'a> {
 
     /// What is another one, to the history, where the class of this name has a class file of these
     /// bytes: nothing, if the history doesn't name it.
-    #[tactic(auto, using(crate::proofs::Putting::swap_is))]
     pub fn swap(&self, alloc: Global, name: &Name, bytes: &[u8]) -> Result<Option<Swap>, Memory>
         ensures { IfOk result (IsSwap self.now.history name.now bytes.now) }
     {

@@ -69,6 +69,7 @@ impl Lookout {
     /// The look-out for a program of these standings, under these limits; `bounds` has for each test
     /// of the history, by number, how many steps a run of it may take. Each record is looked at
     /// once.
+    #[tactic(auto, using(crate::proofs::Adding::empty_on, crate::proofs::Adding::made))]
     pub fn new(
         alloc: Global,
         index: &HistoryIndex,
@@ -79,8 +80,10 @@ impl Lookout {
         ensures { IfOk result (IsLookout index.now
             (record { limits = limits; bounds = bounds.now }) standings) }
     {
-        let mut lookout = Lookout::empty(alloc, standings, index.tests().len())?;
-        lookout.add_all(index, limits, bounds, index.history().rows())?;
+        let tests = index.tests().len();
+        let rows = index.history().rows();
+        let mut lookout = Lookout::empty(alloc, standings, tests)?;
+        lookout.add_all(index, limits, bounds, rows)?;
         Ok(lookout)
     }
 

@@ -20,10 +20,10 @@ impl<'a> Numbers<'a> {
     fn note(&mut self, slice: &'a [u8], number: u32) -> Result<(), Memory>
         ensures { OnOk result (NotesNumber slice.now number self.old self.new) }
     {
-        let old = self.numbers.insert(slice, number)?;
-        if let Some(first) = old {
-            self.numbers.insert(slice, first)?;
+        if self.numbers.contains_key(slice) {
+            return Ok(());
         }
+        self.numbers.insert(slice, number)?;
         Ok(())
     }
 
@@ -39,9 +39,9 @@ impl<'a> Numbers<'a> {
         let mut numbers = Numbers {
             numbers: BTreeMap::new(alloc),
         };
-        let mut before: usize = 0;
+        let mut before = 0;
         for slice in slices {
-            numbers.note(slice, before as u32)?;
+            numbers.note(slice, before)?;
             before += 1;
         }
         Ok(numbers)

@@ -1,6 +1,6 @@
 //! How many records of a test name a name, from the first on.
 
-ghost use Rattle.std.specs.Prelude.{◌≡◌, OnOk};
+ghost use Rattle.std.specs.Prelude.{◌≡◌, ℕ, OnOk};
 ghost use Rattle.history_index.specs.Firsts.{run_at, SetsRun};
 
 use class_model::Memory;

@@ -61,7 +61,6 @@ impl Standings {
 
     /// The program has one class more, or another one: of this name, with these bytes if it is of a
     /// class file.
-    #[tactic(auto, using(crate::proofs::Putting::put_is))]
     pub fn put(
         &mut self,
         alloc: Global,
