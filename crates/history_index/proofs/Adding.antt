@@ -1,30 +1,23 @@
 -- What a look-out has of one record more.
-use Rattle.std.proofs.Common.{◌≡◌, ◌∙◌, ℕ, zero, suc, ◌+◌, Bool, true, false, cond, List, [], ◌∷◌, ◌++◌, length, Option, Some, None, refl, sym, ap, subst, arith, append-nil}
-use Rattle.std.specs.Prelude.{◌&&◌, not, filter, nat_eq, slice_get, if◌then◌else◌}
+use Rattle.std.proofs.Common.{◌≡◌, ◌∙◌, ℕ, zero, suc, ◌+◌, ◌<◌, Bool, true, false, cond, List, [], ◌∷◌, ◌++◌, get_or, length, take, Option, Some, None, refl, sym, ap, subst, arith, append-nil}
+use Rattle.std.specs.Prelude.{◌&&◌, not, filter, find, nat_eq, option_and_then, slice_get, if◌then◌else◌}
 use Rattle.std.specs.List.{list_all, position_from, prefix_len}
 use Rattle.std.specs.Option.{option_or}
 use Rattle.std.proofs.lemmas.Bool.{eqb-true}
+use Rattle.std.proofs.lemmas.List.{length-take-le, take_more}
 use Rattle.machine_rules.specs.declared.machine.Limits.{Limits}
 use Rattle.history_file.specs.declared.row.Entry.{Entry}
 use Rattle.history_file.specs.declared.row.Row.{Row}
 use Rattle.history_index.specs.declared.lookout.Lookout.{Lookout}
 use Rattle.history_index.specs.Firsts.{first_at, list_at, run_at, whole_at}
-use Rattle.history_index.specs.Numbers.{Indexed, IsIndexed, pair_number, pair_of}
+use Rattle.history_index.specs.Numbers.{Indexed, IsIndexed, is_pair, pair_number, pair_of}
 use Rattle.history_index.specs.Standings.{Standing, listed, standing_with}
-use Rattle.history_index.specs.Lookouts.{AddsApart, AddsOpen, AddsRow, AddsWhole, all_hold, holds, is_apart, is_fit, is_fit_under, is_name_in, is_number, is_open, is_whole, IsEmptyLookout, IsLookout, IsLookoutOn, names, places_from, Question}
-use Rattle.history_index.proofs.Positions.{position_more}
+use Rattle.history_index.specs.Lookouts.{AddsApart, AddsOpen, AddsRow, AddsWhole, all_hold, holds, is_apart, is_fit, is_fit_under, is_name_in, is_number, is_open, is_whole, IsEmptyLookout, IsLookout, IsLookoutOn, names, open_here, open_test, places_from, Question}
+use Rattle.history_index.proofs.Positions.{position_more, position_within, some_is}
 use Rattle.history_index.proofs.Places.{as_many, filter_more, if_passed, places_more, run_more}
 use Rattle.history_index.proofs.Holding.{all_held, miss_is, missed, only_own}
 
--- ---- to which test it is open
-
-open_case : (n : Indexed) (q : Question) (test t : ℕ) (limit : ℕ) (r : Row) (b : Bool) → b ≡ nat_eq test t → slice_get q.bounds test ≡ Some limit → is_fit q.limits limit r ≡ true → b && is_fit_under q.limits r (slice_get q.bounds t) ≡ b
-open_case n q test t limit r false e bound fit = refl
-open_case n q test t limit r true e bound fit =
-    ap (λ k. is_fit_under q.limits r (slice_get q.bounds k)) (sym (eqb-true test t (sym e))) ∙ ap (is_fit_under q.limits r) bound ∙ fit
-
-pub open_is : (n : Indexed) (q : Question) (test limit : ℕ) (r : Row) → pair_number n.tests (pair_of r) ≡ Some test → slice_get q.bounds test ≡ Some limit → is_fit q.limits limit r ≡ true → (t : ℕ) → is_open n q t r ≡ nat_eq test t
-open_is n q test limit r pair bound fit t = ap (λ o. is_number o t && is_fit_under q.limits r (slice_get q.bounds t)) pair ∙ open_case n q test t limit r (nat_eq test t) refl bound fit
+-- ---- whether it is open to a test
 
 abbrev pub IsClosed : Indexed → Question → Row → Type 0
 IsClosed n q r = (t : ℕ) → is_open n q t r ≡ false
@@ -38,12 +31,6 @@ closed_case n q test t r true e none = ap (λ k. is_fit_under q.limits r (slice_
 
 unfit : (n : Indexed) (q : Question) (test : ℕ) (r : Row) → pair_number n.tests (pair_of r) ≡ Some test → is_fit_under q.limits r (slice_get q.bounds test) ≡ false → IsClosed n q r
 unfit n q test r pair none t = ap (λ o. is_number o t && is_fit_under q.limits r (slice_get q.bounds t)) pair ∙ closed_case n q test t r (nat_eq test t) refl none
-
-pub no_bound : (n : Indexed) (q : Question) (test : ℕ) (r : Row) → pair_number n.tests (pair_of r) ≡ Some test → slice_get q.bounds test ≡ None → IsClosed n q r
-no_bound n q test r pair none = unfit n q test r pair (ap (is_fit_under q.limits r) none)
-
-pub no_fit : (n : Indexed) (q : Question) (test limit : ℕ) (r : Row) → pair_number n.tests (pair_of r) ≡ Some test → slice_get q.bounds test ≡ Some limit → is_fit q.limits limit r ≡ false → IsClosed n q r
-no_fit n q test limit r pair bound fit = unfit n q test r pair (ap (is_fit_under q.limits r) bound ∙ fit)
 
 -- ---- one that is open to none
 
@@ -159,3 +146,68 @@ made n q s rows old new indexed was is all on = record {
   standings = is ∙ was;
   on = subst (λ z. IsLookoutOn n q (listed z) n.history.rows new) was (subst (λ rs. IsLookoutOn n q (listed old.standings) rs new) all on);
 }
+
+-- ---- one record more, as it is found
+
+closed_adds : (n : Indexed) (q : Question) (place : ℕ) (r : Row) (l : Lookout) → IsClosed n q r → AddsRow n q place r l l
+closed_adds n q place r l closed = record {
+  standings = refl;
+  on = λ rows at on. closed_on n q (listed l.standings) r l rows closed on;
+}
+
+pair_within : (tests : List (ℕ × ℕ)) (p : ℕ × ℕ) (t : ℕ) → pair_number tests p ≡ Some t → t < length tests
+pair_within tests p t e = position_within (λ z. is_pair z p) t tests e
+
+no_test : (n : Indexed) (q : Question) (r : Row) (o : Option ℕ) → pair_number n.tests (pair_of r) ≡ o → None ≡ option_and_then (open_here q r) o → IsClosed n q r
+no_test n q r None pair none = no_pair n q r pair
+no_test n q r (Some test) pair none = by (is_fit_under q.limits r (slice_get q.bounds test)) refl none
+  where
+    by : (b : Bool) → b ≡ is_fit_under q.limits r (slice_get q.bounds test) → None ≡ (if b then Some test else None) → IsClosed n q r
+    by true e f = absurd cc
+    by false e f = unfit n q test r pair (sym e)
+
+pub add_none : (n : Indexed) (q : Question) (place : ℕ) (r : Row) (l : Lookout) → None ≡ open_test n q r → AddsRow n q place r l l
+add_none n q place r l none = closed_adds n q place r l (no_test n q r (pair_number n.tests (pair_of r)) refl none)
+
+-- what is known of the test to which a record is open
+record IsOpenTo (n : Indexed) (q : Question) (r : Row) (test : ℕ) : Type 0 where
+  pair : pair_number n.tests (pair_of r) ≡ Some test
+  fit : is_fit_under q.limits r (slice_get q.bounds test) ≡ true
+
+open_to : (n : Indexed) (q : Question) (r : Row) (test : ℕ) (o : Option ℕ) → pair_number n.tests (pair_of r) ≡ o → Some test ≡ option_and_then (open_here q r) o → IsOpenTo n q r test
+open_to n q r test None pair some = absurd cc
+open_to n q r test (Some t) pair some = by (is_fit_under q.limits r (slice_get q.bounds t)) refl some
+  where
+    by : (b : Bool) → b ≡ is_fit_under q.limits r (slice_get q.bounds t) → Some test ≡ (if b then Some t else None) → IsOpenTo n q r test
+    by false e f = absurd cc
+    by true e f =
+        let same : t ≡ test = some_is t test (sym f) in
+        subst (IsOpenTo n q r) same (record { pair = pair; fit = sym e })
+
+here_case : (q : Question) (test t : ℕ) (r : Row) (b : Bool) → b ≡ nat_eq test t → is_fit_under q.limits r (slice_get q.bounds test) ≡ true → b && is_fit_under q.limits r (slice_get q.bounds t) ≡ b
+here_case q test t r false e fit = refl
+here_case q test t r true e fit = ap (λ k. is_fit_under q.limits r (slice_get q.bounds k)) (sym (eqb-true test t (sym e))) ∙ fit
+
+opens_to : (n : Indexed) (q : Question) (test : ℕ) (r : Row) → IsOpenTo n q r test → (t : ℕ) → is_open n q t r ≡ nat_eq test t
+opens_to n q test r is t = ap (λ o. is_number o t && is_fit_under q.limits r (slice_get q.bounds t)) is.pair ∙ here_case q test t r (nat_eq test t) refl is.fit
+
+pub add_some : (n : Indexed) (q : Question) (place test : ℕ) (r : Row) (old new : Lookout) → Some test ≡ open_test n q r → AddsOpen test place r.consulted old new → AddsRow n q place r old new
+add_some n q place test r old new some adds = record {
+  standings = adds.standings;
+  on = λ rows at on. open_on n q test place r old new rows (opens_to n q test r (open_to n q r test (pair_number n.tests (pair_of r)) refl some)) at adds on;
+}
+
+pub open_within : (n : Indexed) (q : Question) (test : ℕ) (r : Row) → Some test ≡ open_test n q r → test < length n.tests
+open_within n q test r some = pair_within n.tests (pair_of r) test (open_to n q r test (pair_number n.tests (pair_of r)) refl some).pair
+
+pub none_adds : (test place : ℕ) (es : List Entry) (old new : Lookout) → None ≡ find (λ e. not (holds (listed old.standings) e)) es → AddsWhole test place es old new → AddsOpen test place es old new
+none_adds test place es old new none adds = whole_adds test place es old new (all_held (listed old.standings) es (sym none)) adds
+
+pub miss_adds : (test place : ℕ) (miss : Entry) (es : List Entry) (old new : Lookout) → Some miss ≡ find (λ e. not (holds (listed old.standings) e)) es → AddsApart test place miss es old new → AddsOpen test place es old new
+miss_adds test place miss es old new some adds =
+    let s = listed old.standings in
+    apart_adds test place miss es old new (missed s (holds s) miss es (miss_is s miss es (sym some)) (sym some)) (λ k c. only_own s miss es k c (sym some)) adds
+
+pub all_step : (n : Indexed) (q : Question) (rows : List Row) (i place : ℕ) (d : Row) (s : List (Option ℕ)) (old new : Lookout) → i < length rows → place ≡ i → old.standings ≡ s → IsLookoutOn n q (listed s) (take i rows) old → AddsRow n q place (get_or rows i d) old new → IsLookoutOn n q (listed s) (take (i + 1) rows) new
+all_step n q rows i place d s old new lt at is on adds =
+    subst (λ rs. IsLookoutOn n q (listed s) rs new) (sym (take_more rows i d lt)) (all_more n q place (get_or rows i d) s old new (take i rows) adds (length-take-le i rows (omega (arith, lt)) ∙ sym at) is on)

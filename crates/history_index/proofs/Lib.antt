@@ -7,5 +7,6 @@ mod Noting
 mod Testing
 mod Matched
 mod Putting
+mod Lengths
 mod Adding
 mod Looking

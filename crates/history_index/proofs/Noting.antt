@@ -1,11 +1,12 @@
 -- Slices by number, with one slice more.
-use Rattle.std.proofs.Common.{◌≡◌, ◌∙◌, ℕ, ◌+◌, Bool, true, false, cond, List, [], ◌∷◌, ◌++◌, length, map, take, Option, Some, None, refl, sym, ap, subst, arith}
+use Rattle.std.proofs.Common.{◌≡◌, ◌∙◌, ℕ, ◌+◌, ◌<◌, Bor, Bool, get_or, true, false, cond, List, [], ◌∷◌, ◌++◌, length, map, take, Option, Some, None, refl, sym, ap, subst, arith}
 use Rattle.std.specs.Prelude.{is_some, if◌then◌else◌}
 use Rattle.std.specs.List.{position_from}
 use Rattle.std.specs.Option.{option_or}
 use Rattle.std.specs.BTreeMap as tree
 use Rattle.std.specs.Cmp.Lexicographic.{slice_cmp}
 use Rattle.std.specs.Ordering.{nat_cmp}
+use Rattle.std.proofs.lemmas.List.{length-map, length-take-le, map-append, take_more}
 use Rattle.std.proofs.lemmas.Map.Text.{btree_map_updates_str}
 use Rattle.program_rules.specs.Names.{same}
 use Rattle.history_rules.proofs.Pools.{bytes_are}
@@ -52,3 +53,14 @@ pub number_more : (xs : List (List ℕ)) (x q : List ℕ) → number_in (xs ++ x
 number_more xs x q =
     let from : 0 + length xs ≡ length xs = omega arith in
     position_more (λ s. same s q) 0 xs x ∙ ap (λ (j : ℕ). option_or (number_in xs q) (if same x q then Some j else None)) from
+
+pub numbers_step : (xs : List (Bor (List ℕ))) (i before : ℕ) (d : Bor (List ℕ)) (old new : Numbers) → i < length xs → before ≡ i → ((q : List ℕ) → number_at old q ≡ number_in (map (λ s. s.now) (take i xs)) q) → NotesNumber (get_or xs i d).now before old new → (q : List ℕ) → number_at new q ≡ number_in (map (λ s. s.now) (take (i + 1) xs)) q
+numbers_step xs i before d old new lt at known notes q =
+    let front = map (λ (s : Bor (List ℕ)). s.now) (take i xs) in
+    let x = (get_or xs i d).now in
+    let many : length front ≡ i = length-map (take i xs) (λ s. s.now) ∙ length_take i xs lt in
+    let is : map (λ (s : Bor (List ℕ)). s.now) (take (i + 1) xs) ≡ front ++ x ∷ [] = ap (map (λ (s : Bor (List ℕ)). s.now)) (take_more xs i d lt) ∙ map-append (λ s. s.now) (take i xs) (get_or xs i d ∷ []) in
+    notes q ∙ ap (λ o. option_or o (if same x q then Some before else None)) (known q) ∙ ap (λ (j : ℕ). option_or (number_in front q) (if same x q then Some j else None)) (at ∙ sym many) ∙ sym (number_more front x q) ∙ ap (λ zs. number_in zs q) (sym is)
+  where
+    length_take : (n : ℕ) (ys : List (Bor (List ℕ))) → n < length ys → length (take n ys) ≡ n
+    length_take n ys l = length-take-le n ys (omega (arith, l))

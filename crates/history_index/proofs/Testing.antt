@@ -1,11 +1,12 @@
 -- Tests by number, with one test more.
-use Rattle.std.proofs.Common.{◌≡◌, ◌∙◌, ℕ, ◌+◌, Bool, true, false, cond, List, [], ◌∷◌, ◌++◌, length, Option, Some, None, refl, sym, ap, subst, arith}
+use Rattle.std.proofs.Common.{◌≡◌, ◌∙◌, ℕ, ◌+◌, ◌<◌, Bool, true, false, cond, List, [], ◌∷◌, ◌++◌, get_or, length, take, Option, Some, None, refl, sym, ap, subst, arith}
 use Rattle.std.specs.Prelude.{◌&&◌, All, is_some, IsTrue, nat_eq, if◌then◌else◌}
 use Rattle.std.specs.List.{position_from}
 use Rattle.std.specs.Option.{option_or}
 use Rattle.std.specs.BTreeMap.{Updates, get}
 use Rattle.std.specs.Ordering.{nat_cmp, ordering_then}
-use Rattle.std.proofs.lemmas.Bool.{eqb-true, eq-eqb}
+use Rattle.std.proofs.lemmas.Bool.{and_parts, eqb-true, eq-eqb}
+use Rattle.std.proofs.lemmas.List.{take_more}
 use Rattle.std.proofs.lemmas.List.Elements.{All-nil, All-cons, All-head, All-tail}
 use Rattle.history_file.specs.declared.row.Row.{Row}
 use Rattle.history_index.specs.declared.pairs.Pairs.{Pairs}
@@ -33,12 +34,7 @@ new_case false None n h = refl
 new_case false (Some x) n h = refl
 
 both_same : (p q : ℕ × ℕ) → nat_eq p.0 q.0 && nat_eq p.1 q.1 ≡ true → p ≡ q
-both_same (a, b) (c, d) h = by (nat_eq a c) (nat_eq b d) refl refl h
-  where
-    by : (x y : Bool) → x ≡ nat_eq a c → y ≡ nat_eq b d → x && y ≡ true → (a, b) ≡ (c, d)
-    by true true e f g = ap (λ z. (z, b)) (eqb-true a c (sym e)) ∙ ap (λ z. (c, z)) (eqb-true b d (sym f))
-    by true false e f g = absurd cc
-    by false y e f g = absurd cc
+both_same p q h = λ i. ((eqb-true p.0 q.0 (and_parts (nat_eq p.0 q.0) (nat_eq p.1 q.1) h).0) i, (eqb-true p.1 q.1 (and_parts (nat_eq p.0 q.0) (nat_eq p.1 q.1) h).1) i)
 
 -- one test more, behind the others
 number_more : (xs : List (ℕ × ℕ)) (x q : ℕ × ℕ) → pair_number (xs ++ x ∷ []) q ≡ option_or (pair_number xs q) (cond (is_pair x q) (Some (length xs)) None)
@@ -58,15 +54,21 @@ own_or o false n e = absurd cc
 own_or None true n e = refl
 own_or (Some x) true n e = refl
 
-pub pair_new : (pair : ℕ × ℕ) (old new : Pairs) → ArePairs old → is_some (found old pair) ≡ false → Updates (λ x y. ordering_then (nat_cmp x.0 y.0) (nat_cmp x.1 y.1)) old.numbers new.numbers pair (Some (length (pairs_in old))) → pairs_in new ≡ pairs_in old ++ pair ∷ [] → AddsPair pair old new
-pair_new pair old new known none sets pairs = record {
+pair_new_at : (pair : ℕ × ℕ) (old new : Pairs) → ArePairs old → is_some (found old pair) ≡ false → Updates (λ x y. ordering_then (nat_cmp x.0 y.0) (nat_cmp x.1 y.1)) old.numbers new.numbers pair (Some (length (pairs_in old))) → pairs_in new ≡ pairs_in old ++ pair ∷ [] → AddsPair pair old new
+pair_new_at pair old new known none sets pairs = record {
   known = λ q.
       sets.0 q ∙ ap (λ b. cond b (Some (length (pairs_in old))) (found old q)) (pair_is pair.0 q.0 pair.1 q.1) ∙ new_case (is_pair pair q) (found old q) (length (pairs_in old)) (λ e. subst (λ z. is_some (found old z) ≡ false) (both_same pair q e) none) ∙ ap (λ o. option_or o (cond (is_pair pair q) (Some (length (pairs_in old))) None)) (known q) ∙ sym (number_more (pairs_in old) pair q) ∙ ap (λ xs. pair_number xs q) (sym pairs);
   there = subst (λ xs. IsTrue (is_some (pair_number xs pair))) (sym pairs) (subst (λ o. IsTrue (is_some o)) (sym (number_more (pairs_in old) pair pair)) (own_or (pair_number (pairs_in old) pair) (is_pair pair pair) (length (pairs_in old)) (pair_self pair)));
   kept = λ q h. subst (λ xs. IsTrue (is_some (pair_number xs q))) (sym pairs) (subst (λ o. IsTrue (is_some o)) (sym (number_more (pairs_in old) pair q)) (some_or (pair_number (pairs_in old) q) (cond (is_pair pair q) (Some (length (pairs_in old))) None) h));
 }
 
+pub pair_new : (pair : ℕ × ℕ) (n : ℕ) (old new : Pairs) → ArePairs old → is_some (found old pair) ≡ false → n ≡ length (pairs_in old) → Updates (λ x y. ordering_then (nat_cmp x.0 y.0) (nat_cmp x.1 y.1)) old.numbers new.numbers pair (Some n) → pairs_in new ≡ pairs_in old ++ pair ∷ [] → AddsPair pair old new
+pair_new pair n old new known none many sets pairs = pair_new_at pair old new known none (subst (λ m. Updates (λ x y. ordering_then (nat_cmp x.0 y.0) (nat_cmp x.1 y.1)) old.numbers new.numbers pair (Some m)) many sets) pairs
+
 -- records whose tests had numbers have them still
 pub pairs_more : (r : Row) (old new : Pairs) (rows : List Row) → AddsPair (r.test_class, r.test_method) old new → All (HasPair (pairs_in old)) rows → All (HasPair (pairs_in new)) (rows ++ r ∷ [])
 pairs_more r old new [] adds all = All-cons (HasPair (pairs_in new)) r [] adds.there (All-nil (HasPair (pairs_in new)))
 pairs_more r old new (x ∷ rows) adds all = All-cons (HasPair (pairs_in new)) x (rows ++ r ∷ []) (adds.kept (pair_of x) (All-head (HasPair (pairs_in old)) x rows all)) (pairs_more r old new rows adds (All-tail (HasPair (pairs_in old)) x rows all))
+
+pub pairs_step : (rows : List Row) (i : ℕ) (d : Row) (old new : Pairs) → i < length rows → All (HasPair (pairs_in old)) (take i rows) → AddsPair ((get_or rows i d).test_class, (get_or rows i d).test_method) old new → All (HasPair (pairs_in new)) (take (i + 1) rows)
+pairs_step rows i d old new lt all adds = subst (All (HasPair (pairs_in new))) (sym (take_more rows i d lt)) (pairs_more (get_or rows i d) old new (take i rows) adds all)

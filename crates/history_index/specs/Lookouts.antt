@@ -66,6 +66,14 @@ is_open n q test r =
     is_number (pair_number n.tests (pair_of r)) test
     && is_fit_under q.limits r (slice_get q.bounds test)
 
+-- The test to which a record is open, if there is one.
+abbrev pub open_here : Question → Row → ℕ → Option ℕ
+open_here q r test =
+    if is_fit_under q.limits r (slice_get q.bounds test) then Some test else None
+
+abbrev pub open_test : Indexed → Question → Row → Option ℕ
+open_test n q r = option_and_then (open_here q r) (pair_number n.tests (pair_of r))
+
 -- It matches the test's run on the program.
 abbrev pub is_whole : Indexed → Question → Standing → ℕ → Row → Bool
 is_whole n q s test r = is_open n q test r && all_hold s r
@@ -154,6 +162,14 @@ pub record AddsRow (n : Indexed) (q : Question) (place : ℕ) (r : Row) (old new
   pub on :
       (rows : List Row) → length rows ≡ place → IsLookoutOn n q (listed old.standings) rows old →
       IsLookoutOn n q (listed old.standings) (rows ++ r ∷ []) new
+
+-- A length that one record more makes, behind so many: of a name that it names.
+abbrev pub LengthensOne : ℕ → ℕ → ℕ → ℕ → Runs → Runs → Type 0
+LengthensOne test before after name old new =
+    (t k : ℕ) →
+    run_at new t k
+    ≡ (if nat_eq test t && (nat_eq name k && nat_eq (run_at old t k) before)
+    then after else run_at old t k)
 
 -- Lengths that one record more makes, behind so many: of the names that it names.
 abbrev pub Lengthens : ℕ → ℕ → List Entry → Runs → Runs → Type 0

@@ -24,7 +24,7 @@ impl Firsts {
     }
 
     /// Keeps a place, if none is kept.
-    #[tactic(auto, using(crate::proofs::Keys::note_kept, crate::proofs::Keys::note_new))]
+    #[tactic(auto, using(crate::proofs::Keys::note_kept))]
     pub fn note(&mut self, test: usize, name: u32, class: u32, place: usize) -> Result<(), Memory>
         ensures { OnOk result (Notes test name class place self.old self.new) }
     {

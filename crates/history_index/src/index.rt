@@ -87,7 +87,7 @@ impl<'a> HistoryIndex<'a> {
         ensures number { IfOk result (λ k. k ≡ name_number self.now.history.texts name.now) }
         ensures known { IsNumbered self.now.history }
     {
-        let _ = &self.history;
+        let _tests = self.tests();
         let text = write_text(alloc, name)?;
         let bytes = text.as_slice();
         let spelled = is_spelled(alloc, name, bytes)?;

@@ -1,11 +1,12 @@
 //! Which records match the runs of a program, or would if one class were another.
 
-ghost use Rattle.std.specs.Prelude.{◌≡◌, ◌<◌, ℕ, length, List, [], Option, slice_get, option_and_then, IfOk, OnOk};
+ghost use Rattle.std.specs.Prelude.{◌≡◌, ◌<◌, ℕ, suc, nat_eq, length, List, [], Option, slice_get, option_and_then, IfOk, OnOk};
 ghost use Rattle.record_rules.specs.Records.{Asked};
-ghost use Rattle.history_index.specs.Firsts.{first_at, whole_at};
+ghost use Rattle.history_index.specs.Firsts.{first_at, run_at, whole_at};
 ghost use Rattle.history_index.specs.Numbers.{Indexed};
 ghost use Rattle.history_index.specs.Lookouts.{AddsApart, AddsOpen, AddsRow, AddsWhole, AreEmptyLists};
-ghost use Rattle.history_index.specs.Lookouts.{IsAskedBy, IsLookoutOn, is_same};
+ghost use Rattle.history_index.specs.Lookouts.{IsAskedBy, IsLookoutOn, LengthensOne, is_fit_under};
+ghost use Rattle.history_index.specs.Lookouts.{is_same, open_here, open_test};
 ghost use Rattle.history_index.specs.Standings.{listed};
 ghost use Rattle.history_index.specs.Lookouts.{IsEmptyLookout, IsFirstMatch, IsLookout, Lengthens};
 ghost use Rattle.history_index.specs.Lookouts.{Question, earlier, place_of_test, place_swapped, place_told};
@@ -42,6 +43,36 @@ fn earlier(one: Option<usize>, other: Option<usize>) -> Option<usize>
         (Some(a), Some(b)) => Some(if b < a { b } else { a }),
         (None, place) => place,
         (place, None) => place,
+    }
+}
+
+// Whether the limits are a record's, and its steps fit the bound of its test, if there is one.
+fn is_fit_under(limits: Limits, row: &Row, bound: Option<u64>) -> bool
+    ensures { result ≡ is_fit_under limits row.now bound }
+{
+    match bound {
+        Some(limit) => is_fit(limits, limit, row),
+        None => false,
+    }
+}
+
+// The test to whose runs a record is open.
+fn open_test(index: &HistoryIndex, limits: Limits, bounds: &[u64], row: &Row) -> Option<usize>
+    ensures { result ≡ open_test index.now (record { limits = limits; bounds = bounds.now }) row.now }
+{
+    match index.test_of(row) {
+        Some(test) => open_here(limits, bounds, row, test),
+        None => None,
+    }
+}
+
+fn open_here(limits: Limits, bounds: &[u64], row: &Row, test: usize) -> Option<usize>
+    ensures { result ≡ open_here (record { limits = limits; bounds = bounds.now }) row.now test }
+{
+    if is_fit_under(limits, row, bounds.get(test).copied()) {
+        Some(test)
+    } else {
+        None
     }
 }
 
@@ -100,7 +131,6 @@ impl Lookout {
     }
 
     // All of these records, of no others.
-    #[tactic(auto, using(crate::proofs::Adding::all_more))]
     fn add_all(
         &mut self,
         index: &HistoryIndex,
@@ -124,7 +154,6 @@ impl Lookout {
     }
 
     // One record more, of this place.
-    #[tactic(auto, using(crate::proofs::Adding::closed_on, crate::proofs::Adding::open_on))]
     fn add(
         &mut self,
         index: &HistoryIndex,
@@ -137,27 +166,29 @@ impl Lookout {
         ensures { OnOk result (AddsRow index.now
             (record { limits = limits; bounds = bounds.now }) place row.now self.old self.new) }
     {
-        let Some(test) = index.test_of(row) else {
-            return Ok(());
-        };
-        let Some(limit) = bounds.get(test) else {
-            return Ok(());
-        };
-        if !is_fit(limits, *limit, row) {
-            return Ok(());
+        match open_test(index, limits, bounds, row) {
+            Some(test) => {
+                self.add_open(test, place, row.consulted.as_slice())?;
+                Ok(())
+            }
+            None => Ok(()),
         }
-        self.add_open(test, place, row.consulted.as_slice())
     }
 
-    // The same of a record that has the limits of its test.
-    #[tactic(auto, using(crate::proofs::Adding::whole_adds, crate::proofs::Adding::apart_adds))]
+    // The same of a record that is open to a test.
     fn add_open(&mut self, test: usize, place: usize, consulted: &[Entry]) -> Result<(), Memory>
         requires { test < length self.old.whole.items }
         ensures { OnOk result (AddsOpen test place consulted.now self.old self.new) }
     {
         match first_miss(&self.standings, consulted) {
-            None => self.add_whole(test, place, consulted),
-            Some(miss) => self.add_apart(test, place, miss, consulted),
+            None => {
+                self.add_whole(test, place, consulted)?;
+                Ok(())
+            }
+            Some(miss) => {
+                self.add_apart(test, place, miss, consulted)?;
+                Ok(())
+            }
         }
     }
 
@@ -167,8 +198,9 @@ impl Lookout {
         ensures { OnOk result (AddsWhole test place consulted.now self.old self.new) }
     {
         let before = self.whole[test].len();
-        lengthen(&mut self.runs, test, before, consulted)?;
         self.whole[test].push(place)?;
+        let after = self.whole[test].len();
+        lengthen(&mut self.runs, test, before, after, consulted)?;
         Ok(())
     }
 
@@ -249,14 +281,43 @@ impl Lookout {
     }
 }
 
-// One record more, behind so many, names these names.
-fn lengthen(runs: &mut Runs, test: usize, before: usize, consulted: &[Entry]) -> Result<(), Memory>
+// Whether the run of a test and a name is so long.
+fn is_run(runs: &Runs, test: usize, name: u32, len: usize) -> bool
+    ensures { result ≡ nat_eq (run_at runs.now test name) len }
+{
+    runs.get(test, name) == len
+}
+
+// One record more of a test, behind so many, names this name.
+fn lengthen_one(
+    runs: &mut Runs,
+    test: usize,
+    before: usize,
+    after: usize,
+    name: u32,
+) -> Result<(), Memory>
+    ensures { OnOk result (LengthensOne test before after name runs.old runs.new) }
+{
+    if !is_run(runs, test, name, before) {
+        return Ok(());
+    }
+    runs.set(test, name, after)?;
+    Ok(())
+}
+
+// The same of these names.
+fn lengthen(
+    runs: &mut Runs,
+    test: usize,
+    before: usize,
+    after: usize,
+    consulted: &[Entry],
+) -> Result<(), Memory>
+    requires { after ≡ suc before }
     ensures { OnOk result (Lengthens test before consulted.now runs.old runs.new) }
 {
     for entry in consulted {
-        if runs.get(test, entry.name) == before {
-            runs.set(test, entry.name, before + 1)?;
-        }
+        lengthen_one(runs, test, before, after, entry.name)?;
     }
     Ok(())
 }

@@ -16,7 +16,7 @@ pub struct Numbers<'a> {
 
 impl<'a> Numbers<'a> {
     // One slice more, whose number is kept if it has none yet.
-    #[tactic(auto, using(crate::proofs::Noting::noted_again, crate::proofs::Noting::noted_first))]
+    #[tactic(auto, using(crate::proofs::Noting::noted_again))]
     fn note(&mut self, slice: &'a [u8], number: u32) -> Result<(), Memory>
         ensures { OnOk result (NotesNumber slice.now number self.old self.new) }
     {
@@ -28,7 +28,6 @@ impl<'a> Numbers<'a> {
     }
 
     /// How many slices stand before each. Where there are 2^32 or more, memory runs out.
-    #[tactic(auto, using(crate::proofs::Noting::number_more))]
     pub fn of(alloc: Global, slices: &[&'a [u8]]) -> Result<Numbers<'a>, Memory>
         ensures numbers { IfOk result (AreNumbersOf (map (λ s. s.now) slices.now)) }
         ensures few { IfOk result (λ _. length slices.now < 2 ^ 32) }

@@ -28,7 +28,7 @@ impl Pairs {
     }
 
     // One test more, if it isn't there.
-    #[tactic(auto, using(crate::proofs::Testing::pair_kept, crate::proofs::Testing::pair_new))]
+    #[tactic(auto, using(crate::proofs::Testing::pair_kept))]
     fn add(&mut self, pair: (u32, u32)) -> Result<(), Memory>
         requires { ArePairs self.old }
         ensures { OnOk result (AddsPair pair self.old self.new) }
@@ -42,7 +42,6 @@ impl Pairs {
     }
 
     /// The tests of these records.
-    #[tactic(auto, using(crate::proofs::Testing::pairs_more))]
     pub fn of(alloc: Global, rows: &[Row]) -> Result<Pairs, Memory>
         ensures { IfOk result (λ p. ArePairs p × All (HasPair (pairs_in p)) rows.now) }
     {

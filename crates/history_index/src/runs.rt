@@ -24,7 +24,6 @@ impl Runs {
     }
 
     /// Sets a length.
-    #[tactic(auto, using(crate::proofs::Keys::run_set))]
     pub fn set(&mut self, test: usize, name: u32, len: usize) -> Result<(), Memory>
         ensures { OnOk result (SetsRun test name len self.old self.new) }
     {
