@@ -208,6 +208,6 @@ miss_adds test place miss es old new some adds =
     let s = listed old.standings in
     apart_adds test place miss es old new (missed s (holds s) miss es (miss_is s miss es (sym some)) (sym some)) (λ k c. only_own s miss es k c (sym some)) adds
 
-pub all_step : (n : Indexed) (q : Question) (rows : List Row) (i place : ℕ) (d : Row) (s : List (Option ℕ)) (old new : Lookout) → i < length rows → place ≡ i → old.standings ≡ s → IsLookoutOn n q (listed s) (take i rows) old → AddsRow n q place (get_or rows i d) old new → IsLookoutOn n q (listed s) (take (i + 1) rows) new
-all_step n q rows i place d s old new lt at is on adds =
-    subst (λ rs. IsLookoutOn n q (listed s) rs new) (sym (take_more rows i d lt)) (all_more n q place (get_or rows i d) s old new (take i rows) adds (length-take-le i rows (omega (arith, lt)) ∙ sym at) is on)
+pub all_step : (n : Indexed) (q : Question) (rows : List Row) (i place : ℕ) (r : Row) (s : List (Option ℕ)) (old new : Lookout) → i < length rows → r ≡ get_or rows i r → place ≡ i → old.standings ≡ s → IsLookoutOn n q (listed s) (take i rows) old → AddsRow n q place r old new → IsLookoutOn n q (listed s) (take (i + 1) rows) new
+all_step n q rows i place r s old new lt item at is on adds =
+    subst (λ rs. IsLookoutOn n q (listed s) rs new) (ap (λ x. take i rows ++ x ∷ []) item ∙ sym (take_more rows i r lt)) (all_more n q place r s old new (take i rows) adds (length-take-le i rows (omega (arith, lt)) ∙ sym at) is on)

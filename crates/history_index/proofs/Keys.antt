@@ -28,8 +28,12 @@ and_same a b c d e f = ap (λ x. x && c) e ∙ ap (λ x. b && x) f
 pub pair_is : (a b c d : ℕ) → is_eq (ordering_then (nat_cmp a b) (nat_cmp c d)) ≡ nat_eq a b && nat_eq c d
 pair_is a b c d = then_is (nat_cmp a b) (nat_cmp c d) ∙ and_same _ _ _ _ (number_is a b) (number_is c d)
 
-pub triple_is : (a b c d e f : ℕ) → is_eq (ordering_then (nat_cmp a b) (ordering_then (nat_cmp c d) (nat_cmp e f))) ≡ nat_eq a b && (nat_eq c d && nat_eq e f)
-triple_is a b c d e f = then_is (nat_cmp a b) (ordering_then (nat_cmp c d) (nat_cmp e f)) ∙ and_same _ _ _ _ (number_is a b) (pair_is c d e f)
+assoc : (x y z : Bool) → (x && y) && z ≡ x && (y && z)
+assoc true y z = refl
+assoc false y z = refl
+
+pub triple_is : (a b c d e f : ℕ) → is_eq (ordering_then (ordering_then (nat_cmp a b) (nat_cmp c d)) (nat_cmp e f)) ≡ nat_eq a b && (nat_eq c d && nat_eq e f)
+triple_is a b c d e f = then_is (ordering_then (nat_cmp a b) (nat_cmp c d)) (nat_cmp e f) ∙ and_same _ _ _ _ (pair_is a b c d) (number_is e f) ∙ assoc (nat_eq a b) (nat_eq c d) (nat_eq e f)
 
 -- ---- first places
 
@@ -62,7 +66,7 @@ note_kept test name class place f is t k c = by (nat_eq test t && (nat_eq name k
     by true e = kept_or (first_at f t k c) (Some place) (three_same test name class t k c (sym e) (λ x y z. is_some (first_at f x y z) ≡ true) is)
     by false e = or_none (first_at f t k c)
 
-pub note_new : (test name class place : ℕ) (old new : Firsts) → is_some (first_at old test name class) ≡ false → Updates (λ x y. ordering_then (nat_cmp x.0 y.0) (ordering_then (nat_cmp x.1 y.1) (nat_cmp x.2 y.2))) old.places new.places (test, name, class) (Some place) → Notes test name class place old new
+pub note_new : (test name class place : ℕ) (old new : Firsts) → is_some (first_at old test name class) ≡ false → Updates (λ x y. ordering_then (ordering_then (nat_cmp x.0 y.0) (nat_cmp x.1 y.1)) (nat_cmp x.2 y.2)) old.places new.places (test, name, class) (Some place) → Notes test name class place old new
 note_new test name class place old new none sets t k c =
     sets.0 (t, k, c) ∙ ap (λ b. cond b (Some place) (first_at old t k c)) (triple_is test t name k class c) ∙ by (nat_eq test t && (nat_eq name k && nat_eq class c)) refl
   where

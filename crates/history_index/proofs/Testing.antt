@@ -70,5 +70,5 @@ pub pairs_more : (r : Row) (old new : Pairs) (rows : List Row) → AddsPair (r.t
 pairs_more r old new [] adds all = All-cons (HasPair (pairs_in new)) r [] adds.there (All-nil (HasPair (pairs_in new)))
 pairs_more r old new (x ∷ rows) adds all = All-cons (HasPair (pairs_in new)) x (rows ++ r ∷ []) (adds.kept (pair_of x) (All-head (HasPair (pairs_in old)) x rows all)) (pairs_more r old new rows adds (All-tail (HasPair (pairs_in old)) x rows all))
 
-pub pairs_step : (rows : List Row) (i : ℕ) (d : Row) (old new : Pairs) → i < length rows → All (HasPair (pairs_in old)) (take i rows) → AddsPair ((get_or rows i d).test_class, (get_or rows i d).test_method) old new → All (HasPair (pairs_in new)) (take (i + 1) rows)
-pairs_step rows i d old new lt all adds = subst (All (HasPair (pairs_in new))) (sym (take_more rows i d lt)) (pairs_more (get_or rows i d) old new (take i rows) adds all)
+pub pairs_step : (rows : List Row) (i : ℕ) (r : Row) (old new : Pairs) → i < length rows → r ≡ get_or rows i r → All (HasPair (pairs_in old)) (take i rows) → AddsPair (r.test_class, r.test_method) old new → All (HasPair (pairs_in new)) (take (i + 1) rows)
+pairs_step rows i r old new lt is all adds = subst (All (HasPair (pairs_in new))) (ap (λ x. take i rows ++ x ∷ []) is ∙ sym (take_more rows i r lt)) (pairs_more r old new (take i rows) adds all)

@@ -12,7 +12,7 @@ use Rattle.history_index.specs.declared.lookout.Lookout.{Lookout}
 -- The place that is kept of a test, a name and a class.
 abbrev pub first_at : Firsts → ℕ → ℕ → ℕ → Option ℕ
 first_at f t k c =
-    get (λ x y. ordering_then (nat_cmp x.0 y.0) (ordering_then (nat_cmp x.1 y.1) (nat_cmp x.2 y.2)))
+    get (λ x y. ordering_then (ordering_then (nat_cmp x.0 y.0) (nat_cmp x.1 y.1)) (nat_cmp x.2 y.2))
     f.places (t, k, c)
 
 -- A place is kept, unless one was.

@@ -8,7 +8,7 @@ use Rattle.history_index.proofs.pairs.Pairs.of.Goals as goal
 pub loop-row-preserved : goal.loop-row-preserved
 loop-row-preserved c = record {
   known = c.in_ok-add.ensures.known;
-  has = pairs_step c.args.rows.now c.loop-row.row-index _ c.loop-row.pairs c.add.new.self c.loop-row-test.true c.loop-row.invariant.has c.in_ok-add.ensures;
+  has = pairs_step c.args.rows.now c.loop-row.row-index c.row-item.result c.loop-row.pairs c.add.new.self c.loop-row-test.true c.row-item.is c.loop-row.invariant.has c.in_ok-add.ensures;
 }
 
 pub returns : goal.returns
