@@ -1,0 +1,12 @@
+mod Keys
+mod Positions
+mod Places
+mod Holding
+mod Named
+mod Noting
+mod Testing
+mod Matched
+mod Putting
+mod Lengths
+mod Adding
+mod Looking

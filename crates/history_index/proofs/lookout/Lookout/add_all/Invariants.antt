@@ -1,0 +1,11 @@
+use Rattle.std.proofs.Common.{◌≡◌, take}
+use Rattle.history_index.specs.Lookouts.{IsLookoutOn}
+use Rattle.history_index.specs.Standings.{listed}
+use Rattle.history_index.proofs.lookout.Lookout.add_all.Given as goal
+
+abbrev pub invariant-loop-row : goal.invariant-loop-row
+invariant-loop-row l = record {
+  place : l.place ≡ l.row-index;
+  standings : l.self.standings ≡ l.fn.self.standings;
+  on : IsLookoutOn l.index (record { limits = l.limits; bounds = l.bounds }) (listed l.fn.self.standings) (take l.row-index l.rows) l.self;
+}

@@ -1,0 +1,4 @@
+pub mod Numbers
+pub mod Standings
+pub mod Firsts
+pub mod Lookouts
