@@ -1,0 +1,95 @@
+//! The names that a run has consulted, with the bytes of their class files and the places of their
+//! classes.
+
+ghost use Rattle.std.specs.Prelude.{◌≡◌, ◌<◌, ◌^◌, ◌∷◌, ◌++◌, [], length, None, Some, IfOk, OnOk, if◌then◌else◌};
+ghost use Rattle.std.specs.BTreeMap.{get};
+ghost use Rattle.std.specs.Option.{option_or, option_copied};
+ghost use Rattle.std.specs.Ordering.{nat_cmp};
+ghost use Rattle.program_rules.specs.Names.{Name};
+ghost use Rattle.run_records.specs.Asking.{bytes_of};
+ghost use Rattle.run_records.specs.Places.{AddsName, HasPlaces, Keeps, SetsPlace, place_of};
+
+use crate::class_files::bytes_in;
+use class_model::{ClassId, Memory, Name, Seq, SharedBytes};
+use class_table::{ClassInfo, Program};
+use std::alloc::Global;
+use std::collections::BTreeMap;
+
+/// Consulted names, in order.
+#[derive(Drop)]
+pub struct Consulted {
+    /// Each with the bytes of its class file, if there is one.
+    pub entries: Vec<(Name, Option<SharedBytes>)>,
+    // for a class by its number the place of its name among these
+    places: BTreeMap<u32, u32>,
+}
+
+// The bytes of a class's file, once more.
+fn bytes_of(info: &ClassInfo) -> Result<Option<SharedBytes>, Memory>
+    ensures { IfOk result (λ bytes. bytes ≡ bytes_of info.now) }
+{
+    match bytes_in(info.body()) {
+        Some(bytes) => Ok(Some(bytes.copy()?)),
+        None => Ok(None),
+    }
+}
+
+// Keeps the place of a class, if none is kept.
+fn set_place(places: &mut BTreeMap<u32, u32>, class: u32, place: u32) -> Result<(), Memory>
+    ensures { OnOk result (SetsPlace class place places.old places.new) }
+{
+    if places.get(&class).is_none() {
+        places.insert(class, place)?;
+    }
+    Ok(())
+}
+
+impl Consulted {
+    // One more name.
+    fn add(&mut self, p: &Program, name: Name) -> Result<(), Memory>
+        requires few { length self.old.entries.items < 2 ^ 32 }
+        requires places { HasPlaces p.now self.old }
+        ensures { OnOk result (AddsName p.now name self.old self.new) }
+    {
+        let _form = p.len();
+        let place = self.entries.len() as u32;
+        let bytes = match p.find(&name) {
+            Some(id) => {
+                set_place(&mut self.places, id.0, place)?;
+                bytes_of(p.info(id))?
+            }
+            None => None,
+        };
+        self.entries.push((name, bytes))?;
+        Ok(())
+    }
+
+    /// These names. Where there are 2^32 or more, memory runs out.
+    pub fn new(alloc: Global, p: &Program, names: Seq<Name>) -> Result<Consulted, Memory>
+        ensures few { IfOk result (λ c. length c.entries.items < 2 ^ 32) }
+        ensures kept { IfOk result (Keeps p.now names) }
+    {
+        if names.len() > u32::MAX as usize {
+            return Err(Memory);
+        }
+        let mut kept = Consulted {
+            entries: Vec::with_capacity(alloc, names.len())?,
+            places: BTreeMap::new(alloc),
+        };
+        for name in names.into_vec() {
+            kept.add(p, name)?;
+        }
+        Ok(kept)
+    }
+
+    /// The place of the name of a class of this number; how many names there are, if it has none.
+    pub fn place_of(&self, class: ClassId) -> u32
+        requires { length self.now.entries.items < 2 ^ 32 }
+        ensures { result ≡ place_of self.now class.0 }
+    {
+        match self.places.get(&class.0) {
+            Some(place) => *place,
+            None => self.entries.len() as u32,
+        }
+    }
+}

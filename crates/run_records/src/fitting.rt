@@ -1,0 +1,135 @@
+//! Whether the texts and the counts of a record fit their fields in a file.
+
+ghost use Rattle.std.specs.Prelude.{◌≡◌, ◌≤◌, ◌<◌, ◌^◌, ◌↔◌, All, length, IsTrue};
+ghost use Rattle.class_model.specs.Text.{text, unit_bytes};
+ghost use Rattle.history_rules.specs.Items.{IsText};
+ghost use Rattle.history_rules.specs.Reading.{is_high, is_low, is_paired, is_paired_from};
+ghost use Rattle.history_rules.specs.Laws.{HasShortClass};
+ghost use Rattle.history_rules.specs.Spelling.{IsOutcome, IsToldCause};
+ghost use Rattle.run_records.specs.Fitting.{FitsEntry, HasRoom};
+
+use class_model::{Cause, Name, Outcome, SharedBytes};
+use record_rules::RunRecord;
+
+// ---- texts
+
+// The longest name that surely fits: each unit takes three bytes at most.
+const SURE: usize = 21_845;
+
+// The bytes of a unit in modified UTF-8 (JVMS 4.4.7).
+fn unit_len(unit: u16) -> usize
+    ensures length { result ≡ length (unit_bytes unit) }
+    ensures most { result ≤ 3 }
+{
+    if 0 < unit && unit < 0x80 {
+        1
+    } else if unit < 0x800 {
+        2
+    } else {
+        3
+    }
+}
+
+// Whether units take fewer than 2^16 bytes.
+fn is_short(units: &[u16]) -> bool
+    ensures { IsTrue result ↔ (length (text units.now) < 2 ^ 16) }
+{
+    let mut len = 0;
+    for unit in units {
+        len += unit_len(*unit);
+        if len > 0xFFFF {
+            return false;
+        }
+    }
+    true
+}
+
+// Whether the number of a name's bytes fits the two bytes of its length.
+fn is_text(name: &Name) -> bool
+    ensures { IsTrue result ↔ IsText name.now }
+{
+    name.len() <= SURE || is_short(name.as_slice())
+}
+
+// ---- surrogates
+
+fn is_high(unit: u16) -> bool
+    ensures { result ≡ is_high unit }
+{
+    (0xD800..0xDC00).contains(&unit)
+}
+
+fn is_low(unit: u16) -> bool
+    ensures { result ≡ is_low unit }
+{
+    (0xDC00..0xE000).contains(&unit)
+}
+
+// Whether each high surrogate has a low one behind it, and each low one a high one before it.
+fn is_paired(name: &[u16]) -> bool
+    ensures { result ≡ is_paired name.now }
+{
+    let mut high = false;
+    for unit in name {
+        if high != is_low(*unit) {
+            return false;
+        }
+        high = is_high(*unit);
+    }
+    !high
+}
+
+// ---- records
+
+fn is_told_cause(cause: &Cause) -> bool
+    ensures { IsTrue result ↔ IsToldCause cause.now }
+{
+    match cause {
+        Cause::Returned => true,
+        Cause::Thrown(name) => is_text(name) && is_paired(name.as_slice()),
+    }
+}
+
+fn is_outcome(outcome: &Outcome) -> bool
+    ensures { IsTrue result ↔ IsOutcome 2 outcome.now }
+{
+    match outcome {
+        Outcome::Failed(cause) => is_told_cause(cause),
+        Outcome::Passed => true,
+        Outcome::TimedOut => true,
+        Outcome::MemoryOut => true,
+    }
+}
+
+// Whether the length of a class file fits four bytes.
+fn has_short_class(bytes: &Option<SharedBytes>) -> bool
+    ensures { IsTrue result ↔ HasShortClass bytes.now }
+{
+    match bytes {
+        Some(bytes) => bytes.as_slice().len() <= u32::MAX as usize,
+        None => true,
+    }
+}
+
+fn fit(entries: &[(Name, Option<SharedBytes>)]) -> bool
+    ensures { IsTrue result ↔ All FitsEntry entries.now }
+{
+    for (name, bytes) in entries {
+        if !(is_text(name) && has_short_class(bytes)) {
+            return false;
+        }
+    }
+    true
+}
+
+/// Whether the texts and the counts of a record fit their fields in a file.
+pub fn has_room(r: &RunRecord) -> bool
+    ensures { IsTrue result ↔ HasRoom r.now }
+{
+    r.consulted.len() <= u32::MAX as usize
+        && r.reached.len() <= u32::MAX as usize
+        && is_text(&r.test_class)
+        && is_text(&r.test_method)
+        && is_outcome(&r.outcome)
+        && fit(r.consulted.as_slice())
+}
