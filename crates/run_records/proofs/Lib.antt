@@ -1,0 +1,5 @@
+mod Ordered
+mod Placing
+mod Listing
+mod Finding
+mod Texts

@@ -6,7 +6,7 @@ use Rattle.std.specs.BTreeMap.{BTreeMap, get}
 use Rattle.std.specs.Option.{option_or, unwrap_or}
 use Rattle.std.specs.Ordering.{nat_cmp}
 use Rattle.class_model.specs.declared.class.ClassId.{ClassId}
-use Rattle.program_rules.specs.Names.{Name}
+use Rattle.program_rules.specs.Names.{Name, same}
 use Rattle.class_link.specs.Info.{Info}
 use Rattle.class_table.specs.Table.{name_at, place_in}
 use Rattle.record_rules.specs.Records.{with_bytes}
@@ -25,7 +25,14 @@ place_at places k = get nat_cmp places k
 abbrev pub SetsPlace : ℕ → ℕ → Places → Places → Type 0
 SetsPlace class place old new =
     (k : ℕ) →
-    place_at new k ≡ option_or (place_at old k) (if nat_eq k class then Some place else None)
+    place_at new k ≡ option_or (place_at old k) (if nat_eq class k then Some place else None)
+
+-- The class of the program that has this name has this place, unless it had one.
+abbrev pub NotesName : List Info → Name → ℕ → Places → Places → Type 0
+NotesName p name place old new =
+    (k : ℕ) → k < length p →
+    place_at new k
+    ≡ option_or (place_at old k) (if same name (name_at p k) then Some place else None)
 
 -- ---- consulted names
 

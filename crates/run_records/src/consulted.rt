@@ -1,13 +1,9 @@
 //! The names that a run has consulted, with the bytes of their class files and the places of their
 //! classes.
 
-ghost use Rattle.std.specs.Prelude.{◌≡◌, ◌<◌, ◌^◌, ◌∷◌, ◌++◌, [], length, None, Some, IfOk, OnOk, if◌then◌else◌};
-ghost use Rattle.std.specs.BTreeMap.{get};
-ghost use Rattle.std.specs.Option.{option_or, option_copied};
-ghost use Rattle.std.specs.Ordering.{nat_cmp};
-ghost use Rattle.program_rules.specs.Names.{Name};
-ghost use Rattle.run_records.specs.Asking.{bytes_of};
-ghost use Rattle.run_records.specs.Places.{AddsName, HasPlaces, Keeps, SetsPlace, place_of};
+ghost use Rattle.std.specs.Prelude.{◌≡◌, ◌<◌, ◌^◌, length, IfOk, OnOk};
+ghost use Rattle.run_records.specs.Asking.{bytes_of, held_by};
+ghost use Rattle.run_records.specs.Places.{AddsName, HasPlaces, Keeps, NotesName, SetsPlace, place_of};
 
 use crate::class_files::bytes_in;
 use class_model::{ClassId, Memory, Name, Seq, SharedBytes};
@@ -45,21 +41,33 @@ fn set_place(places: &mut BTreeMap<u32, u32>, class: u32, place: u32) -> Result<
 }
 
 impl Consulted {
+    // Keeps the place of a name that stands behind the others, and gives the bytes of its class
+    // file, if there is one.
+    fn note(&mut self, p: &Program, name: &Name) -> Result<Option<SharedBytes>, Memory>
+        requires { length self.old.entries.items < 2 ^ 32 }
+        ensures entries { self.new.entries ≡ self.old.entries }
+        ensures bytes { IfOk result (λ bytes. bytes ≡ held_by p.now name.now) }
+        ensures places { OnOk result (NotesName p.now name.now
+            (length self.old.entries.items) self.old.places self.new.places) }
+    {
+        // what every program is, for the prover alone
+        let _len = p.len();
+        let Some(id) = p.find(name) else {
+            return Ok(None);
+        };
+        let place = self.entries.len() as u32;
+        set_place(&mut self.places, id.0, place)?;
+        let bytes = bytes_of(p.info(id))?;
+        Ok(bytes)
+    }
+
     // One more name.
     fn add(&mut self, p: &Program, name: Name) -> Result<(), Memory>
         requires few { length self.old.entries.items < 2 ^ 32 }
         requires places { HasPlaces p.now self.old }
         ensures { OnOk result (AddsName p.now name self.old self.new) }
     {
-        let _form = p.len();
-        let place = self.entries.len() as u32;
-        let bytes = match p.find(&name) {
-            Some(id) => {
-                set_place(&mut self.places, id.0, place)?;
-                bytes_of(p.info(id))?
-            }
-            None => None,
-        };
+        let bytes = self.note(p, &name)?;
         self.entries.push((name, bytes))?;
         Ok(())
     }

@@ -26,15 +26,29 @@ pub trait Lookup {
             ≡ first_match (records self.now) (asked p.now test.now limits limit) };
 }
 
+// The first of these records that matches.
+fn first_match<'a>(
+    records: &'a [RunRecord],
+    p: &Program,
+    test: &Test,
+    limits: Limits,
+    limit: u64,
+) -> Option<&'a RunRecord>
+    ensures { option_copied result
+        ≡ first_match records.now (asked p.now test.now limits limit) }
+{
+    for record in records {
+        if matches(record, p, test, limits, limit) {
+            return Some(record);
+        }
+    }
+    None
+}
+
 impl Lookup for Seq<RunRecord> {
     ghost records = { λ s. s };
 
     fn lookup(&self, p: &Program, test: &Test, limits: Limits, limit: u64) -> Option<&RunRecord> {
-        for record in self.as_slice() {
-            if matches(record, p, test, limits, limit) {
-                return Some(record);
-            }
-        }
-        None
+        first_match(self.as_slice(), p, test, limits, limit)
     }
 }

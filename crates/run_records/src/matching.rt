@@ -3,7 +3,7 @@
 ghost use Rattle.std.specs.Prelude.{◌≡◌};
 ghost use Rattle.class_table.specs.Table.{look};
 ghost use Rattle.jvm_world.specs.View.{test_of};
-ghost use Rattle.record_rules.specs.Matching.{fits_limit, holds_all, holds_as, is_of_test, is_timed_out, matches, same_bytes};
+ghost use Rattle.record_rules.specs.Matching.{fits_limit, holds_all, holds_as, is_of_test, is_timed_out, matches};
 ghost use Rattle.run_records.specs.Asking.{asked, held_by};
 
 use crate::class_files::bytes_of;
@@ -37,27 +37,22 @@ fn fits_limit(r: &RunRecord, limit: u64) -> bool
 }
 
 // A name has the recorded bytes among the program's class files, or the program has no class of it.
-fn holds_as(p: &Program, name: &Name, bytes: Option<&SharedBytes>) -> bool
-    ensures { result ≡ holds_as (look p.now) (held_by p.now) (name.now, option_copied bytes) }
+fn holds_as(p: &Program, consulted: &(Name, Option<SharedBytes>)) -> bool
+    ensures { result ≡ holds_as (look p.now) (held_by p.now) consulted.now }
 {
-    match bytes {
-        Some(bytes) => match bytes_of(p, name) {
+    match &consulted.1 {
+        Some(bytes) => match bytes_of(p, &consulted.0) {
             Some(held) => held.as_slice() == bytes.as_slice(),
             None => false,
         },
-        None => p.find(name).is_none(),
+        None => p.find(&consulted.0).is_none(),
     }
 }
 
 fn holds_all(p: &Program, consulted: &[(Name, Option<SharedBytes>)]) -> bool
     ensures { result ≡ holds_all (look p.now) (held_by p.now) consulted.now }
 {
-    for (name, bytes) in consulted {
-        if !holds_as(p, name, bytes.as_ref()) {
-            return false;
-        }
-    }
-    true
+    consulted.iter().all(|one| holds_as(p, one))
 }
 
 /// Whether a record matches the run of a test on a program, under these limits and for so many
