@@ -56,20 +56,20 @@ not_both x y (inl a) (inr b) = let e = b.0 in omega (arith, a, e)
 not_both x y (inr a) (inl b) = let e = a.0 in omega (arith, b, e)
 not_both x y (inr a) (inr b) = let e = a.1 in let f = b.1 in omega (arith, e, f)
 
-no : {P : Type 0} (b : Bool) → b ≡ true → b ≡ false → P
-no true e f = absurd cc
-no false e f = absurd cc
+never : {P : Type 0} (b : Bool) → b ≡ true → b ≡ false → P
+never true e f = absurd cc
+never false e f = absurd cc
 
 same_pair : (x y : Pair) → is_before x y ≡ false → is_before y x ≡ false → x ≡ y
 same_pair x y a b =
     ⊎_elim (λ (e : x.0 ≡ y.0). by_second e (cases_order x.1 y.1))
-    (λ r. ⊎_elim (λ (l : x.0 < y.0). no (is_before x y) (before_from x y (inl l)) a) (λ (g : y.0 < x.0). no (is_before y x) (before_from y x (inl g)) b) r)
+    (λ r. ⊎_elim (λ (l : x.0 < y.0). never (is_before x y) (before_from x y (inl l)) a) (λ (g : y.0 < x.0). never (is_before y x) (before_from y x (inl g)) b) r)
     (cases_order x.0 y.0)
   where
     by_second : x.0 ≡ y.0 → ((x.1 ≡ y.1) ⊎ ((x.1 < y.1) ⊎ (y.1 < x.1))) → x ≡ y
     by_second e (inl f) = ap₂ (λ (m n : ℕ). (m, n)) e f
-    by_second e (inr (inl l)) = no (is_before x y) (before_from x y (inr (e, l))) a
-    by_second e (inr (inr g)) = no (is_before y x) (before_from y x (inr (sym e, g))) b
+    by_second e (inr (inl l)) = never (is_before x y) (before_from x y (inr (e, l))) a
+    by_second e (inr (inr g)) = never (is_before y x) (before_from y x (inr (sym e, g))) b
 
 -- ---- lists in order
 
@@ -183,8 +183,8 @@ without x z xs ys false e a b h = subst (λ (t : Bool). (t || has z xs) ≡ (t |
 
 one_list : (xs ys : List Pair) → Up xs → Up ys → ((z : Pair) → has z xs ≡ has z ys) → xs ≡ ys
 one_list [] [] u v h = refl
-one_list [] (y ∷ ys) u v h = no (has y (y ∷ ys)) (or_first (is_pair y y) (has y ys) (is_itself y)) (sym (h y))
-one_list (x ∷ xs) [] u v h = no (has x (x ∷ xs)) (or_first (is_pair x x) (has x xs) (is_itself x)) (h x)
+one_list [] (y ∷ ys) u v h = never (has y (y ∷ ys)) (or_first (is_pair y y) (has y ys) (is_itself y)) (sym (h y))
+one_list (x ∷ xs) [] u v h = never (has x (x ∷ xs)) (or_first (is_pair x x) (has x xs) (is_itself x)) (h x)
 one_list (x ∷ xs) (y ∷ ys) u v h =
     let there : has x (y ∷ ys) ≡ true = sym (h x) ∙ or_first (is_pair x x) (has x xs) (is_itself x) in
     let here : has y (x ∷ xs) ≡ true = h y ∙ or_first (is_pair y y) (has y ys) (is_itself y) in
@@ -201,14 +201,30 @@ same x y = eqb x.0 y.0 && eqb x.1 y.1
 abbrev order : Pair → Pair → Ordering
 order x y = ordering_then (nat_cmp x.0 y.0) (nat_cmp x.1 y.1)
 
-less_is : (x y : Pair) → order x y ≡ Less → Before x y
-less_is x y h = by_first (cases_order x.0 y.0) h
-  where
-    greater : (m n : ℕ) → n < m → nat_cmp m n ≡ Greater
-    greater m n l = search (rules, l)
+less_case : (x y : Pair) (a b c d : Bool) → a ≡ ltb x.0 y.0 → b ≡ eqb x.0 y.0 → c ≡ ltb x.1 y.1 → ordering_then (cond a Less (cond b Equal Greater)) (cond c Less (cond d Equal Greater)) ≡ Less → Before x y
+less_case x y true b c d e f g h = inl (ltb-true x.0 y.0 (sym e))
+less_case x y false true true d e f g h = inr (eqb-true x.0 y.0 (sym f), ltb-true x.1 y.1 (sym g))
+less_case x y false true false true e f g h = absurd cc
+less_case x y false true false false e f g h = absurd cc
+less_case x y false false c d e f g h = absurd cc
 
-    by_first : ((x.0 ≡ y.0) ⊎ ((x.0 < y.0) ⊎ (y.0 < x.0))) → order x y ≡ Less → Before x y
-    by_first r k = grind (arith, r, k)
+less_is : (x y : Pair) → order x y ≡ Less → Before x y
+less_is x y h = less_case x y (ltb x.0 y.0) (eqb x.0 y.0) (ltb x.1 y.1) (eqb x.1 y.1) refl refl refl h
+
+apart : {P : Type 0} (m n : ℕ) → true ≡ ltb m n → true ≡ eqb m n → P
+apart m n e f = let l : m < n = ltb-true m n (sym e) in let s : m ≡ n = eqb-true m n (sym f) in absurd (omega (arith, l, s))
+
+tie_case : (x y : Pair) (a b c d : Bool) → a ≡ ltb x.0 y.0 → b ≡ eqb x.0 y.0 → c ≡ ltb x.1 y.1 → d ≡ eqb x.1 y.1 → (b && d) ≡ is_eq (ordering_then (cond a Less (cond b Equal Greater)) (cond c Less (cond d Equal Greater)))
+tie_case x y true true c d e f g h = apart x.0 y.0 e f
+tie_case x y true false c d e f g h = refl
+tie_case x y false false c d e f g h = refl
+tie_case x y false true true true e f g h = apart x.1 y.1 g h
+tie_case x y false true true false e f g h = refl
+tie_case x y false true false true e f g h = refl
+tie_case x y false true false false e f g h = refl
+
+pub ties : (x y : Pair) → same x y ≡ eq_by_cmp order x y
+ties x y = tie_case x y (ltb x.0 y.0) (eqb x.0 y.0) (ltb x.1 y.1) (eqb x.1 y.1) refl refl refl refl
 
 dedup_has : (z k : Pair) (xs : List Pair) → has z (dedup_from same k xs) ≡ (is_pair z k || has z xs)
 dedup_has z k [] = refl

@@ -1,6 +1,6 @@
 -- Consulted names, one after the other, and the places of their classes.
 use Rattle.std.proofs.Common.{◌≡◌, ◌∙◌, ℕ, zero, suc, ◌+◌, ◌<◌, Bool, true, false, cond, eqb, ltb, List, [], ◌∷◌, ◌++◌, map, length, Option, Some, None, Less, Equal, Greater, refl, sym, ap, subst, arith, length-append, append-nil}
-use Rattle.std.specs.Prelude.{if◌then◌else◌, nat_eq}
+use Rattle.std.specs.Prelude.{if◌then◌else◌, is_some, nat_eq}
 use Rattle.std.specs.BTreeMap.{Updates, is_at}
 use Rattle.std.specs.Cmp.Lexicographic.{same_text}
 use Rattle.std.specs.Option.{option_or, unwrap_or}
@@ -10,7 +10,7 @@ use Rattle.std.proofs.lemmas.Cmp.{nat_list_eq_equiv}
 use Rattle.std.proofs.lemmas.List.{append_assoc, length-map, map-append}
 use Rattle.program_rules.specs.Names.{Name, same}
 use Rattle.class_link.specs.Info.{Info}
-use Rattle.class_table.specs.Table.{AreDistinct, name_at, names, number_of, place_from, place_in}
+use Rattle.class_table.specs.Table.{AreDistinct, IsProgram, name_at, names, number_of, place_from, place_in}
 use Rattle.record_rules.specs.Profiles.{Held}
 use Rattle.record_rules.specs.Records.{with_bytes}
 use Rattle.run_records.specs.declared.consulted.Consulted.{Consulted}
@@ -23,13 +23,19 @@ or_none (Some x) = refl
 
 -- ---- the place of one class
 
-pub set_kept : (class place v : ℕ) (old : Places) → place_at old class ≡ Some v → SetsPlace class place old old
-set_kept class place v old is k = by (nat_eq class k) refl
+kept_or : (o p : Option ℕ) → is_some o ≡ true → o ≡ option_or o p
+kept_or (Some x) p h = refl
+kept_or None p h = absurd cc
+
+new_or : (o p : Option ℕ) → is_some o ≡ false → p ≡ option_or o p
+new_or None p h = refl
+new_or (Some x) p h = absurd cc
+
+pub set_kept : (class place : ℕ) (old : Places) → is_some (place_at old class) ≡ true → SetsPlace class place old old
+set_kept class place old is k = by (nat_eq class k) refl
   where
     by : (b : Bool) → b ≡ nat_eq class k → place_at old k ≡ option_or (place_at old k) (if b then Some place else None)
-    by true e =
-        let at : place_at old k ≡ Some v = ap (place_at old) (sym (eqb-true class k (sym e))) ∙ is in
-        at ∙ ap (λ o. option_or o (Some place)) (sym at)
+    by true e = kept_or (place_at old k) (Some place) (subst (λ j. is_some (place_at old j) ≡ true) (eqb-true class k (sym e)) is)
     by false e = or_none (place_at old k)
 
 at_is : (m n : ℕ) → is_at (nat_cmp m) n ≡ eqb m n
@@ -40,12 +46,12 @@ at_is m n = by (ltb m n) (eqb m n) refl refl
     by false true e f = f
     by false false e f = f
 
-pub set_new : (class place : ℕ) (old new : Places) → place_at old class ≡ None → Updates nat_cmp old new class (Some place) → SetsPlace class place old new
+pub set_new : (class place : ℕ) (old new : Places) → is_some (place_at old class) ≡ false → Updates nat_cmp old new class (Some place) → SetsPlace class place old new
 set_new class place old new none sets k =
     sets.0 k ∙ ap (λ t. cond t (Some place) (place_at old k)) (at_is class k) ∙ by (nat_eq class k) refl
   where
     by : (b : Bool) → b ≡ nat_eq class k → cond b (Some place) (place_at old k) ≡ option_or (place_at old k) (if b then Some place else None)
-    by true e = let at : place_at old k ≡ None = ap (place_at old) (sym (eqb-true class k (sym e))) ∙ none in ap (λ o. option_or o (Some place)) (sym at)
+    by true e = new_or (place_at old k) (Some place) (subst (λ j. is_some (place_at old j) ≡ false) (eqb-true class k (sym e)) none)
     by false e = or_none (place_at old k)
 
 -- ---- the place of one name
@@ -77,15 +83,15 @@ same_class p name id k distinct number named lt = by (nat_eq id k) (same name (n
         let is : id ≡ k = some_is id k (sym number ∙ by_name p name k distinct lt (sym f)) in
         e ∙ eq-eqb id k is
 
-pub noted : (p : List Info) (name : Name) (id place : ℕ) (old new : Places) → AreDistinct (names p) → number_of p name ≡ Some id → name_at p id ≡ name → SetsPlace id place old new → NotesName p name place old new
-noted p name id place old new distinct number named sets k lt =
-    sets k ∙ ap (λ b. option_or (place_at old k) (if b then Some place else None)) (same_class p name id k distinct number named lt)
+pub noted : (p : List Info) (name : Name) (id place : ℕ) (old new : Places) → IsProgram p → number_of p name ≡ Some id → name_at p id ≡ name → SetsPlace id place old new → NotesName p name place old new
+noted p name id place old new is number named sets k lt =
+    sets k ∙ ap (λ b. option_or (place_at old k) (if b then Some place else None)) (same_class p name id k is.distinct number named lt)
 
-pub not_noted : (p : List Info) (name : Name) (place : ℕ) (old : Places) → AreDistinct (names p) → number_of p name ≡ None → NotesName p name place old old
-not_noted p name place old distinct none k lt = by (same name (name_at p k)) refl
+pub not_noted : (p : List Info) (name : Name) (place : ℕ) (old : Places) → IsProgram p → number_of p name ≡ None → NotesName p name place old old
+not_noted p name place old is none k lt = by (same name (name_at p k)) refl
   where
     by : (b : Bool) → b ≡ same name (name_at p k) → place_at old k ≡ option_or (place_at old k) (if b then Some place else None)
-    by true e = no_some k (number_of p name) none (by_name p name k distinct lt (sym e))
+    by true e = no_some k (number_of p name) none (by_name p name k is.distinct lt (sym e))
     by false e = or_none (place_at old k)
 
 -- ---- one more name

@@ -31,18 +31,21 @@ fn bytes_of(info: &ClassInfo) -> Result<Option<SharedBytes>, Memory>
 }
 
 // Keeps the place of a class, if none is kept.
+#[tactic(auto, using(crate::proofs::Placing::set_kept, crate::proofs::Placing::set_new))]
 fn set_place(places: &mut BTreeMap<u32, u32>, class: u32, place: u32) -> Result<(), Memory>
     ensures { OnOk result (SetsPlace class place places.old places.new) }
 {
-    if places.get(&class).is_none() {
-        places.insert(class, place)?;
+    if places.contains_key(&class) {
+        return Ok(());
     }
+    places.insert(class, place)?;
     Ok(())
 }
 
 impl Consulted {
     // Keeps the place of a name that stands behind the others, and gives the bytes of its class
     // file, if there is one.
+    #[tactic(auto, using(crate::proofs::Placing::noted, crate::proofs::Placing::not_noted))]
     fn note(&mut self, p: &Program, name: &Name) -> Result<Option<SharedBytes>, Memory>
         requires { length self.old.entries.items < 2 ^ 32 }
         ensures entries { self.new.entries ≡ self.old.entries }
@@ -62,6 +65,7 @@ impl Consulted {
     }
 
     // One more name.
+    #[tactic(auto, using(crate::proofs::Placing::added))]
     fn add(&mut self, p: &Program, name: Name) -> Result<(), Memory>
         requires few { length self.old.entries.items < 2 ^ 32 }
         requires places { HasPlaces p.now self.old }
@@ -80,8 +84,9 @@ impl Consulted {
         if names.len() > u32::MAX as usize {
             return Err(Memory);
         }
+        let entries = Vec::with_capacity(alloc, names.len())?;
         let mut kept = Consulted {
-            entries: Vec::with_capacity(alloc, names.len())?,
+            entries,
             places: BTreeMap::new(alloc),
         };
         for name in names.into_vec() {

@@ -56,13 +56,13 @@ fn is_text(name: &Name) -> bool
 fn is_high(unit: u16) -> bool
     ensures { result ≡ is_high unit }
 {
-    (0xD800..0xDC00).contains(&unit)
+    0xD800 <= unit && unit < 0xDC00
 }
 
 fn is_low(unit: u16) -> bool
     ensures { result ≡ is_low unit }
 {
-    (0xDC00..0xE000).contains(&unit)
+    0xDC00 <= unit && unit < 0xE000
 }
 
 // Whether each high surrogate has a low one behind it, and each low one a high one before it.
@@ -71,7 +71,8 @@ fn is_paired(name: &[u16]) -> bool
 {
     let mut high = false;
     for unit in name {
-        if high != is_low(*unit) {
+        let low = is_low(*unit);
+        if high != low {
             return false;
         }
         high = is_high(*unit);

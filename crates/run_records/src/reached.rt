@@ -20,7 +20,8 @@ fn placed(
 {
     let mut pairs = Vec::with_capacity(alloc, lines.len())?;
     for line in lines {
-        pairs.push((consulted.place_of(line.0), line.1))?;
+        let place = consulted.place_of(line.0);
+        pairs.push((place, line.1))?;
     }
     Ok(pairs)
 }
