@@ -2,14 +2,14 @@
 use Rattle.std.proofs.Common.{◌≡◌, ◌∙◌, sym, refl, ap, ℕ, Bool, true, false, List, [], ◌∷◌, ◌++◌, length, Option, Some, None, slice_get, ltb, ltb-false, subst}
 use Rattle.std.specs.Prelude.{◌≤◌, position, cond, option_and_then, is_some}
 use Rattle.std.specs.List.{find, position_or_len}
-use Rattle.std.specs.HashMap.{HashMap, get, Updates}
-use Rattle.std.specs.Cmp.Lexicographic.{same_text}
+use Rattle.std.specs.BTreeMap.{BTreeMap, get, is_at, Updates}
+use Rattle.std.specs.Cmp.Lexicographic.{same_text, texts_ties}
 use Rattle.std.proofs.lemmas.List.Folds.{find_at}
 use Rattle.std.proofs.lemmas.Option.{slice_get_past}
 use Rattle.asm_words.specs.declared.known_labels.Label.{Label}
 use Rattle.asm_words.specs.Words.{says}
 use Rattle.asm_words.specs.Labels.{first_of}
-use Rattle.asm_words.specs.LabelPlaces.{has_name, HasFirstPlaces}
+use Rattle.asm_words.specs.LabelPlaces.{has_name, by_units, HasFirstPlaces}
 use Rattle.asm_words.proofs.Positions.{or_behind, none_behind, pushed}
 
 -- ---- the first label of a name
@@ -36,26 +36,25 @@ some_stays : (o behind : Option ℕ) → is_some o ≡ true → o ≡ or_behind 
 some_stays None behind e = absurd cc
 some_stays (Some place) behind e = refl
 
-module _ {S : Type 0} where
-  stays_case : (places : HashMap (List ℕ) ℕ S) (labels : List Label) (label : Label) (q : List ℕ) → HasFirstPlaces places labels → is_some (get says places label.name) ≡ true → (b : Bool) → says label.name q ≡ b → position (has_name q) labels ≡ or_behind (position (has_name q) labels) (cond b (Some (length labels)) None)
-  stays_case places labels label q has known true e =
-      let one : label.name ≡ q = same_text label.name q (sym e) in
-      some_stays (position (has_name q) labels) (Some (length labels)) (ap is_some (sym (has q)) ∙ ap (λ n. is_some (get says places n)) (sym one) ∙ known)
-  stays_case places labels label q has known false e = none_behind (position (has_name q) labels)
+stays_case : (places : BTreeMap (List ℕ) ℕ) (labels : List Label) (label : Label) (q : List ℕ) → HasFirstPlaces places labels → is_some (get by_units places label.name) ≡ true → (b : Bool) → says label.name q ≡ b → position (has_name q) labels ≡ or_behind (position (has_name q) labels) (cond b (Some (length labels)) None)
+stays_case places labels label q has known true e =
+    let one : label.name ≡ q = same_text label.name q (sym e) in
+    some_stays (position (has_name q) labels) (Some (length labels)) (ap is_some (sym (has q)) ∙ ap (λ n. is_some (get by_units places n)) (sym one) ∙ known)
+stays_case places labels label q has known false e = none_behind (position (has_name q) labels)
 
-  -- one more label of a name that has one
-  pub stays : (places : HashMap (List ℕ) ℕ S) (labels : List Label) (label : Label) → HasFirstPlaces places labels → is_some (get says places label.name) ≡ true → HasFirstPlaces places (labels ++ label ∷ [])
-  stays places labels label has known q = has q ∙ stays_case places labels label q has known (says label.name q) refl ∙ sym (pushed (has_name q) labels label)
+-- one more label of a name that has one
+pub stays : (places : BTreeMap (List ℕ) ℕ) (labels : List Label) (label : Label) → HasFirstPlaces places labels → is_some (get by_units places label.name) ≡ true → HasFirstPlaces places (labels ++ label ∷ [])
+stays places labels label has known q = has q ∙ stays_case places labels label q has known (says label.name q) refl ∙ sym (pushed (has_name q) labels label)
 
-  placed_case : (old : HashMap (List ℕ) ℕ S) (labels : List Label) (label : Label) (q : List ℕ) → HasFirstPlaces old labels → get says old label.name ≡ None → (b : Bool) → says label.name q ≡ b → cond b (Some (length labels)) (get says old q) ≡ or_behind (position (has_name q) labels) (cond b (Some (length labels)) None)
-  placed_case old labels label q has absent true e =
-      let one : label.name ≡ q = same_text label.name q (sym e) in
-      let none : position (has_name q) labels ≡ None = sym (has q) ∙ ap (get says old) (sym one) ∙ absent in
-      sym (ap (λ o. or_behind o (Some (length labels))) none)
-  placed_case old labels label q has absent false e = has q ∙ none_behind (position (has_name q) labels)
+placed_case : (old : BTreeMap (List ℕ) ℕ) (labels : List Label) (label : Label) (q : List ℕ) → HasFirstPlaces old labels → get by_units old label.name ≡ None → (b : Bool) → says label.name q ≡ b → cond b (Some (length labels)) (get by_units old q) ≡ or_behind (position (has_name q) labels) (cond b (Some (length labels)) None)
+placed_case old labels label q has absent true e =
+    let one : label.name ≡ q = same_text label.name q (sym e) in
+    let none : position (has_name q) labels ≡ None = sym (has q) ∙ ap (get by_units old) (sym one) ∙ absent in
+    sym (ap (λ o. or_behind o (Some (length labels))) none)
+placed_case old labels label q has absent false e = has q ∙ none_behind (position (has_name q) labels)
 
-  -- the first label of a name, whose place is put under a copy of the name
-  pub placed : (old new : HashMap (List ℕ) ℕ S) (labels : List Label) (label : Label) (name : List ℕ) (place : ℕ) → HasFirstPlaces old labels → get says old label.name ≡ None → name ≡ label.name → place ≡ length labels → Updates says old new name (Some place) → HasFirstPlaces new (labels ++ label ∷ [])
-  placed old new labels label name place has absent named at updates q =
-      let here : Updates says old new label.name (Some (length labels)) = subst (λ n. Updates says old new n (Some (length labels))) named (subst (λ k. Updates says old new name (Some k)) at updates) in
-      here.0 q ∙ placed_case old labels label q has absent (says label.name q) refl ∙ sym (pushed (has_name q) labels label)
+-- the first label of a name, whose place is put under a copy of the name
+pub placed : (old new : BTreeMap (List ℕ) ℕ) (labels : List Label) (label : Label) (name : List ℕ) (place : ℕ) → HasFirstPlaces old labels → get by_units old label.name ≡ None → name ≡ label.name → place ≡ length labels → Updates by_units old new name (Some place) → HasFirstPlaces new (labels ++ label ∷ [])
+placed old new labels label name place has absent named at updates q =
+    let here : Updates by_units old new label.name (Some (length labels)) = subst (λ n. Updates by_units old new n (Some (length labels))) named (subst (λ k. Updates by_units old new name (Some k)) at updates) in
+    here.0 q ∙ ap (λ b. cond b (Some (length labels)) (get by_units old q)) (sym (texts_ties label.name q)) ∙ placed_case old labels label q has absent (says label.name q) refl ∙ sym (pushed (has_name q) labels label)

@@ -6,7 +6,7 @@ ghost use Rattle.asm_words.specs.Labels.{first_of};
 
 use class_model::{Memory, Name};
 use std::alloc::Global;
-use std::collections::HashMap;
+use std::collections::BTreeMap;
 use std::marker::Model;
 
 /// A label, and the number of the instruction before which it stands.
@@ -23,7 +23,7 @@ pub struct Label {
 pub struct KnownLabels {
     labels: Vec<Label>,
     // the place of the first label of each name, so that finding one costs no walk over the labels
-    places: HashMap<Name, usize>,
+    places: BTreeMap<Name, usize>,
 }
 
 impl Model for KnownLabels {
@@ -50,7 +50,7 @@ impl KnownLabels {
     {
         KnownLabels {
             labels: Vec::new(alloc),
-            places: HashMap::new(alloc),
+            places: BTreeMap::new(alloc),
         }
     }
 

@@ -1,8 +1,12 @@
 -- A map of places that gets the place of what was added has the place of each entry again.
 use Rattle.std.proofs.Common.{◌≡◌, ◌∙◌, sym, refl, ap, ℕ, ◌==◌, Bool, true, false, ◌&&◌, List, [], ◌∷◌, ◌++◌, length, Some, None, ℤ}
 use Rattle.std.specs.Prelude.{position, cond}
-use Rattle.std.specs.HashMap.{HashMap, get, Updates}
-use Rattle.std.specs.Cmp.Lexicographic.{same_text}
+use Rattle.std.specs.BTreeMap.{BTreeMap, get, is_at, Updates}
+use Rattle.std.specs.Cmp.{unsigned_ties}
+use Rattle.std.specs.Cmp.Lexicographic.{same_text, texts_ties}
+use Rattle.std.specs.Ordering.{is_eq, nat_cmp, ordering_then}
+use Rattle.std.specs.declared.cmp.Ordering.{Ordering}
+use Rattle.std.specs.declared.cmp.Ordering.TheVariants.{Less, Equal, Greater}
 use Rattle.std.proofs.lemmas.Bool.{eqb-true}
 use Rattle.std.proofs.lemmas.Bool.Decides.{Decides-int_eq}
 use Rattle.asm_words.proofs.Positions.{or_behind, none_behind, pushed}
@@ -10,7 +14,7 @@ use Rattle.class_model.specs.declared.constant.Const.{Const}
 use Rattle.class_asm.specs.declared.const_key.ConstKey.{ConstKey}
 use Rattle.class_asm.specs.declared.const_key.ConstKey.TheVariants as key
 use Rattle.class_asm.specs.Numbering.{is_same, is_utf8, is_integer, is_long, is_class, is_text, is_field, is_method, is_interface_method, is_pair}
-use Rattle.class_asm.specs.Places.{entry_of, same, HasPlaces}
+use Rattle.class_asm.specs.Places.{entry_of, same, in_order, HasPlaces}
 
 -- ---- two entries say the same where they are the same
 
@@ -126,16 +130,47 @@ apart : (s q : ConstKey) (b : Bool) → is_same (entry_of q) (entry_of s) ≡ b 
 apart s q true e unlike = let t = turned q s (one_of q s e) in let no : true ≡ false = sym e ∙ t ∙ unlike in absurd cc
 apart s q false e unlike = refl
 
-module _ {S : Type 0} where
-  placed_case : (old : HashMap ConstKey ℕ S) (entries : List Const) (s q : ConstKey) → HasPlaces old entries → get same old s ≡ None → (b : Bool) → same s q ≡ b → cond b (Some (length entries)) (get same old q) ≡ or_behind (position (is_same (entry_of q)) entries) (cond (is_same (entry_of q) (entry_of s)) (Some (length entries)) None)
-  placed_case old entries s q has absent true e =
-      let one : s ≡ q = one_of s q (sym (keys_same s q) ∙ e) in
-      let none : position (is_same (entry_of q)) entries ≡ None = sym (has q) ∙ ap (get same old) (sym one) ∙ absent in
-      let it_is : is_same (entry_of q) (entry_of s) ≡ true = sym (turned s q one) ∙ sym (keys_same s q) ∙ e in
-      sym (ap (λ b. or_behind (position (is_same (entry_of q)) entries) (cond b (Some (length entries)) None)) it_is ∙ ap (λ o. or_behind o (Some (length entries))) none)
-  placed_case old entries s q has absent false e =
-      let is_not : is_same (entry_of q) (entry_of s) ≡ false = apart s q (is_same (entry_of q) (entry_of s)) refl (sym (keys_same s q) ∙ e) in
-      has q ∙ none_behind (position (is_same (entry_of q)) entries) ∙ sym (ap (λ b. or_behind (position (is_same (entry_of q)) entries) (cond b (Some (length entries)) None)) is_not)
+-- ---- keys that the order doesn't tell apart say the same
 
-  pub placed : (old new : HashMap ConstKey ℕ S) (entries : List Const) (s : ConstKey) → HasPlaces old entries → get same old s ≡ None → Updates same old new s (Some (length entries)) → HasPlaces new (entries ++ entry_of s ∷ [])
-  placed old new entries s has absent updates q = updates.0 q ∙ placed_case old entries s q has absent (same s q) refl ∙ sym (pushed (is_same (entry_of q)) entries (entry_of s))
+first_then : (o rest : Ordering) (b : Bool) → b ≡ is_eq o → b && is_eq rest ≡ is_eq (ordering_then o rest)
+first_then Less rest b e = rw e refl
+first_then Equal rest b e = rw e refl
+first_then Greater rest b e = rw e refl
+
+pair_ties : (a b first second : ℕ) → (a == first) && (b == second) ≡ is_eq (ordering_then (nat_cmp a first) (nat_cmp b second))
+pair_ties a b first second =
+    ap (λ t. (a == first) && t) (unsigned_ties b second)
+    ∙ first_then (nat_cmp a first) (nat_cmp b second) (a == first) (unsigned_ties a first)
+
+ties : (s q : ConstKey) → same s q ≡ is_at (in_order s) q
+ties (key.Utf8 units) (key.Utf8 text) = texts_ties units text
+ties (key.Utf8 units) other = refl
+ties (key.Integer value) (key.Integer number) = refl
+ties (key.Integer value) other = refl
+ties (key.Long value) (key.Long number) = refl
+ties (key.Long value) other = refl
+ties (key.Class name) (key.Class index) = unsigned_ties name index
+ties (key.Class name) other = refl
+ties (key.Text text) (key.Text index) = unsigned_ties text index
+ties (key.Text text) other = refl
+ties (key.Field class pair) (key.Field first second) = pair_ties class pair first second
+ties (key.Field class pair) other = refl
+ties (key.Method class pair) (key.Method first second) = pair_ties class pair first second
+ties (key.Method class pair) other = refl
+ties (key.InterfaceMethod class pair) (key.InterfaceMethod first second) = pair_ties class pair first second
+ties (key.InterfaceMethod class pair) other = refl
+ties (key.Pair name desc) (key.Pair first second) = pair_ties name desc first second
+ties (key.Pair name desc) other = refl
+
+placed_case : (old : BTreeMap ConstKey ℕ) (entries : List Const) (s q : ConstKey) → HasPlaces old entries → get in_order old s ≡ None → (b : Bool) → same s q ≡ b → cond b (Some (length entries)) (get in_order old q) ≡ or_behind (position (is_same (entry_of q)) entries) (cond (is_same (entry_of q) (entry_of s)) (Some (length entries)) None)
+placed_case old entries s q has absent true e =
+    let one : s ≡ q = one_of s q (sym (keys_same s q) ∙ e) in
+    let none : position (is_same (entry_of q)) entries ≡ None = sym (has q) ∙ ap (get in_order old) (sym one) ∙ absent in
+    let it_is : is_same (entry_of q) (entry_of s) ≡ true = sym (turned s q one) ∙ sym (keys_same s q) ∙ e in
+    sym (ap (λ b. or_behind (position (is_same (entry_of q)) entries) (cond b (Some (length entries)) None)) it_is ∙ ap (λ o. or_behind o (Some (length entries))) none)
+placed_case old entries s q has absent false e =
+    let is_not : is_same (entry_of q) (entry_of s) ≡ false = apart s q (is_same (entry_of q) (entry_of s)) refl (sym (keys_same s q) ∙ e) in
+    has q ∙ none_behind (position (is_same (entry_of q)) entries) ∙ sym (ap (λ b. or_behind (position (is_same (entry_of q)) entries) (cond b (Some (length entries)) None)) is_not)
+
+pub placed : (old new : BTreeMap ConstKey ℕ) (entries : List Const) (s : ConstKey) → HasPlaces old entries → get in_order old s ≡ None → Updates in_order old new s (Some (length entries)) → HasPlaces new (entries ++ entry_of s ∷ [])
+placed old new entries s has absent updates q = updates.0 q ∙ ap (λ b. cond b (Some (length entries)) (get in_order old q)) (sym (ties s q)) ∙ placed_case old entries s q has absent (same s q) refl ∙ sym (pushed (is_same (entry_of q)) entries (entry_of s))

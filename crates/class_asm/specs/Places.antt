@@ -1,12 +1,14 @@
 -- How the entries of a constant pool are looked up by what they say (this project's own). No public
 -- clause cites these.
 use Rattle.std.specs.Prelude.{◌≡◌, ℕ, Bool, List, position}
-use Rattle.std.specs.HashMap.{HashMap, get}
+use Rattle.std.specs.BTreeMap.{BTreeMap, get}
+use Rattle.std.specs.declared.cmp.Ordering.{Ordering}
 use Rattle.class_model.specs.declared.constant.Const.{Const}
 use Rattle.class_model.specs.declared.constant.Const.TheVariants as const
 use Rattle.class_asm.specs.declared.const_key.ConstKey.{ConstKey}
 use Rattle.class_asm.specs.declared.const_key.ConstKey.TheVariants as key
 use Rattle.class_asm.specs.contracts.const_key.ConstKeyPartialEq.TheImpl as key_eq
+use Rattle.class_asm.specs.contracts.const_key.ConstKeyOrd.TheImpl as key_ord
 use Rattle.class_asm.specs.Numbering.{is_same}
 
 -- The entry that says it.
@@ -25,8 +27,11 @@ entry_of (key.Pair name desc) = const.Pair name desc
 abbrev pub same : ConstKey → ConstKey → Bool
 same = (key_eq.ghosts).eq
 
+-- Keys in order.
+abbrev pub in_order : ConstKey → ConstKey → Ordering
+in_order = (key_ord.ghosts).cmp
+
 -- The map has the first place of what each entry says, and nothing else.
-module _ {S : Type 0} where
-  abbrev pub HasPlaces : HashMap ConstKey ℕ S → List Const → Type 0
-  HasPlaces places entries =
-      (s : ConstKey) → get same places s ≡ position (is_same (entry_of s)) entries
+abbrev pub HasPlaces : BTreeMap ConstKey ℕ → List Const → Type 0
+HasPlaces places entries =
+    (s : ConstKey) → get in_order places s ≡ position (is_same (entry_of s)) entries

@@ -6,7 +6,7 @@ ghost use Rattle.class_asm.specs.Places.{entry_of};
 use class_model::{Const, Memory, Name};
 
 /// What an entry that is added here says: two are the same where they say the same.
-#[derive(PartialEq, Eq, Hash, Drop)]
+#[derive(PartialEq, Eq, PartialOrd, Ord, Drop)]
 pub enum ConstKey {
     Utf8(Name),
     Integer(i32),

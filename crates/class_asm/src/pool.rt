@@ -8,7 +8,7 @@ use crate::const_key::ConstKey;
 use asm_words::{MemberName, StatedConstant};
 use class_model::{Const, Memory, Name, Seq};
 use std::alloc::Global;
-use std::collections::HashMap;
+use std::collections::BTreeMap;
 use std::marker::Model;
 
 /// A constant pool that grows. Contracts see it as its list of entries.
@@ -16,7 +16,7 @@ use std::marker::Model;
 pub struct Pool {
     entries: Vec<Const>,
     // the first place of each entry, so that adding one costs no walk over the pool
-    places: HashMap<ConstKey, usize>,
+    places: BTreeMap<ConstKey, usize>,
 }
 
 impl Model for Pool {
@@ -49,7 +49,7 @@ impl Pool {
     {
         Pool {
             entries: Vec::new(alloc),
-            places: HashMap::new(alloc),
+            places: BTreeMap::new(alloc),
         }
     }
 

@@ -1,6 +1,6 @@
 -- How the numbers of names are made, and how two classes of one name are found.
 use Rattle.std.proofs.Common.{◌≡◌, ◌∙◌, sym, refl, ap, ℕ, zero, suc, ◌+◌, ◌<◌, ◌≤◌, Bool, true, false, List, [], ◌∷◌, ◌++◌, length, Option, None, Some, slice_get, map, take, arith}
-use Rattle.std.specs.Prelude.{not, if◌then◌else◌, cond, IsTrue}
+use Rattle.std.specs.Prelude.{not, if◌then◌else◌, cond, IsTrue, is_some}
 use Rattle.std.specs.Ordering.{nat_cmp, is_lt, is_le, ordering_reverse}
 use Rattle.std.specs.declared.cmp.Ordering.{Ordering}
 use Rattle.std.specs.declared.cmp.Ordering.TheVariants.{Less, Equal, Greater}
@@ -21,6 +21,10 @@ added true None k h = refl
 added true (Some j) k h = let e = h refl in absurd cc
 added false None k h = refl
 added false (Some j) k h = refl
+
+pub none_there : (o : Option ℕ) → is_some o ≡ false → o ≡ None
+none_there None e = refl
+none_there (Some j) e = absurd cc
 
 append_case : (b : Bool) (q m : Name) (i : ℕ) (ms : List Name) → place_from q (suc i) (ms ++ m ∷ []) ≡ with_number (place_from q (suc i) ms) (same m q) (suc i + length ms) → (if b then Some i else place_from q (suc i) (ms ++ m ∷ [])) ≡ with_number (if b then Some i else place_from q (suc i) ms) (same m q) (i + suc (length ms))
 append_case true q m i ms h = refl

@@ -13,7 +13,7 @@ use Rattle.program_rules.specs.Linked.{method_in}
 use Rattle.class_link.specs.declared.linked.LinkedMethod.{LinkedMethod}
 use Rattle.class_link.specs.Info.{Info, class_of}
 use Rattle.class_link.specs.View.{method_of, linked_of}
-use Rattle.std.specs.HashMap.{HashMap}
+use Rattle.std.specs.BTreeMap.{BTreeMap}
 use Rattle.class_table.specs.Numbers.{IsNumbering}
 use Rattle.class_table.specs.Table.{place_from, place_in, name_or_none, names, number_of, class_at, name_at, look, entries_in, entries_at, methods_in, methods_at, AreDistinct, IsProgram, IsAlike, CanSwap}
 
@@ -89,5 +89,5 @@ swap_case p i new (Some old) e h = names_kept p i old new e h.name
 pub swap_names : (p : List Info) (i : ℕ) (new : Info) → CanSwap p i new → names (slice_set p i new) ≡ names p
 swap_names p i new h = swap_case p i new (slice_get p i) refl h
 
-pub numbers_kept : {S : Type 0} (m : HashMap Name ℕ S) (p q : List Info) → names q ≡ names p → IsNumbering m p → IsNumbering m q
+pub numbers_kept : (m : BTreeMap Name ℕ) (p q : List Info) → names q ≡ names p → IsNumbering m p → IsNumbering m q
 numbers_kept m p q e h = λ n. h n ∙ ap (λ ns. place_in ns n) (sym e)

@@ -1,6 +1,6 @@
 -- The numbers of a program's classes by their names.
 use Rattle.std.specs.Prelude.{◌≡◌, ℕ, ◌==◌, Bool, false, if◌then◌else◌, List, Option, Some, None, slice_get}
-use Rattle.std.specs.HashMap.{HashMap, get}
+use Rattle.std.specs.BTreeMap.{BTreeMap, get}
 use Rattle.std.specs.Ordering.{nat_cmp, is_lt}
 use Rattle.std.specs.Cmp.Lexicographic.{slice_cmp}
 use Rattle.class_model.specs.Text.{text}
@@ -8,10 +8,9 @@ use Rattle.program_rules.specs.Names.{Name, same}
 use Rattle.class_link.specs.Info.{Info}
 use Rattle.class_table.specs.Table.{number_of, name_or_none}
 
-module _ {S : Type 0} where
-  -- The map has the number of each name, and nothing else.
-  abbrev pub IsNumbering : HashMap Name ℕ S → List Info → Type 0
-  IsNumbering m p = (n : Name) → get same m n ≡ number_of p n
+-- The map, in the order of the names' units, has the number of each name, and nothing else.
+abbrev pub IsNumbering : BTreeMap Name ℕ → List Info → Type 0
+IsNumbering m p = (n : Name) → get (slice_cmp nat_cmp) m n ≡ number_of p n
 
 -- ---- how a numbering is made (this project's own). No public clause cites these.
 
@@ -20,11 +19,12 @@ abbrev pub with_number : Option ℕ → Bool → ℕ → Option ℕ
 with_number None is_it k = if is_it then Some k else None
 with_number (Some j) is_it k = Some j
 
-module _ {S : Type 0} where
-  -- A name gets a number unless it has one, and every other name keeps what it has.
-  abbrev pub AddsNumber : Name → ℕ → HashMap Name ℕ S → HashMap Name ℕ S → Type 0
-  AddsNumber name number old new =
-      (n : Name) → get same new n ≡ with_number (get same old n) (same name n) number
+-- A name gets a number unless it has one, and every other name keeps what it has.
+abbrev pub AddsNumber : Name → ℕ → BTreeMap Name ℕ → BTreeMap Name ℕ → Type 0
+AddsNumber name number old new =
+    (n : Name)
+    → get (slice_cmp nat_cmp) new n
+    ≡ with_number (get (slice_cmp nat_cmp) old n) (same name n) number
 
 abbrev pub is_before : Name → Name → Bool
 is_before n m = is_lt (slice_cmp nat_cmp (text n) (text m))

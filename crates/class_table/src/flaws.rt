@@ -1,8 +1,9 @@
 //! Which classes have a fault that a program's classes may not have.
 
 ghost use Rattle.std.specs.Prelude.{◌≡◌, ◌<◌, ◌^◌, map, length, slice_get, Some};
-ghost use Rattle.std.specs.HashMap.{get};
-ghost use Rattle.program_rules.specs.Names.{same};
+ghost use Rattle.std.specs.BTreeMap.{get};
+ghost use Rattle.std.specs.Cmp.Lexicographic.{slice_cmp};
+ghost use Rattle.std.specs.Ordering.{nat_cmp};
 ghost use Rattle.class_table.specs.Adding.{shared};
 ghost use Rattle.class_table.specs.Flaws.{marks_of};
 ghost use Rattle.class_table.specs.Numbers.{IsNumbering, is_place};
@@ -13,7 +14,7 @@ use class_link::ClassInfo;
 use class_model::Name;
 use class_order::Standing;
 use std::alloc::Global;
-use std::collections::HashMap;
+use std::collections::BTreeMap;
 use std::sync::Arc;
 
 /// What a class of a program may not be.
@@ -30,8 +31,8 @@ pub enum Flaw {
 }
 
 // Whether this is the place of a name.
-fn is_place(numbers: &HashMap<Name, u32>, name: &Name, i: u32) -> bool
-    ensures { result ≡ is_place (get same numbers.now name.now) i }
+fn is_place(numbers: &BTreeMap<Name, u32>, name: &Name, i: u32) -> bool
+    ensures { result ≡ is_place (get (slice_cmp nat_cmp) numbers.now name.now) i }
 {
     match numbers.get(name) {
         Some(number) => *number == i,
@@ -59,7 +60,7 @@ fn is_cyclic_at(found: &[Standing], at: usize) -> bool
 /// Whether the class at a place is what it may not be.
 pub fn has_flaw(
     infos: &[Arc<ClassInfo, Global>],
-    numbers: &HashMap<Name, u32>,
+    numbers: &BTreeMap<Name, u32>,
     found: &[Standing],
     flaw: Flaw,
     at: usize,

@@ -12,7 +12,7 @@ use class_link::ClassInfo;
 use class_model::{Bytes, Memory, Name, write_text};
 use class_order::Standing;
 use std::alloc::Global;
-use std::collections::HashMap;
+use std::collections::BTreeMap;
 use std::sync::Arc;
 
 /// A class by its place, and the bytes of its name.
@@ -56,7 +56,7 @@ fn consider(
 fn least_at(
     alloc: Global,
     infos: &[Arc<ClassInfo, Global>],
-    numbers: &HashMap<Name, u32>,
+    numbers: &BTreeMap<Name, u32>,
     found: &[Standing],
     flaw: Flaw,
 ) -> Result<Option<Least>, Memory>
@@ -78,7 +78,7 @@ fn least_at(
 pub fn least_with(
     alloc: Global,
     infos: &[Arc<ClassInfo, Global>],
-    numbers: &HashMap<Name, u32>,
+    numbers: &BTreeMap<Name, u32>,
     found: &[Standing],
     flaw: Flaw,
 ) -> Result<Option<Name>, Memory>

@@ -11,7 +11,7 @@ ghost use Rattle.class_table.specs.Numbers.{IsNumbering, AddsNumber};
 use class_link::{ClassBody, ClassInfo, LibClass, Loaded, Shared};
 use class_model::{Memory, Name};
 use std::alloc::Global;
-use std::collections::HashMap;
+use std::collections::BTreeMap;
 use std::sync::Arc;
 
 // A class with what it means, shared.
@@ -83,7 +83,7 @@ pub fn infos(
 }
 
 // Gives a number to a name, unless it has one.
-fn add_name(numbers: &mut HashMap<Name, u32>, name: &Name, number: u32) -> Result<(), Memory>
+fn add_name(numbers: &mut BTreeMap<Name, u32>, name: &Name, number: u32) -> Result<(), Memory>
     ensures { OnOk result (AddsNumber name.now number numbers.old numbers.new) }
 {
     if numbers.contains_key(name) {
@@ -98,14 +98,14 @@ fn add_name(numbers: &mut HashMap<Name, u32>, name: &Name, number: u32) -> Resul
 pub fn numbers(
     alloc: Global,
     infos: &[Arc<ClassInfo, Global>],
-) -> Result<Arc<HashMap<Name, u32>, Global>, Memory>
+) -> Result<Arc<BTreeMap<Name, u32>, Global>, Memory>
     ensures few { OnOk result (length infos.now < 2 ^ 32) }
     ensures numbers { IfOk result (λ m. IsNumbering (arc_value m) (shared infos.now)) }
 {
     if infos.len() > u32::MAX as usize {
         return Err(Memory);
     }
-    let mut numbers = HashMap::new(alloc);
+    let mut numbers = BTreeMap::new(alloc);
     for (i, info) in infos.iter().enumerate() {
         add_name(&mut numbers, info.name(), i as u32)?;
     }

@@ -23,7 +23,7 @@ use class_link::{ClassBody, ClassInfo, LibClass, LinkedMethod, Loaded};
 use class_model::{Class, ClassId, Memory, Name, Seq};
 use class_order::{Links, all_above, standings};
 use std::alloc::Global;
-use std::collections::HashMap;
+use std::collections::BTreeMap;
 use std::marker::Model;
 use std::mem;
 use std::sync::Arc;
@@ -33,7 +33,7 @@ use std::sync::Arc;
 #[derive(Drop)]
 pub struct Program {
     classes: Vec<Arc<ClassInfo, Global>>,
-    numbers: Arc<HashMap<Name, u32>, Global>,
+    numbers: Arc<BTreeMap<Name, u32>, Global>,
     supers: Arc<Supers, Global>,
 }
 
@@ -232,7 +232,7 @@ fn meant(info: &ClassInfo)
 fn supers_of(
     alloc: Global,
     infos: &[Arc<ClassInfo, Global>],
-    numbers: &HashMap<Name, u32>,
+    numbers: &BTreeMap<Name, u32>,
 ) -> Result<Arc<Supers, Global>, TableFault>
     requires few { length infos.now < 2 ^ 32 }
     requires meant { All IsInfo (shared infos.now) }

@@ -19,7 +19,7 @@ use class_model::names::is_text;
 use class_model::{Memory, Name};
 use class_order::{Above, Links, is_over};
 use std::alloc::Global;
-use std::collections::HashMap;
+use std::collections::BTreeMap;
 use std::sync::Arc;
 
 /// What a program's classes name as their supers, and what stands above each, by number.
@@ -54,7 +54,7 @@ fn is_object(name: &Name) -> bool
 // The class of a name, if there is one.
 fn class_named<'a>(
     infos: &'a [Arc<ClassInfo, Global>],
-    numbers: &HashMap<Name, u32>,
+    numbers: &BTreeMap<Name, u32>,
     name: &Name,
 ) -> Option<&'a ClassInfo>
     requires { IsNumbering numbers.now (shared infos.now) }
@@ -67,7 +67,7 @@ fn class_named<'a>(
 // The access flags of the class of a name, if there is one.
 fn flags_of(
     infos: &[Arc<ClassInfo, Global>],
-    numbers: &HashMap<Name, u32>,
+    numbers: &BTreeMap<Name, u32>,
     name: &Name,
 ) -> Option<u16>
     requires { IsNumbering numbers.now (shared infos.now) }
@@ -78,7 +78,7 @@ fn flags_of(
 
 // ---- a super that is missing
 
-fn is_absent(infos: &[Arc<ClassInfo, Global>], numbers: &HashMap<Name, u32>, name: &Name) -> bool
+fn is_absent(infos: &[Arc<ClassInfo, Global>], numbers: &BTreeMap<Name, u32>, name: &Name) -> bool
     requires { IsNumbering numbers.now (shared infos.now) }
     ensures { result ≡ is_none (look (shared infos.now) name.now) }
 {
@@ -87,7 +87,7 @@ fn is_absent(infos: &[Arc<ClassInfo, Global>], numbers: &HashMap<Name, u32>, nam
 
 fn is_any_absent(
     infos: &[Arc<ClassInfo, Global>],
-    numbers: &HashMap<Name, u32>,
+    numbers: &BTreeMap<Name, u32>,
     names: &[Shared<Name>],
 ) -> bool
     requires { IsNumbering numbers.now (shared infos.now) }
@@ -104,7 +104,7 @@ fn is_any_absent(
 /// Whether a class misses its superclass or an interface.
 pub fn misses(
     infos: &[Arc<ClassInfo, Global>],
-    numbers: &HashMap<Name, u32>,
+    numbers: &BTreeMap<Name, u32>,
     info: &ClassInfo,
 ) -> bool
     requires { IsNumbering numbers.now (shared infos.now) }
@@ -135,7 +135,7 @@ fn push_known(known: &mut Vec<u32, Global>, number: Option<u32>) -> Result<(), M
 
 fn number_of(
     infos: &[Arc<ClassInfo, Global>],
-    numbers: &HashMap<Name, u32>,
+    numbers: &BTreeMap<Name, u32>,
     name: &Name,
 ) -> Option<u32>
     requires { IsNumbering numbers.now (shared infos.now) }
@@ -147,7 +147,7 @@ fn number_of(
 fn numbers_known(
     alloc: Global,
     infos: &[Arc<ClassInfo, Global>],
-    numbers: &HashMap<Name, u32>,
+    numbers: &BTreeMap<Name, u32>,
     names: &[Shared<Name>],
 ) -> Result<Vec<u32, Global>, Memory>
     requires { IsNumbering numbers.now (shared infos.now) }
@@ -164,7 +164,7 @@ fn numbers_known(
 fn links_of(
     alloc: Global,
     infos: &[Arc<ClassInfo, Global>],
-    numbers: &HashMap<Name, u32>,
+    numbers: &BTreeMap<Name, u32>,
     info: &ClassInfo,
 ) -> Result<Links, Memory>
     requires { IsNumbering numbers.now (shared infos.now) }
@@ -183,7 +183,7 @@ fn links_of(
 pub fn all_links(
     alloc: Global,
     infos: &[Arc<ClassInfo, Global>],
-    numbers: &HashMap<Name, u32>,
+    numbers: &BTreeMap<Name, u32>,
 ) -> Result<Vec<Links, Global>, Memory>
     requires { IsNumbering numbers.now (shared infos.now) }
     ensures { IfOk result (λ g. AreLinks (shared infos.now) g.items) }
@@ -199,7 +199,7 @@ pub fn all_links(
 
 fn is_no_superclass(
     infos: &[Arc<ClassInfo, Global>],
-    numbers: &HashMap<Name, u32>,
+    numbers: &BTreeMap<Name, u32>,
     name: &Name,
 ) -> bool
     requires { IsNumbering numbers.now (shared infos.now) }
@@ -216,7 +216,7 @@ fn is_no_superclass(
 
 fn is_no_interface(
     infos: &[Arc<ClassInfo, Global>],
-    numbers: &HashMap<Name, u32>,
+    numbers: &BTreeMap<Name, u32>,
     name: &Name,
 ) -> bool
     requires { IsNumbering numbers.now (shared infos.now) }
@@ -230,7 +230,7 @@ fn is_no_interface(
 
 fn is_any_no_interface(
     infos: &[Arc<ClassInfo, Global>],
-    numbers: &HashMap<Name, u32>,
+    numbers: &BTreeMap<Name, u32>,
     names: &[Shared<Name>],
 ) -> bool
     requires { IsNumbering numbers.now (shared infos.now) }
@@ -247,7 +247,7 @@ fn is_any_no_interface(
 // Whether a class can't have this superclass.
 fn is_wrong_superclass(
     infos: &[Arc<ClassInfo, Global>],
-    numbers: &HashMap<Name, u32>,
+    numbers: &BTreeMap<Name, u32>,
     info: &ClassInfo,
     name: &Name,
 ) -> bool
@@ -261,7 +261,7 @@ fn is_wrong_superclass(
 /// Whether a class names a super of a wrong kind.
 pub fn names_wrong(
     infos: &[Arc<ClassInfo, Global>],
-    numbers: &HashMap<Name, u32>,
+    numbers: &BTreeMap<Name, u32>,
     info: &ClassInfo,
 ) -> bool
     requires { IsNumbering numbers.now (shared infos.now) }

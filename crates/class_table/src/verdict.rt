@@ -12,7 +12,7 @@ use class_link::ClassInfo;
 use class_model::{Memory, Name};
 use class_order::Standing;
 use std::alloc::Global;
-use std::collections::HashMap;
+use std::collections::BTreeMap;
 use std::sync::Arc;
 
 /// The first fault of these classes as a program, if they have one, where this was found of their
@@ -20,7 +20,7 @@ use std::sync::Arc;
 pub fn first_fault(
     alloc: Global,
     infos: &[Arc<ClassInfo, Global>],
-    numbers: &HashMap<Name, u32>,
+    numbers: &BTreeMap<Name, u32>,
     found: &[Standing],
 ) -> Result<Option<TableFault>, Memory>
     requires numbers { IsNumbering numbers.now (shared infos.now) }

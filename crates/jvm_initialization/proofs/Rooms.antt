@@ -1,7 +1,9 @@
 -- Whether the heap has room for the constants of a class.
 use Rattle.std.proofs.Common.{◌≡◌, ◌∙◌, sym, refl, ap, arith, ℕ, suc, ◌+◌, Bool, true, false, List, [], ◌∷◌, ◌++◌, map, drop, length, Option, None, Some, slice_get}
 use Rattle.std.specs.Prelude.{nat_le, is_some, if◌then◌else◌}
-use Rattle.std.specs.HashMap.{get}
+use Rattle.std.specs.BTreeMap.{get}
+use Rattle.std.specs.Cmp.Lexicographic.{slice_cmp}
+use Rattle.std.specs.Ordering.{nat_cmp}
 use Rattle.std.specs.Cmp.Lexicographic.{same_text}
 use Rattle.program_rules.specs.declared.value.Value.TheVariants.{Int, Long, Ref}
 use Rattle.program_rules.specs.Names.{Name, same}
@@ -122,17 +124,17 @@ module _ (q : Limits) (class : Name) where
 
 -- ---- in the code's world
 
-texts_meant : (p : List Info) (w : World) (v : def.World) (counted : Made) → ((n : Name) → get same counted.objects n ≡ None) → Means p w v → (n : Name) → texts_in w counted n ≡ texts_of v n
+texts_meant : (p : List Info) (w : World) (v : def.World) (counted : Made) → ((n : Name) → get (slice_cmp nat_cmp) counted.objects n ≡ None) → Means p w v → (n : Name) → texts_in w counted n ≡ texts_of v n
 unfolding world_of
 texts_meant p w v counted none m n =
-    ap (λ o. if is_some o then true else is_some (get same w.literals.objects n)) (none n)
+    ap (λ o. if is_some o then true else is_some (get (slice_cmp nat_cmp) w.literals.objects n)) (none n)
     ∙ ap is_some (m.history.literals n ∙ ap (λ (u : def.World). made_for n u.literals) (sym m.world))
 
 used_meant : (p : List Info) (w : World) (v : def.World) → Means p w v → v.used ≡ w.heap.used
 unfolding world_of
 used_meant p w v m = ap (λ (u : def.World). u.used) m.world
 
-pub tells : (p : List Info) (a : ℕ) (w : World) (counted : Made) (cs : List Constant) (b : Bool) → ((n : Name) → get same counted.objects n ≡ None) → constants_from (outline_of (look p (name_at p a))) 0 (fields_in (outline_of (look p (name_at p a)))) ≡ cs → b ≡ have_room (texts_in w counted) w.limits.heap w.heap.used cs → TellsSet p w (setting_at p w.limits a) b
+pub tells : (p : List Info) (a : ℕ) (w : World) (counted : Made) (cs : List Constant) (b : Bool) → ((n : Name) → get (slice_cmp nat_cmp) counted.objects n ≡ None) → constants_from (outline_of (look p (name_at p a))) 0 (fields_in (outline_of (look p (name_at p a)))) ≡ cs → b ≡ have_room (texts_in w counted) w.limits.heap w.heap.used cs → TellsSet p w (setting_at p w.limits a) b
 tells p a w counted cs b none same is v m =
     ap (λ l. is_some (sets_constants w.limits (name_at p a) l v)) same
     ∙ told w.limits (name_at p a) cs v

@@ -1,7 +1,9 @@
 -- The static fields that get a constant at the begin of their class (JVMS 4.7.2, 5.5, step 6), and
 -- the room of the heap for their texts.
 use Rattle.std.specs.Prelude.{◌≡◌, ℕ, suc, ◌+◌, Bool, true, false, ◌||◌, nat_le, if◌then◌else◌, List, [], ◌∷◌, length, Option, Some, None, is_some, IsSomeAnd}
-use Rattle.std.specs.HashMap.{get}
+use Rattle.std.specs.BTreeMap.{get}
+use Rattle.std.specs.Cmp.Lexicographic.{slice_cmp}
+use Rattle.std.specs.Ordering.{nat_cmp}
 use Rattle.program_rules.specs.Names.{Name, same}
 use Rattle.program_rules.specs.Kinds.{Kind}
 use Rattle.program_rules.specs.Linked.{LinkedField, FieldConstant, IntField, LongField, TextField, fits_kind, is_static}
@@ -86,7 +88,8 @@ have_room has limit used (c ∷ cs) =
 -- The texts that have their object in a world, and those that were counted.
 abbrev pub texts_in : World → Made → Texts
 texts_in w counted = λ n.
-    if is_some (get same counted.objects n) then true else is_some (get same w.literals.objects n)
+    if is_some (get (slice_cmp nat_cmp) counted.objects n) then true
+    else is_some (get (slice_cmp nat_cmp) w.literals.objects n)
 
 -- The texts that have their object in a world of the definitions.
 abbrev pub texts_of : def.World → Texts

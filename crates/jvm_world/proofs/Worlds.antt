@@ -20,7 +20,9 @@ use Rattle.jvm_values.specs.Words as words
 use Rattle.class_link.specs.Info.{Info}
 use Rattle.class_link.specs.Symbols.{kind_of}
 use Rattle.class_table.specs.Table.{IsProgram, name_at}
-use Rattle.std.specs.HashMap.{get}
+use Rattle.std.specs.BTreeMap.{get}
+use Rattle.std.specs.Cmp.Lexicographic.{slice_cmp}
+use Rattle.std.specs.Ordering.{nat_cmp}
 use Rattle.jvm_world.specs.declared.made.Made.{Made}
 use Rattle.jvm_world.specs.declared.world.World.{World}
 use Rattle.jvm_world.specs.Holding.{held, value_or, opened}
@@ -139,10 +141,10 @@ thrown_comes p old new f o None e a = λ v fs m.
 
 pub literal_made :
     (p : List Info) (old mid : World) (made : Made) (t : Name) (x : ℕ) →
-    get same old.literals.objects t ≡ None →
+    get (slice_cmp nat_cmp) old.literals.objects t ≡ None →
     Allocates p old mid (λ v. allocate old.limits v (text_object t) (2 + length t)) (Some x) →
-    ((n : Name) → get same made.objects n
-    ≡ (if same t n then Some x else get same mid.literals.objects n)) →
+    ((n : Name) → get (slice_cmp nat_cmp) made.objects n
+    ≡ (if same t n then Some x else get (slice_cmp nat_cmp) mid.literals.objects n)) →
     Allocates p old (record mid { literals = made }) (λ v. literal old.limits v t) (Some x)
 unfolding world_of
 literal_made p old mid made t x none a set = λ v m.
@@ -168,10 +170,11 @@ literal_made p old mid made t x none a set = λ v m.
 
 pub class_made :
     (p : List Info) (old mid : World) (made : Made) (t : Name) (o : objects.Object) (x : ℕ) →
-    get same old.class_objects.objects t ≡ None → o ≡ class_object t →
+    get (slice_cmp nat_cmp) old.class_objects.objects t ≡ None → o ≡ class_object t →
     Allocates p old mid (λ v. allocate old.limits v o 3) (Some x) →
-    ((n : Name) → get same made.objects n
-    ≡ (if same t n then Some x else get same mid.class_objects.objects n)) →
+    ((n : Name) → get (slice_cmp nat_cmp) made.objects n
+    ≡ (if same t n then Some x
+    else get (slice_cmp nat_cmp) mid.class_objects.objects n)) →
     Allocates p old (record mid { class_objects = made }) (λ v. object_of_class old.limits v t) (Some x)
 unfolding world_of
 class_made p old mid made t o x none e a set = λ v m.

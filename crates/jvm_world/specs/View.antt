@@ -1,8 +1,10 @@
 -- What the world of a machine means by the names of classes, and what its operations make of it.
 use Rattle.std.specs.Prelude.{◌≡◌, ℕ, ℤ, pos, ◌<◌, ◌+◌, ◌^◌, nat_lt, nat_le, List, [], ◌∷◌, map, length, slice_set, Bool, true, false, Option, Some, None, is_some, codes, zero, suc}
 use Rattle.std.specs.Option.{option_map}
-use Rattle.std.specs.HashMap.{get}
-use Rattle.program_rules.specs.Names.{Name, same}
+use Rattle.std.specs.BTreeMap.{get}
+use Rattle.std.specs.Cmp.Lexicographic.{slice_cmp}
+use Rattle.std.specs.Ordering.{nat_cmp}
+use Rattle.program_rules.specs.Names.{Name}
 use Rattle.program_rules.specs.declared.value.Value.{Value}
 use Rattle.program_rules.specs.Kinds.{Kind}
 use Rattle.program_rules.specs.Objects as objects
@@ -106,7 +108,7 @@ AreStatics p rows ss =
 
 -- The objects that were made for names.
 abbrev pub AreMade : Made → List (Name × ℕ) → Type 0
-AreMade made xs = (n : Name) → get same made.objects n ≡ made_for n xs
+AreMade made xs = (n : Name) → get (slice_cmp nat_cmp) made.objects n ≡ made_for n xs
 
 -- The open monitorenters of each object.
 abbrev pub AreMonitors : List ℕ → List (ℕ × ℕ) → Type 0

@@ -1,12 +1,13 @@
 -- The tables of a class and the parts of a method, in the setting of the rules.
 use Rattle.std.proofs.Common.{◌≡◌, ◌<◌, ◌≤◌, ℕ, false, List, [], ◌++◌, map, All, Option, Some, Result, Ok, Err, refl, sym, ap, ◌∙◌, subst, inl, inr, arith}
 use Rattle.std.specs.Prelude.{nat_le, if◌then◌else◌, IfOk}
-use Rattle.std.specs.HashMap.{get}
+use Rattle.std.specs.BTreeMap.{get}
+use Rattle.std.specs.Cmp.Lexicographic.{slice_cmp}
+use Rattle.std.specs.Ordering.{nat_cmp}
 use Rattle.std.specs.Option.{option_map}
 use Rattle.std.proofs.lemmas.Bool.{le-leb}
 use Rattle.std.proofs.lemmas.Bool.Decides.{leb_tells}
 use Rattle.std.proofs.lemmas.List.{append-nil}
-use Rattle.program_rules.specs.Names.{same}
 use Rattle.type_rules.specs.References.{classes_of}
 use Rattle.type_rules.specs.Assignability.{height}
 use Rattle.type_rules.specs.Frames.{FullFrame, first_items, first_frame, full_frame, expand, stated_at}
@@ -67,7 +68,7 @@ tables_last o t names a adds = record {
 
 distinct_now : (p : List Info) (t : Names) → IsTable p t → AreDistinct t.list.items
 distinct_now p t is i j li lj e =
-    let there : Some i ≡ Some j = sym (is.numbered i li) ∙ ap (get same t.numbers) e ∙ is.numbered j lj in
+    let there : Some i ≡ Some j = sym (is.numbered i li) ∙ ap (get (slice_cmp nat_cmp) t.numbers) e ∙ is.numbered j lj in
     cc
 
 pub distinct : (p : List Info) (t : Names) (ns : List Named) → ns ≡ t.list.items → IsTable p t → AreDistinct ns

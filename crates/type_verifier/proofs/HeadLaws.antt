@@ -1,9 +1,10 @@
 -- Names and descriptors by number, and methods that are declared twice.
 use Rattle.std.proofs.Common.{◌≡◌, ◌≢◌, ◌⊎◌, inl, inr, ◌∙◌, sym, refl, ap, ℕ, zero, suc, ◌+◌, ◌<◌, ◌≤◌, Bool, true, false, List, [], ◌∷◌, ◌++◌, map, take, Option, None, Some, arith, subst}
 use Rattle.std.specs.Prelude.{◌&&◌, ◌||◌, not, nat_eq, if◌then◌else◌, cond, slice_get}
-use Rattle.std.specs.Cmp.Lexicographic.{same_text, bytes_decides}
-use Rattle.std.specs.HashMap.{HashMap, get, hash_map_len}
-use Rattle.std.specs.HashSet.{HashSet, contains}
+use Rattle.std.specs.Cmp.Lexicographic.{slice_cmp, same_text, bytes_decides}
+use Rattle.std.specs.Ordering.{nat_cmp}
+use Rattle.std.specs.BTreeMap.{BTreeMap, get, btree_map_len}
+use Rattle.std.specs.BTreeSet.{BTreeSet, contains}
 use Rattle.std.specs.List.{list_any}
 use Rattle.std.proofs.lemmas.Bool.Decides.{eqb_tells}
 use Rattle.std.proofs.lemmas.Cmp.{nat_list_eq_equiv}
@@ -13,19 +14,21 @@ use Rattle.type_rules.specs.Rules.{is_first}
 use Rattle.class_link.specs.declared.linked.Entry.{Entry}
 use Rattle.class_link.specs.declared.linked.LinkedMethod.{LinkedMethod}
 use Rattle.class_link.specs.View.{method_of}
-use Rattle.type_verifier.specs.ProgramHeads.{declares, same_head, AreWords, IsNumber, pair_met, AreNoted}
+use Rattle.type_verifier.specs.Pairs.{pair_cmp}
+use Rattle.type_verifier.proofs.Ties.{same_pair}
+use Rattle.type_verifier.specs.ProgramHeads.{declares, AreWords, IsNumber, pair_met, AreNoted}
 
 -- ---- one more number
 
-module _ {S : Type 0} (old new : HashMap Name ℕ S) (text : Name) (are : AreWords old) (absent : get same old text ≡ None) (adds : (q : Name) → get same new q ≡ cond (same text q) (Some (hash_map_len old)) (get same old q)) (long : hash_map_len new ≡ hash_map_len old + 1) where
-  old_or_new : (n : Name) (w : ℕ) → get same new n ≡ Some w → ((text ≡ n) × (w ≡ hash_map_len old)) ⊎ (get same old n ≡ Some w)
+module _ (old new : BTreeMap Name ℕ) (text : Name) (are : AreWords old) (absent : get (slice_cmp nat_cmp) old text ≡ None) (adds : (q : Name) → get (slice_cmp nat_cmp) new q ≡ cond (same text q) (Some (btree_map_len old)) (get (slice_cmp nat_cmp) old q)) (long : btree_map_len new ≡ btree_map_len old + 1) where
+  old_or_new : (n : Name) (w : ℕ) → get (slice_cmp nat_cmp) new n ≡ Some w → ((text ≡ n) × (w ≡ btree_map_len old)) ⊎ (get (slice_cmp nat_cmp) old n ≡ Some w)
   old_or_new n w e = by_test (same text n) refl (sym (adds n) ∙ e)
     where
-      by_test : (t : Bool) → t ≡ same text n → cond t (Some (hash_map_len old)) (get same old n) ≡ Some w → ((text ≡ n) × (w ≡ hash_map_len old)) ⊎ (get same old n ≡ Some w)
-      by_test true same_is e = inl (same_text text n same_is, (let p : hash_map_len old ≡ w = cc in sym p))
+      by_test : (t : Bool) → t ≡ same text n → cond t (Some (btree_map_len old)) (get (slice_cmp nat_cmp) old n) ≡ Some w → ((text ≡ n) × (w ≡ btree_map_len old)) ⊎ (get (slice_cmp nat_cmp) old n ≡ Some w)
+      by_test true same_is e = inl (same_text text n same_is, (let p : btree_map_len old ≡ w = cc in sym p))
       by_test false same_is e = inr e
 
-  one_added : (n k : Name) (w : ℕ) → get same new n ≡ Some w → get same new k ≡ Some w → n ≡ k
+  one_added : (n k : Name) (w : ℕ) → get (slice_cmp nat_cmp) new n ≡ Some w → get (slice_cmp nat_cmp) new k ≡ Some w → n ≡ k
   one_added n k w en ek =
       elim (old_or_new n w en) [
         | inl h ↦ elim (old_or_new k w ek) [
@@ -38,34 +41,34 @@ module _ {S : Type 0} (old new : HashMap Name ℕ S) (text : Name) (are : AreWor
         ]
       ]
 
-  below_added : (n : Name) (w : ℕ) → get same new n ≡ Some w → w < hash_map_len new
+  below_added : (n : Name) (w : ℕ) → get (slice_cmp nat_cmp) new n ≡ Some w → w < btree_map_len new
   below_added n w en =
       elim (old_or_new n w en) [
         | inl h ↦ omega (arith, h.1, long)
         | inr h ↦ (let lt = are.below n w h in omega (arith, lt, long))
       ]
 
-  kept_test : (n : Name) (w : ℕ) (t : Bool) → t ≡ same text n → get same old n ≡ Some w → cond t (Some (hash_map_len old)) (get same old n) ≡ Some w
-  kept_test n w true e g = absurd (let h : None ≡ Some w = sym absent ∙ ap (get same old) (same_text text n e) ∙ g in cc)
+  kept_test : (n : Name) (w : ℕ) (t : Bool) → t ≡ same text n → get (slice_cmp nat_cmp) old n ≡ Some w → cond t (Some (btree_map_len old)) (get (slice_cmp nat_cmp) old n) ≡ Some w
+  kept_test n w true e g = absurd (let h : None ≡ Some w = sym absent ∙ ap (get (slice_cmp nat_cmp) old) (same_text text n e) ∙ g in cc)
   kept_test n w false e g = g
 
-  fresh_added : (n : Name) (w : ℕ) → get same new n ≡ Some w → get same old n ≡ None → hash_map_len old ≤ w
+  fresh_added : (n : Name) (w : ℕ) → get (slice_cmp nat_cmp) new n ≡ Some w → get (slice_cmp nat_cmp) old n ≡ None → btree_map_len old ≤ w
   fresh_added n w en none =
       elim (old_or_new n w en) [
         | inl h ↦ omega (arith, h.1)
         | inr h ↦ absurd (let g : None ≡ Some w = sym none ∙ h in cc)
       ]
 
-  pub number_added : IsNumber old new text (hash_map_len old)
+  pub number_added : IsNumber old new text (btree_map_len old)
   number_added = record {
     words = record { one = one_added; below = below_added };
     kept = λ n w g. adds n ∙ kept_test n w (same text n) refl g;
     fresh = fresh_added;
     longer = omega (arith, long);
-    number = adds text ∙ ap (λ t. cond t (Some (hash_map_len old)) (get same old text)) (nat_list_eq_equiv.refl text);
+    number = adds text ∙ ap (λ t. cond t (Some (btree_map_len old)) (get (slice_cmp nat_cmp) old text)) (nat_list_eq_equiv.refl text);
   }
 
-pub number_found : {S : Type 0} (words : HashMap Name ℕ S) (text : Name) (k : ℕ) → AreWords words → get same words text ≡ Some k → IsNumber words words text k
+pub number_found : (words : BTreeMap Name ℕ) (text : Name) (k : ℕ) → AreWords words → get (slice_cmp nat_cmp) words text ≡ Some k → IsNumber words words text k
 number_found words text k are e = record {
   words = are;
   kept = λ n w g. g;
@@ -80,14 +83,14 @@ not_true : (b : Bool) → (b ≡ true → ⊥) → b ≡ false
 not_true true h = absurd (h refl)
 not_true false h = refl
 
-module _ {S Z : Type 0} (old new : HashMap Name ℕ S) (met : HashSet (ℕ × ℕ) Z) (text : Name) (k : ℕ) (ms : List LinkedMethod) (grown : IsNumber old new text k) (are : AreNoted old met ms) where
-  left_new : (n : Name) (a b : ℕ) → get same new n ≡ Some a → get same old n ≡ None → contains same_head met (a, b) ≡ false
-  left_new n a b e none = not_true (contains same_head met (a, b)) (λ h. (let l : a < hash_map_len old = are.first (a, b) h in let f = grown.fresh n a e none in omega (arith, l, f)))
+module _ (old new : BTreeMap Name ℕ) (met : BTreeSet (ℕ × ℕ)) (text : Name) (k : ℕ) (ms : List LinkedMethod) (grown : IsNumber old new text k) (are : AreNoted old met ms) where
+  left_new : (n : Name) (a b : ℕ) → get (slice_cmp nat_cmp) new n ≡ Some a → get (slice_cmp nat_cmp) old n ≡ None → contains pair_cmp met (a, b) ≡ false
+  left_new n a b e none = not_true (contains pair_cmp met (a, b)) (λ h. (let l : a < btree_map_len old = are.first (a, b) h in let f = grown.fresh n a e none in omega (arith, l, f)))
 
-  right_new : (d : Name) (a b : ℕ) → get same new d ≡ Some b → get same old d ≡ None → contains same_head met (a, b) ≡ false
-  right_new d a b e none = not_true (contains same_head met (a, b)) (λ h. (let l : b < hash_map_len old = are.second (a, b) h in let f = grown.fresh d b e none in omega (arith, l, f)))
+  right_new : (d : Name) (a b : ℕ) → get (slice_cmp nat_cmp) new d ≡ Some b → get (slice_cmp nat_cmp) old d ≡ None → contains pair_cmp met (a, b) ≡ false
+  right_new d a b e none = not_true (contains pair_cmp met (a, b)) (λ h. (let l : b < btree_map_len old = are.second (a, b) h in let f = grown.fresh d b e none in omega (arith, l, f)))
 
-  pair_case : (n d : Name) (u v x y : Option ℕ) → get same old n ≡ u → get same old d ≡ v → get same new n ≡ x → get same new d ≡ y → pair_met met x y ≡ pair_met met u v
+  pair_case : (n d : Name) (u v x y : Option ℕ) → get (slice_cmp nat_cmp) old n ≡ u → get (slice_cmp nat_cmp) old d ≡ v → get (slice_cmp nat_cmp) new n ≡ x → get (slice_cmp nat_cmp) new d ≡ y → pair_met met x y ≡ pair_met met u v
   pair_case n d (Some a) (Some b) x y eu ev ex ey =
       ap (λ z. pair_met met z y) (sym ex ∙ grown.kept n a eu) ∙ ap (pair_met met (Some a)) (sym ey ∙ grown.kept d b ev)
   pair_case n d (Some a) None None y eu ev ex ey = refl
@@ -102,29 +105,29 @@ module _ {S Z : Type 0} (old new : HashMap Name ℕ S) (met : HashSet (ℕ × �
     numbers = grown.words;
     first = λ h e. (let l = are.first h e in omega (arith, l, grown.longer));
     second = λ h e. (let l = are.second h e in omega (arith, l, grown.longer));
-    noted = λ n d. pair_case n d (get same old n) (get same old d) (get same new n) (get same new d) refl refl refl refl ∙ are.noted n d;
+    noted = λ n d. pair_case n d (get (slice_cmp nat_cmp) old n) (get (slice_cmp nat_cmp) old d) (get (slice_cmp nat_cmp) new n) (get (slice_cmp nat_cmp) new d) refl refl refl refl ∙ are.noted n d;
   }
 
 -- ---- one more method
 
-module _ {S : Type 0} (words : HashMap Name ℕ S) (are : AreWords words) where
-  differ : (k n : Name) (a b : ℕ) (t : Bool) → t ≡ same k n → get same words k ≡ Some a → get same words n ≡ Some b → a ≢ b → false ≡ t
+module _ (words : BTreeMap Name ℕ) (are : AreWords words) where
+  differ : (k n : Name) (a b : ℕ) (t : Bool) → t ≡ same k n → get (slice_cmp nat_cmp) words k ≡ Some a → get (slice_cmp nat_cmp) words n ≡ Some b → a ≢ b → false ≡ t
   differ k n a b true e ka nb apart =
       let one : k ≡ n = same_text k n e in
-      let there : Some a ≡ Some b = sym ka ∙ ap (get same words) one ∙ nb in
+      let there : Some a ≡ Some b = sym ka ∙ ap (get (slice_cmp nat_cmp) words) one ∙ nb in
       absurd (apart cc)
   differ k n a b false e ka nb apart = refl
 
-  word_same : (k n : Name) (a b : ℕ) → get same words k ≡ Some a → get same words n ≡ Some b → nat_eq a b ≡ same k n
+  word_same : (k n : Name) (a b : ℕ) → get (slice_cmp nat_cmp) words k ≡ Some a → get (slice_cmp nat_cmp) words n ≡ Some b → nat_eq a b ≡ same k n
   word_same k n a b ka nb =
       elim (eqb_tells a b) [
         | inl h ↦ h.0 ∙ sym ((bytes_decides k n).1 (are.one k n a ka (nb ∙ ap Some (sym h.1))))
         | inr h ↦ h.0 ∙ differ k n a b (same k n) refl ka nb h.1
       ]
 
-  unnumbered : (k n : Name) (a : ℕ) (t : Bool) → t ≡ same k n → get same words k ≡ Some a → get same words n ≡ None → t ≡ false
+  unnumbered : (k n : Name) (a : ℕ) (t : Bool) → t ≡ same k n → get (slice_cmp nat_cmp) words k ≡ Some a → get (slice_cmp nat_cmp) words n ≡ None → t ≡ false
   unnumbered k n a true e ka none =
-      absurd (let there : Some a ≡ None = sym ka ∙ ap (get same words) (same_text k n e) ∙ none in cc)
+      absurd (let there : Some a ≡ None = sym ka ∙ ap (get (slice_cmp nat_cmp) words) (same_text k n e) ∙ none in cc)
   unnumbered k n a false e ka none = refl
 
 and_false : (t : Bool) → (t && false) ≡ false
@@ -162,24 +165,24 @@ same_second b d true h = elim (eqb_tells b d) [
 ]
 same_second b d false h = absurd cc
 
-module _ {S Z : Type 0} (words : HashMap Name ℕ S) (old new : HashSet (ℕ × ℕ) Z) (m : LinkedMethod) (a b : ℕ) (ms : List LinkedMethod) (are : AreNoted words old ms) (name : get same words m.name ≡ Some a) (desc : get same words m.desc ≡ Some b) (adds : (q : ℕ × ℕ) → contains same_head new q ≡ cond (same_head (a, b) q) true (contains same_head old q)) where
-  pub first_met : contains same_head old (a, b) ≡ declares m.name m.desc ms
-  first_met = ap (λ x. pair_met old x (Some b)) (sym name) ∙ ap (pair_met old (get same words m.name)) (sym desc) ∙ are.noted m.name m.desc
+module _ (words : BTreeMap Name ℕ) (old new : BTreeSet (ℕ × ℕ)) (m : LinkedMethod) (a b : ℕ) (ms : List LinkedMethod) (are : AreNoted words old ms) (name : get (slice_cmp nat_cmp) words m.name ≡ Some a) (desc : get (slice_cmp nat_cmp) words m.desc ≡ Some b) (adds : (q : ℕ × ℕ) → contains pair_cmp new q ≡ cond (same_pair (a, b) q) true (contains pair_cmp old q)) where
+  pub first_met : contains pair_cmp old (a, b) ≡ declares m.name m.desc ms
+  first_met = ap (λ x. pair_met old x (Some b)) (sym name) ∙ ap (pair_met old (get (slice_cmp nat_cmp) words m.name)) (sym desc) ∙ are.noted m.name m.desc
 
-  there_test : (h : ℕ × ℕ) (t : Bool) → t ≡ same_head (a, b) h → cond t true (contains same_head old h) ≡ true → (h.0 < hash_map_len words) × (h.1 < hash_map_len words)
+  there_test : (h : ℕ × ℕ) (t : Bool) → t ≡ same_pair (a, b) h → cond t true (contains pair_cmp old h) ≡ true → (h.0 < btree_map_len words) × (h.1 < btree_map_len words)
   there_test h true e g =
       let l = are.numbers.below m.name a name in
       let r = are.numbers.below m.desc b desc in
       let p : a ≡ h.0 = same_first a b h.0 h.1 (nat_eq a h.0) refl (sym e) in
       let q : b ≡ h.1 = same_second b h.1 (nat_eq a h.0) (sym e) in
-      (subst (λ n. n < hash_map_len words) p l, subst (λ n. n < hash_map_len words) q r)
+      (subst (λ n. n < btree_map_len words) p l, subst (λ n. n < btree_map_len words) q r)
   there_test h false e g = (are.first h g, are.second h g)
 
-  more_case : (n d : Name) (x y : Option ℕ) → get same words n ≡ x → get same words d ≡ y → pair_met new x y ≡ (pair_met old x y || (same m.name n && same m.desc d))
+  more_case : (n d : Name) (x y : Option ℕ) → get (slice_cmp nat_cmp) words n ≡ x → get (slice_cmp nat_cmp) words d ≡ y → pair_met new x y ≡ (pair_met old x y || (same m.name n && same m.desc d))
   more_case n d (Some w) (Some v) ex ey =
-      adds (w, v) ∙ one_more (same_head (a, b) (w, v)) (contains same_head old (w, v))
-      ∙ ap (λ t. contains same_head old (w, v) || (t && nat_eq b v)) (word_same words are.numbers m.name n a w name ex)
-      ∙ ap (λ t. contains same_head old (w, v) || (same m.name n && t)) (word_same words are.numbers m.desc d b v desc ey)
+      adds (w, v) ∙ one_more (same_pair (a, b) (w, v)) (contains pair_cmp old (w, v))
+      ∙ ap (λ t. contains pair_cmp old (w, v) || (t && nat_eq b v)) (word_same words are.numbers m.name n a w name ex)
+      ∙ ap (λ t. contains pair_cmp old (w, v) || (same m.name n && t)) (word_same words are.numbers m.desc d b v desc ey)
   more_case n d (Some w) None ex ey =
       sym (ap (λ t. false || (same m.name n && t)) (unnumbered words are.numbers m.desc d b (same m.desc d) refl desc ey) ∙ and_false (same m.name n))
   more_case n d None y ex ey =
@@ -188,10 +191,10 @@ module _ {S Z : Type 0} (words : HashMap Name ℕ S) (old new : HashSet (ℕ × 
   pub noted_more : AreNoted words new (ms ++ m ∷ [])
   noted_more = record {
     numbers = are.numbers;
-    first = λ h e. (there_test h (same_head (a, b) h) refl (sym (adds h) ∙ e)).0;
-    second = λ h e. (there_test h (same_head (a, b) h) refl (sym (adds h) ∙ e)).1;
+    first = λ h e. (there_test h (same_pair (a, b) h) refl (sym (adds h) ∙ e)).0;
+    second = λ h e. (there_test h (same_pair (a, b) h) refl (sym (adds h) ∙ e)).1;
     noted = λ n d.
-        more_case n d (get same words n) (get same words d) refl refl
+        more_case n d (get (slice_cmp nat_cmp) words n) (get (slice_cmp nat_cmp) words d) refl refl
         ∙ ap (λ t. t || (same m.name n && same m.desc d)) (are.noted n d)
         ∙ sym (any_more (λ k. same k.name n && same k.desc d) ms m);
   }

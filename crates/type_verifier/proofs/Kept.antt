@@ -2,6 +2,8 @@
 use Rattle.std.proofs.Common.{◌≡◌, ◌∙◌, refl, sym, ap, subst, ℕ, Bool, true, false, List, [], map, Option, Some}
 use Rattle.std.specs.Prelude.{nat_eq, cond, ◌&&◌}
 use Rattle.std.specs.Option.{option_map}
+use Rattle.std.specs.BTreeMap.{BTreeMap}
+use Rattle.std.specs.BTreeMap as ordered
 use Rattle.std.specs.HashMap.{HashMap, get}
 use Rattle.std.proofs.lemmas.Bool.{eqb-true}
 use Rattle.program_rules.specs.Names.{Name}
@@ -20,8 +22,10 @@ use Rattle.type_verifier.specs.declared.meanings.MethodUse.{MethodUse}
 use Rattle.type_verifier.specs.declared.own.Own.{Own}
 use Rattle.type_verifier.specs.Tables.{Continues}
 use Rattle.type_verifier.specs.PoolTexts.{pool_in}
-use Rattle.type_verifier.specs.Meanings.{ClassUseIs, UseIs, MethodUseIs, same_pair, AreKept, ArePairsKept, ClassesKept, FieldsKept, MethodsKept, StatesMethod}
+use Rattle.type_verifier.specs.Meanings.{ClassUseIs, UseIs, MethodUseIs, AreKept, ArePairsKept, ClassesKept, FieldsKept, MethodsKept, StatesMethod}
+use Rattle.type_verifier.specs.Pairs.{pair_cmp}
 use Rattle.type_verifier.proofs.Lasting.{lasts}
+use Rattle.type_verifier.proofs.Ties.{same_pair}
 
 -- ---- more names
 
@@ -73,8 +77,8 @@ both_right true true e = refl
 both_right true false e = absurd cc
 both_right false b e = absurd cc
 
-module _ {V S : Type 0} (Is : Name → Name → V → Type 0) (pool : List Const) (old new : HashMap (ℕ × ℕ) V S) (pair : ℕ × ℕ) (v : V) (adds : (q : ℕ × ℕ) → get same_pair new q ≡ cond (same_pair pair q) (Some v) (get same_pair old q)) (are : ArePairsKept Is pool old) (is : Is (text_named pool pair.0) (text_named pool pair.1) v) where
-  by_pair : (q : ℕ × ℕ) (w : V) (b : Bool) → b ≡ same_pair pair q → cond b (Some v) (get same_pair old q) ≡ Some w → Is (text_named pool q.0) (text_named pool q.1) w
+module _ {V : Type 0} (Is : Name → Name → V → Type 0) (pool : List Const) (old new : BTreeMap (ℕ × ℕ) V) (pair : ℕ × ℕ) (v : V) (adds : (q : ℕ × ℕ) → ordered.get pair_cmp new q ≡ cond (same_pair pair q) (Some v) (ordered.get pair_cmp old q)) (are : ArePairsKept Is pool old) (is : Is (text_named pool pair.0) (text_named pool pair.1) v) where
+  by_pair : (q : ℕ × ℕ) (w : V) (b : Bool) → b ≡ same_pair pair q → cond b (Some v) (ordered.get pair_cmp old q) ≡ Some w → Is (text_named pool q.0) (text_named pool q.1) w
   by_pair q w true e g =
       let same : v ≡ w = cc in
       let first = eqb-true pair.0 q.0 (both_left (nat_eq pair.0 q.0) (nat_eq pair.1 q.1) e) in

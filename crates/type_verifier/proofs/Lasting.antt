@@ -3,8 +3,9 @@ use Rattle.std.proofs.Common.{◌⊎◌, inl, inr, ◌≡◌, ◌<◌, ◌≤◌
 use Rattle.std.specs.Prelude.{slice_get, cond, IfSome, IfNone, nat_eq, if◌then◌else◌}
 use Rattle.std.proofs.lemmas.Cmp.{nat_list_eq_equiv}
 use Rattle.std.specs.Option.{option_map}
-use Rattle.std.specs.HashMap.{HashMap, get}
-use Rattle.std.specs.Cmp.Lexicographic.{same_text}
+use Rattle.std.specs.BTreeMap.{get}
+use Rattle.std.specs.Cmp.Lexicographic.{slice_cmp, same_text}
+use Rattle.std.specs.Ordering.{nat_cmp}
 use Rattle.std.proofs.lemmas.List.{append-nil, map-append, length-append, get_or_append_left, get_or_push}
 use Rattle.std.proofs.lemmas.List.Elements.{All-nil, All-cons, All-append, All-from_recursion}
 use Rattle.program_rules.specs.Names.{Name, same, without_last}
@@ -60,7 +61,7 @@ lt-split (suc k) (suc n) l =
     ]
 
 -- one more name
-module _ (p : List Info) (old new : Names) (x : Named) (is : IsTable p old) (named : IsNamed p x) (fresh : get same old.numbers x.name ≡ None) (component : ComponentLasts old.list.items x.name x.component) (list : new.list.items ≡ old.list.items ++ x ∷ []) (adds : (q : Name) → get same new.numbers q ≡ cond (same x.name q) (Some (length old.list.items)) (get same old.numbers q)) where
+module _ (p : List Info) (old new : Names) (x : Named) (is : IsTable p old) (named : IsNamed p x) (fresh : get (slice_cmp nat_cmp) old.numbers x.name ≡ None) (component : ComponentLasts old.list.items x.name x.component) (list : new.list.items ≡ old.list.items ++ x ∷ []) (adds : (q : Name) → get (slice_cmp nat_cmp) new.numbers q ≡ cond (same x.name q) (Some (length old.list.items)) (get (slice_cmp nat_cmp) old.numbers q)) where
   more : Continues old.list.items new.list.items
   more = record { more = x ∷ []; is = list }
 
@@ -89,22 +90,22 @@ module _ (p : List Info) (old new : Names) (x : Named) (is : IsTable p old) (nam
       (All-append (HasComponent ns) old.list.items (x ∷ []) (is.components (x ∷ more))
       (All-cons (HasComponent ns) x [] (λ r. component r (x ∷ more)) (All-nil (HasComponent ns)))))
 
-  number_case : (n : Name) (k : ℕ) (b : Bool) → b ≡ same x.name n → cond b (Some (length old.list.items)) (get same old.numbers n) ≡ Some k → NameLasts new.list.items k n
+  number_case : (n : Name) (k : ℕ) (b : Bool) → b ≡ same x.name n → cond b (Some (length old.list.items)) (get (slice_cmp nat_cmp) old.numbers n) ≡ Some k → NameLasts new.list.items k n
   number_case n k true e g =
       let at : length old.list.items ≡ k = cc in
       subst (λ j. NameLasts new.list.items j n) at (subst (NameLasts new.list.items (length old.list.items)) (same_text x.name n e) pushed_number)
   number_case n k false e g = lasts (λ ns. name_at ns k ≡ n) old.list.items new.list.items more (is.numbers n k g)
 
-  old_number : (k : ℕ) (n : Name) (b : Bool) → b ≡ same x.name n → get same old.numbers n ≡ Some k → cond b (Some (length old.list.items)) (get same old.numbers n) ≡ Some k
-  old_number k n true e g = absurd (let f : None ≡ Some k = sym fresh ∙ ap (get same old.numbers) (same_text x.name n e) ∙ g in cc)
+  old_number : (k : ℕ) (n : Name) (b : Bool) → b ≡ same x.name n → get (slice_cmp nat_cmp) old.numbers n ≡ Some k → cond b (Some (length old.list.items)) (get (slice_cmp nat_cmp) old.numbers n) ≡ Some k
+  old_number k n true e g = absurd (let f : None ≡ Some k = sym fresh ∙ ap (get (slice_cmp nat_cmp) old.numbers) (same_text x.name n e) ∙ g in cc)
   old_number k n false e g = g
 
-  is_numbered : (k : ℕ) → k < length (old.list.items ++ x ∷ []) → get same new.numbers (name_at (old.list.items ++ x ∷ []) k) ≡ Some k
+  is_numbered : (k : ℕ) → k < length (old.list.items ++ x ∷ []) → get (slice_cmp nat_cmp) new.numbers (name_at (old.list.items ++ x ∷ []) k) ≡ Some k
   is_numbered k l =
       elim (lt-split k (length old.list.items) (omega (arith, l, length-append old.list.items (x ∷ [])))) [
-        | inl h ↦ (let n = name_kept old.list.items (x ∷ []) k h in ap (get same new.numbers) n ∙ adds (name_at old.list.items k) ∙ old_number k (name_at old.list.items k) (same x.name (name_at old.list.items k)) refl (is.numbered k h))
+        | inl h ↦ (let n = name_kept old.list.items (x ∷ []) k h in ap (get (slice_cmp nat_cmp) new.numbers) n ∙ adds (name_at old.list.items k) ∙ old_number k (name_at old.list.items k) (same x.name (name_at old.list.items k)) refl (is.numbered k h))
         | inr h ↦ (let n : name_at (old.list.items ++ x ∷ []) k ≡ x.name = ap (name_at (old.list.items ++ x ∷ [])) h ∙ name_behind old.list.items [] x in
-            ap (get same new.numbers) n ∙ adds x.name ∙ ap (λ b. cond b (Some (length old.list.items)) (get same old.numbers x.name)) (nat_list_eq_equiv.refl x.name) ∙ ap Some (sym h))
+            ap (get (slice_cmp nat_cmp) new.numbers) n ∙ adds x.name ∙ ap (λ b. cond b (Some (length old.list.items)) (get (slice_cmp nat_cmp) old.numbers x.name)) (nat_list_eq_equiv.refl x.name) ∙ ap Some (sym h))
       ]
 
   pub pushed : Adds p old new
@@ -113,7 +114,7 @@ module _ (p : List Info) (old new : Names) (x : Named) (is : IsTable p old) (nam
       named = are_named;
       components = have_components;
       numbers = λ n k g. number_case n k (same x.name n) refl (sym (adds n) ∙ g);
-      numbered = subst (λ l. (k : ℕ) → k < length l → get same new.numbers (name_at l k) ≡ Some k) (sym list) is_numbered;
+      numbered = subst (λ l. (k : ℕ) → k < length l → get (slice_cmp nat_cmp) new.numbers (name_at l k) ≡ Some k) (sym list) is_numbered;
     };
     more = more;
   }
@@ -135,16 +136,16 @@ leads_last n [] m x h = ap component_of h.name ∙ h.rest
 leads_last n (y ∷ xs) m x h = leads_last (component_of n) xs m x h.rest
 
 -- a name that has a number
-pub found : (p : List Info) (t : Names) (n : Name) (o : Option ℕ) → IsTable p t → o ≡ get same t.numbers n → IfSome o (λ k. NameLasts t.list.items k n)
+pub found : (p : List Info) (t : Names) (n : Name) (o : Option ℕ) → IsTable p t → o ≡ get (slice_cmp nat_cmp) t.numbers n → IfSome o (λ k. NameLasts t.list.items k n)
 found p t n None x e = tt
 found p t n (Some k) x e = x.numbers n k (sym e)
 
-pub unfound : (t : Names) (n : Name) (o : Option ℕ) → o ≡ get same t.numbers n → IfNone o (get same t.numbers n ≡ None)
+pub unfound : (t : Names) (n : Name) (o : Option ℕ) → o ≡ get (slice_cmp nat_cmp) t.numbers n → IfNone o (get (slice_cmp nat_cmp) t.numbers n ≡ None)
 unfound t n None e = sym e
 unfound t n (Some k) e = tt
 
 -- the first table
-pub first_table : (p : List Info) (t : Names) (x : Named) → IsClosed p → IsNamed p x → x.name ≡ [] → t.list.items ≡ x ∷ [] → ((q : Name) → get same t.numbers q ≡ cond (same [] q) (Some 0) None) → IsTable p t
+pub first_table : (p : List Info) (t : Names) (x : Named) → IsClosed p → IsNamed p x → x.name ≡ [] → t.list.items ≡ x ∷ [] → ((q : Name) → get (slice_cmp nat_cmp) t.numbers q ≡ cond (same [] q) (Some 0) None) → IsTable p t
 first_table p t x closed named empty list numbers = record {
   named = record {
     closed = closed;
@@ -164,8 +165,8 @@ first_table p t x closed named empty list numbers = record {
     by_test n k true e g more = let at : 0 ≡ k = cc in subst (λ j. name_at (t.list.items ++ more) j ≡ n) at (name_first more ∙ same_text [] n e)
     by_test n k false e g more = absurd cc
 
-    at_first : (k : ℕ) → k ≡ 0 → get same t.numbers (name_at t.list.items k) ≡ Some k
-    at_first zero e = ap (get same t.numbers) (ap (λ l. name_at l 0) list ∙ empty) ∙ numbers []
+    at_first : (k : ℕ) → k ≡ 0 → get (slice_cmp nat_cmp) t.numbers (name_at t.list.items k) ≡ Some k
+    at_first zero e = ap (get (slice_cmp nat_cmp) t.numbers) (ap (λ l. name_at l 0) list ∙ empty) ∙ numbers []
     at_first (suc k) e = absurd (omega (arith, e))
 
 -- ---- chains and tables

@@ -2,6 +2,7 @@ pub mod Lasting
 pub mod Owns
 pub mod Firsts
 mod Indices
+mod Ties
 mod Kept
 pub mod Stands
 pub mod Nexts

@@ -10,6 +10,7 @@ pub mod Expansions
 pub mod Caught
 pub mod Handlers
 pub mod Passes
+pub mod Pairs
 pub mod ProgramHeads
 pub mod ProgramTables
 pub mod Methods

@@ -1,6 +1,8 @@
 -- What the texts of a class's constant pool mean, each by its index, while names are added.
-use Rattle.std.specs.Prelude.{◌≡◌, ◌++◌, ◌&&◌, ℕ, Bool, nat_eq, List, [], map, Option, Some}
+use Rattle.std.specs.Prelude.{◌≡◌, ◌++◌, ℕ, Bool, nat_eq, List, [], map, Option, Some}
 use Rattle.std.specs.Option.{option_map}
+use Rattle.std.specs.BTreeMap.{BTreeMap}
+use Rattle.std.specs.BTreeMap as ordered
 use Rattle.std.specs.HashMap.{HashMap, get}
 use Rattle.program_rules.specs.Names.{Name, same}
 use Rattle.program_rules.specs.Kinds.{Kind, reversed_onto}
@@ -26,6 +28,7 @@ use Rattle.type_verifier.specs.declared.pool_texts.TextIndices.{TextIndices}
 use Rattle.type_verifier.specs.Tables.{NameLasts, TypeLasts, KindLasts}
 use Rattle.type_verifier.specs.PoolTexts.{pool_in, FieldTexts, MethodTexts, EntryTexts}
 use Rattle.type_verifier.specs.Pool.{InitialisesIs, NearIs}
+use Rattle.type_verifier.specs.Pairs.{pair_cmp}
 
 -- ---- one text, however many names are added
 
@@ -59,18 +62,17 @@ DeclaresIs o name desc b = declares name desc (map field_of o.linked.now.fields)
 
 -- ---- what is kept of a pool's texts
 
-abbrev pub same_pair : ℕ × ℕ → ℕ × ℕ → Bool
-same_pair a b = nat_eq a.0 b.0 && nat_eq a.1 b.1
-
 module _ {V S : Type 0} where
-  -- What is kept by the index of a text is so of the text, and by those of two texts of these.
+  -- What is kept by the index of a text is so of the text.
   abbrev pub AreKept : (Name → V → Type 0) → List Const → HashMap ℕ V S → Type 0
   AreKept Is pool kept =
       (index : ℕ) (v : V) → get nat_eq kept index ≡ Some v → Is (text_named pool index) v
 
-  abbrev pub ArePairsKept : (Name → Name → V → Type 0) → List Const → HashMap (ℕ × ℕ) V S → Type 0
+module _ {V : Type 0} where
+  -- What is kept by the indices of two texts is so of these.
+  abbrev pub ArePairsKept : (Name → Name → V → Type 0) → List Const → BTreeMap (ℕ × ℕ) V → Type 0
   ArePairsKept Is pool kept =
-      (pair : ℕ × ℕ) (v : V) → get same_pair kept pair ≡ Some v
+      (pair : ℕ × ℕ) (v : V) → ordered.get pair_cmp kept pair ≡ Some v
       → Is (text_named pool pair.0) (text_named pool pair.1) v
 
 module _ {S : Type 0} where
@@ -86,8 +88,8 @@ module _ {S : Type 0} where
   abbrev pub MethodsKept : List Named → Own → HashMap ℕ MethodUse S → Type 0
   MethodsKept ns o kept = AreKept (MethodUseIs ns) (pool_in o.body.now) kept
 
-  abbrev pub DeclaredKept : Own → HashMap (ℕ × ℕ) Bool S → Type 0
-  DeclaredKept o kept = ArePairsKept (DeclaresIs o) (pool_in o.body.now) kept
+abbrev pub DeclaredKept : Own → BTreeMap (ℕ × ℕ) Bool → Type 0
+DeclaredKept o kept = ArePairsKept (DeclaresIs o) (pool_in o.body.now) kept
 
 -- All that is kept of a class's constant pool is right, however many names are added.
 pub record AreMeanings (ns : List Named) (o : Own) (m : Meanings) : Type 0 where

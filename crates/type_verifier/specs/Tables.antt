@@ -1,7 +1,9 @@
 -- The names that a class mentions, by number, while more are found (this project's own).
 use Rattle.std.specs.Prelude.{◌≡◌, ◌<◌, ℕ, true, List, [], ◌∷◌, ◌++◌, All, Some, length, map}
-use Rattle.std.specs.HashMap.{get}
-use Rattle.program_rules.specs.Names.{Name, same}
+use Rattle.std.specs.BTreeMap.{get}
+use Rattle.std.specs.Cmp.Lexicographic.{slice_cmp}
+use Rattle.std.specs.Ordering.{nat_cmp}
+use Rattle.program_rules.specs.Names.{Name}
 use Rattle.type_rules.specs.References.{dimensions, base_of, component_of}
 use Rattle.type_rules.specs.Rows.{is_of_references}
 use Rattle.class_link.specs.Info.{Info}
@@ -35,10 +37,12 @@ pub record Continues (old new : List Named) : Type 0 where
 pub record IsTable (p : List Info) (t : Names) : Type 0 where
   pub named : AreNamed p t.list.items
   pub components : (more : List Named) → All (HasComponent (t.list.items ++ more)) t.list.items
-  pub numbers : (n : Name) (k : ℕ) → get same t.numbers n ≡ Some k → NameLasts t.list.items k n
+  pub numbers :
+      (n : Name) (k : ℕ) → get (slice_cmp nat_cmp) t.numbers n ≡ Some k
+      → NameLasts t.list.items k n
   pub numbered :
       (k : ℕ) → k < length t.list.items
-      → get same t.numbers (name_at t.list.items k) ≡ Some k
+      → get (slice_cmp nat_cmp) t.numbers (name_at t.list.items k) ≡ Some k
 
 -- Names were added.
 pub record Adds (p : List Info) (old new : Names) : Type 0 where

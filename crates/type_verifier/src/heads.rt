@@ -6,18 +6,18 @@ ghost use Rattle.type_verifier.specs.ProgramHeads.{NumberIs, AreMet, IsMet};
 use class_link::LinkedMethod;
 use class_model::{Memory, Name};
 use std::alloc::Global;
-use std::collections::{HashMap, HashSet};
+use std::collections::{BTreeMap, BTreeSet};
 
 /// The heads of methods that were met: names and descriptors by numbers. Each text is kept once,
 /// however many methods have it.
 #[derive(Drop)]
 pub struct Heads {
-    pub words: HashMap<Name, usize>,
-    pub met: HashSet<(usize, usize)>,
+    pub words: BTreeMap<Name, usize>,
+    pub met: BTreeSet<(usize, usize)>,
 }
 
 // The number of a text, which gets one unless it has one.
-fn number(words: &mut HashMap<Name, usize>, text: &Name) -> Result<usize, Memory>
+fn number(words: &mut BTreeMap<Name, usize>, text: &Name) -> Result<usize, Memory>
     ensures { IfOk result (λ k. NumberIs words.old words.new text.now k) }
 {
     if let Some(number) = words.get(text) {
@@ -34,8 +34,8 @@ impl Heads {
         ensures { AreMet result [] }
     {
         Heads {
-            words: HashMap::new(alloc),
-            met: HashSet::new(alloc),
+            words: BTreeMap::new(alloc),
+            met: BTreeSet::new(alloc),
         }
     }
 

@@ -18,7 +18,7 @@ use class_link::{FieldRef, LinkedField, MethodRef, Shared};
 use class_model::{Kind, Memory, Name, Seq};
 use class_table::Program;
 use std::alloc::Global;
-use std::collections::HashMap;
+use std::collections::{BTreeMap, HashMap};
 use vframes::SlotType;
 
 /// What a name of a class is to a class: its number and that of the array of such components,
@@ -47,7 +47,7 @@ pub struct Meanings {
     pub near: HashMap<u16, bool>,
     pub fields: HashMap<u16, SlotType>,
     pub methods: HashMap<u16, MethodUse>,
-    pub declared: HashMap<(u16, u16), bool>,
+    pub declared: BTreeMap<(u16, u16), bool>,
 }
 
 impl MethodUse {
@@ -257,7 +257,7 @@ fn declares(fields: &[LinkedField], r: &FieldRef) -> bool
 // indices.
 fn declares_by_text(
     own: &Own,
-    kept: &mut HashMap<(u16, u16), bool>,
+    kept: &mut BTreeMap<(u16, u16), bool>,
     pair: (u16, u16),
     r: &FieldRef,
 ) -> Result<bool, Memory>
@@ -277,7 +277,7 @@ fn declares_by_text(
 /// Whether a field is one that the class itself declares, by whether its class is the class itself.
 pub fn is_declared(
     own: &Own,
-    kept: &mut HashMap<(u16, u16), bool>,
+    kept: &mut BTreeMap<(u16, u16), bool>,
     is_own: bool,
     pair: (u16, u16),
     r: &FieldRef,
@@ -304,6 +304,6 @@ pub fn no_meanings(alloc: Global) -> Meanings
         near: HashMap::new(alloc),
         fields: HashMap::new(alloc),
         methods: HashMap::new(alloc),
-        declared: HashMap::new(alloc),
+        declared: BTreeMap::new(alloc),
     }
 }

@@ -1,10 +1,11 @@
 //! The names that a class mentions, each with a number.
 
 ghost use Rattle.std.specs.Prelude.{◌≡◌, [], All, None, IfOk, OnOk, IfSome, IfNone};
-ghost use Rattle.std.specs.HashMap.{get};
+ghost use Rattle.std.specs.BTreeMap.{get};
+ghost use Rattle.std.specs.Cmp.Lexicographic.{slice_cmp};
+ghost use Rattle.std.specs.Ordering.{nat_cmp};
 ghost use Rattle.type_rules.specs.References.{dimensions, base_of, component_of};
 ghost use Rattle.type_rules.specs.Rows.{is_of_references};
-ghost use Rattle.program_rules.specs.Names.{same};
 ghost use Rattle.vframes.specs.Named.{IsClosed, IsNamed, IsShaped};
 ghost use Rattle.type_verifier.specs.Tables.{IsTable, Adds, NameLasts, ComponentLasts, EndsAt};
 
@@ -12,14 +13,14 @@ use class_link::names::without_last;
 use class_model::{Memory, Name, Seq};
 use class_table::Program;
 use std::alloc::Global;
-use std::collections::HashMap;
+use std::collections::BTreeMap;
 use vframes::{Base, Named, name_parts};
 
 /// Names by number, and the number of each.
 #[derive(Drop)]
 pub struct Names {
     pub list: Vec<Named>,
-    pub numbers: HashMap<Name, usize>,
+    pub numbers: BTreeMap<Name, usize>,
 }
 
 // A program has all supers that it names.
@@ -65,7 +66,7 @@ impl Names {
     {
         is_closed(program);
         let mut list = Vec::new(alloc);
-        let mut numbers = HashMap::new(alloc);
+        let mut numbers = BTreeMap::new(alloc);
         numbers.insert(Seq::new(alloc), 0)?;
         list.push(name_parts(alloc, program, &Seq::new(alloc))?)?;
         Ok(Names { list, numbers })
@@ -75,7 +76,7 @@ impl Names {
     fn find(&self, program: &Program, name: &Name) -> Option<usize>
         requires { IsTable program.now self.now }
         ensures some { IfSome result (λ k. NameLasts self.now.list.items k name.now) }
-        ensures none { IfNone result (get same self.now.numbers name.now ≡ None) }
+        ensures none { IfNone result (get (slice_cmp nat_cmp) self.now.numbers name.now ≡ None) }
     {
         self.numbers.get(name).copied()
     }
@@ -84,7 +85,7 @@ impl Names {
     fn push(&mut self, program: &Program, named: Named) -> Result<usize, Memory>
         requires table { IsTable program.now self.old }
         requires named { IsNamed program.now named }
-        requires fresh { get same self.old.numbers named.name ≡ None }
+        requires fresh { get (slice_cmp nat_cmp) self.old.numbers named.name ≡ None }
         requires component { ComponentLasts self.old.list.items named.name named.component }
         ensures adds { OnOk result (Adds program.now self.old self.new) }
         ensures number { IfOk result (λ k. NameLasts self.new.list.items k named.name) }

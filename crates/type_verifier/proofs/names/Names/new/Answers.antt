@@ -1,5 +1,7 @@
-use Rattle.std.proofs.Common.{◌≡◌, ◌∙◌, ap, [], ◌∷◌, ◌++◌, cond, Some, None, List, ℕ}
-use Rattle.std.specs.HashMap.{get}
+use Rattle.std.proofs.Common.{◌≡◌, ◌∙◌, ap, sym, [], ◌∷◌, ◌++◌, cond, Some, None, List, ℕ}
+use Rattle.std.specs.BTreeMap.{get, is_at}
+use Rattle.std.specs.Cmp.Lexicographic.{slice_cmp, texts_ties}
+use Rattle.std.specs.Ordering.{nat_cmp}
 use Rattle.std.specs.Map.{lookup}
 use Rattle.program_rules.specs.Names.{same}
 use Rattle.type_verifier.specs.declared.names.Names.{Names}
@@ -13,5 +15,6 @@ returns c =
     (c.in_ok-name_parts.ensures.name ∙ c.new-2.ensures)
     (c.in_ok-push.ensures.items ∙ ap (λ l. l ++ c.in_ok-name_parts.field-0 ∷ []) c.new-list.ensures.items)
     (λ q. c.in_ok-insert.ensures.updates.0 q
-    ∙ ap (λ k. cond (same k q) (Some 0) (get same c.new-numbers.result q)) c.new.ensures
-    ∙ ap (λ o. cond (same [] q) (Some 0) o) (ap (lookup (same q)) c.new-numbers.ensures.empty))
+    ∙ ap (λ k. cond (is_at (slice_cmp nat_cmp k) q) (Some 0) (get (slice_cmp nat_cmp) c.new-numbers.result q)) c.new.ensures
+    ∙ ap (λ b. cond b (Some 0) (get (slice_cmp nat_cmp) c.new-numbers.result q)) (sym (texts_ties [] q))
+    ∙ ap (λ o. cond (same [] q) (Some 0) o) (ap (lookup (is_at (slice_cmp nat_cmp q))) c.new-numbers.ensures.empty))
