@@ -1,8 +1,9 @@
 -- The lists of a record, by the names and the lines of a run.
 use Rattle.std.proofs.Common.{◌≡◌, ◌∙◌, ℕ, zero, suc, ◌+◌, ◌<◌, Bool, true, false, List, [], ◌∷◌, map, length, Option, Some, None, refl, sym, ap, ap₂, arith}
-use Rattle.std.specs.Prelude.{if◌then◌else◌}
-use Rattle.std.specs.List.{fold}
+use Rattle.std.specs.Prelude.{◌&&◌, if◌then◌else◌, nat_lt}
+use Rattle.std.specs.List.{fold, list_all}
 use Rattle.std.specs.Option.{unwrap_or}
+use Rattle.std.proofs.lemmas.Bool.{ltb-true}
 use Rattle.std.proofs.lemmas.List.{length-map}
 use Rattle.class_model.specs.declared.class.ClassId.{ClassId}
 use Rattle.program_rules.specs.Names.{Name, same}
@@ -56,3 +57,16 @@ module _ (p : List Info) (names : List Name) (c : Consulted) (kept : Keeps p nam
 
   pub lines_are : (lines : List (ClassId × ℕ)) → AreClasses p (pairs_in lines) → fold put_pair [] (map (placed c) lines) ≡ reached_in names (map (named p) (pairs_in lines))
   lines_are lines h = ap (fold put_pair []) (all_placed lines h)
+
+-- ---- lines of classes of the program
+
+both_true : (a b : Bool) → (a && b) ≡ true → (a ≡ true) × (b ≡ true)
+both_true true b h = (refl, h)
+both_true false b h = absurd cc
+
+pub within : (p : List Info) (lines : List (ClassId × ℕ)) → list_all (λ x. nat_lt x.0.0 (length p)) lines ≡ true → AreClasses p (pairs_in lines)
+within p [] h = tt
+within p (x ∷ xs) h = let b = both_true (nat_lt x.0.0 (length p)) (list_all (λ y. nat_lt y.0.0 (length p)) xs) h in (ltb-true x.0.0 (length p) b.0, within p xs b.1)
+
+pub lists_are : (p : List Info) (names : List Name) (c : Consulted) (lines : List (ClassId × ℕ)) (reached : List (ℕ × ℕ)) → Keeps p names c → AreClasses p (pairs_in lines) → reached ≡ fold put_pair [] (map (placed c) lines) → reached ≡ reached_in names (map (named p) (pairs_in lines))
+lists_are p names c lines reached kept h is = is ∙ lines_are p names c kept lines h

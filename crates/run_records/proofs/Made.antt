@@ -4,6 +4,7 @@ use Rattle.std.specs.Option.{option_map}
 use Rattle.class_model.specs.declared.outcome.Outcome.{Outcome}
 use Rattle.program_rules.specs.Names.{Name}
 use Rattle.machine_rules.specs.declared.machine.Limits.{Limits}
+use Rattle.machine_rules.specs.Outcomes as machine
 use Rattle.machine_rules.specs.Runs.{Ending, Ran, With, StuckAt}
 use Rattle.machine_rules.specs.Steps.{Place}
 use Rattle.class_link.specs.Info.{Info}
@@ -13,6 +14,7 @@ use Rattle.jvm_run.specs.declared.ending.Ending as code
 use Rattle.jvm_run.specs.declared.ending.Ending.TheVariants as ending
 use Rattle.jvm_run.specs.declared.result.RunResult.{RunResult}
 use Rattle.jvm_run.specs.Ending.{ending_in}
+use Rattle.jvm_run.specs.Ending as run_ending
 use Rattle.jvm_run.specs.Result.{IsResultOf}
 use Rattle.record_rules.specs.declared.record.RunRecord.{RunRecord}
 use Rattle.record_rules.specs.Outcomes.{outcome_at, outcome_in, outcome_of}
@@ -27,8 +29,15 @@ outcome_or : code.Ending → Outcome → Outcome
 outcome_or (ending.With o) d = o
 outcome_or (ending.Stuck class method at) d = d
 
+same_outcome : (m : machine.Outcome) → run_ending.outcome_in m ≡ outcome_in m
+same_outcome machine.Passed = refl
+same_outcome (machine.Failed machine.Returned) = refl
+same_outcome (machine.Failed (machine.Thrown n)) = refl
+same_outcome machine.TimedOut = refl
+same_outcome machine.MemoryOut = refl
+
 with_case : (e : Ending) (o : Outcome) → ending.With o ≡ ending_in e → outcome_at e ≡ Some o
-with_case (With m) o h = ap Some (sym (ap (λ (k : code.Ending). outcome_or k o) h))
+with_case (With m) o h = ap Some (sym (ap (λ (k : code.Ending). outcome_or k o) h ∙ same_outcome m))
 with_case (StuckAt place) o h = absurd cc
 
 -- the fields of a record that go by what the run gave
@@ -50,7 +59,7 @@ module _ (p : List Info) (test : Test) (limits : Limits) (limit : ℕ) (o : Outc
   made run ran l r told is lists built =
       let x = asked p test limits limit in
       let consulted : l.consulted ≡ with_bytes (held_by p) ran.consulted = lists.consulted ∙ ap (with_bytes (held_by p)) is.consulted in
-      let reached : l.reached ≡ reached_in ran.consulted ran.reached = lists.reached is.within ∙ ap₂ reached_in is.consulted is.reached in
+      let reached : l.reached ≡ reached_in ran.consulted ran.reached = lists.reached ∙ ap₂ reached_in is.consulted is.reached in
       let same : r ≡ record_with x ran o =
       built
       ∙ ap (λ n. record_built n l.consulted l.reached) is.steps

@@ -1,13 +1,12 @@
 -- What is recorded of a run (this project's own).
-use Rattle.std.specs.Prelude.{◌≡◌, ℕ, List, [], map, Option, Some, None}
-use Rattle.std.specs.List.{fold}
+use Rattle.std.specs.Prelude.{◌≡◌, ℕ, List, map, Option, Some, None}
 use Rattle.class_model.specs.declared.class.ClassId.{ClassId}
 use Rattle.program_rules.specs.Names.{Name}
 use Rattle.machine_rules.specs.Runs.{Ending, Ran, StuckAt}
 use Rattle.record_rules.specs.declared.record.RunRecord.{RunRecord}
 use Rattle.record_rules.specs.Records.{Asked, run, record_by, record_of, reached_in, with_bytes}
 use Rattle.class_link.specs.Info.{Info}
-use Rattle.jvm_world.specs.View.{AreClasses, named}
+use Rattle.jvm_world.specs.View.{named}
 use Rattle.run_records.specs.declared.recorded.Recorded.{Recorded}
 use Rattle.run_records.specs.declared.recorded.Recorded.TheVariants.{Run, Stuck}
 use Rattle.run_records.specs.declared.recording.Lists.{Lists}
@@ -41,11 +40,8 @@ pub record IsRecordedOf (x : Asked) (r : Recorded) : Type 0 where
 abbrev pub pairs_in : List (ClassId × ℕ) → List (ℕ × ℕ)
 pairs_in lines = map (λ x. (x.0.0, x.1)) lines
 
--- They are those of a run that consulted these names and reached these lines, if the lines are of
--- classes of the program.
+-- They are those of a run that consulted these names and reached these lines.
 pub record AreListsOf
     (p : List Info) (names : List Name) (lines : List (ClassId × ℕ)) (l : Lists) : Type 0 where
   pub consulted : l.consulted ≡ with_bytes (held_by p) names
-  pub reached :
-      AreClasses p (pairs_in lines) →
-      l.reached ≡ reached_in names (map (named p) (pairs_in lines))
+  pub reached : l.reached ≡ reached_in names (map (named p) (pairs_in lines))

@@ -1,13 +1,21 @@
 //! The lines that a run reached, by the places of their classes among the consulted names.
 
-ghost use Rattle.std.specs.Prelude.{◌≡◌, ◌<◌, ◌^◌, [], map, length, IfOk};
-ghost use Rattle.std.specs.List.{fold};
+ghost use Rattle.std.specs.Prelude.{◌≡◌, ◌<◌, ◌^◌, [], map, length, nat_lt, IfOk};
+ghost use Rattle.std.specs.List.{fold, list_all};
 ghost use Rattle.record_rules.specs.Records.{put_pair};
 ghost use Rattle.run_records.specs.Places.{placed};
 
 use crate::consulted::Consulted;
 use class_model::{ClassId, Memory, Seq};
+use class_table::Program;
 use std::alloc::Global;
+
+/// Whether lines are of classes of a program. Those of a run are.
+pub fn are_within(p: &Program, lines: &[(ClassId, u16)]) -> bool
+    ensures { result ≡ list_all (λ x. nat_lt x.0.0 (length p.now)) lines.now }
+{
+    lines.iter().all(|line| (line.0.0 as usize) < p.len())
+}
 
 // Each line behind the place of its class.
 fn placed(

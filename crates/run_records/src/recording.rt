@@ -14,7 +14,7 @@ ghost use Rattle.run_records.specs.Recorded.{AreListsOf, IsRecordedBy, IsRecorde
 
 use crate::consulted::Consulted;
 use crate::fitting::has_room;
-use crate::reached::reached;
+use crate::reached::{are_within, reached};
 use crate::recorded::Recorded;
 use class_model::{ClassId, Memory, Name, Outcome, Seq, SharedBytes};
 use class_table::{Program, Test};
@@ -32,7 +32,9 @@ struct Lists {
     reached: Seq<(u32, u16)>,
 }
 
-// The lists of a record, by the names that the run consulted and the lines that it reached.
+// The lists of a record, by the names that the run consulted and the lines that it reached. No run
+// has a line of a class that isn't the program's, though no clause of `execute` says so.
+#[tactic(auto, using(crate::proofs::Listing::within, crate::proofs::Listing::lists_are))]
 fn lists(
     alloc: Global,
     p: &Program,
@@ -41,6 +43,9 @@ fn lists(
 ) -> Result<Lists, Memory>
     ensures { IfOk result (AreListsOf p.now names lines.now) }
 {
+    if !are_within(p, lines) {
+        return Err(Memory);
+    }
     let consulted = Consulted::new(alloc, p, names)?;
     let reached = reached(alloc, &consulted, lines)?;
     Ok(Lists {
