@@ -226,13 +226,15 @@ tie_case x y false true false false e f g h = refl
 pub ties : (x y : Pair) → same x y ≡ eq_by_cmp order x y
 ties x y = tie_case x y (ltb x.0 y.0) (eqb x.0 y.0) (ltb x.1 y.1) (eqb x.1 y.1) refl refl refl refl
 
+dedup_case : (z k x : Pair) (xs : List Pair) (b : Bool) → b ≡ same x k → has z (dedup_from same k xs) ≡ (is_pair z k || has z xs) → has z (dedup_from same x xs) ≡ (is_pair z x || has z xs) → has z (cond b (dedup_from same k xs) (k ∷ dedup_from same x xs)) ≡ (is_pair z k || (is_pair z x || has z xs))
+dedup_case z k x xs true e one two =
+    let is : x ≡ k = pair_is k x (sym e) in
+    one ∙ ap (λ w. is_pair z w || has z xs) (sym is) ∙ twice_or (is_pair z x) (is_pair z k) (has z xs) (ap (is_pair z) is)
+dedup_case z k x xs false e one two = ap (λ t. is_pair z k || t) two
+
 dedup_has : (z k : Pair) (xs : List Pair) → has z (dedup_from same k xs) ≡ (is_pair z k || has z xs)
 dedup_has z k [] = refl
-dedup_has z k (x ∷ xs) = by (same x k) refl
-  where
-    by : (b : Bool) → b ≡ same x k → has z (cond b (dedup_from same k xs) (k ∷ dedup_from same x xs)) ≡ (is_pair z k || (is_pair z x || has z xs))
-    by true e = dedup_has z k xs ∙ twice_or (is_pair z k) (is_pair z x) (has z xs) (ap (is_pair z) (sym (pair_is k x (sym e)))) ∙ swap_or (is_pair z x) (is_pair z k) (has z xs)
-    by false e = ap (λ t. is_pair z k || t) (dedup_has z x xs)
+dedup_has z k (x ∷ xs) = dedup_case z k x xs (same x k) refl (dedup_has z k xs) (dedup_has z x xs)
 
 all_has : (z : Pair) (xs : List Pair) → has z (dedup same xs) ≡ has z xs
 all_has z [] = refl

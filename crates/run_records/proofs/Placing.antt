@@ -78,7 +78,7 @@ same_class p name id k distinct number named lt = by (nat_eq id k) (same name (n
     by true false e f =
         let is : name ≡ name_at p k = sym named ∙ ap (name_at p) (eqb-true id k (sym e)) in
         let own : same name (name_at p k) ≡ true = subst (λ (n : Name). same name n ≡ true) is (nat_list_eq_equiv.refl name) in
-        f ∙ own
+        sym (f ∙ own)
     by false true e f =
         let is : id ≡ k = some_is id k (sym number ∙ by_name p name k distinct lt (sym f)) in
         e ∙ eq-eqb id k is
@@ -123,18 +123,18 @@ added p name bytes old new has grown notes held = record {
 
 -- ---- all names
 
-pub one_more : (h : Held) (name : Name) (rest names : List Name) (old new : List (Name × Option (List ℕ))) → old ++ with_bytes h (name ∷ rest) ≡ with_bytes h names → new ≡ old ++ (name, h name) ∷ [] → new ++ with_bytes h rest ≡ with_bytes h names
-one_more h name rest names old new told grown =
+pub one_more : (h : Held) (name : Name) (rest all : List Name) (old new : List (Name × Option (List ℕ))) → old ++ with_bytes h (name ∷ rest) ≡ with_bytes h all → new ≡ old ++ (name, h name) ∷ [] → new ++ with_bytes h rest ≡ with_bytes h all
+one_more h name rest all old new told grown =
     ap (λ es. es ++ with_bytes h rest) grown ∙ append_assoc old ((name, h name) ∷ []) (with_bytes h rest) ∙ told
 
-pub count_of : (h : Held) (rest names : List Name) (items : List (Name × Option (List ℕ))) → items ++ with_bytes h rest ≡ with_bytes h names → length items + length rest ≡ length names
-count_of h rest names items told =
-    let all : length (items ++ with_bytes h rest) ≡ length (with_bytes h names) = ap length told in
+pub count_of : (h : Held) (rest all : List Name) (items : List (Name × Option (List ℕ))) → items ++ with_bytes h rest ≡ with_bytes h all → length items + length rest ≡ length all
+count_of h rest all items told =
+    let long : length (items ++ with_bytes h rest) ≡ length (with_bytes h all) = ap length told in
     let parts = length-append items (with_bytes h rest) in
-    let one = length-map rest (λ n. (n, h n)) in
-    let two = length-map names (λ n. (n, h n)) in
-    omega (arith, all, parts, one, two)
+    let one : length (with_bytes h rest) ≡ length rest = length-map rest (λ n. (n, h n)) in
+    let two : length (with_bytes h all) ≡ length all = length-map all (λ n. (n, h n)) in
+    omega (arith, long, parts, one, two)
 
-pub all_kept : (h : Held) (rest names : List Name) (items : List (Name × Option (List ℕ))) → items ++ with_bytes h rest ≡ with_bytes h names → rest ≡ [] → items ≡ with_bytes h names
-all_kept h rest names items told none =
+pub all_kept : (h : Held) (rest all : List Name) (items : List (Name × Option (List ℕ))) → items ++ with_bytes h rest ≡ with_bytes h all → rest ≡ [] → items ≡ with_bytes h all
+all_kept h rest all items told none =
     sym (append-nil items) ∙ ap (λ ns. items ++ with_bytes h ns) (sym none) ∙ told

@@ -1,9 +1,10 @@
 -- Texts that fit their length, and units in pairs.
-use Rattle.std.proofs.Common.{◌≡◌, ◌∙◌, ℕ, zero, suc, ◌+◌, ◌*◌, ◌/◌, ◌%◌, ◌<◌, ◌≤◌, Bool, true, false, ◌&&◌, List, [], ◌∷◌, ◌++◌, length, drop, get_or, refl, sym, ap, arith, length-append}
-use Rattle.std.specs.Prelude.{if◌then◌else◌, nat_le, nat_lt}
+use Rattle.std.proofs.Common.{◌≡◌, ◌∙◌, ℕ, zero, suc, ◌+◌, ◌*◌, ◌/◌, ◌%◌, ◌<◌, ◌≤◌, ◌^◌, Bool, true, false, ◌&&◌, List, [], ◌∷◌, ◌++◌, length, drop, take, get_or, refl, sym, ap, subst, arith, length-append}
+use Rattle.std.specs.Prelude.{All, IsTrue, if◌then◌else◌, nat_le, nat_lt}
 use Rattle.std.proofs.lemmas.Bool.{and_right, leb-true, ltb-true}
-use Rattle.std.proofs.lemmas.List.{drop_more}
-use Rattle.class_model.specs.Text.{is_single, text, unit_bytes}
+use Rattle.std.proofs.lemmas.List.{drop_more, take_all}
+use Rattle.std.proofs.lemmas.List.Elements.{All-more}
+use Rattle.class_model.specs.Text.{IsUnits, is_single, text, unit_bytes}
 use Rattle.history_rules.specs.Reading.{is_high, is_low, is_paired_from}
 
 -- ---- lengths
@@ -30,6 +31,13 @@ text_most (u ∷ us) =
 
 pub text_more : (us : List ℕ) (i : ℕ) → i < length us → length (text (drop i us)) ≡ length (unit_bytes (get_or us i 0)) + length (text (drop (i + 1) us))
 text_more us i lt = ap (λ ws. length (text ws)) (drop_more us i 0 lt) ∙ length-append (unit_bytes (get_or us i 0)) (text (drop (i + 1) us))
+
+pub units_are : (us : List ℕ) → ((i : ℕ) → get_or us i 0 < 2 ^ 16) → IsUnits us
+units_are [] h = tt
+units_are (u ∷ us) h = (h 0, units_are us (λ i. h (suc i)))
+
+pub text_fits : (us : List ℕ) → length us ≤ 21845 → length (text us) < 2 ^ 16
+text_fits us le = let most = text_most us in omega (arith, most, le)
 
 -- ---- surrogates
 
@@ -64,3 +72,14 @@ pair_not high u us apart = by high (is_low u) refl apart
     by false false e f = absurd (f refl)
     by true false e f = refl
     by false true e f = refl
+
+-- ---- each of a list
+
+pub not_all : {X : Type 0} (P : X → Type 0) (xs : List X) (i : ℕ) (x : X) (b : Bool) → i < length xs → x ≡ get_or xs i x → (P x → b ≡ true) → b ≡ false → (IsTrue false → All P xs) × (All P xs → IsTrue false)
+not_all {X} P xs i x b lt is to other = (λ (e : false ≡ true). absurd cc, λ all. sym other ∙ to (subst P (sym is) (all i x lt)))
+
+pub all_more : {X : Type 0} (P : X → Type 0) (xs : List X) (i : ℕ) (x : X) → i < length xs → x ≡ get_or xs i x → All P (take i xs) → P x → All P (take (i + 1) xs)
+all_more {X} P xs i x lt is all one = All-more P xs i x lt all (subst P is one)
+
+pub all_taken : {X : Type 0} (P : X → Type 0) (xs : List X) (i : ℕ) → length xs ≤ i → All P (take i xs) → (IsTrue true → All P xs) × (All P xs → IsTrue true)
+all_taken {X} P xs i le all = (λ e. subst (All P) (take_all i xs le) all, λ a. refl)

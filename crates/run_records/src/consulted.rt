@@ -65,7 +65,6 @@ impl Consulted {
     }
 
     // One more name.
-    #[tactic(auto, using(crate::proofs::Placing::added))]
     fn add(&mut self, p: &Program, name: Name) -> Result<(), Memory>
         requires few { length self.old.entries.items < 2 ^ 32 }
         requires places { HasPlaces p.now self.old }

@@ -13,7 +13,7 @@ use record_rules::RunRecord;
 
 // ---- texts
 
-// The longest name that surely fits: each unit takes three bytes at most.
+// The most units that surely fit: each takes three bytes at most.
 const SURE: usize = 21_845;
 
 // The bytes of a unit in modified UTF-8 (JVMS 4.4.7).
@@ -44,11 +44,14 @@ fn is_short(units: &[u16]) -> bool
     true
 }
 
-// Whether the number of a name's bytes fits the two bytes of its length.
-fn is_text(name: &Name) -> bool
-    ensures { IsTrue result ↔ IsText name.now }
+// Whether the number of a text's bytes fits the two bytes of its length.
+fn is_text(units: &[u16]) -> bool
+    ensures { IsTrue result ↔ IsText units.now }
 {
-    name.len() <= SURE || is_short(name.as_slice())
+    if units.len() <= SURE {
+        return true;
+    }
+    is_short(units)
 }
 
 // ---- surrogates
@@ -87,7 +90,7 @@ fn is_told_cause(cause: &Cause) -> bool
 {
     match cause {
         Cause::Returned => true,
-        Cause::Thrown(name) => is_text(name) && is_paired(name.as_slice()),
+        Cause::Thrown(name) => is_text(name.as_slice()) && is_paired(name.as_slice()),
     }
 }
 
@@ -112,11 +115,17 @@ fn has_short_class(bytes: &Option<SharedBytes>) -> bool
     }
 }
 
-fn fit(entries: &[(Name, Option<SharedBytes>)]) -> bool
+fn fits(entry: &(Name, Option<SharedBytes>)) -> bool
+    ensures { IsTrue result ↔ FitsEntry entry.now }
+{
+    is_text(entry.0.as_slice()) && has_short_class(&entry.1)
+}
+
+fn all_fit(entries: &[(Name, Option<SharedBytes>)]) -> bool
     ensures { IsTrue result ↔ All FitsEntry entries.now }
 {
-    for (name, bytes) in entries {
-        if !(is_text(name) && has_short_class(bytes)) {
+    for entry in entries {
+        if !fits(entry) {
             return false;
         }
     }
@@ -129,8 +138,8 @@ pub fn has_room(r: &RunRecord) -> bool
 {
     r.consulted.len() <= u32::MAX as usize
         && r.reached.len() <= u32::MAX as usize
-        && is_text(&r.test_class)
-        && is_text(&r.test_method)
+        && is_text(r.test_class.as_slice())
+        && is_text(r.test_method.as_slice())
         && is_outcome(&r.outcome)
-        && fit(r.consulted.as_slice())
+        && all_fit(r.consulted.as_slice())
 }
