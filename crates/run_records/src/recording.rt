@@ -34,7 +34,6 @@ struct Lists {
 
 // The lists of a record, by the names that the run consulted and the lines that it reached. No run
 // has a line of a class that isn't the program's, though no clause of `execute` says so.
-#[tactic(auto, using(crate::proofs::Listing::within, crate::proofs::Listing::lists_are))]
 fn lists(
     alloc: Global,
     p: &Program,
