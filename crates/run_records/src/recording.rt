@@ -34,7 +34,7 @@ struct Lists {
 
 // The lists of a record, by the names that the run consulted and the lines that it reached. No run
 // has a line of a class that isn't the program's, though no clause of `execute` says so.
-fn lists(
+fn lists_of(
     alloc: Global,
     p: &Program,
     names: Seq<Name>,
@@ -115,7 +115,7 @@ fn recorded(
     } = run;
     match ending {
         Ending::With(outcome) => {
-            let lists = lists(alloc, p, consulted, reached.as_slice())?;
+            let lists = lists_of(alloc, p, consulted, reached.as_slice())?;
             let record = record_by(test, limits, limit, outcome, steps, lists)?;
             Ok(Recorded::Run(record))
         }

@@ -1,6 +1,6 @@
 use Rattle.std.proofs.Common.{◌∙◌, sym}
 use Rattle.run_records.proofs.Listing.{lists_are, within}
-use Rattle.run_records.proofs.recording.lists.Goals as goal
+use Rattle.run_records.proofs.recording.lists_of.Goals as goal
 
 pub returns : goal.returns
 returns c = record {
