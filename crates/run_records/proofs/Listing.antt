@@ -1,5 +1,5 @@
 -- The lists of a record, by the names and the lines of a run.
-use Rattle.std.proofs.Common.{◌≡◌, ◌∙◌, ℕ, zero, suc, ◌+◌, ◌<◌, Bool, true, false, List, [], ◌∷◌, map, length, Option, Some, None, refl, sym, ap, ap₂, arith}
+use Rattle.std.proofs.Common.{◌≡◌, ◌∙◌, ℕ, zero, suc, ◌+◌, ◌<◌, Bool, true, false, List, [], ◌∷◌, map, length, Option, Some, refl, ap, ap₂, arith}
 use Rattle.std.specs.Prelude.{◌&&◌, if◌then◌else◌, nat_lt}
 use Rattle.std.specs.List.{fold, list_all}
 use Rattle.std.specs.Option.{unwrap_or}
@@ -15,7 +15,7 @@ use Rattle.record_rules.specs.Profiles.{Held}
 use Rattle.record_rules.specs.Records.{place_in, put_pair, reached_in, with_bytes}
 use Rattle.run_records.specs.declared.consulted.Consulted.{Consulted}
 use Rattle.run_records.specs.Asking.{held_by}
-use Rattle.run_records.specs.Places.{Keeps, names_in, place_at, place_of, placed}
+use Rattle.run_records.specs.Places.{Keeps, names_in, place_of, placed}
 use Rattle.run_records.specs.Recorded.{pairs_in}
 
 -- ---- the place of a name
@@ -41,7 +41,10 @@ module _ (p : List Info) (names : List Name) (c : Consulted) (kept : Keeps p nam
   same_names = ap (map (λ e. e.0)) kept.entries ∙ names_of (held_by p) names
 
   same_count : length c.entries.items ≡ 0 + length names
-  same_count = let e = ap length kept.entries in let l = length-map names (λ n. (n, held_by p n)) in omega (arith, e, l)
+  same_count =
+      let e : length c.entries.items ≡ length (with_bytes (held_by p) names) = ap length kept.entries in
+      let l : length (with_bytes (held_by p) names) ≡ length names = length-map names (λ n. (n, held_by p n)) in
+      omega (arith, e, l)
 
   place_is : (k : ℕ) → k < length p → place_of c k ≡ place_in names (name_at p k)
   place_is k lt =

@@ -25,7 +25,7 @@ use Rattle.run_records.specs.declared.recording.Lists.{Lists}
 use Rattle.run_records.specs.Asking.{asked, held_by}
 use Rattle.run_records.specs.Recorded.{AreListsOf, IsRecordedBy, IsRecordedOf, pairs_in, record_in, TellsPlace}
 
-outcome_or : code.Ending → Outcome → Outcome
+abbrev outcome_or : code.Ending → Outcome → Outcome
 outcome_or (ending.With o) d = o
 outcome_or (ending.Stuck class method at) d = d
 
@@ -42,7 +42,7 @@ with_case (StuckAt place) o h = absurd cc
 
 -- the fields of a record that go by what the run gave
 module _ (p : List Info) (test : Test) (limits : Limits) (limit : ℕ) (o : Outcome) where
-  record_built : ℕ → List (Name × Option (List ℕ)) → List (ℕ × ℕ) → RunRecord
+  abbrev pub record_built : ℕ → List (Name × Option (List ℕ)) → List (ℕ × ℕ) → RunRecord
   record_built steps consulted reached = record {
     test_class = test.class;
     test_method = test.method;
@@ -69,15 +69,15 @@ module _ (p : List Info) (test : Test) (limits : Limits) (limit : ℕ) (o : Outc
         place = tt;
       }
 
-class_or : code.Ending → Name → Name
+abbrev class_or : code.Ending → Name → Name
 class_or (ending.With o) d = d
 class_or (ending.Stuck class method at) d = class
 
-method_or : code.Ending → Name → Name
+abbrev method_or : code.Ending → Name → Name
 method_or (ending.With o) d = d
 method_or (ending.Stuck class method at) d = method
 
-at_or : code.Ending → ℕ → ℕ
+abbrev at_or : code.Ending → ℕ → ℕ
 at_or (ending.With o) d = d
 at_or (ending.Stuck class method at) d = at
 
