@@ -1,0 +1,4 @@
+pub mod Asking
+pub mod Recorded
+pub mod Fitting
+pub mod Places
