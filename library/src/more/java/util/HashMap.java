@@ -457,4 +457,10 @@ public class HashMap<K, V> extends java.util.HashMap<K, V> implements more.java.
             expected = modCount;
         }
     }
+
+    // For a variable of the profile's own class.
+
+    public static Object clone(java.util.HashMap of) {
+        return of instanceof HashMap ? ((HashMap) of).clone() : new HashMap(of);
+    }
 }
