@@ -103,7 +103,8 @@ public final class Calls {
 
     /** What a call threw counts by its class. */
     public void addThrown(Throwable of) {
-        String name = of instanceof AssertionError ? "AssertionError" : of.getClass().getName();
+        String name = of.getClass().getName();
+        name = of instanceof AssertionError ? "AssertionError" : name.startsWith("more.") ? name.substring(5) : name;
         sum = sum * 31 + name.hashCode();
         if (shows) {
             System.out.println("    throws " + of);
@@ -397,7 +398,7 @@ public final class Calls {
 
     public Object anObject() {
         int kind = below(16);
-        if (kind == 0) {
+        if (kind == 0 && mode != ORDERED) {
             return null;
         }
         return mode == ORDERED || kind < 11 ? Integer.valueOf(below(10)) : kind < 15 ? TEXTS[below(8)] : (Object) Character.valueOf('a');
@@ -466,7 +467,8 @@ public final class Calls {
     }
 
     public Comparator aComparator() {
-        return below(3) == 0 ? Collections.reverseOrder() : mode == ORDERED && below(2) == 0 ? null : ANY;
+        int kind = below(3);
+        return mode != ORDERED ? (kind == 0 ? Collections.reverseOrder(ANY) : ANY) : kind == 0 ? Collections.reverseOrder() : kind == 1 ? null : ANY;
     }
 
     private static final Comparator<Object> ANY = (one, other) ->

@@ -192,7 +192,9 @@ final class Parser {
             case '?':
                 throw wrong("Dangling meta character '" + next + "'");
             case '{':
-                throw wrong("Illegal repetition");
+                // What is repeated may be nothing.
+                at--;
+                return alone(new Node.Pass());
             default:
                 return alone(new Node.One(cased(Chars.one(next))));
         }
