@@ -11,6 +11,7 @@ import java.nio.charset.StandardCharsets;
 import java.util.ArrayDeque;
 import java.util.ArrayList;
 import java.util.Arrays;
+import java.util.BitSet;
 import java.util.Collection;
 import java.util.Collections;
 import java.util.Comparator;
@@ -542,6 +543,14 @@ public final class Calls {
         boolean[] made = new boolean[below(6)];
         for (int at = 0; at < made.length; at++) {
             made[at] = aBoolean();
+        }
+        return made;
+    }
+
+    public BitSet aBits() {
+        BitSet made = new BitSet();
+        for (int count = below(5); count > 0; count--) {
+            made.set(below(70));
         }
         return made;
     }
