@@ -1,5 +1,6 @@
 """What a test that fails may have come to that isn't there: the nearest of it, by the calls in the lowered code."""
 from preparing import class_edit as ce
+from preparing.companion import MORE
 
 MOST_METHODS = 3000
 
@@ -40,9 +41,12 @@ class Lacking:
             edit, methods = self.edits[place[0]]
             method = methods[place[1:]]
             lacking, calls = None, []
+            # The companion's own code for X asks a JVM's X first, where it expects that something lacks.
+            own = place[0][len(MORE):].partition('$')[0] if place[0].startswith(MORE) else None
             for at, op in (method.code.naming() if method.code is not None else ()):
                 if lacking is None and (ce.GETSTATIC <= op <= ce.INVOKEINTERFACE or op == ce.NEW):
-                    lacking = self.judge(edit.pool, method.code, at, op, calls)
+                    if own is None or op < ce.INVOKEVIRTUAL or op == ce.NEW or edit.pool.member(method.code.operand(at))[0] != own:
+                        lacking = self.judge(edit.pool, method.code, at, op, calls)
             self.uses[place] = lacking, calls
         return self.uses[place]
 

@@ -259,8 +259,11 @@ class Preparation:
         return True
 
     def lower_reached(self):
-        """Lowers all that tests reach, and makes stubs of the classes of Java that are named besides; gives the files by path."""
+        """Lowers the code and all that it and the tests reach, and makes stubs of the classes of Java that are named besides; gives the files by
+        path. Without tests there are none."""
         todo, self.reached, files = [name for name in self.tests if name not in self.class_off], set(), {}
+        if todo:
+            todo += [name for name, unit in self.world.units.items() if unit and unit.origin == CODE]
         while todo:
             name = todo.pop()
             if name in self.reached:
