@@ -77,6 +77,14 @@ class Pool:
                 raise Refused('the constant pool is full')
         return index
 
+    def add_number(self, kind, value):
+        """An int, or a long, which takes two entries."""
+        count = len(self.entries)
+        index = self.add(kind, value)
+        if kind == LONG and index == count:
+            self.entries.append((0, None))
+        return index
+
     def add_text(self, text):
         return self.add(UTF8, bytes_of(text))
 

@@ -288,7 +288,7 @@ class Preparation:
         for name in known.PRIMITIVES:
             files[f'{TESTS}/{name}.class'] = new_class(name, PUBLIC_FINAL, 'java/lang/Object').written()
             heads.append(Class(name, PUBLIC_FINAL, None, []))
-        files[f'{TESTS}/{known.NAME}.class'] = known.known(heads, self.world.all_above)
+        files[f'{TESTS}/{known.NAME}.class'] = known.known(heads, self.world.all_above, self.lowering.floats)
 
     def literals(self):
         """The heads of the classes that the code names as such, of enums, and of what stands above them."""
