@@ -5,8 +5,8 @@ set -e
 cd "$(dirname "$0")"
 HAMCREST=${HAMCREST:-/usr/share/java/hamcrest.jar}
 rm -rf made
-javac --release 8 -Xlint:-options -g:none -nowarn -encoding UTF-8 -d made/jvm-classes $(find jvm -name '*.java')
-javac --release 8 -Xlint:-options -g:none -nowarn -encoding UTF-8 -cp "made/jvm-classes:$HAMCREST" -d made/classes $(find src -name '*.java' | sort)
+javac -J-Xmx700m --release 8 -Xlint:-options -g:none -nowarn -encoding UTF-8 -d made/jvm-classes $(find jvm -name '*.java')
+javac -J-Xmx700m --release 8 -Xlint:-options -g:none -nowarn -encoding UTF-8 -cp "made/jvm-classes:$HAMCREST" -d made/classes $(find src -name '*.java' | sort)
 rm made/classes/java/util/Map.class
 rm -rf classes jvm-classes
 mv made/classes made/jvm-classes .

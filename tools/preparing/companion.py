@@ -39,10 +39,10 @@ class Companion:
 
     def add_more(self, name, edit):
         of = name[len(FLOATS if name.startswith(FLOATS) else MORE):]
+        if name == FLOATS + 'java/lang/Math':
+            self.add_methods('java/lang/StrictMath', name, edit, False)
         is_interface = bool(edit.flags & 0x200)
-        for method in edit.methods:
-            if method.flags & 0x8 and not method.flags & 0x2 and method.name != '<clinit>':
-                self.methods.setdefault((of, method.name, method.descriptor), []).append((name, is_interface))
+        self.add_methods(of, name, edit, is_interface)
         for field in edit.fields:
             if field.flags & 0x8 and not field.flags & 0x2:
                 self.fields.setdefault((of, field.name, field.descriptor), name)
@@ -50,6 +50,11 @@ class Companion:
             self.interfaces.setdefault(of, []).append(name)
         elif edit.above == of:
             self.subclasses.add(of)
+
+    def add_methods(self, of, name, edit, is_interface):
+        for method in edit.methods:
+            if method.flags & 0x8 and not method.flags & 0x2 and method.name != '<clinit>':
+                self.methods.setdefault((of, method.name, method.descriptor), []).append((name, is_interface))
 
     def method(self, key, inside):
         """The class with the static method for a method of Java, and whether it is an interface, as seen from a class; or None."""

@@ -21,6 +21,9 @@ NUMBER, OBJECT = 'java/lang/Number', 'java/lang/Object'
 MARK = f'L{ARRAYS};'
 WORDS = {'I': 'Ints', 'J': 'Longs', 'F': 'Floats', 'D': 'Doubles'}
 MOST_DIMENSIONS = 3
+# What goes between a float and its bits, which here are the same.
+BITS = {('java/lang/Double', 'doubleToRawLongBits'), ('java/lang/Double', 'longBitsToDouble'), ('java/lang/Float', 'floatToRawIntBits'),
+        ('java/lang/Float', 'intBitsToFloat')}
 
 CALLED = {op + at: prefix + name for op, name in ((0x62, 'add'), (0x66, 'sub'), (0x6a, 'mul'), (0x6e, 'div'), (0x72, 'rem'), (0x76, 'neg'))
           for at, prefix in enumerate('fd')}

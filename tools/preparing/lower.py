@@ -5,7 +5,7 @@ from class_files import FLOAT_OPCODES, NATIVE, STATIC, has_float
 from preparing import class_edit as ce
 from preparing.builder import new_code
 from preparing.companion import MORE
-from preparing.floats import ARRAYS, NUMBER, OBJECT, Floats
+from preparing.floats import ARRAYS, BITS, NUMBER, OBJECT, SOFT, Floats
 from preparing.lambdas import Lambdas, NoLambda, slots_of
 
 CLASS_OF_FLOATS = 'asks for the class of an array of floats or Numbers'
@@ -179,6 +179,9 @@ class Lowering:
         owner, name, descriptor, _ = pool.member(code.operand(at))
         if name == 'clone' and owner.startswith('[') and has_float(owner):
             self.floats.clone(pool, code, at)
+            return
+        if (owner, name) in BITS:
+            code.code[at:at + 3] = self.floats.call(pool, SOFT, 'bits', self.floats.descriptor_of(descriptor))
             return
         if name == '<init>':
             self.lower_constructor(edit, code, at, owner, descriptor, with_bytes, news, dropped)

@@ -210,7 +210,7 @@ public final class Soft {
     }
 
     /** A number whose leading bit is 61, with an exponent below 1 or above all. */
-    private static long extreme(long sign, int scale, long of) {
+    static long extreme(long sign, int scale, long of) {
         if (scale > 0) {
             return sign | INFINITE;
         }
@@ -505,7 +505,7 @@ public final class Soft {
     }
 
     /** The float of a number whose leading bit is 29, with any exponent. */
-    private static int packed(int sign, int scale, int of) {
+    static int packed(int sign, int scale, int of) {
         if (scale >= 0xff) {
             return sign | INFINITE_F;
         }
@@ -657,5 +657,54 @@ public final class Soft {
 
     public static long f2l(int of) {
         return d2l(f2d(of));
+    }
+
+    // What Math has beside.
+
+    /** A double as a long, or the other way: the bits are what it is here. */
+    public static long bits(long of) {
+        return of;
+    }
+
+    public static int bits(int of) {
+        return of;
+    }
+
+    public static long floor(long of) {
+        int behind = 1075 - ((int) (of >>> 52) & 0x7ff);
+        if (behind <= 0) {
+            return of;
+        }
+        if (behind > 52) {
+            return (of & REST) == 0 ? of : of < 0 ? 0xbff0L << 48 : 0;
+        }
+        long last = (1L << behind) - 1;
+        return (of < 0 ? of + last : of) & ~last;
+    }
+
+    public static long ceil(long of) {
+        return floor(of ^ SIGN) ^ SIGN;
+    }
+
+    public static long rint(long of) {
+        int behind = 1075 - ((int) (of >>> 52) & 0x7ff);
+        if (behind <= 0) {
+            return of;
+        }
+        if (behind > 52) {
+            return behind == 53 && (of & FRACTION) != 0 ? of & SIGN | 0x3ff0L << 48 : of & SIGN;
+        }
+        long last = (1L << behind) - 1;
+        return of + (last >>> 1) + (of >>> behind & 1) & ~last;
+    }
+
+    /** The whole number that is nearest, of two the greater one. */
+    public static long round(long of) {
+        int shift = 1074 - ((int) (of >>> 52) & 0x7ff);
+        if (shift < 0 || shift > 63) {
+            return d2l(of);
+        }
+        long size = of & FRACTION | LEADING;
+        return ((of < 0 ? -size : size) >> shift) + 1 >> 1;
     }
 }
