@@ -5,7 +5,7 @@ What stands in the place of what:
   there (`max(DD)D` is `max$DDD(JJ)J`), so that overloads and overriding stay what they were. A constructor that only floats tell apart from another
   one of its class takes a null besides.
 - `more/floats/Soft` has a method for each instruction, under its name.
-- `more/floats/Arrays` makes arrays of floats and knows them again, so that none is taken for one of integers.
+- `more/floats/Arrays` makes arrays of floats and knows them again, so that none is taken for one of integers; `more/floats/Kinds` has their classes.
 - Number is the interface `more/java/lang/Number`; an array of Numbers is one of objects.
 - A class of the companion library by a name of Java's that has floats in a descriptor gets a name of its own, below `more/floats`: a JVM's own class
   of the name has the floats themselves.
@@ -179,6 +179,16 @@ class Floats:
         else:
             with_bytes[at] = self.call(pool, ARRAYS, 'is' + word, f'(L{OBJECT};)Z')
         return True
+
+    @staticmethod
+    def kind_of(pool, index):
+        """The class that stands for the one of an array of floats that is a constant; else None."""
+        tag, value = pool.entries[index]
+        name = pool.text(value) if tag == ce.CLASS else ''
+        depth, inner = name.count('['), name.lstrip('[')
+        if inner not in ('F', 'D') or not 0 < depth <= MOST_DIMENSIONS:
+            return None
+        return f'{FLOATS}Kinds${WORDS[inner]}' + ('' if depth == 1 else str(depth))
 
     def clone(self, pool, code, at):
         """A copy of an array of floats is one, too."""

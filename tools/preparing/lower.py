@@ -114,7 +114,12 @@ class Lowering:
                 raise Cut('has the opcode 0xa9, which is not read')
             self.floats.lower_wide(code, at)
         elif op in (ce.LDC, ce.LDC_W, ce.LDC2_W):
-            self.judge_constant(pool, code.code[at + 1] if op == ce.LDC else code.operand(at))
+            index = code.code[at + 1] if op == ce.LDC else code.operand(at)
+            kind = self.floats.kind_of(pool, index)
+            if kind is not None:
+                with_bytes[at] = struct.pack('>BH', ce.LDC_W, pool.add_class(kind))
+            else:
+                self.judge_constant(pool, index)
         elif op == ce.INVOKEDYNAMIC:
             target = lambdas.factory(code.operand(at))
             with_bytes[at] = struct.pack('>BH', ce.INVOKESTATIC, target)

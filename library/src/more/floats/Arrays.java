@@ -39,7 +39,11 @@ public final class Arrays {
         room[at] = of;
     }
 
-    private static boolean knows(Object of) {
+    public static boolean isOfNumbers(Object of) {
+        return of instanceof long[] || of instanceof int[];
+    }
+
+    public static boolean knows(Object of) {
         Object[] room = made;
         if (room == null) {
             return false;
