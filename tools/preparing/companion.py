@@ -48,7 +48,7 @@ class Companion:
                 self.fields.setdefault((of, field.name, field.descriptor), name)
         if is_interface and any(not method.flags & 0x8 for method in edit.methods):
             self.interfaces.setdefault(of, []).append(name)
-        elif edit.above == of:
+        elif edit.above == of and not name.startswith(FLOATS):
             self.subclasses.add(of)
 
     def add_methods(self, of, name, edit, is_interface):

@@ -4,6 +4,7 @@ import struct
 from class_files import FLOAT_OPCODES, NATIVE, STATIC, has_float
 from preparing import class_edit as ce
 from preparing.builder import new_code
+from preparing.class_edit import TooLong
 from preparing.companion import MORE
 from preparing.floats import ARRAYS, BITS, NUMBER, OBJECT, SOFT, Floats
 from preparing.lambdas import Lambdas, NoLambda, slots_of
@@ -101,6 +102,9 @@ class Lowering:
         except (Cut, NoLambda) as cut:
             lambdas.reset(mark)
             return str(cut)
+        except TooLong as long:
+            lambdas.reset(mark)
+            return f'{long} once it is lowered'
         return None
 
     def lower_instruction(self, edit, method, at, op, lambdas, with_bytes, news, dropped):
