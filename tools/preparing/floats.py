@@ -14,6 +14,7 @@ import struct
 
 from class_files import Reader, Refused, has_float
 from preparing import class_edit as ce
+from preparing.builder import new_class
 from preparing.companion import FLOATS, MORE
 
 SOFT, ARRAYS = FLOATS + 'Soft', FLOATS + 'Arrays'
@@ -225,6 +226,11 @@ class Floats:
                 self.rename_frames(method.code)
         if len({method.key for method in edit.methods}) < len(edit.methods):
             raise Refused('two of its methods come to have one name, once floats are integers')
+
+    def stub(self, head):
+        """A class without members, below what stands above one of Java."""
+        above = head.above if head.above == NUMBER else head.above and self.name_of(head.above)
+        return new_class(head.name, head.flags, above, [self.name_of(name) for name in head.interfaces])
 
     def rename_constructors(self, edit):
         """A constructor with a mark takes it as its last argument; the frames of its code know it, too."""

@@ -271,7 +271,7 @@ class Preparation:
             unit = self.world.unit(name)
             if unit is None:
                 head = self.world.info(name)
-                files[f'{TESTS}/{name}.class'] = new_class(name, head.flags, head.above, head.interfaces).written()
+                files[f'{TESTS}/{name}.class'] = self.lowering.floats.stub(head).written()
                 todo += [*head.interfaces, *([head.above] if head.above else [])]
                 continue
             if not self.is_lowered(name, unit):
@@ -372,7 +372,7 @@ class Preparation:
         self.lower_kept()
         edits = {edit.name: (edit, {method.key: method for method in edit.methods})
                  for done, _ in self.lowered.values() if done.edit is not None for edit in (done.edit, *done.made)}
-        lacking, found = Lacking(self.world, edits), {}
+        lacking, found = Lacking(self.world, edits, self.lowering.floats), {}
         for owner, tests in self.off.items():
             around = [key[0] for above in self.world.names_above(owner) for suite in [self.suite_of(above)] if suite is not None
                       for key in suite.around]
