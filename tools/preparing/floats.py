@@ -16,6 +16,7 @@ from class_files import Reader, Refused, has_float
 from preparing import class_edit as ce
 from preparing.builder import new_class
 from preparing.companion import FLOATS, MORE
+from preparing.jdk import is_java
 
 SOFT, ARRAYS = FLOATS + 'Soft', FLOATS + 'Arrays'
 NUMBER, OBJECT = 'java/lang/Number', 'java/lang/Object'
@@ -63,7 +64,7 @@ def parts_of(descriptor):
 class Floats:
     def __init__(self, program, companion):
         self.program, self.companion = program, companion
-        self.descriptors, self.suffixes, self.marks = {}, {}, {}
+        self.names, self.descriptors, self.suffixes, self.marks = {}, {}, {}, {}
 
     # Names and descriptors.
 
@@ -73,7 +74,17 @@ class Floats:
             return self.type_of(name)
         if name == NUMBER:
             return MORE + NUMBER
-        return FLOATS + name if name.partition('$')[0] in self.companion.with_floats else name
+        found = self.names.get(name)
+        if found is None:
+            of = name.partition('$')[0]
+            found = self.names[name] = FLOATS + name if of in self.companion.with_floats or self.is_below(of) else name
+        return found
+
+    def is_below(self, name):
+        """Whether a class of Java's that isn't in a library here stands below one that gets another name."""
+        program = self.program
+        return is_java(name) and name not in program.library and name not in self.companion.files and any(
+            above in self.companion.with_floats for above in program.jdk.above(name))
 
     def type_of(self, kind):
         inner = kind.lstrip('[')
@@ -230,7 +241,7 @@ class Floats:
     def stub(self, head):
         """A class without members, below what stands above one of Java."""
         above = head.above if head.above == NUMBER else head.above and self.name_of(head.above)
-        return new_class(head.name, head.flags, above, [self.name_of(name) for name in head.interfaces])
+        return new_class(self.name_of(head.name), head.flags, above, [self.name_of(name) for name in head.interfaces])
 
     def rename_constructors(self, edit):
         """A constructor with a mark takes it as its last argument; the frames of its code know it, too."""

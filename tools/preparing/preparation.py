@@ -271,7 +271,8 @@ class Preparation:
             unit = self.world.unit(name)
             if unit is None:
                 head = self.world.info(name)
-                files[f'{TESTS}/{name}.class'] = self.lowering.floats.stub(head).written()
+                stub = self.lowering.floats.stub(head)
+                files[f'{TESTS}/{stub.name}.class'] = stub.written()
                 todo += [*head.interfaces, *([head.above] if head.above else [])]
                 continue
             if not self.is_lowered(name, unit):
