@@ -8,7 +8,7 @@ HAMCREST=${HAMCREST:-/usr/share/java/hamcrest.jar}
 made=$(mktemp -d "$PWD/made.XXXXXX")
 trap 'rm -rf "$made"' EXIT
 compile() {
-    javac -J-XX:TieredStopAtLevel=1 -J-XX:+UseSerialGC --release 8 -Xlint:-options,-unchecked -g:none -nowarn -encoding UTF-8 "$@"
+    javac -J-Xmx700m -J-XX:TieredStopAtLevel=1 -J-XX:+UseSerialGC --release 8 -Xlint:-options,-unchecked -g:none -nowarn -encoding UTF-8 "$@"
 }
 compile -d "$made/jvm-classes" $(find jvm -name '*.java')
 compile -cp "$made/jvm-classes:$HAMCREST" -d "$made/classes" $(find src -name '*.java' | sort)

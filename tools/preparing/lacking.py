@@ -6,8 +6,8 @@ MOST_METHODS = 3000
 
 
 class Lacking:
-    def __init__(self, world, edits):
-        self.world, self.edits, self.uses = world, edits, {}
+    def __init__(self, world, edits, floats):
+        self.world, self.edits, self.floats, self.uses = world, edits, floats, {}
 
     def nearest(self, owner, test, around):
         """The first thing that lacks on the way from a test, and what runs around it; or None."""
@@ -50,6 +50,12 @@ class Lacking:
             self.uses[place] = lacking, calls
         return self.uses[place]
 
+    def has_field(self, found, name, descriptor):
+        """Whether a class has a field, by the descriptor that it gets."""
+        world = self.world
+        return any(name == own and descriptor == self.floats.descriptor_of(stated) for above in world.supers(found)
+                   for where in (above, *world.interfaces(above)) for own, stated in where.fields)
+
     def judge(self, pool, code, at, op, calls):
         """Adds the methods that an instruction comes to; gives what of it isn't there."""
         world = self.world
@@ -68,7 +74,7 @@ class Lacking:
             return owner
         if op <= ce.PUTFIELD:
             calls.append((owner, '<clinit>', '()V'))
-            return None if world.field(found, (name, descriptor)) else f'{owner}.{name}'
+            return None if self.has_field(found, name, descriptor) else f'{owner}.{name}'
         if self.place_of(owner, name, descriptor) is None and world.method(found, (name, descriptor)) is None:
             return f'{owner}.{name}{descriptor}'
         calls.append((owner, name, descriptor))
