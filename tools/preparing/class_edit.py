@@ -31,6 +31,10 @@ def text_of(data):
     return data.replace(b'\xc0\x80', b'\0').decode('utf-8', 'surrogatepass')
 
 
+class TooLong(Exception):
+    """A code that can't be written, with why."""
+
+
 class Pool:
     """The constant pool. Entries are only added, and replaced by plain ones; texts are kept as bytes."""
 
@@ -75,6 +79,14 @@ class Pool:
             self.entries.append((kind, value))
             if index > 65534:
                 raise Refused('the constant pool is full')
+        return index
+
+    def add_number(self, kind, value):
+        """An int, or a long, which takes two entries."""
+        count = len(self.entries)
+        index = self.add(kind, value)
+        if kind == LONG and index == count:
+            self.entries.append((0, None))
         return index
 
     def add_text(self, text):
@@ -203,7 +215,7 @@ class Code:
             at += size
         self.code = bytearray(b''.join(parts))
         if len(self.code) > 65535:
-            raise Refused('the code is too long')
+            raise TooLong('is too long')
         self.handlers = [(places[start], places[stop], places[handler], kind) for start, stop, handler, kind in self.handlers]
         self.attributes = [(name, moved_table(name, content, places, nulls)) for name, content in self.attributes
                            if name in ('LineNumberTable', 'StackMapTable')]
@@ -228,7 +240,7 @@ class Code:
         if op in SHORT_JUMPS:
             to = places[at + struct.unpack_from('>h', code, at + 1)[0]] - here
             if not -32768 <= to < 32768:
-                raise Refused('a jump is too far')
+                raise TooLong('has a jump that is too far')
             return struct.pack('>Bh', op, to)
         if op == GOTO_W:
             return struct.pack('>Bi', op, places[at + struct.unpack_from('>i', code, at + 1)[0]] - here)

@@ -4,9 +4,10 @@ import struct
 from class_files import ABSTRACT, ENUM, INTERFACE
 from preparing import class_edit as ce
 from preparing.builder import add_method, new_class
+from preparing.floats import NUMBER, OBJECT
 
 NAME = 'more/Known'
-PRIMITIVES = ('int', 'long', 'short', 'byte', 'char', 'boolean', 'void')
+PRIMITIVES = ('int', 'long', 'short', 'byte', 'char', 'boolean', 'float', 'double', 'void')
 LOOKUPS = {
     'named': '(Ljava/lang/String;)Ljava/lang/Class;',
     'array': '(Ljava/lang/String;I)[Ljava/lang/Object;',
@@ -33,7 +34,7 @@ def answer(pool, lookup, info, names_above):
     if lookup == 'named':
         return struct.pack('>BH', ce.LDC_W, pool.add_class(name))
     if lookup == 'array':
-        return struct.pack('>BBH', ILOAD_1, ce.ANEWARRAY, pool.add_class(name))
+        return struct.pack('>BBH', ILOAD_1, ce.ANEWARRAY, pool.add_class(OBJECT if name == NUMBER else name))
     if lookup == 'above':
         return struct.pack('>BH', ce.LDC_W, pool.add_string(''.join(above.replace('/', '.') + ',' for above in names_above(info))))
     if lookup == 'make':
@@ -46,7 +47,7 @@ def answer(pool, lookup, info, names_above):
     return struct.pack('>BH', ce.INVOKESTATIC, pool.add_member(ce.METHOD_REF, name, 'values', stated))
 
 
-def add_lookup(made, lookup, infos, names_above):
+def add_lookup(made, lookup, infos, names_above, floats):
     """A switch over the hash codes of names; behind each case the name itself is compared."""
     pool = made.pool
     equals = pool.add_member(ce.METHOD_REF, 'java/lang/String', 'equals', '(Ljava/lang/Object;)Z')
@@ -55,8 +56,8 @@ def add_lookup(made, lookup, infos, names_above):
         if size > MOST_BYTES:
             break
         code = answer(pool, lookup, info, names_above)
-        if code is not None:
-            shown = info.name.replace('/', '.')
+        for name in dict.fromkeys((info.name, floats.name_of(info.name))) if code is not None else ():
+            shown = name.replace('/', '.')
             head = struct.pack('>BBHBHB', ce.ALOAD_0, ce.LDC_W, pool.add_string(shown), ce.INVOKEVIRTUAL, equals, IFEQ)
             cases.setdefault(hash_of(shown), (head, code + bytes([ARETURN])))
             size += 8 + len(head) + 2 + len(code) + 1
@@ -81,10 +82,12 @@ def add_lookup(made, lookup, infos, names_above):
     method.code.attributes = [('StackMapTable', struct.pack('>H', len(frames)) + b''.join(frames))]
 
 
-def known(infos, names_above):
-    """The class file, for the classes of which these are the heads; `names_above` gives what stands above one, its superclass first."""
+def known(infos, names_above, floats):
+    """The class file, for the classes of which these are the heads; `names_above` gives what stands above one, its superclass first. A class that `floats`
+    gives another name is known by both."""
     made = new_class(NAME, 0x1021, 'java/lang/Object')
     infos = sorted(infos, key=lambda info: info.name)
     for lookup in LOOKUPS:
-        add_lookup(made, lookup, infos, names_above)
+        add_lookup(made, lookup, infos, names_above, floats)
+    floats.rename(made)
     return made.written()

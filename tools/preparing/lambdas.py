@@ -1,7 +1,7 @@
 """Lambdas and method references: each site calls a static method that makes an object of a small class, as the JVM's own factory would."""
 import struct
 
-from class_files import INTERFACE, PRIVATE, STATIC, Reader, Refused, has_float
+from class_files import INTERFACE, PRIVATE, STATIC, Reader, Refused
 from preparing import class_edit as ce
 from preparing.builder import add_method, new_class
 
@@ -10,11 +10,14 @@ FACTORY = 'java/lang/invoke/LambdaMetafactory'
 OF_VIRTUAL, OF_STATIC, OF_SPECIAL, OF_NEW, OF_INTERFACE = 5, 6, 7, 8, 9
 MARKERS, BRIDGES = 2, 4
 BOXES = {'Z': ('java/lang/Boolean', 'booleanValue'), 'C': ('java/lang/Character', 'charValue'), 'B': ('java/lang/Byte', 'byteValue'),
-         'S': ('java/lang/Short', 'shortValue'), 'I': ('java/lang/Integer', 'intValue'), 'J': ('java/lang/Long', 'longValue')}
+         'S': ('java/lang/Short', 'shortValue'), 'I': ('java/lang/Integer', 'intValue'), 'J': ('java/lang/Long', 'longValue'),
+         'F': ('java/lang/Float', 'floatValue'), 'D': ('java/lang/Double', 'doubleValue')}
 UNBOXED = {f'L{box};': kind for kind, (box, _) in BOXES.items()}
 OBJECT = 'Ljava/lang/Object;'
-ILOAD, LLOAD, ALOAD, IRETURN, LRETURN, ARETURN, VOID_RETURN = 0x15, 0x16, 0x19, 0xac, 0xad, 0xb0, 0xb1
-POP, POP2, I2L = 0x57, 0x58, 0x85
+ALOAD, ARETURN, VOID_RETURN, POP, POP2 = 0x19, 0xb0, 0xb1, 0x57, 0x58
+LOADS = {**dict.fromkeys('ZBCSI', 0x15), 'J': 0x16, 'F': 0x17, 'D': 0x18}
+RETURNS = {**dict.fromkeys('ZBCSI', 0xac), 'J': 0xad, 'F': 0xae, 'D': 0xaf}
+WIDENINGS = {'IJ': 0x85, 'IF': 0x86, 'ID': 0x87, 'JF': 0x89, 'JD': 0x8a, 'FD': 0x8d}
 
 
 class NoLambda(Exception):
@@ -46,11 +49,21 @@ def class_of(kind):
 
 
 def load(kind, slot):
-    return struct.pack('>BBH', ce.WIDE, ALOAD if is_reference(kind) else LLOAD if kind == 'J' else ILOAD, slot)
+    return struct.pack('>BBH', ce.WIDE, LOADS.get(kind, ALOAD), slot)
 
 
 def result_of(kind):
-    return VOID_RETURN if kind == 'V' else ARETURN if is_reference(kind) else LRETURN if kind == 'J' else IRETURN
+    return VOID_RETURN if kind == 'V' else RETURNS.get(kind, ARETURN)
+
+
+def width(kind):
+    return 2 if kind in 'JD' else 1
+
+
+def widened(kind, want):
+    """The instruction that makes a number of another kind of one, where they differ."""
+    from_, to = (one if one in 'JFD' else 'I' for one in (kind, want))
+    return b'' if from_ == to else bytes([WIDENINGS[from_ + to]])
 
 
 class Lambdas:
@@ -90,8 +103,6 @@ class Lambdas:
         kind, member = pool.value(arguments[1], ce.METHOD_HANDLE)
         target = pool.member(member)
         captures, made = types_of(taken)
-        if any(map(has_float, (taken, stated, real, target[2]))):
-            raise NoLambda('computes with a float or a double')
         interfaces, bridges = self.extras(how, arguments)
         kind, target = self.reachable(kind, target)
         name_of = f'{self.edit.name}$$Lambda${len(self.made)}'
@@ -134,7 +145,7 @@ class Lambdas:
             loaded = [f'L{owner};', *types]
         for type_ in loaded:
             code += load(type_, slot)
-            slot += 2 if type_ == 'J' else 1
+            slot += width(type_)
         code += struct.pack('>BHB', ce.INVOKESPECIAL, self.edit.pool.add_member(tag, owner, name, descriptor), result_of(result))
         stated, called = f'({"".join(loaded)}){result}', f'lambda$access${self.accessors}'
         self.accessors += 1
@@ -150,7 +161,7 @@ class Lambdas:
             stored += bytes([ce.ALOAD_0]) + load(kind, slot + 1)
             stored += struct.pack('>BH', ce.PUTFIELD, pool.add_member(ce.FIELD_REF, beside.name, f'c{at}', kind))
             pushed += load(kind, slot)
-            slot += 2 if kind == 'J' else 1
+            slot += width(kind)
         taken = '(' + ''.join(captures) + ')'
         add_method(beside, PRIVATE, '<init>', taken + 'V', stored + bytes([ce.RETURN]), 3, slot + 1)
         pushed = struct.pack('>BHB', ce.NEW, pool.add_class(beside.name), ce.DUP) + pushed
@@ -170,15 +181,15 @@ class Lambdas:
         types, result = types_of(stated)
         for type_, seen, want in zip(types, types_of(real)[0], wanted[len(captures):], strict=True):
             code += load(type_, slot) + self.adapted(pool, type_, seen, want)
-            slot += 2 if type_ == 'J' else 1
+            slot += width(type_)
         if kind == OF_INTERFACE:
-            count = sum(2 if type_ == 'J' else 1 for type_ in wanted)
+            count = sum(map(width, wanted))
             code += struct.pack('>BHBB', ce.INVOKEINTERFACE, pool.add_member(tag, owner, called, descriptor), count, 0)
         else:
             op = {OF_VIRTUAL: ce.INVOKEVIRTUAL, OF_STATIC: ce.INVOKESTATIC, OF_NEW: ce.INVOKESPECIAL, OF_SPECIAL: ce.INVOKEVIRTUAL}[kind]
             code += struct.pack('>BH', op, pool.add_member(tag, owner, called, descriptor))
         code += self.adapted_result(pool, given, result, types_of(real)[1]) + bytes([result_of(result)])
-        stack = sum(2 if type_ == 'J' else 1 for type_ in wanted) + 5
+        stack = sum(map(width, wanted)) + 5
         add_method(beside, PUBLIC, name, stated, code, stack, slot)
 
     @staticmethod
@@ -192,13 +203,13 @@ class Lambdas:
             kind = UNBOXED.get(seen, want)
             box, method = BOXES[kind]
             code = cast(f'L{box};') + struct.pack('>BH', ce.INVOKEVIRTUAL, pool.add_member(ce.METHOD_REF, box, method, '()' + kind))
-            return code + (bytes([I2L]) if want == 'J' and kind != 'J' else b'')
+            return code + widened(kind, want)
         return boxed(pool, stated, want)
 
     @staticmethod
     def adapted_result(pool, given, result, seen):
         if result == 'V':
-            return b'' if given == 'V' else bytes([POP2 if given == 'J' else POP])
+            return b'' if given == 'V' else bytes([POP2 if given in 'JD' else POP])
         if is_reference(given) and is_reference(result):
             return b'' if result in (given, OBJECT) else struct.pack('>BH', ce.CHECKCAST, pool.add_class(class_of(result)))
         if is_reference(given):
@@ -206,7 +217,7 @@ class Lambdas:
             box, method = BOXES[kind]
             code = struct.pack('>BH', ce.CHECKCAST, pool.add_class(box))
             code += struct.pack('>BH', ce.INVOKEVIRTUAL, pool.add_member(ce.METHOD_REF, box, method, '()' + kind))
-            return code + (bytes([I2L]) if result == 'J' and kind != 'J' else b'')
+            return code + widened(kind, result)
         return boxed(pool, given, result)
 
 
@@ -215,4 +226,4 @@ def boxed(pool, kind, want):
     if is_reference(want):
         box = BOXES[kind][0]
         return struct.pack('>BH', ce.INVOKESTATIC, pool.add_member(ce.METHOD_REF, box, 'valueOf', f'({kind})L{box};'))
-    return bytes([I2L]) if want == 'J' and kind != 'J' else b''
+    return widened(kind, want)

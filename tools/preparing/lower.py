@@ -4,10 +4,12 @@ import struct
 from class_files import FLOAT_OPCODES, NATIVE, STATIC, has_float
 from preparing import class_edit as ce
 from preparing.builder import new_code
+from preparing.class_edit import TooLong
 from preparing.companion import MORE
+from preparing.floats import ARRAYS, BITS, NUMBER, OBJECT, SOFT, Floats
 from preparing.lambdas import Lambdas, NoLambda, slots_of
 
-FLOATS = 'computes with a float or a double'
+CLASS_OF_FLOATS = 'asks for the class of an array of floats or Numbers'
 LEFT_OUT_ERROR = 'java/lang/LinkageError'
 KEPT_OF_CLASS = {'SourceFile', 'RuntimeVisibleAnnotations', 'RuntimeInvisibleAnnotations', 'InnerClasses', 'Synthetic'}
 KEPT_OF_MEMBER = {'Code', 'ConstantValue', 'Exceptions', 'RuntimeVisibleAnnotations', 'RuntimeInvisibleAnnotations', 'Synthetic'}
@@ -42,17 +44,18 @@ class Lowered:
 class Lowering:
     def __init__(self, program, companion, jdk):
         self.program, self.companion, self.jdk = program, companion, jdk
-        self.targets = {}
+        self.targets, self.floats = {}, Floats(program, companion)
 
     def lower(self, edit, cuts):
         """Lowers a class file in place; `cuts` has methods that are cut out besides, by name and descriptor, with why."""
         done = Lowered(edit)
         self.put_supers(edit)
-        self.drop_members(edit, done)
+        for member in (*edit.fields, *edit.methods):
+            member.attributes = [row for row in member.attributes if row[0] in KEPT_OF_MEMBER]
         lambdas = Lambdas(edit)
         methods = list(edit.methods)
         for method in methods:
-            why = cuts.get(method.key)
+            why = self.floats.is_cut(cuts, method)
             if why is None:
                 why = self.lower_method(edit, method, lambdas, done)
             if why is not None:
@@ -61,11 +64,14 @@ class Lowering:
         for method in edit.methods:
             self.add_names(edit, method, done)
         edit.attributes = [row for row in edit.attributes if row[0] in KEPT_OF_CLASS]
-        edit.pool.make_plain()
-        edit.major = 52
         done.names |= {edit.above, *edit.interfaces} - {None}
         for field in edit.fields:
             done.names.update(classes_in(field.descriptor))
+        if NUMBER in done.names:
+            done.names.add(MORE + NUMBER)
+        self.floats.rename(edit)
+        edit.pool.make_plain()
+        edit.major = 52
         for made in lambdas.made:
             beside = self.lower(made, {})
             done.made += [made, *beside.made]
@@ -77,19 +83,6 @@ class Lowering:
         if edit.above and not edit.name.startswith(MORE):
             edit.above = self.companion.subclass(edit.above)
         edit.interfaces += [name for name in self.program.more_above(edit.name) if name not in edit.interfaces]
-
-    @staticmethod
-    def drop_members(edit, done):
-        for field in edit.fields:
-            if has_float(field.descriptor):
-                done.cuts[field.key] = 'is a float or a double, or an array of them'
-        for method in edit.methods:
-            if has_float(method.descriptor):
-                done.cuts[method.key] = 'takes or gives a float or a double'
-        edit.fields = [field for field in edit.fields if field.key not in done.cuts]
-        edit.methods = [method for method in edit.methods if method.key not in done.cuts]
-        for member in (*edit.fields, *edit.methods):
-            member.attributes = [row for row in member.attributes if row[0] in KEPT_OF_MEMBER]
 
     def lower_method(self, edit, method, lambdas, done):
         """Puts a method's instructions in other words; gives why that can't be."""
@@ -109,20 +102,28 @@ class Lowering:
         except (Cut, NoLambda) as cut:
             lambdas.reset(mark)
             return str(cut)
+        except TooLong as long:
+            lambdas.reset(mark)
+            return f'{long} once it is lowered'
         return None
 
     def lower_instruction(self, edit, method, at, op, lambdas, with_bytes, news, dropped):
         code, pool = method.code, edit.pool
         if op in FLOAT_OPCODES:
-            raise Cut(FLOATS)
-        if op == ce.NEWARRAY:
-            if code.code[at + 1] in (6, 7):
-                raise Cut(FLOATS)
+            self.floats.lower(code, pool, at, op, with_bytes)
+        elif op == ce.NEWARRAY:
+            self.floats.lower_new_array(code, pool, at, with_bytes)
         elif op == ce.WIDE:
-            if code.code[at + 1] in FLOAT_OPCODES or code.code[at + 1] == 0xa9:
-                raise Cut(FLOATS)
+            if code.code[at + 1] == 0xa9:
+                raise Cut('has the opcode 0xa9, which is not read')
+            self.floats.lower_wide(code, at)
         elif op in (ce.LDC, ce.LDC_W, ce.LDC2_W):
-            self.judge_constant(pool, code.code[at + 1] if op == ce.LDC else code.operand(at))
+            index = code.code[at + 1] if op == ce.LDC else code.operand(at)
+            kind = self.floats.kind_of(pool, index)
+            if kind is not None:
+                with_bytes[at] = struct.pack('>BH', ce.LDC_W, pool.add_class(kind))
+            else:
+                self.judge_constant(pool, index)
         elif op == ce.INVOKEDYNAMIC:
             target = lambdas.factory(code.operand(at))
             with_bytes[at] = struct.pack('>BH', ce.INVOKESTATIC, target)
@@ -132,8 +133,13 @@ class Lowering:
             self.lower_call(edit, method, at, op, with_bytes, news, dropped)
         elif op in (ce.NEW, ce.ANEWARRAY, ce.CHECKCAST, ce.INSTANCEOF, ce.MULTIANEWARRAY):
             name = pool.class_name(code.operand(at))
-            if name.startswith('[') and has_float(name):
-                raise Cut(FLOATS)
+            is_array = edit.name != ARRAYS and self.floats.lower_array(code, pool, at, op, name, with_bytes)
+            if is_array is None:
+                raise Cut('has an array of numbers of more than three dimensions')
+            if is_array:
+                return
+            if op == ce.INSTANCEOF and f'[L{NUMBER};' in name:
+                raise Cut(CLASS_OF_FLOATS)
             if op in (ce.CHECKCAST, ce.INSTANCEOF):
                 self.lower_test(edit, code, at, op, name)
             elif op == ce.NEW:
@@ -146,25 +152,21 @@ class Lowering:
     def lower_test(self, edit, code, at, op, name):
         """Puts a method of the companion library in the place of a cast, or of a question for a class, where it has one."""
         called, stated = ('cast', '(Ljava/lang/Object;)Ljava/lang/Object;') if op == ce.CHECKCAST else ('isInstance', '(Ljava/lang/Object;)Z')
-        is_interface = self.companion.methods.get((name, called, stated))
-        if is_interface is not None and edit.name != MORE + name:
+        found = self.companion.method((name, called, stated), edit.name)
+        if found is not None and edit.name != MORE + name:
             code.code[at] = ce.INVOKESTATIC
-            code.put_operand(at, edit.pool.add_member(ce.INTERFACE_REF if is_interface else ce.METHOD_REF, MORE + name, called, stated))
+            code.put_operand(at, edit.pool.add_member(ce.INTERFACE_REF if found[1] else ce.METHOD_REF, found[0], called, stated))
 
     @staticmethod
     def judge_constant(pool, index):
         kind, value = pool.entries[index]
-        if kind in (ce.FLOAT, ce.DOUBLE):
-            raise Cut(FLOATS)
         if kind in (ce.METHOD_HANDLE, ce.METHOD_TYPE, ce.DYNAMIC):
             raise Cut('has a constant of a method or a dynamic constant')
-        if kind == ce.CLASS and pool.text(value).startswith('[') and has_float(pool.text(value)):
-            raise Cut(FLOATS)
+        if kind == ce.CLASS and pool.text(value).startswith('[') and (has_float(pool.text(value)) or f'[L{NUMBER};' in pool.text(value)):
+            raise Cut(CLASS_OF_FLOATS)
 
     def lower_field(self, edit, code, at, op):
         owner, name, descriptor, _ = edit.pool.member(code.operand(at))
-        if has_float(descriptor):
-            raise Cut(FLOATS)
         if op == ce.GETSTATIC:
             target = self.target_of_field(owner, name, descriptor)
             if target is not None and target != edit.name:
@@ -176,15 +178,20 @@ class Lowering:
             found = self.program.class_of(owner)
             target = None
             if found is None or self.program.field(found, (name, descriptor)) is None:
-                target = next((MORE + above for above in self.program.java_above(owner) if (above, name, descriptor) in self.companion.fields), None)
+                fields = self.companion.fields
+                target = next((fields[above, name, descriptor] for above in self.program.java_above(owner) if (above, name, descriptor) in fields), None)
             self.targets[key] = target
         return self.targets[key]
 
     def lower_call(self, edit, method, at, op, with_bytes, news, dropped):
         code, pool = method.code, edit.pool
         owner, name, descriptor, _ = pool.member(code.operand(at))
-        if has_float(descriptor) or owner.startswith('[') and has_float(owner):
-            raise Cut(FLOATS)
+        if name == 'clone' and owner.startswith('[') and has_float(owner):
+            self.floats.clone(pool, code, at)
+            return
+        if (owner, name) in BITS:
+            code.code[at:at + 3] = self.floats.call(pool, SOFT, 'bits', self.floats.descriptor_of(descriptor))
+            return
         if name == '<init>':
             self.lower_constructor(edit, code, at, owner, descriptor, with_bytes, news, dropped)
             return
@@ -192,10 +199,11 @@ class Lowering:
             if owner in self.companion.subclasses and owner != edit.name and edit.above == MORE + owner and not edit.name.startswith(MORE):
                 code.put_operand(at, pool.add_member(ce.METHOD_REF, MORE + owner, name, descriptor))
             return
-        target = self.target_of_call(op, owner, name, descriptor)
-        if target is None or target[0] == edit.name:
+        stated = self.target_of_call(op, owner, name, descriptor)
+        target = self.companion.method(stated, edit.name) if stated is not None else None
+        if target is None:
             return
-        where, stated, is_interface = target
+        (where, is_interface), stated = target, stated[2]
         index = pool.add_member(ce.INTERFACE_REF if is_interface else ce.METHOD_REF, where, name, stated)
         if op == ce.INVOKEINTERFACE:
             with_bytes[at] = struct.pack('>BH', ce.INVOKESTATIC, index)
@@ -204,7 +212,7 @@ class Lowering:
             code.put_operand(at, index)
 
     def target_of_call(self, op, owner, name, descriptor):
-        """The static method of the companion library that stands for a method: class, descriptor, whether it is an interface's; or None."""
+        """Of which class of Java the companion library has a static method that stands for a method, with its name and descriptor; or None."""
         key = (op == ce.INVOKESTATIC, owner, name, descriptor)
         if key not in self.targets:
             self.targets[key] = self.searched_target(*key)
@@ -216,25 +224,34 @@ class Lowering:
         def stated(above):
             return descriptor if is_static else f'(L{above};{descriptor[1:]}'
         if (owner, name, stated(owner)) in methods:
-            return MORE + owner, stated(owner), methods[owner, name, stated(owner)]
+            return owner, name, stated(owner)
         found = self.program.class_of(owner)
         if found is not None and self.program.method(found, (name, descriptor)) is not None:
             return None
         for above in self.program.java_above(owner):
             if (above, name, stated(above)) in methods:
-                return MORE + above, stated(above), methods[above, name, stated(above)]
+                return above, name, stated(above)
         return None
 
     def lower_constructor(self, edit, code, at, owner, descriptor, with_bytes, news, dropped):
         pool, begun = edit.pool, news.get(owner)
         started = begun.pop() if begun else None
-        if owner in self.companion.subclasses:
+        stated = f'(L{owner};L{owner};{descriptor[1:-1]}L{owner};'
+        maker = self.companion.method((owner, 'make', stated), edit.name)
+        if owner in self.companion.subclasses and (maker is None or started is None):
             if edit.name != MORE + owner:
                 code.put_operand(at, pool.add_member(ce.METHOD_REF, MORE + owner, '<init>', descriptor))
             return
-        stated = f'(L{owner};L{owner};{descriptor[1:-1]}L{owner};'
-        is_interface = self.companion.methods.get((owner, 'make', stated))
-        if started is None or is_interface is None or code.code[started + 3] != ce.DUP or edit.name == MORE + owner:
+        if owner == NUMBER and edit.above == NUMBER:
+            code.put_operand(at, pool.add_member(ce.METHOD_REF, OBJECT, '<init>', descriptor))
+            return
+        marks = self.floats.marks_of(owner, descriptor)
+        if marks:
+            called = pool.add_member(ce.METHOD_REF, owner, '<init>', self.floats.marked(descriptor, marks))
+            with_bytes[at] = bytes([ce.ACONST_NULL] * marks) + struct.pack('>BH', ce.INVOKESPECIAL, called)
+            code.stack += marks
+            return
+        if started is None or maker is None or code.code[started + 3] != ce.DUP or edit.name == MORE + owner:
             return
         found = self.program.class_of(owner)
         if found is not None and ('<init>', descriptor) in found.methods:
@@ -242,7 +259,7 @@ class Lowering:
         with_bytes[started] = bytes([ce.ACONST_NULL])
         dropped.add(started)
         code.code[at] = ce.INVOKESTATIC
-        code.put_operand(at, pool.add_member(ce.INTERFACE_REF if is_interface else ce.METHOD_REF, MORE + owner, 'make', stated))
+        code.put_operand(at, pool.add_member(ce.INTERFACE_REF if maker[1] else ce.METHOD_REF, maker[0], 'make', stated))
 
     @staticmethod
     def cut(edit, method, why):

@@ -259,8 +259,11 @@ class Preparation:
         return True
 
     def lower_reached(self):
-        """Lowers all that tests reach, and makes stubs of the classes of Java that are named besides; gives the files by path."""
+        """Lowers the code and all that it and the tests reach, and makes stubs of the classes of Java that are named besides; gives the files by
+        path. Without tests there are none."""
         todo, self.reached, files = [name for name in self.tests if name not in self.class_off], set(), {}
+        if todo:
+            todo += [name for name, unit in self.world.units.items() if unit and unit.origin == CODE]
         while todo:
             name = todo.pop()
             if name in self.reached:
@@ -271,7 +274,8 @@ class Preparation:
             unit = self.world.unit(name)
             if unit is None:
                 head = self.world.info(name)
-                files[f'{TESTS}/{name}.class'] = new_class(name, head.flags, head.above, head.interfaces).written()
+                stub = self.lowering.floats.stub(head)
+                files[f'{TESTS}/{stub.name}.class'] = stub.written()
                 todo += [*head.interfaces, *([head.above] if head.above else [])]
                 continue
             if not self.is_lowered(name, unit):
@@ -288,7 +292,7 @@ class Preparation:
         for name in known.PRIMITIVES:
             files[f'{TESTS}/{name}.class'] = new_class(name, PUBLIC_FINAL, 'java/lang/Object').written()
             heads.append(Class(name, PUBLIC_FINAL, None, []))
-        files[f'{TESTS}/{known.NAME}.class'] = known.known(heads, self.world.all_above)
+        files[f'{TESTS}/{known.NAME}.class'] = known.known(heads, self.world.all_above, self.lowering.floats)
 
     def literals(self):
         """The heads of the classes that the code names as such, of enums, and of what stands above them."""
@@ -372,7 +376,7 @@ class Preparation:
         self.lower_kept()
         edits = {edit.name: (edit, {method.key: method for method in edit.methods})
                  for done, _ in self.lowered.values() if done.edit is not None for edit in (done.edit, *done.made)}
-        lacking, found = Lacking(self.world, edits), {}
+        lacking, found = Lacking(self.world, edits, self.lowering.floats), {}
         for owner, tests in self.off.items():
             around = [key[0] for above in self.world.names_above(owner) for suite in [self.suite_of(above)] if suite is not None
                       for key in suite.around]

@@ -2,7 +2,7 @@
 import os
 import zipfile
 
-from class_files import INTERFACE, Class, Member, Refused, has_float
+from class_files import INTERFACE, Class, Member, Refused
 from preparing.class_edit import ClassEdit
 from preparing import known
 from preparing.companion import MORE
@@ -112,7 +112,7 @@ class World(Program):
         above = self.companion.subclass(edit.above) if edit.above and not edit.name.startswith(MORE) else edit.above
         found = Class(edit.name, edit.flags, above, list(edit.interfaces))
         for into, members in ((found.fields, edit.fields), (found.methods, edit.methods)):
-            into.update({member.key: Member(member.flags, *member.key) for member in members if not has_float(member.descriptor)})
+            into.update({member.key: Member(member.flags, *member.key) for member in members})
         return found
 
     def is_of_java(self, name):
@@ -158,7 +158,7 @@ class World(Program):
                 if above and not self.is_of_java(above):
                     taken = set(self.java_above(above))
                     found = [of for of in found if of not in taken]
-            self.mores[name] = [MORE + of for of in found]
+            self.mores[name] = [more for of in found for more in self.companion.interfaces[of]]
         return self.mores[name]
 
     def all_above(self, info):

@@ -27,6 +27,10 @@ public final class Known {
                 return char.class;
             case "boolean":
                 return boolean.class;
+            case "float":
+                return float.class;
+            case "double":
+                return double.class;
             case "void":
                 return void.class;
             default:

@@ -140,6 +140,20 @@ public abstract class AbstractList<E> extends AbstractCollection<E> implements L
             }
         }
 
+        /** The item at a place, beside which the walk stands then. A list may say itself where it ends. */
+        private E moved(int place, int to) {
+            check();
+            try {
+                E found = get(place);
+                last = place;
+                at = to;
+                return found;
+            } catch (IndexOutOfBoundsException none) {
+                check();
+                throw new NoSuchElementException();
+            }
+        }
+
         @Override
         public boolean hasNext() {
             return at != size();
@@ -147,13 +161,7 @@ public abstract class AbstractList<E> extends AbstractCollection<E> implements L
 
         @Override
         public E next() {
-            check();
-            if (at >= size()) {
-                throw new NoSuchElementException();
-            }
-            E found = get(at);
-            last = at++;
-            return found;
+            return moved(at, at + 1);
         }
 
         @Override
@@ -163,13 +171,7 @@ public abstract class AbstractList<E> extends AbstractCollection<E> implements L
 
         @Override
         public E previous() {
-            check();
-            if (at <= 0) {
-                throw new NoSuchElementException();
-            }
-            E found = get(at - 1);
-            last = --at;
-            return found;
+            return moved(at - 1, at - 1);
         }
 
         @Override
@@ -188,7 +190,11 @@ public abstract class AbstractList<E> extends AbstractCollection<E> implements L
                 throw new IllegalStateException();
             }
             check();
-            AbstractList.this.remove(last);
+            try {
+                AbstractList.this.remove(last);
+            } catch (IndexOutOfBoundsException none) {
+                throw new ConcurrentModificationException();
+            }
             at -= last < at ? 1 : 0;
             last = -1;
             expected = modCount;
@@ -200,14 +206,23 @@ public abstract class AbstractList<E> extends AbstractCollection<E> implements L
                 throw new IllegalStateException();
             }
             check();
-            AbstractList.this.set(last, to);
+            try {
+                AbstractList.this.set(last, to);
+            } catch (IndexOutOfBoundsException none) {
+                throw new ConcurrentModificationException();
+            }
             expected = modCount;
         }
 
         @Override
         public void add(E next) {
             check();
-            AbstractList.this.add(at++, next);
+            try {
+                AbstractList.this.add(at, next);
+            } catch (IndexOutOfBoundsException none) {
+                throw new ConcurrentModificationException();
+            }
+            at++;
             last = -1;
             expected = modCount;
         }

@@ -3,6 +3,8 @@ package java.util;
 /** The numbers of Java's own; where no seed is given it is 0. */
 public class Random implements java.io.Serializable {
     private long seed;
+    private double kept;
+    private boolean hasKept;
 
     public Random() {
         this(0);
@@ -14,6 +16,7 @@ public class Random implements java.io.Serializable {
 
     public void setSeed(long to) {
         seed = (to ^ 0x5DEECE66DL) & (1L << 48) - 1;
+        hasKept = false;
     }
 
     protected int next(int bits) {
@@ -45,6 +48,33 @@ public class Random implements java.io.Serializable {
 
     public long nextLong() {
         return ((long) next(32) << 32) + next(32);
+    }
+
+    public double nextDouble() {
+        return (((long) next(26) << 27) + next(27)) * 0x1.0p-53;
+    }
+
+    public float nextFloat() {
+        return next(24) * 0x1.0p-24f;
+    }
+
+    public double nextGaussian() {
+        if (hasKept) {
+            hasKept = false;
+            return kept;
+        }
+        double one;
+        double other;
+        double size;
+        do {
+            one = 2 * nextDouble() - 1;
+            other = 2 * nextDouble() - 1;
+            size = one * one + other * other;
+        } while (size >= 1 || size == 0);
+        double by = StrictMath.sqrt(-2 * StrictMath.log(size) / size);
+        kept = other * by;
+        hasKept = true;
+        return one * by;
     }
 
     public boolean nextBoolean() {

@@ -11,12 +11,27 @@ public interface Number {
 
     long longValue();
 
+    float floatValue();
+
+    double doubleValue();
+
     default short shortValue() {
         return (short) intValue();
     }
 
     default byte byteValue() {
         return (byte) intValue();
+    }
+
+    static Object cast(Object of) {
+        if (of != null && !isInstance(of)) {
+            throw new ClassCastException(of.getClass().getName() + " cannot be cast to java.lang.Number");
+        }
+        return of;
+    }
+
+    static boolean isInstance(Object of) {
+        return of instanceof Integer || of instanceof Long || of instanceof Number || of instanceof Short || of instanceof Byte;
     }
 
     static int intValue(java.lang.Number of) {

@@ -13,6 +13,7 @@ import java.util.Comparator;
 import java.util.Iterator;
 import java.util.List;
 import java.util.Locale;
+import java.util.regex.Pattern;
 
 /** Members of java.lang.String. Letters have cases as ASCII and Latin 1 have them. */
 public final class String {
@@ -110,6 +111,11 @@ public final class String {
 
     // Static methods.
 
+    public static java.lang.String valueOf(Object of) {
+        return of instanceof StringBuilder ? more.java.lang.StringBuilder.toString((StringBuilder) of)
+            : java.lang.String.valueOf(of);
+    }
+
     public static java.lang.String valueOf(char[] of) {
         return text(of, 0, of.length);
     }
@@ -129,7 +135,7 @@ public final class String {
             if (at > 0) {
                 made.append(between.toString());
             }
-            made.append(java.lang.String.valueOf((Object) parts[at]));
+            made.append(valueOf((Object) parts[at]));
         }
         return made.toString();
     }
@@ -138,7 +144,7 @@ public final class String {
         StringBuilder made = new StringBuilder();
         Iterator<? extends CharSequence> walk = parts.iterator();
         while (walk.hasNext()) {
-            made.append(java.lang.String.valueOf((Object) walk.next()));
+            made.append(valueOf((Object) walk.next()));
             if (walk.hasNext()) {
                 made.append(between.toString());
             }
@@ -372,16 +378,32 @@ public final class String {
         return from == 0 ? of : made.append(of.substring(from)).toString();
     }
 
-    /** By a pattern that is plain text, or one character of which the first is a backslash. */
+    // By a regular expression.
+
+    public static boolean matches(java.lang.String of, java.lang.String by) {
+        return Pattern.matches(by, of);
+    }
+
+    public static java.lang.String replaceAll(java.lang.String of, java.lang.String by, java.lang.String with) {
+        return Pattern.compile(by).matcher(of).replaceAll(with);
+    }
+
+    public static java.lang.String replaceFirst(java.lang.String of, java.lang.String by, java.lang.String with) {
+        return Pattern.compile(by).matcher(of).replaceFirst(with);
+    }
+
     public static java.lang.String[] split(java.lang.String of, java.lang.String by) {
         return split(of, by, 0);
     }
 
     public static java.lang.String[] split(java.lang.String of, java.lang.String by, int limit) {
         java.lang.String part = Texts.plain(by);
+        if (part == null || part.isEmpty()) {
+            return Pattern.compile(by).split(of, limit);
+        }
         List<java.lang.String> found = new ArrayList<>();
         int from = 0;
-        int at = part.isEmpty() ? -1 : of.indexOf(part);
+        int at = of.indexOf(part);
         while (at >= 0 && (limit <= 0 || found.size() < limit - 1)) {
             found.add(of.substring(from, at));
             from = at + part.length();
@@ -400,6 +422,38 @@ public final class String {
             parts[next] = found.get(next);
         }
         return parts;
+    }
+
+    public static java.lang.String copyValueOf(char[] of, int from, int count) {
+        return valueOf(of, from, count);
+    }
+
+    public static int codePointBefore(java.lang.String of, int at) {
+        if (at < 1 || at > of.length()) {
+            throw new StringIndexOutOfBoundsException("index " + at + ", length " + of.length());
+        }
+        return at > 1 && Character.isLowSurrogate(of.charAt(at - 1)) && Character.isHighSurrogate(of.charAt(at - 2))
+            ? of.codePointAt(at - 2) : of.charAt(at - 1);
+    }
+
+    public static int offsetByCodePoints(java.lang.String of, int from, int many) {
+        if (from < 0 || from > of.length()) {
+            throw new IndexOutOfBoundsException();
+        }
+        int at = from;
+        for (int left = many; left > 0; left--) {
+            if (at == of.length()) {
+                throw new IndexOutOfBoundsException();
+            }
+            at += Character.charCount(of.codePointAt(at));
+        }
+        for (int left = many; left < 0; left++) {
+            if (at == 0) {
+                throw new IndexOutOfBoundsException();
+            }
+            at -= Character.charCount(codePointBefore(of, at));
+        }
+        return at;
     }
 
     public static int codePointAt(java.lang.String of, int at) {

@@ -54,7 +54,7 @@ final class Texts {
         }
     }
 
-    /** The text of a pattern that stands for itself. */
+    /** The text of a pattern that stands for itself, or null. */
     static String plain(String pattern) {
         StringBuilder made = new StringBuilder();
         for (int at = 0; at < pattern.length(); at++) {
@@ -64,7 +64,7 @@ final class Texts {
                 at++;
                 made.append(pattern.charAt(at));
             } else if ("\\[](){}.*+?^$|".indexOf(next) >= 0) {
-                throw new NoClassDefFoundError("java.util.regex.Pattern");
+                return null;
             } else {
                 made.append(next);
             }

@@ -9,6 +9,7 @@ import java.util.NoSuchElementException;
 
 /** java.util.ArrayList whole: what the profile's own has not, and what it answers otherwise than Java. */
 public class ArrayList<E> extends java.util.ArrayList<E> implements more.java.util.List<E>, java.util.RandomAccess {
+    /** Two for each item that went: with the size this counts all changes, and what adds an item can stay the profile's own. */
     protected int modCount;
 
     public ArrayList() {
@@ -28,41 +29,48 @@ public class ArrayList<E> extends java.util.ArrayList<E> implements more.java.ut
     }
 
     @Override
-    public boolean add(E next) {
-        modCount++;
-        return super.add(next);
-    }
-
-    @Override
     public void add(int at, E next) {
-        check(at, size());
-        modCount++;
-        super.add(at, next);
-    }
-
-    @Override
-    public E remove(int at) {
-        check(at, size() - 1);
-        modCount++;
-        return super.remove(at);
-    }
-
-    @Override
-    public void clear() {
-        modCount++;
-        super.clear();
-    }
-
-    private void check(int at, int most) {
-        if (at < 0 || at > most) {
-            throw new IndexOutOfBoundsException("Index: " + at + ", Size: " + size());
+        try {
+            super.add(at, next);
+        } catch (IndexOutOfBoundsException none) {
+            throw outside(at);
         }
     }
 
     @Override
+    public E remove(int at) {
+        try {
+            E found = super.remove(at);
+            modCount += 2;
+            return found;
+        } catch (IndexOutOfBoundsException none) {
+            throw outside(at);
+        }
+    }
+
+    @Override
+    public void clear() {
+        modCount += 2 * size() + 1;
+        super.clear();
+    }
+
+    private IndexOutOfBoundsException outside(int at) {
+        return new IndexOutOfBoundsException("Index: " + at + ", Size: " + size());
+    }
+
+    @Override
     public int indexOf(Object sought) {
-        for (int at = 0; at < size(); at++) {
-            if (sought == null ? get(at) == null : sought.equals(get(at))) {
+        int size = size();
+        if (sought == null) {
+            for (int at = 0; at < size; at++) {
+                if (get(at) == null) {
+                    return at;
+                }
+            }
+            return -1;
+        }
+        for (int at = 0; at < size; at++) {
+            if (sought.equals(get(at))) {
                 return at;
             }
         }
@@ -80,8 +88,8 @@ public class ArrayList<E> extends java.util.ArrayList<E> implements more.java.ut
         if (at < 0) {
             return false;
         }
-        modCount++;
         super.remove(at);
+        modCount += 2;
         return true;
     }
 
@@ -97,9 +105,11 @@ public class ArrayList<E> extends java.util.ArrayList<E> implements more.java.ut
 
     @Override
     public boolean addAll(int at, Collection<? extends E> others) {
-        check(at, size());
+        if (at < 0 || at > size()) {
+            throw outside(at);
+        }
         Object[] all = others.toArray();
-        modCount++;
+        modCount += all.length == 0 ? 1 : 0;
         for (int next = 0; next < all.length; next++) {
             super.add(at + next, (E) all[next]);
         }
@@ -132,9 +142,10 @@ public class ArrayList<E> extends java.util.ArrayList<E> implements more.java.ut
 
     @Override
     protected void removeRange(int from, int to) {
-        modCount++;
+        modCount += 1;
         for (int at = to - 1; at >= from; at--) {
             super.remove(at);
+            modCount += 2;
         }
     }
 
@@ -163,7 +174,7 @@ public class ArrayList<E> extends java.util.ArrayList<E> implements more.java.ut
 
     @Override
     public Iterator<E> iterator() {
-        return new Walk(0);
+        return new Ahead<>(this);
     }
 
     @Override
@@ -228,17 +239,80 @@ public class ArrayList<E> extends java.util.ArrayList<E> implements more.java.ut
         return code;
     }
 
+    // For a variable of the profile's own class.
+
+    public static Object clone(java.util.ArrayList of) {
+        return of instanceof ArrayList ? ((ArrayList) of).clone() : new ArrayList(of);
+    }
+
+    public static void ensureCapacity(java.util.ArrayList of, int capacity) {
+        if (of instanceof ArrayList) {
+            ((ArrayList) of).ensureCapacity(capacity);
+        }
+    }
+
+    public static void trimToSize(java.util.ArrayList of) {
+        if (of instanceof ArrayList) {
+            ((ArrayList) of).trimToSize();
+        }
+    }
+
+    /** A walk from the first item to the last, in few steps. */
+    private static final class Ahead<E> implements Iterator<E> {
+        private final ArrayList<E> of;
+        private int at;
+        /** The place at which an item was removed: a walk stands there only until it goes on. */
+        private int removed;
+        private int expected;
+
+        Ahead(ArrayList<E> of) {
+            this.of = of;
+            expected = of.modCount + of.size();
+        }
+
+        @Override
+        public boolean hasNext() {
+            return at != of.size();
+        }
+
+        @Override
+        public E next() {
+            if (of.modCount + of.size() != expected) {
+                throw new ConcurrentModificationException();
+            }
+            try {
+                return of.get(at++);
+            } catch (IndexOutOfBoundsException none) {
+                at--;
+                throw new NoSuchElementException();
+            }
+        }
+
+        @Override
+        public void remove() {
+            if (at == removed) {
+                throw new IllegalStateException();
+            }
+            if (of.modCount + of.size() != expected) {
+                throw new ConcurrentModificationException();
+            }
+            of.remove(--at);
+            removed = at;
+            expected = of.modCount + of.size();
+        }
+    }
+
     private class Walk implements ListIterator<E> {
         private int at;
         private int last = -1;
-        private int expected = modCount;
+        private int expected = modCount + size();
 
         Walk(int at) {
             this.at = at;
         }
 
         private void check() {
-            if (modCount != expected) {
+            if (modCount + size() != expected) {
                 throw new ConcurrentModificationException();
             }
         }
@@ -294,7 +368,7 @@ public class ArrayList<E> extends java.util.ArrayList<E> implements more.java.ut
             ArrayList.this.remove(last);
             at -= last < at ? 1 : 0;
             last = -1;
-            expected = modCount;
+            expected = modCount + size();
         }
 
         @Override
@@ -304,7 +378,7 @@ public class ArrayList<E> extends java.util.ArrayList<E> implements more.java.ut
             }
             check();
             ArrayList.this.set(last, to);
-            expected = modCount;
+            expected = modCount + size();
         }
 
         @Override
@@ -312,7 +386,7 @@ public class ArrayList<E> extends java.util.ArrayList<E> implements more.java.ut
             check();
             ArrayList.this.add(at++, next);
             last = -1;
-            expected = modCount;
+            expected = modCount + size();
         }
     }
 }

@@ -9,6 +9,8 @@ import java.util.Iterator;
 import java.util.Map;
 import java.util.NoSuchElementException;
 import java.util.Set;
+import java.util.function.BiFunction;
+import java.util.function.Function;
 
 /** java.util.HashMap whole, which is walked in Java's order. */
 public class HashMap<K, V> extends java.util.HashMap<K, V> implements more.java.util.Map<K, V> {
@@ -116,11 +118,83 @@ public class HashMap<K, V> extends java.util.HashMap<K, V> implements more.java.
         added(made);
         modCount++;
         size++;
-        if (size > table.length / 4 * 3 + table.length % 4 * 3 / 4) {
+        if (isFull()) {
             grow();
         }
         inserted();
         return null;
+    }
+
+    private boolean isFull() {
+        return size > table.length / 4 * 3 + table.length % 4 * 3 / 4;
+    }
+
+    // Java puts what is computed before what has the same place, and makes room only before it.
+
+    private Node<K, V> nodeWithRoom(Object key) {
+        if (table == null) {
+            table = (Node<K, V>[]) new Node[first];
+        } else if (isFull()) {
+            grow();
+        }
+        return node(key);
+    }
+
+    private void putFirst(K key, V value) {
+        int hash = hash(key);
+        int at = hash & table.length - 1;
+        table[at] = new Node<>(hash, key, value, table[at]);
+        added(table[at]);
+        modCount++;
+        size++;
+        inserted();
+    }
+
+    private V putComputed(Node<K, V> found, K key, V value) {
+        if (found == null) {
+            if (value != null) {
+                putFirst(key, value);
+            }
+        } else if (value == null) {
+            remove(key);
+        } else {
+            found.setValue(value);
+            touched(found);
+        }
+        return value;
+    }
+
+    @Override
+    public V computeIfAbsent(K key, Function<? super K, ? extends V> function) {
+        if (function == null) {
+            throw new NullPointerException();
+        }
+        Node<K, V> found = nodeWithRoom(key);
+        if (found != null && found.getValue() != null) {
+            touched(found);
+            return found.getValue();
+        }
+        V value = function.apply(key);
+        return value == null ? null : putComputed(found, key, value);
+    }
+
+    @Override
+    public V compute(K key, BiFunction<? super K, ? super V, ? extends V> function) {
+        if (function == null) {
+            throw new NullPointerException();
+        }
+        Node<K, V> found = nodeWithRoom(key);
+        return putComputed(found, key, function.apply(key, found == null ? null : found.getValue()));
+    }
+
+    @Override
+    public V merge(K key, V value, BiFunction<? super V, ? super V, ? extends V> function) {
+        if (value == null || function == null) {
+            throw new NullPointerException();
+        }
+        Node<K, V> found = nodeWithRoom(key);
+        V old = found == null ? null : found.getValue();
+        return putComputed(found, key, old == null ? value : function.apply(old, value));
     }
 
     private static <K, V> Node<K, V> last(Node<K, V> of) {
@@ -456,5 +530,11 @@ public class HashMap<K, V> extends java.util.HashMap<K, V> implements more.java.
             current = null;
             expected = modCount;
         }
+    }
+
+    // For a variable of the profile's own class.
+
+    public static Object clone(java.util.HashMap of) {
+        return of instanceof HashMap ? ((HashMap) of).clone() : new HashMap(of);
     }
 }

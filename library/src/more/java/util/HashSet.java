@@ -115,4 +115,10 @@ public class HashSet<E> extends java.util.HashSet<E> implements more.java.util.C
     public String toString() {
         return map.keySet().toString();
     }
+
+    // For a variable of the profile's own class.
+
+    public static Object clone(java.util.HashSet of) {
+        return of instanceof HashSet ? ((HashSet) of).clone() : new HashSet(of);
+    }
 }
