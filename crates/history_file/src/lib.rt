@@ -1,12 +1,23 @@
 //! A history as a file: its bytes read into records by number, and records by number written.
 //!
-//! A further item of a record goes to `row`, `record` (read), `spell` (written) and `specs/Rows`;
-//! its text stands in `history_rules`.
+//! A further item of a record goes to `row`, `record` (read), `lengths`, `write` (written) and
+//! `specs/Rows`; its text stands in `history_rules`.
 #![tactic(auto)]
 
+mod classes;
+mod end;
+mod entries;
+mod head;
 mod history;
+mod lengths;
+mod names;
+mod order;
 mod read;
+mod record;
+mod records;
 mod row;
+mod slices;
+mod texts;
 mod write;
 
 pub use history::History;

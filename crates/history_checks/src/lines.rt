@@ -1,0 +1,111 @@
+//! Each line with what is read. A line is what is asked, the profile number and the bytes in
+//! hexadecimal digits: `read`, for the number of records, and whether they are written as they
+//! were; `cuts`, for the places of the faults where so many bytes are left, from none on.
+
+use history_file::{read_history, write_history};
+use history_rules::HistoryFault;
+use std::alloc::Global;
+
+fn digit(byte: u8) -> Option<u8> {
+    match byte {
+        b'0'..=b'9' => Some(byte - b'0'),
+        b'a'..=b'f' => Some(byte - b'a' + 10),
+        _ => None,
+    }
+}
+
+fn bytes_of(alloc: Global, digits: &[u8]) -> anyhow::Result<Vec<u8>> {
+    let mut bytes = Vec::new(alloc);
+    let mut rest = digits;
+    while let [high, low, behind @ ..] = rest {
+        let (Some(high), Some(low)) = (digit(*high), digit(*low)) else {
+            anyhow::bail!("no digit");
+        };
+        bytes.push(high * 16 + low)?;
+        rest = behind;
+    }
+    Ok(bytes)
+}
+
+fn push(out: &mut String, text: &str) -> anyhow::Result<()> {
+    out.push_str(text)?;
+    Ok(())
+}
+
+fn push_number(out: &mut String, number: u64) -> anyhow::Result<()> {
+    let text = format!(in *out.allocator(); "{number}")?;
+    push(out, text.as_str())
+}
+
+fn push_fault(out: &mut String, fault: HistoryFault) -> anyhow::Result<()> {
+    match fault {
+        HistoryFault::HistoryBad { at } => push_number(out, at),
+        HistoryFault::TooLong { len } => {
+            push(out, "too long: ")?;
+            push_number(out, len)
+        }
+        HistoryFault::Memory => push(out, "memory"),
+    }
+}
+
+// How many records are read, and whether they are written as the bytes were.
+fn push_read(alloc: Global, profile: u16, bytes: &[u8], out: &mut String) -> anyhow::Result<()> {
+    match read_history(alloc, profile, bytes) {
+        Err(fault) => {
+            push(out, "bad at ")?;
+            push_fault(out, fault)
+        }
+        Ok(history) => {
+            push_number(out, history.rows().len() as u64)?;
+            push(out, " records")?;
+            match write_history(alloc, profile, &history) {
+                Ok(again) => push(
+                    out,
+                    if again.as_slice() == bytes { ", written as they were" } else { ", written otherwise" },
+                ),
+                Err(fault) => push_fault(out, fault),
+            }
+        }
+    }
+}
+
+fn push_cuts(alloc: Global, profile: u16, bytes: &[u8], out: &mut String) -> anyhow::Result<()> {
+    for len in 0..bytes.len() {
+        if len > 0 {
+            push(out, " ")?;
+        }
+        match read_history(alloc, profile, &bytes[..len]) {
+            Err(fault) => push_fault(out, fault)?,
+            Ok(_) => push(out, "read")?,
+        }
+    }
+    Ok(())
+}
+
+fn push_line(line: &str, out: &mut String) -> anyhow::Result<()> {
+    let alloc = *out.allocator();
+    let Some((asked, rest)) = line.split_once(' ') else {
+        anyhow::bail!("a line of one word");
+    };
+    let Some((profile, digits)) = rest.split_once(' ') else {
+        anyhow::bail!("a line of two words");
+    };
+    let profile = profile.parse::<u16>()?;
+    let bytes = bytes_of(alloc, digits.as_bytes())?;
+    push(out, line)?;
+    push(out, " -> ")?;
+    match asked {
+        "read" => push_read(alloc, profile, bytes.as_slice(), out)?,
+        "cuts" => push_cuts(alloc, profile, bytes.as_slice(), out)?,
+        _ => anyhow::bail!("neither read nor cuts"),
+    }
+    push(out, "\n")
+}
+
+/// Each line with what is read of it.
+pub fn push_lines(lines: &str, out: &mut String) -> anyhow::Result<()> {
+    for line in lines.lines() {
+        push_line(line, out)?;
+    }
+    Ok(())
+}

@@ -1,0 +1,30 @@
+//! Names, read by number.
+
+ghost use Rattle.std.specs.Prelude.{◌<◌, IfOk};
+ghost use Rattle.history_rules.specs.Items.{text_at};
+ghost use Rattle.history_file.specs.Rows.{name_of};
+ghost use Rattle.history_file.specs.Texts.{AreTexts};
+ghost use Rattle.history_file.specs.Reading.{ReadsUnder, Told};
+
+use crate::texts::Texts;
+use history_rules::HistoryFault;
+use mt_bytes::Cursor;
+use std::alloc::Global;
+
+/// A text, as the number of its name.
+#[tactic(auto, unfolding(history_rules::specs::Items::text_at))]
+pub fn read_name<'a>(
+    alloc: Global,
+    texts: &mut Texts<'a>,
+    cur: &mut Cursor<'a>,
+) -> Result<u32, HistoryFault>
+    requires { AreTexts texts.old }
+    ensures read { ReadsUnder name_of text_at texts.new cur.old cur.new result }
+    ensures told { IfOk result (λ k. Told texts.old texts.new (λ n. k < n)) }
+{
+    let len = cur.u2()?;
+    let at = cur.at();
+    let bytes = cur.take(u32::from(len))?;
+    let number = texts.number(alloc, bytes, at)?;
+    Ok(number)
+}
