@@ -61,7 +61,11 @@ fn push_read(alloc: Global, profile: u16, bytes: &[u8], out: &mut String) -> any
             match write_history(alloc, profile, &history) {
                 Ok(again) => push(
                     out,
-                    if again.as_slice() == bytes { ", written as they were" } else { ", written otherwise" },
+                    if again.as_slice() == bytes {
+                        ", written as they were"
+                    } else {
+                        ", written otherwise"
+                    },
                 ),
                 Err(fault) => push_fault(out, fault),
             }
@@ -82,7 +86,8 @@ fn push_cuts(alloc: Global, profile: u16, bytes: &[u8], out: &mut String) -> any
     Ok(())
 }
 
-fn push_line(line: &str, out: &mut String) -> anyhow::Result<()> {
+/// A line with what is read of it.
+pub fn push_line(line: &str, out: &mut String) -> anyhow::Result<()> {
     let alloc = *out.allocator();
     let Some((asked, rest)) = line.split_once(' ') else {
         anyhow::bail!("a line of one word");
@@ -98,14 +103,6 @@ fn push_line(line: &str, out: &mut String) -> anyhow::Result<()> {
         "read" => push_read(alloc, profile, bytes.as_slice(), out)?,
         "cuts" => push_cuts(alloc, profile, bytes.as_slice(), out)?,
         _ => anyhow::bail!("neither read nor cuts"),
-    }
-    push(out, "\n")
-}
-
-/// Each line with what is read of it.
-pub fn push_lines(lines: &str, out: &mut String) -> anyhow::Result<()> {
-    for line in lines.lines() {
-        push_line(line, out)?;
     }
     Ok(())
 }

@@ -2,7 +2,8 @@ pub mod Kept
 pub mod Numbers
 pub mod Loops
 pub mod Marks
-pub mod Entries
-pub mod Records
+pub mod Halfway
+pub mod Parts
 pub mod Equal
 pub mod Nexts
+pub mod Again

@@ -25,8 +25,8 @@ use Rattle.history_file.specs.Texts.{texts_of, Grown, HasSlices}
 use Rattle.history_file.specs.Reading.{RecordTold, entries_of}
 use Rattle.history_file.specs.Files.{IsIn, HasFound, NextFound, found_records}
 use Rattle.history_file.proofs.Equal.{other_by_bytes}
-use Rattle.history_file.proofs.Entries.{not_fewer, entries_later}
-use Rattle.history_file.proofs.Records.{name_later, outcome_later, end_within}
+use Rattle.history_file.proofs.Halfway.{not_fewer, entries_later}
+use Rattle.history_file.proofs.Parts.{name_later, outcome_later, end_within}
 
 -- what was taken of a file stands between two places of it
 pub taken_in : (file taken : List ℕ) (from to : Input) → IsIn file from → Takes from taken to → IsIn file to × (drop from.at (take to.at file) ≡ taken)

@@ -1,6 +1,7 @@
 -- What calls that read parts of a history by number give (this project's own).
 use Rattle.std.specs.Prelude.{◌≡◌, ◌<◌, ℕ, Bool, false, nat_lt, List, [], ◌∷◌, length, map, Option}
-use Rattle.std.specs.Prelude.{Some, None, Result, Ok, Err, slice_get, option_map_or, All}
+use Rattle.std.specs.Prelude.{Some, None, Result, Ok, Err, slice_get, All}
+use Rattle.std.specs.Option.{option_map_or}
 use Rattle.codec_rules.specs.Input.{Input}
 use Rattle.codec_rules.specs.Meets.{Fails}
 use Rattle.program_rules.specs.Names.{Name}
@@ -30,8 +31,8 @@ ReadsUnder view read new from to (Ok x) = read from ≡ Ok (view (texts_of new) 
 ReadsUnder view read new from to (Err fault) = Fails Memory fault (read from)
 
 -- What was told has numbers of names that are there, and no mark of the record was lost.
-pub record Told (old : Texts) (new : Texts) (Within : ℕ → Type 0) : Type 0 where
-  pub within : Within (length (texts_of new))
+pub record Told (old : Texts) (new : Texts) (P : ℕ → Type 0) : Type 0 where
+  pub within : P (length (texts_of new))
   pub grown : Grown old new
   pub marks : KeepsMarks old new
 
@@ -67,13 +68,13 @@ pub record NameTold (stamp : ℕ) (numbers : List ℕ) (old : Texts) (new : Text
 
 -- Entries are told, and all their names are marked.
 pub record EntriesTold
-    (pool : List (List ℕ)) (used : ℕ) (later : ℕ) (stamp : ℕ) (old : Texts) (new : Texts)
+    (pool : List (List ℕ)) (earlier : ℕ) (later : ℕ) (stamp : ℕ) (old : Texts) (new : Texts)
     (es : List Entry) : Type 0 where
   pub entries : All (IsEntry (length (texts_of new)) (length pool)) es
   pub grown : Grown old new
   pub numbers : List ℕ
   pub marked : Marked new stamp numbers
-  pub used : later ≡ used_behind pool used (map (entry_of (texts_of new) pool) es)
+  pub used : later ≡ used_behind pool earlier (map (entry_of (texts_of new) pool) es)
 
 abbrev pub entries_of : List (List ℕ) → List (List ℕ) → List Entry → List history.Entry
 entries_of pool texts es = map (entry_of texts pool) es
@@ -98,10 +99,10 @@ record_under pool texts r = record_of texts pool r
 
 -- A record is told, and counts its classes as used.
 pub record RecordTold
-    (pool : List (List ℕ)) (used : ℕ) (later : ℕ) (stamp : ℕ) (old : Texts) (new : Texts)
+    (pool : List (List ℕ)) (earlier : ℕ) (later : ℕ) (stamp : ℕ) (old : Texts) (new : Texts)
     (r : Row) : Type 0 where
   pub row : IsRow (length (texts_of new)) (length pool) r
   pub grown : Grown old new
   pub numbers : List ℕ
   pub marked : Marked new stamp numbers
-  pub used : later ≡ used_behind pool used (entries_of pool (texts_of new) r.consulted)
+  pub used : later ≡ used_behind pool earlier (entries_of pool (texts_of new) r.consulted)

@@ -4,6 +4,8 @@
 //! `specs/Rows`; its text stands in `history_rules`.
 #![tactic(auto)]
 
+ghost use Rattle.history_file.specs.Laws.{ReadIsWritten};
+
 mod classes;
 mod end;
 mod entries;
@@ -24,3 +26,8 @@ pub use history::History;
 pub use read::read_history;
 pub use row::{End, Entry, Row};
 pub use write::write_history;
+
+/// What is read of a history of the version that is written is written as it was.
+pub fn what_is_read_is_written()
+    ensures { ReadIsWritten }
+{}

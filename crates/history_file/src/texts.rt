@@ -103,7 +103,7 @@ impl<'a> Texts<'a> {
 
     /// The names, in the order of their numbers.
     pub fn into_texts(self) -> Seq<&'a [u8]>
-        ensures { map (λ s. s.now) result ≡ texts_of self }
+        ensures { map (λ s. s.now) result ≡ texts_of self.entry }
     {
         self.texts
     }

@@ -56,15 +56,15 @@ used_more pool used [] x = refl
 used_more pool used (y ∷ ys) x = used_more pool (max used (number_of pool y.1)) ys x
 
 -- So many entries are read.
-pub record Halfway (pool : List (List ℕ)) (used stamp count i : ℕ) (old now : Texts) (from to : Input) (later : ℕ) (es : List Entry) : Type 0 where
+pub record Halfway (pool : List (List ℕ)) (earlier stamp count i : ℕ) (old now : Texts) (from to : Input) (later : ℕ) (es : List Entry) : Type 0 where
   pub numbers : List ℕ
   pub total :
       with_front (entries_of pool (texts_of now) es) (many_by (entry_at pool) (with_entry pool) (used_with (texts_of now) later numbers) (count - i) to)
-      ≡ many_by (entry_at pool) (with_entry pool) (used_with [] used []) count from
+      ≡ many_by (entry_at pool) (with_entry pool) (used_with [] earlier []) count from
   pub marked : Marked now stamp numbers
   pub entries : All (IsEntry (length (texts_of now)) (length pool)) es
   pub grown : Grown old now
-  pub used : later ≡ used_behind pool used (entries_of pool (texts_of now) es)
+  pub used : later ≡ used_behind pool earlier (entries_of pool (texts_of now) es)
 
 pub begins : (pool : List (List ℕ)) (used stamp count : ℕ) (t : Texts) (from : Input) → AreTexts t → Marked t stamp [] → Halfway pool used stamp count 0 t t from from used []
 begins pool used stamp count t from h m = record {

@@ -25,7 +25,7 @@ use Rattle.history_file.specs.Rows.{name_of, outcome_of, entry_of, record_of, Is
 use Rattle.history_file.specs.Texts.{texts_of, Grown}
 use Rattle.history_file.specs.Reading.{Told, EntriesTold, RecordTold, entries_of, has_class_at, ArePresent}
 use Rattle.history_file.proofs.Numbers.{name_kept}
-use Rattle.history_file.proofs.Entries.{grown_on, not_fewer}
+use Rattle.history_file.proofs.Halfway.{grown_on, not_fewer}
 
 pub name_later : (a b : Texts) (k : ℕ) → Grown a b → k < length (texts_of a) → name_of (texts_of b) k ≡ name_of (texts_of a) k
 name_later a b k g lt = ap (λ (ts : List (List ℕ)). name_of ts k) g.texts ∙ name_kept (texts_of a) g.more k lt
