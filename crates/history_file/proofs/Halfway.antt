@@ -69,7 +69,10 @@ pub record Halfway (pool : List (List ℕ)) (earlier stamp count i : ℕ) (old n
 pub begins : (pool : List (List ℕ)) (used stamp count : ℕ) (t : Texts) (from : Input) → AreTexts t → Marked t stamp [] → Halfway pool used stamp count 0 t t from from used []
 begins pool used stamp count t from h m = record {
   numbers = [];
-  total = front_none (many_by (entry_at pool) (with_entry pool) (used_with (texts_of t) used []) count from);
+  total =
+      (let z : count - 0 ≡ count = omega arith in
+      ap (λ (n : ℕ). with_front {A = history.Entry} [] (many_by (entry_at pool) (with_entry pool) (used_with [] used []) n from)) z
+      ∙ front_none (many_by (entry_at pool) (with_entry pool) (used_with [] used []) count from));
   marked = m;
   entries = All-nil (IsEntry (length (texts_of t)) (length pool));
   grown = grown_same t h;

@@ -30,11 +30,11 @@ turn false true n o h = refl
 turn false false n o h = refl
 
 clash : (t x q : List ℕ) → same t x ≡ false → same t q ≡ true → same x q ≡ true → ⊥
-clash t x q no p r =
+clash t x q apart p r =
     let a : t ≡ q = bytes_are t q p in
     let b : x ≡ q = bytes_are x q r in
     let c : same t x ≡ true = subst (λ (z : List ℕ). same t z ≡ true) (a ∙ sym b) (same_self t) in
-    true≢false (sym c ∙ no)
+    true≢false (sym c ∙ apart)
 
 -- one text more, which wasn't there
 pub number_more : (ts : List (List ℕ)) (x q : List ℕ) → number_in ts x ≡ None → number_in (ts ++ x ∷ []) q ≡ (if same x q then Some (length ts) else number_in ts q)
@@ -81,7 +81,7 @@ valid_at before (t ∷ ts) zero x all e = subst (λ (z : List ℕ). IsTrue (is_s
 valid_at before (t ∷ ts) (suc k) x all e = valid_at (before ++ t ∷ []) ts k x all.1 e
 
 name_told : (at : ℕ) (o : Option Name) → IsTrue (is_some o) → name_or at o ≡ Ok (name_or_empty o)
-name_told at None h = absurd h
+name_told at None h = absurd cc
 name_told at (Some name) h = refl
 
 -- and told by its number
@@ -111,7 +111,7 @@ number_is before (t ∷ ts) (suc k) x all e =
     later (same t x) (number_in ts x) k (fewer x t before (not_before (before ++ t ∷ []) ts k x all.1 e)).1 (number_is (before ++ t ∷ []) ts k x all.1 e)
 
 spelled_case : (x : List ℕ) (o : Option Name) → units_of x ≡ o → IsTrue (is_some o) → x ≡ text (name_or_empty o)
-spelled_case x None e h = absurd h
+spelled_case x None e h = absurd cc
 spelled_case x (Some name) e h = (units_of-takes x name e).1
 
 -- a name's bytes are those at its number
@@ -156,3 +156,7 @@ entries_kept pool ts more (e ∷ es) within =
     let p = name_kept ts more e.name lt in
     ap (λ (name : Name). (name, class_of pool e.class) ∷ entries_of pool (ts ++ more) es) p
     ∙ ap (λ (xs : List history.Entry). entry_of ts pool e ∷ xs) (entries_kept pool ts more es (All-tail (IsEntry (length ts) (length pool)) e es within))
+
+pub get_last : {A : Type 0} (xs : List A) (x : A) → slice_get (xs ++ x ∷ []) (length xs) ≡ Some x
+get_last [] x = refl
+get_last (y ∷ ys) x = get_last ys x

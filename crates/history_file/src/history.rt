@@ -58,7 +58,7 @@ impl<'a> History<'a> {
         ensures { result ≡ record {
           texts = map (λ s. s.now) texts.entry;
           classes = map (λ s. s.now) classes.entry;
-          rows = rows.entry;
+          rows = rows;
         } }
     {
         History {

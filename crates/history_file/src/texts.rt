@@ -47,6 +47,14 @@ impl<'a> Texts<'a> {
         }
     }
 
+    // The number of a text, if it is there.
+    fn find(&self, text: &[u8]) -> Option<u32>
+        requires { AreTexts self.now }
+        ensures { result ≡ number_in (texts_of self.now) text.now }
+    {
+        self.numbers.get(text).copied()
+    }
+
     /// The number of a name; a new one is the next. Bytes that spell none are told at their place.
     pub fn number(&mut self, alloc: Global, text: &'a [u8], at: u64) -> Result<u32, HistoryFault>
         requires { AreTexts self.old }
@@ -56,8 +64,8 @@ impl<'a> Texts<'a> {
             × KeepsMarks self.old self.new)
             (λ fault. Fails Memory fault (name_or at (units_of text.now))) }
     {
-        if let Some(number) = self.numbers.get(text) {
-            return Ok(*number);
+        if let Some(number) = self.find(text) {
+            return Ok(number);
         }
         let _name = decode(alloc, text, at)?;
         let number = self.add(text)?;
