@@ -7,3 +7,4 @@ pub mod Parts
 pub mod Equal
 pub mod Nexts
 pub mod Again
+pub mod EntryNames

@@ -112,7 +112,7 @@ number_is before (t ∷ ts) (suc k) x all e =
 
 spelled_case : (x : List ℕ) (o : Option Name) → units_of x ≡ o → IsTrue (is_some o) → x ≡ text (name_or_empty o)
 spelled_case x None e h = absurd cc
-spelled_case x (Some name) e h = (units_of-takes x name e).1
+spelled_case x (Some name) e h = sym (units_of-takes x name e).1
 
 -- a name's bytes are those at its number
 pub text_of_name : (ts : List (List ℕ)) (k : ℕ) (x : List ℕ) → AllBy IsTextBehind with_class [] ts → slice_get ts k ≡ Some x → x ≡ text (name_of ts k)

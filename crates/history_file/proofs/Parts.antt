@@ -1,9 +1,13 @@
 -- A record that was read part by part while names were found.
 use Rattle.std.proofs.Common.{◌≡◌, ◌∙◌, ℕ, ◌<◌, ◌≤◌, List, [], ◌∷◌, ◌++◌, length, map, nat_lt, Option, Some, None, is_some, Result, Ok, Err, refl, sym, ap, subst, arith}
-use Rattle.std.specs.Prelude.{All, slice_get, option_map_or, option_and_then, false}
+use Rattle.std.specs.Prelude.{All, slice_get, option_map_or, option_and_then, Bool, true, false, if◌then◌else◌}
 use Rattle.std.proofs.lemmas.List.Elements.{All-head, All-tail, All-weaker}
 use Rattle.codec_rules.specs.Input.{Input}
-use Rattle.codec_rules.specs.Sequence.{◌>>=◌}
+use Rattle.codec_rules.specs.Sequence.{◌>>=◌, or_fault}
+use Rattle.codec_rules.specs.Reading.{number_at}
+use Rattle.codec_rules.specs.Meets.{Fails}
+use Rattle.std.specs.Int.{w64}
+use Rattle.history_rules.specs.declared.fault.HistoryFault.TheVariants.{HistoryBad, Memory}
 use Rattle.program_rules.specs.Names.{Name}
 use Rattle.class_model.specs.declared.outcome.Outcome.{Outcome}
 use Rattle.class_model.specs.declared.outcome.Outcome.TheVariants.{Failed}
@@ -95,3 +99,18 @@ record_is version pool used later stamp r t0 t1 t2 t3 t4 i0 i1 i2 i3 i4 i5 i6 i7
         used = d.used;
       },
     )
+
+-- the last part has a fault
+pub lines_fail : (version : ℕ) (pool : List (List ℕ)) (used : ℕ) (c m : Name) (h d l : ℕ) (o : Outcome) (s : ℕ) (es : List history.Entry) (i0 i1 i2 i3 i4 i5 i6 i7 i8 : Input) (fault : HistoryFault)
+    → text_at i0 ≡ Ok (c, i1) → text_at i1 ≡ Ok (m, i2) → u4_at i2 ≡ Ok (h, i3) → u4_at i3 ≡ Ok (d, i4) → u8_at i4 ≡ Ok (l, i5) → outcome_at version i5 ≡ Ok (o, i6)
+    → where_at u8_at (are_steps l o) i6 ≡ Ok (s, i7) → entries_at pool used i7 ≡ Ok (es, i8) → Fails Memory fault (pairs_at es i8) → Fails Memory fault (record_at version pool used i0)
+unfolding record_at
+lines_fail version pool used c m h d l o s es i0 i1 i2 i3 i4 i5 i6 i7 i8 fault e1 e2 e3 e4 e5 e6 e7 e8 fails = λ known. rw (e1, e2, e3, e4, e5, e6, e7, e8, fails known) refl
+
+kept : {A : Type 0} (b : Bool) (x : A) (fault : HistoryFault) → b ≡ true → (if b then Ok x else Err fault) ≡ Ok x
+kept true x fault e = refl
+kept false x fault e = absurd cc
+
+pub steps_pass : (test : ℕ → Bool) (i j : Input) (n : ℕ) → number_at w64 i ≡ Ok (n, j) → test n ≡ true → where_at u8_at test i ≡ Ok (n, j)
+steps_pass test i j n e is =
+    ap (λ (x : Result (ℕ × Input) ℕ). or_fault HistoryBad x >>= λ y. if test y.0 then Ok y else Err (HistoryBad i.at)) e ∙ kept (test n) (n, j) (HistoryBad i.at) is

@@ -30,6 +30,10 @@ abbrev pub ReadsUnder :
 ReadsUnder view read new from to (Ok x) = read from ≡ Ok (view (texts_of new) x, to)
 ReadsUnder view read new from to (Err fault) = Fails Memory fault (read from)
 
+-- The name of a number that stands with a place.
+abbrev pub placed_name : List (List ℕ) → ℕ × ℕ → Name
+placed_name texts x = name_of texts x.0
+
 -- What was told has numbers of names that are there, and no mark of the record was lost.
 pub record Told (old : Texts) (new : Texts) (P : ℕ → Type 0) : Type 0 where
   pub within : P (length (texts_of new))

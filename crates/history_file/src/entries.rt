@@ -1,7 +1,7 @@
 //! The names that a run consulted, and the lines that it reached.
 
-ghost use Rattle.std.specs.Prelude.{◌≡◌, ◌<◌, ℕ, List, [], length, map, max, Option, None, IfOk};
-ghost use Rattle.history_rules.specs.Items.{ReadsFile, text_where, many_by};
+ghost use Rattle.std.specs.Prelude.{◌≡◌, ◌<◌, ◌≤◌, ℕ, List, [], length, map, max, Option, None, IfOk};
+ghost use Rattle.history_rules.specs.Items.{ReadsFile, u4_at, where_at, text_where, many_by};
 ghost use Rattle.history_rules.specs.Entries as history;
 ghost use Rattle.history_rules.specs.Entries.{is_new, is_number, entry_at, with_entry, is_place, is_place_behind, is_line_behind, pair_at, with_pair};
 ghost use Rattle.history_rules.specs.Laws.{AreDifferent};
@@ -10,6 +10,7 @@ ghost use Rattle.history_file.specs.Rows.{name_of};
 ghost use Rattle.history_file.specs.Texts.{AreTexts, Marked, texts_of};
 ghost use Rattle.history_file.specs.Reading.{ReadsUnder, names_of, used_with, entry_under, entries_of, NameTold, EntryTold, EntriesTold, has_class_at, ArePresent};
 
+use crate::names::read_placed_name;
 use crate::row::Entry;
 use crate::texts::Texts;
 use class_model::Seq;
@@ -20,7 +21,6 @@ use std::alloc::Global;
 // ---- consulted names
 
 // The name of an entry, which may not be one of the record's before. It is told behind its length.
-#[tactic(auto, unfolding(history_rules::specs::Items::text_at))]
 fn read_entry_name<'a>(
     alloc: Global,
     stamp: u32,
@@ -35,14 +35,12 @@ fn read_entry_name<'a>(
     ensures told { IfOk result (λ k. (numbers : List ℕ) → Marked texts.old stamp numbers →
         NameTold stamp numbers texts.old texts.new k) }
 {
-    let len = cur.u2()?;
-    let at = cur.at();
-    let bytes = cur.take(u32::from(len))?;
-    let number = texts.number(alloc, bytes, at)?;
-    if !texts.mark(number, stamp) {
-        return Err(HistoryFault::HistoryBad { at });
+    let placed = read_placed_name(alloc, texts, cur)?;
+    let fresh = texts.mark(placed.0, stamp);
+    if !fresh {
+        return Err(HistoryFault::HistoryBad { at: placed.1 });
     }
-    Ok(number)
+    Ok(placed.0)
 }
 
 // Whether a class number is one of so many, and past the used ones by one at most.
@@ -53,7 +51,20 @@ fn is_number(classes: &[&[u8]], used: u32, number: u32) -> bool
     number <= classes.len() as u64 && number <= u64::from(used) + 1
 }
 
-#[tactic(auto, unfolding(history_rules::specs::Entries::entry_at))]
+// The class number of an entry.
+fn read_class_number(classes: &[&[u8]], used: u32, cur: &mut Cursor) -> Result<u32, HistoryFault>
+    ensures read { ReadsFile (where_at u4_at (is_number (map (λ s. s.now) classes.now) used))
+        cur.old cur.new result }
+    ensures within { IfOk result (λ n. n ≤ length (map (λ s. s.now) classes.now)) }
+{
+    let at = cur.at();
+    let class = cur.u4()?;
+    if !is_number(classes, used, class) {
+        return Err(HistoryFault::HistoryBad { at });
+    }
+    Ok(class)
+}
+
 fn read_entry<'a>(
     alloc: Global,
     classes: &[&'a [u8]],
@@ -72,11 +83,7 @@ fn read_entry<'a>(
         EntryTold (map (λ s. s.now) classes.now) stamp numbers texts.old texts.new e) }
 {
     let name = read_entry_name(alloc, stamp, texts, cur)?;
-    let at = cur.at();
-    let class = cur.u4()?;
-    if !is_number(classes, used, class) {
-        return Err(HistoryFault::HistoryBad { at });
-    }
+    let class = read_class_number(classes, used, cur)?;
     Ok(Entry { name, class })
 }
 

@@ -1,10 +1,10 @@
 //! Names, read by number.
 
-ghost use Rattle.std.specs.Prelude.{◌<◌, IfOk};
+ghost use Rattle.std.specs.Prelude.{◌≡◌, ◌<◌, ◌+◌, IfOk};
 ghost use Rattle.history_rules.specs.Items.{text_at};
 ghost use Rattle.history_file.specs.Rows.{name_of};
 ghost use Rattle.history_file.specs.Texts.{AreTexts};
-ghost use Rattle.history_file.specs.Reading.{ReadsUnder, Told};
+ghost use Rattle.history_file.specs.Reading.{ReadsUnder, Told, placed_name};
 
 use crate::texts::Texts;
 use history_rules::HistoryFault;
@@ -27,4 +27,23 @@ pub fn read_name<'a>(
     let bytes = cur.take(u32::from(len))?;
     let number = texts.number(alloc, bytes, at)?;
     Ok(number)
+}
+
+/// A text, as the number of its name, with the place of its first byte behind the length.
+#[tactic(auto, unfolding(history_rules::specs::Items::text_at))]
+pub fn read_placed_name<'a>(
+    alloc: Global,
+    texts: &mut Texts<'a>,
+    cur: &mut Cursor<'a>,
+) -> Result<(u32, u64), HistoryFault>
+    requires { AreTexts texts.old }
+    ensures read { ReadsUnder placed_name text_at texts.new cur.old cur.new result }
+    ensures place { IfOk result (λ x. x.1 ≡ cur.old.at + 2) }
+    ensures told { IfOk result (λ x. Told texts.old texts.new (λ n. x.0 < n)) }
+{
+    let len = cur.u2()?;
+    let at = cur.at();
+    let bytes = cur.take(u32::from(len))?;
+    let number = texts.number(alloc, bytes, at)?;
+    Ok((number, at))
 }
