@@ -7,6 +7,7 @@ ghost use Rattle.history_rules.specs.Items.{counted_by, many_by};
 ghost use Rattle.history_rules.specs.Histories.{Past, next_record_at, with_record, no_past, is_failed};
 ghost use Rattle.history_rules.specs.Laws.{AreDifferent};
 ghost use Rattle.history_file.specs.Rows.{outcome_of};
+ghost use Rattle.history_file.specs.Texts.{AreTexts, Marked};
 ghost use Rattle.history_file.specs.Files.{IsIn, HasFound, NextFound, ReadsFound};
 
 use crate::end::is_failed;
@@ -52,7 +53,10 @@ fn read_next<'a>(
     requires classes { AreDifferent (map (λ s. s.now) classes.now) }
     requires stamp { 0 < stamp }
     requires place { IsIn file.now cur.old }
-    ensures { (past : Past) → HasFound version (map (λ s. s.now) classes.now) (stamp - 1) past found.old →
+    requires texts { AreTexts found.old.texts }
+    requires none { Marked found.old.texts stamp [] }
+    ensures { (past : Past) (before : ℕ) →
+        HasFound version (map (λ s. s.now) classes.now) before past found.old →
         MatchResult result
         (λ _. NextFound version (map (λ s. s.now) classes.now) stamp past found.old found.new
         file.entry.now cur.old cur.new)
