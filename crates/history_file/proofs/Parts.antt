@@ -1,6 +1,8 @@
 -- A record that was read part by part while names were found.
-use Rattle.std.proofs.Common.{◌≡◌, ◌∙◌, ℕ, ◌<◌, ◌≤◌, List, [], ◌∷◌, ◌++◌, length, map, nat_lt, Option, Some, None, is_some, Result, Ok, Err, refl, sym, ap, subst, arith}
-use Rattle.std.specs.Prelude.{All, slice_get, option_map_or, option_and_then, Bool, true, false, if◌then◌else◌}
+use Rattle.std.proofs.Common.{◌≡◌, ◌∙◌, ℕ, zero, suc, ◌<◌, ◌≤◌, List, [], ◌∷◌, ◌++◌, length, map, nat_lt, Option, Some, None, is_some, Result, Ok, Err, refl, sym, ap, subst, arith}
+use Rattle.std.proofs.lemmas.Bool.{lt-ltb}
+use Rattle.std.specs.Option.{option_map_or}
+use Rattle.std.specs.Prelude.{All, slice_get, option_and_then, Bool, true, false, if◌then◌else◌}
 use Rattle.std.proofs.lemmas.List.Elements.{All-head, All-tail, All-weaker}
 use Rattle.codec_rules.specs.Input.{Input}
 use Rattle.codec_rules.specs.Sequence.{◌>>=◌, or_fault}
@@ -51,12 +53,12 @@ end_within m n end.MemoryOut le h = tt
 -- ---- entries with classes
 
 class_there : (pool : List (List ℕ)) (n : ℕ) → n ≤ length pool → is_some (class_of pool n) ≡ nat_lt 0 n
-class_there pool 0 le = refl
-class_there pool (suc k) le = let x = there pool k (omega (arith, le)) in ap is_some x.1
+class_there pool zero le = refl
+class_there pool (suc k) le = let x = there pool k (omega (arith, le)) in ap is_some x.1 ∙ sym (lt-ltb 0 (suc k) (omega arith))
 
 pub are_present : (pool texts : List (List ℕ)) (es : List Entry) → All (IsEntry (length texts) (length pool)) es → ArePresent (entries_of pool texts es) es
 are_present pool texts [] within k = refl
-are_present pool texts (e ∷ es) within 0 = class_there pool e.class (All-head (IsEntry (length texts) (length pool)) e es within).1
+are_present pool texts (e ∷ es) within zero = class_there pool e.class (All-head (IsEntry (length texts) (length pool)) e es within).1
 are_present pool texts (e ∷ es) within (suc k) = are_present pool texts es (All-tail (IsEntry (length texts) (length pool)) e es within) k
 
 -- ---- the record
