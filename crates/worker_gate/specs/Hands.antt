@@ -42,10 +42,8 @@ module _ {Made Rec S : Type 0} (r : Reading Made Rec S) (ms : Runs Rec) where
     pub counts : (t : Tried Rec) → IsRunOf ms mutant test t → after ≡ before + r.steps t.made
 
   pub record CountsAtMost (mutant test before after : ℕ) : Type 0 where
-    pub later : before ≤ after
     pub most : (t : Tried Rec) → IsRunOf ms mutant test t → after ≤ before + r.steps t.made
 
   -- the same where old results may have the run
   pub record AtMost (mutant test before after : ℕ) : Type 0 where
-    pub later : before ≤ after
     pub most : (t : Tried Rec) → IsRunOf ms mutant test t → after ≤ before + cost_of_run r.steps t

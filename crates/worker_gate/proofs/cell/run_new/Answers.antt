@@ -3,7 +3,6 @@ use Rattle.worker_gate.proofs.cell.run_new.Goals as goal
 
 pub returns-in_err-made-clause-most : goal.returns-in_err-made-clause-most
 returns-in_err-made-clause-most g c = record {
-  later = c.run.ensures.most.later;
   most = λ t is.
       let le = c.run.ensures.most.most t is in
       let same = ap (λ o. if is_some o then 0 else g.C.Hands.reading.steps t.made) (c.requires.none.finds t is) in
@@ -20,7 +19,6 @@ returns-clause-counted g c =
 
 pub returns-clause-most : goal.returns-clause-most
 returns-clause-most g c = record {
-  later = c.run.ensures.most.later;
   most = λ t is.
       let le = c.run.ensures.most.most t is in
       let same = ap (λ o. if is_some o then 0 else g.C.Hands.reading.steps t.made) (c.requires.none.finds t is) in
