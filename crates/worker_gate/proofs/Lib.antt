@@ -4,4 +4,5 @@ mod Loop
 mod Ready
 mod Settling
 mod Exactly
+mod RoundLaws
 pub mod Leaving

@@ -4,3 +4,4 @@ pub mod Workers
 pub mod Settled
 pub mod Exact
 pub mod Leaving
+pub mod Rounds

@@ -2,12 +2,14 @@
 #![tactic(auto)]
 
 mod cell;
+mod drawing;
 mod ends;
 mod laws;
 mod outer;
 mod settled;
 mod working;
 
+pub use drawing::rounds;
 pub use ends::{CellEnd, DrawnCell, Job, Plan, WorkEnd};
 pub use laws::{jobs_leave, left_may_settle, settled_is_exact};
 pub use outer::{Gate, Hands, NoJournal, OpenGate, Recorder};
