@@ -13,11 +13,11 @@ loop-drawn-preserved c =
     let e : suc d ≡ d + 1 = omega arith in
     elim c.if-drawn-len.branch [
       | then-drawn-len+then-goes_on+in_ok-push w ↦
-          let at : slice_get order d ≡ Some w.cell_at-cell.result = ap (λ l. slice_get l d) (sym w.as_slice.ensures) ∙ w.cell_at-cell.ensures in
+          let at : slice_get order d ≡ Some w.cell_at-cell.result = ap (λ l. slice_get l d) (sym w.as_slice.ensures.value) ∙ w.cell_at-cell.ensures in
           let more : w.cell_at-cell.result + 1 ≡ suc w.cell_at-cell.result = omega arith in
           rw (w.order-is, w.in_ok-push.ensures.items, more) (subst (λ n. Grows ms n (order ++ suc w.cell_at-cell.result ∷ [])) e (grow_more ms order d c.loop-drawn.invariant w.cell_at-cell.result at (sym w.goes_on.ensures ∙ w.if-goes_on.true)))
       | then-drawn-len+else-goes_on w ↦
-          let at : slice_get order d ≡ Some w.cell_at-cell.result = ap (λ l. slice_get l d) (sym w.as_slice.ensures) ∙ w.cell_at-cell.ensures in
+          let at : slice_get order d ≡ Some w.cell_at-cell.result = ap (λ l. slice_get l d) (sym w.as_slice.ensures.value) ∙ w.cell_at-cell.ensures in
           rw w.order-is (subst (λ n. Grows ms n order) e (grow_stop ms order d c.loop-drawn.invariant w.cell_at-cell.result at (sym w.goes_on.ensures ∙ w.if-goes_on.false)))
       | else-drawn-len w ↦
           let past = w.if-drawn-len.false in
