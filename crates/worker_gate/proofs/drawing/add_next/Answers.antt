@@ -1,4 +1,4 @@
-use Rattle.std.proofs.Common.{◌≡◌, ◌∙◌, sym, ap, subst, suc, ◌+◌, ◌<◌, ◌≤◌, List, [], ◌∷◌, ◌++◌, length, Some, slice_get, arith}
+use Rattle.std.proofs.Common.{◌≡◌, ◌∙◌, sym, ap, subst, suc, ◌+◌, [], ◌∷◌, ◌++◌, length, Some, slice_get, arith}
 use Rattle.worker_gate.specs.Rounds.{Grows}
 use Rattle.worker_gate.proofs.RoundLaws.{grow_past, grow_stop, grow_more}
 use Rattle.worker_gate.proofs.drawing.add_next.Goals as goal

@@ -1,6 +1,6 @@
-use Rattle.std.proofs.Common.{◌≡◌, ◌∙◌, sym, subst, suc, ◌+◌, List, [], ◌∷◌, ◌++◌, arith}
+use Rattle.std.proofs.Common.{◌≡◌, ◌∙◌, sym, subst, suc, ◌+◌, [], ◌∷◌, ◌++◌, arith}
 use Rattle.worker_gate.specs.Rounds.{AreFirsts}
-use Rattle.worker_gate.proofs.RoundLaws.{firsts_none, firsts_pass, firsts_push}
+use Rattle.worker_gate.proofs.RoundLaws.{firsts_pass, firsts_push}
 use Rattle.worker_gate.proofs.drawing.first_cells.Goals as goal
 use Rattle.worker_gate.proofs.drawing.first_cells.Goals.{then-is_first+in_ok-push, else-is_first}
 
