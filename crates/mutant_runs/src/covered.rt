@@ -19,8 +19,8 @@ use mt_edge::MeterPart;
 use mutator_ops::{Mutant, Verdict};
 use std::alloc::Global;
 
-// The numbers of the tests that reach a mutant's class and line, in their order.
-fn covering_tests(
+/// The numbers of the tests that reach a mutant's class and line, in their order.
+pub fn covering_tests(
     alloc: Global,
     program: &Program,
     cover: &Coverage,

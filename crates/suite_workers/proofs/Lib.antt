@@ -1,3 +1,4 @@
 mod StandingLaws
 mod RunLaws
 mod JudgeLaws
+mod PlanLaws

@@ -72,7 +72,7 @@ module _ (q : Limits) (p : Look) (tests : List Timed) where
   pub adds_runs : (n : ℕ) (ks : List ℕ) (old new : CellLists) → All (λ k. (t : Timed) × (slice_get tests k ≡ Some t)) ks → AddsTests n ks old new → AddsRuns n (tried_on q p tests ks) old new
   adds_runs n ks old new all adds = record {
     mutants = adds.mutants ∙ ap (λ l. old.mutants.items ++ l) (sym (runs_each (λ k. n) (λ t. n) (λ k t. refl) ks all));
-    tests = adds.tests ∙ ap (λ l. old.tests.items ++ l) (sym (runs_each (λ k. k) (λ t. t.test) (λ k t. refl) ks all) ∙ same_map ks);
+    tests = adds.tests ∙ ap (λ l. old.tests.items ++ l) (same_map ks ∙ sym (runs_each (λ k. k) (λ t. t.test) (λ k t. refl) ks all));
   }
     where
       same_map : (ks : List ℕ) → ks ≡ map (λ k. k) ks
@@ -81,11 +81,33 @@ module _ (q : Limits) (p : Look) (tests : List Timed) where
 
 -- ---- the order
 
-mutants_from : {Rec : Type 0} (k : ℕ) (ms : Runs Rec) (n a : ℕ) → slice_get (map mutant_at (cells_from k ms)) n ≡ Some a → k ≤ a
-mutants_from k [] n a h = absurd cc
-mutants_from k (ts ∷ ms) n a h = by_tests ts n h
-  where
-    by_tests : (ts : List (Tried _)) (n : ℕ) → slice_get (map mutant_at (map (cell_at k) ts ++ cells_from (suc k) ms)) n ≡ Some a → k ≤ a
-    by_tests [] n h = let le = mutants_from (suc k) ms n a h in omega (arith, le)
-    by_tests (t ∷ ts) zero h = let same : k ≡ a = cc in omega (arith, same)
-    by_tests (t ∷ ts) (suc n) h = by_tests ts n h
+module _ {Rec : Type 0} where
+  -- The cells of one mutant, and those behind it.
+  least_case : (k : ℕ) (ts : List (Tried Rec)) (rest : List Cell) (n a : ℕ) → ((m : ℕ) → slice_get (map mutant_at rest) m ≡ Some a → suc k ≤ a)
+      → slice_get (map mutant_at (map (cell_at k) ts ++ rest)) n ≡ Some a → k ≤ a
+  least_case k [] rest n a more h = let le = more n h in omega (arith, le)
+  least_case k (t ∷ ts) rest zero a more h = let same : k ≡ a = cc in omega (arith, same)
+  least_case k (t ∷ ts) rest (suc n) a more h = least_case k ts rest n a more h
+
+  least : (k : ℕ) (ms : Runs Rec) (n a : ℕ) → slice_get (map mutant_at (cells_from k ms)) n ≡ Some a → k ≤ a
+  least k [] n a h = absurd cc
+  least k (ts ∷ ms) n a h = least_case k ts (cells_from (suc k) ms) n a (λ m. least (suc k) ms m a) h
+
+  stand_case : (k : ℕ) (ts : List (Tried Rec)) (rest : List Cell) → ((m a : ℕ) → slice_get (map mutant_at rest) m ≡ Some a → suc k ≤ a) → StandByMutant (map mutant_at rest)
+      → StandByMutant (map mutant_at (map (cell_at k) ts ++ rest))
+  stand_case k [] rest low stand = stand
+  stand_case k (t ∷ ts) rest low stand zero a b h i =
+      let same : k ≡ a = cc in
+      let le = least_case k ts rest zero b (λ m. low m b) i in
+      omega (arith, same, le)
+  stand_case k (t ∷ ts) rest low stand (suc n) a b h i = stand_case k ts rest low stand n a b h i
+
+  stand_from : (k : ℕ) (ms : Runs Rec) → StandByMutant (map mutant_at (cells_from k ms))
+  stand_from k [] n a b h i = absurd cc
+  stand_from k (ts ∷ ms) = stand_case k ts (cells_from (suc k) ms) (λ m a. least (suc k) ms m a) (stand_from (suc k) ms)
+
+  pub cells_stand : (ms : Runs Rec) (l : List ℕ) → l ≡ map mutant_at (cells_of ms) → StandByMutant l
+  cells_stand ms l is = subst StandByMutant (sym is) (stand_from 0 ms)
+
+  pub order_of_runs : (ms : Runs Rec) (l order : List ℕ) → l ≡ map mutant_at (cells_of ms) → AreRounds l order → IsOrderOf (cells_of ms) order
+  order_of_runs ms l order is rounds = rounds.order_is (cells_of ms) (sym is)
