@@ -1,6 +1,0 @@
-mod Ordered
-mod Placing
-mod Listing
-mod Made
-mod Finding
-mod Texts

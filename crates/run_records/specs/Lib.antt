@@ -1,4 +1,0 @@
-pub mod Asking
-pub mod Recorded
-pub mod Fitting
-pub mod Places
