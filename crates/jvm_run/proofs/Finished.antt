@@ -1,9 +1,9 @@
 -- What a run gives is read off the machine.
-use Rattle.std.proofs.Common.{◌≡◌, ◌∙◌, sym, ap, ℕ, List, map}
+use Rattle.std.proofs.Common.{◌≡◌, ◌∙◌, sym, ap, subst, ℕ, List, map}
 use Rattle.machine_rules.specs.State as def
 use Rattle.class_link.specs.Info.{Info}
 use Rattle.jvm_world.specs.declared.world.World.{World}
-use Rattle.jvm_world.specs.View.{History, named, world_of}
+use Rattle.jvm_world.specs.View.{AreClasses, History, named, world_of}
 use Rattle.jvm_step.specs.declared.machine.Machine.{Machine}
 use Rattle.jvm_run.specs.declared.ending.Ending.{Ending}
 use Rattle.jvm_run.specs.declared.result.RunResult.{RunResult}
@@ -17,12 +17,13 @@ reached_is : (p : List Info) (w : World) (h : History) (v : def.World) → v ≡
 unfolding world_of
 reached_is p w h v e = ap (λ (u : def.World). u.reached) e
 
-pub tells_run : (p : List Info) (m : Machine) (r : RunResult) (e : Ending) (n : ℕ) → r.ending ≡ e → r.steps ≡ n → r.consulted ≡ m.world.consulted.names → pairs_of r ≡ m.world.reached → TellsRun p m r e n
-tells_run p m r e n ending steps consulted reached = λ s is. record {
+pub tells_run : (p : List Info) (m : Machine) (r : RunResult) (e : Ending) (n : ℕ) → r.ending ≡ e → r.steps ≡ n → r.consulted ≡ m.world.consulted.names → pairs_of r ≡ m.world.reached → AreClasses p m.world.reached → TellsRun p m r e n
+tells_run p m r e n ending steps consulted reached within = λ s is. record {
   ending = ending;
   steps = steps;
   consulted = consulted ∙ sym (consulted_is p m.world is.world.past s.world is.world.world);
   reached = ap (map (named p)) reached ∙ sym (reached_is p m.world is.world.past s.world is.world.world);
+  within = subst (AreClasses p) (sym reached) within;
 }
 
 pub same_mapped : {A B : Type 0} (f : A → B) (xs ys : List A) (zs : List B) → xs ≡ ys → map f ys ≡ zs → map f xs ≡ zs

@@ -187,6 +187,7 @@ result_of p m r told e n s ran is tells ends comes =
       steps = t.steps ∙ sym (ap (λ k. k.steps) comes);
       consulted = t.consulted ∙ sym (ap (λ k. k.consulted) comes);
       reached = t.reached ∙ sym (ap (λ k. k.reached) comes);
+      within = t.within;
     }
 
 pub with_result : (p : List Info) (q : Limits) (limit n : ℕ) (s : def.MachineState) (m : Machine) (e : Option StateEnd) (o : class.Outcome) (r : RunResult) → EndsSo p q limit s (end.At e) n m → IsOutcomeBy p m e o → TellsRun p m r (ending.With o) n → IsResultOf p r (run_from (look p) q limit s 0)

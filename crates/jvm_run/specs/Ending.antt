@@ -1,14 +1,12 @@
 -- How a run came to its end, as the definitions say it and as the code does.
 use Rattle.std.specs.Prelude.{◌≡◌, ℕ, List, Option}
-use Rattle.class_model.specs.declared.outcome.Cause as code
-use Rattle.class_model.specs.declared.outcome.Cause.TheVariants as cause
-use Rattle.class_model.specs.declared.outcome.Outcome as result
-use Rattle.class_model.specs.declared.outcome.Outcome.TheVariants as outcome
+use Rattle.class_model.specs.declared.outcome.Outcome.{Outcome}
 use Rattle.program_rules.specs.Names.{Name}
 use Rattle.program_rules.specs.Objects.{object_at}
-use Rattle.machine_rules.specs.Outcomes.{Cause, Outcome, Returned, Thrown, Passed, Failed, TimedOut, MemoryOut, thrown_class}
+use Rattle.machine_rules.specs.Outcomes.{thrown_class}
 use Rattle.machine_rules.specs.Runs as runs
 use Rattle.machine_rules.specs.State as def
+use Rattle.record_rules.specs.Outcomes.{outcome_in}
 use Rattle.class_link.specs.Info.{Info}
 use Rattle.jvm_world.specs.declared.world.World.{World}
 use Rattle.jvm_world.specs.View.{Means}
@@ -21,16 +19,6 @@ use Rattle.jvm_step.specs.declared.machine.StateEnd.{StateEnd}
 use Rattle.jvm_step.specs.Machines.{StandsFor, run_outcome}
 
 -- ---- what the definitions say, as the code does
-
-abbrev pub cause_in : Cause → code.Cause
-cause_in Returned = cause.Returned
-cause_in (Thrown n) = cause.Thrown n
-
-abbrev pub outcome_in : Outcome → result.Outcome
-outcome_in Passed = outcome.Passed
-outcome_in (Failed c) = outcome.Failed (cause_in c)
-outcome_in TimedOut = outcome.TimedOut
-outcome_in MemoryOut = outcome.MemoryOut
 
 abbrev pub ending_in : runs.Ending → Ending
 ending_in (runs.With o) = ending.With (outcome_in o)
@@ -48,6 +36,6 @@ abbrev pub TellsThrown : List Info → World → ℕ → Name → Type 0
 TellsThrown p w x n = (v : def.World) → Means p w v → n ≡ thrown_class (object_at v.heap x)
 
 -- It is the outcome of a run that comes to this end, of each state that the machine stands for.
-abbrev pub IsOutcomeBy : List Info → Machine → Option StateEnd → result.Outcome → Type 0
+abbrev pub IsOutcomeBy : List Info → Machine → Option StateEnd → Outcome → Type 0
 IsOutcomeBy p m e o =
     (s : def.MachineState) → StandsFor p m s → o ≡ outcome_in (run_outcome s.world.heap e)

@@ -3,7 +3,7 @@ use Rattle.std.specs.Prelude.{◌≡◌, ℕ, List, map}
 use Rattle.machine_rules.specs.State.{MachineState}
 use Rattle.machine_rules.specs.Runs.{Ran}
 use Rattle.class_link.specs.Info.{Info}
-use Rattle.jvm_world.specs.View.{named}
+use Rattle.jvm_world.specs.View.{AreClasses, named}
 use Rattle.jvm_step.specs.declared.machine.Machine.{Machine}
 use Rattle.jvm_run.specs.declared.ending.Ending.{Ending}
 use Rattle.jvm_run.specs.declared.result.RunResult.{RunResult}
@@ -14,12 +14,13 @@ use Rattle.jvm_step.specs.Machines.{StandsFor}
 abbrev pub pairs_of : RunResult → List (ℕ × ℕ)
 pairs_of r = map (λ x. (x.0.0, x.1)) r.reached
 
--- The result of a run is the run that is defined.
+-- The result of a run is the run that is defined. Its lines are of classes of the program.
 pub record IsResultOf (p : List Info) (r : RunResult) (ran : Ran) : Type 0 where
   pub ending : r.ending ≡ ending_in ran.ending
   pub steps : r.steps ≡ ran.steps
   pub consulted : r.consulted ≡ ran.consulted
   pub reached : map (named p) (pairs_of r) ≡ ran.reached
+  pub within : AreClasses p (pairs_of r)
 
 -- It has this end and these steps, and what this state has consulted and reached.
 pub record IsOf
@@ -28,6 +29,7 @@ pub record IsOf
   pub steps : r.steps ≡ n
   pub consulted : r.consulted ≡ s.world.consulted
   pub reached : map (named p) (pairs_of r) ≡ s.world.reached
+  pub within : AreClasses p (pairs_of r)
 
 -- So it is of each state that a machine stands for.
 abbrev pub TellsRun : List Info → Machine → RunResult → Ending → ℕ → Type 0

@@ -2,6 +2,7 @@
 
 ghost use Rattle.std.specs.Prelude.{◌≡◌, map, IfOk};
 ghost use Rattle.jvm_run.specs.Result.{TellsRun};
+ghost use Rattle.jvm_step.specs.Machines.{IsMachineOf};
 
 use crate::ending::Ending;
 use crate::result::RunResult;
@@ -27,6 +28,7 @@ pub fn finish(
     ending: Ending,
     steps: u64,
 ) -> Result<RunResult, Memory>
+    requires { IsMachineOf p.now m.now }
     ensures { IfOk result (λ r. TellsRun p.now m.now r ending steps) }
 {
     let _ = p.len();

@@ -2,8 +2,9 @@
 
 ghost use Rattle.std.specs.Prelude.{◌≡◌, Some, IfOk};
 ghost use Rattle.machine_rules.specs.Outcomes.{outcome_of_stop, thrown_class};
+ghost use Rattle.record_rules.specs.Outcomes.{outcome_in};
 ghost use Rattle.jvm_world.specs.View.{object_of};
-ghost use Rattle.jvm_run.specs.Ending.{IsOutcomeBy, TellsThrown, outcome_in};
+ghost use Rattle.jvm_run.specs.Ending.{IsOutcomeBy, TellsThrown};
 
 use class_model::names::ascii;
 use class_model::{Cause, Memory, Name, Outcome, Seq};

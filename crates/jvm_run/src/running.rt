@@ -182,6 +182,7 @@ fn finish_run(
     end: RunEnd,
     steps: u64,
 ) -> Result<RunResult, Memory>
+    requires machine { IsMachineOf p.now m.old }
     requires tables { AreTablesOf p.now tables.old }
     requires runnable { IsRunnable (look p.now) }
     requires small { limits.heap < 2 ^ 31 }

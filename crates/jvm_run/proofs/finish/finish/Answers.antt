@@ -13,3 +13,4 @@ returns c =
     })
     c.args.ending c.args.steps refl refl (c.in_ok-consulted.ensures ∙ c.names.ensures)
     (same_mapped (λ x. (x.0.0, x.1)) c.in_ok-reached.reached c.pairs.result.now c.args.m.now.world.reached c.in_ok-reached.ensures c.pairs.ensures)
+    c.requires.world.reached
