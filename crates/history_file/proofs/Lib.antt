@@ -1,1 +1,16 @@
+pub mod Kept
+pub mod Numbers
+pub mod Loops
+pub mod Marks
+pub mod Halfway
+pub mod Parts
+pub mod Equal
+pub mod Nexts
 pub mod Again
+pub mod EntryNames
+pub mod Orders
+pub mod Room
+pub mod Spelled
+pub mod Counted
+pub mod Readings
+pub mod Writings

@@ -1,15 +1,31 @@
-//! The records of a history by number, and that what is read of one is written as it was.
+//! A history as a file: its bytes read into records by number, and records by number written.
 //!
-//! A further item of a record goes to `row` and `specs/Rows`; its text stands in `history_rules`.
+//! A further item of a record goes to `row`, `record` (read), `lengths`, `write` (written) and
+//! `specs/Rows`; its text stands in `history_rules`.
 #![tactic(auto)]
 
 ghost use Rattle.history_file.specs.Laws.{ReadIsWritten};
 
+mod classes;
+mod end;
+mod entries;
+mod head;
 mod history;
+mod lengths;
+mod names;
+mod order;
+mod read;
+mod record;
+mod records;
 mod row;
+mod slices;
+mod texts;
+mod write;
 
 pub use history::History;
+pub use read::read_history;
 pub use row::{End, Entry, Row};
+pub use write::write_history;
 
 /// What is read of a history of the version that is written is written as it was.
 pub fn what_is_read_is_written()

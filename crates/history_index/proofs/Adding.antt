@@ -1,18 +1,17 @@
 -- What a look-out has of one record more.
-use Rattle.std.proofs.Common.{◌≡◌, ◌∙◌, ℕ, zero, suc, ◌+◌, ◌<◌, Bool, true, false, cond, List, [], ◌∷◌, ◌++◌, get_or, length, take, Option, Some, None, refl, sym, ap, subst, arith, append-nil}
+use Rattle.std.proofs.Common.{◌≡◌, ◌∙◌, ℕ, suc, ◌+◌, ◌<◌, Bool, true, false, cond, List, [], ◌∷◌, ◌++◌, get_or, length, take, Option, Some, None, refl, sym, ap, subst, arith, append-nil}
 use Rattle.std.specs.Prelude.{◌&&◌, not, filter, find, nat_eq, option_and_then, slice_get, if◌then◌else◌}
 use Rattle.std.specs.List.{list_all, position_from, prefix_len}
 use Rattle.std.specs.Option.{option_or}
 use Rattle.std.proofs.lemmas.Bool.{eqb-true}
 use Rattle.std.proofs.lemmas.List.{length-take-le, take_more}
-use Rattle.machine_rules.specs.declared.machine.Limits.{Limits}
 use Rattle.history_file.specs.declared.row.Entry.{Entry}
 use Rattle.history_file.specs.declared.row.Row.{Row}
 use Rattle.history_index.specs.declared.lookout.Lookout.{Lookout}
 use Rattle.history_index.specs.Firsts.{first_at, list_at, run_at, whole_at}
 use Rattle.history_index.specs.Numbers.{Indexed, IsIndexed, is_pair, pair_number, pair_of}
 use Rattle.history_index.specs.Standings.{Standing, listed, standing_with}
-use Rattle.history_index.specs.Lookouts.{AddsApart, AddsOpen, AddsRow, AddsWhole, all_hold, holds, is_apart, is_fit, is_fit_under, is_name_in, is_number, is_open, is_whole, IsEmptyLookout, IsLookout, IsLookoutOn, names, open_here, open_test, places_from, Question}
+use Rattle.history_index.specs.Lookouts.{AddsApart, AddsOpen, AddsRow, AddsWhole, all_hold, holds, is_apart, is_fit_under, is_name_in, is_number, is_open, is_whole, IsEmptyLookout, IsLookout, IsLookoutOn, names, open_here, open_test, places_from, Question}
 use Rattle.history_index.proofs.Positions.{position_more, position_within, some_is}
 use Rattle.history_index.proofs.Places.{as_many, filter_more, if_passed, places_more, run_more}
 use Rattle.history_index.proofs.Holding.{all_held, miss_is, missed, only_own}

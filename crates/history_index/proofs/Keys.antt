@@ -4,10 +4,10 @@ use Rattle.std.specs.Prelude.{◌&&◌, is_some, nat_eq, if◌then◌else◌}
 use Rattle.std.specs.Ordering.{is_eq, nat_cmp, ordering_then}
 use Rattle.std.specs.Option.{option_or, unwrap_or}
 use Rattle.std.specs.BTreeMap.{Updates, get}
-use Rattle.std.proofs.lemmas.Bool.{ltb-true, ne_eqb, eqb-true, eq-eqb}
+use Rattle.std.proofs.lemmas.Bool.{ltb-true, ne_eqb, eqb-true}
 use Rattle.history_index.specs.declared.firsts.Firsts.{Firsts}
 use Rattle.history_index.specs.declared.runs.Runs.{Runs}
-use Rattle.history_index.specs.Firsts.{first_at, Notes, run_at, SetsRun}
+use Rattle.history_index.specs.Firsts.{first_at, Notes, SetsRun}
 
 number_is : (m n : ℕ) → is_eq (nat_cmp m n) ≡ nat_eq m n
 number_is m n = by (ltb m n) (eqb m n) refl refl

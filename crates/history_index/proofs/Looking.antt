@@ -1,19 +1,19 @@
 -- The place that a look-out tells is that of the first record that matches.
-use Rattle.std.proofs.Common.{◌≡◌, ◌∙◌, ℕ, zero, suc, ◌+◌, ◌<◌, Bool, true, false, cond, List, [], ◌∷◌, length, map, Option, Some, None, refl, sym, ap, subst, arith}
-use Rattle.std.specs.Prelude.{◌&&◌, ◌||◌, not, filter, nat_eq, slice_get, option_and_then, All, IfSome, if◌then◌else◌}
-use Rattle.std.specs.List.{list_all, position_from, prefix_len, AllByRecursion}
+use Rattle.std.proofs.Common.{◌≡◌, ◌∙◌, ℕ, Bool, true, false, List, [], ◌∷◌, length, Option, Some, None, refl, sym, ap}
+use Rattle.std.specs.Prelude.{◌&&◌, ◌||◌, not, nat_eq, slice_get, option_and_then, All, if◌then◌else◌}
+use Rattle.std.specs.List.{position_from, AllByRecursion}
 use Rattle.std.proofs.lemmas.Bool.{eqb-true}
 use Rattle.std.proofs.lemmas.List.Elements.{All-head, All-tail}
 use Rattle.record_rules.specs.Records.{Asked}
-use Rattle.record_rules.specs.Matching.{matches, first_match}
+use Rattle.record_rules.specs.Matching.{matches}
 use Rattle.history_file.specs.declared.row.Row.{Row}
-use Rattle.history_file.specs.Rows.{IsRow, record_of, records_of}
+use Rattle.history_file.specs.Rows.{IsRow, record_of}
 use Rattle.history_index.specs.declared.lookout.Lookout.{Lookout}
 use Rattle.history_index.specs.declared.standings.Swap.{Swap}
 use Rattle.history_index.specs.Firsts.{first_at, run_at, whole_at}
 use Rattle.history_index.specs.Numbers.{Indexed, IsIndexed, HasPair, record_at, test_number}
-use Rattle.history_index.specs.Standings.{Standing, AreAlike, listed, standing_in, standing_with, swapped}
-use Rattle.history_index.specs.Lookouts.{all_hold, earlier, holds, is_apart, is_open, is_same, is_whole, IsAskedBy, IsFirstMatch, IsLookout, names, place_swapped, place_told, places_from, Question}
+use Rattle.history_index.specs.Standings.{Standing, AreAlike, listed, standing_in, standing_with}
+use Rattle.history_index.specs.Lookouts.{all_hold, earlier, is_apart, is_open, is_same, is_whole, IsAskedBy, IsFirstMatch, IsLookout, names, place_swapped, place_told, places_from, Question}
 use Rattle.history_index.proofs.Holding.{both_hold, none_more, parted, parted_none}
 use Rattle.history_index.proofs.Matched.{found, none_found, none_matches, row_matches}
 use Rattle.history_index.proofs.Places.{behind_run, first_place}

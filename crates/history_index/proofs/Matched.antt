@@ -19,9 +19,9 @@ use Rattle.history_file.specs.declared.row.End.TheVariants as end
 use Rattle.history_file.specs.declared.row.Entry.{Entry}
 use Rattle.history_file.specs.declared.row.Row.{Row}
 use Rattle.history_file.specs.Rows.{Numbered, IsNumbered, IsRow, IsEntry, IsTextBehind, name_of, entry_of, outcome_of, record_of, records_of}
-use Rattle.history_index.specs.Numbers.{Indexed, IsIndexed, HasPair, is_pair, name_number, number_in, pair_number, pair_of, record_at, test_by, test_number}
+use Rattle.history_index.specs.Numbers.{Indexed, HasPair, is_pair, name_number, number_in, pair_number, pair_of, record_at, test_by, test_number}
 use Rattle.history_index.specs.Standings.{Standing, standing_of, standing_in, AreAlike}
-use Rattle.history_index.specs.Lookouts.{all_hold, holds, is_fit, is_fit_under, is_late, is_number, is_open, Question}
+use Rattle.history_index.specs.Lookouts.{all_hold, holds, is_fit_under, is_late, is_number, is_open, Question}
 use Rattle.history_index.proofs.Positions.{eq_suc, position_found, some_is, suc_apart, zero_apart}
 use Rattle.history_index.proofs.Named.{AreFresh, at_number, classes_differ, name_of_number, number_at, same_is_number, there}
 

@@ -2,9 +2,8 @@
 use Rattle.std.proofs.Common.{◌≡◌, ◌∙◌, ℕ, zero, suc, ◌+◌, ◌<◌, Bool, true, false, cond, List, [], ◌∷◌, ◌++◌, length, Option, Some, None, refl, sym, ap, subst, arith}
 use Rattle.std.specs.Prelude.{◌↔◌, slice_get, is_some, IsTrue, option_and_then, if◌then◌else◌}
 use Rattle.std.specs.List.{position_from}
-use Rattle.std.specs.Cmp.Lexicographic.{same_text}
 use Rattle.std.proofs.lemmas.Bool.{false≢true}
-use Rattle.class_model.specs.Text.{IsUnits, text, units_of}
+use Rattle.class_model.specs.Text.{text, units_of}
 use Rattle.class_model.proofs.TextReading.{units_of-takes}
 use Rattle.program_rules.specs.Names.{Name, same, is_listed}
 use Rattle.history_rules.specs.Items.{AllBy}
@@ -12,7 +11,7 @@ use Rattle.history_rules.specs.Classes.{with_class, IsClassBehind}
 use Rattle.history_rules.proofs.Pools.{same_self, bytes_are, fewer}
 use Rattle.history_file.specs.Rows.{IsTextBehind, name_of, name_or_empty}
 use Rattle.history_index.specs.Numbers.{name_number, number_in}
-use Rattle.history_index.proofs.Positions.{position_found, position_low, some_is}
+use Rattle.history_index.proofs.Positions.{position_found}
 
 -- ---- bytes that differ
 

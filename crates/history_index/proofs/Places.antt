@@ -1,5 +1,5 @@
 -- The places of records that pass a test, and how many of these, from the first on, pass another.
-use Rattle.std.proofs.Common.{◌≡◌, ◌∙◌, ℕ, zero, suc, ◌+◌, Bool, true, false, cond, List, [], ◌∷◌, ◌++◌, length, Option, Some, None, refl, sym, ap, arith}
+use Rattle.std.proofs.Common.{◌≡◌, ◌∙◌, ℕ, suc, ◌+◌, Bool, true, false, cond, List, [], ◌∷◌, ◌++◌, length, Option, Some, refl, sym, ap, arith}
 use Rattle.std.specs.Prelude.{slice_get, ◌&&◌, not, filter, nat_eq}
 use Rattle.std.specs.List.{position_from, prefix_len}
 use Rattle.history_file.specs.declared.row.Row.{Row}

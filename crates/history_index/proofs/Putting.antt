@@ -1,5 +1,5 @@
 -- What is set for a class that is put into a program.
-use Rattle.std.proofs.Common.{◌≡◌, ◌∙◌, ℕ, zero, suc, ◌+◌, ◌<◌, Bool, true, false, cond, List, [], ◌∷◌, ◌++◌, length, Option, Some, None, refl, sym, ap, subst, arith}
+use Rattle.std.proofs.Common.{◌≡◌, ◌∙◌, ℕ, zero, suc, ◌<◌, Bool, true, false, List, [], ◌∷◌, length, Option, Some, None, refl, sym, ap, subst, arith}
 use Rattle.std.specs.Prelude.{is_none, nat_eq, slice_get, slice_set, option_map, option_and_then, if◌then◌else◌}
 use Rattle.std.proofs.lemmas.Bool.{eqb-true, eq-eqb}
 use Rattle.program_rules.specs.Names.{Name, same}
@@ -8,7 +8,7 @@ use Rattle.record_rules.specs.Profiles.{Held}
 use Rattle.history_file.specs.Rows.{Numbered, IsNumbered, name_of}
 use Rattle.history_index.specs.declared.standings.Swap.{Swap}
 use Rattle.history_index.specs.Numbers.{name_number, number_in}
-use Rattle.history_index.specs.Standings.{AreAlike, AreStandings, IsPut, IsSwap, listed, no_files, no_look, PutsClass, set_at, Standing, standing_in, standing_of, standing_with, swap_by, swapped}
+use Rattle.history_index.specs.Standings.{AreAlike, AreStandings, IsPut, IsSwap, listed, no_files, no_look, PutsClass, set_at, Standing, standing_in, standing_of, standing_with, swap_by}
 use Rattle.history_index.proofs.Named.{name_of_number, same_is_number}
 use Rattle.history_index.proofs.Positions.{eq_suc, some_is, suc_apart, zero_apart}
 

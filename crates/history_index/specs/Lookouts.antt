@@ -6,7 +6,6 @@ use Rattle.std.specs.Global.{Vec}
 use Rattle.std.specs.List.{list_all, list_any, position_from, prefix_len}
 use Rattle.std.specs.Option.{option_or}
 use Rattle.machine_rules.specs.declared.machine.Limits.{Limits}
-use Rattle.record_rules.specs.declared.record.RunRecord.{RunRecord}
 use Rattle.record_rules.specs.Records.{Asked}
 use Rattle.record_rules.specs.Matching.{first_match}
 use Rattle.history_file.specs.declared.row.End.{End}
@@ -15,7 +14,6 @@ use Rattle.history_file.specs.declared.row.Entry.{Entry}
 use Rattle.history_file.specs.declared.row.Row.{Row}
 use Rattle.history_file.specs.Rows.{Numbered, records_of}
 use Rattle.history_index.specs.declared.standings.Swap.{Swap}
-use Rattle.history_index.specs.declared.firsts.Firsts.{Firsts}
 use Rattle.history_index.specs.declared.runs.Runs.{Runs}
 use Rattle.history_index.specs.declared.lookout.Lookout.{Lookout}
 use Rattle.history_index.specs.Firsts.{first_at, list_at, run_at, whole_at}

@@ -25,7 +25,6 @@ pub struct HistoryIndex<'a> {
 }
 
 impl<'a> Model for HistoryIndex<'a> {
-    ghost use Rattle.std.specs.Prelude.{◌<◌, ◌^◌, length};
     ghost use Rattle.history_index.specs.Numbers.{Indexed, IsIndexed, AreNumbersOf, ArePairs, pairs_in};
 
     ghost Value = { Indexed };
@@ -36,8 +35,7 @@ impl<'a> Model for HistoryIndex<'a> {
         IsIndexed (record { history = i.history; tests = pairs_in i.tests })
         × AreNumbersOf i.history.texts i.names
         × AreNumbersOf i.history.classes i.classes
-        × ArePairs i.tests
-        × (length i.history.classes < 2 ^ 32) };
+        × ArePairs i.tests };
 }
 
 // Whether these bytes spell the name. Its text does, unless something isn't a code unit.

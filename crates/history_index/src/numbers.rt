@@ -27,14 +27,11 @@ impl<'a> Numbers<'a> {
         Ok(())
     }
 
-    /// How many slices stand before each. Where there are 2^32 or more, memory runs out.
+    /// How many slices stand before each.
     pub fn of(alloc: Global, slices: &[&'a [u8]]) -> Result<Numbers<'a>, Memory>
-        ensures numbers { IfOk result (AreNumbersOf (map (λ s. s.now) slices.now)) }
-        ensures few { IfOk result (λ _. length slices.now < 2 ^ 32) }
+        requires { length slices.now < 2 ^ 32 }
+        ensures { IfOk result (AreNumbersOf (map (λ s. s.now) slices.now)) }
     {
-        if slices.len() > u32::MAX as usize {
-            return Err(Memory);
-        }
         let mut numbers = Numbers {
             numbers: BTreeMap::new(alloc),
         };

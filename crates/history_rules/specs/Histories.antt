@@ -1,5 +1,5 @@
 -- The text of a history (this project's own).
-use Rattle.std.specs.Prelude.{◌≡◌, ◌<◌, ◌≤◌, ◌^◌, ℕ, max, Bool, true, false, not, ◌||◌, ◌==◌}
+use Rattle.std.specs.Prelude.{◌≡◌, ◌<◌, ◌≤◌, ◌^◌, ℕ, max, min, Bool, true, false, not, ◌||◌, ◌==◌}
 use Rattle.std.specs.Prelude.{nat_lt, List, [], ◌∷◌, ◌++◌, length, filter, Option, Some, None}
 use Rattle.std.specs.Prelude.{Result, Ok, Err, if◌then◌else◌}
 use Rattle.std.specs.Int.{w16, w32, to_be_bytes}
@@ -186,9 +186,13 @@ contents_with version profile records = record {
 abbrev pub HistoryText : ℕ → List RunRecord → List ℕ
 HistoryText profile records = contents_bytes (contents_with 2 profile records)
 
+-- A length in 64 bits; one that these can't tell is the most that they can.
+abbrev pub told_length : ℕ → ℕ
+told_length n = min n 18446744073709551615
+
 -- What is written of them: their text, unless it is too long.
 abbrev pub written : ℕ → List RunRecord → Result (List ℕ) HistoryFault
 written profile records =
     if nat_lt most (length (HistoryText profile records))
-    then Err (TooLong (length (HistoryText profile records)))
+    then Err (TooLong (told_length (length (HistoryText profile records))))
     else Ok (HistoryText profile records)

@@ -9,5 +9,5 @@ overflow_add-result c =
     let classes = c.self.inside.history.classes in
     let at : number_in classes c.args.bytes.now ≡ Some c.in_ok-before.before = sym (c.get.ensures classes c.self.invariant.2) ∙ c.in_ok-before.was in
     let lt = position_within (λ s. same s c.args.bytes.now) c.in_ok-before.before classes at in
-    let few = c.self.invariant.4 in
+    let few = c.self.invariant.0.history.few_classes in
     omega (arith, lt, few)

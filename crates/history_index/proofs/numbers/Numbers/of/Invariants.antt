@@ -1,4 +1,4 @@
-use Rattle.std.proofs.Common.{◌≡◌, List, ℕ, length, map, take}
+use Rattle.std.proofs.Common.{◌≡◌, List, ℕ, map, take}
 use Rattle.history_index.specs.Numbers.{number_at, number_in}
 use Rattle.history_index.proofs.numbers.Numbers.of.Given as goal
 

@@ -1,4 +1,4 @@
-use Rattle.std.proofs.Common.{ap, arith, subst, length, ◌≤◌}
+use Rattle.std.proofs.Common.{arith, subst, length, ◌≤◌}
 use Rattle.std.specs.Prelude.{All}
 use Rattle.std.proofs.lemmas.List.{take_all}
 use Rattle.history_index.specs.Numbers.{HasPair, pairs_in}
