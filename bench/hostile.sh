@@ -1,7 +1,8 @@
 #!/bin/bash
 # hostile.sh [PROGRAM] [FOLDER]: writes hostile class files and texts below a folder, lists each class with 2 s and 512 MB,
 # assembles each text, and runs the classes below `c` with the tests below `t` beside it; prints the processor's time, the
-# memory, the status and the last line. A case `colliding-..` is to be held against `ordinary-..`, which has as many names
+# memory, the status and the last line. Where `rt run` has built bench_history, that reads, indexes and writes hostile
+# histories of up to 512 MB each, with eight times the memory of the file. A case `colliding-..` is to be held against `ordinary-..`, which has as many names
 # of the same length. With a folder of such cases as CASES, goes over those too. It needs `cc`.
 here=$(cd "$(dirname "$0")" && pwd)
 program=${1:-$here/../mutest}
@@ -32,9 +33,23 @@ run_all() { # FOLDER
         [ -d "$one/c" ] && [ -d "$one/t" ] && measure "${one#"$1"/}" run --classes "$one/c" --tests "$one/t" --report "$folder/report.json"
     done
 }
+read_histories() {
+    local reader=$here/../crates/bench_history/out/bench_history file size got
+    [ -x "$reader" ] || return 0
+    for kind in counts small equal shared names prefixes; do
+        file=$folder/$kind.history
+        python3 "$here/histories.py" "$folder" "$kind"
+        size=$(stat -c %s "$file")
+        got=$( (ulimit -v $((size / 128 + 65536)); /usr/bin/time -o "$folder/time" -f '%U %M' "$reader" "$file" 50000 > "$folder/said" 2> "$folder/told"; echo $?) 2> /dev/null)
+        printf '%-4s %-24s status %-4s %6s s %8s KB  %4d MB  %s\n' read "$kind" "$got" $(tail -1 "$folder/time") $((size / 1000000)) "$(tr '\n' ';' < "$folder/said" | cut -c1-150)"
+        rm "$file"
+        [ "$got" = 0 ] || worst=1
+    done
+}
 for cases in "$folder" ${CASES:+"$CASES"}; do
     list_all "$cases"
     assemble_all "$cases"
     run_all "$cases"
 done
+read_histories
 exit $worst
