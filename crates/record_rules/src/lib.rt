@@ -3,9 +3,11 @@
 //!
 //! The definitions are in `specs/` and stand on those of programs and of the machine alone. What
 //! class files mean, the library and which methods are tests are given to them as a `Profile`. The
-//! plain type that they name stands here. There is no other code.
+//! plain type that they name stands here, and the number under which a history is written.
 #![tactic(auto)]
 
+mod profile_number;
 mod record;
 
+pub use profile_number::PROFILE_NUMBER;
 pub use record::RunRecord;

@@ -13,10 +13,11 @@ use Rattle.record_rules.specs.Histories.{same_record, Kept, kept_with, kept_of, 
 use Rattle.reuse_laws.proofs.Tests.{and_both}
 use Rattle.history_rules.specs.Items.{IsText, AllBy}
 use Rattle.history_rules.specs.Entries.{Entry, is_new, is_present, is_place_behind, with_pair, IsPair}
+use Rattle.history_rules.specs.Fitting.{FitsEntry, FitsFields, FitsPair}
 use Rattle.history_rules.specs.Laws.{with_name, IsNewEntry, IsFormed, IsOther, before_next, AreWritable}
 use Rattle.record_forms.specs.Forms.{IsLineOf, HasForm, RecordsHaveForm}
 use Rattle.record_tries.specs.Tries.{passed, timed_out}
-use Rattle.record_writing.specs.Writing.{FitsEntry, FitsFields, FittingAreFormed, HasFormedRecord, NewRecordsAreWritable}
+use Rattle.record_writing.specs.Writing.{FittingAreFormed, HasFormedRecord, NewRecordsAreWritable}
 
 -- ---- one record
 
@@ -50,9 +51,9 @@ formed r form fits = record {
   steps = (let le = steps_case (is_timed_out r.outcome) r.limit r.steps form.steps in let lt = fits.limit in omega (arith, le, lt));
   within = form.steps;
   few_names = fits.few_names;
-  names = zip_by (λ names (e : Entry). is_new names e.0 ≡ true) IsNewEntry FitsEntry with_name (λ names e new fit. (fit.0, new, fit.1)) [] r.consulted form.names fits.names;
+  names = zip_by (λ names (e : Entry). is_new names e.0 ≡ true) IsNewEntry FitsEntry with_name (λ names e new fit. (fit.0, new, fit.1)) [] r.consulted form.names (recursion_from_All FitsEntry r.consulted fits.names);
   few_lines = fits.few_lines;
-  lines = zip_by (IsLineOf r.consulted) (IsPair r.consulted) (λ (x : ℕ × ℕ). x.1 < 2 ^ 16) with_pair (pair_fits r.consulted fits.few_names) None r.reached form.lines fits.lines;
+  lines = zip_by (IsLineOf r.consulted) (IsPair r.consulted) FitsPair with_pair (pair_fits r.consulted fits.few_names) None r.reached form.lines (recursion_from_All FitsPair r.reached fits.lines);
 }
 
 pub are_formed : RecordsHaveForm → FittingAreFormed

@@ -54,7 +54,7 @@ holds_own m ok held (n ∷ ns) h =
     (and_true (same_bytes (held n) (held n)) (is_some (held n) || is_none (class_by m held n)) (bytes_own (held n)) (no_class m ok held n (h n (first_listed n ns))))
     (holds_own m ok held ns (λ k l. h k (or_second (same n k) (is_listed k ns) l)))
 
-matching : (r : RunRecord) (x : Asked) → r.test_class ≡ x.test.class → r.test_method ≡ x.test.method → r.heap ≡ x.limits.heap → r.depth ≡ x.limits.depth → fits_limit r x.limit ≡ true → holds_all x.look x.held r.consulted ≡ true → matches r x ≡ true
+pub matching : (r : RunRecord) (x : Asked) → r.test_class ≡ x.test.class → r.test_method ≡ x.test.method → r.heap ≡ x.limits.heap → r.depth ≡ x.limits.depth → fits_limit r x.limit ≡ true → holds_all x.look x.held r.consulted ≡ true → matches r x ≡ true
 unfolding matches
 matching r x c n h d f a =
     and_true (is_of_test r x.test.class x.test.method) _ (and_true (same r.test_class x.test.class) _ (same_of r.test_class x.test.class c) (same_of r.test_method x.test.method n))
@@ -62,7 +62,7 @@ matching r x c n h d f a =
     (and_true (nat_eq r.depth x.limits.depth) _ (eq_of r.depth x.limits.depth d)
     (and_true (fits_limit r x.limit) _ f a)))
 
-own_held : (m : Profile) (y : Asked) → IsProfile m → IsAsked m y → holds_all y.look y.held (with_bytes y.held (run y).consulted) ≡ true
+pub own_held : (m : Profile) (y : Asked) → IsProfile m → IsAsked m y → holds_all y.look y.held (with_bytes y.held (run y).consulted) ≡ true
 own_held m y ok asked =
     let apart = runs_apart y.look y.test y.limits y.limit in
     let here : (n : Name) → is_listed n (run y).consulted ≡ true → is_library (class_by m y.held n) ≡ false = λ n l. ap (λ (p : Look). is_library (p n)) (sym asked.program) ∙ apart n l in

@@ -7,6 +7,7 @@ pub mod Made
 pub mod Jobs
 pub mod Closing
 pub mod KnownAlike
+pub mod Matching
 pub mod Own
 pub mod Costs
 pub mod Finding

@@ -5,7 +5,8 @@
 #![tactic(auto)]
 
 ghost use Rattle.reuse_laws.specs.Reuse.{MatchingRecordsAreRuns, TrueUnderLimits};
-ghost use Rattle.reuse_laws.specs.Reuse.{RecordsOfRunsAreTrue};
+ghost use Rattle.reuse_laws.specs.Reuse.{RecordsOfRunsAreTrue, RecordsMatchTheirRuns};
+ghost use Rattle.reuse_laws.specs.Reuse.{KeptRunsAreFound};
 ghost use Rattle.reuse_laws.specs.Closing.{RunsAreClosed, OwnProgramsAreAlike};
 ghost use Rattle.reuse_laws.specs.Finding.{KeptAreEnough, MatchesHold};
 ghost use Rattle.reuse_laws.specs.Jobs.{ReuseChangesNothing, KnownIsRecord, ReusedAreTrue};
@@ -26,6 +27,12 @@ pub fn true_under_limits()
 /// The record that is made of a run is true.
 pub fn records_of_runs_are_true()
     ensures { RecordsOfRunsAreTrue }
+{}
+
+/// The record of a run matches that run, so what a job leaves the next one finds.
+pub fn records_match_their_runs()
+    ensures own { RecordsMatchTheirRuns }
+    ensures found { KeptRunsAreFound }
 {}
 
 /// With true old records a job has of each run what it would have without them; what is known of a

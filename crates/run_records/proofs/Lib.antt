@@ -1,0 +1,6 @@
+mod Ordered
+mod Placing
+mod Listing
+mod Made
+mod Finding
+mod Texts

@@ -1,0 +1,16 @@
+//! Records of runs: made of them, matched with them, found among old ones.
+#![tactic(auto)]
+
+mod class_files;
+mod consulted;
+mod fitting;
+mod looked_up;
+mod matching;
+mod reached;
+mod recorded;
+mod recording;
+
+pub use looked_up::Lookup;
+pub use matching::{holds_all, matches};
+pub use recorded::Recorded;
+pub use recording::record;

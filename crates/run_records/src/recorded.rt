@@ -1,0 +1,21 @@
+//! What is recorded of a run.
+
+use class_model::Name;
+use record_rules::RunRecord;
+
+/// What is recorded of a run.
+#[derive(Drop)]
+pub enum Recorded {
+    Run(RunRecord),
+    /// The record of the run doesn't fit the fields of a history: a text or a class file is too
+    /// long for its length, there are too many names or lines for their count, or the name of the
+    /// class that was thrown has a lone surrogate.
+    Unwritable,
+    /// No row of the machine applies to an instruction, and there is no record: its class, its
+    /// method by name and descriptor written together, and its number.
+    Stuck {
+        class: Name,
+        method: Name,
+        at: usize,
+    },
+}
