@@ -1,4 +1,5 @@
+mod Spelled
 mod Files
+mod Tests
 mod Ordered
 mod Mutants
-mod Tests

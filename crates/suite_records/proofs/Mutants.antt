@@ -6,7 +6,6 @@ use Rattle.std.specs.Cmp.Lexicographic.{same_text}
 use Rattle.std.proofs.lemmas.List.Elements.{All-contains}
 use Rattle.class_model.specs.declared.class.Class.{Class}
 use Rattle.class_reader.specs.Spells.{IsClass, Spells}
-use Rattle.class_reader.specs.SpellingLaws.{ReadIsSpelled}
 use Rattle.program_rules.specs.Names.{Name, same}
 use Rattle.program_rules.specs.Linked.{Linked}
 use Rattle.program_rules.specs.Library.{class_among, first_of}
@@ -33,7 +32,7 @@ use Rattle.suite_laws.specs.Edited.{IsMutated, MutantsAreEdits}
 use Rattle.record_rules.specs.Profiles.{class_by}
 use Rattle.reuse_laws.specs.Asking.{AreApart, AreSpelled}
 use Rattle.class_records.specs.Profile.{file_of, class_meant, files_held, most_superclasses, profile}
-use Rattle.suite_records.specs.Suites.{bytes_of, put_file, IsFile, IsSuite}
+use Rattle.suite_records.specs.Suites.{bytes_of, put_file, IsSuite}
 use Rattle.suite_records.specs.Laws.{IsMade, MutantsAreReusable, MutantsAreEdited}
 use Rattle.suite_records.proofs.Files.{IsUnder, by_class, file_here, meant_here, all_fit, files_are, program, apart, spelled}
 use Rattle.suite_records.proofs.Ordered.{ordered_same}
@@ -43,26 +42,22 @@ are_edited p m made h =
     ap (λ (o : Option Class). option_map (λ (k : Class × List ℕ). with_class k.0 (look p)) (option_and_then (λ c. applied c m.edit) o)) h.found
     ∙ ap (option_map (λ (k : Class × List ℕ). with_class k.0 (look p))) h.applies
 
-module _ (read : ReadIsSpelled) (law : MutantsAreSpelled) (keeps_name : EditKeepsName) (files : List Loaded) (p : List Info) (m : Mutant) (made : Class × List ℕ) (s : IsSuite files p) (h : IsMade p m made) where
+module _ (law : MutantsAreSpelled) (keeps_name : EditKeepsName) (files : List Loaded) (p : List Info) (m : Mutant) (made : Class × List ℕ) (s : IsSuite files p) (h : IsMade p m made) where
   at_file : class_file (classes_in files) m.class ≡ Some h.file
   at_file = sym (ap (λ (f : Name → Option Class). f m.class) s.of.files) ∙ h.found
 
   source : (b : List ℕ) × (bytes_of files m.class ≡ Some b) × IsUnder m.class b h.file
-  source = by_class m.class (bytes_of files m.class) (class_file (classes_in files) m.class) (all_fit read files p s m.class) h.file at_file
+  source = by_class m.class (bytes_of files m.class) (class_file (classes_in files) m.class) (all_fit files p s m.class) h.file at_file
 
-  was_file : IsFile source.0 h.file
+  was_file : Spells source.0 h.file
   was_file = let u = source.2 in u.file
 
   was_class : IsClass h.file
-  was_class = let f = was_file in let spells = f.spelled in spells.form
+  was_class = let spells = was_file in spells.form
 
-  made_file : IsFile made.1 made.0
+  made_file : Spells made.1 made.0
   made_file =
-      let f = was_file in
-      record {
-        bytes = h.bytes;
-        spelled = All-contains (λ (k : Mutant). (x : Class × List ℕ) → applied h.file k.edit ≡ Some x → Spells x.1 x.0) (class_mutants h.file) m (law source.0 h.file f.spelled) h.listed made h.applies;
-      }
+      All-contains (λ (k : Mutant). (x : Class × List ℕ) → applied h.file k.edit ≡ Some x → Spells x.1 x.0) (class_mutants h.file) m (law source.0 h.file was_file) h.listed made h.applies
 
   name_same : own_name made.0 ≡ m.class
   name_same = let u = source.2 in keeps_name h.file m.edit made was_class h.applies ∙ u.name
@@ -73,8 +68,8 @@ module _ (read : ReadIsSpelled) (law : MutantsAreSpelled) (keeps_name : EditKeep
   -- ---- the program
 
   look_case : (n : Name) (b : Bool) → same n (own_name made.0) ≡ b → (if b then Some (link made.0) else look p n) ≡ first_of (option_and_then (class_meant n) (if b then Some made.1 else bytes_of files n)) (class_among library_meant n)
-  look_case n true e = sym (ap (λ (o : Option Linked). first_of o (class_among library_meant n)) (meant_here read n made.1 made.0 (under n e)))
-  look_case n false e = ap (λ (q : Look). q n) (program read files p s)
+  look_case n true e = sym (ap (λ (o : Option Linked). first_of o (class_among library_meant n)) (meant_here n made.1 made.0 (under n e)))
+  look_case n false e = ap (λ (q : Look). q n) (program files p s)
 
   pub made_program : with_class made.0 (look p) ≡ class_by profile (put_file made (bytes_of files))
   made_program = λ i n. look_case n (same n (own_name made.0)) refl i
@@ -82,8 +77,8 @@ module _ (read : ReadIsSpelled) (law : MutantsAreSpelled) (keeps_name : EditKeep
   apart_case : (n : Name) (b : Bool) → same n (own_name made.0) ≡ b → (bytes : List ℕ) → (if b then Some made.1 else bytes_of files n) ≡ Some bytes → class_among library_meant n ≡ None
   apart_case n true e bytes is =
       let here : m.class ≡ n = sym (same_text n (own_name made.0) (sym e) ∙ name_same) in
-      subst (λ (k : Name). class_among library_meant k ≡ None) here (apart read files p s m.class source.0 source.1)
-  apart_case n false e bytes is = apart read files p s n bytes is
+      subst (λ (k : Name). class_among library_meant k ≡ None) here (apart files p s m.class source.0 source.1)
+  apart_case n false e bytes is = apart files p s n bytes is
 
   pub made_apart : AreApart profile (put_file made (bytes_of files))
   made_apart n bytes is = apart_case n (same n (own_name made.0)) refl bytes is
@@ -91,8 +86,8 @@ module _ (read : ReadIsSpelled) (law : MutantsAreSpelled) (keeps_name : EditKeep
   spelled_case : (n : Name) (b : Bool) → same n (own_name made.0) ≡ b → (bytes : List ℕ) → (if b then Some made.1 else bytes_of files n) ≡ Some bytes → IsTrue (is_some (class_meant n bytes))
   spelled_case n true e bytes is =
       let here : made.1 ≡ bytes = cc in
-      subst (λ (z : List ℕ). IsTrue (is_some (class_meant n z))) here (subst (λ (o : Option Linked). IsTrue (is_some o)) (sym (meant_here read n made.1 made.0 (under n e))) refl)
-  spelled_case n false e bytes is = spelled read files p s n bytes is
+      subst (λ (z : List ℕ). IsTrue (is_some (class_meant n z))) here (subst (λ (o : Option Linked). IsTrue (is_some o)) (sym (meant_here n made.1 made.0 (under n e))) refl)
+  spelled_case n false e bytes is = spelled files p s n bytes is
 
   pub made_spelled : AreSpelled profile (put_file made (bytes_of files))
   made_spelled n bytes is = spelled_case n (same n (own_name made.0)) refl bytes is
@@ -100,14 +95,14 @@ module _ (read : ReadIsSpelled) (law : MutantsAreSpelled) (keeps_name : EditKeep
   -- ---- tests
 
   file_case : (n : Name) (b : Bool) → same n (own_name made.0) ≡ b → option_and_then (file_of n) (if b then Some made.1 else bytes_of files n) ≡ (if b then Some made.0 else option_and_then (file_of n) (bytes_of files n))
-  file_case n true e = file_here read n made.1 made.0 (under n e)
+  file_case n true e = file_here n made.1 made.0 (under n e)
   file_case n false e = refl
 
   made_files : files_held (put_file made (bytes_of files)) ≡ with_file made.0 (files_held (bytes_of files))
   made_files = λ i n. file_case n (same n (own_name made.0)) refl i
 
   at_own : files_held (bytes_of files) (own_name h.file) ≡ Some h.file
-  at_own = let u = source.2 in subst (λ (n : Name). files_held (bytes_of files) n ≡ Some h.file) (sym u.name) (files_are read files p s m.class ∙ at_file)
+  at_own = let u = source.2 in subst (λ (n : Name). files_held (bytes_of files) n ≡ Some h.file) (sym u.name) (files_are files p s m.class ∙ at_file)
 
   pub same_test : EditKeepsTests → (class method : Name) → profile.test (put_file made (bytes_of files)) class method ≡ profile.test (bytes_of files) class method
   same_test keeps class method =
@@ -127,18 +122,18 @@ module _ (read : ReadIsSpelled) (law : MutantsAreSpelled) (keeps_name : EditKeep
       let x = edits p m (with_class made.0 (look p)) mutated in
       λ n. class_alike x.edit (look p) (with_class made.0 (look p)) x.edited head_of refl n
 
-pub mutants : ReadIsSpelled → MutantsAreSpelled → MutantsAreEdits → EditKeepsTests → EditKeepsName → MutantsAreReusable
-mutants read law edits keeps_tests keeps_name files p m made t q limit s own h =
+pub mutants : MutantsAreSpelled → MutantsAreEdits → EditKeepsTests → EditKeepsName → MutantsAreReusable
+mutants law edits keeps_tests keeps_name files p m made t q limit s own h =
     let ready = s.of.ready in
     let built = s.of.program in
     record {
       asked = record {
-        program = made_program read law keeps_name files p m made s h;
-        apart = made_apart read law keeps_name files p m made s h;
-        found = same_test read law keeps_name files p m made s h keeps_tests t.class t.method ∙ own;
+        program = made_program law keeps_name files p m made s h;
+        apart = made_apart law keeps_name files p m made s h;
+        found = same_test law keeps_name files p m made s h keeps_tests t.class t.method ∙ own;
       };
-      spelled = made_spelled read law keeps_name files p m made s h;
+      spelled = made_spelled law keeps_name files p m made s h;
       ordered =
-          ordered_same (look p) (with_class made.0 (look p)) (made_heads read law keeps_name files p m made s h edits)
+          ordered_same (look p) (with_class made.0 (look p)) (made_heads law keeps_name files p m made s h edits)
           (record { present = built.present; kinds = ready.kinds; ranks = built.ranks });
     }

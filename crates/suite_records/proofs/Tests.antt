@@ -5,7 +5,6 @@ use Rattle.std.specs.List.{AllByRecursion}
 use Rattle.std.specs.Option.{option_map}
 use Rattle.std.proofs.lemmas.List.Elements.{All-from_recursion, recursion_from_All}
 use Rattle.class_model.specs.declared.class.Class.{Class}
-use Rattle.class_reader.specs.SpellingLaws.{ReadIsSpelled}
 use Rattle.program_rules.specs.Names.{Name, same, is_listed}
 use Rattle.class_link.specs.declared.loaded.Loaded.{Loaded}
 use Rattle.class_link.specs.Info.{Info, file_in}
@@ -14,7 +13,7 @@ use Rattle.class_table.specs.Table.{look, names, place_from, number_of}
 use Rattle.jvm_world.specs.View.{test_of}
 use Rattle.test_discovery.specs.Listed.{Files, files_of, rising}
 use Rattle.test_discovery.specs.Scripts.{TestOf}
-use Rattle.test_laws.specs.Laws.{FoundAreTestsOf, RisingEnds, AreAmong}
+use Rattle.test_laws.specs.Laws.{AcceptedDeclareOnce, FoundAreTestsOf, RisingEnds, AreAmong}
 use Rattle.suite_laws.specs.Found.{ProgramsHaveFiles}
 use Rattle.class_records.specs.Profile.{files_held, most_superclasses}
 use Rattle.suite_records.specs.Suites.{bytes_of, IsSuite, IsOwnTest}
@@ -48,9 +47,9 @@ each_map : {A : Type 0} (P Q : A → Type 0) → ((x : A) → P x → Q x) → (
 each_map P Q h [] q = tt
 each_map P Q h (x ∷ xs) q = (h x q.0, each_map P Q h xs q.1)
 
-module _ (read : ReadIsSpelled) (have : ProgramsHaveFiles) (ends : RisingEnds) (files : List Loaded) (p : List Info) (s : IsSuite files p) where
+module _ (have : ProgramsHaveFiles) (ends : RisingEnds) (files : List Loaded) (p : List Info) (s : IsSuite files p) where
   same_files : files_held (bytes_of files) ≡ files_of p
-  same_files = (λ i n. files_are read files p s n i) ∙ sym s.of.files
+  same_files = (λ i n. files_are files p s n i) ∙ sym s.of.files
 
   same_rising : (n : Name) → rising most_superclasses (files_held (bytes_of files)) n ≡ rising (length p) (files_of p) n
   same_rising n =
@@ -66,11 +65,12 @@ module _ (read : ReadIsSpelled) (have : ProgramsHaveFiles) (ends : RisingEnds) (
   own : (t : Test) → TestOf (rising (length p) (files_of p) t.class) t.method ≡ Some t → IsOwnTest files t
   own t e = ap (λ (cs : List Class). option_map test_of (TestOf cs t.method)) (same_rising t.class) ∙ ap (option_map test_of) e
 
-pub own_tests : ReadIsSpelled → ProgramsHaveFiles → FoundAreTestsOf → RisingEnds → FoundAreOwnTests
-own_tests read have found ends files p names ts s apart e =
+pub own_tests : ProgramsHaveFiles → AcceptedDeclareOnce → FoundAreTestsOf → RisingEnds → FoundAreOwnTests
+own_tests have once found ends files p names ts s e =
     let built = s.of.program in
+    let ready = s.of.ready in
     let of = have p built in
-    let all = found (length p) (files_of p) names ts of.named apart e in
+    let all = found (length p) (files_of p) names ts of.named (once (look p) (files_of p) ready.accepted of.meant) e in
     All-from_recursion (IsOwnTest files) ts
-    (each_map (λ t. TestOf (rising (length p) (files_of p) t.class) t.method ≡ Some t) (IsOwnTest files) (own read have ends files p s) ts
+    (each_map (λ t. TestOf (rising (length p) (files_of p) t.class) t.method ≡ Some t) (IsOwnTest files) (own have ends files p s) ts
     (recursion_from_All (λ t. TestOf (rising (length p) (files_of p) t.class) t.method ≡ Some t) ts all))

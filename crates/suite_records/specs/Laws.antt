@@ -2,7 +2,6 @@
 use Rattle.std.specs.Prelude.{◌≡◌, ℕ, List, length, All, Some, Ok}
 use Rattle.std.specs.List.{Contains}
 use Rattle.class_model.specs.declared.class.Class.{Class}
-use Rattle.codec_rules.specs.Input.{IsBytes}
 use Rattle.program_rules.specs.Names.{Name}
 use Rattle.machine_rules.specs.declared.machine.Limits.{Limits}
 use Rattle.class_link.specs.declared.loaded.Loaded.{Loaded}
@@ -10,7 +9,6 @@ use Rattle.class_link.specs.Info.{Info}
 use Rattle.class_table.specs.declared.scripted.Test.{Test}
 use Rattle.class_table.specs.Table.{look}
 use Rattle.test_discovery.specs.Discovery.{Tests}
-use Rattle.test_laws.specs.Laws.{AreToldApart}
 use Rattle.mutator_ops.specs.Mutants.{class_mutants}
 use Rattle.mutator_ops.specs.declared.mutant.Mutant.{Mutant}
 use Rattle.mutant_apply.specs.Edited.{applied}
@@ -23,12 +21,11 @@ use Rattle.reuse_laws.specs.Jobs.{AreTrue}
 use Rattle.class_records.specs.Profile.{profile}
 use Rattle.suite_records.specs.Suites.{IsSuite, IsOwnTest, IsReusable, original_asked, mutant_asked}
 
--- Each test that is found is the one of its class and method, where no two of one class and method
--- differ.
+-- Each test that is found is the one of its class and method.
 abbrev pub FoundAreOwnTests : Type 0
 FoundAreOwnTests =
     (files : List Loaded) (p : List Info) (names : List Name) (ts : List Test) → IsSuite files p →
-    AreToldApart ts → Tests (length p) (files_of p) names ≡ Ok ts → All (IsOwnTest files) ts
+    Tests (length p) (files_of p) names ≡ Ok ts → All (IsOwnTest files) ts
 
 -- The runs of such tests on the program are as the laws of reuse ask.
 abbrev pub OriginalsAreReusable : Type 0
@@ -42,7 +39,6 @@ pub record IsMade (p : List Info) (m : Mutant) (made : Class × List ℕ) : Type
   pub found : files_of p m.class ≡ Some file
   pub listed : Contains (class_mutants file) m
   pub applies : applied file m.edit ≡ Some made
-  pub bytes : IsBytes made.1
 
 -- So are those on each mutant, which need not be accepted.
 abbrev pub MutantsAreReusable : Type 0

@@ -1,7 +1,6 @@
 -- The runs of a suite and of its mutants, as records see them (this project's own).
 use Rattle.std.specs.Prelude.{◌≡◌, ℕ, List, [], ◌∷◌, All, Some, None, if◌then◌else◌}
 use Rattle.class_model.specs.declared.class.Class.{Class}
-use Rattle.codec_rules.specs.Input.{IsBytes}
 use Rattle.class_reader.specs.Spells.{Spells}
 use Rattle.program_rules.specs.Names.{same}
 use Rattle.program_rules.specs.Programs.{Look}
@@ -31,14 +30,9 @@ bytes_of (l ∷ ls) n = if same (own_name l.class) n then Some l.bytes else byte
 abbrev pub put_file : Class × List ℕ → Held → Held
 put_file made held n = if same n (own_name made.0) then Some made.1 else held n
 
--- The bytes are the class file of the class.
-pub record IsFile (file : List ℕ) (class : Class) : Type 0 where
-  pub bytes : IsBytes file
-  pub spelled : Spells file class
-
 -- A program that was built of these class files and of the library, and accepted.
 pub record IsSuite (files : List Loaded) (p : List Info) : Type 0 where
-  pub read : All (λ l. IsFile l.bytes l.class) files
+  pub read : All (λ l. Spells l.bytes l.class) files
   pub of : IsOfSuite (classes_in files) p
 
 -- ---- runs

@@ -4,23 +4,28 @@
 //! Each law is the contract of a function that does nothing but call the laws on which it stands.
 #![tactic(auto)]
 
+ghost use Rattle.class_order.specs.Ranks.{IsOrdered};
+ghost use Rattle.class_table.specs.Table.{look};
+ghost use Rattle.reuse_laws.specs.Closing.{WalksAreClosed};
+ghost use Rattle.suite_laws.specs.Witness.{sample_program};
 ghost use Rattle.suite_records.specs.Laws.{FoundAreOwnTests, OriginalsAreReusable};
 ghost use Rattle.suite_records.specs.Laws.{MutantsAreReusable, MutantsAreEdited};
 ghost use Rattle.suite_records.specs.Laws.{ReuseChangesNothing, RecordsAreTrue};
 
-use class_reader::files_are_read_as_spelled;
-use class_records::{class_files_are_a_profile, records_of_files_are_true};
+use class_records::{
+    class_files_are_a_profile, ordered_walks_are_closed, records_of_files_are_true,
+};
 use mutant_apply::mutants_are_spelled;
 use reuse_laws::reuse_changes_nothing;
-use suite_laws::{mutants_are_edits, programs_have_files};
-use test_laws::{edits_keep_tests, found_are_tests_of, rising_ends};
+use suite_laws::{mutant_laws_are_of_use, mutants_are_edits, programs_have_files};
+use test_laws::{accepted_declare_once, edits_keep_tests, found_are_tests_of, rising_ends};
 
 /// Each test that is found among the class files of a suite is the test of its class and method.
 pub fn found_are_own_tests()
     ensures { FoundAreOwnTests }
 {
-    files_are_read_as_spelled();
     programs_have_files();
+    accepted_declare_once();
     found_are_tests_of();
     rising_ends();
 }
@@ -28,9 +33,7 @@ pub fn found_are_own_tests()
 /// The runs of a suite's tests on its program are as the laws of reuse ask.
 pub fn originals_are_reusable()
     ensures { OriginalsAreReusable }
-{
-    files_are_read_as_spelled();
-}
+{}
 
 /// So are their runs on each mutant: an edit keeps names, supers and tests, and its bytes spell the
 /// edited class. The program of the run is the one that the edit makes.
@@ -38,7 +41,6 @@ pub fn mutants_are_reusable()
     ensures reusable { MutantsAreReusable }
     ensures edited { MutantsAreEdited }
 {
-    files_are_read_as_spelled();
     mutants_are_spelled();
     mutants_are_edits();
     edits_keep_tests();
@@ -53,4 +55,14 @@ pub fn true_records_change_nothing()
     class_files_are_a_profile();
     records_of_files_are_true();
     reuse_changes_nothing();
+}
+
+/// There is a program whose classes have ranks and whose walks are closed: one of two class files
+/// that were read, with the least library that serves.
+pub fn ordered_programs_are_there()
+    ensures ordered { IsOrdered (look sample_program) }
+    ensures closed { WalksAreClosed (look sample_program) }
+{
+    mutant_laws_are_of_use();
+    ordered_walks_are_closed();
 }

@@ -3,7 +3,8 @@
 //! Each law is the contract of a function that does nothing but call the laws on which it stands.
 #![tactic(auto)]
 
-ghost use Rattle.test_laws.specs.Laws.{EditKeepsTests, EditKeepsName, FoundAreTestsOf, RisingEnds};
+ghost use Rattle.test_laws.specs.Laws.{EditKeepsTests, EditKeepsName, AcceptedDeclareOnce};
+ghost use Rattle.test_laws.specs.Laws.{FoundAreTestsOf, RisingEnds};
 
 use mutant_apply::applied_is_made;
 
@@ -15,8 +16,14 @@ pub fn edits_keep_tests()
     applied_is_made();
 }
 
-/// Each test that is found is the test of its class and method, where no two of one class and
-/// method differ.
+/// No class file declares two methods of one name and descriptor, where the code of its program is
+/// accepted.
+pub fn accepted_declare_once()
+    ensures { AcceptedDeclareOnce }
+{}
+
+/// Each test that is found is the test of its class and method, where no class file declares two
+/// methods of one name and descriptor.
 pub fn found_are_tests_of()
     ensures { FoundAreTestsOf }
 {}

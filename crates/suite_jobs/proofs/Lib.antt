@@ -1,0 +1,8 @@
+mod Lists
+mod Own
+mod Same
+mod Alike
+mod Costs
+mod Saying
+mod Verdicts
+mod Spent
