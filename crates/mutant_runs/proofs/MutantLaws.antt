@@ -63,7 +63,7 @@ module _ (p ran : List Info) (m : Mutant) (id : ℕ) (class : Info) (made : Make
     pub ready_with : FaultlessAreAccepted → IsReady ran
     ready_with accepted = ready.ready (accepted (look ran) m.class (library_by (look ran) m.class (look ran m.class) refl (ready.library m.class)) faultless)
 
-    runs_as : viable (files_of p) (look p) m ≡ Some (look ran)
+    pub runs_as : viable (files_of p) (look p) m ≡ Some (look ran)
     runs_as = viable_made ∙ ap (λ (o : Option Placed). if is_some o then None else Some (look ran)) faultless
 
     module _ (q : Limits) (ts : List Test) (ns ks : List ℕ) where

@@ -37,7 +37,7 @@ of_most p q t limit = let most = run_most p q limit (start p (test_of t)) 0 in o
 limit_most : (n : ℕ) → n ≤ most_steps → limit_of n ≤ 12600000
 limit_most n h = omega (arith, h)
 
-mutant_most : (q : Limits) (p : Look) (t : Test) (n : ℕ) → n ≤ most_steps → (mutant_run q p t n).steps ≤ 12600000
+pub mutant_most : (q : Limits) (p : Look) (t : Test) (n : ℕ) → n ≤ most_steps → (mutant_run q p t n).steps ≤ 12600000
 unfolding mutant_run
 mutant_most q p t n h = let run = of_most p q t (limit_of n) in let limit = limit_most n h in omega (arith, run, limit)
 
@@ -66,7 +66,7 @@ zip_at (a ∷ xs) [] k x y lt same = absurd (omega (arith, same))
 zip_at (a ∷ xs) (b ∷ ys) zero x y lt same = refl
 zip_at (a ∷ xs) (b ∷ ys) (suc k) x y lt same = zip_at xs ys k x y (omega (arith, lt)) (omega (arith, same))
 
-zip_all : {A B : Type 0} (P : B → Type 0) (xs : List A) (ys : List B) (k : ℕ) (both : A × B) → All P ys → slice_get (zip xs ys) k ≡ Some both → P both.1
+pub zip_all : {A B : Type 0} (P : B → Type 0) (xs : List A) (ys : List B) (k : ℕ) (both : A × B) → All P ys → slice_get (zip xs ys) k ≡ Some both → P both.1
 zip_all P [] ys k both h at = absurd cc
 zip_all P (a ∷ xs) [] k both h at = absurd cc
 zip_all P (a ∷ xs) (b ∷ ys) zero both h at = let same : b ≡ both.1 = cc in subst P same (h 0 b (omega arith))

@@ -5,15 +5,13 @@ ghost use Rattle.jvm_step.specs.Tables.{AreNamedOf};
 ghost use Rattle.mutant_runs.specs.Programs.{files_of, IsMutantOf};
 ghost use Rattle.mutant_runs.specs.Ready.{IsReady};
 ghost use Rattle.mutant_runs.specs.Promises.{AreViable, AreVerdicts, steps_for_all};
-ghost use Rattle.mutant_runs.specs.Runs.{most_steps};
 
 use crate::covered::verdict_on;
 use crate::on_mutant::is_viable;
+use crate::test_set::TestSet;
 use class_model::{Memory, Seq};
-use class_table::{Program, Test};
+use class_table::Program;
 use jvm_step::Tables;
-use line_coverage::Coverage;
-use machine_rules::Limits;
 use mt_edge::MeterPart;
 use mutator_ops::{Mutant, Verdict};
 use std::alloc::Global;
@@ -40,38 +38,33 @@ fn verdicts_with(
     alloc: Global,
     program: &mut Program,
     tables: &mut Tables,
-    tests: &[Test],
-    steps: &[u64],
-    cover: &Coverage,
+    set: &TestSet,
     mutants: &[Mutant],
     viable: &[bool],
-    limits: Limits,
     part: &mut MeterPart,
 ) -> Result<Seq<Verdict>, Memory>
     requires ready { IsReady program.old }
     requires named { AreNamedOf program.old tables.old }
-    requires small { limits.heap < 2 ^ 31 }
-    requires few_tests { length tests.now ≤ 65535 }
     requires few_mutants { length mutants.now ≤ 262144 }
-    requires each { length steps.now ≡ length tests.now }
-    requires timed { All (λ n. n ≤ most_steps) steps.now }
     requires room { part.old < 2 ^ 62 }
     requires fit { All (IsMutantOf (files_of program.old)) mutants.now }
-    requires covered { cover.now.tests ≡ length tests.now }
     requires viable { AreViable program.old mutants.now viable.now }
     ensures told { IfOk result
-        (AreVerdicts limits program.old tests.now steps.now cover.now mutants.now) }
+        (AreVerdicts set.now.limits program.old set.now.tests.now set.now.steps.now
+        set.now.cover.now mutants.now) }
     ensures steps { OnOk result (part.new ≡ part.old
-        + steps_for_all limits program.old tests.now steps.now cover.now mutants.now) }
+        + steps_for_all set.now.limits program.old set.now.tests.now set.now.steps.now
+        set.now.cover.now mutants.now) }
     ensures most { part.new ≤ part.old
-        + steps_for_all limits program.old tests.now steps.now cover.now mutants.now }
+        + steps_for_all set.now.limits program.old set.now.tests.now set.now.steps.now
+        set.now.cover.now mutants.now }
     ensures same { program.new ≡ program.old }
 {
     let mut verdicts = Seq::new(alloc);
     let mut kept = None;
     for (i, mutant) in mutants.iter().enumerate() {
         let verdict = verdict_on(
-            alloc, program, tables, tests, steps, cover, mutant, viable[i], limits, part, &mut kept,
+            alloc, program, tables, set, mutant, viable[i], part, &mut kept,
         )?;
         verdicts.push(verdict)?;
     }
@@ -80,53 +73,35 @@ fn verdicts_with(
 
 /// The verdict on each mutant, by runs of the tests that reach its class and line, up to the first
 /// that detects it; NON_VIABLE where it isn't viable, NO_COVERAGE where no test reaches them.
-/// `steps` has at each test's place the steps of its run on the program as it is, `cover` the lines
-/// that this run reached, and `viable` at each mutant's place whether it is viable. The steps of
-/// all runs are counted in the part, and the program is as before afterwards, also where memory
-/// runs out.
+/// `viable` has at each mutant's place whether it is viable. The steps of all runs are counted in
+/// the part, and the program is as before afterwards, also where memory runs out.
 #[tactic(auto, using(crate::proofs::ReadyLaws::not_lacking, crate::proofs::NamedLaws::named_of))]
 pub fn verdicts(
     alloc: Global,
     program: &mut Program,
-    tests: &[Test],
-    steps: &[u64],
-    cover: &Coverage,
+    set: &TestSet,
     mutants: &[Mutant],
     viable: &[bool],
-    limits: Limits,
     part: &mut MeterPart,
 ) -> Result<Seq<Verdict>, Memory>
     requires ready { IsReady program.old }
-    requires small { limits.heap < 2 ^ 31 }
-    requires few_tests { length tests.now ≤ 65535 }
     requires few_mutants { length mutants.now ≤ 262144 }
-    requires each { length steps.now ≡ length tests.now }
-    requires timed { All (λ n. n ≤ most_steps) steps.now }
     requires room { part.old < 2 ^ 62 }
     requires fit { All (IsMutantOf (files_of program.old)) mutants.now }
-    requires covered { cover.now.tests ≡ length tests.now }
     requires viable { AreViable program.old mutants.now viable.now }
     ensures told { IfOk result
-        (AreVerdicts limits program.old tests.now steps.now cover.now mutants.now) }
+        (AreVerdicts set.now.limits program.old set.now.tests.now set.now.steps.now
+        set.now.cover.now mutants.now) }
     ensures steps { OnOk result (part.new ≡ part.old
-        + steps_for_all limits program.old tests.now steps.now cover.now mutants.now) }
+        + steps_for_all set.now.limits program.old set.now.tests.now set.now.steps.now
+        set.now.cover.now mutants.now) }
     ensures most { part.new ≤ part.old
-        + steps_for_all limits program.old tests.now steps.now cover.now mutants.now }
+        + steps_for_all set.now.limits program.old set.now.tests.now set.now.steps.now
+        set.now.cover.now mutants.now }
     ensures same { program.new ≡ program.old }
 {
     let Some(mut tables) = Tables::find(alloc, program)? else {
         unreachable!()
     };
-    verdicts_with(
-        alloc,
-        program,
-        &mut tables,
-        tests,
-        steps,
-        cover,
-        mutants,
-        viable,
-        limits,
-        part,
-    )
+    verdicts_with(alloc, program, &mut tables, set, mutants, viable, part)
 }

@@ -1,27 +1,26 @@
 //! The verdict on one mutant, by the tests that reach its class and line.
 
-ghost use Rattle.std.specs.Prelude.{◌≡◌, ◌+◌, ◌≤◌, ◌<◌, ◌^◌, true, All, length, IfOk, OnOk};
+ghost use Rattle.std.specs.Prelude.{◌≡◌, ◌+◌, ◌≤◌, ◌<◌, ◌^◌, true, IfOk, OnOk};
 ghost use Rattle.jvm_step.specs.Tables.{AreNamedOf};
 ghost use Rattle.mutant_runs.specs.Files.{IsKept};
 ghost use Rattle.mutant_runs.specs.Programs.{files_of, IsMutantOf};
 ghost use Rattle.mutant_runs.specs.Promises.{AreCovering, IsVerdictBy, steps_of, TellsViable};
 ghost use Rattle.mutant_runs.specs.Ready.{IsReady};
-ghost use Rattle.mutant_runs.specs.Runs.{most_steps};
 
 use crate::class_bytes::ClassBytes;
 use crate::on_mutant::run_mutant;
+use crate::test_set::TestSet;
 use crate::verdict::{not_covered, not_viable};
 use class_model::{Memory, Seq};
-use class_table::{Program, Test};
+use class_table::Program;
 use jvm_step::Tables;
 use line_coverage::Coverage;
-use machine_rules::Limits;
 use mt_edge::MeterPart;
 use mutator_ops::{Mutant, Verdict};
 use std::alloc::Global;
 
-// The numbers of the tests that reach a mutant's class and line, in their order.
-fn covering_tests(
+/// The numbers of the tests that reach a mutant's class and line, in their order.
+pub fn covering_tests(
     alloc: Global,
     program: &Program,
     cover: &Coverage,
@@ -43,42 +42,35 @@ fn run_covering(
     alloc: Global,
     program: &mut Program,
     tables: &mut Tables,
-    tests: &[Test],
-    steps: &[u64],
-    cover: &Coverage,
+    set: &TestSet,
     mutant: &Mutant,
-    limits: Limits,
     part: &mut MeterPart,
     kept: &mut Option<ClassBytes>,
 ) -> Result<Verdict, Memory>
     requires ready { IsReady program.old }
     requires named { AreNamedOf program.old tables.old }
-    requires small { limits.heap < 2 ^ 31 }
-    requires few { length tests.now ≤ 65535 }
-    requires each { length steps.now ≡ length tests.now }
-    requires timed { All (λ n. n ≤ most_steps) steps.now }
     requires room { part.old < 2 ^ 63 }
-    requires covered { cover.now.tests ≡ length tests.now }
     requires fit { IsMutantOf (files_of program.old) mutant.now }
     requires viable { TellsViable program.old mutant.now true }
     requires kept { IsKept program.old kept.old }
     ensures told { IfOk result
-        (IsVerdictBy limits program.old tests.now steps.now cover.now mutant.now) }
+        (IsVerdictBy set.now.limits program.old set.now.tests.now set.now.steps.now
+        set.now.cover.now mutant.now) }
     ensures steps { OnOk result (part.new ≡ part.old
-        + steps_of limits program.old tests.now steps.now cover.now mutant.now) }
+        + steps_of set.now.limits program.old set.now.tests.now set.now.steps.now
+        set.now.cover.now mutant.now) }
     ensures most { part.new ≤ part.old
-        + steps_of limits program.old tests.now steps.now cover.now mutant.now }
+        + steps_of set.now.limits program.old set.now.tests.now set.now.steps.now
+        set.now.cover.now mutant.now }
     ensures same { program.new ≡ program.old }
     ensures named { AreNamedOf program.old tables.new }
     ensures kept { OnOk result (IsKept program.old kept.new) }
 {
-    let covering = covering_tests(alloc, program, cover, mutant)?;
+    let covering = covering_tests(alloc, program, set.cover, mutant)?;
     if covering.is_empty() {
         return Ok(not_covered(alloc));
     }
-    run_mutant(
-        alloc, program, tables, tests, steps, mutant, covering, limits, part, kept,
-    )
+    run_mutant(alloc, program, tables, set, mutant, covering, part, kept)
 }
 
 /// The verdict on a mutant, of which it is told whether it is viable, by runs of the tests that
@@ -87,32 +79,27 @@ pub fn verdict_on(
     alloc: Global,
     program: &mut Program,
     tables: &mut Tables,
-    tests: &[Test],
-    steps: &[u64],
-    cover: &Coverage,
+    set: &TestSet,
     mutant: &Mutant,
     viable: bool,
-    limits: Limits,
     part: &mut MeterPart,
     kept: &mut Option<ClassBytes>,
 ) -> Result<Verdict, Memory>
     requires ready { IsReady program.old }
     requires named { AreNamedOf program.old tables.old }
-    requires small { limits.heap < 2 ^ 31 }
-    requires few { length tests.now ≤ 65535 }
-    requires each { length steps.now ≡ length tests.now }
-    requires timed { All (λ n. n ≤ most_steps) steps.now }
     requires room { part.old < 2 ^ 63 }
-    requires covered { cover.now.tests ≡ length tests.now }
     requires fit { IsMutantOf (files_of program.old) mutant.now }
     requires viable { TellsViable program.old mutant.now viable }
     requires kept { IsKept program.old kept.old }
     ensures told { IfOk result
-        (IsVerdictBy limits program.old tests.now steps.now cover.now mutant.now) }
+        (IsVerdictBy set.now.limits program.old set.now.tests.now set.now.steps.now
+        set.now.cover.now mutant.now) }
     ensures steps { OnOk result (part.new ≡ part.old
-        + steps_of limits program.old tests.now steps.now cover.now mutant.now) }
+        + steps_of set.now.limits program.old set.now.tests.now set.now.steps.now
+        set.now.cover.now mutant.now) }
     ensures most { part.new ≤ part.old
-        + steps_of limits program.old tests.now steps.now cover.now mutant.now }
+        + steps_of set.now.limits program.old set.now.tests.now set.now.steps.now
+        set.now.cover.now mutant.now }
     ensures same { program.new ≡ program.old }
     ensures named { AreNamedOf program.old tables.new }
     ensures kept { OnOk result (IsKept program.old kept.new) }
@@ -120,7 +107,5 @@ pub fn verdict_on(
     if !viable {
         return Ok(not_viable(alloc));
     }
-    run_covering(
-        alloc, program, tables, tests, steps, cover, mutant, limits, part, kept,
-    )
+    run_covering(alloc, program, tables, set, mutant, part, kept)
 }

@@ -10,6 +10,7 @@ mod edited_file;
 mod laws;
 mod on_mutant;
 mod one_run;
+mod test_set;
 mod tests_run;
 mod verdict;
 
@@ -18,6 +19,12 @@ pub use accepted_edits::{
     instructions_have_numbers, kinds_stay_right, put_classes_stay_alike,
 };
 pub use all::{verdicts, viable};
+pub use class_bytes::ClassBytes;
+pub use covered::covering_tests;
 pub use laws::{
     edited_are_ready, edits_make, entries_add_alone, files_are_found, mutants_are_of, ready_may_run,
 };
+pub use on_mutant::edited_class;
+pub use one_run::run_test;
+pub use test_set::TestSet;
+pub use verdict::{not_viable, verdict_by};

@@ -16,6 +16,7 @@ ghost use Rattle.mutant_runs.specs.Runs.{most_steps};
 use crate::class_bytes::ClassBytes;
 use crate::edited_file::edited_file;
 use crate::laws::{edited_are_ready, edits_make, entries_add_alone, ready_may_run};
+use crate::test_set::TestSet;
 use crate::tests_run::run_tests;
 use crate::verdict::verdict_by;
 use class_model::{ClassId, Memory, Seq};
@@ -45,9 +46,9 @@ fn is_info(info: &ClassInfo)
     let _linked = info.linked();
 }
 
-// The class that a mutant's edit makes, and the number of the class in whose place it stands; none
-// where the edit has no layout.
-fn edited_class(
+/// The class that a mutant's edit makes, and the number of the class in whose place it stands; none
+/// where the edit has no layout.
+pub fn edited_class(
     alloc: Global,
     program: &Program,
     mutant: &Mutant,
@@ -169,31 +170,29 @@ pub fn run_mutant(
     alloc: Global,
     program: &mut Program,
     tables: &mut Tables,
-    tests: &[Test],
-    steps: &[u64],
+    set: &TestSet,
     mutant: &Mutant,
     covering: Seq<u32>,
-    limits: Limits,
     part: &mut MeterPart,
     kept: &mut Option<ClassBytes>,
 ) -> Result<Verdict, Memory>
     requires ready { IsReady program.old }
     requires named { AreNamedOf program.old tables.old }
-    requires small { limits.heap < 2 ^ 31 }
-    requires numbers { All (λ k. k < length tests.now) covering }
+    requires numbers { All (λ k. k < length set.now.tests.now) covering }
     requires few { length covering ≤ 65535 }
-    requires each { length steps.now ≡ length tests.now }
-    requires timed { All (λ n. n ≤ most_steps) steps.now }
     requires room { part.old < 2 ^ 63 }
     requires fit { IsMutantOf (files_of program.old) mutant.now }
     requires viable { TellsViable program.old mutant.now true }
     requires kept { IsKept program.old kept.old }
     ensures told { IfOk result
-        (IsVerdict limits program.old tests.now steps.now covering mutant.now) }
+        (IsVerdict set.now.limits program.old set.now.tests.now set.now.steps.now
+        covering mutant.now) }
     ensures steps { OnOk result (part.new ≡ part.old
-        + steps_for limits program.old tests.now steps.now covering mutant.now) }
+        + steps_for set.now.limits program.old set.now.tests.now set.now.steps.now
+        covering mutant.now) }
     ensures most { part.new ≤ part.old
-        + steps_for limits program.old tests.now steps.now covering mutant.now }
+        + steps_for set.now.limits program.old set.now.tests.now set.now.steps.now
+        covering mutant.now }
     ensures same { program.new ≡ program.old }
     ensures named { AreNamedOf program.old tables.new }
     ensures kept { OnOk result (IsKept program.old kept.new) }
@@ -205,7 +204,9 @@ pub fn run_mutant(
         unreachable!()
     };
     let original = program.swap(id, edited);
-    let verdict = run_on(alloc, program, tables, tests, steps, covering, limits, part);
+    let verdict = run_on(
+        alloc, program, tables, set.tests, set.steps, covering, set.limits, part,
+    );
     let _edited = program.swap(id, original);
     verdict
 }

@@ -22,7 +22,7 @@ use class_table::{Loaded, Program, Test};
 use line_coverage::Coverage;
 use mt_edge::{Meter, MeterPart};
 use mutant_apply::mutants_fit;
-use mutant_runs::{verdicts, viable};
+use mutant_runs::{TestSet, verdicts, viable};
 use mutator_ops::{Mutant, Verdict};
 use report_schema::{ReportInput, file_key};
 use std::alloc::Global;
@@ -65,17 +65,13 @@ fn covered_runs(
     let viable = viable(alloc, program, mutants)?;
     let count = cell_count(alloc, program, mutants, viable.as_slice(), cover)?;
     refuse_many_cells(count)?;
-    let verdicts = verdicts(
-        alloc,
-        program,
+    let set = TestSet {
         tests,
         steps,
         cover,
-        mutants,
-        viable.as_slice(),
-        RUN_LIMITS,
-        part,
-    )?;
+        limits: RUN_LIMITS,
+    };
+    let verdicts = verdicts(alloc, program, &set, mutants, viable.as_slice(), part)?;
     Ok(verdicts)
 }
 

@@ -91,13 +91,12 @@ fn the_option_may_stand_before_the_text(rt: HostRuntime) -> Result<(), Fail> {
 
 #[test]
 fn other_words_for_a_text_are_refused(rt: HostRuntime) -> Result<(), Fail> {
-    let calls: [&[&str]; 8] = [
+    let calls: [&[&str]; 7] = [
         &["asm", "A.txt"],
         &["asm", "--out", "A.class"],
         &["asm", "A.txt", "--out"],
         &["asm", "A.txt", "--out", "A.class", "--out", "A.class"],
         &["asm", "", "--out", "A.class"],
-        &["asm", "A.txt", "--out", "-"],
         &["asm", "A.txt", "-out", "A.class"],
         &["asm", "A.txt", "--out=A.class", "x"],
     ];

@@ -60,11 +60,10 @@ fn a_class_of_tests_is_read(rt: HostRuntime) -> Result<(), Fail> {
 #[test]
 fn other_words_are_refused(rt: HostRuntime) -> Result<(), Fail> {
     let none: [&str; 0] = [];
-    let calls: [&[&str]; 7] = [
+    let calls: [&[&str]; 6] = [
         &none,
         &["list"],
         &["list", ""],
-        &["list", "-"],
         &["list", "--help"],
         &["lists", "A.class"],
         &["list", "A.class", "A.class"],

@@ -10,8 +10,8 @@ use Rattle.mutant_runs.proofs.all.verdicts_with.Given as goal
 
 abbrev pub invariant-loop-i : goal.invariant-loop-i
 invariant-loop-i l = record {
-  told : l.verdicts ≡ map (λ m. verdict_picked l.limits (files_of l.fn.program) (look l.fn.program) (timed l.tests l.steps) (covering_at l.fn.program l.cover m) m) (take l.i l.mutants);
-  steps : l.part ≡ l.fn.part + steps_for_all l.limits l.fn.program l.tests l.steps l.cover (take l.i l.mutants);
+  told : l.verdicts ≡ map (λ m. verdict_picked l.set.limits (files_of l.fn.program) (look l.fn.program) (timed l.set.tests.now l.set.steps.now) (covering_at l.fn.program l.set.cover.now m) m) (take l.i l.mutants);
+  steps : l.part ≡ l.fn.part + steps_for_all l.set.limits l.fn.program l.set.tests.now l.set.steps.now l.set.cover.now (take l.i l.mutants);
   same : l.program ≡ l.fn.program;
   kept : IsKept l.fn.program l.kept;
   named : AreNamedOf l.fn.program l.tables;

@@ -13,23 +13,23 @@ returns-then-is_empty-clause-told c =
     let none : c.in_ok-covering.covering ≡ [] = search rules in
     c.not_covered.ensures
     ∙ ap (λ ks. verdict_by ks None) (sym none)
-    ∙ uncovered_verdict c.args.limits c.args.program.now c.args.tests.now c.args.steps.now c.args.mutant.now c.in_ok-covering.covering none c.requires.viable
-    ∙ ap (λ ks. verdict_picked c.args.limits (files_of c.args.program.now) (look c.args.program.now) (timed c.args.tests.now c.args.steps.now) ks c.args.mutant.now) c.in_ok-covering.ensures
+    ∙ uncovered_verdict c.args.set.now.limits c.args.program.now c.args.set.now.tests.now c.args.set.now.steps.now c.args.mutant.now c.in_ok-covering.covering none c.requires.viable
+    ∙ ap (λ ks. verdict_picked c.args.set.now.limits (files_of c.args.program.now) (look c.args.program.now) (timed c.args.set.now.tests.now c.args.set.now.steps.now) ks c.args.mutant.now) c.in_ok-covering.ensures
 
 pub returns-then-is_empty-clause-steps : goal.returns-then-is_empty-clause-steps
 returns-then-is_empty-clause-steps c =
     let none : c.in_ok-covering.covering ≡ [] = search rules in
-    let steps = uncovered_steps c.args.limits c.args.program.now c.args.tests.now c.args.steps.now c.args.mutant.now (covering_at c.args.program.now c.args.cover.now c.args.mutant.now) (sym c.in_ok-covering.ensures ∙ none) in
+    let steps = uncovered_steps c.args.set.now.limits c.args.program.now c.args.set.now.tests.now c.args.set.now.steps.now c.args.mutant.now (covering_at c.args.program.now c.args.set.now.cover.now c.args.mutant.now) (sym c.in_ok-covering.ensures ∙ none) in
     omega (arith, steps)
 
 pub run_mutant-requires-clause-numbers : goal.run_mutant-requires-clause-numbers
 run_mutant-requires-clause-numbers c =
-    let P : List ℕ → Type 0 = λ ks. All (λ k. k < length c.args.tests.now) ks in
-    subst P (sym c.in_ok-covering.ensures) (covering_below c.args.cover.now c.args.mutant.now c.args.program.now (length c.args.tests.now) c.requires.covered)
+    let P : List ℕ → Type 0 = λ ks. All (λ k. k < length c.args.set.now.tests.now) ks in
+    subst P (sym c.in_ok-covering.ensures) (covering_below c.args.set.now.cover.now c.args.mutant.now c.args.program.now (length c.args.set.now.tests.now) c.args.set.now.covered)
 
 pub run_mutant-requires-clause-few : goal.run_mutant-requires-clause-few
 run_mutant-requires-clause-few c =
-    let long : length c.in_ok-covering.covering ≡ length (covering_at c.args.program.now c.args.cover.now c.args.mutant.now) = ap (λ (ks : List ℕ). length ks) c.in_ok-covering.ensures in
-    let few = covering_few c.args.cover.now c.args.mutant.now c.args.program.now (length c.args.tests.now) c.requires.covered in
-    let tests = c.requires.few in
+    let long : length c.in_ok-covering.covering ≡ length (covering_at c.args.program.now c.args.set.now.cover.now c.args.mutant.now) = ap (λ (ks : List ℕ). length ks) c.in_ok-covering.ensures in
+    let few = covering_few c.args.set.now.cover.now c.args.mutant.now c.args.program.now (length c.args.set.now.tests.now) c.args.set.now.covered in
+    let tests = c.args.set.now.few in
     omega (arith, long, few, tests)

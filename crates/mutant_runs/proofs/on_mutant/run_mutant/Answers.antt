@@ -25,21 +25,21 @@ returns-clause-told c =
     let made : Makes c.args.program.now c.args.mutant.now c.in-Some.id.0 (arc_value c.in-Some.edited) = rw c.in-Some.is at c.in_ok-id.ensures.made in
     let P : List Info → Type 0 = λ w. IsReadyBut w c.args.mutant.now.class c.in-Some.id.0 in
     let ready : P c.swap-original.new.self = subst P (sym c.swap-original.ensures.program) (c.edited_are_ready.ensures c.args.program.now c.args.mutant.now c.in-Some.id.0 (arc_value c.in-Some.edited) c.is_program.ensures c.requires.ready made) in
-    told_made c.args.program.now c.swap-original.new.self c.args.mutant.now c.in-Some.id.0 (arc_value c.in-Some.edited) made c.swap-original.ensures.program ready c.requires.viable c.args.limits c.args.tests.now c.args.steps.now c.args.covering c.run_on-verdict.result c.run_on-verdict.ensures.told
+    told_made c.args.program.now c.swap-original.new.self c.args.mutant.now c.in-Some.id.0 (arc_value c.in-Some.edited) made c.swap-original.ensures.program ready c.requires.viable c.args.set.now.limits c.args.set.now.tests.now c.args.set.now.steps.now c.args.covering c.run_on-verdict.result c.run_on-verdict.ensures.told
 
 pub returns-clause-steps : goal.returns-clause-steps
 returns-clause-steps c =
     let made : Makes c.args.program.now c.args.mutant.now c.in-Some.id.0 (arc_value c.in-Some.edited) = rw c.in-Some.is at c.in_ok-id.ensures.made in
     let P : List Info → Type 0 = λ w. IsReadyBut w c.args.mutant.now.class c.in-Some.id.0 in
     let ready : P c.swap-original.new.self = subst P (sym c.swap-original.ensures.program) (c.edited_are_ready.ensures c.args.program.now c.args.mutant.now c.in-Some.id.0 (arc_value c.in-Some.edited) c.is_program.ensures c.requires.ready made) in
-    counted_made c.args.program.now c.swap-original.new.self c.args.mutant.now c.in-Some.id.0 (arc_value c.in-Some.edited) made c.swap-original.ensures.program ready c.requires.viable c.args.limits c.args.tests.now c.args.steps.now c.args.covering c.run_on-verdict.result c.run_on-verdict.new.part c.args.part.now c.run_on-verdict.ensures.steps
+    counted_made c.args.program.now c.swap-original.new.self c.args.mutant.now c.in-Some.id.0 (arc_value c.in-Some.edited) made c.swap-original.ensures.program ready c.requires.viable c.args.set.now.limits c.args.set.now.tests.now c.args.set.now.steps.now c.args.covering c.run_on-verdict.result c.run_on-verdict.new.part c.args.part.now c.run_on-verdict.ensures.steps
 
 pub returns-clause-most : goal.returns-clause-most
 returns-clause-most c =
     let made : Makes c.args.program.now c.args.mutant.now c.in-Some.id.0 (arc_value c.in-Some.edited) = rw c.in-Some.is at c.in_ok-id.ensures.made in
     let P : List Info → Type 0 = λ w. IsReadyBut w c.args.mutant.now.class c.in-Some.id.0 in
     let ready : P c.swap-original.new.self = subst P (sym c.swap-original.ensures.program) (c.edited_are_ready.ensures c.args.program.now c.args.mutant.now c.in-Some.id.0 (arc_value c.in-Some.edited) c.is_program.ensures c.requires.ready made) in
-    most_made c.args.program.now c.swap-original.new.self c.args.mutant.now c.in-Some.id.0 (arc_value c.in-Some.edited) made c.swap-original.ensures.program ready c.requires.viable c.args.limits c.args.tests.now c.args.steps.now c.args.covering c.run_on-verdict.new.part c.args.part.now c.run_on-verdict.ensures.most
+    most_made c.args.program.now c.swap-original.new.self c.args.mutant.now c.in-Some.id.0 (arc_value c.in-Some.edited) made c.swap-original.ensures.program ready c.requires.viable c.args.set.now.limits c.args.set.now.tests.now c.args.set.now.steps.now c.args.covering c.run_on-verdict.new.part c.args.part.now c.run_on-verdict.ensures.most
 
 pub returns-clause-same : goal.returns-clause-same
 returns-clause-same c =

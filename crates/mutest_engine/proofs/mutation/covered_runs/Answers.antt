@@ -40,11 +40,11 @@ returns-in_err-refuse_many_cells-clause-exact c =
 pub verdicts-requires-clause-ready : goal.verdicts-requires-clause-ready
 verdicts-requires-clause-ready c = subst IsReady (sym c.in_ok-viable.ensures.same) c.requires.ready
 
-pub verdicts-requires-clause-each : goal.verdicts-requires-clause-each
-verdicts-requires-clause-each c = counts_each (look c.args.program.now) c.args.tests.now c.args.steps.now c.requires.steps
+pub invariant_of-set-clause-each : goal.invariant_of-set-clause-each
+invariant_of-set-clause-each c = counts_each (look c.args.program.now) c.args.tests.now c.args.steps.now c.requires.steps
 
-pub verdicts-requires-clause-timed : goal.verdicts-requires-clause-timed
-verdicts-requires-clause-timed c = counts_few (look c.args.program.now) c.args.tests.now c.args.steps.now c.requires.steps
+pub invariant_of-set-clause-timed : goal.invariant_of-set-clause-timed
+invariant_of-set-clause-timed c = counts_few (look c.args.program.now) c.args.tests.now c.args.steps.now c.requires.steps
 
 pub verdicts-requires-clause-fit : goal.verdicts-requires-clause-fit
 verdicts-requires-clause-fit c =
