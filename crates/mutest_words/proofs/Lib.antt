@@ -1,2 +1,3 @@
+mod Parsed
+mod Apps
 mod WordLaws
-mod ReadLaws

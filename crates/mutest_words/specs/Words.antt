@@ -1,106 +1,185 @@
 -- Which command the words behind the program's name are (this project's own).
-use Rattle.std.specs.Prelude.{◌≡◌, ℕ, List, [], ◌∷◌, Bool, ◌||◌, nat_eq, if◌then◌else◌, codes}
-use Rattle.std.specs.Prelude.{Option, None, Some, MatchOption, option_map, option_and_then}
-use Rattle.std.specs.List.{ends_with}
+use Rattle.std.specs.Prelude.{◌≡◌, ℕ, List, [], ◌∷◌, Bool, true, not, ◌&&◌, ◌||◌, nat_eq, codes}
+use Rattle.std.specs.Prelude.{Option, None, Some, MatchOption, is_some, option_map, option_and_then, if◌then◌else◌}
+use Rattle.std.specs.List.{ends_with, list_any}
 use Rattle.std.specs.Io.BufRead.{strip_last}
-use Rattle.mutest_words.specs.Options.{Pair, Given, given_of, value_of, are_options, is_word}
+use Rattle.clap.specs.Words.{App, Row, Text, first_of}
+use Rattle.mutest_words.specs.Given.{app_with, given, is_word, lacks}
+use Rattle.mutest_words.specs.Numbers.{number_between}
 use Rattle.mutest_words.specs.declared.command.AsmOptions.{AsmOptions as FoundAsm}
+use Rattle.mutest_words.specs.declared.command.GenerateOptions.{GenerateOptions as FoundGenerate}
 use Rattle.mutest_words.specs.declared.command.RunOptions.{RunOptions as FoundRun}
 use Rattle.mutest_words.specs.declared.command.Command.{Command as Found}
 use Rattle.mutest_words.specs.declared.command.Command.TheVariants as found
 
--- the folders of classes and of tests, and the path of the report
+-- the folders of classes, of tests and of sources, the paths of what is written and of what earlier
+-- runs left, and how many workers, steps of a run, words of a heap and frames there may be
 pub record RunOptions : Type 0 where
-  pub classes : List ℕ
-  pub tests : List ℕ
-  pub report : List ℕ
+  pub classes : Text
+  pub tests : Text
+  pub report : Text
+  pub new_history : Option Text
+  pub sources : Option Text
+  pub history : Option Text
+  pub journal : Option Text
+  pub workers : ℕ
+  pub steps : ℕ
+  pub heap : ℕ
+  pub depth : ℕ
 
 -- the path of a text of the assembler's language, and that of the class file that it states
 pub record AsmOptions : Type 0 where
-  pub text : List ℕ
-  pub out : List ℕ
+  pub text : Text
+  pub out : Text
+
+-- how many classes are made, each with its test, and how many workers run them
+pub record GenerateOptions : Type 0 where
+  pub classes : ℕ
+  pub workers : ℕ
 
 pub data Command : Type 0 where
-  list_class : List ℕ → Command
+  list_class : Text → Command
   run_suite : RunOptions → Command
   assemble_class : AsmOptions → Command
 
+-- The one place of options that aren't built: they are refused, and none of them has to stand.
+abbrev pub unbuilt : List Text
+unbuilt =
+    codes "new-history" ∷ codes "sources" ∷ codes "history" ∷ codes "journal"
+    ∷ codes "workers" ∷ codes "steps" ∷ codes "heap" ∷ codes "depth" ∷ []
+
+-- ---- values
+
 -- a folder's word, without one `/` (47) at its end
-abbrev pub folder_of : List ℕ → List ℕ
+abbrev pub folder_of : Text → Text
 folder_of word = strip_last 47 word
+
+-- the number that an option's value is, or the usual one
+abbrev pub number_or : ℕ → ℕ → ℕ → Option Text → Option ℕ
+number_or least most usual None = Some usual
+number_or least most usual (Some word) = number_between least most word
+
+abbrev pub count_of : Text → ℕ → ℕ → ℕ → List Row → Option ℕ
+count_of name least most usual rows = number_or least most usual (first_of name rows)
 
 -- ---- commands, by what the words behind their names give
 
--- What is made of an option's value, where the option stands.
-abbrev pub with_value : {X : Type 0} → List Pair → List ℕ → (List ℕ → Option X) → Option X
-with_value options name make = option_and_then make (value_of name options)
-
--- What is made of the only plain word.
-abbrev pub with_file : {X : Type 0} → List (List ℕ) → (List ℕ → Option X) → Option X
-with_file (file ∷ []) make = make file
-with_file words make = None
-
--- What is made, where no plain word stands.
-abbrev pub without_file : {X : Type 0} → List (List ℕ) → Option X → Option X
-without_file [] made = made
-without_file words made = None
-
 -- `list`: FILE
-abbrev pub list_of : Given → Option Command
-list_of given =
-    if are_options [] given.options
-    then with_file given.plain (λ file. Some (list_class file)) else None
+unfoldable pub list_app : App
+list_app = app_with (codes "file" ∷ []) []
 
-abbrev pub run_names : List (List ℕ)
-run_names = codes "--classes" ∷ codes "--tests" ∷ codes "--report" ∷ []
+abbrev pub list_of : List Row → Option Command
+list_of rows = option_map list_class (first_of (codes "file") rows)
 
-abbrev pub run_options : List Pair → Option RunOptions
-run_options options =
-    with_value options (codes "--classes") (λ classes.
-    with_value options (codes "--tests") (λ tests.
-    with_value options (codes "--report") (λ report.
-    Some (record {
+-- `asm`: FILE --out FILE
+unfoldable pub asm_app : App
+asm_app = app_with (codes "file" ∷ []) (codes "out" ∷ [])
+
+abbrev pub asm_options : List Row → Option AsmOptions
+asm_options rows =
+    option_and_then (λ text.
+    option_map (λ out. record { text = text; out = out })
+    (first_of (codes "out") rows)) (first_of (codes "file") rows)
+
+abbrev pub asm_of : List Row → Option Command
+asm_of rows = option_map assemble_class (asm_options rows)
+
+-- `generate`: N [--workers N]
+unfoldable pub generate_app : App
+generate_app = app_with (codes "number" ∷ []) (codes "workers" ∷ [])
+
+abbrev pub generate_of : List Row → Option GenerateOptions
+generate_of rows =
+    option_and_then (λ word.
+    option_and_then (λ classes.
+    option_map (λ workers. record { classes = classes; workers = workers })
+    (count_of (codes "workers") 1 64 1 rows))
+    (number_between 1 200 word)) (first_of (codes "number") rows)
+
+-- `run`: --classes DIR --tests DIR --report FILE --new-history FILE [--sources DIR] [--history FILE]
+-- [--journal FILE] [--workers N] [--steps N] [--heap N] [--depth N]
+unfoldable pub run_app : App
+run_app = app_with []
+    (codes "classes" ∷ codes "tests" ∷ codes "report" ∷ codes "new-history" ∷ codes "sources"
+    ∷ codes "history" ∷ codes "journal" ∷ codes "workers" ∷ codes "steps" ∷ codes "heap"
+    ∷ codes "depth" ∷ [])
+
+abbrev pub run_options : List Row → Option RunOptions
+run_options rows =
+    option_and_then (λ classes.
+    option_and_then (λ tests.
+    option_and_then (λ report.
+    option_and_then (λ workers.
+    option_and_then (λ steps.
+    option_and_then (λ heap.
+    option_map (λ depth. record {
       classes = folder_of classes;
       tests = folder_of tests;
       report = report;
-    }))))
+      new_history = first_of (codes "new-history") rows;
+      sources = option_map folder_of (first_of (codes "sources") rows);
+      history = first_of (codes "history") rows;
+      journal = first_of (codes "journal") rows;
+      workers = workers;
+      steps = steps;
+      heap = heap;
+      depth = depth;
+    }) (count_of (codes "depth") 16 65_536 1_024 rows))
+    (count_of (codes "heap") 1_024 4_194_304 4_194_304 rows))
+    (count_of (codes "steps") 1 1_000_000_000 10_000_000 rows))
+    (count_of (codes "workers") 1 64 1 rows))
+    (first_of (codes "report") rows)) (first_of (codes "tests") rows)) (first_of (codes "classes") rows)
 
--- `run`: --classes DIR --tests DIR --report FILE
-abbrev pub run_of : Given → Option Command
-run_of given =
-    if are_options run_names given.options
-    then without_file given.plain (option_map run_suite (run_options given.options)) else None
+-- Paths are compared as texts. One that isn't there differs from every other.
+abbrev pub differ : Option Text → Option Text → Bool
+differ (Some path) (Some other) = not (is_word path other)
+differ path other = true
 
-abbrev pub asm_names : List (List ℕ)
-asm_names = codes "--out" ∷ []
+-- Nothing is written twice, and what is read of earlier runs is not where a report or a journal goes.
+abbrev pub paths_differ : RunOptions → Bool
+paths_differ o =
+    differ (Some o.report) o.new_history && differ (Some o.report) o.journal
+    && differ (Some o.report) o.history && differ o.new_history o.journal
+    && differ o.history o.journal
 
--- `asm`: FILE --out FILE
-abbrev pub asm_of : Given → Option Command
-asm_of given =
-    if are_options asm_names given.options
-    then with_file given.plain (λ text.
-    with_value given.options (codes "--out") (λ out.
-    Some (assemble_class (record { text = text; out = out }))))
+-- A new history stands there, where it can.
+abbrev pub is_whole : List Text → RunOptions → Bool
+is_whole lacking o =
+    is_some o.new_history || list_any (λ name. is_word name (codes "new-history")) lacking
+
+abbrev pub checked : List Text → RunOptions → Option Command
+checked lacking o = if paths_differ o && is_whole lacking o then Some (run_suite o) else None
+
+abbrev pub run_of : List Text → List Row → Option Command
+run_of lacking rows =
+    if lacks lacking rows then option_and_then (checked lacking) (run_options rows) else None
+
+abbrev pub named_command : List Text → Text → List Text → Option Command
+named_command lacking name words =
+    if is_word name (codes "list") then option_and_then list_of (given list_app words)
+    else if is_word name (codes "run")
+    then option_and_then (run_of lacking) (given run_app words)
+    else if is_word name (codes "asm") then option_and_then asm_of (given asm_app words)
     else None
 
-abbrev pub named_command : List ℕ → Given → Option Command
-named_command name given =
-    if is_word name (codes "list") then list_of given
-    else if is_word name (codes "run") then run_of given
-    else if is_word name (codes "asm") then asm_of given
-    else None
+-- The command's name stands first. These options aren't built.
+unfoldable pub command_by : List Text → List Text → Option Command
+command_by lacking [] = None
+command_by lacking (name ∷ words) = named_command lacking name words
 
--- The command's name stands first.
-abbrev pub command_of : List (List ℕ) → Option Command
-command_of [] = None
-command_of (name ∷ words) = named_command name (given_of words)
+abbrev pub command_of : List Text → Option Command
+command_of words = command_by unbuilt words
+
+-- What the words behind `generate` ask for.
+abbrev pub generate_by : List Text → Option GenerateOptions
+generate_by words = option_and_then generate_of (given generate_app words)
 
 -- ---- archives, which aren't read
 
-abbrev pub ends_in : List ℕ → List ℕ → Bool
+abbrev pub ends_in : Text → Text → Bool
 ends_in word end = ends_with nat_eq word end
 
-abbrev pub is_archive : List ℕ → Bool
+abbrev pub is_archive : Text → Bool
 is_archive folder =
     ends_in folder (codes ".jar")
     || (ends_in folder (codes ".zip") || ends_in folder (codes ".war"))
@@ -108,10 +187,25 @@ is_archive folder =
 -- ---- the command that the code has
 
 abbrev pub as_run_options : FoundRun → RunOptions
-as_run_options o = record { classes = o.classes.now; tests = o.tests.now; report = o.report.now }
+as_run_options o = record {
+  classes = o.classes.now;
+  tests = o.tests.now;
+  report = o.report.now;
+  new_history = option_map (λ p. p.now) o.new_history;
+  sources = option_map (λ p. p.now) o.sources;
+  history = option_map (λ p. p.now) o.history;
+  journal = option_map (λ p. p.now) o.journal;
+  workers = o.workers;
+  steps = o.steps;
+  heap = o.heap;
+  depth = o.depth;
+}
 
 abbrev pub as_asm_options : FoundAsm → AsmOptions
 as_asm_options o = record { text = o.text.now; out = o.out.now }
+
+abbrev pub as_generate_options : FoundGenerate → GenerateOptions
+as_generate_options o = record { classes = o.classes; workers = o.workers }
 
 abbrev pub as_run_command : FoundRun → Command
 as_run_command o = run_suite (as_run_options o)

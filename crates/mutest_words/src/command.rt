@@ -1,20 +1,36 @@
 //! The command that the words of the command line are.
 
-ghost use Rattle.std.specs.Prelude.{◌≡◌, map, option_map, string_bytes, IfOk};
-ghost use Rattle.mutest_words.specs.Options.{given_in};
-ghost use Rattle.mutest_words.specs.Words.{folder_of, is_archive, list_of, run_options, run_of, asm_of, named_command, command_of, as_run_options, Finds};
+ghost use Rattle.std.specs.Prelude.{◌≡◌, map, option_and_then, option_map, string_bytes, IfOk};
+ghost use Rattle.std.specs.List.{list_any};
+ghost use Rattle.clap.specs.Words.{app_of, found_of, rows_of};
+ghost use Rattle.mutest_words.specs.Given.{given, is_word, texts};
+ghost use Rattle.mutest_words.specs.Words.{folder_of, is_archive, count_of, differ, paths_differ, is_whole, list_of, list_app, asm_of, asm_app, run_app, generate_app, run_options, run_of, generate_of, generate_by, named_command, command_by, command_of, as_run_options, as_generate_options, Finds};
 
-use crate::options::Given;
+use crate::given::{given, lacks, value_of};
+use crate::number::number_between;
+use clap::ArgMatches;
 use class_model::Memory;
 use std::alloc::Global;
 
-/// The options of `run`: the folders of classes and of tests, and the path of the report. A folder
-/// has no `/` at its end that the word had.
+/// The options of `run`. A folder has no `/` at its end that the word had.
 #[derive(Clone, Copy)]
 pub struct RunOptions<'a> {
+    /// The folders of classes and of tests.
     pub classes: &'a str,
     pub tests: &'a str,
+    /// The paths of what is written.
     pub report: &'a str,
+    pub new_history: Option<&'a str>,
+    /// The folder of sources.
+    pub sources: Option<&'a str>,
+    /// The paths of what earlier runs left.
+    pub history: Option<&'a str>,
+    pub journal: Option<&'a str>,
+    /// How many workers, steps of a run, words of a heap and frames there may be.
+    pub workers: u32,
+    pub steps: u32,
+    pub heap: u32,
+    pub depth: u32,
 }
 
 /// What `asm` is given: the path of a text of the assembler's language, and that of the class file
@@ -23,6 +39,14 @@ pub struct RunOptions<'a> {
 pub struct AsmOptions<'a> {
     pub text: &'a str,
     pub out: &'a str,
+}
+
+/// What `generate` is given: how many classes are made, each with its test, and how many workers
+/// run them.
+#[derive(Clone, Copy)]
+pub struct GenerateOptions {
+    pub classes: u32,
+    pub workers: u32,
 }
 
 /// What the words ask for.
@@ -36,6 +60,34 @@ pub enum Command<'a> {
     Assemble(AsmOptions<'a>),
 }
 
+/// The options that aren't built: they are refused, and none of them has to stand.
+const UNBUILT: [&str; 8] = [
+    "new-history",
+    "sources",
+    "history",
+    "journal",
+    "workers",
+    "steps",
+    "heap",
+    "depth",
+];
+
+const RUN_OPTIONS: [&str; 11] = [
+    "classes",
+    "tests",
+    "report",
+    "new-history",
+    "sources",
+    "history",
+    "journal",
+    "workers",
+    "steps",
+    "heap",
+    "depth",
+];
+
+// ---- values
+
 // The folder of a word, without one `/` at its end.
 fn folder(word: &str) -> &str
     ensures { result.now ≡ folder_of word.now }
@@ -46,82 +98,202 @@ fn folder(word: &str) -> &str
     }
 }
 
-// `list`: FILE.
-fn list_command<'a>(given: &Given<'a>) -> Option<Command<'a>>
-    ensures { Finds (list_of (given_in given.now)) result }
+fn folder_in(word: Option<&str>) -> Option<&str>
+    ensures { option_map (λ f. f.now) result ≡ option_map (λ w. folder_of w.now) word.entry }
 {
-    if !given.has_only(&[]) {
-        return None;
+    match word {
+        Some(word) => Some(folder(word)),
+        None => None,
     }
-    let [file] = given.plain.as_slice() else {
-        return None;
-    };
-    Some(Command::List(*file))
 }
 
-// The options of `run`, as far as all that it needs stand there.
-fn run_options<'a>(given: &Given<'a>) -> Option<RunOptions<'a>>
-    ensures { option_map as_run_options result ≡ run_options (given_in given.now).options }
+// The number between two bounds that an option's value is, or the usual one.
+fn count_of(matches: &ArgMatches<'_>, name: &str, least: u32, most: u32, usual: u32) -> Option<u32>
+    ensures { result ≡ count_of name.now least most usual (rows_of (found_of matches.now)) }
+{
+    match value_of(matches, name) {
+        Some(word) => number_between(least, most, word),
+        None => Some(usual),
+    }
+}
+
+fn is_named(names: &[&str], name: &str) -> bool
+    ensures { result ≡ list_any (λ n. is_word n name.now) (texts names.now) }
+{
+    for known in names {
+        if *known == name {
+            return true;
+        }
+    }
+    false
+}
+
+// ---- options
+
+fn run_options<'a>(matches: &ArgMatches<'a>) -> Option<RunOptions<'a>>
+    ensures { option_map as_run_options result ≡ run_options (rows_of (found_of matches.now)) }
 {
     Some(RunOptions {
-        classes: folder(given.value("--classes")?),
-        tests: folder(given.value("--tests")?),
-        report: given.value("--report")?,
+        classes: folder(value_of(matches, "classes")?),
+        tests: folder(value_of(matches, "tests")?),
+        report: value_of(matches, "report")?,
+        new_history: value_of(matches, "new-history"),
+        sources: folder_in(value_of(matches, "sources")),
+        history: value_of(matches, "history"),
+        journal: value_of(matches, "journal"),
+        workers: count_of(matches, "workers", 1, 64, 1)?,
+        steps: count_of(matches, "steps", 1, 1_000_000_000, 10_000_000)?,
+        heap: count_of(matches, "heap", 1_024, 4_194_304, 4_194_304)?,
+        depth: count_of(matches, "depth", 16, 65_536, 1_024)?,
     })
 }
 
-// `run`: --classes DIR --tests DIR --report FILE.
-fn run_command<'a>(given: &Given<'a>) -> Option<Command<'a>>
-    ensures { Finds (run_of (given_in given.now)) result }
+// One that isn't there differs from every other.
+fn differ(path: Option<&str>, other: Option<&str>) -> bool
+    ensures { result ≡ differ (option_map (λ p. p.now) path.entry) (option_map (λ p. p.now) other.entry) }
 {
-    if !given.has_only(&["--classes", "--tests", "--report"]) {
+    match (path, other) {
+        (Some(path), Some(other)) => path != other,
+        _ => true,
+    }
+}
+
+/// Nothing is written twice, and what is read of earlier runs is not where a report or a journal
+/// goes.
+pub fn paths_differ(options: &RunOptions<'_>) -> bool
+    ensures { result ≡ paths_differ (as_run_options options.now) }
+{
+    let report = Some(options.report);
+    differ(report, options.new_history)
+        && differ(report, options.journal)
+        && differ(report, options.history)
+        && differ(options.new_history, options.journal)
+        && differ(options.history, options.journal)
+}
+
+fn generate_given(matches: &ArgMatches<'_>) -> Option<GenerateOptions>
+    ensures { option_map as_generate_options result
+        ≡ generate_of (rows_of (found_of matches.now)) }
+{
+    Some(GenerateOptions {
+        classes: number_between(1, 200, value_of(matches, "number")?)?,
+        workers: count_of(matches, "workers", 1, 64, 1)?,
+    })
+}
+
+// ---- commands
+
+fn list_given<'a>(matches: &ArgMatches<'a>) -> Option<Command<'a>>
+    ensures { Finds (list_of (rows_of (found_of matches.now))) result }
+{
+    Some(Command::List(value_of(matches, "file")?))
+}
+
+fn asm_given<'a>(matches: &ArgMatches<'a>) -> Option<Command<'a>>
+    ensures { Finds (asm_of (rows_of (found_of matches.now))) result }
+{
+    Some(Command::Assemble(AsmOptions {
+        text: value_of(matches, "file")?,
+        out: value_of(matches, "out")?,
+    }))
+}
+
+// `run`, where its paths differ and a new history stands there, where it can.
+fn run_given<'a>(matches: &ArgMatches<'a>, unbuilt: &[&str]) -> Option<Command<'a>>
+    ensures { Finds (run_of (texts unbuilt.now) (rows_of (found_of matches.now))) result }
+{
+    if !lacks(matches, unbuilt) {
         return None;
     }
-    let [] = given.plain.as_slice() else {
+    let options = run_options(matches)?;
+    if !paths_differ(&options) {
         return None;
-    };
-    Some(Command::Run(run_options(given)?))
+    }
+    if options.new_history.is_none() && !is_named(unbuilt, "new-history") {
+        return None;
+    }
+    Some(Command::Run(options))
+}
+
+// `list`: FILE.
+fn list_command<'a>(alloc: Global, words: &'a [String]) -> Result<Option<Command<'a>>, Memory>
+    ensures { IfOk result (Finds (option_and_then list_of
+        (given list_app (map string_bytes words.entry.now)))) }
+{
+    match given(alloc, &["file"], &[], words)? {
+        Some(matches) => Ok(list_given(&matches)),
+        None => Ok(None),
+    }
 }
 
 // `asm`: FILE --out FILE.
-fn asm_command<'a>(given: &Given<'a>) -> Option<Command<'a>>
-    ensures { Finds (asm_of (given_in given.now)) result }
+fn asm_command<'a>(alloc: Global, words: &'a [String]) -> Result<Option<Command<'a>>, Memory>
+    ensures { IfOk result (Finds (option_and_then asm_of
+        (given asm_app (map string_bytes words.entry.now)))) }
 {
-    if !given.has_only(&["--out"]) {
-        return None;
+    match given(alloc, &["file"], &["out"], words)? {
+        Some(matches) => Ok(asm_given(&matches)),
+        None => Ok(None),
     }
-    let [text] = given.plain.as_slice() else {
-        return None;
-    };
-    let out = given.value("--out")?;
-    Some(Command::Assemble(AsmOptions { text: *text, out }))
 }
 
-// The command of this name, by the words behind it.
-fn named_command<'a>(name: &str, given: &Given<'a>) -> Option<Command<'a>>
-    ensures { Finds (named_command name.now (given_in given.now)) result }
+// `run`, with its options.
+fn run_command<'a>(
+    alloc: Global,
+    unbuilt: &[&str],
+    words: &'a [String],
+) -> Result<Option<Command<'a>>, Memory>
+    ensures { IfOk result (Finds (option_and_then (run_of (texts unbuilt.now))
+        (given run_app (map string_bytes words.entry.now)))) }
 {
-    if name == "list" {
-        return list_command(given);
+    match given(alloc, &[], &RUN_OPTIONS, words)? {
+        Some(matches) => Ok(run_given(&matches, unbuilt)),
+        None => Ok(None),
     }
-    if name == "run" {
-        return run_command(given);
-    }
-    if name == "asm" {
-        return asm_command(given);
-    }
-    None
 }
 
-/// The command that the words behind the program's name are, if they are one.
-pub fn command_of(alloc: Global, words: &[String]) -> Result<Option<Command<'_>>, Memory>
-    ensures { IfOk result (Finds (command_of (map string_bytes words.now))) }
+/// What the words behind `generate` ask for: N, and how many workers.
+pub fn generate_options(alloc: Global, words: &[String]) -> Result<Option<GenerateOptions>, Memory>
+    ensures { IfOk result (λ o. option_map as_generate_options o
+        ≡ generate_by (map string_bytes words.entry.now)) }
+{
+    match given(alloc, &["number"], &["workers"], words)? {
+        Some(matches) => Ok(generate_given(&matches)),
+        None => Ok(None),
+    }
+}
+
+/// The command that the words behind the program's name are, if they are one, where these options
+/// aren't built.
+#[tactic(auto, unfolding(crate::specs::Words::command_by))]
+pub fn command_by<'a>(
+    alloc: Global,
+    unbuilt: &[&str],
+    words: &'a [String],
+) -> Result<Option<Command<'a>>, Memory>
+    ensures { IfOk result (Finds (command_by (texts unbuilt.now)
+        (map string_bytes words.entry.now))) }
 {
     let [name, words @ ..] = words else {
         return Ok(None);
     };
-    let given = Given::read(alloc, words)?;
-    Ok(named_command(name.as_str(), &given))
+    if name.as_str() == "list" {
+        return list_command(alloc, words);
+    }
+    if name.as_str() == "run" {
+        return run_command(alloc, unbuilt, words);
+    }
+    if name.as_str() == "asm" {
+        return asm_command(alloc, words);
+    }
+    Ok(None)
+}
+
+/// The command that the words behind the program's name are, if they are one.
+pub fn command_of(alloc: Global, words: &[String]) -> Result<Option<Command<'_>>, Memory>
+    ensures { IfOk result (Finds (command_of (map string_bytes words.entry.now))) }
+{
+    command_by(alloc, &UNBUILT, words)
 }
 
 /// The folder is an archive, which isn't read.

@@ -3,6 +3,10 @@
 #![tactic(auto)]
 
 mod command;
-mod options;
+mod given;
+mod number;
 
-pub use command::{AsmOptions, Command, RunOptions, command_of, is_archive};
+pub use command::{
+    AsmOptions, Command, GenerateOptions, RunOptions, command_by, command_of, generate_options,
+    is_archive, paths_differ,
+};

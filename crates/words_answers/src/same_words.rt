@@ -1,0 +1,40 @@
+//! Calls of `mutest_words` once more, for the wrong bodies in `must-fail/`: each puts another body
+//! in the place of one of these, which the same contract refuses.
+
+ghost use Rattle.std.specs.Prelude.{◌≡◌, map, option_map, string_bytes, IfOk};
+ghost use Rattle.mutest_words.specs.Given.{texts};
+ghost use Rattle.mutest_words.specs.Words.{command_by, generate_by, paths_differ, as_run_options, as_generate_options, Finds};
+
+use class_model::Memory;
+use mutest_words::{Command, GenerateOptions, RunOptions};
+use std::alloc::Global;
+
+/// `command_by`, with its contract.
+pub fn command_by<'a>(
+    alloc: Global,
+    unbuilt: &[&str],
+    words: &'a [String],
+) -> Result<Option<Command<'a>>, Memory>
+    ensures { IfOk result (Finds (command_by (texts unbuilt.now)
+        (map string_bytes words.entry.now))) }
+{
+    let command = mutest_words::command_by(alloc, unbuilt, words)?;
+    Ok(command)
+}
+
+/// `generate_options`, with its contract.
+pub fn generate_options(alloc: Global, words: &[String]) -> Result<Option<GenerateOptions>, Memory>
+    ensures { IfOk result (λ o. option_map as_generate_options o
+        ≡ generate_by (map string_bytes words.entry.now)) }
+{
+    let options = mutest_words::generate_options(alloc, words)?;
+    Ok(options)
+}
+
+/// `paths_differ`, with its contract.
+pub fn paths_differ(options: &RunOptions<'_>) -> bool
+    ensures { result ≡ paths_differ (as_run_options options.now) }
+{
+    let differ = mutest_words::paths_differ(options);
+    differ
+}
