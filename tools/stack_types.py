@@ -24,7 +24,7 @@ PLAIN.update({0x09: (0, LONG), 0x0a: (0, LONG), 0x0e: (0, DOUBLE), 0x0f: (0, DOU
 PLAIN.update({op: (0, FLOAT) for op in range(0x0b, 0x0e)})
 PLAIN.update(zip((0x2e, 0x2f, 0x30, 0x31, 0x33, 0x34, 0x35),
                  ((2, kind) for kind in (INT, LONG, FLOAT, DOUBLE, INT, INT, INT))))
-PLAIN.update({op: (3, None) for op in range(0x4f, 0x57)})
+PLAIN.update({op: (3, None) for op in range(0x4f, 0x57) if op != 0x53})
 PLAIN[0x57] = (1, None)
 # Of two numbers the lower one's type is the result's, which so stays where it is.
 PLAIN.update({op: (1, None) for op in (*range(0x60, 0x74), *range(0x78, 0x84))})
@@ -203,6 +203,9 @@ class Flow:
         elif op == 0x32:
             stack.pop()
             stack.append(component_of(stack.pop()))
+        elif op == 0x53:
+            self.put(at, *stack[-3:])
+            del stack[-3:]
         elif 0xac <= op <= 0xb0:
             given = stack.pop()
             if given != self.result:
@@ -257,6 +260,9 @@ class Flow:
         if op == 0xbd:
             name = '[' + (name if name[0] == '[' else f'L{name};')
         stack.append(name)
+
+    def put(self, at, array, _, given):
+        """`aastore`, with the types that it takes."""
 
     def switch(self, at, op):
         self.stack.pop()

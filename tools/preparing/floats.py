@@ -5,14 +5,16 @@ What stands in the place of what:
   there (`max(DD)D` is `max$DDD(JJ)J`), so that overloads and overriding stay what they were. A constructor that only floats tell apart from another
   one of its class takes a null besides.
 - `more/floats/Soft` has a method for each instruction, under its name.
-- `more/floats/Arrays` makes arrays of floats and knows them again, so that none is taken for one of integers; `more/floats/Kinds` has their classes.
 - Number is the interface `more/java/lang/Number`; an array of Numbers is one of objects.
+- `more/floats/Arrays` makes arrays of floats and of Numbers and knows them again, so that none is taken for one of integers or objects;
+  `more/floats/Kinds` has their classes. What stores in an array by the name of one of objects asks there, too, in a program that has such arrays.
 - A class of the companion library by a name of Java's that has floats in a descriptor gets a name of its own, below `more/floats`: a JVM's own class
   of the name has the floats themselves.
 """
+import re
 import struct
 
-from class_files import Reader, Refused, has_float
+from class_files import Reader, has_float
 from preparing import class_edit as ce
 from preparing.builder import new_class
 from preparing.companion import FLOATS, MORE
@@ -21,6 +23,9 @@ from preparing.jdk import is_java
 SOFT, ARRAYS = FLOATS + 'Soft', FLOATS + 'Arrays'
 NUMBER, OBJECT = 'java/lang/Number', 'java/lang/Object'
 MARK = f'L{ARRAYS};'
+NUMBERS = f'[L{NUMBER};'
+# What an array of arrays of floats, or of Numbers, can be named as.
+GENERAL = {OBJECT, 'java/lang/Cloneable', 'java/io/Serializable'}
 WORDS = {'I': 'Ints', 'J': 'Longs', 'F': 'Floats', 'D': 'Doubles'}
 MOST_DIMENSIONS = 3
 # What goes between a float and its bits, which here are the same.
@@ -36,6 +41,12 @@ MOVES = {0x0b: 0x03, 0x0e: 0x09, 0x17: 0x15, 0x18: 0x16, 0x30: 0x2e, 0x31: 0x2f,
          **{0x22 + at: 0x1a + at for at in range(8)}, **{0x43 + at: 0x3b + at for at in range(8)}}
 CONSTANTS = {0x0c: (ce.INTEGER, 0x3f800000), 0x0d: (ce.INTEGER, 0x40000000), 0x0f: (ce.LONG, 0x3ff << 52)}
 FRAME_TYPES = {2: 1, 3: 4}
+# A name that a method with floats may get.
+MADE_NAME = re.compile(r'.\$[AIJFDNO]*[FDN][AIJFDNO]*$')
+
+
+class Clash(Exception):
+    """A class whose members can't be told apart once floats are integers."""
 
 
 def soft_descriptor(name):
@@ -65,6 +76,8 @@ class Floats:
     def __init__(self, program, companion):
         self.program, self.companion = program, companion
         self.names, self.descriptors, self.suffixes, self.marks = {}, {}, {}, {}
+        # Whether the program has arrays of arrays of floats, or of Numbers, which go by the name of arrays of objects, too.
+        self.are_arrays_subtle = False
 
     # Names and descriptors.
 
@@ -138,6 +151,12 @@ class Floats:
                 has_float(one) or f'[L{NUMBER};' in one, one)))}
         return found.get(descriptor, 0)
 
+    def learn_arrays(self, edits):
+        """Learns from the classes in constant pools whether a program has subtle arrays."""
+        self.are_arrays_subtle = any(kind == ce.CLASS and (edit.pool.text(value) == NUMBER or NUMBERS in edit.pool.text(value)
+                                                           or edit.pool.text(value).lstrip('[') in ('F', 'D'))
+                                     for edit in edits for kind, value in edit.pool.entries)
+
     def is_cut(self, cuts, method):
         """Why a method is cut out, by its own name or by the one it gets."""
         return cuts.get(method.key) or cuts.get(self.method_of(*method.key))
@@ -170,11 +189,10 @@ class Floats:
     def lower_array(self, code, pool, at, op, name, with_bytes):
         """An instruction that names an array of ints, longs, floats or doubles: gives whether it was put in other words; None where that can't be."""
         inner, depth = name.lstrip('['), name.count('[')
-        if op == ce.ANEWARRAY and name == NUMBER:
-            code.put_operand(at, pool.add_class(OBJECT))
-            return True
         if op == ce.ANEWARRAY:
             depth += 1
+        if depth and inner in (NUMBER, f'L{NUMBER};'):
+            return self.lower_numbers(pool, at, op, depth, with_bytes)
         if inner not in WORDS or not depth or op in (ce.ANEWARRAY, ce.MULTIANEWARRAY) and inner in 'IJ':
             return False
         if depth > MOST_DIMENSIONS:
@@ -192,25 +210,43 @@ class Floats:
             with_bytes[at] = self.call(pool, ARRAYS, 'is' + word, f'(L{OBJECT};)Z')
         return True
 
+    def lower_numbers(self, pool, at, op, depth, with_bytes):
+        """An instruction that names an array of Numbers: gives whether it was put in other words; None where that can't be."""
+        if depth > 1 or op == ce.MULTIANEWARRAY:
+            return None
+        name, descriptor = {ce.ANEWARRAY: ('newNumbers', f'(I)[L{OBJECT};'), ce.CHECKCAST: ('toNumbers', f'(L{OBJECT};)[L{OBJECT};'),
+                            ce.INSTANCEOF: ('isNumbers', f'(L{OBJECT};)Z')}[op]
+        with_bytes[at] = self.call(pool, ARRAYS, name, descriptor)
+        return True
+
+    def lower_store(self, pool, at, with_bytes):
+        """`aastore` in an array that may be one of arrays of floats, or of Numbers. A call without a result would have a mutant."""
+        with_bytes[at] = self.call(pool, ARRAYS, 'stored', f'([L{OBJECT};IL{OBJECT};)Z') + bytes([ce.POP])
+
     @staticmethod
     def kind_of(pool, index):
-        """The class that stands for the one of an array of floats that is a constant; else None."""
+        """The class that stands for the one of an array of floats or Numbers that is a constant; else None."""
         tag, value = pool.entries[index]
         name = pool.text(value) if tag == ce.CLASS else ''
+        if name == NUMBERS:
+            return f'{FLOATS}Kinds$Numbers'
         depth, inner = name.count('['), name.lstrip('[')
         if inner not in ('F', 'D') or not 0 < depth <= MOST_DIMENSIONS:
             return None
         return f'{FLOATS}Kinds${WORDS[inner]}' + ('' if depth == 1 else str(depth))
 
-    def clone(self, pool, code, at):
-        """A copy of an array of floats is one, too."""
-        code.code[at:at + 3] = self.call(pool, ARRAYS, 'clone', f'(L{OBJECT};)L{OBJECT};')
+    def clone(self, pool, code, at, owner):
+        """A copy of an array of floats or Numbers is one, too."""
+        inner = owner.lstrip('[')
+        if has_float(owner) or inner[0] == 'L' and inner[1:-1] in (NUMBER, *GENERAL):
+            code.code[at:at + 3] = self.call(pool, ARRAYS, 'clone' if has_float(owner) else 'cloneAny', f'(L{OBJECT};)L{OBJECT};')
 
     # A whole class file, at the end.
 
     def rename(self, edit):
         """Gives all that a class file has and names the names and the types of integers."""
         pool = edit.pool
+        self.judge_names(edit)
         self.rename_constructors(edit)
         for index in range(len(pool.entries)):
             kind, value = pool.entries[index]
@@ -235,8 +271,15 @@ class Floats:
             method.name, method.descriptor = self.method_of(*method.key)
             if method.code is not None:
                 self.rename_frames(method.code)
-        if len({method.key for method in edit.methods}) < len(edit.methods):
-            raise Refused('two of its methods come to have one name, once floats are integers')
+        if len({field.key for field in edit.fields}) < len(edit.fields):
+            raise Clash('has two fields of one name that only floats tell apart')
+
+    @staticmethod
+    def judge_names(edit):
+        """No method may have a name that one with floats, here or above or below, could come to have."""
+        for method in edit.methods:
+            if MADE_NAME.search(method.name):
+                raise Clash(f'has a method {method.name}, whose name is one that methods with floats get')
 
     def stub(self, head):
         """A class without members, below what stands above one of Java."""

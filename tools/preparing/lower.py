@@ -8,6 +8,7 @@ from preparing.class_edit import TooLong
 from preparing.companion import MORE
 from preparing.floats import ARRAYS, BITS, NUMBER, OBJECT, SOFT, Floats
 from preparing.lambdas import Lambdas, NoLambda, slots_of
+from preparing.stores import stores
 
 CLASS_OF_FLOATS = 'asks for the class of an array of floats or Numbers'
 LEFT_OUT_ERROR = 'java/lang/LinkageError'
@@ -95,6 +96,9 @@ class Lowering:
         mark = lambdas.mark()
         try:
             naming = code.naming()
+            if self.floats.are_arrays_subtle and edit.name not in self.companion.files:
+                for at in stores(edit, method):
+                    self.floats.lower_store(pool, at, with_bytes)
             for at, op in naming:
                 self.lower_instruction(edit, method, at, op, lambdas, with_bytes, news, dropped)
             if with_bytes:
@@ -135,11 +139,10 @@ class Lowering:
             name = pool.class_name(code.operand(at))
             is_array = edit.name != ARRAYS and self.floats.lower_array(code, pool, at, op, name, with_bytes)
             if is_array is None:
-                raise Cut('has an array of numbers of more than three dimensions')
+                raise Cut('has an array of Numbers of more than one dimension' if NUMBER in name else
+                          'has an array of numbers of more than three dimensions')
             if is_array:
                 return
-            if op == ce.INSTANCEOF and f'[L{NUMBER};' in name:
-                raise Cut(CLASS_OF_FLOATS)
             if op in (ce.CHECKCAST, ce.INSTANCEOF):
                 self.lower_test(edit, code, at, op, name)
             elif op == ce.NEW:
@@ -186,8 +189,9 @@ class Lowering:
     def lower_call(self, edit, method, at, op, with_bytes, news, dropped):
         code, pool = method.code, edit.pool
         owner, name, descriptor, _ = pool.member(code.operand(at))
-        if name == 'clone' and owner.startswith('[') and has_float(owner):
-            self.floats.clone(pool, code, at)
+        if name == 'clone' and owner.startswith('['):
+            if edit.name != ARRAYS:
+                self.floats.clone(pool, code, at, owner)
             return
         if (owner, name) in BITS:
             code.code[at:at + 3] = self.floats.call(pool, SOFT, 'bits', self.floats.descriptor_of(descriptor))

@@ -8,7 +8,8 @@ from class_files import ENUM, Class, Refused
 from preparing import known, trial
 from preparing.builder import new_class
 from preparing.class_edit import ClassEdit
-from preparing.companion import Companion
+from preparing.companion import MORE, Companion
+from preparing.floats import Clash
 from preparing.folder import Folder
 from preparing.jdk import Jdk
 from preparing.lacking import Lacking
@@ -82,6 +83,7 @@ class Preparation:
         self.lowering = Lowering(self.world, self.world.companion, self.world.jdk)
         self.suites = Suites(self.world.names_above, self.edit_of)
         self.take_in()
+        self.lowering.floats.learn_arrays(edit for *_, edit in self.units_read)
         self.lowered = {}
         self.take_decisions(self.state.affected(changed))
         self.find_suites()
@@ -135,6 +137,8 @@ class Preparation:
             return 'is an annotation type'
         if edit.name in self.world.library:
             return "has the name of a class of the profile's library"
+        if edit.name.startswith(MORE):
+            return 'has a name of the companion library'
         if edit.major not in (51, 52):
             return f'its major version is {edit.major}, and not 51 or 52: compile with --release 8'
         return None
@@ -193,7 +197,8 @@ class Preparation:
         heads = [(name, unit.origin, unit.edit.flags, unit.edit.above, unit.edit.interfaces,
                   [(member.flags, *member.key) for member in (*unit.edit.fields, *unit.edit.methods)])
                  for name, unit in sorted(self.world.units.items()) if unit and unit.origin in (CODE, TESTS)]
-        return sum_of(repr((heads, sorted(self.world.out))).encode('utf-8', 'surrogatepass'))
+        subtle = self.lowering.floats.are_arrays_subtle
+        return sum_of(repr((heads, sorted(self.world.out), subtle)).encode('utf-8', 'surrogatepass'))
 
     def reuse_lowered(self, changed):
         self.head_sum = self.heads()
@@ -246,10 +251,13 @@ class Preparation:
         return self.lowering.lower(edit, self.cuts.get(name, {}))
 
     def is_lowered(self, name, unit):
-        """Lowers a unit, unless that was done; a class of a jar that is damaged isn't there."""
+        """Lowers a unit, unless that was done; a class of a jar that is damaged isn't there, nor one whose members clash."""
         if name not in self.lowered:
             try:
                 done = self.fresh(name, unit)
+            except Clash as clash:
+                self.world.leave_out(name, str(clash))
+                return False
             except Damaged as fault:
                 if unit.origin != JAR:
                     raise

@@ -59,7 +59,7 @@ class World(Program):
             return None
         if name in self.companion.files:
             unit = Unit(COMPANION, name, self.companion.files[name])
-        elif name in self.jars and not is_java(name):
+        elif name in self.jars and not is_java(name) and not name.startswith(MORE):
             path, archive, entry = self.jars[name]
             unit = Unit(JAR, f'{path}!{entry}', archive.read(entry))
         if unit is not None:

@@ -14,7 +14,7 @@ fault=
 
 # Reads the words into `given` and `plain`; `fault` is what is wrong with them, if something is.
 read_words() {
-    local command=$1 option
+    local command=$1 option word
     [ $# -gt 0 ] || { fault="no command is named: run, list or asm"; return; }
     if [ -z "${PLAIN[$command]+known}" ]; then
         fault="'$command' is no command: run, list or asm"
@@ -22,22 +22,33 @@ read_words() {
     fi
     shift
     while [ $# -gt 0 ]; do
-        option=$1
-        if [[ $option != -* ]]; then
-            plain+=("$option")
-            shift
+        word=$1
+        shift
+        option=${word%%=*}
+        if [ -z "$word" ]; then
+            fault="a word is empty"
+        elif [ "$word" = -- ]; then
+            fault="'--' is no word of a command"
+        elif [[ $word != -?* ]]; then
+            plain+=("$word")
             continue
         elif [[ " ${NEEDED[$command]} " != *" $option "* ]]; then
             fault="$command has no option '$option'"
-            [[ $option != *=* ]] || fault="'$option': an option and its value are two words"
         elif [ -n "${given[$option]+twice}" ]; then
             fault="$option stands twice"
-        elif [ -z "$2" ] || [[ $2 == -* ]]; then
+        elif [[ $word == *= ]]; then
             fault="$option has no value"
+        elif [[ $word == *=* ]]; then
+            given[$option]=${word#*=}
+            continue
+        elif [ -z "$1" ]; then
+            fault="$option has no value"
+        elif [[ $1 == -?* ]]; then
+            fault="$option has no value: one that begins with '-' stands behind a '='"
         fi
         [ -z "$fault" ] || return
-        given[$option]=$2
-        shift 2
+        given[$option]=$1
+        shift
     done
     for option in ${NEEDED[$command]}; do
         [ -n "${given[$option]}" ] || { fault="$command needs $option"; return; }

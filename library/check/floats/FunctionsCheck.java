@@ -1,5 +1,8 @@
 package floats;
 
+import java.math.BigDecimal;
+import java.math.MathContext;
+import java.math.RoundingMode;
 import java.util.Random;
 import java.util.function.DoubleBinaryOperator;
 import java.util.function.DoubleUnaryOperator;
@@ -7,9 +10,10 @@ import more.floats.Decimal;
 import more.floats.Functions;
 import more.floats.Soft;
 
-/** Functions beside StrictMath, bit by bit, and texts beside Double's own (those of a JDK from 19 on are the shortest). */
+/** Functions beside StrictMath, bit by bit, and texts beside Double's own, where the JDK is one from 19 on, else beside what these document. */
 public final class FunctionsCheck {
     static final Random RANDOM = new Random(88);
+    static final boolean IS_SHORTEST = Runtime.version().feature() >= 19;
     static int count;
     static int wrong;
 
@@ -48,7 +52,9 @@ public final class FunctionsCheck {
         int bad = 0;
         for (int at = 0; at < count; at++) {
             double x = next();
-            double y = RANDOM.nextInt(4) == 0 ? x * (1 + RANDOM.nextInt(3) * 1e-16) : next();
+            int kind = RANDOM.nextInt(8);
+            double y = kind < 2 ? x * (1 + RANDOM.nextInt(3) * 1e-16) : kind >= 4 ? next()
+                : Double.longBitsToDouble(SoftCheck.next(Double.doubleToRawLongBits(x)));
             double a = have.applyAsDouble(x, y);
             double b = want.applyAsDouble(x, y);
             if (Double.doubleToLongBits(a) != Double.doubleToLongBits(b) && bad++ < 3) {
@@ -59,8 +65,75 @@ public final class FunctionsCheck {
         System.out.println(name + " wrong " + bad);
     }
 
+    /** A number of steps that a double stands for, mostly one that matters. */
+    static int steps(double of) {
+        long bits = Double.doubleToLongBits(of) * 0x9e3779b97f4a7c15L;
+        return (int) (bits >>> 32) >> (int) (bits & 31);
+    }
+
     static DoubleUnaryOperator bits(java.util.function.LongUnaryOperator of) {
         return x -> Double.longBitsToDouble(of.applyAsLong(Double.doubleToRawLongBits(x)));
+    }
+
+    /**
+     * Whether a text is the one that Double.toString documents from Java 19 on: of the decimals with the fewest digits, but two at least, that are
+     * read as the number, the nearest. The numbers between the two others are read as this one, and these too where its last bit is zero.
+     */
+    static boolean isShortest(String text, BigDecimal of, BigDecimal below, BigDecimal above, boolean isEven) {
+        BigDecimal told = new BigDecimal(text).stripTrailingZeros();
+        int digits = Math.max(2, told.precision());
+        if (!text.equals(shown(told)) || !isRead(told, below, above, isEven)) {
+            return false;
+        }
+        for (RoundingMode mode : new RoundingMode[] {RoundingMode.FLOOR, RoundingMode.CEILING}) {
+            BigDecimal other = of.round(new MathContext(digits, mode));
+            int nearer = other.subtract(of).abs().compareTo(told.subtract(of).abs());
+            boolean isOdd = told.precision() == digits && told.unscaledValue().testBit(0);
+            if (isRead(other, below, above, isEven) && other.compareTo(told) != 0 && (nearer < 0 || nearer == 0 && isOdd)
+                || digits > 2 && isRead(of.round(new MathContext(digits - 1, mode)), below, above, isEven)) {
+                return false;
+            }
+        }
+        return true;
+    }
+
+    static boolean isRead(BigDecimal decimal, BigDecimal below, BigDecimal above, boolean isEven) {
+        int low = decimal.compareTo(below);
+        int high = decimal.compareTo(above);
+        return (low > 0 || low == 0 && isEven) && (high < 0 || high == 0 && isEven);
+    }
+
+    static String shown(BigDecimal of) {
+        BigDecimal size = of.abs();
+        if (size.compareTo(new BigDecimal("0.001")) >= 0 && size.compareTo(new BigDecimal("10000000")) < 0) {
+            String plain = of.toPlainString();
+            return plain.contains(".") ? plain : plain + ".0";
+        }
+        String digits = size.unscaledValue().toString();
+        String rest = digits.length() > 1 ? digits.substring(1) : "0";
+        return (of.signum() < 0 ? "-" : "") + digits.charAt(0) + "." + rest + "E" + (size.precision() - size.scale() - 1);
+    }
+
+    static boolean isText(String text, double of) {
+        if (IS_SHORTEST || of != of || of == 0 || Double.isInfinite(of)) {
+            return text.equals(Double.toString(of));
+        }
+        BigDecimal exact = new BigDecimal(of);
+        BigDecimal half = new BigDecimal(Math.ulp(of)).divide(new BigDecimal(2));
+        long bits = Double.doubleToRawLongBits(Math.abs(of));
+        BigDecimal inner = bits << 12 == 0 && bits > 1L << 52 ? half.divide(new BigDecimal(2)) : half;
+        return isShortest(text, exact, exact.subtract(of > 0 ? inner : half), exact.add(of > 0 ? half : inner), (bits & 1) == 0);
+    }
+
+    static boolean isText(String text, float of) {
+        if (IS_SHORTEST || of != of || of == 0 || Float.isInfinite(of)) {
+            return text.equals(Float.toString(of));
+        }
+        BigDecimal exact = new BigDecimal(of);
+        BigDecimal half = new BigDecimal(Math.ulp(of)).divide(new BigDecimal(2));
+        int bits = Float.floatToRawIntBits(Math.abs(of));
+        BigDecimal inner = bits << 9 == 0 && bits > 1 << 23 ? half.divide(new BigDecimal(2)) : half;
+        return isShortest(text, exact, exact.subtract(of > 0 ? inner : half), exact.add(of > 0 ? half : inner), (bits & 1) == 0);
     }
 
     static void texts() {
@@ -68,7 +141,7 @@ public final class FunctionsCheck {
         for (int at = 0; at < count + SoftCheck.SPECIAL.length; at++) {
             double x = at < SoftCheck.SPECIAL.length ? Double.longBitsToDouble(SoftCheck.SPECIAL[at]) : next();
             String text = Decimal.text(Double.doubleToRawLongBits(x));
-            if (!text.equals(Double.toString(x)) && bad++ < 10) {
+            if (!isText(text, x) && bad++ < 10) {
                 System.out.println("text " + text + " and not " + x);
             }
             String longer = new java.math.BigDecimal(x == x && Math.abs(x) < 1e300 ? x : 0.5).toString();
@@ -84,7 +157,7 @@ public final class FunctionsCheck {
             }
             float f = Float.intBitsToFloat(RANDOM.nextInt());
             String little = Decimal.textOfFloat(Float.floatToRawIntBits(f));
-            if (!little.equals(Float.toString(f)) && bad++ < 10) {
+            if (!isText(little, f) && bad++ < 10) {
                 System.out.println("text " + little + " and not " + f);
             }
         }
@@ -98,6 +171,60 @@ public final class FunctionsCheck {
         }
         wrong += bad;
         System.out.println("texts wrong " + bad);
+    }
+
+    /** A float that a double stands for: of any bits, or a special one. */
+    static float f(double of) {
+        int bits = (int) (Double.doubleToLongBits(of) * 0x9e3779b97f4a7c15L >>> 32);
+        return Float.intBitsToFloat(bits % 8 == 0 ? SoftCheck.SPECIAL_F[(bits >>> 3) % SoftCheck.SPECIAL_F.length] : bits);
+    }
+
+    static double ofText(String of) {
+        return of.hashCode();
+    }
+
+    /** What Math has besides, of doubles and of floats. */
+    static void others() {
+        one("abs", more.floats.java.lang.Math::abs, Math::abs);
+        one("signum", more.floats.java.lang.Math::signum, Math::signum);
+        one("ulp", more.floats.java.lang.Math::ulp, Math::ulp);
+        one("nextUp", more.floats.java.lang.Math::nextUp, Math::nextUp);
+        one("nextDown", more.floats.java.lang.Math::nextDown, Math::nextDown);
+        one("getExponent", more.floats.java.lang.Math::getExponent, Math::getExponent);
+        one("toRadians", more.floats.java.lang.Math::toRadians, Math::toRadians);
+        one("toDegrees", more.floats.java.lang.Math::toDegrees, Math::toDegrees);
+        two("max", more.floats.java.lang.Math::max, Math::max);
+        two("min", more.floats.java.lang.Math::min, Math::min);
+        two("copySign", (x, y) -> more.floats.java.lang.Math.copySign(x, y), (x, y) -> Math.copySign(x, y));
+        two("nextAfter", (x, y) -> more.floats.java.lang.Math.nextAfter(x, y), (x, y) -> Math.nextAfter(x, y));
+        one("abs of floats", x -> more.floats.java.lang.Math.abs(f(x)), x -> Math.abs(f(x)));
+        one("signum of floats", x -> more.floats.java.lang.Math.signum(f(x)), x -> Math.signum(f(x)));
+        one("ulp of floats", x -> more.floats.java.lang.Math.ulp(f(x)), x -> Math.ulp(f(x)));
+        one("nextUp of floats", x -> more.floats.java.lang.Math.nextUp(f(x)), x -> Math.nextUp(f(x)));
+        one("nextDown of floats", x -> more.floats.java.lang.Math.nextDown(f(x)), x -> Math.nextDown(f(x)));
+        one("getExponent of floats", x -> more.floats.java.lang.Math.getExponent(f(x)), x -> Math.getExponent(f(x)));
+        one("round of floats", x -> more.floats.java.lang.Math.round(f(x)), x -> Math.round(f(x)));
+        two("max of floats", (x, y) -> more.floats.java.lang.Math.max(f(x), f(y)), (x, y) -> Math.max(f(x), f(y)));
+        two("min of floats", (x, y) -> more.floats.java.lang.Math.min(f(x), f(y)), (x, y) -> Math.min(f(x), f(y)));
+        two("copySign of floats", (x, y) -> more.floats.java.lang.Math.copySign(f(x), f(y)), (x, y) -> Math.copySign(f(x), f(y)));
+        two("nextAfter of floats", (x, y) -> more.floats.java.lang.Math.nextAfter(f(x), y), (x, y) -> Math.nextAfter(f(x), y));
+        two("scalb of floats", (x, y) -> more.floats.java.lang.Math.scalb(f(x), steps(y)), (x, y) -> Math.scalb(f(x), steps(y)));
+        one("hashCode", x -> copied.Double.hashCode(x), x -> Double.hashCode(x));
+        one("toHexString", x -> ofText(copied.Double.toHexString(x)), x -> ofText(Double.toHexString(x)));
+        one("is", x -> kind(copied.Double.isNaN(x), copied.Double.isInfinite(x), copied.Double.isFinite(x)),
+            x -> kind(Double.isNaN(x), Double.isInfinite(x), Double.isFinite(x)));
+        two("compare", (x, y) -> copied.Double.compare(x, y), (x, y) -> Double.compare(x, y));
+        two("equals", (x, y) -> kind(new copied.Double(x).equals(new copied.Double(y)), true, true),
+            (x, y) -> kind(((Double) x).equals(y), true, true));
+        one("hashCode of floats", x -> copied.Float.hashCode(f(x)), x -> Float.hashCode(f(x)));
+        one("toHexString of floats", x -> ofText(copied.Float.toHexString(f(x))), x -> ofText(Float.toHexString(f(x))));
+        one("is of floats", x -> kind(copied.Float.isNaN(f(x)), copied.Float.isInfinite(f(x)), copied.Float.isFinite(f(x))),
+            x -> kind(Float.isNaN(f(x)), Float.isInfinite(f(x)), Float.isFinite(f(x))));
+        two("compare of floats", (x, y) -> copied.Float.compare(f(x), f(y)), (x, y) -> Float.compare(f(x), f(y)));
+    }
+
+    static double kind(boolean one, boolean other, boolean third) {
+        return (one ? 1 : 0) + (other ? 2 : 0) + (third ? 4 : 0);
     }
 
     public static void main(String[] words) {
@@ -121,15 +248,13 @@ public final class FunctionsCheck {
         one("ceil", bits(Soft::ceil), StrictMath::ceil);
         one("rint", bits(Soft::rint), StrictMath::rint);
         one("round", x -> Soft.round(Double.doubleToRawLongBits(x)), StrictMath::round);
-        one("scalb", x -> Functions.scalb(x, (int) Double.doubleToRawLongBits(x * 3) % 2200), x -> StrictMath.scalb(x, (int) Double.doubleToRawLongBits(x * 3) % 2200));
+        two("scalb", (x, y) -> Functions.scalb(x, steps(y)), (x, y) -> StrictMath.scalb(x, steps(y)));
         two("atan2", Functions::atan2, StrictMath::atan2);
         two("pow", Functions::pow, StrictMath::pow);
         two("hypot", Functions::hypot, StrictMath::hypot);
         two("remainder", Functions::remainder, StrictMath::IEEEremainder);
-        if (words.length > 1) {
-            count = Integer.parseInt(words[1]);
-            texts();
-        }
+        others();
+        texts();
         System.exit(wrong == 0 ? 0 : 1);
     }
 }

@@ -44,23 +44,54 @@ public final class Calls {
     public static final int FEW = 0, WIDE = 1, LETTERS = 2, ORDERED = 3;
     /** Whether each step is printed. */
     public static boolean shows;
+    /** Whether what can be stated of calls is kept. */
+    public static boolean keeps;
     private static final String[] TEXTS = {"", "a", "b", "ab", "ba", "abc", "Ab", "a b", " b ", "aab", "x1", "1", "-12", "7f", "\u00e9a", "c,a,b"};
     private static final int[] EDGES = {0, -1, 1, 7, -8, 31, 32, 33, 255, 256, 65535, 65536, Integer.MAX_VALUE, Integer.MIN_VALUE, 123456789};
     private static final int MOST = 24;
     private final int mode;
+    /** What is stated of each call's sum, or null. */
+    private final String stated;
+    private final StringBuilder told = new StringBuilder();
+    private int count;
     private int state;
     private int sum;
     private Iterator<Object> kept;
     private ListIterator<Object> keptBoth;
 
-    public Calls(int seed, int mode) {
+    public Calls(int seed, int mode, String stated) {
         this.mode = mode;
+        this.stated = stated;
         state = seed * 0x9e3779b9 + 0x7f4a7c15;
         state = state == 0 ? 1 : state;
     }
 
     public int sum() {
         return sum;
+    }
+
+    /** How many calls there were, at most up to the first whose sum was not as stated. */
+    public int count() {
+        return count;
+    }
+
+    /** What can be stated of the calls' sums. */
+    public String told() {
+        return told.toString();
+    }
+
+    /** Ends a call; tells whether its sum is not as stated. */
+    public boolean ended(int at) {
+        count = at;
+        if (at == 0 || !keeps && stated == null) {
+            return false;
+        }
+        char sign = (char) (0x100 + ((sum ^ sum >>> 14 ^ sum >>> 28) & 0x3fff));
+        if (stated == null) {
+            told.append(sign);
+            return false;
+        }
+        return sign != stated.charAt(at - 1);
     }
 
     /** A number from 0 up to, and without, `count`. */
@@ -147,7 +178,7 @@ public final class Calls {
             return codeOfArray(of, depth);
         }
         if (of instanceof CharSequence || of instanceof Locale || of instanceof Charset || of instanceof StringWriter) {
-            return of.toString().hashCode();
+            return String.valueOf(of).hashCode();
         }
         if (of instanceof Optional) {
             return ((Optional<?>) of).isPresent() ? codeOf(((Optional<?>) of).get(), depth + 1) * 29 : 29;
@@ -286,7 +317,7 @@ public final class Calls {
     /** Whether something has more parts than it is to have: what is called on is made anew then. */
     public boolean isLarge(Object of) {
         return of instanceof Collection ? ((Collection<?>) of).size() > MOST : of instanceof Map ? ((Map<?, ?>) of).size() > MOST
-            : of instanceof CharSequence && of.toString().length() > 2 * MOST
+            : of instanceof CharSequence && String.valueOf(of).length() > 2 * MOST
             || of instanceof ByteArrayOutputStream && ((ByteArrayOutputStream) of).size() > 2 * MOST
             || of instanceof StringWriter && ((StringWriter) of).getBuffer().length() > 2 * MOST;
     }
@@ -378,13 +409,26 @@ public final class Calls {
         "\\b", "|", "(a*b)", "(?=b)", "(?!a)", "(?<=a)", "(?>a*)", "\\1", "[a-c&&[^b]]", "(?i)A", "\\Qa\\E", "\\p{Lower}", "1", "-", "(", "[", ","};
     private static final String[] OFTEN = {"", "", "", "", "", "*", "+", "?", "{1,2}", "*?", "+?", "??", "?+", "*+", "{2}", "{1,}"};
 
+    /** Not with groups that are never gone back into: what they were in a try that failed, a JVM keeps. */
     public Pattern aPattern() {
         while (true) {
             try {
-                return Pattern.compile(aForm());
+                String form = aForm();
+                if (!form.contains(")*+") && !form.contains(")?+")) {
+                    return Pattern.compile(form);
+                }
             } catch (PatternSyntaxException wrong) {
                 add(1);
             }
+        }
+    }
+
+    /** Lets a matcher begin anew where it found nothing. */
+    public void settle(Matcher of) {
+        try {
+            of.start();
+        } catch (IllegalStateException none) {
+            of.reset();
         }
     }
 

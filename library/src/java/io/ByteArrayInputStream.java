@@ -38,7 +38,7 @@ public class ByteArrayInputStream extends InputStream {
 
     @Override
     public long skip(long most) {
-        long taken = Math.max(0, Math.min(most, count - pos));
+        long taken = most < count - pos ? Math.max(0, most) : count - pos;
         pos += (int) taken;
         return taken;
     }

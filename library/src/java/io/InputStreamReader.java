@@ -7,13 +7,28 @@ public class InputStreamReader extends Reader {
     private final InputStream in;
     private final Charset by;
     private StringReader text;
+    private boolean isClosed;
 
     public InputStreamReader(InputStream in) {
         this(in, java.nio.charset.StandardCharsets.UTF_8);
     }
 
     public InputStreamReader(InputStream in, String by) throws UnsupportedEncodingException {
-        this(in, Charset.forName(by));
+        this(in, known(by));
+    }
+
+    private static Charset known(String name) throws UnsupportedEncodingException {
+        try {
+            return Charset.forName(name);
+        } catch (IllegalArgumentException unknown) {
+            throw new UnsupportedEncodingException(name);
+        }
+    }
+
+    private void ensureOpen() throws IOException {
+        if (isClosed) {
+            throw new IOException("Stream closed");
+        }
     }
 
     public InputStreamReader(InputStream in, Charset by) {
@@ -24,6 +39,7 @@ public class InputStreamReader extends Reader {
 
     @Override
     public int read(char[] into, int at, int count) throws IOException {
+        ensureOpen();
         if (text == null) {
             ByteArrayOutputStream taken = new ByteArrayOutputStream();
             byte[] some = new byte[512];
@@ -39,11 +55,13 @@ public class InputStreamReader extends Reader {
 
     @Override
     public boolean ready() throws IOException {
+        ensureOpen();
         return text != null || in.available() > 0;
     }
 
     @Override
     public void close() throws IOException {
+        isClosed = true;
         in.close();
     }
 }

@@ -42,6 +42,18 @@ public class StringReader extends Reader {
         return taken;
     }
 
+    /** Goes back where the count is below 0. */
+    @Override
+    public long skip(long most) throws IOException {
+        ensureOpen();
+        if (at >= of.length()) {
+            return 0;
+        }
+        long taken = Math.max(-at, Math.min(most, of.length() - at));
+        at += (int) taken;
+        return taken;
+    }
+
     @Override
     public boolean ready() throws IOException {
         ensureOpen();
@@ -55,6 +67,9 @@ public class StringReader extends Reader {
 
     @Override
     public void mark(int most) throws IOException {
+        if (most < 0) {
+            throw new IllegalArgumentException("Read-ahead limit < 0");
+        }
         ensureOpen();
         mark = at;
     }

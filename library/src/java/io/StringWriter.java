@@ -7,6 +7,9 @@ public class StringWriter extends Writer {
     }
 
     public StringWriter(int size) {
+        if (size < 0) {
+            throw new IllegalArgumentException("Negative buffer size");
+        }
     }
 
     @Override
@@ -26,7 +29,7 @@ public class StringWriter extends Writer {
 
     @Override
     public void write(String of, int at, int count) {
-        made.append(of.substring(at, at + count));
+        made.append(of, at, at + count);
     }
 
     @Override

@@ -1,6 +1,7 @@
 package java.lang;
 
 import more.floats.Decimal;
+import more.floats.Functions;
 
 /** A float as an object, as Double is. */
 public final class Float extends Number implements Comparable<Float> {
@@ -68,6 +69,14 @@ public final class Float extends Number implements Comparable<Float> {
 
     public static String toString(float of) {
         return Decimal.textOfFloat(floatToRawIntBits(of));
+    }
+
+    public static String toHexString(float of) {
+        if (of == 0.0f || !(Math.abs(of) < MIN_NORMAL)) {
+            return Double.toHexString(of);
+        }
+        String text = Double.toHexString(Functions.scalb(of, Double.MIN_EXPONENT - MIN_EXPONENT));
+        return text.substring(0, text.length() - 5) + MIN_EXPONENT;
     }
 
     public static int hashCode(float of) {

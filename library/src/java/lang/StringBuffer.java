@@ -20,7 +20,8 @@ public final class StringBuffer implements Appendable, CharSequence, Serializabl
     }
 
     public StringBuffer(CharSequence of) {
-        this(of.toString());
+        this(of.length() + 16);
+        append(of);
     }
 
     private void makeRoom(int wanted) {
@@ -33,8 +34,26 @@ public final class StringBuffer implements Appendable, CharSequence, Serializabl
 
     private void check(int at, int most) {
         if (at < 0 || at > most) {
-            throw new StringIndexOutOfBoundsException("String index out of range: " + at);
+            throw new StringIndexOutOfBoundsException("index " + at + ",length " + count);
         }
+    }
+
+    private static String outside(int from, int to, int length) {
+        return "start " + from + ", end " + to + ", length " + length;
+    }
+
+    private void checkRange(int from, int to) {
+        if (from < 0 || from > to || to > count) {
+            throw new StringIndexOutOfBoundsException(outside(from, to, count));
+        }
+    }
+
+    private static String part(CharSequence of, int from, int to) {
+        CharSequence text = of == null ? "null" : of;
+        if (from < 0 || from > to || to > text.length()) {
+            throw new IndexOutOfBoundsException(outside(from, to, text.length()));
+        }
+        return text.subSequence(from, to).toString();
     }
 
     public int length() {
@@ -95,7 +114,7 @@ public final class StringBuffer implements Appendable, CharSequence, Serializabl
     }
 
     public StringBuffer append(CharSequence of, int from, int to) {
-        return append(String.valueOf((Object) of).substring(from, to));
+        return append(part(of, from, to));
     }
 
     public StringBuffer append(char[] of) {
@@ -103,6 +122,9 @@ public final class StringBuffer implements Appendable, CharSequence, Serializabl
     }
 
     public StringBuffer append(char[] of, int at, int many) {
+        if (at < 0 || many < 0 || at > of.length - many) {
+            throw new IndexOutOfBoundsException(outside(at, at + many, of.length));
+        }
         makeRoom(count + many);
         System.arraycopy(of, at, value, count, many);
         count += many;
@@ -132,25 +154,17 @@ public final class StringBuffer implements Appendable, CharSequence, Serializabl
     }
 
     public StringBuffer delete(int from, int to) {
-        int end = Math.min(to, count);
-        if (from < 0 || from > end) {
-            throw new StringIndexOutOfBoundsException("start " + from + ", end " + to + ", length " + count);
-        }
-        System.arraycopy(value, end, value, from, count - end);
-        count -= end - from;
-        return this;
+        return replace(from, to, "");
     }
 
     public StringBuffer deleteCharAt(int at) {
         check(at, count - 1);
-        return delete(at, at + 1);
+        return replace(at, at + 1, "");
     }
 
     public StringBuffer replace(int from, int to, String with) {
         int end = Math.min(to, count);
-        if (from < 0 || from > count || from > end) {
-            throw new StringIndexOutOfBoundsException("start " + from + ", end " + to + ", length " + count);
-        }
+        checkRange(from, end);
         makeRoom(count - (end - from) + with.length());
         System.arraycopy(value, end, value, from + with.length(), count - end);
         with.getChars(0, with.length(), value, from);
@@ -171,8 +185,18 @@ public final class StringBuffer implements Appendable, CharSequence, Serializabl
         return insert(at, String.valueOf((Object) of));
     }
 
+    public StringBuffer insert(int at, CharSequence of, int from, int to) {
+        check(at, count);
+        return insert(at, part(of, from, to));
+    }
+
     public StringBuffer insert(int at, char[] of) {
         return insert(at, String.valueOf(of));
+    }
+
+    public StringBuffer insert(int at, char[] of, int from, int many) {
+        check(at, count);
+        return insert(at, String.valueOf(of, from, many));
     }
 
     public StringBuffer insert(int at, char of) {
@@ -225,11 +249,12 @@ public final class StringBuffer implements Appendable, CharSequence, Serializabl
     }
 
     public String substring(int from) {
-        return toString().substring(from);
+        return substring(from, count);
     }
 
     public String substring(int from, int to) {
-        return toString().substring(from, to);
+        checkRange(from, to);
+        return new String(value, from, to - from);
     }
 
     public CharSequence subSequence(int from, int to) {
@@ -237,11 +262,28 @@ public final class StringBuffer implements Appendable, CharSequence, Serializabl
     }
 
     public void getChars(int from, int to, char[] into, int at) {
-        toString().getChars(from, to, into, at);
+        checkRange(from, to);
+        if (at < 0 || at > into.length - (to - from)) {
+            throw new IndexOutOfBoundsException(outside(at, at + to - from, into.length));
+        }
+        System.arraycopy(value, from, into, at, to - from);
     }
 
     public int codePointAt(int at) {
+        check(at, count - 1);
         return toString().codePointAt(at);
+    }
+
+    public int codePointBefore(int at) {
+        return toString().codePointBefore(at);
+    }
+
+    public int codePointCount(int from, int to) {
+        return toString().codePointCount(from, to);
+    }
+
+    public int offsetByCodePoints(int at, int many) {
+        return toString().offsetByCodePoints(at, many);
     }
 
     @Override

@@ -14,6 +14,7 @@ public interface Comparator<T> {
     }
 
     default Comparator<T> thenComparing(Comparator<? super T> next) {
+        Objects.requireNonNull(next);
         return (one, other) -> {
             int found = compare(one, other);
             return found != 0 ? found : next.compare(one, other);
@@ -41,18 +42,23 @@ public interface Comparator<T> {
     }
 
     static <T, U extends Comparable<? super U>> Comparator<T> comparing(Function<? super T, ? extends U> key) {
+        Objects.requireNonNull(key);
         return (one, other) -> key.apply(one).compareTo(key.apply(other));
     }
 
     static <T, U> Comparator<T> comparing(Function<? super T, ? extends U> key, Comparator<? super U> by) {
+        Objects.requireNonNull(key);
+        Objects.requireNonNull(by);
         return (one, other) -> by.compare(key.apply(one), key.apply(other));
     }
 
     static <T> Comparator<T> comparingInt(ToIntFunction<? super T> key) {
+        Objects.requireNonNull(key);
         return (one, other) -> Integer.compare(key.applyAsInt(one), key.applyAsInt(other));
     }
 
     static <T> Comparator<T> comparingLong(ToLongFunction<? super T> key) {
+        Objects.requireNonNull(key);
         return (one, other) -> Long.compare(key.applyAsLong(one), key.applyAsLong(other));
     }
 

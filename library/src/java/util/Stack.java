@@ -5,29 +5,37 @@ public class Stack<E> extends Vector<E> {
     }
 
     public E push(E next) {
-        add(next);
+        addElement(next);
         return next;
     }
 
     public E pop() {
         E top = peek();
-        remove(size() - 1);
+        removeElementAt(size() - 1);
         return top;
     }
 
     public E peek() {
-        if (isEmpty()) {
+        if (size() == 0) {
             throw new EmptyStackException();
         }
-        return get(size() - 1);
+        return elementAt(size() - 1);
     }
 
     public boolean empty() {
-        return isEmpty();
+        return size() == 0;
     }
 
     public int search(Object of) {
         int at = lastIndexOf(of);
         return at < 0 ? -1 : size() - at;
+    }
+
+    @Override
+    public Object clone() {
+        Stack<E> made = new Stack<>();
+        made.elementData = toArray();
+        made.elementCount = elementCount;
+        return made;
     }
 }

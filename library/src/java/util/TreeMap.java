@@ -18,13 +18,13 @@ public class TreeMap<K, V> extends AbstractMap<K, V> implements NavigableMap<K, 
             return by == null ? ((Comparable<Object>) one).compareTo(other) : by.compare((K) one, (K) other);
         }
 
-        /** The number of rows whose keys are less than a key. */
+        /** The number of rows whose keys are less than a key; it is the first argument, as in Java, which a comparator may tell. */
         int below(Object key) {
             int low = 0;
             int high = size;
             while (low < high) {
                 int middle = low + high >>> 1;
-                if (compare(rows[middle].getKey(), key) < 0) {
+                if (compare(key, rows[middle].getKey()) > 0) {
                     low = middle + 1;
                 } else {
                     high = middle;
@@ -443,15 +443,21 @@ public class TreeMap<K, V> extends AbstractMap<K, V> implements NavigableMap<K, 
         private int at = isDown ? end() - 1 : start();
         private int last = -1;
         private int expected = all.modCount;
+        /** Whether something is ahead, as it was when the walk came here: what is put there since is not. */
+        private boolean isAhead = isInside();
 
-        @Override
-        public boolean hasNext() {
+        private boolean isInside() {
             return at >= start() && at < end();
         }
 
         @Override
+        public boolean hasNext() {
+            return isAhead;
+        }
+
+        @Override
         public Map.Entry<K, V> next() {
-            if (!hasNext()) {
+            if (!isAhead) {
                 throw new NoSuchElementException();
             }
             if (expected != all.modCount) {
@@ -459,6 +465,7 @@ public class TreeMap<K, V> extends AbstractMap<K, V> implements NavigableMap<K, 
             }
             last = at;
             at += isDown ? -1 : 1;
+            isAhead = isInside();
             return all.rows[last];
         }
 

@@ -1,9 +1,9 @@
 package more.floats;
 
 /**
- * Arrays of floats and doubles, which are arrays of ints and longs: each that is made is remembered, so that it is known from one of
- * integers. Within this class an array's type is the one of the array that is there; everywhere else `tools/prepare` puts calls of
- * these methods for what asks for it.
+ * Arrays of floats and doubles, which are arrays of ints and longs, and of Numbers, which are arrays of objects: each that is made is
+ * remembered, so that it is known from one of integers or objects. Within this class an array's type is the one of the array that is
+ * there; everywhere else `tools/prepare` puts calls of these methods for what asks for it.
  */
 public final class Arrays {
     /** Those that were made, at their hash codes or behind; a power of two of places, of which at least half are empty. */
@@ -69,8 +69,38 @@ public final class Arrays {
         return copy;
     }
 
-    /** Copies between arrays of one kind; gives false where that isn't one of numbers of 32 or 64 bits. */
+    /** A copy of an array by the name of one of objects, which may be one of arrays of floats, or of Numbers. */
+    public static Object cloneAny(Object of) {
+        Object copy = ((Object[]) of).clone();
+        if (knows(of)) {
+            add(copy);
+        }
+        return copy;
+    }
+
+    private static boolean isOfArrays(Object of) {
+        return of instanceof long[][] || of instanceof int[][] || of instanceof long[][][] || of instanceof int[][][];
+    }
+
+    /** Stores in an array by the name of one of objects, which may be one of arrays of floats, or of Numbers; gives true. */
+    public static boolean stored(Object[] into, int at, Object of) {
+        if (of != null && into != null && at >= 0 && at < into.length && !takes(into, of)) {
+            throw new ArrayStoreException("not an element of this array");
+        }
+        into[at] = of;
+        return true;
+    }
+
+    private static boolean takes(Object[] into, Object of) {
+        return isOfArrays(into) ? knows(into) == knows(of) : !knows(into) || of instanceof Number;
+    }
+
+    /** Copies between arrays of one kind; gives false where that isn't one of numbers of 32 or 64 bits, or of arrays of these. */
     public static boolean copy(Object from, int at, Object to, int start, int length) {
+        if (isOfArrays(to) && from instanceof Object[]) {
+            copyArrays((Object[]) from, at, (Object[]) to, start, length);
+            return true;
+        }
         if (from instanceof long[] && to instanceof long[] && knows(from) == knows(to)) {
             long[] source = (long[]) from;
             long[] sink = (long[]) to;
@@ -104,10 +134,41 @@ public final class Arrays {
         return false;
     }
 
+    private static void copyArrays(Object[] source, int at, Object[] sink, int start, int length) {
+        check(at, source.length, start, sink.length, length);
+        if (source == sink && at < start) {
+            for (int next = length - 1; next >= 0; next--) {
+                sink[start + next] = source[at + next];
+            }
+        } else {
+            for (int next = 0; next < length; next++) {
+                stored(sink, start + next, source[at + next]);
+            }
+        }
+    }
+
     private static void check(int at, int size, int start, int room, int length) {
         if (at < 0 || start < 0 || length < 0 || at > size - length || start > room - length) {
             throw new ArrayIndexOutOfBoundsException("arraycopy: last source index " + (at + length) + " out of bounds for length " + size);
         }
+    }
+
+    public static Object[] newNumbers(int length) {
+        Object[] array = new Object[length];
+        add(array);
+        return array;
+    }
+
+    public static boolean isNumbers(Object of) {
+        return of instanceof Integer[] || of instanceof Long[] || of instanceof Short[] || of instanceof Byte[] || of instanceof more.java.lang.Number[]
+            || of instanceof Object[] && !isOfArrays(of) && knows(of);
+    }
+
+    public static Object[] toNumbers(Object of) {
+        if (of != null && !isNumbers(of)) {
+            throw unlike("Numbers");
+        }
+        return (Object[]) of;
     }
 
     public static boolean isLongs(Object of) {

@@ -62,6 +62,9 @@ public final class Functions {
         // Below, one step rounds: the others are exact.
         if (left < -1022) {
             int scale = (high(to) >>> 20 & 0x7ff) + left;
+            if (scale - left == 0x7ff) {
+                return to;
+            }
             if (scale > 0) {
                 return withHigh(to, high(to) + (left << 20));
             }
@@ -804,24 +807,20 @@ public final class Functions {
     public static double hypot(double x, double y) {
         double a = abs(x);
         double b = abs(y);
+        if (b > a) {
+            a = b;
+            b = abs(x);
+        }
         int ha = high(a);
         int hb = high(b);
-        if (hb > ha) {
-            double kept = a;
-            a = b;
-            b = kept;
-            int keptHigh = ha;
-            ha = hb;
-            hb = keptHigh;
+        if (ha >= 0x7ff00000 || hb >= 0x7ff00000) {
+            return a == Double.POSITIVE_INFINITY || b == Double.POSITIVE_INFINITY ? Double.POSITIVE_INFINITY : a + b;
         }
         if (ha - hb > 0x3c00000) {
             return a + b;
         }
         int k = 0;
         if (ha > 0x5f300000) {
-            if (ha >= 0x7ff00000) {
-                return a == Double.POSITIVE_INFINITY || b == Double.POSITIVE_INFINITY ? Double.POSITIVE_INFINITY : a + b;
-            }
             ha -= 0x25800000;
             hb -= 0x25800000;
             k += 600;
@@ -833,19 +832,10 @@ public final class Functions {
                 if (b == 0.0) {
                     return a;
                 }
+                // fdlibm keeps ha and hb of before, so the parts below are unlike in size, and the last place of the sum may be another.
                 b *= of(0x7fd00000);
                 a *= of(0x7fd00000);
                 k -= 1022;
-                ha = high(a);
-                hb = high(b);
-                if (b > a) {
-                    double kept = a;
-                    a = b;
-                    b = kept;
-                    int keptHigh = ha;
-                    ha = hb;
-                    hb = keptHigh;
-                }
             } else {
                 ha += 0x25800000;
                 hb += 0x25800000;

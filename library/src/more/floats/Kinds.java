@@ -1,6 +1,6 @@
 package more.floats;
 
-/** Classes that stand for those of arrays of floats, which have another one here. */
+/** Classes that stand for those of arrays of floats and of Numbers, which have another one here. */
 public final class Kinds {
     private Kinds() {
     }
@@ -23,6 +23,9 @@ public final class Kinds {
     public static final class Floats3 {
     }
 
+    public static final class Numbers {
+    }
+
     /** The name of the class that one of these stands for, or null. */
     public static String named(String name) {
         switch (name.substring(18)) {
@@ -38,6 +41,8 @@ public final class Kinds {
                 return "[[F";
             case "Floats3":
                 return "[[[F";
+            case "Numbers":
+                return "[Ljava.lang.Number;";
             default:
                 return null;
         }

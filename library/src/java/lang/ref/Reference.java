@@ -17,6 +17,7 @@ public abstract class Reference<T> {
     }
 
     public boolean enqueue() {
+        of = null;
         return false;
     }
 

@@ -27,6 +27,13 @@ public class ConcurrentHashMap<K, V> extends more.java.util.HashMap<K, V> implem
         return super.put(key, value);
     }
 
+    @Override
+    public void putAll(Map<? extends K, ? extends V> others) {
+        for (Map.Entry<? extends K, ? extends V> entry : others.entrySet()) {
+            put(entry.getKey(), entry.getValue());
+        }
+    }
+
     private static <T> T some(T of) {
         if (of == null) {
             throw new NullPointerException();

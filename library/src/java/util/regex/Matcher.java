@@ -6,6 +6,7 @@ public final class Matcher implements MatchResult {
     private boolean isAnchoring = true;
     private boolean isTransparent;
     private int appended;
+    /** Where the last match began; -1 where none was found. It and the end stay as they are where the next one would begin behind the region. */
     private int start;
     private int end;
     // What the nodes of the pattern use.
@@ -77,7 +78,7 @@ public final class Matcher implements MatchResult {
         to = text.length();
         start = -1;
         end = 0;
-        lastEnd = 0;
+        lastEnd = -1;
         appended = 0;
         forget();
         return this;
@@ -101,8 +102,6 @@ public final class Matcher implements MatchResult {
         reset();
         from = first;
         to = end;
-        this.end = first;
-        lastEnd = first;
         return this;
     }
 
@@ -144,25 +143,28 @@ public final class Matcher implements MatchResult {
 
     // Matching.
 
-    private boolean isAt(int at, boolean isWhole) {
+    private void begin(int at, boolean isWhole) {
         hitsEnd = false;
         needsEnd = false;
         mustEnd = isWhole;
+        lastEnd = lastEnd < 0 ? at : lastEnd;
         forget();
-        return tries(at);
     }
 
-    private boolean tries(int at) {
-        if (!pattern.root.match(this, at)) {
-            start = -1;
-            return false;
+    private boolean ended(boolean isFound, int at) {
+        start = isFound ? at : -1;
+        if (isFound) {
+            end = last;
+            groups[0] = at;
+            groups[1] = last;
         }
-        start = at;
-        end = last;
-        lastEnd = last;
-        groups[0] = at;
-        groups[1] = last;
-        return true;
+        lastEnd = end;
+        return isFound;
+    }
+
+    private boolean isAt(int at, boolean isWhole) {
+        begin(at, isWhole);
+        return ended(pattern.root.match(this, at), at);
     }
 
     public boolean matches() {
@@ -178,7 +180,6 @@ public final class Matcher implements MatchResult {
         at = at < from ? from : at;
         if (at > to) {
             forget();
-            start = -1;
             return false;
         }
         return search(at);
@@ -193,10 +194,7 @@ public final class Matcher implements MatchResult {
     }
 
     private boolean search(int at) {
-        hitsEnd = false;
-        needsEnd = false;
-        mustEnd = false;
-        forget();
+        begin(at, false);
         int first = pattern.root instanceof Node.Text ? ((Node.Text) pattern.root).first() : -1;
         for (int next = at; next <= to; next++) {
             if (first >= 0) {
@@ -204,12 +202,12 @@ public final class Matcher implements MatchResult {
                     next++;
                 }
             }
-            if (tries(next)) {
-                return true;
+            if (pattern.root.match(this, next)) {
+                return ended(true, next);
             }
         }
         hitsEnd = true;
-        return false;
+        return ended(false, at);
     }
 
     // What was matched.
@@ -240,7 +238,8 @@ public final class Matcher implements MatchResult {
 
     @Override
     public int start() {
-        return groups[placeOf(0)];
+        placeOf(0);
+        return start;
     }
 
     @Override
@@ -254,7 +253,8 @@ public final class Matcher implements MatchResult {
 
     @Override
     public int end() {
-        return groups[placeOf(0) + 1];
+        placeOf(0);
+        return end;
     }
 
     @Override
@@ -361,13 +361,13 @@ public final class Matcher implements MatchResult {
             throw new IllegalStateException("No match available");
         }
         String made = replacement(by);
-        to.append(text.substring(appended, start)).append(made);
+        to.append(text, appended, start).append(made);
         appended = end;
         return this;
     }
 
     public StringBuffer appendTail(StringBuffer to) {
-        return to.append(text.substring(appended));
+        return to.append(text, appended, text.length());
     }
 
     public String replaceAll(String by) {
@@ -386,13 +386,11 @@ public final class Matcher implements MatchResult {
         if (!find()) {
             return text;
         }
-        StringBuilder made = new StringBuilder();
-        int behind = 0;
+        StringBuffer made = new StringBuffer();
         do {
-            made.append(text.substring(behind, start)).append(replacement(by));
-            behind = end;
+            appendReplacement(made, by);
         } while (!isOnce && find());
-        return made.append(text.substring(behind)).toString();
+        return appendTail(made).toString();
     }
 
     @Override

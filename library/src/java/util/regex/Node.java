@@ -314,6 +314,9 @@ abstract class Node {
         @Override
         boolean match(Matcher by, int at) {
             int[] groups = by.groups.clone();
+            if (how == AHEAD && !wanted && at >= by.to) {
+                by.needsEnd = true;
+            }
             boolean found = how == BEHIND ? isBehind(by, at) : body.match(by, at);
             int last = by.last;
             if (found == wanted) {

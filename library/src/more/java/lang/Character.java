@@ -120,6 +120,35 @@ public final class Character {
             || of == '\u2029' || of == '\u202f' || of == '\u205f' || of == '\u3000';
     }
 
+    public static boolean isSpaceChar(int of) {
+        return of < 0x10000 && isSpaceChar((char) of);
+    }
+
+    public static boolean isISOControl(int of) {
+        return of < 0x10000 && isISOControl((char) of);
+    }
+
+    /** Whether it may be in a name of Java's and is not to be seen. */
+    public static boolean isIdentifierIgnorable(char of) {
+        return of <= '\b' || of >= '\u000e' && of <= '\u001b' || of >= '\u007f' && of <= '\u009f' || of == '\u00ad';
+    }
+
+    public static boolean isJavaIdentifierStart(char of) {
+        return isLetter(of) || of == '_' || of == '$' || of >= '\u00a2' && of <= '\u00a5' || of == '\u20ac';
+    }
+
+    public static boolean isJavaIdentifierStart(int of) {
+        return of < 0x10000 && isJavaIdentifierStart((char) of);
+    }
+
+    public static boolean isJavaIdentifierPart(char of) {
+        return isJavaIdentifierStart(of) || java.lang.Character.isDigit(of) || isIdentifierIgnorable(of);
+    }
+
+    public static boolean isJavaIdentifierPart(int of) {
+        return of < 0x10000 && isJavaIdentifierPart((char) of);
+    }
+
     public static boolean isISOControl(char of) {
         return of < ' ' || of >= '\u007f' && of <= '\u009f';
     }
@@ -142,11 +171,11 @@ public final class Character {
     }
 
     public static int getNumericValue(char of) {
-        return digit(of, 36);
+        return of == '\u00b2' || of == '\u00b3' ? of - '\u00b0' : of == '\u00b9' ? 1 : of >= '\u00bc' && of <= '\u00be' ? -2 : digit(of, 36);
     }
 
     public static int getNumericValue(int of) {
-        return digit(of, 36);
+        return of < 0x10000 ? getNumericValue((char) of) : -1;
     }
 
     public static boolean isHighSurrogate(char of) {
@@ -195,6 +224,26 @@ public final class Character {
         return new char[] {(char) (0xd7c0 + (of >> 10)), (char) (0xdc00 | of & 0x3ff)};
     }
 
+    public static int toChars(int of, char[] into, int at) {
+        char[] found = toChars(of);
+        for (int next = 0; next < found.length; next++) {
+            into[at + next] = found[next];
+        }
+        return found.length;
+    }
+
+    public static char highSurrogate(int of) {
+        return (char) (0xd7c0 + (of >>> 10));
+    }
+
+    public static char lowSurrogate(int of) {
+        return (char) (0xdc00 | of & 0x3ff);
+    }
+
+    public static char reverseBytes(char of) {
+        return (char) ((of & 0xff) << 8 | of >> 8);
+    }
+
     public static int codePointAt(CharSequence of, int at) {
         char high = of.charAt(at);
         if (isHighSurrogate(high) && at + 1 < of.length() && isLowSurrogate(of.charAt(at + 1))) {
@@ -204,9 +253,32 @@ public final class Character {
     }
 
     public static int codePointAt(char[] of, int at) {
-        if (isHighSurrogate(of[at]) && at + 1 < of.length && isLowSurrogate(of[at + 1])) {
-            return toCodePoint(of[at], of[at + 1]);
+        return isHighSurrogate(of[at]) && at + 1 < of.length && isLowSurrogate(of[at + 1]) ? toCodePoint(of[at], of[at + 1]) : of[at];
+    }
+
+    public static int codePointAt(char[] of, int at, int most) {
+        if (at >= most || most < 0 || most > of.length) {
+            throw new IndexOutOfBoundsException();
         }
-        return of[at];
+        int found = codePointAt(of, at);
+        return at + 1 < most ? found : of[at];
+    }
+
+    public static int codePointBefore(CharSequence of, int at) {
+        char low = of.charAt(at - 1);
+        return isLowSurrogate(low) && at > 1 && isHighSurrogate(of.charAt(at - 2)) ? toCodePoint(of.charAt(at - 2), low) : low;
+    }
+
+    public static int codePointBefore(char[] of, int at) {
+        char low = of[at - 1];
+        return isLowSurrogate(low) && at > 1 && isHighSurrogate(of[at - 2]) ? toCodePoint(of[at - 2], low) : low;
+    }
+
+    public static int codePointCount(CharSequence of, int from, int to) {
+        return of.toString().codePointCount(from, to);
+    }
+
+    public static int offsetByCodePoints(CharSequence of, int at, int many) {
+        return of.toString().offsetByCodePoints(at, many);
     }
 }

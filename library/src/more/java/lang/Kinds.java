@@ -11,10 +11,22 @@ public final class Kinds {
 
     /** An empty array of the kind of another one; of objects, where that kind isn't known. */
     public static Object[] array(Object[] like, int length) {
+        if (like.getClass() == java.lang.Number[].class) {
+            return new java.lang.Number[length];
+        }
         String name = like.getClass().getName();
         Object[] made = name.startsWith("[L") ? Known.array(name.substring(2, name.length() - 1), length) : null;
         if (made != null) {
             return made;
+        }
+        if (like instanceof double[][]) {
+            return new double[length][];
+        }
+        if (like instanceof float[][]) {
+            return new float[length][];
+        }
+        if (like instanceof long[][]) {
+            return new long[length][];
         }
         if (like instanceof int[][]) {
             return new int[length][];
@@ -29,6 +41,20 @@ public final class Kinds {
             return new String[length][];
         }
         return like instanceof Object[][] ? new Object[length][] : new Object[length];
+    }
+
+    /** An empty array of a class of arrays. */
+    public static Object[] array(Class<?> kind, int length) {
+        String name = kind.getName();
+        if (!name.startsWith("[")) {
+            throw new NullPointerException();
+        }
+        if (name.startsWith("[L")) {
+            Object[] made = Known.array(name.substring(2, name.length() - 1), length);
+            return made == null ? new Object[length] : made;
+        }
+        return array(name.equals("[[I") ? new int[0][] : name.equals("[[C") ? new char[0][] : name.equals("[[B") ? new byte[0][]
+            : name.equals("[[Ljava.lang.String;") ? new String[0][] : new Object[0][], length);
     }
 
     /** Whether an object is one of a class: an array of the class takes it. */

@@ -130,10 +130,11 @@ public final class String {
     }
 
     public static java.lang.String join(CharSequence between, CharSequence[] parts) {
+        java.lang.String sign = between.toString();
         StringBuilder made = new StringBuilder();
         for (int at = 0; at < parts.length; at++) {
             if (at > 0) {
-                made.append(between.toString());
+                made.append(sign);
             }
             made.append(valueOf((Object) parts[at]));
         }
@@ -141,12 +142,14 @@ public final class String {
     }
 
     public static java.lang.String join(CharSequence between, Iterable<? extends CharSequence> parts) {
+        java.lang.String sign = between.toString();
         StringBuilder made = new StringBuilder();
         Iterator<? extends CharSequence> walk = parts.iterator();
         while (walk.hasNext()) {
-            made.append(valueOf((Object) walk.next()));
+            CharSequence next = walk.next();
+            made.append(valueOf((Object) next));
             if (walk.hasNext()) {
-                made.append(between.toString());
+                made.append(sign);
             }
         }
         return made.toString();
@@ -178,6 +181,7 @@ public final class String {
         if (from < 0 || to > of.length() || from > to) {
             throw new StringIndexOutOfBoundsException("begin " + from + ", end " + to + ", length " + of.length());
         }
+        checkBounds(at, to - from, into.length);
         for (int next = from; next < to; next++) {
             into[at + next - from] = of.charAt(next);
         }
@@ -433,7 +437,7 @@ public final class String {
             throw new StringIndexOutOfBoundsException("index " + at + ", length " + of.length());
         }
         return at > 1 && Character.isLowSurrogate(of.charAt(at - 1)) && Character.isHighSurrogate(of.charAt(at - 2))
-            ? of.codePointAt(at - 2) : of.charAt(at - 1);
+            ? codePointAt(of, at - 2) : of.charAt(at - 1);
     }
 
     public static int offsetByCodePoints(java.lang.String of, int from, int many) {
@@ -445,7 +449,7 @@ public final class String {
             if (at == of.length()) {
                 throw new IndexOutOfBoundsException();
             }
-            at += Character.charCount(of.codePointAt(at));
+            at += Character.charCount(codePointAt(of, at));
         }
         for (int left = many; left < 0; left++) {
             if (at == 0) {
@@ -466,11 +470,14 @@ public final class String {
     }
 
     public static int codePointCount(java.lang.String of, int from, int to) {
+        if (from < 0 || to > of.length() || from > to) {
+            throw new IndexOutOfBoundsException();
+        }
         int count = 0;
-        for (int at = from; at < to; at += Character.charCount(codePointAt(of, at))) {
+        for (int at = from; at < to; at++) {
+            at += Character.isHighSurrogate(of.charAt(at)) && at + 1 < to && Character.isLowSurrogate(of.charAt(at + 1)) ? 1 : 0;
             count++;
         }
         return count;
     }
-
 }

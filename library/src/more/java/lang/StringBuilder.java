@@ -67,10 +67,22 @@ public final class StringBuilder {
         return own < 0 ? found.text.charAt(at) : of.charAt(found.from + own);
     }
 
+    private static java.lang.String outside(int from, int to, int length) {
+        return "start " + from + ", end " + to + ", length " + length;
+    }
+
     private static void check(int from, int to, int length) {
-        if (from < 0 || from > to || from > length) {
-            throw new StringIndexOutOfBoundsException("start " + from + ", end " + to + ", length " + length);
+        if (from < 0 || from > to || to > length) {
+            throw new StringIndexOutOfBoundsException(outside(from, to, length));
         }
+    }
+
+    private static java.lang.String part(CharSequence of, int from, int to) {
+        CharSequence text = of == null ? "null" : of;
+        if (from < 0 || from > to || to > text.length()) {
+            throw new IndexOutOfBoundsException(outside(from, to, text.length()));
+        }
+        return text.subSequence(from, to).toString();
     }
 
     public static java.lang.StringBuilder delete(java.lang.StringBuilder of, int from, int until) {
@@ -86,6 +98,9 @@ public final class StringBuilder {
         java.lang.String text = toString(of);
         int to = java.lang.Math.min(until, text.length());
         check(from, to, text.length());
+        if (from == text.length()) {
+            return of.append(with.concat(""));
+        }
         return hold(of, text.substring(0, from).concat(with).concat(text.substring(to)));
     }
 
@@ -123,7 +138,8 @@ public final class StringBuilder {
     }
 
     public static java.lang.StringBuilder insert(java.lang.StringBuilder of, int at, CharSequence text, int from, int to) {
-        return insert(of, at, java.lang.String.valueOf((Object) text).substring(from, to));
+        check(at, at, length(of));
+        return insert(of, at, part(text, from, to));
     }
 
     public static java.lang.StringBuilder insert(java.lang.StringBuilder of, int at, char[] text) {
@@ -131,6 +147,7 @@ public final class StringBuilder {
     }
 
     public static java.lang.StringBuilder insert(java.lang.StringBuilder of, int at, char[] text, int from, int count) {
+        check(at, at, length(of));
         return insert(of, at, java.lang.String.valueOf(text, from, count));
     }
 
@@ -163,7 +180,7 @@ public final class StringBuilder {
     }
 
     public static java.lang.StringBuilder append(java.lang.StringBuilder to, CharSequence of, int from, int until) {
-        return to.append(java.lang.String.valueOf((Object) of).substring(from, until));
+        return to.append(part(of, from, until));
     }
 
     public static java.lang.StringBuilder append(java.lang.StringBuilder to, StringBuffer of) {
@@ -175,6 +192,9 @@ public final class StringBuilder {
     }
 
     public static java.lang.StringBuilder append(java.lang.StringBuilder to, char[] of, int from, int count) {
+        if (from < 0 || count < 0 || from > of.length - count) {
+            throw new IndexOutOfBoundsException(outside(from, from + count, of.length));
+        }
         for (int at = from; at < from + count; at++) {
             to.append(of[at]);
         }
@@ -186,15 +206,17 @@ public final class StringBuilder {
     }
 
     public static java.lang.String substring(java.lang.StringBuilder of, int from) {
-        return toString(of).substring(from);
+        return substring(of, from, length(of));
     }
 
     public static java.lang.String substring(java.lang.StringBuilder of, int from, int to) {
-        return toString(of).substring(from, to);
+        java.lang.String text = toString(of);
+        check(from, to, text.length());
+        return text.substring(from, to);
     }
 
     public static CharSequence subSequence(java.lang.StringBuilder of, int from, int to) {
-        return toString(of).substring(from, to);
+        return substring(of, from, to);
     }
 
     public static int indexOf(java.lang.StringBuilder of, java.lang.String part) {
@@ -209,11 +231,32 @@ public final class StringBuilder {
         return toString(of).lastIndexOf(part);
     }
 
+    public static int lastIndexOf(java.lang.StringBuilder of, java.lang.String part, int from) {
+        return toString(of).lastIndexOf(part, from);
+    }
+
     public static int codePointAt(java.lang.StringBuilder of, int at) {
+        check(at, at, length(of) - 1);
         return toString(of).codePointAt(at);
     }
 
+    public static int codePointBefore(java.lang.StringBuilder of, int at) {
+        return toString(of).codePointBefore(at);
+    }
+
+    public static int codePointCount(java.lang.StringBuilder of, int from, int to) {
+        return toString(of).codePointCount(from, to);
+    }
+
+    public static int offsetByCodePoints(java.lang.StringBuilder of, int at, int many) {
+        return toString(of).offsetByCodePoints(at, many);
+    }
+
     public static void getChars(java.lang.StringBuilder of, int from, int to, char[] into, int at) {
+        check(from, to, length(of));
+        if (at < 0 || at > into.length - (to - from)) {
+            throw new IndexOutOfBoundsException(outside(at, at + to - from, into.length));
+        }
         toString(of).getChars(from, to, into, at);
     }
 

@@ -23,7 +23,7 @@ final class Texts {
         if (of >= 'A' && of <= 'Z' || of >= '\u00c0' && of <= '\u00de' && of != '\u00d7') {
             return (char) (of + 32);
         }
-        if (of >= '\u0391' && of <= '\u03a9' || of >= '\u0410' && of <= '\u042f') {
+        if (of >= '\u0391' && of <= '\u03a9' && of != '\u03a2' || of >= '\u0410' && of <= '\u042f') {
             return (char) (of + 32);
         }
         return of >= '\u0100' && of <= '\u0137' && of != '\u0130' && of % 2 == 0 ? (char) (of + 1) : of;
@@ -36,8 +36,8 @@ final class Texts {
         if (of >= '\u03b1' && of <= '\u03c9' && of != '\u03c2' || of >= '\u0430' && of <= '\u044f') {
             return (char) (of - 32);
         }
-        if (of == '\u00ff') {
-            return '\u0178';
+        if (of == '\u00ff' || of == '\u00b5') {
+            return of == '\u00ff' ? '\u0178' : '\u039c';
         }
         return of >= '\u0100' && of <= '\u0137' && of != '\u0131' && of % 2 == 1 ? (char) (of - 1) : of;
     }
@@ -229,10 +229,11 @@ final class Texts {
             || first == 0xf0 && next < 0x90 || first == 0xf4 && next > 0x8f);
     }
 
-    /** Forms with %s, %d, %x, %c, %b, %n and %%, with a width, zeros and a minus. */
+    /** Forms as Formatter's: a place, flags, a width, how exact, and the conversions %s %d %x %o %c %b %h %n %%. */
     static String format(String form, Object[] values) {
         StringBuilder made = new StringBuilder();
         int value = 0;
+        int last = -1;
         for (int at = 0; at < form.length(); at++) {
             char next = form.charAt(at);
             if (next != '%') {
@@ -243,86 +244,116 @@ final class Texts {
             do {
                 at++;
                 if (at == form.length()) {
-                    throw new java.util.UnknownFormatConversionException("%");
+                    throw new java.util.UnknownFormatConversionException(start == at ? "%" : form.substring(start, start + 1));
                 }
                 next = form.charAt(at);
-            } while (Character.isDigit(next) || "-#+ ,(.$".indexOf(next) >= 0);
+            } while (Character.isDigit(next) || "-#+ ,(.$<".indexOf(next) >= 0);
             String flags = form.substring(start, at);
-            if (next == 'n') {
-                made.append('\n');
-            } else if (next == '%') {
-                made.append(padded("%", flags));
-            } else {
-                int place = flags.indexOf('$');
-                int number = place >= 0 ? Integer.parseInt(flags.substring(0, place)) - 1 : value++;
-                if (values == null ? number > 0 : number >= values.length) {
-                    throw new java.util.MissingFormatArgumentException("%" + flags + next);
-                }
-                made.append(padded(shown(next, values == null ? null : values[number], flags),
-                    flags.substring(place + 1)));
+            if (next == 'n' || next == '%') {
+                made.append(next == 'n' ? "\n" : padded("%", flags));
+                continue;
             }
+            int place = flags.indexOf('$');
+            int number = flags.indexOf('<') >= 0 ? last : place >= 0 ? Integer.parseInt(flags.substring(0, place)) - 1 : value++;
+            if ("sSbBcCdxXohH".indexOf(next) < 0) {
+                if (isLater(next)) {
+                    throw new NoClassDefFoundError("java.util.Formatter");
+                }
+                throw new java.util.UnknownFormatConversionException(String.valueOf(next));
+            }
+            if (number < 0 || values != null && number >= values.length) {
+                throw new java.util.MissingFormatArgumentException("%" + flags + next);
+            }
+            last = number;
+            made.append(shown(next, values == null ? null : values[number], flags.substring(place + 1)));
         }
         return made.toString();
     }
 
+    /** Whether a conversion is one of Formatter's that isn't done here. */
+    private static boolean isLater(char kind) {
+        return "eEfgGaAtT".indexOf(kind) >= 0;
+    }
+
     private static String shown(char kind, Object value, String flags) {
-        if (flags.indexOf('.') >= 0 || flags.indexOf(',') >= 0 || flags.indexOf('+') >= 0) {
-            throw new NoClassDefFoundError("java.util.Formatter");
-        }
+        char of = kind >= 'a' ? kind : (char) (kind + 32);
+        String text = of == 'd' || of == 'x' || of == 'o' ? number(of, value, flags) : cut(text(of, value), flags);
+        String done = padded(text, flags);
+        return kind == of ? done : done.toUpperCase();
+    }
+
+    private static String text(char kind, Object value) {
         switch (kind) {
-            case 's':
-                return String.valueOf(value);
-            case 'S':
-                return String.valueOf(value).toUpperCase();
             case 'b':
                 return value instanceof Boolean ? value.toString() : value == null ? "false" : "true";
             case 'c':
-                return value == null ? "null" : value instanceof Character ? value.toString()
-                    : String.valueOf((char) ((Integer) value).intValue());
-            case 'd':
-                if (value == null || value instanceof Integer || value instanceof Long || value instanceof Short
-                        || value instanceof Byte) {
+                if (value == null || value instanceof Character) {
                     return String.valueOf(value);
                 }
+                if (value instanceof Integer || value instanceof Short || value instanceof Byte) {
+                    return String.valueOf(Character.toChars(((java.lang.Number) value).intValue()));
+                }
                 throw new java.util.IllegalFormatConversionException(kind, value.getClass());
-            case 'x':
-                return hex(value);
-            case 'X':
-                return hex(value).toUpperCase();
+            case 'h':
+                return value == null ? "null" : Integer.toHexString(value.hashCode());
             default:
-                throw new NoClassDefFoundError("java.util.Formatter");
+                return String.valueOf(value);
         }
     }
 
-    private static String hex(Object value) {
-        if (value instanceof Integer) {
-            return Integer.toHexString((Integer) value);
+    /** A text's beginning, where it is stated how long it may be. */
+    private static String cut(String text, String flags) {
+        int dot = flags.indexOf('.');
+        int most = dot < 0 ? text.length() : Integer.parseInt(flags.substring(dot + 1));
+        return most < text.length() ? text.substring(0, most) : text;
+    }
+
+    private static String number(char kind, Object value, String flags) {
+        if (flags.indexOf('.') >= 0) {
+            throw new java.util.IllegalFormatPrecisionException(Integer.parseInt(flags.substring(flags.indexOf('.') + 1)));
         }
-        if (value instanceof Byte) {
-            return Integer.toHexString(((Byte) value).byteValue() & 0xff);
+        if (value == null) {
+            return "null";
         }
-        if (value instanceof Short) {
-            return Integer.toHexString(((Short) value).shortValue() & 0xffff);
+        if (!(value instanceof Integer || value instanceof Long || value instanceof Short || value instanceof Byte)) {
+            throw new java.util.IllegalFormatConversionException(kind, value.getClass());
         }
-        return value == null ? "null" : Long.toHexString((Long) value);
+        long of = ((java.lang.Number) value).longValue();
+        if (kind != 'd') {
+            of &= value instanceof Integer ? 0xffffffffL : value instanceof Short ? 0xffffL : value instanceof Byte ? 0xffL : -1L;
+            String digits = kind == 'x' ? Long.toHexString(of) : Long.toOctalString(of);
+            return flags.indexOf('#') < 0 ? digits : (kind == 'x' ? "0x" : "0").concat(digits);
+        }
+        String digits = Long.toString(of);
+        String sign = of < 0 ? "-" : flags.indexOf('+') >= 0 ? "+" : flags.indexOf(' ') >= 0 ? " " : "";
+        digits = of < 0 ? digits.substring(1) : digits;
+        if (flags.indexOf(',') >= 0) {
+            for (int at = digits.length() - 3; at > 0; at -= 3) {
+                digits = digits.substring(0, at).concat(",").concat(digits.substring(at));
+            }
+        }
+        return of < 0 && flags.indexOf('(') >= 0 ? "(".concat(digits).concat(")") : sign.concat(digits);
     }
 
     private static String padded(String text, String flags) {
         int width = 0;
         boolean isLeft = false;
         boolean isZero = false;
-        for (int at = 0; at < flags.length(); at++) {
+        for (int at = 0; at < flags.length() && flags.charAt(at) != '.'; at++) {
             char next = flags.charAt(at);
             isLeft |= next == '-';
             isZero |= next == '0' && width == 0;
             width = Character.isDigit(next) ? width * 10 + next - '0' : width;
         }
+        if (isLeft && width == 0) {
+            throw new java.util.MissingFormatWidthException("%".concat(flags));
+        }
         StringBuilder made = new StringBuilder();
-        boolean isNegative = isZero && text.startsWith("-");
-        made.append(isLeft ? text : isNegative ? "-" : "");
+        int sign = isZero && !text.isEmpty() && "-+ (".indexOf(text.charAt(0)) >= 0 ? 1 : isZero && text.startsWith("0x") ? 2 : 0;
+        made.append(isLeft ? text : text.substring(0, sign));
         for (int at = text.length(); at < width; at++) {
             made.append(isZero ? '0' : ' ');
         }
-        return made.append(isLeft ? "" : isNegative ? text.substring(1) : text).toString();
+        return made.append(isLeft ? "" : text.substring(sign)).toString();
     }
 }

@@ -1,16 +1,22 @@
 package more.java.util;
 
 import java.util.Collection;
+import java.util.Comparator;
 import java.util.ConcurrentModificationException;
 import java.util.Iterator;
 import java.util.List;
 import java.util.ListIterator;
 import java.util.NoSuchElementException;
+import java.util.function.UnaryOperator;
 
 /** java.util.ArrayList whole: what the profile's own has not, and what it answers otherwise than Java. */
 public class ArrayList<E> extends java.util.ArrayList<E> implements more.java.util.List<E>, java.util.RandomAccess {
     /** Two for each item that went: with the size this counts all changes, and what adds an item can stay the profile's own. */
     protected int modCount;
+    /** The walks that count no changes, since there was none. */
+    private Ahead<E> walks;
+    /** How many items Java's array had room for when the list last got shorter; -1 where it wasn't made yet. What was added since makes it larger. */
+    private int capacity = -1;
 
     public ArrayList() {
     }
@@ -19,6 +25,7 @@ public class ArrayList<E> extends java.util.ArrayList<E> implements more.java.ut
         if (capacity < 0) {
             throw new IllegalArgumentException("Illegal Capacity: " + capacity);
         }
+        this.capacity = capacity;
     }
 
     public ArrayList(Collection<? extends E> of) {
@@ -26,10 +33,34 @@ public class ArrayList<E> extends java.util.ArrayList<E> implements more.java.ut
         for (int at = 0; at < all.length; at++) {
             super.add((E) all[at]);
         }
+        capacity = all.length;
+    }
+
+    /** Makes the room that there is by now; behind it, room for so many. */
+    private void makeRoom(int wanted) {
+        int size = size();
+        if (capacity < 0 && size > 0) {
+            capacity = 10;
+        }
+        while (capacity >= 0 && capacity < size) {
+            capacity += Math.max(1, capacity >> 1);
+        }
+        if (wanted > Math.max(capacity, 0)) {
+            capacity = capacity < 0 ? Math.max(10, wanted) : Math.max(wanted, capacity + (capacity >> 1));
+        }
+    }
+
+    @Override
+    public boolean add(E next) {
+        if (walks != null) {
+            leaveWalks();
+        }
+        return super.add(next);
     }
 
     @Override
     public void add(int at, E next) {
+        leaveWalks();
         try {
             super.add(at, next);
         } catch (IndexOutOfBoundsException none) {
@@ -39,6 +70,7 @@ public class ArrayList<E> extends java.util.ArrayList<E> implements more.java.ut
 
     @Override
     public E remove(int at) {
+        beforeLess();
         try {
             E found = super.remove(at);
             modCount += 2;
@@ -50,6 +82,7 @@ public class ArrayList<E> extends java.util.ArrayList<E> implements more.java.ut
 
     @Override
     public void clear() {
+        beforeLess();
         modCount += 2 * size() + 1;
         super.clear();
     }
@@ -88,6 +121,7 @@ public class ArrayList<E> extends java.util.ArrayList<E> implements more.java.ut
         if (at < 0) {
             return false;
         }
+        beforeLess();
         super.remove(at);
         modCount += 2;
         return true;
@@ -109,6 +143,8 @@ public class ArrayList<E> extends java.util.ArrayList<E> implements more.java.ut
             throw outside(at);
         }
         Object[] all = others.toArray();
+        leaveWalks();
+        makeRoom(all.length == 0 ? 0 : size() + all.length);
         modCount += all.length == 0 ? 1 : 0;
         for (int next = 0; next < all.length; next++) {
             super.add(at + next, (E) all[next]);
@@ -142,6 +178,7 @@ public class ArrayList<E> extends java.util.ArrayList<E> implements more.java.ut
 
     @Override
     protected void removeRange(int from, int to) {
+        beforeLess();
         modCount += 1;
         for (int at = to - 1; at >= from; at--) {
             super.remove(at);
@@ -149,11 +186,18 @@ public class ArrayList<E> extends java.util.ArrayList<E> implements more.java.ut
         }
     }
 
-    public void ensureCapacity(int capacity) {
-        modCount++;
+    public void ensureCapacity(int wanted) {
+        makeRoom(0);
+        if (wanted > Math.max(capacity, 0) && !(capacity < 0 && wanted <= 10)) {
+            leaveWalks();
+            makeRoom(wanted);
+            modCount++;
+        }
     }
 
     public void trimToSize() {
+        beforeLess();
+        capacity = capacity < 0 ? -1 : size();
         modCount++;
     }
 
@@ -174,7 +218,8 @@ public class ArrayList<E> extends java.util.ArrayList<E> implements more.java.ut
 
     @Override
     public Iterator<E> iterator() {
-        return new Ahead<>(this);
+        walks = new Ahead<>(this, super.iterator(), walks);
+        return walks;
     }
 
     @Override
@@ -239,6 +284,41 @@ public class ArrayList<E> extends java.util.ArrayList<E> implements more.java.ut
         return code;
     }
 
+    @Override
+    public void sort(Comparator<? super E> by) {
+        leaveWalks();
+        int expected = modCount + size();
+        E[] all = (E[]) toArray();
+        try {
+            java.util.Arrays.sort(all, by);
+        } finally {
+            checkChanges(expected);
+            for (int at = 0; at < all.length; at++) {
+                super.set(at, all[at]);
+            }
+        }
+        modCount++;
+    }
+
+    @Override
+    public void replaceAll(UnaryOperator<E> operator) {
+        java.util.Objects.requireNonNull(operator);
+        leaveWalks();
+        int expected = modCount + size();
+        int size = size();
+        for (int at = 0; at < size; at++) {
+            super.set(at, operator.apply(get(at)));
+            checkChanges(expected);
+        }
+        modCount++;
+    }
+
+    private void checkChanges(int expected) {
+        if (modCount + size() != expected) {
+            throw new ConcurrentModificationException();
+        }
+    }
+
     // For a variable of the profile's own class.
 
     public static Object clone(java.util.ArrayList of) {
@@ -257,16 +337,71 @@ public class ArrayList<E> extends java.util.ArrayList<E> implements more.java.ut
         }
     }
 
-    /** A walk from the first item to the last, in few steps. */
+    /**
+     * A walk from the first item to the last, in few steps: the profile's own, which counts no changes. Before the list changes, or an item is to be
+     * removed, one that counts them takes its place.
+     */
     private static final class Ahead<E> implements Iterator<E> {
+        private final ArrayList<E> of;
+        private Iterator<E> walk;
+        private int at;
+        private final Ahead<E> other;
+
+        Ahead(ArrayList<E> of, Iterator<E> walk, Ahead<E> other) {
+            this.of = of;
+            this.walk = walk;
+            this.other = other;
+        }
+
+        @Override
+        public boolean hasNext() {
+            return walk.hasNext();
+        }
+
+        @Override
+        public E next() {
+            at++;
+            return walk.next();
+        }
+
+        Counted<E> counted() {
+            if (!(walk instanceof Counted)) {
+                walk = new Counted<>(of, Math.min(at, of.size()));
+            }
+            return (Counted<E>) walk;
+        }
+
+        @Override
+        public void remove() {
+            counted().remove();
+        }
+    }
+
+    /** What is to be done before the list gets shorter. */
+    private void beforeLess() {
+        leaveWalks();
+        makeRoom(0);
+    }
+
+    /** What is to be done before the list gets longer or shorter. */
+    private void leaveWalks() {
+        for (Ahead<E> walk = walks; walk != null; walk = walk.other) {
+            walk.counted();
+        }
+        walks = null;
+    }
+
+    private static final class Counted<E> implements Iterator<E> {
         private final ArrayList<E> of;
         private int at;
         /** The place at which an item was removed: a walk stands there only until it goes on. */
         private int removed;
         private int expected;
 
-        Ahead(ArrayList<E> of) {
+        Counted(ArrayList<E> of, int at) {
             this.of = of;
+            this.at = at;
+            removed = at == 0 ? 0 : -1;
             expected = of.modCount + of.size();
         }
 

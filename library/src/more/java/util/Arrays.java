@@ -3,7 +3,9 @@ package more.java.util;
 import java.util.AbstractList;
 import java.util.Collection;
 import java.util.Comparator;
+import java.util.Iterator;
 import java.util.List;
+import java.util.NoSuchElementException;
 import java.util.RandomAccess;
 import java.util.function.IntFunction;
 
@@ -39,6 +41,38 @@ public final class Arrays {
         @Override
         public Object[] toArray() {
             return java.util.Arrays.copyOf(of, of.length, Object[].class);
+        }
+
+        @Override
+        public void sort(Comparator<? super Object> by) {
+            java.util.Arrays.sort(of, by);
+        }
+
+        @Override
+        public Iterator<Object> iterator() {
+            return new Walk(of);
+        }
+    }
+
+    private static final class Walk implements Iterator<Object> {
+        private final Object[] of;
+        private int at;
+
+        Walk(Object[] of) {
+            this.of = of;
+        }
+
+        @Override
+        public boolean hasNext() {
+            return at < of.length;
+        }
+
+        @Override
+        public Object next() {
+            if (at >= of.length) {
+                throw new NoSuchElementException();
+            }
+            return of[at++];
         }
     }
 
@@ -231,9 +265,23 @@ public final class Arrays {
         }
     }
 
+    public static void setAll(int[] of, java.util.function.IntUnaryOperator function) {
+        for (int at = 0; at < of.length; at++) {
+            of[at] = function.applyAsInt(at);
+        }
+    }
+
+    public static void setAll(long[] of, java.util.function.IntToLongFunction function) {
+        for (int at = 0; at < of.length; at++) {
+            of[at] = function.applyAsLong(at);
+        }
+    }
+
     /** An array of the kind of another one, with another length. */
     public static Object[] copyOf(Object[] of, int length) {
-        return copyOfRange(of, 0, length);
+        Object[] made = more.java.lang.Kinds.array(of, length);
+        System.arraycopy(of, 0, made, 0, Math.min(of.length, length));
+        return made;
     }
 
     public static Object[] copyOfRange(Object[] of, int from, int to) {
@@ -248,8 +296,17 @@ public final class Arrays {
         return made;
     }
 
+    public static Object[] copyOfRange(Object[] of, int from, int to, Class kind) {
+        if (from > to) {
+            throw new IllegalArgumentException(from + " > " + to);
+        }
+        Object[] made = more.java.lang.Kinds.array(kind, to - from);
+        System.arraycopy(of, from, made, 0, Math.min(of.length, to) - from);
+        return made;
+    }
+
     public static Object[] copyOf(Object[] of, int length, Class kind) {
-        Object[] made = kind == Object[].class ? new Object[length] : more.java.lang.Kinds.array(of, length);
+        Object[] made = more.java.lang.Kinds.array(kind, length);
         System.arraycopy(of, 0, made, 0, Math.min(of.length, length));
         return made;
     }
@@ -268,16 +325,65 @@ public final class Arrays {
 
     public static void sort(Object[] of, int from, int to, Comparator by) {
         check(of.length, from, to);
-        Object[] spare = new Object[to - from];
-        merge(of, from, to, spare, by);
+        if (to - from < 2) {
+            return;
+        }
+        if (to - from < SHORT) {
+            insert(of, from, to, run(of, from, to, by), by);
+        } else {
+            merge(of, from, to, new Object[to - from], by);
+        }
     }
 
     private static int compare(Object one, Object other, Comparator by) {
         return by == null ? ((Comparable) one).compareTo(other) : by.compare(one, other);
     }
 
+    /** What is shorter is sorted by the comparisons of Java's own. */
+    private static final int SHORT = 32;
+
+    /** The end of what is in order from a place on; what falls all the way is turned round. */
+    private static int run(Object[] of, int from, int to, Comparator by) {
+        int end = from + 2;
+        if (compare(of[from + 1], of[from], by) >= 0) {
+            while (end < to && compare(of[end], of[end - 1], by) >= 0) {
+                end++;
+            }
+            return end;
+        }
+        while (end < to && compare(of[end], of[end - 1], by) < 0) {
+            end++;
+        }
+        for (int one = from, other = end - 1; one < other; one++, other--) {
+            Object held = of[one];
+            of[one] = of[other];
+            of[other] = held;
+        }
+        return end;
+    }
+
+    /** Puts each from a place on among those before it, which are in order. */
+    private static void insert(Object[] of, int from, int to, int sorted, Comparator by) {
+        for (int next = sorted; next < to; next++) {
+            Object held = of[next];
+            int low = from;
+            int high = next;
+            while (low < high) {
+                int middle = low + high >>> 1;
+                if (compare(held, of[middle], by) < 0) {
+                    high = middle;
+                } else {
+                    low = middle + 1;
+                }
+            }
+            System.arraycopy(of, low, of, low + 1, next - low);
+            of[low] = held;
+        }
+    }
+
     private static void merge(Object[] of, int from, int to, Object[] spare, Comparator by) {
-        if (to - from < 2) {
+        if (to - from < SHORT) {
+            insert(of, from, to, run(of, from, to, by), by);
             return;
         }
         int middle = from + to >>> 1;
@@ -296,12 +402,26 @@ public final class Arrays {
     }
 
     public static int binarySearch(Object[] of, Object key) {
-        return binarySearch(of, key, null);
+        return search(of, 0, of.length, key, null);
     }
 
     public static int binarySearch(Object[] of, Object key, Comparator by) {
-        int low = 0;
-        int high = of.length - 1;
+        return search(of, 0, of.length, key, by);
+    }
+
+    public static int binarySearch(Object[] of, int from, int to, Object key) {
+        check(of.length, from, to);
+        return search(of, from, to, key, null);
+    }
+
+    public static int binarySearch(Object[] of, int from, int to, Object key, Comparator by) {
+        check(of.length, from, to);
+        return search(of, from, to, key, by);
+    }
+
+    private static int search(Object[] of, int from, int to, Object key, Comparator by) {
+        int low = from;
+        int high = to - 1;
         while (low <= high) {
             int middle = low + high >>> 1;
             int order = compare(of[middle], key, by);
@@ -315,6 +435,16 @@ public final class Arrays {
             }
         }
         return -(low + 1);
+    }
+
+    // Numbers are put in order over steps that get shorter.
+
+    private static int firstStep(int count) {
+        return count < 3 ? 1 : count * 5 / 11;
+    }
+
+    private static int nextStep(int step) {
+        return step == 2 ? 1 : step * 5 / 11;
     }
 
     // byte
@@ -391,20 +521,31 @@ public final class Arrays {
 
     public static void sort(byte[] of, int from, int to) {
         check(of.length, from, to);
-        for (int at = from + 1; at < to; at++) {
-            byte held = of[at];
-            int place = at;
-            while (place > from && of[place - 1] > held) {
-                of[place] = of[place - 1];
-                place--;
+        for (int step = firstStep(to - from); step > 0; step = nextStep(step)) {
+            for (int at = from + step; at < to; at++) {
+                byte held = of[at];
+                int place = at;
+                while (place >= from + step && of[place - step] > held) {
+                    of[place] = of[place - step];
+                    place -= step;
+                }
+                of[place] = held;
             }
-            of[place] = held;
         }
     }
 
     public static int binarySearch(byte[] of, byte key) {
-        int low = 0;
-        int high = of.length - 1;
+        return search(of, 0, of.length, key);
+    }
+
+    public static int binarySearch(byte[] of, int from, int to, byte key) {
+        check(of.length, from, to);
+        return search(of, from, to, key);
+    }
+
+    private static int search(byte[] of, int from, int to, byte key) {
+        int low = from;
+        int high = to - 1;
         while (low <= high) {
             int middle = low + high >>> 1;
             if (of[middle] == key) {
@@ -493,20 +634,31 @@ public final class Arrays {
 
     public static void sort(short[] of, int from, int to) {
         check(of.length, from, to);
-        for (int at = from + 1; at < to; at++) {
-            short held = of[at];
-            int place = at;
-            while (place > from && of[place - 1] > held) {
-                of[place] = of[place - 1];
-                place--;
+        for (int step = firstStep(to - from); step > 0; step = nextStep(step)) {
+            for (int at = from + step; at < to; at++) {
+                short held = of[at];
+                int place = at;
+                while (place >= from + step && of[place - step] > held) {
+                    of[place] = of[place - step];
+                    place -= step;
+                }
+                of[place] = held;
             }
-            of[place] = held;
         }
     }
 
     public static int binarySearch(short[] of, short key) {
-        int low = 0;
-        int high = of.length - 1;
+        return search(of, 0, of.length, key);
+    }
+
+    public static int binarySearch(short[] of, int from, int to, short key) {
+        check(of.length, from, to);
+        return search(of, from, to, key);
+    }
+
+    private static int search(short[] of, int from, int to, short key) {
+        int low = from;
+        int high = to - 1;
         while (low <= high) {
             int middle = low + high >>> 1;
             if (of[middle] == key) {
@@ -595,20 +747,31 @@ public final class Arrays {
 
     public static void sort(int[] of, int from, int to) {
         check(of.length, from, to);
-        for (int at = from + 1; at < to; at++) {
-            int held = of[at];
-            int place = at;
-            while (place > from && of[place - 1] > held) {
-                of[place] = of[place - 1];
-                place--;
+        for (int step = firstStep(to - from); step > 0; step = nextStep(step)) {
+            for (int at = from + step; at < to; at++) {
+                int held = of[at];
+                int place = at;
+                while (place >= from + step && of[place - step] > held) {
+                    of[place] = of[place - step];
+                    place -= step;
+                }
+                of[place] = held;
             }
-            of[place] = held;
         }
     }
 
     public static int binarySearch(int[] of, int key) {
-        int low = 0;
-        int high = of.length - 1;
+        return search(of, 0, of.length, key);
+    }
+
+    public static int binarySearch(int[] of, int from, int to, int key) {
+        check(of.length, from, to);
+        return search(of, from, to, key);
+    }
+
+    private static int search(int[] of, int from, int to, int key) {
+        int low = from;
+        int high = to - 1;
         while (low <= high) {
             int middle = low + high >>> 1;
             if (of[middle] == key) {
@@ -697,20 +860,31 @@ public final class Arrays {
 
     public static void sort(long[] of, int from, int to) {
         check(of.length, from, to);
-        for (int at = from + 1; at < to; at++) {
-            long held = of[at];
-            int place = at;
-            while (place > from && of[place - 1] > held) {
-                of[place] = of[place - 1];
-                place--;
+        for (int step = firstStep(to - from); step > 0; step = nextStep(step)) {
+            for (int at = from + step; at < to; at++) {
+                long held = of[at];
+                int place = at;
+                while (place >= from + step && of[place - step] > held) {
+                    of[place] = of[place - step];
+                    place -= step;
+                }
+                of[place] = held;
             }
-            of[place] = held;
         }
     }
 
     public static int binarySearch(long[] of, long key) {
-        int low = 0;
-        int high = of.length - 1;
+        return search(of, 0, of.length, key);
+    }
+
+    public static int binarySearch(long[] of, int from, int to, long key) {
+        check(of.length, from, to);
+        return search(of, from, to, key);
+    }
+
+    private static int search(long[] of, int from, int to, long key) {
+        int low = from;
+        int high = to - 1;
         while (low <= high) {
             int middle = low + high >>> 1;
             if (of[middle] == key) {
@@ -799,20 +973,31 @@ public final class Arrays {
 
     public static void sort(char[] of, int from, int to) {
         check(of.length, from, to);
-        for (int at = from + 1; at < to; at++) {
-            char held = of[at];
-            int place = at;
-            while (place > from && of[place - 1] > held) {
-                of[place] = of[place - 1];
-                place--;
+        for (int step = firstStep(to - from); step > 0; step = nextStep(step)) {
+            for (int at = from + step; at < to; at++) {
+                char held = of[at];
+                int place = at;
+                while (place >= from + step && of[place - step] > held) {
+                    of[place] = of[place - step];
+                    place -= step;
+                }
+                of[place] = held;
             }
-            of[place] = held;
         }
     }
 
     public static int binarySearch(char[] of, char key) {
-        int low = 0;
-        int high = of.length - 1;
+        return search(of, 0, of.length, key);
+    }
+
+    public static int binarySearch(char[] of, int from, int to, char key) {
+        check(of.length, from, to);
+        return search(of, from, to, key);
+    }
+
+    private static int search(char[] of, int from, int to, char key) {
+        int low = from;
+        int high = to - 1;
         while (low <= high) {
             int middle = low + high >>> 1;
             if (of[middle] == key) {

@@ -1,37 +1,85 @@
 package more.java.util;
 
 import java.util.AbstractCollection;
-import java.util.AbstractMap;
 import java.util.AbstractSet;
 import java.util.Collection;
 import java.util.ConcurrentModificationException;
 import java.util.Iterator;
 import java.util.Map;
 import java.util.NoSuchElementException;
+import java.util.Objects;
 import java.util.Set;
+import java.util.function.BiConsumer;
 import java.util.function.BiFunction;
 import java.util.function.Function;
 
 /** java.util.HashMap whole, which is walked in Java's order. */
 public class HashMap<K, V> extends java.util.HashMap<K, V> implements more.java.util.Map<K, V> {
-    private Node<K, V>[] table;
-    private int first = 16;
+    /** How many nodes make a row so long that Java makes the table larger, and how large a table has long rows. */
+    private static final int LONG_ROW = 8;
+    private static final int LARGE_TABLE = 64;
+    // What walks read is not private, since a class inside would call a method for it.
+    Node<K, V>[] table;
+    int modCount;
+    /** How many there may be before the table grows; the length of the first one where there is none, or 0 for 16. */
+    private int most;
     private int size;
-    private int modCount;
     private Keys keys;
     private Values values;
     private Entries entries;
 
-    static final class Node<K, V> extends AbstractMap.SimpleEntry<K, V> {
+    static final class Node<K, V> implements Map.Entry<K, V> {
         final int hash;
+        final K key;
+        V value;
         Node<K, V> below;
         Node<K, V> before;
         Node<K, V> after;
 
         Node(int hash, K key, V value, Node<K, V> below) {
-            super(key, value);
             this.hash = hash;
+            this.key = key;
+            this.value = value;
             this.below = below;
+        }
+
+        @Override
+        public K getKey() {
+            return key;
+        }
+
+        @Override
+        public V getValue() {
+            return value;
+        }
+
+        @Override
+        public V setValue(V to) {
+            V old = value;
+            value = to;
+            return old;
+        }
+
+        @Override
+        public boolean equals(Object other) {
+            if (other == this) {
+                return true;
+            }
+            if (!(other instanceof Map.Entry)) {
+                return false;
+            }
+            Map.Entry<?, ?> entry = (Map.Entry<?, ?>) other;
+            return isSame(key, entry.getKey()) && isSame(value, entry.getValue());
+        }
+
+        @Override
+        public int hashCode() {
+            return (key == null ? 0 : key.hashCode()) ^ (value == null ? 0 : value.hashCode());
+        }
+
+        @Override
+        public String toString() {
+            return key + "=" + value;
         }
     }
 
@@ -42,16 +90,19 @@ public class HashMap<K, V> extends java.util.HashMap<K, V> implements more.java.
         if (capacity < 0) {
             throw new IllegalArgumentException("Illegal initial capacity: " + capacity);
         }
-        int room = 1;
-        while (room < capacity && room < 1 << 30) {
-            room <<= 1;
-        }
-        first = room;
+        most = lengthFor(capacity);
     }
 
     public HashMap(Map<? extends K, ? extends V> of) {
-        this(of.isEmpty() ? 16 : of.size() + of.size() / 3 + 1);
         putAll(of);
+    }
+
+    private static int lengthFor(int capacity) {
+        int length = 1;
+        while (length < capacity && length < 1 << 30) {
+            length <<= 1;
+        }
+        return length;
     }
 
     private static int hash(Object key) {
@@ -59,20 +110,22 @@ public class HashMap<K, V> extends java.util.HashMap<K, V> implements more.java.
         return code ^ code >>> 16;
     }
 
+    private static boolean isSame(Object one, Object other) {
+        return one == other || one != null && one.equals(other);
+    }
+
     Node<K, V> node(Object key) {
-        if (table == null) {
+        Node<K, V>[] rows = table;
+        if (rows == null) {
             return null;
         }
-        int hash = hash(key);
-        Node<K, V> node = table[hash & table.length - 1];
-        while (node != null && !(node.hash == hash && isSame(key, node.getKey()))) {
+        int code = key == null ? 0 : key.hashCode();
+        int hash = code ^ code >>> 16;
+        Node<K, V> node = rows[hash & rows.length - 1];
+        while (node != null && (node.hash != hash || node.key != key && (key == null || !key.equals(node.key)))) {
             node = node.below;
         }
         return node;
-    }
-
-    private static boolean isSame(Object key, Object other) {
-        return key == other || key != null && key.equals(other);
     }
 
     @Override
@@ -93,48 +146,75 @@ public class HashMap<K, V> extends java.util.HashMap<K, V> implements more.java.
     @Override
     public V get(Object key) {
         Node<K, V> found = node(key);
-        return found == null ? null : found.getValue();
+        return found == null ? null : found.value;
+    }
+
+    @Override
+    public V getOrDefault(Object key, V other) {
+        Node<K, V> found = node(key);
+        if (found == null) {
+            return other;
+        }
+        read(found);
+        return found.value;
     }
 
     @Override
     public V put(K key, V value) {
-        Node<K, V> found = node(key);
-        if (found != null) {
-            V old = found.setValue(value);
-            touched(found);
-            return old;
-        }
+        return put(key, value, false);
+    }
+
+    @Override
+    public V putIfAbsent(K key, V value) {
+        return put(key, value, true);
+    }
+
+    private V put(K key, V value, boolean keeps) {
+        int code = key == null ? 0 : key.hashCode();
+        int hash = code ^ code >>> 16;
         if (table == null) {
-            table = (Node<K, V>[]) new Node[first];
+            grow();
         }
-        int hash = hash(key);
-        int at = hash & table.length - 1;
+        Node<K, V>[] rows = table;
+        int at = hash & rows.length - 1;
+        Node<K, V> node = rows[at];
+        Node<K, V> last = null;
+        int many = 0;
+        while (node != null) {
+            if (node.hash == hash && (node.key == key || key != null && key.equals(node.key))) {
+                V old = node.value;
+                if (!keeps || old == null) {
+                    node.value = value;
+                }
+                touched(node);
+                return old;
+            }
+            last = node;
+            node = node.below;
+            many++;
+        }
         Node<K, V> made = new Node<>(hash, key, value, null);
-        if (table[at] == null) {
-            table[at] = made;
+        if (last == null) {
+            rows[at] = made;
         } else {
-            last(table[at]).below = made;
+            last.below = made;
         }
         added(made);
+        if (many >= LONG_ROW && rows.length < LARGE_TABLE) {
+            grow();
+        }
         modCount++;
-        size++;
-        if (isFull()) {
+        if (++size > most) {
             grow();
         }
         inserted();
         return null;
     }
 
-    private boolean isFull() {
-        return size > table.length / 4 * 3 + table.length % 4 * 3 / 4;
-    }
-
     // Java puts what is computed before what has the same place, and makes room only before it.
 
     private Node<K, V> nodeWithRoom(Object key) {
-        if (table == null) {
-            table = (Node<K, V>[]) new Node[first];
-        } else if (isFull()) {
+        if (table == null || size > most) {
             grow();
         }
         return node(key);
@@ -143,11 +223,24 @@ public class HashMap<K, V> extends java.util.HashMap<K, V> implements more.java.
     private void putFirst(K key, V value) {
         int hash = hash(key);
         int at = hash & table.length - 1;
+        int many = 0;
+        for (Node<K, V> node = table[at]; node != null; node = node.below) {
+            many++;
+        }
         table[at] = new Node<>(hash, key, value, table[at]);
         added(table[at]);
+        if (many >= LONG_ROW - 1 && table.length < LARGE_TABLE) {
+            grow();
+        }
         modCount++;
         size++;
         inserted();
+    }
+
+    private void checkChanges(int expected) {
+        if (modCount != expected) {
+            throw new ConcurrentModificationException();
+        }
     }
 
     private V putComputed(Node<K, V> found, K key, V value) {
@@ -156,9 +249,9 @@ public class HashMap<K, V> extends java.util.HashMap<K, V> implements more.java.
                 putFirst(key, value);
             }
         } else if (value == null) {
-            remove(key);
+            cut(found);
         } else {
-            found.setValue(value);
+            found.value = value;
             touched(found);
         }
         return value;
@@ -166,58 +259,127 @@ public class HashMap<K, V> extends java.util.HashMap<K, V> implements more.java.
 
     @Override
     public V computeIfAbsent(K key, Function<? super K, ? extends V> function) {
-        if (function == null) {
-            throw new NullPointerException();
-        }
+        Objects.requireNonNull(function);
         Node<K, V> found = nodeWithRoom(key);
-        if (found != null && found.getValue() != null) {
+        if (found != null && found.value != null) {
             touched(found);
-            return found.getValue();
+            return found.value;
         }
+        int expected = modCount;
         V value = function.apply(key);
+        checkChanges(expected);
         return value == null ? null : putComputed(found, key, value);
     }
 
     @Override
-    public V compute(K key, BiFunction<? super K, ? super V, ? extends V> function) {
-        if (function == null) {
-            throw new NullPointerException();
+    public V computeIfPresent(K key, BiFunction<? super K, ? super V, ? extends V> function) {
+        Objects.requireNonNull(function);
+        Node<K, V> found = node(key);
+        if (found == null || found.value == null) {
+            return null;
         }
+        int expected = modCount;
+        V value = function.apply(key, found.value);
+        checkChanges(expected);
+        return putComputed(found, key, value);
+    }
+
+    @Override
+    public V compute(K key, BiFunction<? super K, ? super V, ? extends V> function) {
+        Objects.requireNonNull(function);
         Node<K, V> found = nodeWithRoom(key);
-        return putComputed(found, key, function.apply(key, found == null ? null : found.getValue()));
+        int expected = modCount;
+        V value = function.apply(key, found == null ? null : found.value);
+        checkChanges(expected);
+        return putComputed(found, key, value);
     }
 
     @Override
     public V merge(K key, V value, BiFunction<? super V, ? super V, ? extends V> function) {
-        if (value == null || function == null) {
-            throw new NullPointerException();
-        }
+        Objects.requireNonNull(value);
+        Objects.requireNonNull(function);
         Node<K, V> found = nodeWithRoom(key);
-        V old = found == null ? null : found.getValue();
-        return putComputed(found, key, old == null ? value : function.apply(old, value));
+        V old = found == null ? null : found.value;
+        int expected = modCount;
+        V made = old == null ? value : function.apply(old, value);
+        checkChanges(expected);
+        return putComputed(found, key, made);
     }
 
-    private static <K, V> Node<K, V> last(Node<K, V> of) {
-        Node<K, V> node = of;
-        while (node.below != null) {
-            node = node.below;
+    @Override
+    public boolean replace(K key, V old, V value) {
+        Node<K, V> found = node(key);
+        if (found == null || !isSame(found.value, old)) {
+            return false;
         }
-        return node;
+        found.value = value;
+        touched(found);
+        return true;
     }
 
+    @Override
+    public V replace(K key, V value) {
+        Node<K, V> found = node(key);
+        if (found == null) {
+            return null;
+        }
+        V old = found.value;
+        found.value = value;
+        touched(found);
+        return old;
+    }
+
+    @Override
+    public void forEach(BiConsumer<? super K, ? super V> action) {
+        Objects.requireNonNull(action);
+        int expected = modCount;
+        for (Node<K, V> node = next(null); node != null; node = next(node)) {
+            action.accept(node.key, node.value);
+        }
+        checkChanges(expected);
+    }
+
+    @Override
+    public void replaceAll(BiFunction<? super K, ? super V, ? extends V> function) {
+        Objects.requireNonNull(function);
+        int expected = modCount;
+        for (Node<K, V> node = next(null); node != null; node = next(node)) {
+            node.value = function.apply(node.key, node.value);
+        }
+        checkChanges(expected);
+    }
+
+    /** Makes the first table, or one twice as long, in which each row keeps its order. */
     private void grow() {
         Node<K, V>[] old = table;
-        table = (Node<K, V>[]) new Node[old.length * 2];
+        int length = old == null ? most == 0 ? 16 : most : old.length * 2;
+        Node<K, V>[] rows = (Node<K, V>[]) new Node[length];
+        table = rows;
+        most = length / 4 * 3 + length % 4 * 3 / 4;
+        if (old == null) {
+            return;
+        }
         for (int at = 0; at < old.length; at++) {
+            Node<K, V> low = null;
+            Node<K, V> high = null;
             Node<K, V> node = old[at];
             while (node != null) {
                 Node<K, V> below = node.below;
                 node.below = null;
-                int to = node.hash & table.length - 1;
-                if (table[to] == null) {
-                    table[to] = node;
+                if ((node.hash & old.length) == 0) {
+                    if (low == null) {
+                        rows[at] = node;
+                    } else {
+                        low.below = node;
+                    }
+                    low = node;
                 } else {
-                    last(table[to]).below = node;
+                    if (high == null) {
+                        rows[at + old.length] = node;
+                    } else {
+                        high.below = node;
+                    }
+                    high = node;
                 }
                 node = below;
             }
@@ -230,6 +392,25 @@ public class HashMap<K, V> extends java.util.HashMap<K, V> implements more.java.
         if (found == null) {
             return null;
         }
+        cut(found);
+        return found.value;
+    }
+
+    @Override
+    public boolean remove(Object key, Object value) {
+        return cut(key, value);
+    }
+
+    private boolean cut(Object key, Object value) {
+        Node<K, V> found = node(key);
+        if (found == null || !isSame(value, found.value)) {
+            return false;
+        }
+        cut(found);
+        return true;
+    }
+
+    final void cut(Node<K, V> found) {
         int at = found.hash & table.length - 1;
         if (table[at] == found) {
             table[at] = found.below;
@@ -243,15 +424,16 @@ public class HashMap<K, V> extends java.util.HashMap<K, V> implements more.java.
         removed(found);
         modCount++;
         size--;
-        return found.getValue();
     }
 
     @Override
     public void clear() {
         modCount++;
-        size = 0;
-        for (int at = 0; table != null && at < table.length; at++) {
-            table[at] = null;
+        if (size > 0) {
+            size = 0;
+            for (int at = 0; at < table.length; at++) {
+                table[at] = null;
+            }
         }
         cleared();
     }
@@ -265,6 +447,10 @@ public class HashMap<K, V> extends java.util.HashMap<K, V> implements more.java.
     }
 
     void touched(Node<K, V> node) {
+    }
+
+    /** What getOrDefault reads. */
+    void read(Node<K, V> node) {
     }
 
     void inserted() {
@@ -288,10 +474,15 @@ public class HashMap<K, V> extends java.util.HashMap<K, V> implements more.java.
         return null;
     }
 
+    /** Whether it is walked by the rows of its table. */
+    boolean isByRows() {
+        return true;
+    }
+
     @Override
     public boolean containsValue(Object value) {
         for (Node<K, V> node = next(null); node != null; node = next(node)) {
-            if (value == null ? node.getValue() == null : value.equals(node.getValue())) {
+            if (isSame(value, node.value)) {
                 return true;
             }
         }
@@ -300,8 +491,20 @@ public class HashMap<K, V> extends java.util.HashMap<K, V> implements more.java.
 
     @Override
     public void putAll(Map<? extends K, ? extends V> others) {
+        int count = others.size();
+        if (count == 0) {
+            return;
+        }
+        if (table == null) {
+            int wanted = count + count / 3 + 1;
+            most = wanted > most ? lengthFor(wanted) : most;
+        } else {
+            while (count > most) {
+                grow();
+            }
+        }
         for (Map.Entry<? extends K, ? extends V> entry : others.entrySet()) {
-            put(entry.getKey(), entry.getValue());
+            put(entry.getKey(), entry.getValue(), false);
         }
     }
 
@@ -382,23 +585,7 @@ public class HashMap<K, V> extends java.util.HashMap<K, V> implements more.java.
     private final class Keys extends AbstractSet<K> {
         @Override
         public Iterator<K> iterator() {
-            Iterator<Map.Entry<K, V>> walk = entrySet().iterator();
-            return new Iterator<K>() {
-                @Override
-                public boolean hasNext() {
-                    return walk.hasNext();
-                }
-
-                @Override
-                public K next() {
-                    return walk.next().getKey();
-                }
-
-                @Override
-                public void remove() {
-                    walk.remove();
-                }
-            };
+            return new KeyWalk();
         }
 
         @Override
@@ -418,10 +605,11 @@ public class HashMap<K, V> extends java.util.HashMap<K, V> implements more.java.
 
         @Override
         public boolean remove(Object key) {
-            if (!containsKey(key)) {
+            Node<K, V> found = node(key);
+            if (found == null) {
                 return false;
             }
-            HashMap.this.remove(key);
+            cut(found);
             return true;
         }
     }
@@ -429,23 +617,7 @@ public class HashMap<K, V> extends java.util.HashMap<K, V> implements more.java.
     private final class Values extends AbstractCollection<V> {
         @Override
         public Iterator<V> iterator() {
-            Iterator<Map.Entry<K, V>> walk = entrySet().iterator();
-            return new Iterator<V>() {
-                @Override
-                public boolean hasNext() {
-                    return walk.hasNext();
-                }
-
-                @Override
-                public V next() {
-                    return walk.next().getValue();
-                }
-
-                @Override
-                public void remove() {
-                    walk.remove();
-                }
-            };
+            return new ValueWalk();
         }
 
         @Override
@@ -467,7 +639,7 @@ public class HashMap<K, V> extends java.util.HashMap<K, V> implements more.java.
     private final class Entries extends AbstractSet<Map.Entry<K, V>> {
         @Override
         public Iterator<Map.Entry<K, V>> iterator() {
-            return new Walk();
+            return new EntryWalk();
         }
 
         @Override
@@ -477,16 +649,13 @@ public class HashMap<K, V> extends java.util.HashMap<K, V> implements more.java.
 
         @Override
         public boolean contains(Object other) {
-            return other instanceof Map.Entry && other.equals(node(((Map.Entry<?, ?>) other).getKey()));
+            Node<K, V> found = other instanceof Map.Entry ? node(((Map.Entry<?, ?>) other).getKey()) : null;
+            return found != null && found.equals(other);
         }
 
         @Override
         public boolean remove(Object other) {
-            if (!contains(other)) {
-                return false;
-            }
-            HashMap.this.remove(((Map.Entry<?, ?>) other).getKey());
-            return true;
+            return other instanceof Map.Entry && cut(((Map.Entry<?, ?>) other).getKey(), ((Map.Entry<?, ?>) other).getValue());
         }
 
         @Override
@@ -495,40 +664,93 @@ public class HashMap<K, V> extends java.util.HashMap<K, V> implements more.java.
         }
     }
 
-    private final class Walk implements Iterator<Map.Entry<K, V>> {
-        private Node<K, V> ahead = HashMap.this.next(null);
+    private class Walk {
+        private Node<K, V> ahead;
         private Node<K, V> current;
+        /** The row that is looked into next. */
+        private int row;
         private int expected = modCount;
+        private final boolean isByRows = isByRows();
 
-        @Override
-        public boolean hasNext() {
+        Walk() {
+            if (isByRows) {
+                goToRow();
+            } else {
+                ahead = HashMap.this.next(null);
+            }
+        }
+
+        private void goToRow() {
+            Node<K, V>[] rows = table;
+            if (rows == null) {
+                return;
+            }
+            int at = row;
+            int end = rows.length;
+            Node<K, V> found = null;
+            while (at < end && (found = rows[at++]) == null) {
+                continue;
+            }
+            ahead = found;
+            row = at;
+        }
+
+        public final boolean hasNext() {
             return ahead != null;
         }
 
-        @Override
-        public Map.Entry<K, V> next() {
+        final Node<K, V> step() {
             if (modCount != expected) {
                 throw new ConcurrentModificationException();
             }
-            if (ahead == null) {
+            Node<K, V> found = ahead;
+            if (found == null) {
                 throw new NoSuchElementException();
             }
-            current = ahead;
-            ahead = HashMap.this.next(current);
-            return current;
+            current = found;
+            if (isByRows) {
+                ahead = found.below;
+                if (ahead == null) {
+                    goToRow();
+                }
+            } else {
+                ahead = HashMap.this.next(found);
+            }
+            return found;
         }
 
-        @Override
-        public void remove() {
-            if (current == null) {
+        public final void remove() {
+            Node<K, V> found = current;
+            if (found == null) {
                 throw new IllegalStateException();
             }
             if (modCount != expected) {
                 throw new ConcurrentModificationException();
             }
-            HashMap.this.remove(current.getKey());
             current = null;
+            cut(found);
             expected = modCount;
+        }
+    }
+
+    private final class KeyWalk extends Walk implements Iterator<K> {
+        @Override
+        public K next() {
+            return step().key;
+        }
+    }
+
+    private final class ValueWalk extends Walk implements Iterator<V> {
+        @Override
+        public V next() {
+            return step().value;
+        }
+    }
+
+    private final class EntryWalk extends Walk implements Iterator<Map.Entry<K, V>> {
+        @Override
+        public Map.Entry<K, V> next() {
+            return step();
         }
     }
 

@@ -98,7 +98,7 @@ public class HashSet<E> extends java.util.HashSet<E> implements more.java.util.C
 
     @Override
     public Object clone() {
-        return new HashSet<>(this);
+        return new HashSet<>((HashMap<E, Object>) map.clone());
     }
 
     @Override

@@ -12,6 +12,10 @@ public class LinkedMap<K, V> extends HashMap<K, V> {
         byAccess = false;
     }
 
+    LinkedMap(boolean byAccess) {
+        this.byAccess = byAccess;
+    }
+
     public LinkedMap(int capacity, boolean byAccess) {
         super(capacity);
         this.byAccess = byAccess;
@@ -52,6 +56,16 @@ public class LinkedMap<K, V> extends HashMap<K, V> {
     }
 
     @Override
+    void read(Node<K, V> node) {
+        touched(node);
+    }
+
+    @Override
+    boolean isByRows() {
+        return false;
+    }
+
+    @Override
     void cleared() {
         head = null;
         tail = null;
@@ -65,7 +79,7 @@ public class LinkedMap<K, V> extends HashMap<K, V> {
     @Override
     void inserted() {
         if (head != null && removesEldest(head)) {
-            remove(head.getKey());
+            cut(head);
         }
     }
 

@@ -4,7 +4,7 @@ import java.lang.Class;
 import more.floats.Arrays;
 import more.floats.Kinds;
 
-/** What java.lang.Object says of arrays of floats. */
+/** What java.lang.Object says of arrays of floats and of Numbers. */
 public final class Object {
     private Object() {
     }
@@ -28,6 +28,6 @@ public final class Object {
         if (of instanceof double[][][]) {
             return Kinds.Doubles3.class;
         }
-        return Kinds.Floats3.class;
+        return of instanceof float[][][] ? Kinds.Floats3.class : Kinds.Numbers.class;
     }
 }

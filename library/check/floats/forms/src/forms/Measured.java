@@ -1,0 +1,6 @@
+package forms;
+
+/** A generic interface of Numbers. */
+public interface Measured<T extends Number> {
+    T size(T by);
+}

@@ -1,0 +1,14 @@
+package java.util;
+
+public class UnknownFormatConversionException extends IllegalFormatException {
+    private final String conversion;
+
+    public UnknownFormatConversionException(String conversion) {
+        this.conversion = conversion;
+    }
+
+    @Override
+    public String getMessage() {
+        return "Conversion = '" + conversion + "'";
+    }
+}
