@@ -10,7 +10,7 @@ import java.util.function.BiFunction;
 import java.util.function.Function;
 import java.util.function.Supplier;
 
-/** Members of BigDecimal beside a JDK's own, on random numbers of up to forty digits. */
+/** Members of BigDecimal beside a JDK's own, on random numbers of up to forty digits; valueOf beside the shortest text, which a JDK has from 19 on. */
 public final class BigDecimalCheck {
     static final Random RANDOM = new Random(90);
     static int wrong;
@@ -97,7 +97,7 @@ public final class BigDecimalCheck {
         one("pow in " + more, a, x -> x.pow(by, copy), x -> x.pow(by, to));
         double number = Double.longBitsToDouble(RANDOM.nextLong());
         same("of a double", number, "", told(() -> new copied.BigDecimal(number)), told(() -> new BigDecimal(number)));
-        same("valueOf", number, "", told(() -> copied.BigDecimal.valueOf(number)), told(() -> BigDecimal.valueOf(number)));
+        same("valueOf", number, "", told(() -> copied.BigDecimal.valueOf(number)), told(() -> new BigDecimal(copied.Double.toString(number))));
     }
 
     static void read(String text) {
