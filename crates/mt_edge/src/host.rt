@@ -38,8 +38,8 @@ impl<'a, R: Files<File = File> + AllocGlobal> HostTree<'a, R> {
     }
 }
 
-// Want of memory is no fault of the outside.
-fn counted<T: Drop>(count: &mut u64, outcome: io::Result<T>) -> Result<T, EdgeFault>
+/// What a call of the outside answers, with its fault counted. Want of memory is none.
+pub fn counted<T: Drop>(count: &mut u64, outcome: io::Result<T>) -> Result<T, EdgeFault>
     ensures { HasCause count.old count.new result }
 {
     match outcome {

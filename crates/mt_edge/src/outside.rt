@@ -1,9 +1,10 @@
-//! The traits of the outside. A call that fails says so only where a count of faults rose, so that
+//! The traits of what holds bytes outside. A call that fails says so only where a count of faults rose, so that
 //! a caller can tell a real fault from an answer that was made up.
-ghost use Rattle.std.specs.Prelude.{◌≡◌, List, ℕ, OnOk, OnErr, Option};
+ghost use Rattle.std.specs.Prelude.{◌≡◌, ◌≤◌, List, ℕ, OnOk, OnErr, Option};
 ghost use Rattle.mt_edge.specs.Answered.{ListsBelow, TellsLength, ReadsAt, IsReplaced, OldOrReplaced};
 ghost use Rattle.mt_edge.specs.Causes.{HasCause};
 ghost use Rattle.mt_edge.specs.Files.{Files};
+ghost use Rattle.mt_edge.specs.Keeping.{LoadsAll, IsAllDurable};
 ghost use Rattle.mt_edge.specs.Pieces.{Grows, GrowsBy};
 ghost use Rattle.mt_edge.specs.declared.outside.EdgeFault.TheVariants.{Memory as NoMemory};
 
@@ -102,4 +103,44 @@ pub trait Sink {
         ensures ok { OnOk result (Grows (written self.old) (written self.new) bytes.now) }
         ensures err { OnErr result (GrowsBy (written self.old) (written self.new) bytes.now) }
         ensures cause { HasCause (faults self.old) (faults self.new) result };
+}
+
+/// A keeper of bytes, which only grow. A stop of the program at any moment leaves a beginning of
+/// what was kept and appended, at least as long as what is durable.
+pub trait Keeper {
+    /// The bytes that are kept, where the keeper tells them.
+    ghost kept: { Self → Option (List ℕ) };
+
+    /// How many of them a stop leaves.
+    ghost durable: { Self → ℕ };
+
+    /// How many calls of `load` have failed; it stays at 2^64 - 1.
+    ghost reading: { Self → ℕ };
+
+    /// How many calls of `append` and `sync` have failed; it stays at 2^64 - 1.
+    ghost writing: { Self → ℕ };
+
+    /// All bytes that are kept.
+    fn load(&mut self) -> Result<Bytes, EdgeFault>
+        ensures bytes { LoadsAll (kept self.old) result }
+        ensures same { kept self.new ≡ kept self.old }
+        ensures durable { durable self.new ≡ durable self.old }
+        ensures cause { HasCause (reading self.old) (reading self.new) result }
+        ensures other { writing self.new ≡ writing self.old };
+
+    /// Keeps the piece behind all others; after an error a beginning of it was appended.
+    fn append(&mut self, piece: &[u8]) -> Result<(), EdgeFault>
+        ensures ok { OnOk result (Grows (kept self.old) (kept self.new) piece.now) }
+        ensures err { OnErr result (GrowsBy (kept self.old) (kept self.new) piece.now) }
+        ensures durable { durable self.old ≤ durable self.new }
+        ensures cause { HasCause (writing self.old) (writing self.new) result }
+        ensures other { reading self.new ≡ reading self.old };
+
+    /// Makes durable all that is kept.
+    fn sync(&mut self) -> Result<(), EdgeFault>
+        ensures ok { OnOk result (IsAllDurable (kept self.new) (durable self.new)) }
+        ensures same { kept self.new ≡ kept self.old }
+        ensures durable { durable self.old ≤ durable self.new }
+        ensures cause { HasCause (writing self.old) (writing self.new) result }
+        ensures other { reading self.new ≡ reading self.old };
 }

@@ -49,8 +49,9 @@ fn fill(file: &mut File, bytes: &[u8], permissions: Option<Permissions>) -> io::
     file.metadata()
 }
 
-// A folder that may be written and not read can't be opened.
-fn sync_folder_of<R: Files<File = File>>(rt: &R, path: &str) -> io::Result<()> {
+/// Makes durable what stands in the folder of a path. One that may be written and not read can't be
+/// opened, and isn't synced.
+pub fn sync_folder_of<R: Files<File = File>>(rt: &R, path: &str) -> io::Result<()> {
     let folder = match path.rsplit_once('/') {
         Some(("", _)) => "/",
         Some((folder, _)) => folder,

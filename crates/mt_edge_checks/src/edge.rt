@@ -1,15 +1,16 @@
-//! Any tree, the tree and the sink in memory, and the meter of steps.
+//! Any tree and keeper, the tree, the sink and the keeper in memory, and the meter of steps.
 
-ghost use Rattle.std.specs.Prelude.{◌≡◌, ◌↔◌, ◌<◌, ◌+◌, ◌^◌, OnOk, OnErr, IsErrOf, IsTrue};
+ghost use Rattle.std.specs.Prelude.{◌≡◌, ◌↔◌, ◌<◌, ◌≤◌, ◌+◌, ◌^◌, OnOk, OnErr, IsErrOf, IsTrue};
 ghost use Rattle.mt_edge.specs.Answered.{ListsBelow, ReadsAt, IsReplaced, OldOrReplaced};
 ghost use Rattle.mt_edge.specs.Causes.{HasCause};
 ghost use Rattle.mt_edge.specs.Held.{fails, after_call};
+ghost use Rattle.mt_edge.specs.Keeping.{IsAllDurable};
 ghost use Rattle.mt_edge.specs.Pieces.{Grows, GrowsBy};
-ghost use Rattle.mt_edge.specs.Shown.{tree_holds, tree_script, tree_reading, tree_writing, sink_written, sink_script, sink_faults};
+ghost use Rattle.mt_edge.specs.Shown.{tree_holds, tree_script, tree_reading, tree_writing, sink_written, sink_script, sink_faults, keeper_kept, keeper_durable, keeper_script, keeper_reading, keeper_writing};
 ghost use Rattle.mt_edge.specs.declared.outside.EdgeFault.TheVariants.{Failed};
 
 use class_model::Bytes;
-use mt_edge::{EdgeFault, MemSink, MemTree, MeterPart, Sink, Tree};
+use mt_edge::{EdgeFault, Keeper, MemKeeper, MemSink, MemTree, MeterPart, Sink, Tree};
 
 /// `Tree::list`, of any tree.
 pub fn list<T: Tree>(tree: &mut T, folder: &str) -> Result<Vec<String>, EdgeFault>
@@ -56,6 +57,31 @@ pub fn put(sink: &mut MemSink, bytes: &[u8]) -> Result<(), EdgeFault>
     ensures counted { sink_script sink.new ≡ after_call (sink_script sink.old) }
 {
     sink.put(bytes)
+}
+
+/// `MemKeeper::append`.
+pub fn append(keeper: &mut MemKeeper, piece: &[u8]) -> Result<(), EdgeFault>
+    ensures ok { OnOk result (Grows (keeper_kept keeper.old) (keeper_kept keeper.new) piece.now) }
+    ensures err { OnErr result
+        (GrowsBy (keeper_kept keeper.old) (keeper_kept keeper.new) piece.now) }
+    ensures durable { keeper_durable keeper.old ≤ keeper_durable keeper.new }
+    ensures cause { HasCause (keeper_writing keeper.old) (keeper_writing keeper.new) result }
+    ensures other { keeper_reading keeper.new ≡ keeper_reading keeper.old }
+    ensures told { IsErrOf result Failed ↔ IsTrue (fails (keeper_script keeper.old)) }
+    ensures counted { keeper_script keeper.new ≡ after_call (keeper_script keeper.old) }
+{
+    keeper.append(piece)
+}
+
+/// `Keeper::sync`, of any keeper.
+pub fn sync<K: Keeper>(keeper: &mut K) -> Result<(), EdgeFault>
+    ensures ok { OnOk result (IsAllDurable (K.kept keeper.new) (K.durable keeper.new)) }
+    ensures same { K.kept keeper.new ≡ K.kept keeper.old }
+    ensures durable { K.durable keeper.old ≤ K.durable keeper.new }
+    ensures cause { HasCause (K.writing keeper.old) (K.writing keeper.new) result }
+    ensures other { K.reading keeper.new ≡ K.reading keeper.old }
+{
+    keeper.sync()
 }
 
 /// `MeterPart::tick`.

@@ -13,7 +13,11 @@ mod edge;
 #[cfg(test)]
 mod edge_tests;
 #[cfg(test)]
+mod keeper_calls;
+#[cfg(test)]
+mod keeper_tests;
+#[cfg(test)]
 mod tree_calls;
 
 pub use arith::{an_operation_has_one_result, int_op};
-pub use edge::{list, put, read, replace, tick};
+pub use edge::{append, list, put, read, replace, sync, tick};

@@ -1,7 +1,7 @@
 //! A gate that holds the first cell until all others have ended.
 
+use mt_edge::Gate;
 use std::sync::atomic::{AtomicBool, AtomicU64, Ordering};
-use worker_gate::Gate;
 
 const CELLS: u64 = 12;
 

@@ -7,12 +7,12 @@ ghost use Rattle.worker_checks.specs.Rows.{IsFresh, IsIdleJob, IsTableOfRows, ro
 use crate::rows::{RowHands, RowRecord};
 use crate::samples::hands_of;
 use class_model::{Memory, Seq};
-use mt_edge::Meter;
+use mt_edge::{Gate, Meter, NoJournal};
 use mutant_table::{ClaimSeat, ClaimTable};
 use std::alloc::Global;
 use std::sync::Wait;
 use std::thread::Threads;
-use worker_gate::{CellEnd, Gate, Job, NoJournal, Plan, run_workers, settle};
+use worker_gate::{CellEnd, Job, Plan, run_workers, settle};
 
 /// How the cells of all six mutants ended, in their order.
 pub type RowEnds = Vec<Option<CellEnd<RowRecord, RowRecord>>>;

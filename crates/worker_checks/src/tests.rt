@@ -3,9 +3,9 @@
 
 use crate::gates::HeldGate;
 use crate::jobs::{RowEnds, do_rows};
-use mt_edge::Meter;
+use mt_edge::{Meter, OpenGate};
 use std::test::Fail;
-use worker_gate::{CellEnd, OpenGate};
+use worker_gate::CellEnd;
 
 // The first test that detects each mutant.
 const FIRST: [Option<u64>; 6] = [Some(1), Some(0), Some(0), None, None, Some(1)];

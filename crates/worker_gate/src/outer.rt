@@ -4,8 +4,8 @@ ghost use Rattle.std.specs.Prelude.{◌≡◌, ◌<◌, ◌^◌, IfOk, OnOk};
 ghost use Rattle.worker_gate.specs.Hands.{Reading, Runs, detects_found, detects_made, IsCellOf, Finds, Makes, Counts, CountsAtMost};
 
 use class_model::Memory;
-use mt_edge::{EdgeFault, MeterPart};
-use std::sync::Wait;
+use mt_edge::MeterPart;
+pub use mt_edge::{Gate, NoJournal, OpenGate, Recorder};
 
 /// What runs cells for one worker: its own copy of the program, in which the class of the mutant
 /// that it was asked of last stands edited, and all that is kept from run to run. Cells of one
@@ -48,41 +48,4 @@ pub trait Hands {
         ensures made { IfOk result (Makes reading (job self.old) mutant test) }
         ensures steps { OnOk result (Counts reading (job self.old) mutant test part.old part.new) }
         ensures most { CountsAtMost reading (job self.old) mutant test part.old part.new };
-}
-
-/// Keeps the records of runs as soon as they are made. Nothing is said of its answer, since it may
-/// take a lock.
-pub trait Recorder<M> {
-    fn keep<W: Wait>(&self, rt: &W, made: &M) -> Result<(), EdgeFault>;
-}
-
-/// A recorder that keeps nothing.
-pub struct NoJournal;
-
-impl<M> Recorder<M> for NoJournal {
-    fn keep<W: Wait>(&self, _rt: &W, _made: &M) -> Result<(), EdgeFault> {
-        Ok(())
-    }
-}
-
-/// What a worker tells while it works. Nothing is said of a gate, but that its calls return. Cells
-/// are told by the numbers that are drawn.
-pub trait Gate {
-    /// So many cells will be worked on.
-    fn open(&self, _cells: u64) {}
-
-    /// A worker begins a cell.
-    fn begin(&self, worker: u64, cell: u64);
-
-    /// It has ended it.
-    fn end(&self, worker: u64, cell: u64);
-}
-
-/// The gate whose calls return at once.
-pub struct OpenGate;
-
-impl Gate for OpenGate {
-    fn begin(&self, _worker: u64, _cell: u64) {}
-
-    fn end(&self, _worker: u64, _cell: u64) {}
 }
