@@ -7,7 +7,8 @@ lines.
 
 Hostile ones, each of the length that a history may have, or of so many bytes where KIND-BYTES is asked for: prefixes
 (classes of 500 bytes that differ in the last four), names (a million of 500 bytes in one record), shared (a class of 4 MB
-that each record names), small (records of 37 bytes), equal (so are these, and the last two are equal); and counts (four
+that each record names), small (records of 37 bytes), equal (so are these, and the last two are equal), entries (each record is of a test of
+its own and names the same 127 names of a byte), short (names of four bytes, all in one record); and counts (four
 billion names are said to be there, and none is)."""
 import os
 import struct
@@ -94,6 +95,27 @@ def small(file, most=MOST):
     put(file, (0, []), (count, (record(b'', b'', heap=k) for k in range(count))))
 
 
+def entries(file, most=MOST):
+    consulted = [(bytes([k + 1]), 0) for k in range(127)]
+    count = (most - 16) // len(record(b'T', b't00000', consulted))
+    put(file, (0, []), (count, (record(b'T', b't%05x' % k, consulted) for k in range(count))))
+
+
+def short(file, most=MOST):
+    count = (most - 100) // 10
+    digits = bytes(range(1, 128))
+
+    def name(k):
+        return bytes((digits[k // 2048383], digits[k // 16129 % 127], digits[k // 127 % 127], digits[k % 127]))
+
+    tail = u4(0)
+    head = record(b'T', b't')[:-8] + u4(count)
+    file.write(b'MTHI' + u2(2) + u2(1) + u4(0) + u4(1) + head)
+    for k in range(count):
+        file.write(b'\0\4' + name(k) + b'\0\0\0\0')
+    file.write(tail)
+
+
 def counts(file):
     file.write(b'MTHI' + u2(2) + u2(1) + u4(0) + u4(1) + record(b'T', b't')[:-8] + u4(4294967295))
 
@@ -109,7 +131,8 @@ def main():
     for kind in sys.argv[2:]:
         with open(os.path.join(sys.argv[1], kind + '.history'), 'wb') as file:
             word, *numbers = kind.split('-')
-            kinds = {'runs': runs, 'prefixes': prefixes, 'names': names, 'shared': shared, 'small': small, 'counts': counts, 'equal': equal}
+            kinds = {'runs': runs, 'prefixes': prefixes, 'names': names, 'shared': shared, 'small': small, 'counts': counts,
+                     'equal': equal, 'entries': entries, 'short': short}
             kinds[word](file, *map(int, numbers))
 
 

@@ -2,8 +2,9 @@
 //! hexadecimal digits: `read`, for the number of records, and whether they are written as they
 //! were; `cuts`, for the places of the faults where so many bytes are left, from none on.
 
-use crate::calls::{read, write};
+use crate::uses::Uses;
 use byteorder::{BigEndian, ByteOrder};
+use history_file::{read_history, write_history};
 use history_rules::HistoryFault;
 use std::alloc::Global;
 
@@ -50,25 +51,59 @@ fn push_fault(out: &mut String, fault: HistoryFault) -> anyhow::Result<()> {
     }
 }
 
-// Whether a history is written as its bytes were, and how many classes it says that it has.
-fn push_written(bytes: &[u8], again: &[u8], out: &mut String) -> anyhow::Result<()> {
+// The number of classes that stands in what is written.
+fn class_count(text: &[u8]) -> u32 {
+    match text.get(8..12) {
+        Some(count) if count.len() == 4 => BigEndian::read_u32(count),
+        _ => u32::MAX,
+    }
+}
+
+// Whether names and classes are numbered in the order of their first use in what is written. Names
+// may have stood in records that were dropped, too.
+fn push_uses(
+    uses: &Uses,
+    texts: &[&[u8]],
+    classes: u32,
+    dropped: bool,
+    out: &mut String,
+) -> anyhow::Result<()> {
+    push(out, ", names ")?;
+    push_number(out, uses.names() as u64)?;
+    if !dropped && !uses.are_names(texts) {
+        push(out, " in another order")?;
+    }
+    if !uses.are_classes(classes) {
+        push(out, ", classes in another order")?;
+    }
+    Ok(())
+}
+
+// Whether a history is written as its bytes were, and how many classes and names stand in the text.
+fn push_written(
+    bytes: &[u8],
+    texts: &[&[u8]],
+    again: &[u8],
+    out: &mut String,
+) -> anyhow::Result<()> {
+    let same = again == bytes;
+    let classes = class_count(again);
     push(
         out,
-        if again == bytes {
+        if same {
             ", written as they were, classes "
         } else {
             ", written otherwise, classes "
         },
     )?;
-    match again.get(8..12) {
-        Some(count) if count.len() == 4 => push_number(out, u64::from(BigEndian::read_u32(count))),
-        _ => push(out, "?"),
-    }
+    push_number(out, u64::from(classes))?;
+    let uses = Uses::of(*out.allocator(), again)?;
+    push_uses(&uses, texts, classes, !same, out)
 }
 
 // How many records are read, and whether they are written as the bytes were.
 fn push_read(alloc: Global, profile: u16, bytes: &[u8], out: &mut String) -> anyhow::Result<()> {
-    match read(alloc, profile, bytes) {
+    match read_history(alloc, profile, bytes) {
         Err(fault) => {
             push(out, "bad at ")?;
             push_fault(out, fault)
@@ -76,8 +111,8 @@ fn push_read(alloc: Global, profile: u16, bytes: &[u8], out: &mut String) -> any
         Ok(history) => {
             push_number(out, history.rows().len() as u64)?;
             push(out, " records")?;
-            match write(alloc, profile, &history) {
-                Ok(again) => push_written(bytes, again.as_slice(), out),
+            match write_history(alloc, profile, &history) {
+                Ok(again) => push_written(bytes, history.texts(), again.as_slice(), out),
                 Err(fault) => push_fault(out, fault),
             }
         }
@@ -89,7 +124,7 @@ fn push_cuts(alloc: Global, profile: u16, bytes: &[u8], out: &mut String) -> any
         if len > 0 {
             push(out, " ")?;
         }
-        match read(alloc, profile, &bytes[..len]) {
+        match read_history(alloc, profile, &bytes[..len]) {
             Err(fault) => push_fault(out, fault)?,
             Ok(_) => push(out, "read")?,
         }

@@ -1,8 +1,8 @@
 //! Reads histories, a line each, and prints each line with what is read of it.
 #![tactic(auto)]
 
-mod calls;
 mod lines;
+mod uses;
 
 use crate::lines::push_line;
 

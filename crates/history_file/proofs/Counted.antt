@@ -3,7 +3,7 @@ use Rattle.std.proofs.Common.{◌≡◌, ◌∙◌, ℕ, suc, ◌+◌, ◌-◌, 
 use Rattle.std.specs.Prelude.{◌||◌, All, slice_index, if◌then◌else◌}
 use Rattle.std.specs.List.{flat_map}
 use Rattle.std.specs.Int.{w32, byte_len, to_be_bytes}
-use Rattle.std.proofs.lemmas.List.{length-append, map-append}
+use Rattle.std.proofs.lemmas.List.{length-append, length-map, map-append}
 use Rattle.std.proofs.lemmas.List.Elements.{All-nil, All-head, All-tail}
 use Rattle.std.proofs.lemmas.Grind.{flat_map-append}
 use Rattle.codec_rules.specs.Input.{Input}
@@ -171,6 +171,8 @@ pub record HalfFound (version : ℕ) (pool : List (List ℕ)) (count i : ℕ) (f
   pub found : HasFound version pool i (known_by (with_record pool) no_past (found_records pool f)) f
   pub place : IsIn file to
   pub room : HasRoom f.texts to
+  pub many : length f.rows ≡ i
+  pub within : i ≤ count
 
 none_marked : (ms : List ℕ) (k : ℕ) → length ms ≡ 0 → slice_index ms k ≡ 0
 none_marked [] k e = refl
@@ -208,6 +210,8 @@ found_begin version pool count file from f texts none used seen rows place short
       });
       place = place;
       room = record { texts = omega (arith, long); short = short };
+      many = ap length rows;
+      within = omega arith;
     }
 
 pub found_more : (version : ℕ) (pool : List (List ℕ)) (count i : ℕ) (file : List ℕ) (from to after : Input) (old new : Found) → HalfFound version pool count i file from to old → i < count → NextFound version pool (i + 1) (known_by (with_record pool) no_past (found_records pool old)) old new file to after → HalfFound version pool count (i + 1) file from after new
@@ -221,18 +225,26 @@ found_more version pool count i file from to after old new h lt n =
       found = subst (λ (p : Past). HasFound version pool (i + 1) p new) (sym now) n.found;
       place = n.place;
       room = n.room;
+      many =
+          (let a = length-map new.rows (record_of (texts_of new.texts) pool) in
+          let b = length-map old.rows (record_of (texts_of old.texts) pool) in
+          let c : length (found_records pool new) ≡ length (found_records pool old) + 1 = ap length n.rows ∙ length-append (found_records pool old) (n.next ∷ []) in
+          let d = h.many in
+          omega (arith, a, b, c, d));
+      within = omega (arith, lt);
     }
 
 pub found_fails : (version : ℕ) (pool : List (List ℕ)) (count i : ℕ) (file : List ℕ) (from to : Input) (f : Found) (fault : HistoryFault) → HalfFound version pool count i file from to f → i < count → Fails Memory fault (next_record_at version pool (known_by (with_record pool) no_past (found_records pool f)) to) → Fails Memory fault (many_by (next_record_at version pool) (with_record pool) no_past count from)
 found_fails version pool count i file from to f fault h lt fails =
     ends_by Memory fault (next_record_at version pool) (with_record pool) (found_records pool f) count i (known_by (with_record pool) no_past (found_records pool f)) to (many_by (next_record_at version pool) (with_record pool) no_past count from) lt fails h.total
 
-pub found_all : (version : ℕ) (pool : List (List ℕ)) (count i : ℕ) (file : List ℕ) (from to : Input) (f : Found) → HalfFound version pool count i file from to f → count ≤ i → (many_by (next_record_at version pool) (with_record pool) no_past count from ≡ Ok (found_records pool f, to)) × AreFound version pool f
-found_all version pool count i file from to f h le = (
+pub found_all : (version : ℕ) (pool : List (List ℕ)) (count i : ℕ) (file : List ℕ) (from to : Input) (f : Found) → HalfFound version pool count i file from to f → count ≤ i → count < 2 ^ 32 → (many_by (next_record_at version pool) (with_record pool) no_past count from ≡ Ok (found_records pool f, to)) × AreFound version pool f
+found_all version pool count i file from to f h le fits = (
   is_done_by (next_record_at version pool) (with_record pool) (found_records pool f) count i (known_by (with_record pool) no_past (found_records pool f)) to (many_by (next_record_at version pool) (with_record pool) no_past count from) le h.total,
   record {
     texts = h.found.texts;
     few = (let a = h.room.texts in let b = h.room.short in omega (arith, a, b));
+    few_rows = (let a = h.many in let b = h.within in omega (arith, a, b, fits));
     rows = h.found.rows;
     within = h.found.within;
     used = sym h.found.used;

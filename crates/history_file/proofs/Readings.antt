@@ -1,5 +1,5 @@
 -- The whole of a history, by its parts.
-use Rattle.std.proofs.Common.{◌≡◌, ◌∙◌, ℕ, zero, suc, ◌+◌, ◌-◌, ◌<◌, ◌≤◌, ◌^◌, Bor, Bool, true, false, List, [], ◌∷◌, ◌++◌, length, map, take, filter, not, Result, Ok, Err, refl, sym, ap, subst, arith}
+use Rattle.std.proofs.Common.{◌≡◌, ◌∙◌, ℕ, zero, suc, ◌+◌, ◌-◌, ◌<◌, ◌≤◌, ◌^◌, Bor, Bool, true, false, cond, List, [], ◌∷◌, ◌++◌, length, map, take, filter, not, Result, Ok, Err, refl, sym, ap, subst, arith}
 use Rattle.std.specs.Prelude.{◌==◌, All, min, nat_lt, if◌then◌else◌}
 use Rattle.std.specs.List.{flat_map}
 use Rattle.std.proofs.lemmas.Bool.{le-ltb, ltb-false}
@@ -209,6 +209,21 @@ kept_rows m n version texts rows all = by (version == 1)
     by true = filter_rows m n (λ r. not (is_failed (outcome_of texts r.end))) rows all
     by false = all
 
+filter_few : (p : Row → Bool) (rows : List Row) → length (filter p rows) ≤ length rows
+filter_few p [] = omega arith
+filter_few p (r ∷ rows) = by (p r)
+  where
+    by : (b : Bool) → length (cond b (r ∷ filter p rows) (filter p rows)) ≤ suc (length rows)
+    by true = (let h = filter_few p rows in omega (arith, h))
+    by false = (let h = filter_few p rows in omega (arith, h))
+
+pub kept_few : (version : ℕ) (texts : List (List ℕ)) (rows : List Row) → length rows < 2 ^ 32 → length (kept_of version texts rows) < 2 ^ 32
+kept_few version texts rows few = by (version == 1)
+  where
+    by : (b : Bool) → length (if b then filter (λ r. not (is_failed (outcome_of texts r.end))) rows else rows) < 2 ^ 32
+    by true = (let h = filter_few (λ r. not (is_failed (outcome_of texts r.end))) rows in omega (arith, h, few))
+    by false = few
+
 pub kept_records : (version : ℕ) (texts classes : List (List ℕ)) (rows : List Row) → map (record_of texts classes) (kept_of version texts rows) ≡ (if version == 1 then filter (λ r. not (is_failed r.outcome)) (map (record_of texts classes) rows) else map (record_of texts classes) rows)
 kept_records version texts classes rows = by (version == 1)
   where
@@ -266,5 +281,6 @@ history_numbered p texts rows h t r =
       few_texts = h.found.few;
       classes = h.different;
       few_classes = h.few;
+      few_rows = subst (λ (rs : List Row). length rs < 2 ^ 32) (sym r) (kept_few p.head.version texts p.found.rows h.found.few_rows);
       rows = subst (λ (rs : List Row). All (IsRow (length (texts_of p.found.texts)) (length (slices_of p.classes))) rs) (sym r) (kept_rows (length (texts_of p.found.texts)) (length (slices_of p.classes)) p.head.version texts p.found.rows h.found.rows);
     })

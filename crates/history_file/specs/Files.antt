@@ -79,6 +79,7 @@ pub record AreClasses (from : Input) (to : Input) (classes : List (List ℕ)) : 
 pub record AreFound (version : ℕ) (pool : List (List ℕ)) (f : Found) : Type 0 where
   pub texts : AreTexts f.texts
   pub few : length (texts_of f.texts) < 2 ^ 32
+  pub few_rows : length f.rows < 2 ^ 32
   pub rows : All (IsRow (length (texts_of f.texts)) (length pool)) f.rows
   pub within : f.used ≤ length pool
   pub used :

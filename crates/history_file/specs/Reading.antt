@@ -1,23 +1,25 @@
 -- What calls that read parts of a history by number give (this project's own).
 use Rattle.std.specs.Prelude.{◌≡◌, ◌<◌, ℕ, Bool, false, nat_lt, List, ◌∷◌, length, map, Option}
-use Rattle.std.specs.Prelude.{Some, None, Result, Ok, Err, slice_get, All}
+use Rattle.std.specs.Prelude.{Some, None, IfSome, Result, Ok, Err, slice_get, All}
 use Rattle.std.specs.Option.{option_map_or}
 use Rattle.codec_rules.specs.Input.{Input}
 use Rattle.codec_rules.specs.Meets.{Fails}
 use Rattle.program_rules.specs.Names.{Name}
 use Rattle.class_model.specs.declared.outcome.Cause.{Cause}
 use Rattle.class_model.specs.declared.outcome.Cause.TheVariants.{Returned, Thrown}
+use Rattle.class_model.specs.declared.outcome.Outcome.TheVariants.{Failed}
 use Rattle.history_rules.specs.declared.fault.HistoryFault.{HistoryFault}
 use Rattle.history_rules.specs.declared.fault.HistoryFault.TheVariants.{Memory}
 use Rattle.history_rules.specs.Items.{FileReader}
 use Rattle.history_rules.specs.Entries as history
 use Rattle.history_rules.specs.Entries.{Used, is_present}
 use Rattle.history_rules.specs.Histories.{used_behind}
+use Rattle.history_file.specs.declared.row.End.{End}
 use Rattle.history_file.specs.declared.row.Entry.{Entry}
 use Rattle.history_file.specs.declared.row.Row.{Row}
 use Rattle.record_rules.specs.declared.record.RunRecord.{RunRecord}
 use Rattle.history_file.specs.declared.texts.Texts.{Texts}
-use Rattle.history_file.specs.Rows.{name_of, entry_of, record_of, IsEntry, IsRow}
+use Rattle.history_file.specs.Rows.{name_of, outcome_of, entry_of, record_of, IsEntry, IsRow}
 use Rattle.history_file.specs.Texts.{texts_of, Grown, Marked, KeepsMarks}
 
 -- ---- one name
@@ -43,6 +45,15 @@ pub record Told (old : Texts) (new : Texts) (P : ℕ → Type 0) : Type 0 where
 abbrev pub cause_of : List (List ℕ) → Option ℕ → Cause
 cause_of texts None = Returned
 cause_of texts (Some k) = Thrown (name_of texts k)
+
+-- The number of the name of what was thrown, if anything was, is of one that is there.
+abbrev pub ToldCause : Texts → Texts → Option ℕ → Type 0
+ToldCause old new cause = Told old new (λ n. IfSome cause (λ k. k < n))
+
+-- The end is that of a test that failed for this cause.
+abbrev pub IsFailedBy : Option ℕ → End → Type 0
+IsFailedBy cause end =
+    (texts : List (List ℕ)) → outcome_of texts end ≡ Failed (cause_of texts cause)
 
 -- ---- consulted names
 

@@ -79,11 +79,12 @@ pub record IsRow (texts : ℕ) (classes : ℕ) (r : Row) : Type 0 where
 abbrev pub IsTextBehind : List (List ℕ) → List ℕ → Type 0
 IsTextBehind before text = IsTrue (is_some (units_of text)) × (is_listed text before ≡ false)
 
--- Names differ, classes differ, and each number is that of one. There are as many as numbers of four
--- bytes can tell, which are those of the file.
+-- Names differ, classes differ, and each number is that of one. Of these and of the records there
+-- are as many as numbers of four bytes can tell, which are those of the file.
 pub record IsNumbered (n : Numbered) : Type 0 where
   pub texts : AllBy IsTextBehind with_class [] n.texts
   pub few_texts : length n.texts < 2 ^ 32
   pub classes : AllBy IsClassBehind with_class [] n.classes
   pub few_classes : length n.classes < 2 ^ 32
+  pub few_rows : length n.rows < 2 ^ 32
   pub rows : All (IsRow (length n.texts) (length n.classes)) n.rows

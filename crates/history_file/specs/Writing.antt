@@ -1,12 +1,15 @@
 -- What calls that write records by number ask and give (this project's own).
 use Rattle.std.specs.Prelude.{◌≡◌, ◌<◌, ◌≤◌, ◌+◌, ◌^◌, ℕ, zero, suc, List, [], ◌∷◌, length, map, Some}
-use Rattle.std.specs.Prelude.{All, slice_get, slice_index, if◌then◌else◌}
+use Rattle.std.specs.Prelude.{All, Result, slice_get, slice_index, if◌then◌else◌}
+use Rattle.codec_rules.specs.Meets.{Gives}
 use Rattle.program_rules.specs.Names.{is_listed}
 use Rattle.record_rules.specs.declared.record.RunRecord.{RunRecord}
 use Rattle.history_rules.specs.Items.{IsText, AllBy}
 use Rattle.history_rules.specs.Classes.{with_class, class_of, number_of, place_of}
 use Rattle.history_rules.specs.Spelling.{IsRecord}
-use Rattle.history_rules.specs.Histories.{Contents}
+use Rattle.history_rules.specs.declared.fault.HistoryFault.{HistoryFault}
+use Rattle.history_rules.specs.declared.fault.HistoryFault.TheVariants.{Memory}
+use Rattle.history_rules.specs.Histories.{Contents, written}
 use Rattle.history_rules.specs.Laws.{AreDifferent}
 use Rattle.history_file.specs.declared.order.Order.{Order}
 use Rattle.history_file.specs.declared.row.Entry.{Entry}
@@ -91,6 +94,10 @@ pub record IsWrittenRow (texts : List (List ℕ)) (o : Order) (r : Row) : Type 0
   pub form : IsRecord 2 (used_by o) used (record_of texts (classes_of o) r)
 
 -- ---- the whole
+
+-- A call gives the one text of records, or that it is too long, or runs out of memory.
+abbrev pub GivesText : ℕ → List RunRecord → Result (List ℕ) HistoryFault → Type 0
+GivesText profile records result = Gives Memory (λ bytes. bytes) (written profile records) result
 
 abbrev pub contents_under :
     ℕ → List (List ℕ) → List RunRecord → Contents

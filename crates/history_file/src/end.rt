@@ -1,13 +1,12 @@
 //! How a run ended.
 
 ghost use Rattle.std.specs.Prelude.{◌≡◌, ◌<◌, ℕ, List, IfOk, IfSome};
-ghost use Rattle.class_model.specs.declared.outcome.Outcome.TheVariants.{Failed};
 ghost use Rattle.history_rules.specs.Items.{text_where};
 ghost use Rattle.history_rules.specs.Reading.{is_paired_from, is_paired, is_high, is_low, told_cause_at, cause_at, failed_at, outcome_at, are_steps};
 ghost use Rattle.history_rules.specs.Histories.{is_failed};
 ghost use Rattle.history_file.specs.Rows.{name_of, outcome_of, IsEnd};
 ghost use Rattle.history_file.specs.Texts.{AreTexts, HasRoom};
-ghost use Rattle.history_file.specs.Reading.{ReadsUnder, Told, cause_of};
+ghost use Rattle.history_file.specs.Reading.{IsFailedBy, ReadsUnder, Told, ToldCause, cause_of};
 
 use crate::row::End;
 use crate::texts::{Texts, decode};
@@ -91,7 +90,7 @@ fn read_told_cause<'a>(
     requires known { AreTexts texts.old }
     requires room { HasRoom texts.old cur.old }
     ensures read { ReadsUnder cause_of told_cause_at texts.new cur.old cur.new result }
-    ensures told { IfOk result (λ cause. Told texts.old texts.new (λ n. IfSome cause (λ k. k < n))) }
+    ensures told { IfOk result (λ cause. ToldCause texts.old texts.new cause) }
     ensures room { IfOk result (λ _. HasRoom texts.new cur.new) }
 {
     let at = cur.at();
@@ -117,7 +116,7 @@ fn read_cause<'a>(
     requires known { AreTexts texts.old }
     requires room { HasRoom texts.old cur.old }
     ensures read { ReadsUnder cause_of (cause_at version) texts.new cur.old cur.new result }
-    ensures told { IfOk result (λ cause. Told texts.old texts.new (λ n. IfSome cause (λ k. k < n))) }
+    ensures told { IfOk result (λ cause. ToldCause texts.old texts.new cause) }
     ensures room { IfOk result (λ _. HasRoom texts.new cur.new) }
 {
     if version == 1 {
@@ -128,7 +127,7 @@ fn read_cause<'a>(
 }
 
 fn end_of(cause: Option<u32>) -> End
-    ensures failed { (texts : List (List ℕ)) → outcome_of texts result ≡ Failed (cause_of texts cause) }
+    ensures failed { IsFailedBy cause result }
     ensures within { (n : ℕ) → IfSome cause (λ k. k < n) → IsEnd n result }
 {
     match cause {

@@ -83,6 +83,26 @@ fn read_next<'a>(
     Ok(())
 }
 
+// How many records are said to come, but no more than the bytes that are left can spell: each has
+// 37 at least.
+fn room_of(count: u32, left: u64) -> usize {
+    let count = u64::from(count);
+    let most = left / 37;
+    if count < most {
+        count as usize
+    } else {
+        most as usize
+    }
+}
+
+// No record, with room for so many.
+fn empty_rows(alloc: Global, count: u32, cur: &Cursor) -> Result<Seq<Row>, HistoryFault>
+    ensures { MatchResult result (λ rows. rows ≡ []) (λ fault. fault ≡ Memory) }
+{
+    let rows = Seq::with_capacity(alloc, room_of(count, cur.left()))?;
+    Ok(rows)
+}
+
 fn read_counted_records<'a>(
     alloc: Global,
     version: u16,
@@ -98,11 +118,12 @@ fn read_counted_records<'a>(
         (next_record_at version (map (λ s. s.now) classes.now))
         (with_record (map (λ s. s.now) classes.now)) no_past count) cur.old cur.new result }
 {
+    let rows = empty_rows(alloc, count, cur)?;
     let mut found = Found {
         texts: Texts::new(alloc),
         used: 0,
         seen: Slices::new(alloc),
-        rows: Seq::new(alloc),
+        rows,
     };
     for i in 0..count {
         read_next(alloc, version, classes, i + 1, file, &mut found, cur)?;

@@ -4,20 +4,18 @@ ghost use Rattle.std.specs.Prelude.{◌≡◌, ◌<◌, ◌++◌, ◌^◌, lengt
 ghost use Rattle.std.specs.List.{flat_map};
 ghost use Rattle.class_model.specs.declared.outcome.Cause.TheVariants.{Returned};
 ghost use Rattle.class_model.specs.declared.outcome.Outcome.TheVariants.{Failed};
-ghost use Rattle.codec_rules.specs.Meets.{Gives};
-ghost use Rattle.history_rules.specs.declared.fault.HistoryFault.TheVariants as history_fault;
 ghost use Rattle.history_rules.specs.Items.{text_bytes, counted_bytes};
 ghost use Rattle.history_rules.specs.Classes.{class_bytes};
 ghost use Rattle.history_rules.specs.Entries.{entry_bytes, pair_bytes};
 ghost use Rattle.history_rules.specs.Spelling.{outcome_bytes, record_bytes, IsOutcome};
-ghost use Rattle.history_rules.specs.Histories.{contents_bytes, written};
+ghost use Rattle.history_rules.specs.Histories.{contents_bytes};
 ghost use Rattle.history_rules.specs.Laws.{AreWritable};
 ghost use Rattle.history_file.specs.declared.row.End.TheVariants as end;
 ghost use Rattle.history_file.specs.Rows.{name_of, outcome_of, entry_of, record_of, records_of, IsEnd};
 ghost use Rattle.history_file.specs.Reading.{entries_of};
 ghost use Rattle.history_file.specs.Writing.{AreNames, IsOrder, classes_of, used_by, IsTextNumber};
 ghost use Rattle.history_file.specs.Writing.{IsWrittenEntry, IsWrittenRow, AreShort, records_in};
-ghost use Rattle.history_file.specs.Writing.{contents_under};
+ghost use Rattle.history_file.specs.Writing.{GivesText, contents_under};
 
 use crate::history::History;
 use crate::lengths::history_len;
@@ -256,7 +254,7 @@ fn put_history(
 /// records, and none that they don't use. It is too long exactly past 536,870,912 bytes.
 pub fn write_history(alloc: Global, profile: u16, history: &History) -> Result<Bytes, HistoryFault>
     requires { AreWritable (records_of history.now) }
-    ensures { Gives history_fault.Memory (λ bytes. bytes) (written profile (records_of history.now)) result }
+    ensures { GivesText profile (records_of history.now) result }
 {
     let (texts, classes, rows) = (history.texts(), history.classes(), history.rows());
     let order = Order::of(alloc, classes, rows)?;

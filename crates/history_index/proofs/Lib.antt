@@ -8,5 +8,6 @@ mod Testing
 mod Matched
 mod Putting
 mod Lengths
+mod Listing
 mod Adding
 mod Looking

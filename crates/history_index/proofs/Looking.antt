@@ -13,11 +13,11 @@ use Rattle.history_index.specs.declared.standings.Swap.{Swap}
 use Rattle.history_index.specs.Firsts.{first_at, run_at, whole_at}
 use Rattle.history_index.specs.Numbers.{Indexed, IsIndexed, HasPair, record_at, test_number}
 use Rattle.history_index.specs.Standings.{Standing, AreAlike, listed, standing_in, standing_with}
-use Rattle.history_index.specs.Lookouts.{all_hold, earlier, is_apart, is_open, is_same, is_whole, IsAskedBy, IsFirstMatch, IsLookout, names, place_swapped, place_told, places_from, Question}
+use Rattle.history_index.specs.Lookouts.{all_hold, earlier, is_apart, is_open, is_same, is_whole, IsAskedBy, FindsFirst, IsLookout, names, place_swapped, place_told, places_from, Question}
 use Rattle.history_index.proofs.Holding.{both_hold, none_more, parted, parted_none}
 use Rattle.history_index.proofs.Matched.{found, none_found, none_matches, row_matches}
 use Rattle.history_index.proofs.Places.{behind_run, first_place}
-use Rattle.history_index.proofs.Positions.{position_either, position_same}
+use Rattle.history_index.proofs.Positions.{position_either, position_never, position_on, position_same}
 
 -- ---- each record
 
@@ -31,16 +31,26 @@ no_match n x indexed test [] all pairs = tt
 no_match n x indexed test (r ∷ rows) all pairs =
     (none_matches n x r indexed.history (All-head (IsRow (length n.history.texts) (length n.history.classes)) r rows all) (All-head (HasPair n.tests) r rows pairs) test, no_match n x indexed test rows (All-tail (IsRow (length n.history.texts) (length n.history.classes)) r rows all) (All-tail (HasPair n.tests) r rows pairs))
 
-pub found_none : (n : Indexed) (x : Asked) → IsIndexed n → test_number n x.test.class x.test.method ≡ None → IsFirstMatch n.history x None
-found_none n x indexed test = none_found (record_of n.history.texts n.history.classes) x n.history.rows (no_match n x indexed test n.history.rows indexed.history.rows indexed.tests)
+pub found_none : (n : Indexed) (x : Asked) → IsIndexed n → test_number n x.test.class x.test.method ≡ None → FindsFirst n.history x None
+found_none n x indexed test =
+    let none = no_match n x indexed test n.history.rows indexed.history.rows indexed.tests in
+    record {
+      at = position_never (λ r. matches (record_of n.history.texts n.history.classes r) x) 0 n.history.rows none;
+      first = none_found (record_of n.history.texts n.history.classes) x n.history.rows none;
+    }
 
-found_at : (n : Indexed) (q : Question) (s : Standing) (t : ℕ) (x : Asked) (place : Option ℕ) → IsIndexed n → test_number n x.test.class x.test.method ≡ Some t → x.limits ≡ q.limits → slice_get q.bounds t ≡ Some x.limit → AreAlike n.history (standing_in n.history x.look x.held) s → place ≡ position_from (λ r. is_open n q t r && all_hold s r) 0 n.history.rows → IsFirstMatch n.history x place
+found_at : (n : Indexed) (q : Question) (s : Standing) (t : ℕ) (x : Asked) (place : Option ℕ) → IsIndexed n → test_number n x.test.class x.test.method ≡ Some t → x.limits ≡ q.limits → slice_get q.bounds t ≡ Some x.limit → AreAlike n.history (standing_in n.history x.look x.held) s → place ≡ position_from (λ r. is_open n q t r && all_hold s r) 0 n.history.rows → FindsFirst n.history x place
 found_at n q s t x place indexed test limits limit alike is =
-    ap (option_and_then (record_at n.history)) is ∙ found n.history x (λ r. is_open n q t r && all_hold s r) (all_match n q s t x indexed test limits limit alike n.history.rows indexed.history.rows)
+    let p : Row → Bool = λ r. is_open n q t r && all_hold s r in
+    let all = all_match n q s t x indexed test limits limit alike n.history.rows indexed.history.rows in
+    record {
+      at = is ∙ sym (position_on (λ r. matches (record_of n.history.texts n.history.classes r) x) p 0 n.history.rows all);
+      first = ap (option_and_then (record_at n.history)) is ∙ found n.history x p all;
+    }
 
 -- ---- on the program itself
 
-pub found_whole : (n : Indexed) (q : Question) (s : List (Option ℕ)) (t : ℕ) (l : Lookout) (x : Asked) → IsLookout n q s l → IsAskedBy n q s (Some t) None x → IsFirstMatch n.history x (slice_get (whole_at l t) 0)
+pub found_whole : (n : Indexed) (q : Question) (s : List (Option ℕ)) (t : ℕ) (l : Lookout) (x : Asked) → IsLookout n q s l → IsAskedBy n q s (Some t) None x → FindsFirst n.history x (slice_get (whole_at l t) 0)
 found_whole n q s t l x out asked =
     found_at n q (listed s) t x (slice_get (whole_at l t) 0) out.indexed asked.number asked.limits asked.limit asked.program
     (ap (λ ps. slice_get ps 0) (out.on.whole t) ∙ first_place (is_whole n q (listed s) t) 0 n.history.rows)
@@ -75,7 +85,7 @@ unswapped : (s : Standing) (w : Swap) (k : ℕ) (b : Bool) → b ≡ nat_eq k w.
 unswapped s w k true e same = same_standing (s w.name) w.class same ∙ ap s (sym (eqb-true k w.name (sym e)))
 unswapped s w k false e same = refl
 
-swapped_at : (n : Indexed) (q : Question) (s : List (Option ℕ)) (t : ℕ) (w : Swap) (l : Lookout) (x : Asked) (b : Bool) → b ≡ is_same (listed s w.name) w.class → IsLookout n q s l → IsAskedBy n q s (Some t) (Some w) x → IsFirstMatch n.history x (if b then slice_get (whole_at l t) 0 else earlier (slice_get (whole_at l t) (run_at l.runs t w.name)) (option_and_then (first_at l.firsts t w.name) w.class))
+swapped_at : (n : Indexed) (q : Question) (s : List (Option ℕ)) (t : ℕ) (w : Swap) (l : Lookout) (x : Asked) (b : Bool) → b ≡ is_same (listed s w.name) w.class → IsLookout n q s l → IsAskedBy n q s (Some t) (Some w) x → FindsFirst n.history x (if b then slice_get (whole_at l t) 0 else earlier (slice_get (whole_at l t) (run_at l.runs t w.name)) (option_and_then (first_at l.firsts t w.name) w.class))
 swapped_at n q s t w l x true e out asked =
     found_at n q (listed s) t x (slice_get (whole_at l t) 0) out.indexed asked.number asked.limits asked.limit
     (λ k lt. asked.program k lt ∙ unswapped (listed s) w k (nat_eq k w.name) refl (sym e))
@@ -88,10 +98,10 @@ swapped_at n q s t w l x false e out asked =
     ∙ ap (earlier (position_from (λ r. is_whole n q (listed s) t r && not (names w.name r)) 0 n.history.rows)) (kept_first n q (listed s) t w.name w.class l (out.on.firsts t w.name))
     ∙ place_is n q (listed s) t w.name w.class n.history.rows (sym e))
 
-pub found_swapped : (n : Indexed) (q : Question) (s : List (Option ℕ)) (t : ℕ) (w : Swap) (l : Lookout) (x : Asked) → IsLookout n q s l → IsAskedBy n q s (Some t) (Some w) x → IsFirstMatch n.history x (place_swapped l t w)
+pub found_swapped : (n : Indexed) (q : Question) (s : List (Option ℕ)) (t : ℕ) (w : Swap) (l : Lookout) (x : Asked) → IsLookout n q s l → IsAskedBy n q s (Some t) (Some w) x → FindsFirst n.history x (place_swapped l t w)
 found_swapped n q s t w l x out asked = swapped_at n q s t w l x (is_same (listed l.standings w.name) w.class) (ap (λ z. is_same (listed z w.name) w.class) out.standings) out asked
 
-pub found_told : (n : Indexed) (q : Question) (s : List (Option ℕ)) (test : Option ℕ) (swap : Option Swap) (l : Lookout) (x : Asked) → IsLookout n q s l → IsAskedBy n q s test swap x → IsFirstMatch n.history x (place_told l test swap)
+pub found_told : (n : Indexed) (q : Question) (s : List (Option ℕ)) (test : Option ℕ) (swap : Option Swap) (l : Lookout) (x : Asked) → IsLookout n q s l → IsAskedBy n q s test swap x → FindsFirst n.history x (place_told l test swap)
 found_told n q s None swap l x out asked = found_none n x out.indexed asked.number
 found_told n q s (Some t) None l x out asked = found_whole n q s t l x out asked
 found_told n q s (Some t) (Some w) l x out asked = found_swapped n q s t w l x out asked

@@ -1,7 +1,7 @@
 -- The first place at which a test passes, among items with one more behind them.
 use Rattle.std.proofs.Common.{◌≡◌, ◌∙◌, ℕ, zero, suc, ◌+◌, ◌-◌, ◌<◌, ◌≤◌, Bool, true, false, cond, List, [], ◌∷◌, ◌++◌, length, Option, Some, None, refl, sym, ap, subst, arith}
 use Rattle.std.specs.Prelude.{slice_get, ◌||◌, nat_eq, nat_lt}
-use Rattle.std.specs.List.{position_from}
+use Rattle.std.specs.List.{position_from, AllByRecursion}
 use Rattle.std.specs.Option.{option_or, unwrap_or}
 use Rattle.std.proofs.lemmas.Bool.{eq-eqb, eqb-true, lt-ltb, ltb-true, ne_eqb}
 use Rattle.history_index.specs.Lookouts.{earlier}
@@ -90,6 +90,18 @@ position_found p i xs e =
     (r.0, subst (λ j. slice_get xs j ≡ Some r.0) same r.3, r.4)
 
 -- ---- two tests
+
+pub position_on : {X : Type 0} (p q : X → Bool) (k : ℕ) (xs : List X) → AllByRecursion (λ x. p x ≡ q x) xs → position_from p k xs ≡ position_from q k xs
+position_on p q k [] all = refl
+position_on p q k (x ∷ xs) all = ap (λ b. cond b (Some k) (position_from p (k + 1) xs)) all.0 ∙ ap (λ (o : Option ℕ). cond (q x) (Some k) o) (position_on p q (k + 1) xs all.1)
+
+never_case : (k : ℕ) (b : Bool) (o : Option ℕ) → b ≡ false → None ≡ o → None ≡ cond b (Some k) o
+never_case k true o e h = absurd cc
+never_case k false o e h = h
+
+pub position_never : {X : Type 0} (p : X → Bool) (k : ℕ) (xs : List X) → AllByRecursion (λ x. p x ≡ false) xs → None ≡ position_from p k xs
+position_never p k [] all = refl
+position_never p k (x ∷ xs) all = never_case k (p x) (position_from p (k + 1) xs) all.0 (position_never p (k + 1) xs all.1)
 
 pub position_same : {X : Type 0} (p q : X → Bool) (k : ℕ) (xs : List X) → ((x : X) → p x ≡ q x) → position_from p k xs ≡ position_from q k xs
 position_same p q k [] h = refl

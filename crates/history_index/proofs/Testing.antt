@@ -5,7 +5,7 @@ use Rattle.std.specs.Option.{option_or}
 use Rattle.std.specs.BTreeMap.{Updates, get}
 use Rattle.std.specs.Ordering.{nat_cmp, ordering_then}
 use Rattle.std.proofs.lemmas.Bool.{and_parts, eqb-true, eq-eqb}
-use Rattle.std.proofs.lemmas.List.{take_more}
+use Rattle.std.proofs.lemmas.List.{length-append, take_more}
 use Rattle.std.proofs.lemmas.List.Elements.{All-nil, All-cons, All-head, All-tail}
 use Rattle.history_file.specs.declared.row.Row.{Row}
 use Rattle.history_index.specs.declared.pairs.Pairs.{Pairs}
@@ -24,6 +24,7 @@ pair_kept pair p known is = record {
   known = known;
   there = true_is (is_some (pair_number (pairs_in p) pair)) (ap is_some (sym (known pair)) ∙ is);
   kept = λ q h. h;
+  few = omega arith;
 }
 
 new_case : (b : Bool) (o : Option ℕ) (n : ℕ) → (b ≡ true → is_some o ≡ false) → cond b (Some n) o ≡ option_or o (cond b (Some n) None)
@@ -58,6 +59,7 @@ pair_new_at pair old new known none sets pairs = record {
   known = λ q.
       sets.0 q ∙ ap (λ b. cond b (Some (length (pairs_in old))) (found old q)) (pair_is pair.0 q.0 pair.1 q.1) ∙ new_case (is_pair pair q) (found old q) (length (pairs_in old)) (λ e. subst (λ z. is_some (found old z) ≡ false) (both_same pair q e) none) ∙ ap (λ o. option_or o (cond (is_pair pair q) (Some (length (pairs_in old))) None)) (known q) ∙ sym (number_more (pairs_in old) pair q) ∙ ap (λ xs. pair_number xs q) (sym pairs);
   there = subst (λ xs. IsTrue (is_some (pair_number xs pair))) (sym pairs) (subst (λ o. IsTrue (is_some o)) (sym (number_more (pairs_in old) pair pair)) (own_or (pair_number (pairs_in old) pair) (is_pair pair pair) (length (pairs_in old)) (pair_self pair)));
+  few = (let a = ap length pairs in let b = length-append (pairs_in old) (pair ∷ []) in omega (arith, a, b));
   kept = λ q h. subst (λ xs. IsTrue (is_some (pair_number xs q))) (sym pairs) (subst (λ o. IsTrue (is_some o)) (sym (number_more (pairs_in old) pair q)) (some_or (pair_number (pairs_in old) q) (cond (is_pair pair q) (Some (length (pairs_in old))) None) h));
 }
 

@@ -1,11 +1,11 @@
 -- What maps of a look-out say.
-use Rattle.std.specs.Prelude.{◌≡◌, ℕ, ◌&&◌, nat_eq, List, [], Option, slice_get}
-use Rattle.std.specs.Prelude.{if◌then◌else◌, Some, None}
-use Rattle.std.specs.Global.{Vec}
+use Rattle.std.specs.Prelude.{◌≡◌, ℕ, Bool, ◌&&◌, nat_eq, List, [], ◌∷◌, ◌++◌, length, Option}
+use Rattle.std.specs.Prelude.{false, slice_get, if◌then◌else◌, Some, None}
 use Rattle.std.specs.BTreeMap.{get}
 use Rattle.std.specs.Option.{option_or, unwrap_or}
 use Rattle.std.specs.Ordering.{nat_cmp, ordering_then}
 use Rattle.history_index.specs.declared.firsts.Firsts.{Firsts}
+use Rattle.history_index.specs.declared.lists.Places.{Places}
 use Rattle.history_index.specs.declared.runs.Runs.{Runs}
 use Rattle.history_index.specs.declared.lookout.Lookout.{Lookout}
 
@@ -36,13 +36,42 @@ SetsRun test name len old new =
     (t k : ℕ) →
     run_at new t k ≡ (if nat_eq test t && nat_eq name k then len else run_at old t k)
 
--- A list among lists, by place; an empty one where there is none.
-abbrev pub items_of : Option (Vec ℕ) → List ℕ
-items_of None = []
-items_of (Some v) = v.items
+-- ---- places
 
-abbrev pub list_at : List (Vec ℕ) → ℕ → List ℕ
+abbrev pub places_of : Option ℕ → List ℕ → List ℕ
+places_of None others = others
+places_of (Some first) others = first ∷ others
+
+abbrev pub places_in : Places → List ℕ
+places_in p = places_of p.first p.others.items
+
+-- Neither a first place nor others.
+abbrev pub has_no : Option ℕ → List ℕ → Bool
+has_no None others = nat_eq (length others) 0
+has_no (Some first) others = false
+
+abbrev pub has_none : Places → Bool
+has_none p = has_no p.first p.others.items
+
+-- Places by the number of a test; none where it has no list.
+abbrev pub items_of : Option Places → List ℕ
+items_of None = []
+items_of (Some p) = places_in p
+
+abbrev pub list_at : List Places → ℕ → List ℕ
 list_at lists t = items_of (slice_get lists t)
+
+-- So many lists, and all are empty.
+pub record AreEmptyLists (count : ℕ) (lists : List Places) : Type 0 where
+  pub len : length lists ≡ count
+  pub none : (t : ℕ) → list_at lists t ≡ []
+
+-- One place more.
+pub record PushesPlace (test place : ℕ) (old new : List Places) : Type 0 where
+  pub len : length new ≡ length old
+  pub at :
+      (t : ℕ) →
+      list_at new t ≡ (if nat_eq test t then list_at old t ++ place ∷ [] else list_at old t)
 
 -- The places that are kept of a test.
 abbrev pub whole_at : Lookout → ℕ → List ℕ

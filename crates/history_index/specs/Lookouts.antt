@@ -1,22 +1,21 @@
 -- What a look-up goes by (this project's own).
-use Rattle.std.specs.Prelude.{◌≡◌, ◌+◌, ℕ, suc, Bool, true, false, not, ◌&&◌, nat_eq, nat_le}
+use Rattle.std.specs.Prelude.{◌≡◌, ◌≤◌, ◌<◌, ◌^◌, ◌+◌, ℕ, suc, Bool, true, false, not, ◌&&◌, nat_eq, nat_le}
 use Rattle.std.specs.Prelude.{nat_lt, List, [], ◌∷◌, ◌++◌, filter, length, Option, Some, None}
 use Rattle.std.specs.Prelude.{slice_get, option_and_then, if◌then◌else◌, IfSome}
-use Rattle.std.specs.Global.{Vec}
 use Rattle.std.specs.List.{list_all, list_any, position_from, prefix_len}
 use Rattle.std.specs.Option.{option_or}
 use Rattle.machine_rules.specs.declared.machine.Limits.{Limits}
 use Rattle.record_rules.specs.Records.{Asked}
-use Rattle.record_rules.specs.Matching.{first_match}
+use Rattle.record_rules.specs.Matching.{first_match, matches}
 use Rattle.history_file.specs.declared.row.End.{End}
 use Rattle.history_file.specs.declared.row.End.TheVariants as end
 use Rattle.history_file.specs.declared.row.Entry.{Entry}
 use Rattle.history_file.specs.declared.row.Row.{Row}
-use Rattle.history_file.specs.Rows.{Numbered, records_of}
+use Rattle.history_file.specs.Rows.{Numbered, record_of, records_of}
 use Rattle.history_index.specs.declared.standings.Swap.{Swap}
 use Rattle.history_index.specs.declared.runs.Runs.{Runs}
 use Rattle.history_index.specs.declared.lookout.Lookout.{Lookout}
-use Rattle.history_index.specs.Firsts.{first_at, list_at, run_at, whole_at}
+use Rattle.history_index.specs.Firsts.{first_at, run_at, whole_at}
 use Rattle.history_index.specs.Numbers.{Indexed, IsIndexed, pair_of, pair_number, test_number}
 use Rattle.history_index.specs.Numbers.{record_at}
 use Rattle.history_index.specs.Standings.{Standing, standing_in, listed, AreAlike, standing_with}
@@ -53,6 +52,9 @@ is_fit q limit r =
 pub record Question : Type 0 where
   pub limits : Limits
   pub bounds : List ℕ
+
+abbrev pub question_of : Limits → List ℕ → Question
+question_of limits bounds = record { limits = limits; bounds = bounds }
 
 abbrev pub is_fit_under : Limits → Row → Option ℕ → Bool
 is_fit_under q r None = false
@@ -113,11 +115,6 @@ pub record IsLookout (n : Indexed) (q : Question) (s : List (Option ℕ)) (l : L
   pub standings : l.standings ≡ s
   pub on : IsLookoutOn n q (listed s) n.history.rows l
 
--- So many lists, and all are empty.
-pub record AreEmptyLists (count : ℕ) (lists : List (Vec ℕ)) : Type 0 where
-  pub len : length lists ≡ count
-  pub none : (t : ℕ) → list_at lists t ≡ []
-
 -- One of no records.
 pub record IsEmptyLookout (count : ℕ) (s : List (Option ℕ)) (l : Lookout) : Type 0 where
   pub standings : l.standings ≡ s
@@ -127,6 +124,12 @@ pub record IsEmptyLookout (count : ℕ) (s : List (Option ℕ)) (l : Lookout) : 
   pub firsts : (t k c : ℕ) → first_at l.firsts t k c ≡ None
 
 -- ---- one record more
+
+-- Of no test are there more places than records before this one, whose place isn't the last that a
+-- number of four bytes can tell.
+pub record HasRoom (place : ℕ) (l : Lookout) : Type 0 where
+  pub next : place + 1 < 2 ^ 32
+  pub few : (t : ℕ) → length (whole_at l t) ≤ place
 
 -- One that is open to a test, with these entries.
 pub record AddsOpen (test place : ℕ) (es : List Entry) (old new : Lookout) : Type 0 where
@@ -244,6 +247,11 @@ pub record IsAskedBy
   pub limit : IfSome test (λ t. slice_get q.bounds t ≡ Some x.limit)
   pub program : AreAlike n.history (standing_in n.history x.look x.held) (swapped (listed s) swap)
 
--- It is the first record that matches, by its place.
-abbrev pub IsFirstMatch : Numbered → Asked → Option ℕ → Type 0
-IsFirstMatch n x place = option_and_then (record_at n) place ≡ first_match (records_of n) x
+-- The place of the first record of a history that matches a run.
+abbrev pub first_place : Numbered → Asked → Option ℕ
+first_place n x = position_from (λ r. matches (record_of n.texts n.classes r) x) 0 n.rows
+
+-- It is this place, and so the record there is the first that matches.
+pub record FindsFirst (n : Numbered) (x : Asked) (place : Option ℕ) : Type 0 where
+  pub at : place ≡ first_place n x
+  pub first : option_and_then (record_at n) place ≡ first_match (records_of n) x

@@ -1,5 +1,5 @@
 -- Names, classes and tests of a history by number (this project's own).
-use Rattle.std.specs.Prelude.{◌≡◌, ℕ, Bool, ◌&&◌, nat_eq, List, Option, All, is_some, IsTrue}
+use Rattle.std.specs.Prelude.{◌≡◌, ◌≤◌, ◌+◌, length, ℕ, Bool, ◌&&◌, nat_eq, List, Option, All, is_some, IsTrue}
 use Rattle.std.specs.Prelude.{slice_get, Some, None, option_map, option_and_then, if◌then◌else◌}
 use Rattle.std.specs.List.{position_from}
 use Rattle.std.specs.Option.{option_or}
@@ -78,6 +78,7 @@ pub record AddsPair (pair : ℕ × ℕ) (old new : Pairs) : Type 0 where
   pub kept :
       (q : ℕ × ℕ) → IsTrue (is_some (pair_number (pairs_in old) q)) →
       IsTrue (is_some (pair_number (pairs_in new) q))
+  pub few : length (pairs_in new) ≤ length (pairs_in old) + 1
 
 -- The number of a test by the numbers of its names, where it has these.
 abbrev pub test_of_class : List (ℕ × ℕ) → Option ℕ → ℕ → Option ℕ

@@ -10,7 +10,7 @@ use std::collections::BTreeMap;
 /// For a test, a name and a class, by number, the place of a record.
 #[derive(Drop)]
 pub struct Firsts {
-    places: BTreeMap<(usize, u32, u32), usize>,
+    places: BTreeMap<(u32, u32, u32), u32>,
 }
 
 impl Firsts {
@@ -25,7 +25,7 @@ impl Firsts {
 
     /// Keeps a place, if none is kept.
     #[tactic(auto, using(crate::proofs::Keys::note_kept))]
-    pub fn note(&mut self, test: usize, name: u32, class: u32, place: usize) -> Result<(), Memory>
+    pub fn note(&mut self, test: u32, name: u32, class: u32, place: u32) -> Result<(), Memory>
         ensures { OnOk result (Notes test name class place self.old self.new) }
     {
         let key = (test, name, class);
@@ -37,7 +37,7 @@ impl Firsts {
     }
 
     /// The place that is kept.
-    pub fn get(&self, test: usize, name: u32, class: u32) -> Option<usize>
+    pub fn get(&self, test: u32, name: u32, class: u32) -> Option<u32>
         ensures { result ≡ first_at self.now test name class }
     {
         self.places.get(&(test, name, class)).copied()

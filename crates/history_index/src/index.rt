@@ -109,7 +109,7 @@ impl<'a> HistoryIndex<'a> {
     }
 
     /// The number of a test, by its names.
-    pub fn test(&self, alloc: Global, class: &Name, method: &Name) -> Result<Option<usize>, Memory>
+    pub fn test(&self, alloc: Global, class: &Name, method: &Name) -> Result<Option<u32>, Memory>
         ensures { IfOk result (λ t. t ≡ test_number self.now class.now method.now) }
     {
         let class = self.name(alloc, class)?;
@@ -118,7 +118,7 @@ impl<'a> HistoryIndex<'a> {
     }
 
     // The number of a test, by the numbers of its names.
-    fn test_by(&self, class: Option<u32>, method: Option<u32>) -> Option<usize>
+    fn test_by(&self, class: Option<u32>, method: Option<u32>) -> Option<u32>
         ensures { result ≡ test_by self.now.tests class method }
     {
         match class {
@@ -127,7 +127,7 @@ impl<'a> HistoryIndex<'a> {
         }
     }
 
-    fn test_of_class(&self, class: u32, method: Option<u32>) -> Option<usize>
+    fn test_of_class(&self, class: u32, method: Option<u32>) -> Option<u32>
         ensures { result ≡ test_of_class self.now.tests method class }
     {
         match method {
@@ -137,7 +137,7 @@ impl<'a> HistoryIndex<'a> {
     }
 
     /// The number of a record's test.
-    pub fn test_of(&self, row: &Row) -> Option<usize>
+    pub fn test_of(&self, row: &Row) -> Option<u32>
         ensures { result ≡ pair_number self.now.tests (pair_of row.now) }
     {
         self.tests.get((row.test_class, row.test_method))

@@ -7,6 +7,7 @@
 
 mod firsts;
 mod index;
+mod lists;
 mod lookout;
 mod matching;
 mod numbers;

@@ -1,18 +1,19 @@
 //! Which records match the runs of a program, or would if one class were another.
 
-ghost use Rattle.std.specs.Prelude.{◌≡◌, ◌<◌, ℕ, suc, nat_eq, length, List, [], Option, slice_get, option_and_then, IfOk, OnOk};
+ghost use Rattle.std.specs.Prelude.{◌≡◌, ◌<◌, ◌^◌, ℕ, suc, nat_eq, length, List, [], Option, slice_get, option_and_then, IfOk, OnOk};
 ghost use Rattle.record_rules.specs.Records.{Asked};
 ghost use Rattle.history_index.specs.Firsts.{first_at, run_at, whole_at};
 ghost use Rattle.history_index.specs.Numbers.{Indexed};
-ghost use Rattle.history_index.specs.Lookouts.{AddsApart, AddsOpen, AddsRow, AddsWhole, AreEmptyLists};
+ghost use Rattle.history_index.specs.Lookouts.{AddsApart, AddsOpen, AddsRow, AddsWhole};
 ghost use Rattle.history_index.specs.Lookouts.{IsAskedBy, IsLookoutOn, LengthensOne, is_fit_under};
 ghost use Rattle.history_index.specs.Lookouts.{is_same, open_here, open_test};
 ghost use Rattle.history_index.specs.Standings.{listed};
-ghost use Rattle.history_index.specs.Lookouts.{IsEmptyLookout, IsFirstMatch, IsLookout, Lengthens};
-ghost use Rattle.history_index.specs.Lookouts.{Question, earlier, place_of_test, place_swapped, place_told};
+ghost use Rattle.history_index.specs.Lookouts.{FindsFirst, HasRoom, IsEmptyLookout, IsLookout, Lengthens};
+ghost use Rattle.history_index.specs.Lookouts.{Question, earlier, place_of_test, place_swapped, place_told, question_of};
 
 use crate::firsts::Firsts;
 use crate::index::HistoryIndex;
+use crate::lists::{Places, count_at, no_places, place_at, push_at};
 use crate::matching::{all_hold_with, first_miss, is_fit};
 use crate::runs::Runs;
 use crate::standings::{Standings, Swap};
@@ -28,7 +29,7 @@ use std::alloc::Global;
 pub struct Lookout {
     standings: Standings,
     // for each test the places of the records that match
-    whole: Vec<Vec<usize>>,
+    whole: Vec<Places>,
     // how many of these, from the first on, name a name
     runs: Runs,
     // the first record that would match if the class of a name were another
@@ -36,7 +37,7 @@ pub struct Lookout {
 }
 
 // The smaller of two places.
-fn earlier(one: Option<usize>, other: Option<usize>) -> Option<usize>
+fn earlier(one: Option<u32>, other: Option<u32>) -> Option<u32>
     ensures { result ≡ earlier one other }
 {
     match (one, other) {
@@ -57,8 +58,8 @@ fn is_fit_under(limits: Limits, row: &Row, bound: Option<u64>) -> bool
 }
 
 // The test to whose runs a record is open.
-fn open_test(index: &HistoryIndex, limits: Limits, bounds: &[u64], row: &Row) -> Option<usize>
-    ensures { result ≡ open_test index.now (record { limits = limits; bounds = bounds.now }) row.now }
+fn open_test(index: &HistoryIndex, limits: Limits, bounds: &[u64], row: &Row) -> Option<u32>
+    ensures { result ≡ open_test index.now (question_of limits bounds.now) row.now }
 {
     match index.test_of(row) {
         Some(test) => open_here(limits, bounds, row, test),
@@ -66,24 +67,14 @@ fn open_test(index: &HistoryIndex, limits: Limits, bounds: &[u64], row: &Row) ->
     }
 }
 
-fn open_here(limits: Limits, bounds: &[u64], row: &Row, test: usize) -> Option<usize>
-    ensures { result ≡ open_here (record { limits = limits; bounds = bounds.now }) row.now test }
+fn open_here(limits: Limits, bounds: &[u64], row: &Row, test: u32) -> Option<u32>
+    ensures { result ≡ open_here (question_of limits bounds.now) row.now test }
 {
-    if is_fit_under(limits, row, bounds.get(test).copied()) {
+    if is_fit_under(limits, row, bounds.get(test as usize).copied()) {
         Some(test)
     } else {
         None
     }
-}
-
-fn empty_lists(alloc: Global, count: usize) -> Result<Vec<Vec<usize>>, Memory>
-    ensures { IfOk result (λ lists. AreEmptyLists count lists.items) }
-{
-    let mut lists = Vec::with_capacity(alloc, count)?;
-    while lists.len() < count {
-        lists.push(Vec::new(alloc))?;
-    }
-    Ok(lists)
 }
 
 fn is_same(one: Option<u32>, other: Option<u32>) -> bool
@@ -109,7 +100,7 @@ impl Lookout {
         bounds: &[u64],
     ) -> Result<Lookout, Memory>
         ensures { IfOk result (IsLookout index.now
-            (record { limits = limits; bounds = bounds.now }) standings) }
+            (question_of limits bounds.now) standings) }
     {
         let tests = index.tests().len();
         let rows = index.history().rows();
@@ -124,7 +115,7 @@ impl Lookout {
     {
         Ok(Lookout {
             standings,
-            whole: empty_lists(alloc, tests)?,
+            whole: no_places(alloc, tests)?,
             runs: Runs::new(alloc),
             firsts: Firsts::new(alloc),
         })
@@ -138,11 +129,12 @@ impl Lookout {
         bounds: &[u64],
         rows: &[Row],
     ) -> Result<(), Memory>
-        requires { IsLookoutOn index.now (record { limits = limits; bounds = bounds.now })
+        requires few { length rows.now < 2 ^ 32 }
+        requires none { IsLookoutOn index.now (question_of limits bounds.now)
             (listed self.old.standings) [] self.old }
         ensures standings { OnOk result (self.new.standings ≡ self.old.standings) }
         ensures on { OnOk result (IsLookoutOn index.now
-            (record { limits = limits; bounds = bounds.now }) (listed self.old.standings)
+            (question_of limits bounds.now) (listed self.old.standings)
             rows.now self.new) }
     {
         let mut place = 0;
@@ -159,12 +151,13 @@ impl Lookout {
         index: &HistoryIndex,
         limits: Limits,
         bounds: &[u64],
-        place: usize,
+        place: u32,
         row: &Row,
     ) -> Result<(), Memory>
-        requires { length self.old.whole.items ≡ length index.now.tests }
+        requires tests { length self.old.whole.items ≡ length index.now.tests }
+        requires room { HasRoom place self.old }
         ensures { OnOk result (AddsRow index.now
-            (record { limits = limits; bounds = bounds.now }) place row.now self.old self.new) }
+            (question_of limits bounds.now) place row.now self.old self.new) }
     {
         match open_test(index, limits, bounds, row) {
             Some(test) => {
@@ -176,8 +169,9 @@ impl Lookout {
     }
 
     // The same of a record that is open to a test.
-    fn add_open(&mut self, test: usize, place: usize, consulted: &[Entry]) -> Result<(), Memory>
-        requires { test < length self.old.whole.items }
+    fn add_open(&mut self, test: u32, place: u32, consulted: &[Entry]) -> Result<(), Memory>
+        requires tests { test < length self.old.whole.items }
+        requires room { HasRoom place self.old }
         ensures { OnOk result (AddsOpen test place consulted.now self.old self.new) }
     {
         match first_miss(&self.standings, consulted) {
@@ -193,13 +187,14 @@ impl Lookout {
     }
 
     // The same of one that matches.
-    fn add_whole(&mut self, test: usize, place: usize, consulted: &[Entry]) -> Result<(), Memory>
-        requires { test < length self.old.whole.items }
+    fn add_whole(&mut self, test: u32, place: u32, consulted: &[Entry]) -> Result<(), Memory>
+        requires tests { test < length self.old.whole.items }
+        requires room { HasRoom place self.old }
         ensures { OnOk result (AddsWhole test place consulted.now self.old self.new) }
     {
-        let before = self.whole[test].len();
-        self.whole[test].push(place)?;
-        let after = self.whole[test].len();
+        let before = count_at(self.whole.as_slice(), test);
+        push_at(self.whole.as_mut_slice(), test, place)?;
+        let after = before + 1;
         lengthen(&mut self.runs, test, before, after, consulted)?;
         Ok(())
     }
@@ -207,8 +202,8 @@ impl Lookout {
     // The same of one that doesn't, for this entry first.
     fn add_apart(
         &mut self,
-        test: usize,
-        place: usize,
+        test: u32,
+        place: u32,
         miss: Entry,
         consulted: &[Entry],
     ) -> Result<(), Memory>
@@ -222,16 +217,16 @@ impl Lookout {
 
     /// The place of the first record of the history that matches the run of a test, by its number if
     /// it has one: on the program, or on one that has another class file in one place.
-    pub fn lookup(&self, test: Option<usize>, swap: Option<Swap>) -> Option<usize>
+    pub fn lookup(&self, test: Option<u32>, swap: Option<Swap>) -> Option<u32>
         ensures { (n : Indexed) (q : Question) (s : List (Option ℕ)) (x : Asked) →
             IsLookout n q s self.now → IsAskedBy n q s test swap x →
-            IsFirstMatch n.history x result }
+            FindsFirst n.history x result }
     {
         let place = self.place_told(test, swap);
         place
     }
 
-    fn place_told(&self, test: Option<usize>, swap: Option<Swap>) -> Option<usize>
+    fn place_told(&self, test: Option<u32>, swap: Option<Swap>) -> Option<u32>
         ensures { result ≡ place_told self.now test swap }
     {
         match test {
@@ -240,7 +235,7 @@ impl Lookout {
         }
     }
 
-    fn place_of_test(&self, test: usize, swap: Option<Swap>) -> Option<usize>
+    fn place_of_test(&self, test: u32, swap: Option<Swap>) -> Option<u32>
         ensures { result ≡ place_of_test self.now test swap }
     {
         match swap {
@@ -250,7 +245,7 @@ impl Lookout {
     }
 
     // The same of a program with another class file.
-    fn place_swapped(&self, test: usize, swap: Swap) -> Option<usize>
+    fn place_swapped(&self, test: u32, swap: Swap) -> Option<u32>
         ensures { result ≡ place_swapped self.now test swap }
     {
         if is_same(self.standings.get(swap.name), swap.class) {
@@ -261,7 +256,7 @@ impl Lookout {
     }
 
     // The place of the first record that would match, if its class is one of the history.
-    fn first_at(&self, test: usize, swap: Swap) -> Option<usize>
+    fn first_at(&self, test: u32, swap: Swap) -> Option<u32>
         ensures { result ≡ option_and_then (first_at self.now.firsts test swap.name) swap.class }
     {
         match swap.class {
@@ -271,18 +266,16 @@ impl Lookout {
     }
 
     // The place of the record of this number among those of a test that match.
-    fn whole_at(&self, test: usize, number: usize) -> Option<usize>
+    fn whole_at(&self, test: u32, number: u32) -> Option<u32>
         ensures { result ≡ slice_get (whole_at self.now test) number }
     {
-        match self.whole.get(test) {
-            Some(places) => places.get(number).copied(),
-            None => None,
-        }
+        let place = place_at(self.whole.as_slice(), test, number);
+        place
     }
 }
 
 // Whether the run of a test and a name is so long.
-fn is_run(runs: &Runs, test: usize, name: u32, len: usize) -> bool
+fn is_run(runs: &Runs, test: u32, name: u32, len: u32) -> bool
     ensures { result ≡ nat_eq (run_at runs.now test name) len }
 {
     runs.get(test, name) == len
@@ -291,9 +284,9 @@ fn is_run(runs: &Runs, test: usize, name: u32, len: usize) -> bool
 // One record more of a test, behind so many, names this name.
 fn lengthen_one(
     runs: &mut Runs,
-    test: usize,
-    before: usize,
-    after: usize,
+    test: u32,
+    before: u32,
+    after: u32,
     name: u32,
 ) -> Result<(), Memory>
     ensures { OnOk result (LengthensOne test before after name runs.old runs.new) }
@@ -308,9 +301,9 @@ fn lengthen_one(
 // The same of these names.
 fn lengthen(
     runs: &mut Runs,
-    test: usize,
-    before: usize,
-    after: usize,
+    test: u32,
+    before: u32,
+    after: u32,
     consulted: &[Entry],
 ) -> Result<(), Memory>
     requires { after ≡ suc before }

@@ -1,6 +1,6 @@
 //! Tests by number, as pairs of the numbers of their names.
 
-ghost use Rattle.std.specs.Prelude.{◌≡◌, [], All, IfOk, OnOk};
+ghost use Rattle.std.specs.Prelude.{◌≡◌, ◌<◌, ◌^◌, [], All, length, IfOk, OnOk};
 ghost use Rattle.history_index.specs.Numbers.{AddsPair, ArePairs, HasPair, pair_number, pairs_in};
 
 use class_model::Memory;
@@ -11,7 +11,7 @@ use std::collections::BTreeMap;
 /// Tests, each once.
 #[derive(Drop)]
 pub struct Pairs {
-    numbers: BTreeMap<(u32, u32), usize>,
+    numbers: BTreeMap<(u32, u32), u32>,
     pairs: Vec<(u32, u32)>,
 }
 
@@ -30,19 +30,22 @@ impl Pairs {
     // One test more, if it isn't there.
     #[tactic(auto, using(crate::proofs::Testing::pair_kept))]
     fn add(&mut self, pair: (u32, u32)) -> Result<(), Memory>
-        requires { ArePairs self.old }
+        requires known { ArePairs self.old }
+        requires room { length (pairs_in self.old) < 2 ^ 32 }
         ensures { OnOk result (AddsPair pair self.old self.new) }
     {
         if self.numbers.contains_key(&pair) {
             return Ok(());
         }
-        self.numbers.insert(pair, self.pairs.len())?;
+        let number = self.pairs.len() as u32;
+        self.numbers.insert(pair, number)?;
         self.pairs.push(pair)?;
         Ok(())
     }
 
     /// The tests of these records.
     pub fn of(alloc: Global, rows: &[Row]) -> Result<Pairs, Memory>
+        requires { length rows.now < 2 ^ 32 }
         ensures { IfOk result (λ p. ArePairs p × All (HasPair (pairs_in p)) rows.now) }
     {
         let mut pairs = Pairs::new(alloc);
@@ -53,7 +56,7 @@ impl Pairs {
     }
 
     /// The number of a test, if it is there.
-    pub fn get(&self, pair: (u32, u32)) -> Option<usize>
+    pub fn get(&self, pair: (u32, u32)) -> Option<u32>
         requires { ArePairs self.now }
         ensures { result ≡ pair_number (pairs_in self.now) pair }
     {

@@ -10,7 +10,7 @@ use std::collections::BTreeMap;
 /// For a test and a name, by number, a length.
 #[derive(Drop)]
 pub struct Runs {
-    lengths: BTreeMap<(usize, u32), usize>,
+    lengths: BTreeMap<(u32, u32), u32>,
 }
 
 impl Runs {
@@ -24,7 +24,7 @@ impl Runs {
     }
 
     /// Sets a length.
-    pub fn set(&mut self, test: usize, name: u32, len: usize) -> Result<(), Memory>
+    pub fn set(&mut self, test: u32, name: u32, len: u32) -> Result<(), Memory>
         ensures { OnOk result (SetsRun test name len self.old self.new) }
     {
         self.lengths.insert((test, name), len)?;
@@ -32,7 +32,7 @@ impl Runs {
     }
 
     /// A length; 0 where none was set.
-    pub fn get(&self, test: usize, name: u32) -> usize
+    pub fn get(&self, test: u32, name: u32) -> u32
         ensures { result ≡ run_at self.now test name }
     {
         match self.lengths.get(&(test, name)) {

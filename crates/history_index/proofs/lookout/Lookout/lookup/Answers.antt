@@ -1,7 +1,7 @@
 use Rattle.std.proofs.Common.{sym, subst}
-use Rattle.history_index.specs.Lookouts.{IsFirstMatch}
+use Rattle.history_index.specs.Lookouts.{FindsFirst}
 use Rattle.history_index.proofs.Looking.{found_told}
 use Rattle.history_index.proofs.lookout.Lookout.lookup.Goals as goal
 
 pub returns : goal.returns
-returns c n q s x out asked = subst (IsFirstMatch n.history x) (sym c.place_told-place.ensures) (found_told n q s c.args.test c.args.swap c.args.self.now x out asked)
+returns c n q s x out asked = subst (FindsFirst n.history x) (sym c.place_told-place.ensures) (found_told n q s c.args.test c.args.swap c.args.self.now x out asked)

@@ -8,6 +8,7 @@ use Rattle.history_index.proofs.pairs.Pairs.of.Goals as goal
 pub loop-row-preserved : goal.loop-row-preserved
 loop-row-preserved c = record {
   known = c.in_ok-add.ensures.known;
+  few = (let a = c.in_ok-add.ensures.few in let b = c.loop-row.invariant.few in omega (arith, a, b));
   has = pairs_step c.args.rows.now c.loop-row.row-index c.row-item.result c.loop-row.pairs c.add.new.self c.loop-row-test.true c.row-item.is c.loop-row.invariant.has c.in_ok-add.ensures;
 }
 

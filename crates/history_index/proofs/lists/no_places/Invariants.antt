@@ -1,6 +1,6 @@
 use Rattle.std.proofs.Common.{◌≡◌, ◌≤◌, ◌-◌, ℕ, [], length}
 use Rattle.history_index.specs.Firsts.{list_at}
-use Rattle.history_index.proofs.lookout.empty_lists.Given as goal
+use Rattle.history_index.proofs.lists.no_places.Given as goal
 
 abbrev pub invariant-loop-alloc : goal.invariant-loop-alloc
 invariant-loop-alloc l = record {
