@@ -209,13 +209,13 @@ kept_rows m n version texts rows all = by (version == 1)
     by true = filter_rows m n (λ r. not (is_failed (outcome_of texts r.end))) rows all
     by false = all
 
+one_fewer : (r : Row) (b : Bool) (rows : List Row) (n : ℕ) → length rows ≤ n → length (cond b (r ∷ rows) rows) ≤ suc n
+one_fewer r true rows n h = omega (arith, h)
+one_fewer r false rows n h = omega (arith, h)
+
 filter_few : (p : Row → Bool) (rows : List Row) → length (filter p rows) ≤ length rows
 filter_few p [] = omega arith
-filter_few p (r ∷ rows) = by (p r)
-  where
-    by : (b : Bool) → length (cond b (r ∷ filter p rows) (filter p rows)) ≤ suc (length rows)
-    by true = (let h = filter_few p rows in omega (arith, h))
-    by false = (let h = filter_few p rows in omega (arith, h))
+filter_few p (r ∷ rows) = one_fewer r (p r) (filter p rows) (length rows) (filter_few p rows)
 
 pub kept_few : (version : ℕ) (texts : List (List ℕ)) (rows : List Row) → length rows < 2 ^ 32 → length (kept_of version texts rows) < 2 ^ 32
 kept_few version texts rows few = by (version == 1)

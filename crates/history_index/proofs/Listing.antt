@@ -31,6 +31,10 @@ pub first_pushed : (place : ℕ) (old new : Places) → has_none old ≡ true �
 first_pushed place old new none first others =
     ap (λ o. places_of o new.others.items) first ∙ ap (λ xs. place ∷ xs) (others ∙ none_behind old.first old.others.items none) ∙ ap (λ xs. xs ++ place ∷ []) (sym (none_of old.first old.others.items none))
 
+other_case : (o : Option ℕ) (others : List ℕ) (place : ℕ) → places_of o (others ++ place ∷ []) ≡ places_of o others ++ place ∷ []
+other_case None others place = refl
+other_case (Some k) others place = refl
+
 -- a further one
 pub other_pushed : (place : ℕ) (old new : Places) → new.first ≡ old.first → new.others.items ≡ old.others.items ++ place ∷ [] → places_in new ≡ places_in old ++ place ∷ []
 other_pushed place old new first others = ap (λ o. places_of o new.others.items) first ∙ ap (places_of old.first) others ∙ other_case old.first old.others.items place

@@ -6,5 +6,5 @@ use Rattle.history_index.proofs.pairs.Pairs.add.Goals as goal
 
 pub returns : goal.returns
 returns c =
-    let many : c.len.result ≡ length (pairs_in c.args.self.now) = grind (arith, common_steps, c.len.ensures) in
-    pair_new c.args.pair c.len.result c.args.self.now (record { numbers = c.insert.new.self; pairs = c.push.new.self }) c.requires.known (sym c.contains_key.ensures ∙ c.if-contains_key.false) many c.in_ok-insert.ensures.updates c.in_ok-push.ensures.items
+    let many : c.len-number.result ≡ length (pairs_in c.args.self.now) = grind (arith, common_steps, c.len-number.ensures) in
+    pair_new c.args.pair c.len-number.result c.args.self.now (record { numbers = c.insert.new.self; pairs = c.push.new.self }) c.requires.known (sym c.contains_key.ensures ∙ c.if-contains_key.false) many c.in_ok-insert.ensures.updates c.in_ok-push.ensures.items
