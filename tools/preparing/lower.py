@@ -243,7 +243,7 @@ class Lowering:
         stated = f'(L{owner};L{owner};{descriptor[1:-1]}L{owner};'
         maker = self.companion.method((owner, 'make', stated), edit.name)
         if owner in self.companion.subclasses and (maker is None or started is None):
-            if edit.name != MORE + owner:
+            if edit.name != MORE + owner and (started is not None or edit.above != owner):
                 code.put_operand(at, pool.add_member(ce.METHOD_REF, MORE + owner, '<init>', descriptor))
             return
         if owner == NUMBER and edit.above == NUMBER:

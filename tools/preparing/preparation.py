@@ -13,10 +13,10 @@ from preparing.floats import Clash
 from preparing.folder import Folder
 from preparing.jdk import Jdk
 from preparing.lacking import Lacking
-from preparing.lower import Lowered, Lowering
+from preparing.lower import Lowered, Lowering, classes_in
 from preparing.state import State, sum_of, sum_of_files
 from preparing.suites import Suites, is_concrete
-from preparing.world import CODE, JAR, TESTS, Unit, World, class_files
+from preparing.world import CODE, COMPANION, JAR, TESTS, Unit, World, class_files
 from programs import library
 
 HOME = os.path.dirname(os.path.dirname(os.path.dirname(os.path.abspath(__file__))))
@@ -146,7 +146,8 @@ class Preparation:
     def find_suites(self):
         """Lowers the test classes' files as far as tests go, and tells the tests of each class that can have some."""
         units = {name: unit for name, unit in list(self.world.units.items()) if unit and unit.origin == TESTS}
-        for unit in units.values():
+        # A class around another one first.
+        for unit in sorted(units.values(), key=lambda unit: unit.edit.name.count('$')):
             try:
                 unit.suite = self.suites.lower(unit.edit)
             except WRONG as fault:
@@ -267,11 +268,11 @@ class Preparation:
         return True
 
     def lower_reached(self):
-        """Lowers the code and all that it and the tests reach, and makes stubs of the classes of Java that are named besides; gives the files by
-        path. Without tests there are none."""
+        """Lowers the code, the tests and all that these reach, and makes stubs of the classes of Java that are named besides; gives the files by path.
+        Without tests there are none."""
         todo, self.reached, files = [name for name in self.tests if name not in self.class_off], set(), {}
         if todo:
-            todo += [name for name, unit in self.world.units.items() if unit and unit.origin == CODE]
+            todo += [name for name, unit in self.world.units.items() if unit and unit.origin in (CODE, TESTS)]
         while todo:
             name = todo.pop()
             if name in self.reached:
@@ -296,15 +297,25 @@ class Preparation:
         return files
 
     def add_known(self, files):
-        heads = self.literals()
+        told = self.told()
+        heads = self.literals(told)
         for name in known.PRIMITIVES:
             files[f'{TESTS}/{name}.class'] = new_class(name, PUBLIC_FINAL, 'java/lang/Object').written()
             heads.append(Class(name, PUBLIC_FINAL, None, []))
-        files[f'{TESTS}/{known.NAME}.class'] = known.known(heads, self.world.all_above, self.lowering.floats)
+        files[f'{TESTS}/{known.NAME}.class'] = known.known(heads, self.world.all_above, self.lowering.floats, told)
 
-    def literals(self):
-        """The heads of the classes that the code names as such, of enums, and of what stands above them."""
-        names = {name for name in self.reached if self.world.info(name) is not None and self.world.info(name).flags & ENUM}
+    def told(self):
+        """The classes whose methods the code may ask for, where it asks for those of some: all but Java's own."""
+        units = {name: self.world.unit(name) for name in self.reached}
+        own = {name: unit for name, unit in units.items() if unit is not None and unit.origin != COMPANION}
+        asks = any(b'getDeclaredMethods' in unit.data for unit in own.values())
+        return set(own) if asks and len(own) < known.MOST_CLASSES // 2 else set()
+
+    def literals(self, told):
+        """The heads of the classes that the code names as such, of enums, of those that are told with what their methods name, and of what stands above
+        them."""
+        names = {of for name in told for method in self.world.info(name).methods.values() for of in classes_in(method.descriptor)}
+        names |= told | {name for name in self.reached if self.world.info(name) is not None and self.world.info(name).flags & ENUM}
         for name in self.reached & set(self.lowered):
             names |= self.lowered[name][0].literals
         found = {}

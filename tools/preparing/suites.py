@@ -84,8 +84,6 @@ class Suites:
         around, pool = self.edit_of(outer), edit.pool
         if taken != [f'(L{outer};)V'] or around is None or around.flags & ABSTRACT:
             return False
-        if any(one.kind == NESTED for one in annotations.annotations_of(around, around.pool)):
-            return False
         init = next(method for method in edit.methods if method.name == '<init>')
         if not any(method.key == ('<init>', '()V') and not method.flags & PRIVATE for method in around.methods):
             return False

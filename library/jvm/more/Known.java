@@ -88,4 +88,9 @@ public final class Known {
             return null;
         }
     }
+
+    /** The methods that a class declares are asked of a JVM itself. */
+    public static String methods(String name) {
+        return null;
+    }
 }

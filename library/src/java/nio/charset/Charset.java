@@ -62,6 +62,14 @@ public abstract class Charset implements Comparable<Charset> {
 
     public abstract boolean contains(Charset other);
 
+    public boolean canEncode() {
+        return true;
+    }
+
+    public CharsetEncoder newEncoder() {
+        return new CharsetEncoder(this);
+    }
+
     public final String name() {
         return name;
     }

@@ -3,6 +3,7 @@ package more.java.lang;
 import java.lang.Math;
 import java.lang.String;
 import java.lang.StringBuilder;
+import java.lang.reflect.Method;
 import more.Known;
 
 /** Members of java.lang.Class. */
@@ -93,6 +94,18 @@ public final class Class {
 
     public static Object[] getEnumConstants(java.lang.Class of) {
         return Known.values(of.getName());
+    }
+
+    public static Method[] getDeclaredMethods(java.lang.Class of) {
+        try {
+            return of.getDeclaredMethods();
+        } catch (NoSuchMethodError none) {
+            String all = Known.methods(of.getName());
+            if (all == null) {
+                throw none;
+            }
+            return Method.all(of, all);
+        }
     }
 
     public static Object newInstance(java.lang.Class of) throws InstantiationException {

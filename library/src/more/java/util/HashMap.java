@@ -18,6 +18,8 @@ public class HashMap<K, V> extends java.util.HashMap<K, V> implements more.java.
     /** How many nodes make a row so long that Java makes the table larger, and how large a table has long rows. */
     private static final int LONG_ROW = 8;
     private static final int LARGE_TABLE = 64;
+    /** How many walks may stand still on the order: a change takes as long as what is before them. */
+    private static final int MOST_WALKS = 4;
     // What walks read is not private, since a class inside would call a method for it.
     Node<K, V>[] table;
     int modCount;
@@ -27,6 +29,14 @@ public class HashMap<K, V> extends java.util.HashMap<K, V> implements more.java.
     private Keys keys;
     private Values values;
     private Entries entries;
+    /** The nodes in the order of the rows, as it was at a count of changes. */
+    Order order;
+    private int orderedAt;
+    /** How many walks went by rows since the last change, and at which count of changes. */
+    private int walked;
+    private int walkedAt;
+    /** The walks over the order, which count no changes, since there was none. */
+    Ahead walks;
 
     static final class Node<K, V> implements Map.Entry<K, V> {
         final int hash;
@@ -193,6 +203,7 @@ public class HashMap<K, V> extends java.util.HashMap<K, V> implements more.java.
             node = node.below;
             many++;
         }
+        leaveWalks();
         Node<K, V> made = new Node<>(hash, key, value, null);
         if (last == null) {
             rows[at] = made;
@@ -221,6 +232,7 @@ public class HashMap<K, V> extends java.util.HashMap<K, V> implements more.java.
     }
 
     private void putFirst(K key, V value) {
+        leaveWalks();
         int hash = hash(key);
         int at = hash & table.length - 1;
         int many = 0;
@@ -351,6 +363,8 @@ public class HashMap<K, V> extends java.util.HashMap<K, V> implements more.java.
 
     /** Makes the first table, or one twice as long, in which each row keeps its order. */
     private void grow() {
+        leaveWalks();
+        order = null;
         Node<K, V>[] old = table;
         int length = old == null ? most == 0 ? 16 : most : old.length * 2;
         Node<K, V>[] rows = (Node<K, V>[]) new Node[length];
@@ -411,6 +425,7 @@ public class HashMap<K, V> extends java.util.HashMap<K, V> implements more.java.
     }
 
     final void cut(Node<K, V> found) {
+        leaveWalks();
         int at = found.hash & table.length - 1;
         if (table[at] == found) {
             table[at] = found.below;
@@ -428,6 +443,7 @@ public class HashMap<K, V> extends java.util.HashMap<K, V> implements more.java.
 
     @Override
     public void clear() {
+        leaveWalks();
         modCount++;
         if (size > 0) {
             size = 0;
@@ -585,7 +601,7 @@ public class HashMap<K, V> extends java.util.HashMap<K, V> implements more.java.
     private final class Keys extends AbstractSet<K> {
         @Override
         public Iterator<K> iterator() {
-            return new KeyWalk();
+            return isOrdered() ? new KeysAhead(order) : new KeyWalk();
         }
 
         @Override
@@ -617,7 +633,7 @@ public class HashMap<K, V> extends java.util.HashMap<K, V> implements more.java.
     private final class Values extends AbstractCollection<V> {
         @Override
         public Iterator<V> iterator() {
-            return new ValueWalk();
+            return isOrdered() ? new ValuesAhead(order) : new ValueWalk();
         }
 
         @Override
@@ -639,7 +655,7 @@ public class HashMap<K, V> extends java.util.HashMap<K, V> implements more.java.
     private final class Entries extends AbstractSet<Map.Entry<K, V>> {
         @Override
         public Iterator<Map.Entry<K, V>> iterator() {
-            return new EntryWalk();
+            return isOrdered() ? new EntriesAhead(order) : new EntryWalk();
         }
 
         @Override
@@ -664,6 +680,149 @@ public class HashMap<K, V> extends java.util.HashMap<K, V> implements more.java.
         }
     }
 
+    /**
+     * Whether the order of the rows is there for a new walk. It is found out where that takes no longer than what was changed since it was last, or than
+     * the walks since the last change; and it isn't where some walks over it stand still.
+     */
+    final boolean isOrdered() {
+        if (order == null || orderedAt != modCount) {
+            if (!isByRows()) {
+                return false;
+            }
+            walked = walkedAt == modCount ? walked + 1 : 1;
+            walkedAt = modCount;
+            if (order != null && (modCount - orderedAt) * 2 < size && walked * 16 < size) {
+                return false;
+            }
+            order = ordered();
+            orderedAt = modCount;
+        }
+        int many = 0;
+        Ahead open = null;
+        for (Ahead walk = walks; walk != null; walk = walk.other) {
+            if (walk.hasNext()) {
+                open = walk.before(open);
+                many++;
+            }
+        }
+        walks = open;
+        return many < MOST_WALKS;
+    }
+
+    private Order ordered() {
+        Order made = new Order(size);
+        int left = size;
+        for (int at = 0; left > 0; at++) {
+            for (Node<K, V> node = table[at]; node != null; node = node.below) {
+                made.add(node);
+                left--;
+            }
+        }
+        return made;
+    }
+
+    /** What is to be done before the rows change: walks over the order go on by the rows. */
+    private void leaveWalks() {
+        if (walks != null) {
+            for (Ahead walk = walks; walk != null; walk = walk.other) {
+                walk.byRows();
+            }
+            walks = null;
+        }
+    }
+
+    private abstract class Ahead {
+        /** That of the order's, or one by rows. */
+        Iterator<?> walk;
+        private Order of;
+        private final int expected = modCount;
+        Ahead other;
+
+        Ahead(Order of) {
+            this.of = of;
+            walk = of.iterator();
+            other = walks;
+            walks = this;
+        }
+
+        Ahead before(Ahead next) {
+            other = next;
+            return this;
+        }
+
+        public final boolean hasNext() {
+            return walk.hasNext();
+        }
+
+        final EntryWalk byRows() {
+            if (of != null) {
+                int at = of.size();
+                while (walk.hasNext()) {
+                    walk.next();
+                    at--;
+                }
+                Node<K, V> current = at == 0 ? null : (Node<K, V>) of.get(at - 1);
+                walk = new EntryWalk(current, at == of.size() ? null : (Node<K, V>) of.get(at), expected);
+                of = null;
+            }
+            return (EntryWalk) walk;
+        }
+
+        public final void remove() {
+            byRows().remove();
+        }
+
+        /** What is thrown where a walk has no next. */
+        final RuntimeException none(NoSuchElementException none) {
+            return modCount == expected || of == null ? none : new ConcurrentModificationException();
+        }
+    }
+
+    private final class KeysAhead extends Ahead implements Iterator<K> {
+        KeysAhead(Order of) {
+            super(of);
+        }
+
+        @Override
+        public K next() {
+            try {
+                return ((Node<K, V>) walk.next()).key;
+            } catch (NoSuchElementException none) {
+                throw none(none);
+            }
+        }
+    }
+
+    private final class ValuesAhead extends Ahead implements Iterator<V> {
+        ValuesAhead(Order of) {
+            super(of);
+        }
+
+        @Override
+        public V next() {
+            try {
+                return ((Node<K, V>) walk.next()).value;
+            } catch (NoSuchElementException none) {
+                throw none(none);
+            }
+        }
+    }
+
+    private final class EntriesAhead extends Ahead implements Iterator<Map.Entry<K, V>> {
+        EntriesAhead(Order of) {
+            super(of);
+        }
+
+        @Override
+        public Map.Entry<K, V> next() {
+            try {
+                return (Node<K, V>) walk.next();
+            } catch (NoSuchElementException none) {
+                throw none(none);
+            }
+        }
+    }
+
     private class Walk {
         private Node<K, V> ahead;
         private Node<K, V> current;
@@ -671,6 +830,13 @@ public class HashMap<K, V> extends java.util.HashMap<K, V> implements more.java.
         private int row;
         private int expected = modCount;
         private final boolean isByRows = isByRows();
+
+        Walk(Node<K, V> current, Node<K, V> ahead, int expected) {
+            this.current = current;
+            this.ahead = ahead;
+            this.expected = expected;
+            row = ahead == null ? 0 : (ahead.hash & table.length - 1) + 1;
+        }
 
         Walk() {
             if (isByRows) {
@@ -748,6 +914,13 @@ public class HashMap<K, V> extends java.util.HashMap<K, V> implements more.java.
     }
 
     private final class EntryWalk extends Walk implements Iterator<Map.Entry<K, V>> {
+        EntryWalk() {
+        }
+
+        EntryWalk(Node<K, V> current, Node<K, V> ahead, int expected) {
+            super(current, ahead, expected);
+        }
+
         @Override
         public Map.Entry<K, V> next() {
             return step();
