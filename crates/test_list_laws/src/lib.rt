@@ -1,0 +1,12 @@
+//! Laws of the list of tests, over its definition alone.
+//!
+//! Each law is the contract of a function that does nothing but call the laws on which it stands.
+#![tactic(auto)]
+
+ghost use Rattle.test_list_laws.specs.Laws.{TestsAreListed};
+
+/// A test is listed exactly where its class is a test class and its method is one of the test
+/// methods of that class.
+pub fn tests_are_listed()
+    ensures { TestsAreListed }
+{}
