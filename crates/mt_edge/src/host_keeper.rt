@@ -114,7 +114,8 @@ fn sync_file(file: &Option<File>, length: u64) -> io::Result<()> {
 
 impl<'a, R: Files<File = File> + AllocGlobal> HostKeeper<'a, R> {
     fn load_file(&mut self) -> io::Result<Bytes>
-        ensures same { (self.new.writing ≡ self.old.writing) × (self.new.durable ≡ self.old.durable) }
+        ensures writing { self.new.writing ≡ self.old.writing }
+        ensures durable { self.new.durable ≡ self.old.durable }
         ensures count { self.new.reading ≡ self.old.reading }
     {
         self.file = None;

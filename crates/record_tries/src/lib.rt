@@ -62,5 +62,6 @@ pub fn reuse_laws_are_of_use()
     ensures first { first_match tries.several (neg_on tries.further 15) ≡ Some tries.shorter }
     ensures again { record_of (neg_on tries.further 15) ≡ Some (with_limit 15 passed) }
     ensures written { IsTrueRecord profile (with_limit 15 passed) }
-    ensures same { end_of tries.both (neg_on tries.further 15) ≡ record_of (neg_on tries.further 15) }
+    ensures same { end_of tries.both (neg_on tries.further 15)
+        ≡ record_of (neg_on tries.further 15) }
 {}
