@@ -22,6 +22,7 @@ use Rattle.new_history.specs.Needed.{kept_by, IsNeeded, FitsMade, is_old}
 use Rattle.new_history.specs.New.{AreFew, IsNewOf, parted, ArePartsOf}
 use Rattle.new_history.specs.Numbering.{Once, StandOnce, IsShort, HasRoom, names_in, classes_in, known_by}
 use Rattle.new_history.specs.Rows.{BeginsWith, NumbersAll}
+use Rattle.new_history.proofs.Picking.{picked_le}
 use Rattle.new_history.proofs.FirstRows.{firsts_are, picked-map, picked-all, olds_are}
 use Rattle.new_history.proofs.Spelling.{classes_once, texts_once, classes_differ, texts_differ, classes_short, texts_spell, more_spell, both_spell, spelled_long, spelled_valid, names_once, spelled_once, names_units, spelled_rows}
 
@@ -79,6 +80,7 @@ record Given (n : Numbered) (xs : List Needed) (n0 n1 : Numbering) (rs : List Ro
   none : n0.classes.fresh ≡ []
   all : NumbersAll xs n0 n1 rs
   within : All (IsNeeded n) xs
+  few : length xs < 2 ^ 32
   texts : fresh ≡ map text (drop (length n.texts) (names_in n1))
 
 begins : (n : Numbered) (xs : List Needed) (n0 n1 : Numbering) (rs : List Row) (fresh : List (List ℕ)) → Given n xs n0 n1 rs fresh → BeginsWith n n0
@@ -108,6 +110,14 @@ new_spell n xs n0 n1 rs fresh g =
 new_classes : (n : Numbered) (xs : List Needed) (n0 n1 : Numbering) (rs : List Row) (fresh : List (List ℕ)) (g : Given n xs n0 n1 rs fresh) → n.classes ++ n1.classes.fresh ≡ classes_in n1
 new_classes n xs n0 n1 rs fresh g = ap (λ (l : List (List ℕ)). l ++ n1.classes.fresh) (sym (g.all.took.same ∙ g.known))
 
+-- there are as many rows as records that are needed
+as_many : (n : Numbered) (xs : List Needed) (n1 : Numbering) (rs : List Row) → map (record_by (names_in n1) (classes_in n1)) rs ≡ map (λ k. k.entry) (map (kept_by n) xs) → length rs ≡ length xs
+as_many n xs n1 rs are =
+    sym (length-map rs (record_by (names_in n1) (classes_in n1)))
+    ∙ ap length are
+    ∙ length-map (map (kept_by n) xs) (λ k. k.entry)
+    ∙ length-map xs (kept_by n)
+
 parts_given : (n : Numbered) (xs : List Needed) (n0 n1 : Numbering) (rs : List Row) (fresh : List (List ℕ)) → Given n xs n0 n1 rs fresh → ArePartsOf n xs (record { texts = fresh; classes = n1.classes.fresh; rows = rs })
 parts_given n xs n0 n1 rs fresh g =
     let spell = new_spell n xs n0 n1 rs fresh g in
@@ -121,6 +131,7 @@ parts_given n xs n0 n1 rs fresh g =
         few_texts = (let few = t.names.few in omega (arith, long, few));
         classes = subst (AllBy IsClassBehind with_class []) (sym cs) (classes_differ (classes_in n1) t.classes.once t.classes.each);
         few_classes = subst (λ (l : List (List ℕ)). length l < 2 ^ 32) (sym cs) t.classes.few;
+        few_rows = subst (λ (k : ℕ). k < 2 ^ 32) (sym (as_many n xs n1 rs by.are)) g.few;
         rows = subst (λ (k : ℕ). All (IsRow k (length (n.classes ++ n1.classes.fresh))) rs) (sym long) (subst (λ (l : List (List ℕ)). All (IsRow (length (names_in n1)) (length l)) rs) (sym cs) by.within);
       };
       records =
@@ -128,10 +139,10 @@ parts_given n xs n0 n1 rs fresh g =
           ∙ ap (λ (l : List (List ℕ)). map (record_by (names_in n1) l) rs) cs ∙ by.are;
     }
 
-pub parts_are : (n : Numbered) (xs : List Needed) (n0 n1 : Numbering) (rs : List Row) (fresh : List (List ℕ)) → IsNumbered n → names_in n0 ≡ names_of n.texts → known_by n0.classes ≡ n.classes → n0.classes.fresh ≡ [] → NumbersAll xs n0 n1 rs → All (IsNeeded n) xs → fresh ≡ map text (drop (length n.texts) (names_in n1))
+pub parts_are : (n : Numbered) (xs : List Needed) (n0 n1 : Numbering) (rs : List Row) (fresh : List (List ℕ)) → IsNumbered n → names_in n0 ≡ names_of n.texts → known_by n0.classes ≡ n.classes → n0.classes.fresh ≡ [] → NumbersAll xs n0 n1 rs → All (IsNeeded n) xs → length xs < 2 ^ 32 → fresh ≡ map text (drop (length n.texts) (names_in n1))
     → ArePartsOf n xs (record { texts = fresh; classes = n1.classes.fresh; rows = rs })
-parts_are n xs n0 n1 rs fresh history names known none all within texts =
-    parts_given n xs n0 n1 rs fresh (record { history = history; names = names; known = known; none = none; all = all; within = within; texts = texts })
+parts_are n xs n0 n1 rs fresh history names known none all within few texts =
+    parts_given n xs n0 n1 rs fresh (record { history = history; names = names; known = known; none = none; all = all; within = within; few = few; texts = texts })
 
 -- how far the texts of the history reach
 pub texts_within : (n : Numbered) (xs : List Needed) (n0 n1 : Numbering) (rs : List Row) → names_in n0 ≡ names_of n.texts → NumbersAll xs n0 n1 rs → length n.texts ≤ length (names_in n1)
@@ -164,6 +175,7 @@ chosen_numbered n xs p firsts rs parts is =
       few_texts = h.few_texts;
       classes = h.classes;
       few_classes = h.few_classes;
+      few_rows = subst (λ (l : List Row). length l < 2 ^ 32) (sym is) (let few = h.few_rows in let le = picked_le firsts p.rows in omega (arith, few, le));
       rows = subst (All (IsRow (length whole.texts) (length whole.classes))) (sym is) (picked-all (IsRow (length whole.texts) (length whole.classes)) firsts p.rows h.rows);
     }
 

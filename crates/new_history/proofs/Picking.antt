@@ -87,3 +87,9 @@ count_more bs xs i d b lt is =
         ap (λ ys. length (filter is_old ys)) (picked_no bs (take i xs) (get_or xs i d) no)
         ∙ sym (add-zero (length (filter is_old (picked bs (take i xs)))))
         ∙ ap (λ (c : Bool). length (filter is_old (picked bs (take i xs))) + (if c then 1 else 0)) is
+
+pub picked_le : {X : Type 0} (bs : List Bool) (xs : List X) → length (picked bs xs) ≤ length xs
+picked_le [] xs = omega arith
+picked_le (b ∷ bs) [] = omega arith
+picked_le (true ∷ bs) (x ∷ xs) = let h = picked_le bs xs in omega (arith, h)
+picked_le (false ∷ bs) (x ∷ xs) = let h = picked_le bs xs in omega (arith, h)

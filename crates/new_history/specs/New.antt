@@ -12,12 +12,15 @@ pub record IsNewOf (ks : List Kept) (new : Left) : Type 0 where
   pub records : new.records ≡ map (λ k. k.entry) (once_behind [] ks)
   pub reused : new.reused ≡ length (filter (λ k. k.is_old) (once_behind [] ks))
 
--- So many names or classes may come together that numbers of four bytes may not suffice.
+-- So many names or classes may come together, or so many records, that numbers of four bytes may not
+-- suffice.
 abbrev pub AreTooMany : ℕ → ℕ → List Needed → Type 0
-AreTooMany texts classes needed = 2 ^ 32 ≤ max texts classes + sum_by names_in needed
+AreTooMany texts classes needed =
+    2 ^ 32 ≤ max (length needed) (max texts classes + sum_by names_in needed)
 
 abbrev pub AreFew : ℕ → ℕ → List Needed → Type 0
-AreFew texts classes needed = max texts classes + sum_by names_in needed < 2 ^ 32
+AreFew texts classes needed =
+    max (length needed) (max texts classes + sum_by names_in needed) < 2 ^ 32
 
 -- All of them, equal ones too, by number.
 abbrev pub parted : Numbered → Parts → Numbered

@@ -72,6 +72,9 @@ fn refuse_many(texts: usize, classes: usize, needed: &[Needed]) -> Result<(), Ne
     ensures err { IfErr result (λ f.
         (f ≡ new_fault.TooMany) × AreTooMany texts classes needed.now) }
 {
+    if needed.len() as u64 > u64::from(u32::MAX) {
+        return Err(NewFault::TooMany);
+    }
     let most = if texts < classes { classes } else { texts };
     match room_behind(u64::from(u32::MAX) - most as u64, needed) {
         Some(_) => Ok(()),

@@ -9,8 +9,8 @@ use std::alloc::AllocError;
 /// Why there are no new records.
 #[derive(Clone, Copy)]
 pub enum NewFault {
-    /// The old history and the records that were made have so many names or classes that numbers of
-    /// four bytes may not suffice.
+    /// The old history and the records that were made have so many names or classes, or there are so
+    /// many records, that numbers of four bytes may not suffice.
     TooMany,
     /// Memory has run out.
     Memory,

@@ -1,4 +1,4 @@
-use Rattle.std.proofs.Common.{◌≡◌, ◌∙◌, ℕ, List, length, map, drop, sym, ap, subst}
+use Rattle.std.proofs.Common.{arith, ◌≡◌, ◌∙◌, ℕ, List, length, map, drop, sym, ap, subst}
 use Rattle.std.proofs.lemmas.List.{length-map}
 use Rattle.class_model.specs.Text.{IsUnits, text}
 use Rattle.new_history.specs.New.{ArePartsOf}
@@ -23,5 +23,5 @@ returns c =
     let known : known_by n0.classes ≡ n.classes = c.in_ok-numbers.ensures.classes ∙ c.classes.ensures in
     let count : length c.texts-texts.result.now ≡ length n.texts = sym (length-map c.texts-texts.result.now (λ s. s.now)) ∙ ap length c.texts-texts.ensures.texts in
     subst (λ (cs : List (List ℕ)). ArePartsOf n c.args.needed.now (record { texts = c.in_ok-texts.texts; classes = cs; rows = c.in_ok-rows.rows })) (sym c.into_fresh-classes.ensures)
-    (parts_are n c.args.needed.now n0 n1 c.in_ok-rows.rows c.in_ok-texts.texts c.texts-texts.ensures.known names known c.in_ok-numbers.ensures.none c.in_ok-rows.ensures c.requires.needed
+    (parts_are n c.args.needed.now n0 n1 c.in_ok-rows.rows c.in_ok-texts.texts c.texts-texts.ensures.known names known c.in_ok-numbers.ensures.none c.in_ok-rows.ensures c.requires.needed (let few = c.requires.few in omega (arith, few))
     (c.in_ok-texts.ensures ∙ ap (λ (k : ℕ). map text (drop k (names_by n1.names))) count))
