@@ -1,5 +1,5 @@
 -- What is recorded of a run is its record, or the place where it is stuck.
-use Rattle.std.proofs.Common.{◌≡◌, ◌∙◌, ℕ, ◌<◌, ◌≤◌, ◌^◌, List, map, length, Option, Some, None, refl, sym, ap, ap₂, subst, arith}
+use Rattle.std.proofs.Common.{◌≡◌, ◌∙◌, ℕ, ◌<◌, ◌≤◌, ◌^◌, List, length, Option, Some, sym, ap, ap₂, subst, arith}
 use Rattle.std.specs.Prelude.{Bool, true, false, IsTrue, IsSomeAnd}
 use Rattle.std.specs.Option.{option_map}
 use Rattle.std.proofs.lemmas.List.{length-map}
@@ -7,7 +7,6 @@ use Rattle.class_model.specs.declared.outcome.Outcome.{Outcome}
 use Rattle.program_rules.specs.Names.{Name}
 use Rattle.machine_rules.specs.declared.machine.Limits.{Limits}
 use Rattle.machine_rules.specs.Runs.{Ending, Ran, With, StuckAt}
-use Rattle.machine_rules.specs.Steps.{Place}
 use Rattle.class_link.specs.Info.{Info}
 use Rattle.class_table.specs.declared.scripted.Test.{Test}
 use Rattle.jvm_run.specs.declared.ending.Ending as code

@@ -3,7 +3,7 @@
 ghost use Rattle.std.specs.Prelude.{◌≡◌, ◌≤◌, ◌<◌, ◌^◌, ◌↔◌, All, length, IsTrue};
 ghost use Rattle.class_model.specs.Text.{text, unit_bytes};
 ghost use Rattle.history_rules.specs.Items.{IsText};
-ghost use Rattle.history_rules.specs.Reading.{is_high, is_low, is_paired, is_paired_from};
+ghost use Rattle.history_rules.specs.Reading.{is_high, is_low, is_paired};
 ghost use Rattle.history_rules.specs.Fitting.{FitsEntry, FitsFields, FitsPair};
 ghost use Rattle.history_rules.specs.Laws.{HasShortClass};
 ghost use Rattle.history_rules.specs.Spelling.{IsOutcome, IsToldCause};

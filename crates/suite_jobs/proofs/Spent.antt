@@ -1,5 +1,5 @@
 -- What a job costs is what the runs cost that old records lack.
-use Rattle.std.proofs.Common.{◌≡◌, ◌∙◌, ℕ, ◌+◌, Bool, true, false, cond, List, [], ◌∷◌, ◌++◌, map, Option, Some, None, refl, sym, ap, subst}
+use Rattle.std.proofs.Common.{◌≡◌, ◌∙◌, ℕ, ◌+◌, Bool, true, false, cond, List, [], ◌∷◌, map, Option, Some, None, refl, sym, ap, subst}
 use Rattle.std.specs.Prelude.{filter, is_some, if◌then◌else◌, sum_by}
 use Rattle.std.specs.List.{flat_map, AllByRecursion, enumerate_from}
 use Rattle.std.specs.Option.{option_map, option_map_or}
@@ -23,13 +23,13 @@ use Rattle.suite_laws.specs.Covered.{original_run, edited_run, AllPass, NotStuck
 use Rattle.record_rules.specs.declared.record.RunRecord.{RunRecord}
 use Rattle.record_rules.specs.Records.{Asked, run}
 use Rattle.record_rules.specs.Matching.{first_match}
-use Rattle.record_rules.specs.Jobs.{with_limit, steps_of as asked_steps, Trial, covering_runs, up_to, needed_runs, need, all_runs}
+use Rattle.record_rules.specs.Jobs.{with_limit, steps_of as asked_steps, covering_runs, up_to, needed_runs, need, all_runs}
 use Rattle.reuse_laws.specs.Jobs.{AreTrue}
 use Rattle.class_records.specs.Profile.{profile}
 use Rattle.suite_records.specs.Suites.{original_asked, mutant_asked}
 use Rattle.job_rules.specs.Tried.{Tried, known, detects, needed, cost_of_run, cost_of, cost_of_all, need_cost}
 use Rattle.suite_jobs.specs.Jobs.{Suite, Allowed, IsOfFile, IsAccepted, tried_on, says, has_reached, numbered, original_tried, covering, viable_file, mutant_tried, mutant_runs, job_runs, trial_of, trials_of, asked_job}
-use Rattle.suite_jobs.specs.Laws.{steps_of, RecordsSayRuns, CostsAsAsked, JobsCostAsAsked}
+use Rattle.suite_jobs.specs.Laws.{steps_of, RecordsSayRuns, CostsAsAsked}
 use Rattle.suite_jobs.proofs.Lists.{all_zipped, all_numbered}
 use Rattle.suite_jobs.proofs.Alike.{Runs}
 use Rattle.suite_jobs.proofs.Own.{Given, IsGoodOne, good_ones, is_safe_mutant, whole}

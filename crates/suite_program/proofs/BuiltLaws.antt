@@ -26,6 +26,7 @@ is_built classes library p lib spelled files_law library_law behind numbers_law 
     let bounded : All (λ (i : Info). IsBoundedBody i.body) p = are_bounded p classes library files_law lib library_law spelled bodies in
     record {
       faultless = faultless classes library lib is;
+      parts = record { library = library; made = bodies };
       program = program;
       files = are_files p classes library meant bodies;
       names = all_named p classes library meant bodies lib;

@@ -20,7 +20,7 @@ use Rattle.suite_program.specs.declared.fault.ProgramEnd.TheVariants.{Refused}
 use Rattle.suite_program.specs.declared.fault.ProgramEnd.TheVariants as end
 use Rattle.suite_program.specs.Faults.{duplicate_of, super_fault, code_fault, first_refused}
 use Rattle.library_laws.specs.Beside.{program_of}
-use Rattle.suite_program.specs.Programs.{classes_in, class_file, names_in, HaveFirstNumbers}
+use Rattle.suite_program.specs.Programs.{classes_in, class_file, names_in, HaveFirstNumbers, IsMadeOf}
 
 -- ---- names and supers
 
@@ -46,6 +46,7 @@ RefusesTable classes result =
 -- holds of it, and its codes are within the bounds of a class file.
 pub record IsBuilt (classes : List Loaded) (p : List Info) : Type 0 where
   pub faultless : table_fault (classes_in classes) ≡ None
+  pub parts : IsMadeOf classes p
   pub program : look p ≡ program_of (classes_in classes)
   pub files : files_of p ≡ class_file (classes_in classes)
   pub names : names p ≡ names_in (classes_in classes)

@@ -4,7 +4,9 @@ use Rattle.class_model.specs.declared.class.Class.{Class}
 use Rattle.class_reader.specs.Spells.{IsClass}
 use Rattle.program_rules.specs.Names.{Name, same}
 use Rattle.class_link.specs.Info.{Info, file_in, own_name}
+use Rattle.class_link.specs.declared.loaded.LibClass.{LibClass}
 use Rattle.class_link.specs.declared.loaded.Loaded.{Loaded}
+use Rattle.class_table.specs.Table.{bodies, bodies_of}
 use Rattle.lib_table.specs.Library.{library_meant}
 pub use Rattle.library_laws.specs.Beside.{program_of}
 use Rattle.mutant_runs.specs.Programs.{ClassFiles}
@@ -29,3 +31,9 @@ names_in classes = map own_name classes ++ map (λ c. c.0) library_meant
 abbrev pub HaveFirstNumbers : List Info → List Class → Type 0
 HaveFirstNumbers p classes =
     (k : ℕ) → k < length classes → option_and_then file_in (slice_get p k) ≡ slice_get classes k
+
+-- A program is made of these class files, in order and with their bytes, and then of classes of the
+-- library.
+pub record IsMadeOf (classes : List Loaded) (p : List Info) : Type 0 where
+  pub library : List LibClass
+  pub made : bodies p ≡ bodies_of classes library

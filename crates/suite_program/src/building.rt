@@ -7,7 +7,7 @@ ghost use Rattle.mutant_runs.specs.Ready.{IsReady};
 ghost use Rattle.suite_program.specs.Building.{IsBuilt, RefusesTable, end_of};
 ghost use Rattle.suite_program.specs.Faults.{first_fault, RefusesFirst};
 ghost use Rattle.library_laws.specs.Beside.{program_of};
-ghost use Rattle.suite_program.specs.Programs.{classes_in, AreSpelled, class_file, names_in, HaveFirstNumbers};
+ghost use Rattle.suite_program.specs.Programs.{classes_in, AreSpelled, class_file, names_in, HaveFirstNumbers, IsMadeOf};
 
 use crate::accepting::accept;
 use crate::fault::{ProgramEnd, ProgramFault};
@@ -52,12 +52,13 @@ fn built(alloc: Global, classes: Seq<Loaded>) -> Result<Program, ProgramEnd>
 }
 
 /// The program of these classes, with the library: its names are apart, its supers as they have to
-/// be, and its code is accepted. Else the first fault.
+/// be, and its code is accepted. Else the first fault. Its class files are these, with their bytes.
 pub fn program_of(alloc: Global, classes: Seq<Loaded>) -> Result<Program, ProgramEnd>
     requires { AreSpelled classes }
     ensures accepted { OnOk result (first_fault (classes_in classes) ≡ None) }
     ensures refused { RefusesFirst (classes_in classes) result }
     ensures program { IfOk result (λ p. look p ≡ program_of (classes_in classes)) }
+    ensures made { IfOk result (IsMadeOf classes) }
     ensures files { IfOk result (λ p. files_of p ≡ class_file (classes_in classes)) }
     ensures names { IfOk result (λ p. names p ≡ names_in (classes_in classes)) }
     ensures numbered { IfOk result (λ p. HaveFirstNumbers p (classes_in classes)) }

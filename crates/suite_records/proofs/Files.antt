@@ -79,7 +79,7 @@ held_case n None (Some c) q = absurd q
 held_case n (Some b) None q = absurd q
 held_case n (Some b) (Some c) q = file_here n b c (record { file = q.0; name = q.1 })
 
-meant_case : (n : Name) (o : Option (List ℕ)) (k : Option Class) → Fit n o k → option_and_then (class_meant n) o ≡ option_map link k
+pub meant_case : (n : Name) (o : Option (List ℕ)) (k : Option Class) → Fit n o k → option_and_then (class_meant n) o ≡ option_map link k
 meant_case n None None q = refl
 meant_case n None (Some c) q = absurd q
 meant_case n (Some b) None q = absurd q

@@ -3,3 +3,4 @@ mod Files
 mod Tests
 mod Ordered
 mod Mutants
+mod Faultless

@@ -1,11 +1,13 @@
 -- What is said of the runs of a suite and of its mutants.
-use Rattle.std.specs.Prelude.{◌≡◌, ℕ, List, length, All, Some, Ok}
+use Rattle.std.specs.Prelude.{◌≡◌, ℕ, List, length, map, All, Option, Some, None, is_none, Ok}
+use Rattle.std.specs.Option.{option_or}
 use Rattle.std.specs.List.{Contains}
 use Rattle.class_model.specs.declared.class.Class.{Class}
+use Rattle.class_reader.specs.Spells.{Spells}
 use Rattle.program_rules.specs.Names.{Name}
 use Rattle.machine_rules.specs.declared.machine.Limits.{Limits}
 use Rattle.class_link.specs.declared.loaded.Loaded.{Loaded}
-use Rattle.class_link.specs.Info.{Info}
+use Rattle.class_link.specs.Info.{Info, own_name}
 use Rattle.class_table.specs.declared.scripted.Test.{Test}
 use Rattle.class_table.specs.Table.{look}
 use Rattle.test_discovery.specs.Discovery.{Tests}
@@ -13,9 +15,13 @@ use Rattle.mutator_ops.specs.Mutants.{class_mutants}
 use Rattle.mutator_ops.specs.declared.mutant.Mutant.{Mutant}
 use Rattle.mutant_apply.specs.Edited.{applied}
 use Rattle.mutant_runs.specs.Programs.{files_of, with_class, edited}
+use Rattle.library_laws.specs.Beside.{program_of}
+use Rattle.suite_program.specs.declared.fault.ProgramFault.{ProgramFault}
+use Rattle.suite_program.specs.Faults.{duplicate_of, super_fault}
+use Rattle.suite_program.specs.Programs.{classes_in, names_in}
 use Rattle.record_rules.specs.declared.record.RunRecord.{RunRecord}
 use Rattle.record_rules.specs.Records.{Asked, record_of}
-use Rattle.record_rules.specs.Truth.{IsTrueRecord}
+use Rattle.record_rules.specs.Truth.{files_in, IsTrueRecord}
 use Rattle.record_rules.specs.Jobs.{end_of}
 use Rattle.reuse_laws.specs.Jobs.{AreTrue}
 use Rattle.class_records.specs.Profile.{profile}
@@ -63,3 +69,28 @@ ReuseChangesNothing =
 abbrev pub RecordsAreTrue : Type 0
 RecordsAreTrue =
     (x : Asked) (r : RunRecord) → IsReusable x → record_of x ≡ Some r → IsTrueRecord profile r
+
+-- ---- faults
+
+-- Class files under the names of their classes.
+abbrev pub named_files : List Loaded → List (Name × List ℕ)
+named_files files = map (λ l. (own_name l.class, l.bytes)) files
+
+-- The first fault of names and supers that they have as the class files of a suite.
+abbrev pub first_fault_of : List Loaded → Option ProgramFault
+first_fault_of files =
+    option_or (duplicate_of (names_in (classes_in files)))
+    (super_fault (program_of (classes_in files)) (names_in (classes_in files)))
+
+-- Class files are a program by the words of records exactly where they have no such fault.
+abbrev pub ProgramsAreFaultless : Type 0
+ProgramsAreFaultless =
+    (files : List Loaded) → All (λ l. Spells l.bytes l.class) files →
+    profile.builds (named_files files) ≡ is_none (first_fault_of files)
+
+-- So those of a true record have none.
+abbrev pub TrueRecordsAreFaultless : Type 0
+TrueRecordsAreFaultless =
+    (r : RunRecord) (files : List Loaded) → IsTrueRecord profile r →
+    All (λ l. Spells l.bytes l.class) files → named_files files ≡ files_in r.consulted →
+    first_fault_of files ≡ None

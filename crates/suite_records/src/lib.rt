@@ -11,6 +11,7 @@ ghost use Rattle.suite_laws.specs.Witness.{sample_program};
 ghost use Rattle.suite_records.specs.Laws.{FoundAreOwnTests, OriginalsAreReusable};
 ghost use Rattle.suite_records.specs.Laws.{MutantsAreReusable, MutantsAreEdited};
 ghost use Rattle.suite_records.specs.Laws.{ReuseChangesNothing, RecordsAreTrue};
+ghost use Rattle.suite_records.specs.Laws.{ProgramsAreFaultless, TrueRecordsAreFaultless};
 
 use class_records::{
     class_files_are_a_profile, ordered_walks_are_closed, records_of_files_are_true,
@@ -66,3 +67,10 @@ pub fn ordered_programs_are_there()
     mutant_laws_are_of_use();
     ordered_walks_are_closed();
 }
+
+/// What a true record asks of its class files, that they are a program, is what is asked of those
+/// of a suite: that they have no fault of names and supers.
+pub fn programs_are_faultless()
+    ensures same { ProgramsAreFaultless }
+    ensures records { TrueRecordsAreFaultless }
+{}

@@ -1,4 +1,4 @@
-use Rattle.std.proofs.Common.{◌<◌, ◌^◌, length, arith}
+use Rattle.std.proofs.Common.{arith}
 use Rattle.run_records.proofs.fitting.fits_fields.Goals as goal
 
 pub returns : goal.returns
