@@ -62,6 +62,8 @@ class Lowering:
             if why is not None:
                 self.cut(edit, method, why)
                 done.cuts[method.key] = why
+        for method in edit.methods[len(methods):]:
+            self.lower_method(edit, method, lambdas, done)
         for method in edit.methods:
             self.add_names(edit, method, done)
         edit.attributes = [row for row in edit.attributes if row[0] in KEPT_OF_CLASS]

@@ -361,6 +361,9 @@ class Preparation:
                 self.leave_out_method(rest[1], trial.method_key(rest[2]), f'is refused by the type checker: {rest[0]} at instruction {rest[3]}')
             elif word == 'BadProgram':
                 self.leave_out_class(rest[1], f'is refused as part of a program: {rest[0]}')
+            elif word == 'BadClass':
+                name = os.path.relpath(rest[0], self.folder.path).partition('/')[2].removesuffix('.class')
+                self.leave_out_class(name.partition('$$Lambda$')[0], f'is refused as a class file: {" ".join(rest[1:])}')
             elif word in ('RunnerUsed', 'BadTest'):
                 self.class_off[rest[0]] = f'is refused as a test class: {" ".join((word, *rest[1:]))}'
                 self.lowered.pop(rest[0], None)
