@@ -1,5 +1,5 @@
 -- One cell more, and what is left.
-use Rattle.std.proofs.Common.{◌≡◌, ◌≢◌, ◌⊎◌, ℕ, zero, suc, ◌+◌, ◌-◌, ◌<◌, ◌≤◌, List, [], ◌∷◌, ◌++◌, Bool, true, false, ◌||◌, map, length, refl, sym, ap, ap₂, ◌∙◌, subst, arith, Option, Some, Result, Ok, Err, is_some, All, AllPairs, Contains, slice_get, slice_index, slice_index_or, inl, inr, ⊎_elim, true≢false, append_assoc, append-nil, length-append, nat_le, leb-true, if◌then◌else◌}
+use Rattle.std.proofs.Common.{◌≡◌, ◌≢◌, ◌⊎◌, ℕ, zero, suc, ◌+◌, ◌-◌, ◌<◌, ◌≤◌, List, [], ◌∷◌, ◌++◌, Bool, true, false, ◌||◌, map, length, refl, sym, ap, ap₂, ◌∙◌, subst, arith, Option, Some, Result, Ok, Err, is_some, All, AllPairs, slice_get, slice_index, slice_index_or, ⊎_elim, true≢false, append_assoc, append-nil, length-append, nat_le, leb-true, if◌then◌else◌}
 use Rattle.std.proofs.lemmas.List.{map-append}
 use Rattle.std.proofs.lemmas.List.Folds.{list_any-append}
 use Rattle.std.proofs.lemmas.Option.{slice_get-get_or, slice_get_within, get_or_from_slice_get}
@@ -11,7 +11,7 @@ use Rattle.claim_core.specs.Agreement.{Ascends}
 use Rattle.claim_core.specs.Claims.{is_exhausted, is_past, no_place}
 use Rattle.claim_core.specs.Ending.{Cell}
 use Rattle.job_rules.specs.Tried.{Tried, cost_of_all}
-use Rattle.job_rules.specs.Ended.{Ended, cost_of_end, cost_of_ends, say_end}
+use Rattle.job_rules.specs.Ended.{cost_of_end, cost_of_ends, say_end}
 use Rattle.job_rules.specs.Worked.{Work, IsWorkOf, numbered, did, all_did, detection, cells_of, cell_at, runs_in}
 use Rattle.job_laws.proofs.Placed.{Nth, get_map, long_cells, nth_cell, nth_exists, nth_is}
 use Rattle.mutant_table.specs.Entries.{ListAgrees, RanOut}

@@ -1,5 +1,5 @@
 -- Cells that are shared among hands.
-use Rattle.std.proofs.Common.{◌≡◌, ℕ, zero, suc, ◌+◌, ◌*◌, ◌<◌, ◌≤◌, ◌^◌, List, [], ◌∷◌, ◌++◌, Bool, map, length, reverse, refl, sym, ap, ◌∙◌, subst, arith, Option, Some, None, Result, Ok, Err, All, Vec, slice_get, slice_index_or, append_assoc}
+use Rattle.std.proofs.Common.{◌≡◌, ℕ, zero, suc, ◌+◌, ◌*◌, ◌<◌, ◌≤◌, ◌^◌, List, [], ◌∷◌, ◌++◌, map, length, reverse, refl, sym, ap, ◌∙◌, subst, arith, Option, Some, None, Ok, Err, All, Vec, slice_get, slice_index_or, append_assoc}
 use Rattle.std.proofs.lemmas.List.{map-append}
 use Rattle.std.specs.Option.{option_map}
 use Rattle.std.specs.declared.alloc.Global.{Global}
@@ -18,9 +18,9 @@ use Rattle.worker_gate.specs.Exact.{IsExact}
 use Rattle.worker_gate.specs.Hands.{Reading, Runs}
 use Rattle.worker_gate.specs.Leaving.{AreJobsOf}
 use Rattle.worker_gate.specs.Rounds.{StandByMutant}
-use Rattle.worker_gate.specs.Settled.{placed, parts_of, AreLeft, IsTableFor, Places, Settled, SettlesAll}
-use Rattle.worker_gate.specs.Sharing.{AreCellsOf, AreEndsOf, AreHandsOf, CountAtMost, HasCountedNothing, IsPlanFor, MayShare, Shared, SharedSo, ends_at, hands_in, seat_in}
-use Rattle.worker_gate.specs.Workers.{AllWorked, IsPlanned, IsReady}
+use Rattle.worker_gate.specs.Settled.{parts_of, AreLeft, IsTableFor, Places, SettlesAll}
+use Rattle.worker_gate.specs.Sharing.{AreCellsOf, AreEndsOf, AreHandsOf, CountAtMost, HasCountedNothing, IsPlanFor, MayShare, Shared, ends_at, hands_in, seat_in}
+use Rattle.worker_gate.specs.Workers.{AllWorked, IsReady}
 use Rattle.worker_gate.specs.declared.ends.CellEnd.{CellEnd}
 use Rattle.worker_gate.specs.declared.ends.JobCells.{JobCells}
 use Rattle.worker_gate.specs.declared.ends.Job.{Job}

@@ -1,10 +1,10 @@
-use Rattle.std.proofs.Common.{◌≡◌, ◌∙◌, ◌+◌, sym, ap, subst, length, arith}
+use Rattle.std.proofs.Common.{◌∙◌, ◌+◌, sym, ap, subst, arith}
 use Rattle.worker_gate.specs.Ends.{IsPlanOf}
 use Rattle.worker_gate.specs.Settled.{parts_of}
 use Rattle.worker_gate.specs.Sharing.{HasCountedNothing}
 use Rattle.std.specs.Prelude.{All}
 use Rattle.worker_gate.proofs.Leaving.{may_settle}
-use Rattle.worker_gate.proofs.Shares.{left_are, left_err, parts_fit, places_long, plan_is, ready_all, runs_at, shared_err, shared_ok, stand_so}
+use Rattle.worker_gate.proofs.Shares.{left_are, left_err, parts_fit, places_long, plan_is, ready_all, runs_at, shared_ok, stand_so}
 use Rattle.worker_gate.proofs.sharing.share_cells.Goals as goal
 
 pub plan_for-requires : goal.plan_for-requires
