@@ -1,17 +1,23 @@
--- The job of runs that are looked up in rows, and its plan (this project's own).
-use Rattle.std.specs.Prelude.{◌≡◌, ℕ, ◌<◌, ◌^◌, ◌==◌, List, [], ◌∷◌, Bool, Option, Some, None, if◌then◌else◌, map, slice_get}
+-- The job of runs that are looked up in rows, and its cells (this project's own).
+use Rattle.std.specs.Prelude.{◌≡◌, ℕ, ◌==◌, List, [], ◌∷◌, Bool, Option, Some, None, if◌then◌else◌, map, slice_get, Result, Vec}
+use Rattle.std.specs.declared.alloc.Global.{Global}
+use Rattle.class_model.specs.declared.memory.Memory.{Memory}
 use Rattle.job_rules.specs.Tried.{Tried}
-use Rattle.mutant_table.specs.declared.rule.Sizes.{Sizes}
-use Rattle.mutant_table.specs.declared.seat.ClaimSeat.{ClaimSeat}
 use Rattle.worker_gate.specs.Hands.{Reading, Runs}
-use Rattle.worker_gate.specs.declared.ends.Job.{Job}
-use Rattle.worker_gate.specs.declared.ends.Plan.{Plan}
+use Rattle.worker_gate.specs.Sharing.{SharedSo}
+use Rattle.worker_gate.specs.declared.ends.CellEnd.{CellEnd}
+use Rattle.worker_gate.specs.declared.ends.JobCells.{JobCells}
 use Rattle.worker_checks.specs.declared.rows.Row.{Row}
 use Rattle.worker_checks.specs.declared.rows.RowHands.{RowHands}
 use Rattle.worker_checks.specs.declared.rows.RowRecord.{RowRecord}
 
-abbrev pub row_reading : Reading RowRecord RowRecord ℕ
-row_reading = record { record_of = λ r. r; say = λ r. r.state; steps = λ r. r.steps }
+abbrev pub row_reading : Reading RowRecord RowRecord RowRecord ℕ
+row_reading = record {
+  made_of = λ r. r;
+  found_of = λ r. r;
+  say = λ r. r.state;
+  steps = λ r. r.steps;
+}
 
 -- what old results have of a run
 abbrev pub found_of : Bool → RowRecord → Option RowRecord
@@ -55,35 +61,26 @@ below_zero =
     ∷ row (passed 15) (killed 17)
     ∷ []
 
--- their plan: cells are drawn in their order
-abbrev pub row_plan : Bool → Plan
-row_plan all = record {
+-- their cells
+abbrev pub row_cells : Bool → JobCells
+row_cells all = record {
   mutants = 0 ∷ 0 ∷ 1 ∷ 1 ∷ 2 ∷ 2 ∷ 3 ∷ 3 ∷ 4 ∷ 4 ∷ 5 ∷ 5 ∷ [];
   tests = 0 ∷ 1 ∷ 0 ∷ 1 ∷ 0 ∷ 1 ∷ 0 ∷ 1 ∷ 0 ∷ 1 ∷ 0 ∷ 1 ∷ [];
-  order = 0 ∷ 1 ∷ 2 ∷ 3 ∷ 4 ∷ 5 ∷ 6 ∷ 7 ∷ 8 ∷ 9 ∷ 10 ∷ 11 ∷ [];
+  count = 6;
   all = all;
 }
 
 abbrev pub below_zero_runs : Bool → Runs RowRecord
 below_zero_runs found = map (runs_of found) below_zero
 
--- a table for these rows, and not too many workers
-pub record IsTableOfRows (z : Sizes) : Type 0 where
-  pub mutants : z.mutants ≡ 6
-  pub cells : z.cells ≡ 12
-  pub few : z.workers < 2 ^ 16
+-- hands for these six rows
+pub record IsFresh (found : Bool) (hands : RowHands) : Type 0 where
+  pub rows : hands.rows ≡ below_zero
+  pub found_is : hands.found ≡ found
 
--- ---- jobs
-
-abbrev pub seat_in : Job RowHands → ClaimSeat
-seat_in j = j.seat
-
--- a job on these six rows that has done nothing
-pub record IsFresh (found : Bool) (j : Job RowHands) : Type 0 where
-  pub rows : j.hands.rows ≡ below_zero
-  pub found_is : j.hands.found ≡ found
-  pub part : j.part ≡ 0
-
--- a job whose part has counted nothing
-abbrev pub IsIdleJob : Job RowHands → Type 0
-IsIdleJob j = j.part ≡ 0
+-- what their cells say
+abbrev pub RowsSaid :
+    Bool → ℕ → Runs RowRecord → ℕ → ℕ →
+    Result (Vec (CellEnd RowRecord RowRecord) Global) Memory → Type 0
+RowsSaid all workers ms before after result =
+    SharedSo row_reading all workers ms before after result

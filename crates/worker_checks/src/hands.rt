@@ -24,7 +24,8 @@ fn record_at(rows: &[Row], mutant: u64, test: u64) -> Option<RowRecord>
     }
 }
 
-fn count(part: &mut MeterPart, steps: u32)
+/// Counts so many steps.
+pub fn count(part: &mut MeterPart, steps: u32)
     requires { part.old < 2 ^ 63 }
     ensures { part.new ≡ part.old + steps }
 {
@@ -37,6 +38,8 @@ impl Hands for RowHands {
     type Made = RowRecord;
 
     type Found = RowRecord;
+
+    type Record = RowRecord;
 
     type State = u64;
 
@@ -63,7 +66,8 @@ impl Hands for RowHands {
         if self.failing == Some(mutant) {
             return Err(Memory);
         }
-        match record_at(&self.rows, mutant, test) {
+        let made = record_at(&self.rows, mutant, test);
+        match made {
             None => Err(Memory),
             Some(made) => {
                 count(part, made.steps);

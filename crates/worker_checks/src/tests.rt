@@ -1,7 +1,10 @@
 //! Six mutants and two tests, worked out by hand: how cells end, what they cost, that threads share
 //! them.
 
+ghost use Rattle.std.specs.Prelude.{◌≡◌};
+
 use crate::gates::HeldGate;
+use crate::hands::count;
 use crate::jobs::{RowEnds, do_rows};
 use mt_edge::{Meter, OpenGate};
 use std::test::Fail;
@@ -10,17 +13,33 @@ use worker_gate::CellEnd;
 // The first test that detects each mutant.
 const FIRST: [Option<u64>; 6] = [Some(1), Some(0), Some(0), None, None, Some(1)];
 
-// What the needed runs cost, and all.
-const LEAST: u64 = 158;
+// What both tests' runs on the program as it is cost.
+const ORIGINAL: u32 = 30;
 
-const MOST: u64 = 188;
+// What these cost with the needed runs on mutants, and with all.
+const LEAST: u64 = 188;
+
+const MOST: u64 = 218;
+
+// Numbers of workers.
+const WORKERS: [u64; 4] = [1, 2, 8, 64];
+
+// A meter behind the runs on the program as it is.
+fn metered() -> Meter
+    ensures { result ≡ 30 }
+{
+    let mut meter = Meter::new();
+    let mut part = meter.split();
+    count(&mut part, ORIGINAL);
+    meter.join(part);
+    meter
+}
 
 fn state_at(ends: &RowEnds, cell: usize) -> Option<u64> {
     match ends.get(cell) {
-        Some(Some(CellEnd::Ran(made))) => made.state,
-        Some(Some(CellEnd::Reused(found))) => found.state,
-        Some(Some(CellEnd::Skipped(_))) => None,
-        Some(None) => None,
+        Some(CellEnd::Ran(made)) => made.state,
+        Some(CellEnd::Reused(found)) => found.state,
+        Some(CellEnd::Skipped(_)) => None,
         None => None,
     }
 }
@@ -49,7 +68,7 @@ fn detects_alike(ends: &RowEnds) -> bool {
 fn executed(ends: &RowEnds) -> u64 {
     let mut number = 0u64;
     for end in ends {
-        if let Some(CellEnd::Ran(_)) = end {
+        if let CellEnd::Ran(_) = end {
             number = number.saturating_add(1);
         }
     }
@@ -58,7 +77,7 @@ fn executed(ends: &RowEnds) -> u64 {
 
 #[test]
 fn one_worker_runs_what_is_needed(rt: HostRuntime) -> Result<(), Fail> {
-    let mut meter = Meter::new();
+    let mut meter = metered();
     let ends = do_rows(
         &rt,
         rt.alloc(),
@@ -77,8 +96,8 @@ fn one_worker_runs_what_is_needed(rt: HostRuntime) -> Result<(), Fail> {
 
 #[test]
 fn workers_detect_alike(rt: HostRuntime) -> Result<(), Fail> {
-    for workers in 1..9u64 {
-        let mut meter = Meter::new();
+    for workers in WORKERS {
+        let mut meter = metered();
         let ends = do_rows(
             &rt,
             rt.alloc(),
@@ -100,8 +119,8 @@ fn workers_detect_alike(rt: HostRuntime) -> Result<(), Fail> {
 
 #[test]
 fn all_detections_take_all_runs(rt: HostRuntime) -> Result<(), Fail> {
-    for workers in 1..9u64 {
-        let mut meter = Meter::new();
+    for workers in WORKERS {
+        let mut meter = metered();
         let ends = do_rows(
             &rt,
             rt.alloc(),
@@ -124,18 +143,18 @@ fn all_detections_take_all_runs(rt: HostRuntime) -> Result<(), Fail> {
 
 #[test]
 fn found_runs_are_not_made(rt: HostRuntime) -> Result<(), Fail> {
-    let mut meter = Meter::new();
+    let mut meter = metered();
     let ends = do_rows(&rt, rt.alloc(), 2, true, None, false, &OpenGate, &mut meter)?;
     assert!(rt; detects_alike(&ends));
     assert_eq!(rt; executed(&ends), 0);
-    assert_eq!(rt; meter.count(), 0);
+    assert_eq!(rt; meter.count(), u64::from(ORIGINAL));
     Ok(())
 }
 
 #[test]
 fn memory_that_runs_out_in_a_run_is_told(rt: HostRuntime) -> Result<(), Fail> {
-    for workers in 1..9u64 {
-        let mut meter = Meter::new();
+    for workers in WORKERS {
+        let mut meter = metered();
         let ends = do_rows(
             &rt,
             rt.alloc(),
@@ -155,7 +174,7 @@ fn memory_that_runs_out_in_a_run_is_told(rt: HostRuntime) -> Result<(), Fail> {
 #[test]
 fn cells_are_shared_among_threads(rt: HostRuntime) -> Result<(), Fail> {
     let gate = HeldGate::new();
-    let mut meter = Meter::new();
+    let mut meter = metered();
     let ends = do_rows(&rt, rt.alloc(), 2, false, None, false, &gate, &mut meter)?;
     assert!(rt; !gate.is_late());
     assert_eq!(rt; gate.opened(), 12);

@@ -1,5 +1,5 @@
 -- What the cells that a worker has done cost, and one more, is at most what all runs cost.
-use Rattle.std.proofs.Common.{◌≡◌, ◌≢◌, ℕ, zero, suc, ◌+◌, ◌<◌, ◌≤◌, List, [], ◌∷◌, ◌++◌, Bool, map, length, replicate, refl, sym, ap, ◌∙◌, subst, arith, Option, Some, None, is_some, if◌then◌else◌, All, AllPairs, Contains, slice_get, slice_set, inl, inr, ◌⊎◌, ⊎_elim}
+use Rattle.std.proofs.Common.{◌≡◌, ◌≢◌, ℕ, zero, suc, ◌+◌, ◌≤◌, List, [], ◌∷◌, ◌++◌, Bool, map, length, replicate, refl, sym, ap, ◌∙◌, arith, Option, Some, None, is_some, if◌then◌else◌, All, AllPairs, Contains, slice_get, slice_set, inl, inr, ◌⊎◌, ⊎_elim}
 use Rattle.std.proofs.lemmas.List.{map-append}
 use Rattle.std.proofs.lemmas.List.Elements.{Contains-append_cases, Contains-append_right}
 use Rattle.std.proofs.lemmas.Option.{slice_get_within}

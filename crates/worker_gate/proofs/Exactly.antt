@@ -8,13 +8,13 @@ use Rattle.job_laws.proofs.Alike.{alike, record_alike, cost_between, cost_exactl
 use Rattle.worker_gate.specs.Exact.{DetectsAlike, SettledIsExact}
 use Rattle.worker_gate.specs.Hands.{Reading, Runs}
 
-all_alike : {M F S : Type 0} (r : Reading M F S) (all : Bool) (ms : Runs F) (ends : List (List (Ended F))) → All Ascend ms → AreAllEnds r.say all ms ends → AllZip (DetectsAlike r all) ms ends
+all_alike : {M F Rec S : Type 0} (r : Reading M F Rec S) (all : Bool) (ms : Runs Rec) (ends : List (List (Ended Rec))) → All Ascend ms → AreAllEnds r.say all ms ends → AllZip (DetectsAlike r all) ms ends
 all_alike r all [] [] asc h = tt
 all_alike r all [] (es ∷ ends) asc h = absurd h
 all_alike r all (ts ∷ ms) [] asc h = absurd h
 all_alike r all (ts ∷ ms) (es ∷ ends) asc h = ((alike r.say r.steps all ts es (asc zero ts (omega arith)) h.0).detect, all_alike r all ms ends (λ k d lt. asc (suc k) d (omega arith)) h.1)
 
-pub settled_exact : {M F S : Type 0} → SettledIsExact M F S
+pub settled_exact : {M F Rec S : Type 0} → SettledIsExact M F Rec S
 settled_exact r z all order ms cost places for s =
     let ends = parted ms s.gathered in
     let between = cost_between r.say r.steps all ms ends for.ascend s.ends in

@@ -1,5 +1,5 @@
 -- What workers leave, one after the other.
-use Rattle.std.proofs.Common.{◌≡◌, ℕ, zero, suc, ◌*◌, ◌<◌, ◌≤◌, List, [], ◌∷◌, map, length, refl, sym, ap, ◌∙◌, subst, arith, slice_index_or}
+use Rattle.std.proofs.Common.{◌≡◌, ℕ, zero, suc, ◌*◌, ◌<◌, ◌≤◌, List, [], ◌∷◌, map, length, refl, ap, ◌∙◌, subst, arith, slice_index_or}
 use Rattle.std.proofs.Math.Nat.{suc-mul}
 use Rattle.job_rules.specs.Tried.{cost_of_all}
 use Rattle.mutant_table.specs.Seats.{IsSeatAt, worker_of}
@@ -9,7 +9,7 @@ use Rattle.worker_gate.specs.Leaving.{JobsLeave, LeftMaySettle}
 use Rattle.worker_gate.specs.Settled.{parts_of, seat_of}
 use Rattle.worker_gate.specs.declared.ends.WorkEnd.{WorkEnd}
 
-pub jobs_leave : {C M F S : Type 0} → JobsLeave C M F S
+pub jobs_leave : {C M F Rec S : Type 0} → JobsLeave C M F Rec S
 jobs_leave r runs table z plan ms jobs ends are long all =
     record {
       count = long ∙ are.count;
@@ -38,7 +38,7 @@ parts_within most (e ∷ es) h =
     let times = suc-mul (length es) most in
     omega (arith, one, more, times)
 
-pub may_settle : {C M F S : Type 0} → LeftMaySettle C M F S
+pub may_settle : {C M F Rec S : Type 0} → LeftMaySettle C M F Rec S
 may_settle r table z all order ms ends left =
     let long = long_map seat_of ends in
     record {

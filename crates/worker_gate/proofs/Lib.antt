@@ -6,3 +6,4 @@ mod Settling
 mod Exactly
 mod RoundLaws
 pub mod Leaving
+mod Shares

@@ -1,5 +1,5 @@
 -- One cell more, and what is left.
-use Rattle.std.proofs.Common.{◌≡◌, ◌≢◌, ◌⊎◌, ℕ, zero, suc, ◌+◌, ◌-◌, ◌<◌, ◌≤◌, List, [], ◌∷◌, ◌++◌, Bool, true, false, ◌||◌, map, length, refl, sym, ap, ap₂, ◌∙◌, subst, arith, Option, Some, Result, Ok, Err, is_some, All, AllPairs, Contains, slice_get, slice_index, slice_index_or, inl, inr, ⊎_elim, true≢false, append_assoc, append-nil, length-append, nat_le, leb-true, if◌then◌else◌}
+use Rattle.std.proofs.Common.{◌≡◌, ◌≢◌, ◌⊎◌, ℕ, zero, suc, ◌+◌, ◌-◌, ◌<◌, ◌≤◌, List, [], ◌∷◌, ◌++◌, Bool, true, false, ◌||◌, map, length, refl, sym, ap, ap₂, ◌∙◌, subst, arith, Option, Some, Result, Ok, Err, is_some, All, AllPairs, slice_get, slice_index, slice_index_or, ⊎_elim, true≢false, append_assoc, append-nil, length-append, nat_le, leb-true, if◌then◌else◌}
 use Rattle.std.proofs.lemmas.List.{map-append}
 use Rattle.std.proofs.lemmas.List.Folds.{list_any-append}
 use Rattle.std.proofs.lemmas.Option.{slice_get-get_or, slice_get_within, get_or_from_slice_get}
@@ -11,7 +11,7 @@ use Rattle.claim_core.specs.Agreement.{Ascends}
 use Rattle.claim_core.specs.Claims.{is_exhausted, is_past, no_place}
 use Rattle.claim_core.specs.Ending.{Cell}
 use Rattle.job_rules.specs.Tried.{Tried, cost_of_all}
-use Rattle.job_rules.specs.Ended.{Ended, cost_of_end, cost_of_ends, say_end}
+use Rattle.job_rules.specs.Ended.{cost_of_end, cost_of_ends, say_end}
 use Rattle.job_rules.specs.Worked.{Work, IsWorkOf, numbered, did, all_did, detection, cells_of, cell_at, runs_in}
 use Rattle.job_laws.proofs.Placed.{Nth, get_map, long_cells, nth_cell, nth_exists, nth_is}
 use Rattle.mutant_table.specs.Entries.{ListAgrees, RanOut}
@@ -53,14 +53,14 @@ pub record PlanCell {Rec : Type 0} (z : Sizes) (ms : Runs Rec) (plan : Plan) (n 
   pub few : slice_index plan.mutants n < z.mutants
   pub place : slice_index plan.tests n < no_place
 
-pub order_at : {M F S : Type 0} (r : Reading M F S) (z : Sizes) (ms : Runs F) (plan : Plan) → IsPlanOf r z ms plan → (d : ℕ) → d < z.cells → (slice_get plan.order d ≡ Some (number_drawn plan d)) × (number_drawn plan d < length (cells_of ms))
+pub order_at : {M F Rec S : Type 0} (r : Reading M F Rec S) (z : Sizes) (ms : Runs Rec) (plan : Plan) → IsPlanOf r z ms plan → (d : ℕ) → d < z.cells → (slice_get plan.order d ≡ Some (number_drawn plan d)) × (number_drawn plan d < length (cells_of ms))
 order_at r z ms plan h d lt =
     let long = h.order.count in
     let cells = h.cells in
     let at = slice_get-get_or plan.order d 0 (omega (arith, lt, long, cells)) in
     (at, h.order.within d (number_drawn plan d) at)
 
-pub stands_for : {M F S : Type 0} (r : Reading M F S) (z : Sizes) (ms : Runs F) (plan : Plan) → IsPlanOf r z ms plan → (d : ℕ) → d < z.cells → StandsFor plan d
+pub stands_for : {M F Rec S : Type 0} (r : Reading M F Rec S) (z : Sizes) (ms : Runs Rec) (plan : Plan) → IsPlanOf r z ms plan → (d : ℕ) → d < z.cells → StandsFor plan d
 stands_for r z ms plan h d lt =
     let at = order_at r z ms plan h d lt in
     let within = at.1 in
@@ -74,7 +74,7 @@ stands_for r z ms plan h d lt =
       tests = omega (arith, within, t, tm);
     }
 
-pub plan_cell : {M F S : Type 0} (r : Reading M F S) (z : Sizes) (ms : Runs F) (plan : Plan) → IsPlanOf r z ms plan → (n : ℕ) → n < length (cells_of ms) → PlanCell z ms plan n
+pub plan_cell : {M F Rec S : Type 0} (r : Reading M F Rec S) (z : Sizes) (ms : Runs Rec) (plan : Plan) → IsPlanOf r z ms plan → (n : ℕ) → n < length (cells_of ms) → PlanCell z ms plan n
 plan_cell r z ms plan h n lt =
     let long = long_cells 0 ms in
     let some = get_some (runs_in ms) n (omega (arith, lt, long)) in
@@ -110,7 +110,7 @@ plan_cell r z ms plan h n lt =
     within_of (ts ∷ ms) zero n t h = omega arith
     within_of (ts ∷ ms) (suc k) n t h = let more = within_of ms k (n - length ts) t h.1 in omega (arith, more)
 
-pub has_cell : {M F S : Type 0} (r : Reading M F S) (z : Sizes) (ms : Runs F) (plan : Plan) → IsPlanOf r z ms plan → (n : ℕ) → n < length (cells_of ms) → IsCellOf ms (slice_index plan.mutants n) (slice_index plan.tests n)
+pub has_cell : {M F Rec S : Type 0} (r : Reading M F Rec S) (z : Sizes) (ms : Runs Rec) (plan : Plan) → IsPlanOf r z ms plan → (n : ℕ) → n < length (cells_of ms) → IsCellOf ms (slice_index plan.mutants n) (slice_index plan.tests n)
 has_cell r z ms plan h n lt = let p = plan_cell r z ms plan h n lt in record { run = p.run; is = p.of }
 
 -- ---- a worker that isn't past the cells
@@ -133,7 +133,7 @@ not_past say all ms order cells (w ∷ ws) count each =
 
 -- ---- the beginning and the end
 
-module _ {C M F S : Type 0} (r : Reading M F S) (table : TableId) (z : Sizes) (plan : Plan) (ms : Runs F) where
+module _ {C M F Rec S : Type 0} (r : Reading M F Rec S) (table : TableId) (z : Sizes) (plan : Plan) (ms : Runs Rec) where
   pub begins : (e : WorkEnd C M F) → Begun table z e → Working r table z plan ms e
   begins e h =
       let none : ends_in r e ≡ [] = ap (map (numbered_of r)) h.none in
@@ -198,7 +198,7 @@ module _ {C M F S : Type 0} (r : Reading M F S) (table : TableId) (z : Sizes) (p
       let m = slice_index plan.mutants n in
       let at = order_at r z ms plan h d lt in
       let p = plan_cell r z ms plan h n at.1 in
-      let work : Work F = record { drawn = d; number = n; cell = cell_of m (slice_index plan.tests n); run = p.run; seen = more.seen; end = more.end } in
+      let work : Work Rec = record { drawn = d; number = n; cell = cell_of m (slice_index plan.tests n); run = p.run; seen = more.seen; end = more.end } in
       let ends : ends_in r new ≡ ends_in r old ++ (n, more.end) ∷ [] = more.cells ∙ ap (λ c. map (numbered_of r) c.items ++ (n, more.end) ∷ []) cells in
       record {
         seat = seat;

@@ -39,13 +39,13 @@ ready_at table z jobs es is ready idle = λ k d lt.
     let same : slice_index_or jobs k d.job ≡ (slice_index_or es k d).job = sym (job_at es k d d.job lt ∙ ap (λ l. slice_index_or l k d.job) is) in
     begun_of table z (slice_index_or es k d) (subst (IsReady table z) same (ready k d.job (omega (arith, lt, long)))) (idle k d lt)
 
-pub planned_at : {C M F S : Type 0} (r : Reading M F S) (runs : C → Runs F) (z : Sizes) (plan : Plan) (jobs : List (Job C)) (es : List (WorkEnd C M F)) → map job_of es ≡ jobs → All (IsPlanned r runs z plan) jobs → All (λ (e : WorkEnd C M F). IsPlanned r runs z plan e.job) es
+pub planned_at : {C M F Rec S : Type 0} (r : Reading M F Rec S) (runs : C → Runs Rec) (z : Sizes) (plan : Plan) (jobs : List (Job C)) (es : List (WorkEnd C M F)) → map job_of es ≡ jobs → All (IsPlanned r runs z plan) jobs → All (λ (e : WorkEnd C M F). IsPlanned r runs z plan e.job) es
 planned_at r runs z plan jobs es is plans = λ k d lt.
     let long = as_long jobs es is in
     let same : slice_index_or jobs k d.job ≡ (slice_index_or es k d).job = sym (job_at es k d d.job lt ∙ ap (λ l. slice_index_or l k d.job) is) in
     subst (IsPlanned r runs z plan) same (plans k d.job (omega (arith, lt, long)))
 
-pub worked_at : {C M F S : Type 0} (r : Reading M F S) (runs : C → Runs F) (table : TableId) (z : Sizes) (plan : Plan) (jobs : List (Job C)) (es : List (WorkEnd C M F)) → map job_of es ≡ jobs → (k : ℕ) (j : Job C) (d e : WorkEnd C M F) → k < length es → Worked r table z plan (runs (slice_index_or es k d).job.hands) (slice_index_or es k d) e → WorkedFrom r table z plan (runs (slice_index_or jobs k j).hands) (slice_index_or jobs k j) e
+pub worked_at : {C M F Rec S : Type 0} (r : Reading M F Rec S) (runs : C → Runs Rec) (table : TableId) (z : Sizes) (plan : Plan) (jobs : List (Job C)) (es : List (WorkEnd C M F)) → map job_of es ≡ jobs → (k : ℕ) (j : Job C) (d e : WorkEnd C M F) → k < length es → Worked r table z plan (runs (slice_index_or es k d).job.hands) (slice_index_or es k d) e → WorkedFrom r table z plan (runs (slice_index_or jobs k j).hands) (slice_index_or jobs k j) e
 worked_at r runs table z plan jobs es is k j d e lt w =
     let same : (slice_index_or es k d).job ≡ slice_index_or jobs k j = job_at es k d j lt ∙ ap (λ l. slice_index_or l k j) is in
     subst (λ (x : Job _). WorkedFrom r table z plan (runs x.hands) x e) same w

@@ -50,11 +50,11 @@ flat_mapped : {X Y : Type 0} (f : X → Y) (lists : List (List X)) → map f (fl
 flat_mapped f [] = refl
 flat_mapped f (xs ∷ lists) = map-append f xs (flat lists) ∙ ap (λ l. map f xs ++ l) (flat_mapped f lists)
 
-ends_mapped : {C M F S : Type 0} (r : Reading M F S) (es : List (WorkEnd C M F)) → map (map (numbered_of r)) (map items_of (map cells_in es)) ≡ map (ends_in r) es
+ends_mapped : {C M F Rec S : Type 0} (r : Reading M F Rec S) (es : List (WorkEnd C M F)) → map (map (numbered_of r)) (map items_of (map cells_in es)) ≡ map (ends_in r) es
 ends_mapped r [] = refl
 ends_mapped r (e ∷ es) = ap (λ l. ends_in r e ∷ l) (ends_mapped r es)
 
-pub put_ends : {C M F S : Type 0} (r : Reading M F S) (es : List (WorkEnd C M F)) (n : ℕ) → map (placed r) (put_all (flat (map items_of (map cells_in es))) (replicate n None)) ≡ put_all (flat (map (ends_in r) es)) (replicate n None)
+pub put_ends : {C M F Rec S : Type 0} (r : Reading M F Rec S) (es : List (WorkEnd C M F)) (n : ℕ) → map (placed r) (put_all (flat (map items_of (map cells_in es))) (replicate n None)) ≡ put_all (flat (map (ends_in r) es)) (replicate n None)
 put_ends r es n =
     put_mapped (ended_of r) (flat (map items_of (map cells_in es))) (replicate n None)
     ∙ ap₂ put_all (flat_mapped (numbered_of r) (map items_of (map cells_in es)) ∙ ap flat (ends_mapped r es)) (map_none (ended_of r) n)
@@ -126,19 +126,19 @@ none_wants [] none k d lt = absurd (omega arith)
 none_wants (e ∷ es) none zero d lt = λ is. true≢false (sym (ap is_wanting is) ∙ or_left (is_wanting e.fault) (any_wanting es) none)
 none_wants (e ∷ es) none (suc k) d lt = none_wants es (or_right (is_wanting e.fault) (any_wanting es) none) k d (omega arith)
 
-did_at : {C M F S : Type 0} (r : Reading M F S) (all : Bool) (ms : Runs F) (order : List ℕ) (cells : ℕ) (es : List (WorkEnd C M F)) → ((k : ℕ) (d : WorkEnd C M F) → k < length es → DidCells r.say all ms order cells (entries_of (slice_index_or es k d).job.seat) (ends_in r (slice_index_or es k d))) → (w : ℕ) → w < length es → DidCells r.say all ms order cells (slice_index_or (map entries_of (map seat_of es)) w []) (slice_index_or (map (ends_in r) es) w [])
+did_at : {C M F Rec S : Type 0} (r : Reading M F Rec S) (all : Bool) (ms : Runs Rec) (order : List ℕ) (cells : ℕ) (es : List (WorkEnd C M F)) → ((k : ℕ) (d : WorkEnd C M F) → k < length es → DidCells r.say all ms order cells (entries_of (slice_index_or es k d).job.seat) (ends_in r (slice_index_or es k d))) → (w : ℕ) → w < length es → DidCells r.say all ms order cells (slice_index_or (map entries_of (map seat_of es)) w []) (slice_index_or (map (ends_in r) es) w [])
 did_at r all ms order cells [] h w lt = absurd (omega arith)
 did_at r all ms order cells (e ∷ es) h zero lt = h zero e (omega arith)
 did_at r all ms order cells (e ∷ es) h (suc w) lt = did_at r all ms order cells es (λ k d l. h (suc k) d (omega arith)) w (omega arith)
 
-costs_at : {C M F S : Type 0} (r : Reading M F S) (es : List (WorkEnd C M F)) → ((k : ℕ) (d : WorkEnd C M F) → k < length es → (slice_index_or es k d).job.part ≡ cost_of_ends r.steps (ends_alone r (slice_index_or es k d))) → cost_of_workers r.steps (map (ends_in r) es) ≡ parts_of es
+costs_at : {C M F Rec S : Type 0} (r : Reading M F Rec S) (es : List (WorkEnd C M F)) → ((k : ℕ) (d : WorkEnd C M F) → k < length es → (slice_index_or es k d).job.part ≡ cost_of_ends r.steps (ends_alone r (slice_index_or es k d))) → cost_of_workers r.steps (map (ends_in r) es) ≡ parts_of es
 costs_at r [] h = refl
 costs_at r (e ∷ es) h = let one = h zero e (omega arith) in let more = costs_at r es (λ k d l. h (suc k) d (omega arith)) in omega (arith, one, more)
 
 long_both : {X Y Z : Type 0} (f : X → Y) (g : Y → Z) (xs : List X) → length (map g (map f xs)) ≡ length xs
 long_both f g xs = long_map g (map f xs) ∙ long_map f xs
 
-module _ {C M F S : Type 0} (r : Reading M F S) (table : TableId) (z : Sizes) (all : Bool) (order : List ℕ) (ms : Runs F) (es : List (WorkEnd C M F)) (end : ClaimEnd) where
+module _ {C M F Rec S : Type 0} (r : Reading M F Rec S) (table : TableId) (z : Sizes) (all : Bool) (order : List ℕ) (ms : Runs Rec) (es : List (WorkEnd C M F)) (end : ClaimEnd) where
   all_did_so : 0 < length es → IsTableFor z order ms → AreLeft r table z all order ms es → any_wanting es ≡ false → ClaimsAgree (claims_at z.cells end (map seat_of es)) → AllDid r.say all ms order (claims_at z.cells end (map seat_of es)) (map (ends_in r) es)
   all_did_so some for left none agree =
       let long = long_both seat_of entries_of es in
@@ -163,6 +163,7 @@ module _ {C M F S : Type 0} (r : Reading M F S) (table : TableId) (z : Sizes) (a
       let count = left.count in
       record {
         gathered = f.gathered;
+        count = f.are.count;
         filled = ap (map (placed r)) put ∙ put_ends r es z.cells ∙ f.filled;
         ends = workers_end r.say all ms order c ends f.gathered h f.are;
         costs = f.costs ∙ costs_at r es (λ k d l. ((left.each k d l).0.did (none_wants es none k d l)).1);

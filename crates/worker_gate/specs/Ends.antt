@@ -21,24 +21,24 @@ use Rattle.worker_gate.specs.declared.ends.WorkEnd.{WorkEnd}
 use Rattle.worker_gate.specs.declared.ends.Job.{Job}
 use Rattle.worker_gate.specs.declared.ends.Plan.{Plan}
 
-module _ {M F S : Type 0} (r : Reading M F S) where
-  abbrev pub ended_of : CellEnd M F → Ended F
-  ended_of (end.Ran made) = ran (r.record_of made)
-  ended_of (end.Reused found) = reused found
+module _ {M F Rec S : Type 0} (r : Reading M F Rec S) where
+  abbrev pub ended_of : CellEnd M F → Ended Rec
+  ended_of (end.Ran made) = ran (r.made_of made)
+  ended_of (end.Reused found) = reused (r.found_of found)
   ended_of (end.Skipped v) = skipped v
 
   -- whether an end detects the mutant
   abbrev pub detects_so : CellEnd M F → Bool
   detects_so e = is_some (say_end r.say (ended_of e))
 
-  abbrev pub numbered_of : ℕ × CellEnd M F → ℕ × Ended F
+  abbrev pub numbered_of : ℕ × CellEnd M F → ℕ × Ended Rec
   numbered_of p = (p.0, ended_of p.1)
 
 -- the cells that a worker has done, with their ends
-abbrev pub ends_in : {C M F S : Type 0} → Reading M F S → WorkEnd C M F → List (ℕ × Ended F)
+abbrev pub ends_in : {C M F Rec S : Type 0} → Reading M F Rec S → WorkEnd C M F → List (ℕ × Ended Rec)
 ends_in r e = map (numbered_of r) e.cells.items
 
-abbrev pub ends_alone : {C M F S : Type 0} → Reading M F S → WorkEnd C M F → List (Ended F)
+abbrev pub ends_alone : {C M F Rec S : Type 0} → Reading M F Rec S → WorkEnd C M F → List (Ended Rec)
 ends_alone r e = map (λ p. p.1) (ends_in r e)
 
 -- the place by which a cell is skipped
@@ -83,19 +83,19 @@ abbrev pub cell_of : ℕ → ℕ → Cell
 cell_of mutant test = record { mutant = mutant; place = test }
 
 abbrev pub NotesEnd :
-    {M F S : Type 0} → Reading M F S → ℕ → ℕ → CellEnd M F → ClaimSeat → ClaimSeat → Type 0
+    {M F Rec S : Type 0} → Reading M F Rec S → ℕ → ℕ → CellEnd M F → ClaimSeat → ClaimSeat → Type 0
 NotesEnd r mutant test e old new =
     entries_of new ≡ entries_of old ++ detection r.say (cell_of mutant test) (ended_of r e)
 
 -- a worker did one cell more
 pub record DidCell
-    {C M F S : Type 0} (r : Reading M F S) (all : Bool) (ms : Runs F) (number mutant test : ℕ)
+    {C M F Rec S : Type 0} (r : Reading M F Rec S) (all : Bool) (ms : Runs Rec) (number mutant test : ℕ)
     (old new : WorkEnd C M F)
     : Type 0 where
   pub seen : ℕ
-  pub end : Ended F
+  pub end : Ended Rec
   pub cells : ends_in r new ≡ ends_in r old ++ (number, end) ∷ []
-  pub ended : (t : Tried F) → IsRunOf ms mutant test t → EndsOn all test seen t end
+  pub ended : (t : Tried Rec) → IsRunOf ms mutant test t → EndsOn all test seen t end
   pub noted : entries_of new.job.seat
       ≡ entries_of old.job.seat ++ Looked mutant seen ∷ detection r.say (cell_of mutant test) end
   pub counted : new.job.part ≡ old.job.part + cost_of_end r.steps end
@@ -110,7 +110,7 @@ test_at cell = cell.place
 
 -- The plan has the cells of these runs, and the table is for it.
 pub record IsPlanOf
-    {M F S : Type 0} (r : Reading M F S) (z : Sizes) (ms : Runs F) (plan : Plan)
+    {M F Rec S : Type 0} (r : Reading M F Rec S) (z : Sizes) (ms : Runs Rec) (plan : Plan)
     : Type 0 where
   pub cells : z.cells ≡ length (cells_of ms)
   pub mutants : plan.mutants ≡ map mutant_at (cells_of ms)
@@ -149,11 +149,11 @@ pub record Begun {C M F : Type 0} (table : TableId) (z : Sizes) (e : WorkEnd C M
 
 -- a worker in between
 pub record Working
-    {C M F S : Type 0} (r : Reading M F S) (table : TableId) (z : Sizes) (plan : Plan) (ms : Runs F)
+    {C M F Rec S : Type 0} (r : Reading M F Rec S) (table : TableId) (z : Sizes) (plan : Plan) (ms : Runs Rec)
     (e : WorkEnd C M F)
     : Type 0 where
   pub seat : IsSeatAt table z e.job.seat
-  pub works : List (Work F)
+  pub works : List (Work Rec)
   pub ends : ends_in r e ≡ map numbered works
   pub each : All (IsWorkOf plan.all ms plan.order) works
   pub noted : entries_of e.job.seat ≡ all_did r.say works
@@ -164,8 +164,8 @@ pub record Working
 -- What a worker leaves. Its part never counts more than all runs cost. Where memory wasn't wanted,
 -- it did the cells that its list claims, and counted just those that it ran.
 pub record Left
-    {C M F S : Type 0} (r : Reading M F S) (table : TableId) (z : Sizes) (all : Bool)
-    (order : List ℕ) (ms : Runs F) (e : WorkEnd C M F)
+    {C M F Rec S : Type 0} (r : Reading M F Rec S) (table : TableId) (z : Sizes) (all : Bool)
+    (order : List ℕ) (ms : Runs Rec) (e : WorkEnd C M F)
     : Type 0 where
   pub seat : IsSeatAt table z e.job.seat
   pub most : e.job.part ≤ cost_of_all r.steps ms
@@ -175,7 +175,7 @@ pub record Left
 
 -- a worker for which memory ran out, which isn't noted yet
 pub record Wants
-    {C M F S : Type 0} (r : Reading M F S) (table : TableId) (z : Sizes) (ms : Runs F)
+    {C M F Rec S : Type 0} (r : Reading M F Rec S) (table : TableId) (z : Sizes) (ms : Runs Rec)
     (e : WorkEnd C M F)
     : Type 0 where
   pub seat : IsSeatAt table z e.job.seat
@@ -183,7 +183,7 @@ pub record Wants
 
 -- a turn of a worker: it did one cell more, or found none, or memory ran out
 abbrev pub Turned :
-    {C M F S : Type 0} → Reading M F S → TableId → Sizes → Plan → Runs F → WorkEnd C M F →
+    {C M F Rec S : Type 0} → Reading M F Rec S → TableId → Sizes → Plan → Runs Rec → WorkEnd C M F →
     Result Bool Memory → Type 0
 Turned r table z plan ms e (Ok true) = Working r table z plan ms e
 Turned r table z plan ms e (Ok false) = Left r table z plan.all plan.order ms e
@@ -196,7 +196,7 @@ pub record IsSameWorker {C M F : Type 0} (old new : WorkEnd C M F) : Type 0 wher
 
 -- What a worker promises of what it leaves, by its job.
 pub record WorkedFrom
-    {C M F S : Type 0} (r : Reading M F S) (table : TableId) (z : Sizes) (plan : Plan) (ms : Runs F)
+    {C M F Rec S : Type 0} (r : Reading M F Rec S) (table : TableId) (z : Sizes) (plan : Plan) (ms : Runs Rec)
     (job : Job C) (e : WorkEnd C M F)
     : Type 0 where
   pub place : worker_of e.job.seat ≡ worker_of job.seat
@@ -204,6 +204,6 @@ pub record WorkedFrom
   pub left : Left r table z plan.all plan.order ms e
 
 abbrev pub Worked :
-    {C M F S : Type 0} → Reading M F S → TableId → Sizes → Plan → Runs F → WorkEnd C M F →
+    {C M F Rec S : Type 0} → Reading M F Rec S → TableId → Sizes → Plan → Runs Rec → WorkEnd C M F →
     WorkEnd C M F → Type 0
 Worked r table z plan ms old new = WorkedFrom r table z plan ms old.job new

@@ -5,3 +5,4 @@ pub mod Settled
 pub mod Exact
 pub mod Leaving
 pub mod Rounds
+pub mod Sharing

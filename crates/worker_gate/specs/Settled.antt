@@ -31,7 +31,7 @@ items_of list = list.items
 abbrev pub Places : Type 0 → Type 0 → Type 0
 Places M F = Vec (Option (CellEnd M F)) Global
 
-abbrev pub placed : {M F S : Type 0} → Reading M F S → Option (CellEnd M F) → Option (Ended F)
+abbrev pub placed : {M F Rec S : Type 0} → Reading M F Rec S → Option (CellEnd M F) → Option (Ended Rec)
 placed r o = option_map (ended_of r) o
 
 abbrev pub seat_of : {C M F : Type 0} → WorkEnd C M F → ClaimSeat
@@ -55,8 +55,8 @@ parts_of (e ∷ es) = e.job.part + parts_of es
 
 -- what all workers of a table left, in the order of their seats
 pub record AreLeft
-    {C M F S : Type 0} (r : Reading M F S) (table : TableId) (z : Sizes) (all : Bool)
-    (order : List ℕ) (ms : Runs F) (es : List (WorkEnd C M F))
+    {C M F Rec S : Type 0} (r : Reading M F Rec S) (table : TableId) (z : Sizes) (all : Bool)
+    (order : List ℕ) (ms : Runs Rec) (es : List (WorkEnd C M F))
     : Type 0 where
   pub count : length es ≡ z.workers
   pub each : (k : ℕ) (d : WorkEnd C M F) → k < length es →
@@ -73,10 +73,11 @@ pub record IsTableFor {Rec : Type 0} (z : Sizes) (order : List ℕ) (ms : Runs R
 -- All cells have ended as the laws of jobs ask; the executed ones cost so much; and one worker has
 -- skipped all that may be skipped.
 pub record Settled
-    {M F S : Type 0} (r : Reading M F S) (z : Sizes) (all : Bool) (ms : Runs F) (cost : ℕ)
+    {M F Rec S : Type 0} (r : Reading M F Rec S) (z : Sizes) (all : Bool) (ms : Runs Rec) (cost : ℕ)
     (places : Places M F)
     : Type 0 where
-  pub gathered : List (Ended F)
+  pub gathered : List (Ended Rec)
+  pub count : length gathered ≡ z.cells
   pub filled : map (placed r) places.items ≡ map Some gathered
   pub ends : AreAllEnds r.say all ms (parted ms gathered)
   pub costs : cost_of_all_ends r.steps (parted ms gathered) ≡ cost
@@ -93,8 +94,8 @@ pub record Closed
 
 -- the same of what all workers left, for every job of which it is
 pub record SettlesAll
-    {C M F S : Type 0} (r : Reading M F S) (table : TableId) (z : Sizes) (es : List (WorkEnd C M F))
+    {C M F Rec S : Type 0} (r : Reading M F Rec S) (table : TableId) (z : Sizes) (es : List (WorkEnd C M F))
     (places : Places M F)
     : Type 0 where
-  pub settles : (all : Bool) (order : List ℕ) (ms : Runs F) → IsTableFor z order ms →
+  pub settles : (all : Bool) (order : List ℕ) (ms : Runs Rec) → IsTableFor z order ms →
       AreLeft r table z all order ms es → Settled r z all ms (parts_of es) places

@@ -23,12 +23,12 @@ IsIdle e = (e.cells.items ≡ []) × (e.fault ≡ None)
 
 -- the plan is of the job's runs
 abbrev pub IsPlanned :
-    {C M F S : Type 0} → Reading M F S → (C → Runs F) → Sizes → Plan → Job C → Type 0
+    {C M F Rec S : Type 0} → Reading M F Rec S → (C → Runs Rec) → Sizes → Plan → Job C → Type 0
 IsPlanned r runs z plan j = IsPlanOf r z (runs j.hands) plan
 
 -- a worker that may begin with a plan
 pub record MayBegin
-    {C M F S : Type 0} (r : Reading M F S) (runs : C → Runs F) (table : TableId) (z : Sizes)
+    {C M F Rec S : Type 0} (r : Reading M F Rec S) (runs : C → Runs Rec) (table : TableId) (z : Sizes)
     (cells : Plan) (e : WorkEnd C M F)
     : Type 0 where
   pub begun : Begun table z e
@@ -36,7 +36,7 @@ pub record MayBegin
 
 -- what all workers leave, each of its own job
 pub record AllWorked
-    {C M F S : Type 0} (r : Reading M F S) (runs : C → Runs F) (table : TableId) (z : Sizes)
+    {C M F Rec S : Type 0} (r : Reading M F Rec S) (runs : C → Runs Rec) (table : TableId) (z : Sizes)
     (plan : Plan) (jobs : List (Job C)) (ends : List (WorkEnd C M F))
     : Type 0 where
   pub each : (k : ℕ) (j : Job C) (e : WorkEnd C M F) → k < length jobs →

@@ -51,7 +51,7 @@ fn run_new<W: Wait, C: Hands, R: Recorder<C::Made>>(
 ) -> Result<CellEnd<C::Made, C::Found>, Memory>
     requires cell { IsCellOf (C.job hands.old) mutant test }
     requires room { part.old < 2 ^ 63 }
-    requires none { Finds (C.job hands.old) mutant test None }
+    requires none { Finds C.reading (C.job hands.old) mutant test None }
     ensures job { C.job hands.new ≡ C.job hands.old }
     ensures done { IfOk result (λ e.
         IsDoneOf (C.job hands.old) mutant test (ended_of C.reading e)) }

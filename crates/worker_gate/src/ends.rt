@@ -32,6 +32,16 @@ pub struct WorkEnd<C, M, F> {
     pub fault: Option<EdgeFault>,
 }
 
+/// The cells of a job: the mutant and the test of each, by mutant and then test; how many mutants
+/// there are; and whether all detecting tests are asked for.
+#[derive(Drop)]
+pub struct JobCells {
+    pub mutants: Seq<u64>,
+    pub tests: Seq<u64>,
+    pub count: u64,
+    pub all: bool,
+}
+
 /// What all workers are told: the mutant and the test of each cell, by mutant and then test; for
 /// each number that is drawn that of its cell; and whether all detecting tests are asked for.
 #[derive(Drop)]

@@ -17,14 +17,17 @@ pub trait Hands {
     /// A record that old results have.
     type Found: Drop;
 
+    /// What both stand for: the record of a run. No call makes one.
+    type Record;
+
     /// What a record says of a mutant that its run detects.
     type State;
 
-    // What records say, and how many steps their runs took.
-    ghost reading: { Reading Self.Made Self.Found Self.State };
+    // Which records they are, what these say, and how many steps their runs took.
+    ghost reading: { Reading Self.Made Self.Found Self.Record Self.State };
 
     // The runs of the job, by mutant. No call changes them.
-    ghost job: { Self → Runs Self.Found };
+    ghost job: { Self → Runs Self.Record };
 
     /// Whether the run of a made record detects its mutant.
     fn made_detects(made: &Self::Made) -> bool
@@ -38,7 +41,7 @@ pub trait Hands {
     fn find(&mut self, mutant: u64, test: u64) -> Result<Option<Self::Found>, Memory>
         requires { IsCellOf (job self.old) mutant test }
         ensures job { job self.new ≡ job self.old }
-        ensures found { IfOk result (Finds (job self.old) mutant test) };
+        ensures found { IfOk result (Finds reading (job self.old) mutant test) };
 
     /// Runs a cell. Its steps are counted in the part.
     fn run(&mut self, mutant: u64, test: u64, part: &mut MeterPart) -> Result<Self::Made, Memory>
