@@ -1,6 +1,6 @@
 -- The key of a class file in the report: the path of its source, as far as the class file states it
 -- (this project's own).
-use Rattle.std.specs.Prelude.{ℕ, List, [], ◌++◌, map, take, Option, None, Some, option_and_then, if◌then◌else◌, slice_get}
+use Rattle.std.specs.Prelude.{ℕ, List, [], ◌∷◌, ◌++◌, map, take, Option, None, Some, option_and_then, if◌then◌else◌, slice_get}
 use Rattle.std.specs.Char.Utf16.{has_unpaired_surrogate}
 use Rattle.std.specs.Option.{option_map_or}
 use Rattle.class_model.specs.Pool.{text_of}

@@ -29,8 +29,9 @@ fn stated_among<'a>(pool: &'a [Const], attrs: &[Attr]) -> Option<&'a Name>
     ensures { option_copied result ≡ stated_among pool.now attrs.now }
 {
     for attr in attrs {
-        if let Some(name) = stated_at(pool, attr) {
-            return Some(name);
+        match stated_at(pool, attr) {
+            Some(name) => return Some(name),
+            None => (),
         }
     }
     None
