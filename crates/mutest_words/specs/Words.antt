@@ -1,6 +1,7 @@
 -- Which command the words behind the program's name are (this project's own).
 use Rattle.std.specs.Prelude.{◌≡◌, ℕ, List, [], ◌∷◌, Bool, true, not, ◌&&◌, ◌||◌, nat_eq, codes}
 use Rattle.std.specs.Prelude.{Option, None, Some, MatchOption, is_some, option_map, option_and_then, if◌then◌else◌}
+use Rattle.std.specs.Borrow.{Bor}
 use Rattle.std.specs.List.{ends_with, list_any}
 use Rattle.std.specs.Io.BufRead.{strip_last}
 use Rattle.clap.specs.Words.{App, Row, Text, first_of}
@@ -96,8 +97,8 @@ generate_of rows =
     (count_of (codes "workers") 1 64 1 rows))
     (number_between 1 200 word)) (first_of (codes "number") rows)
 
--- `run`: --classes DIR --tests DIR --report FILE --new-history FILE [--sources DIR] [--history FILE]
--- [--journal FILE] [--workers N] [--steps N] [--heap N] [--depth N]
+-- `run`: --classes DIR --tests DIR --report FILE --new-history FILE [--sources DIR]
+-- [--history FILE] [--journal FILE] [--workers N] [--steps N] [--heap N] [--depth N]
 unfoldable pub run_app : App
 run_app = app_with []
     (codes "classes" ∷ codes "tests" ∷ codes "report" ∷ codes "new-history" ∷ codes "sources"
@@ -128,14 +129,17 @@ run_options rows =
     (count_of (codes "heap") 1_024 4_194_304 4_194_304 rows))
     (count_of (codes "steps") 1 1_000_000_000 10_000_000 rows))
     (count_of (codes "workers") 1 64 1 rows))
-    (first_of (codes "report") rows)) (first_of (codes "tests") rows)) (first_of (codes "classes") rows)
+    (first_of (codes "report") rows))
+    (first_of (codes "tests") rows))
+    (first_of (codes "classes") rows)
 
 -- Paths are compared as texts. One that isn't there differs from every other.
 abbrev pub differ : Option Text → Option Text → Bool
 differ (Some path) (Some other) = not (is_word path other)
 differ path other = true
 
--- Nothing is written twice, and what is read of earlier runs is not where a report or a journal goes.
+-- Nothing is written twice, and what is read of earlier runs is not where a report or a journal
+-- goes.
 abbrev pub paths_differ : RunOptions → Bool
 paths_differ o =
     differ (Some o.report) o.new_history && differ (Some o.report) o.journal
@@ -186,15 +190,19 @@ is_archive folder =
 
 -- ---- the command that the code has
 
+-- a text that is lent, if there is one
+abbrev pub lent_text : Option (Bor Text) → Option Text
+lent_text lent = option_map (λ text. text.now) lent
+
 abbrev pub as_run_options : FoundRun → RunOptions
 as_run_options o = record {
   classes = o.classes.now;
   tests = o.tests.now;
   report = o.report.now;
-  new_history = option_map (λ p. p.now) o.new_history;
-  sources = option_map (λ p. p.now) o.sources;
-  history = option_map (λ p. p.now) o.history;
-  journal = option_map (λ p. p.now) o.journal;
+  new_history = lent_text o.new_history;
+  sources = lent_text o.sources;
+  history = lent_text o.history;
+  journal = lent_text o.journal;
   workers = o.workers;
   steps = o.steps;
   heap = o.heap;

@@ -4,7 +4,7 @@ ghost use Rattle.std.specs.Prelude.{◌≡◌, map, option_and_then, option_map,
 ghost use Rattle.std.specs.List.{list_any};
 ghost use Rattle.clap.specs.Words.{app_of, found_of, rows_of};
 ghost use Rattle.mutest_words.specs.Given.{given, is_word, texts};
-ghost use Rattle.mutest_words.specs.Words.{folder_of, is_archive, count_of, differ, paths_differ, is_whole, list_of, list_app, asm_of, asm_app, run_app, generate_app, run_options, run_of, generate_of, generate_by, named_command, command_by, command_of, as_run_options, as_generate_options, Finds};
+ghost use Rattle.mutest_words.specs.Words.{folder_of, is_archive, count_of, differ, paths_differ, is_whole, list_of, list_app, asm_of, asm_app, run_app, generate_app, run_options, run_of, generate_of, generate_by, named_command, command_by, command_of, as_run_options, as_generate_options, lent_text, Finds};
 
 use crate::given::{given, lacks, value_of};
 use crate::number::number_between;
@@ -150,7 +150,7 @@ fn run_options<'a>(matches: &ArgMatches<'a>) -> Option<RunOptions<'a>>
 
 // One that isn't there differs from every other.
 fn differ(path: Option<&str>, other: Option<&str>) -> bool
-    ensures { result ≡ differ (option_map (λ p. p.now) path.entry) (option_map (λ p. p.now) other.entry) }
+    ensures { result ≡ differ (lent_text path.entry) (lent_text other.entry) }
 {
     match (path, other) {
         (Some(path), Some(other)) => path != other,

@@ -22,12 +22,12 @@ use Rattle.test_list_laws.specs.Laws.{Among, IsTestMethod, searched, IsTest, IsL
 
 -- ---- members of lists
 
-among_both : {X : Type 0} (x : X) (xs ys : List X) → Among x (xs ++ ys) → Among x xs ⊎ Among x ys
+pub among_both : {X : Type 0} (x : X) (xs ys : List X) → Among x (xs ++ ys) → Among x xs ⊎ Among x ys
 among_both x [] ys a = inr a
 among_both x (y ∷ xs) ys (inl e) = inl (inl e)
 among_both x (y ∷ xs) ys (inr a) = ⊎_elim (λ l. inl (inr l)) (λ r. inr r) (among_both x xs ys a)
 
-among_front : {X : Type 0} (x : X) (xs ys : List X) → Among x xs → Among x (xs ++ ys)
+pub among_front : {X : Type 0} (x : X) (xs ys : List X) → Among x xs → Among x (xs ++ ys)
 among_front x [] ys a = absurd a
 among_front x (y ∷ xs) ys (inl e) = inl e
 among_front x (y ∷ xs) ys (inr a) = inr (among_front x xs ys a)
@@ -36,27 +36,27 @@ among_behind : {X : Type 0} (x : X) (xs ys : List X) → Among x ys → Among x 
 among_behind x [] ys a = a
 among_behind x (y ∷ xs) ys a = inr (among_behind x xs ys a)
 
-among_flat : {X Y : Type 0} (f : X → List Y) (y : Y) (xs : List X) → Among y (flat_map f xs) → (x : X) × (Among x xs × Among y (f x))
+pub among_flat : {X Y : Type 0} (f : X → List Y) (y : Y) (xs : List X) → Among y (flat_map f xs) → (x : X) × (Among x xs × Among y (f x))
 among_flat f y [] a = absurd a
 among_flat f y (x ∷ xs) a =
     ⊎_elim (λ l. (x, (inl refl, l))) (λ r. let w = among_flat f y xs r in (w.0, (inr w.1.0, w.1.1))) (among_both y (f x) (flat_map f xs) a)
 
-flat_among : {X Y : Type 0} (f : X → List Y) (y : Y) (x : X) (xs : List X) → Among x xs → Among y (f x) → Among y (flat_map f xs)
+pub flat_among : {X Y : Type 0} (f : X → List Y) (y : Y) (x : X) (xs : List X) → Among x xs → Among y (f x) → Among y (flat_map f xs)
 flat_among f y x [] a b = absurd a
 flat_among f y x (z ∷ xs) (inl e) b = among_front y (f z) (flat_map f xs) (subst (λ w. Among y (f w)) (sym e) b)
 flat_among f y x (z ∷ xs) (inr a) b = among_behind y (f z) (flat_map f xs) (flat_among f y x xs a b)
 
-among_map : {X Y : Type 0} (f : X → Y) (y : Y) (xs : List X) → Among y (map f xs) → (x : X) × (Among x xs × (f x ≡ y))
+pub among_map : {X Y : Type 0} (f : X → Y) (y : Y) (xs : List X) → Among y (map f xs) → (x : X) × (Among x xs × (f x ≡ y))
 among_map f y [] a = absurd a
 among_map f y (x ∷ xs) (inl e) = (x, (inl refl, e))
 among_map f y (x ∷ xs) (inr a) = let w = among_map f y xs a in (w.0, (inr w.1.0, w.1.1))
 
-map_among : {X Y : Type 0} (f : X → Y) (x : X) (xs : List X) → Among x xs → Among (f x) (map f xs)
+pub map_among : {X Y : Type 0} (f : X → Y) (x : X) (xs : List X) → Among x xs → Among (f x) (map f xs)
 map_among f x [] a = absurd a
 map_among f x (z ∷ xs) (inl e) = inl (ap f e)
 map_among f x (z ∷ xs) (inr a) = inr (map_among f x xs a)
 
-among_reversed : {X : Type 0} (x : X) (xs : List X) → Among x (reverse xs) → Among x xs
+pub among_reversed : {X : Type 0} (x : X) (xs : List X) → Among x (reverse xs) → Among x xs
 among_reversed x [] a = absurd a
 among_reversed {X} x (y ∷ xs) a =
     ⊎_elim (λ l. inr (among_reversed x xs l)) (λ r. ⊎_elim (λ (e : y ≡ x). inl e) (λ (n : ⊥). absurd n) r)
@@ -67,7 +67,7 @@ reversed_among x [] a = absurd a
 reversed_among {X} x (y ∷ xs) (inl e) = subst (λ (z : List X). Among x z) (sym (reverse_onto xs y [])) (among_behind x (reverse xs) (y ∷ []) (inl e))
 reversed_among {X} x (y ∷ xs) (inr a) = subst (λ (z : List X). Among x z) (sym (reverse_onto xs y [])) (among_front x (reverse xs) (y ∷ []) (reversed_among x xs a))
 
-any_among : {X : Type 0} (p : X → Bool) (x : X) (xs : List X) → Among x xs → p x ≡ true → list_any p xs ≡ true
+pub any_among : {X : Type 0} (p : X → Bool) (x : X) (xs : List X) → Among x xs → p x ≡ true → list_any p xs ≡ true
 any_among p x [] a e = absurd a
 any_among p x (y ∷ xs) (inl s) e = ap (λ b. b || list_any p xs) (ap p s ∙ e)
 any_among p x (y ∷ xs) (inr a) e = or_true (p y) (list_any p xs) (any_among p x xs a e)
@@ -80,7 +80,7 @@ and_left : (a b : Bool) → a && b ≡ true → a ≡ true
 and_left true b e = refl
 and_left false b e = absurd cc
 
-and_right : (a b : Bool) → a && b ≡ true → b ≡ true
+pub and_right : (a b : Bool) → a && b ≡ true → b ≡ true
 and_right true b e = e
 and_right false b e = absurd cc
 
@@ -88,7 +88,7 @@ and_both : (a b : Bool) → a ≡ true → b ≡ true → a && b ≡ true
 and_both true b e f = f
 and_both false b e f = absurd cc
 
-no_longer : (b : Bool) → not b ≡ true → b ≡ false
+pub no_longer : (b : Bool) → not b ≡ true → b ≡ false
 no_longer true e = absurd cc
 no_longer false e = refl
 
@@ -98,10 +98,10 @@ not_so false e = refl
 
 -- ---- the listed methods of a class and its superclasses
 
-abbrev all_of : List (List Listed) → List Listed
+abbrev pub all_of : List (List Listed) → List Listed
 all_of ls = flat_map (λ l. l) ls
 
-listed_case : (hidden : Name × Name → Bool) (c : Class) (m : Member) (l : Listed) (b : Bool) → is_listed hidden c m ≡ b → Among l (if b then listed_as c m ∷ [] else []) → (is_listed hidden c m ≡ true) × (listed_as c m ≡ l)
+pub listed_case : (hidden : Name × Name → Bool) (c : Class) (m : Member) (l : Listed) (b : Bool) → is_listed hidden c m ≡ b → Among l (if b then listed_as c m ∷ [] else []) → (is_listed hidden c m ≡ true) × (listed_as c m ≡ l)
 listed_case hidden c m l true e (inl s) = (e, s)
 listed_case hidden c m l true e (inr n) = absurd n
 listed_case hidden c m l false e n = absurd n
@@ -186,21 +186,21 @@ method_listed classes method m =
 
 -- ---- the tests of a class
 
-abbrev class_listed : Class → List Class → List Listed
+abbrev pub class_listed : Class → List Class → List Listed
 class_listed c above = downwards (listed_of (c ∷ above))
 
-record IsTestOf (class : Name) (f : Fixture) (ls : List Listed) (t : Test) : Type 0 where
-  listing : Listed
-  listed : Among listing ls
-  marked : listing.marks.test ≡ true
-  is : test_in class f listing ≡ t
+pub record IsTestOf (class : Name) (f : Fixture) (ls : List Listed) (t : Test) : Type 0 where
+  pub listing : Listed
+  pub listed : Among listing ls
+  pub marked : listing.marks.test ≡ true
+  pub is : test_in class f listing ≡ t
 
 test_case : (class : Name) (f : Fixture) (ls : List Listed) (l : Listed) (t : Test) (b : Bool) → l.marks.test ≡ b → Among l ls → Among t (if b then test_in class f l ∷ [] else []) → IsTestOf class f ls t
 test_case class f ls l t true m a (inl e) = record { listing = l; listed = a; marked = m; is = e }
 test_case class f ls l t true m a (inr n) = absurd n
 test_case class f ls l t false m a n = absurd n
 
-is_test_of : (class : Name) (f : Fixture) (ls : List Listed) (t : Test) → Among t (tests_listed class f ls) → IsTestOf class f ls t
+pub is_test_of : (class : Name) (f : Fixture) (ls : List Listed) (t : Test) → Among t (tests_listed class f ls) → IsTestOf class f ls t
 is_test_of class f ls t a =
     let w = among_flat (test_at class f) t ls a in
     test_case class f ls w.0 t w.0.marks.test refl w.1.0 w.1.1
@@ -209,7 +209,7 @@ test_of : (class : Name) (f : Fixture) (l : Listed) (b : Bool) → b ≡ true �
 test_of class f l true e = inl refl
 test_of class f l false e = absurd cc
 
-in_class : (c : Class) (above : List Class) (t : Test) (b : Bool) → is_test_class c (class_listed c above) ≡ b
+pub in_class : (c : Class) (above : List Class) (t : Test) (b : Bool) → is_test_class c (class_listed c above) ≡ b
     → Among t (if b then tests_listed (own_name c) (fixture_of (listed_of (c ∷ above))) (class_listed c above) else [])
     → (is_test_class c (class_listed c above) ≡ true) × IsTestOf (own_name c) (fixture_of (listed_of (c ∷ above))) (class_listed c above) t
 in_class c above t true e a = (e, is_test_of (own_name c) (fixture_of (listed_of (c ∷ above))) (class_listed c above) t a)
@@ -230,11 +230,11 @@ class_case c above t false e a = absurd cc
 
 -- ---- the tests of all classes
 
-taken : (o : Option TestFault) (found tests : List Test) → unless_refused o found ≡ Ok tests → found ≡ tests
+pub taken : (o : Option TestFault) (found tests : List Test) → unless_refused o found ≡ Ok tests → found ≡ tests
 taken None found tests e = cc
 taken (Some fault) found tests e = absurd cc
 
-lowest_of : (most : ℕ) (files : Files) (o : Option Class) (c : Class) (above : List Class) → rising_from most files o ≡ c ∷ above → o ≡ Some c
+pub lowest_of : (most : ℕ) (files : Files) (o : Option Class) (c : Class) (above : List Class) → rising_from most files o ≡ c ∷ above → o ≡ Some c
 lowest_of most files None c above e = absurd cc
 lowest_of zero files (Some d) c above e = absurd cc
 lowest_of (suc k) files (Some d) c above e = let same : d ≡ c = cc in ap Some same

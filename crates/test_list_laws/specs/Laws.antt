@@ -1,5 +1,5 @@
 -- What is said of the list of tests, over its definition alone.
-use Rattle.std.specs.Prelude.{◌≡◌, ◌⊎◌, ℕ, true, false, List, [], ◌∷◌, ◌++◌, map, Ok}
+use Rattle.std.specs.Prelude.{◌≡◌, ◌⊎◌, ℕ, true, false, List, [], ◌∷◌, ◌++◌, map, Some, slice_get, Ok}
 use Rattle.class_model.specs.declared.class.Class.{Class}
 use Rattle.class_model.specs.declared.class.Member.{Member}
 use Rattle.program_rules.specs.Names.{Name}
@@ -8,7 +8,7 @@ use Rattle.test_discovery.specs.Annotations.{marks_of}
 use Rattle.test_discovery.specs.Discovery.{Tests, in_order}
 use Rattle.test_discovery.specs.Listed.{Files, rising, head_of, declares_any}
 use Rattle.test_discovery.specs.Rules.{may_test}
-use Rattle.test_laws.specs.Laws.{AreNamed}
+use Rattle.test_laws.specs.Laws.{AreNamed, DeclareOnce}
 
 -- One of these.
 abbrev pub Among : {X : Type 0} → X → List X → Type 0
@@ -58,3 +58,12 @@ TestsAreListed =
     Tests most files names ≡ Ok tests → (class method : Name) →
     (IsListed tests class method → IsTest names (rising most files class) class method)
     × (IsTest names (rising most files class) class method → IsListed tests class method)
+
+-- No two places of the list have one class and one method, where no class file declares two methods
+-- of one name and descriptor.
+abbrev pub TestsStandOnce : Type 0
+TestsStandOnce =
+    (most : ℕ) (files : Files) (names : List Name) (tests : List Test) → AreNamed files →
+    DeclareOnce files → Tests most files names ≡ Ok tests → (i j : ℕ) (t u : Test) →
+    slice_get tests i ≡ Some t → slice_get tests j ≡ Some u → t.class ≡ u.class →
+    t.method ≡ u.method → i ≡ j

@@ -1,0 +1,4 @@
+pub mod Groups
+pub mod Report
+pub mod Pieces
+pub mod FileKey
