@@ -40,7 +40,6 @@ fn kept(recorded: Recorded) -> TrueRecorded
 /// Runs a test on a program of class files, for so many steps at most, and gives the record of the
 /// run, as `record` of `run_records` does. It is true, and has the form of a history. Steps are
 /// counted in the part as by `execute`.
-#[tactic(auto, using(crate::proofs::Kept::are_kept))]
 pub fn record(
     alloc: Global,
     p: &Program,
@@ -65,6 +64,6 @@ pub fn record(
     fitting_records_are_formed();
     true_records_change_nothing();
     let recorded = run_records::record(alloc, p, tables, test, limits, limit, part)?;
-    let kept = kept(recorded);
-    Ok(kept)
+    let told = kept(recorded);
+    Ok(told)
 }

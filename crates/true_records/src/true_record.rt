@@ -27,6 +27,14 @@ impl Model for TrueRecord {
     ghost invariant = { λ r. IsTrueAndFormed r.entry };
 }
 
+// A record with another limit.
+fn with_limit(mut entry: RunRecord, limit: u64) -> RunRecord
+    ensures { result ≡ with_limit limit entry }
+{
+    entry.limit = limit;
+    entry
+}
+
 impl TrueRecord {
     /// A record of which it is known.
     pub fn new(entry: RunRecord) -> TrueRecord
@@ -59,8 +67,8 @@ impl TrueRecord {
         ensures { result ≡ with_limit limit self }
     {
         true_under_limits();
-        let mut entry = self.take();
-        entry.limit = limit;
-        TrueRecord { entry }
+        let old = self.take();
+        let entry = with_limit(old, limit);
+        TrueRecord::new(entry)
     }
 }
