@@ -1,0 +1,11 @@
+pub mod Entries
+pub mod Contents
+pub mod Reading
+pub mod Laws
+pub mod Calls
+pub mod Seen
+pub mod Adding
+pub mod Numbers
+pub mod Tables
+pub mod Keeping
+pub mod Opening
