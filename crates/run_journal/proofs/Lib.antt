@@ -4,9 +4,3 @@ pub mod Cutting
 pub mod Chunks
 pub mod Names
 pub mod Back
-pub mod Again
-pub mod Added
-pub mod Numbered
-pub mod Putting
-pub mod ContentsApart
-pub mod Standing

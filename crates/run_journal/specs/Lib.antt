@@ -4,8 +4,3 @@ pub mod Reading
 pub mod Laws
 pub mod Calls
 pub mod Seen
-pub mod Adding
-pub mod Numbers
-pub mod Tables
-pub mod Keeping
-pub mod Opening

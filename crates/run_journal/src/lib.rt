@@ -6,37 +6,21 @@
 #![tactic(auto)]
 
 ghost use Rattle.run_journal.specs.Laws.{WholeIsSpelled, ClosingIsRead, BeginningsAreRead, WrittenIsRead};
-ghost use Rattle.run_journal.specs.Adding.{RecordIsRead, WrittenTellsRecords, AddedIsRead};
 
-mod adding;
 mod closing;
 mod content;
 mod entries;
 mod entry;
 mod frames;
-mod journal;
-mod made;
-mod numbers;
-mod opening;
 mod outcome;
 mod read;
 mod record;
 mod rest;
 mod runs;
-mod state;
-mod tables;
-mod written;
 
 pub use entry::put_entry;
-pub use journal::Journal;
-pub use made::KnownRecord;
-pub use numbers::ClassNumbers;
-pub use opening::JournalFault;
 pub use read::{JournalRead, read_journal};
 pub use runs::Runs;
-pub use state::JournalState;
-pub use tables::Tables;
-pub use written::put_record;
 
 /// A journal is read as whole, with what its entries say; and what is read as whole is a journal.
 pub fn whole_is_spelled()
@@ -56,19 +40,4 @@ pub fn beginnings_are_read()
 /// An entry that is written behind a whole journal is read.
 pub fn written_is_read()
     ensures { WrittenIsRead }
-{}
-
-/// A record under classes with all of its own is read as it is written.
-pub fn record_is_read()
-    ensures { RecordIsRead }
-{}
-
-/// Records that are written alike are equal.
-pub fn written_tells_records()
-    ensures { WrittenTellsRecords }
-{}
-
-/// What is added to a whole journal makes a whole one that says the record, too.
-pub fn added_is_read()
-    ensures { AddedIsRead }
 {}
