@@ -49,8 +49,8 @@ fn is_paired_from(high: bool, units: &[u16]) -> bool
     !open
 }
 
-// Whether each surrogate has its other half.
-fn is_paired(units: &[u16]) -> bool
+/// Whether each surrogate has its other half.
+pub fn is_paired(units: &[u16]) -> bool
     ensures { result ≡ is_paired units.now }
 {
     is_paired_from(false, units)

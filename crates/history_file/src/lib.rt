@@ -22,9 +22,12 @@ mod slices;
 mod texts;
 mod write;
 
+pub use end::is_paired;
 pub use history::History;
 pub use read::read_history;
 pub use row::{End, Entry, Row};
+pub use slices::Slices;
+pub use texts::decode;
 pub use write::write_history;
 
 /// What is read of a history of the version that is written is written as it was.
