@@ -36,7 +36,7 @@ run_all() { # FOLDER
 read_histories() {
     local reader=$here/../crates/bench_history/out/bench_history file size got
     [ -x "$reader" ] || return 0
-    for kind in counts small equal shared names prefixes; do
+    for kind in counts small equal shared names prefixes entries; do
         file=$folder/$kind.history
         python3 "$here/histories.py" "$folder" "$kind"
         size=$(stat -c %s "$file")

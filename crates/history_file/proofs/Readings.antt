@@ -1,5 +1,5 @@
 -- The whole of a history, by its parts.
-use Rattle.std.proofs.Common.{◌≡◌, ◌∙◌, ℕ, zero, suc, ◌+◌, ◌-◌, ◌<◌, ◌≤◌, ◌^◌, Bor, Bool, true, false, cond, List, [], ◌∷◌, ◌++◌, length, map, take, filter, not, Result, Ok, Err, refl, sym, ap, subst, arith}
+use Rattle.std.proofs.Common.{◌≡◌, ◌∙◌, ℕ, zero, suc, ◌+◌, ◌<◌, ◌≤◌, ◌^◌, Bor, Bool, true, false, cond, List, [], ◌∷◌, ◌++◌, length, map, take, filter, not, Result, Ok, Err, refl, sym, ap, subst, arith}
 use Rattle.std.specs.Prelude.{◌==◌, All, min, nat_lt, if◌then◌else◌}
 use Rattle.std.specs.List.{flat_map}
 use Rattle.std.proofs.lemmas.Bool.{le-ltb, ltb-false}

@@ -1,12 +1,12 @@
 -- Lists of places by the number of a test.
-use Rattle.std.proofs.Common.{◌≡◌, ◌∙◌, ℕ, zero, suc, ◌+◌, ◌-◌, ◌<◌, ◌≤◌, ◌^◌, Bool, true, false, cond, List, [], ◌∷◌, ◌++◌, get_or, length, take, Option, Some, None, refl, sym, ap, subst, arith}
+use Rattle.std.proofs.Common.{◌≡◌, ◌∙◌, ℕ, zero, suc, ◌+◌, ◌-◌, ◌<◌, ◌≤◌, ◌^◌, Bool, true, false, cond, List, [], ◌∷◌, ◌++◌, get_or, length, take, Option, Some, None, refl, sym, ap, arith}
 use Rattle.std.specs.Prelude.{slice_get, slice_set, nat_eq, if◌then◌else◌}
 use Rattle.std.proofs.lemmas.Bool.{eqb-true}
 use Rattle.std.proofs.lemmas.List.{length-take-le}
 use Rattle.history_file.specs.declared.row.Row.{Row}
 use Rattle.history_index.specs.declared.lookout.Lookout.{Lookout}
 use Rattle.history_index.specs.declared.lists.Places.{Places}
-use Rattle.history_index.specs.Firsts.{PushesPlace, has_no, has_none, list_at, places_in, places_of, whole_at}
+use Rattle.history_index.specs.Firsts.{PushesPlace, has_no, has_none, list_at, places_in, places_of}
 use Rattle.history_index.specs.Lookouts.{HasRoom, IsLookoutOn, Question, is_whole, places_from}
 use Rattle.history_index.specs.Numbers.{Indexed}
 use Rattle.history_index.specs.Standings.{Standing}

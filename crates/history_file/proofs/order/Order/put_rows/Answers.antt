@@ -1,4 +1,4 @@
-use Rattle.std.proofs.Common.{ℕ, [], List, length, subst, sym, get_or}
+use Rattle.std.proofs.Common.{ℕ, [], List, length, subst, sym}
 use Rattle.std.proofs.lemmas.List.Elements.{All-get_or}
 use Rattle.history_rules.specs.Histories.{classes_behind, classes_used}
 use Rattle.history_file.specs.declared.row.Entry.{Entry}
