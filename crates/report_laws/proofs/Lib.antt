@@ -1,3 +1,4 @@
 pub mod Filed
 pub mod Counted
 pub mod Witness
+pub mod Ids

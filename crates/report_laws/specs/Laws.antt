@@ -1,7 +1,8 @@
 -- What is said of the report and of the summary, over their definitions alone.
-use Rattle.std.specs.Prelude.{◌≡◌, ℕ, ◌+◌, List, [], ◌∷◌, ◌++◌, map, codes, length, Option, option_and_then}
+use Rattle.std.specs.Prelude.{◌≡◌, ℕ, ◌+◌, ◌<◌, ◌==◌, true, false, not, List, [], ◌∷◌, ◌++◌, map, codes, length, Option, option_and_then}
+use Rattle.std.specs.Char.Utf16.{has_unpaired_surrogate}
 use Rattle.std.specs.Cmp.Lexicographic.{slice_cmp}
-use Rattle.std.specs.List.{AllByRecursion, filter, list_any, zip}
+use Rattle.std.specs.List.{AllByRecursion, filter, list_all, list_any, zip}
 use Rattle.std.specs.List.Sorted.{IsStrictlySortedBy}
 use Rattle.std.specs.Option.{option_map_or}
 use Rattle.std.specs.Ordering.{nat_cmp}
@@ -10,7 +11,8 @@ use Rattle.serde_json.specs.Data.{Data, Items, no_items, item, Members, no_membe
 use Rattle.serde_json.specs.Find.{get, as_array, as_object}
 use Rattle.mutator_ops.specs.declared.mutant.Verdict.{Verdict}
 use Rattle.report_pieces.specs.Groups.{Key, groups_of}
-use Rattle.report_schema.specs.Report.{text_or_empty, mutant_entry, test_entry}
+use Rattle.class_table.specs.declared.scripted.Test.{Test}
+use Rattle.report_schema.specs.Report.{text_or_empty, mutant_entry, test_entry, test_id}
 use Rattle.report_pieces.specs.Report.{report}
 use Rattle.report_schema.specs.Summary.{is_killed, is_survived, is_not_covered, is_timed_out, is_not_viable, is_error, counted}
 use Rattle.report_pieces.specs.declared.input.ReportInput.{ReportInput}
@@ -99,3 +101,19 @@ StatesAddUp =
     counted is_killed verdicts + counted is_survived verdicts + counted is_not_covered verdicts
     + counted is_timed_out verdicts + counted is_not_viable verdicts + counted is_error verdicts
     ≡ length verdicts
+
+-- ---- the identifiers of tests
+
+-- The names of a test have UTF-8, and that of its method has no `.`, as a class file declares them.
+pub record HasPlainNames (t : Test) : Type 0 where
+  pub class_units : AllByRecursion (λ unit. unit < 65536) t.class
+  pub class_paired : has_unpaired_surrogate t.class ≡ false
+  pub method_units : AllByRecursion (λ unit. unit < 65536) t.method
+  pub method_paired : has_unpaired_surrogate t.method ≡ false
+  pub undotted : list_all (λ unit. not (unit == 46)) t.method ≡ true
+
+-- Two tests of one identifier in the report are of one class and one method.
+abbrev pub IdsDiffer : Type 0
+IdsDiffer =
+    (t u : Test) → HasPlainNames t → HasPlainNames u → test_id t ≡ test_id u →
+    (t.class ≡ u.class) × (t.method ≡ u.method)

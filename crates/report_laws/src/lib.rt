@@ -3,7 +3,7 @@
 //! Each law is the contract of a function that does nothing but call the laws on which it stands.
 #![tactic(auto)]
 
-ghost use Rattle.report_laws.specs.Laws.{MutantsStandOnce, TestsStandOnce, StatesAddUp, TwoFilesAreMet};
+ghost use Rattle.report_laws.specs.Laws.{IdsDiffer, MutantsStandOnce, TestsStandOnce, StatesAddUp, TwoFilesAreMet};
 
 /// Each mutant with a verdict and a key stands in the report exactly once, under its key.
 pub fn mutants_stand_once()
@@ -23,4 +23,9 @@ pub fn two_files_are_met()
 /// The states that the summary counts add up to the number of mutants.
 pub fn states_add_up()
     ensures { StatesAddUp }
+{}
+
+/// Tests whose identifiers are equal are of one class and one method.
+pub fn identifiers_differ()
+    ensures { IdsDiffer }
 {}
