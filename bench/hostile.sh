@@ -2,8 +2,8 @@
 # hostile.sh [PROGRAM] [FOLDER]: writes hostile class files and texts below a folder, lists each class with 2 s and 512 MB,
 # assembles each text, and runs the classes below `c` with the tests below `t` beside it; prints the processor's time, the
 # memory, the status and the last line. Where `rt run` has built bench_history, that reads, indexes and writes hostile
-# histories of up to 512 MB each, with eight times the memory of the file. A case `colliding-..` is to be held against `ordinary-..`, which has as many names
-# of the same length. With a folder of such cases as CASES, goes over those too. It needs `cc`.
+# histories of up to 512 MB each, with eight times the memory of the file. A case `colliding-..` is to be held against
+# `ordinary-..`, which has as many names of the same length. With a folder of such cases as CASES, goes over those too. It needs `cc`.
 here=$(cd "$(dirname "$0")" && pwd)
 program=${1:-$here/../mutest}
 folder=${2:-$(mktemp -d)}
