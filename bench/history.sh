@@ -1,7 +1,7 @@
 #!/bin/bash
 # history.sh [FOLDER]: writes histories below a folder by histories.py, and prints how many milliseconds it takes to read one,
-# to index it, to find out what stands for a program (`looked out`), for 50,000 look-ups with all matching and with none, and
-# to write it: of 50, 100 and 200 MB; and of 10,000 and 100,000 records, spread over so many tests that each has ten. The rate
+# to index it, to find out what stands for a program (`looked out`), and to write it, and how many millionths of a second
+# 50,000 look-ups with all matching and with none: of 50, 100 and 200 MB; and of 10,000 and 100,000 records, spread over so many tests that each has ten. The rate
 # at which it is read and the memory stand before. Hostile histories: hostile.sh. It needs `rt`, `python3` and /usr/bin/time.
 set -eu
 here=$(cd "$(dirname "$0")" && pwd)

@@ -85,10 +85,21 @@ fn swap_of(index: &HistoryIndex, row: &Row, changed: bool) -> Option<Swap> {
     })
 }
 
-// How many of so many look-ups find a record.
-fn look_up(index: &HistoryIndex, lookout: &Lookout, count: usize, changed: bool) -> u64 {
+// A look-up: the number of a test, and a class that another one of the program is.
+#[derive(Clone, Copy)]
+struct Question {
+    test: Option<u32>,
+    swap: Option<Swap>,
+}
+
+fn questions_of(
+    alloc: Global,
+    index: &HistoryIndex,
+    count: usize,
+    changed: bool,
+) -> anyhow::Result<Vec<Question>> {
     let rows = index.history().rows();
-    let mut found: u64 = 0;
+    let mut questions = Vec::new(alloc);
     for k in 0..count {
         let Some(place) = k.checked_rem(rows.len()) else {
             break;
@@ -96,10 +107,19 @@ fn look_up(index: &HistoryIndex, lookout: &Lookout, count: usize, changed: bool)
         let Some(row) = rows.get(place) else {
             break;
         };
-        if lookout
-            .lookup(index.test_of(row), swap_of(index, row, changed))
-            .is_some()
-        {
+        questions.push(Question {
+            test: index.test_of(row),
+            swap: swap_of(index, row, changed),
+        })?;
+    }
+    Ok(questions)
+}
+
+// How many of these look-ups find a record.
+fn look_up(lookout: &Lookout, questions: &[Question]) -> u64 {
+    let mut found: u64 = 0;
+    for question in questions {
+        if lookout.lookup(question.test, question.swap).is_some() {
             found = found.saturating_add(1);
         }
     }
@@ -117,6 +137,25 @@ fn written_as(alloc: Global, history: &History, bytes: &[u8]) -> &'static str
     }
 }
 
+// How long look-ups take, told in millionths of a second.
+fn say_found(
+    rt: &HostRuntime,
+    timed: bool,
+    lookout: &Lookout,
+    questions: &[Question],
+) -> anyhow::Result<()> {
+    let start = Instant::now(rt)?;
+    let found = look_up(lookout, questions);
+    let count = questions.len();
+    if timed {
+        let micros = start.elapsed(rt)?.as_micros();
+        println!(rt; "{found} of {count} found, {micros} us")?;
+    } else {
+        println!(rt; "{found} of {count} found")?;
+    }
+    Ok(())
+}
+
 fn ask_all(
     rt: &HostRuntime,
     index: &HistoryIndex,
@@ -128,10 +167,8 @@ fn ask_all(
     let lookout = lookout_of(alloc, index)?;
     say(rt, timed, start, "looked out")?;
     for changed in [false, true] {
-        let start = Instant::now(rt)?;
-        let found = look_up(index, &lookout, count, changed);
-        let done = format!(in alloc; "{found} of {count} found")?;
-        say(rt, timed, start, done.as_str())?;
+        let questions = questions_of(alloc, index, count, changed)?;
+        say_found(rt, timed, &lookout, questions.as_slice())?;
     }
     Ok(())
 }
