@@ -1,3 +1,0 @@
-mod Kept
-mod Holding
-mod Putting
