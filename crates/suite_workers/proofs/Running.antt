@@ -1,5 +1,5 @@
 -- A run that a worker makes is that of the cell.
-use Rattle.std.proofs.Common.{◌≡◌, ◌∙◌, sym, refl, ap, subst, ℕ, zero, suc, ◌+◌, ◌<◌, ◌≤◌, Bool, true, List, [], ◌∷◌, Option, None, Some, All, length, slice_get, slice_set, slice_index, slice_index_or, arith}
+use Rattle.std.proofs.Common.{◌≡◌, ◌∙◌, sym, refl, ap, subst, ℕ, zero, suc, ◌+◌, ◌<◌, ◌≤◌, ◌^◌, Bool, true, List, [], ◌∷◌, Option, None, Some, All, length, slice_get, slice_set, slice_index, slice_index_or, arith}
 use Rattle.std.specs.Prelude.{Contains, zip}
 use Rattle.std.specs.Option.{option_map, unwrap_or}
 use Rattle.class_model.specs.declared.class.Class.{Class}

@@ -184,6 +184,7 @@ module _ (a : Allowed) (s : Suite) (old : List RunRecord) (own : All (IsOwnTest 
   bound_by u = limit_of (known (tried_on old 0 (record { look = look s.program; held = bytes_of s.files; test = u; limits = a.limits; limit = a.steps }))).steps
 
   bound_is : (i : ℕ) → i < length s.tests → slice_index (map (bound_of a s old) (numbered s)) i ≡ bound_by (test_of (test_at s.tests i))
+  unfolding bound_by
   bound_is i lt =
       let long = length-enumerate_from 0 s.tests in
       let long_bounds = long_map (bound_of a s old) (numbered s) in
@@ -307,7 +308,7 @@ module _ (g : Laws) (a : Allowed) (s : Suite) (old : List RunRecord) (h : IsAcce
             let of = paired (covering_numbers a s old) s.mutants m in_job in
             let file = All-contains (IsOfFile s.program) s.mutants m.0 h.mutants of.0 in
             let numbers = (is_covered m.0).numbers in
-            never_stuck m.0 file made at k _ _ (All-contains (λ n. n < length s.tests) (covering_numbers a s old m.0) k numbers (subst (λ ns. Contains ns k) of.1 has));
+            never_stuck m.0 file made at k _ (put_file made (held_by s.program)) (All-contains (λ n. n < length s.tests) (covering_numbers a s old m.0) k numbers (subst (λ ns. Contains ns k) of.1 has));
       }
 
 pub may_run : Laws → AcceptedMayRun
