@@ -1,0 +1,7 @@
+pub mod Needed
+pub mod Naming
+pub mod Numbering
+pub mod Rows
+pub mod Keys
+pub mod Left
+pub mod New

@@ -1,0 +1,99 @@
+//! The parts of a record that was made, by number.
+
+ghost use Rattle.std.specs.Prelude.{All, length, IfOk};
+ghost use Rattle.class_model.specs.Text.{IsUnits};
+ghost use Rattle.class_model.specs.declared.outcome.Outcome.TheVariants.{Failed};
+ghost use Rattle.history_rules.specs.Fitting.{FitsEntry};
+ghost use Rattle.history_rules.specs.Spelling.{IsOutcome, IsToldCause};
+ghost use Rattle.new_history.specs.Numbering.{HasRoom, IsNumbering, NumbersName, NumbersEnd, NumbersEntry, NumbersEntries};
+
+use crate::class_numbers::ClassNumbers;
+use crate::name_numbers::NameNumbers;
+use class_model::{Cause, Memory, Name, Outcome, Seq, SharedBytes};
+use history_file::{End, Entry};
+use std::alloc::Global;
+
+/// Names and classes by number.
+#[derive(Drop)]
+pub struct Numbering<'n> {
+    pub names: NameNumbers<'n>,
+    pub classes: ClassNumbers<'n>,
+}
+
+impl<'n> Numbering<'n> {
+    /// The number of a name.
+    pub fn name(&mut self, name: &'n Name) -> Result<u32, Memory>
+        requires known { IsNumbering self.old }
+        requires units { IsUnits name.now }
+        requires room { HasRoom 1 self.old }
+        ensures { IfOk result (NumbersName name.now self.old self.new) }
+    {
+        let number = self.names.number(name)?;
+        Ok(number)
+    }
+
+    // How a test failed.
+    fn cause(&mut self, cause: &'n Cause) -> Result<End, Memory>
+        requires known { IsNumbering self.old }
+        requires form { IsToldCause cause.now }
+        requires room { HasRoom 1 self.old }
+        ensures { IfOk result (NumbersEnd (Failed cause.now) self.old self.new) }
+    {
+        match cause {
+            Cause::Returned => Ok(End::Returned),
+            Cause::Thrown(name) => {
+                let name = self.name(name)?;
+                Ok(End::Thrown(name))
+            }
+        }
+    }
+
+    /// How a run ended.
+    pub fn end(&mut self, outcome: &'n Outcome) -> Result<End, Memory>
+        requires known { IsNumbering self.old }
+        requires form { IsOutcome 2 outcome.now }
+        requires room { HasRoom 1 self.old }
+        ensures { IfOk result (NumbersEnd outcome.now self.old self.new) }
+    {
+        match outcome {
+            Outcome::Passed => Ok(End::Passed),
+            Outcome::Failed(cause) => {
+                let end = self.cause(cause)?;
+                Ok(end)
+            }
+            Outcome::TimedOut => Ok(End::TimedOut),
+            Outcome::MemoryOut => Ok(End::MemoryOut),
+        }
+    }
+
+    // A name that was consulted, with its class file.
+    fn entry(&mut self, entry: &'n (Name, Option<SharedBytes>)) -> Result<Entry, Memory>
+        requires known { IsNumbering self.old }
+        requires fits { FitsEntry entry.now }
+        requires room { HasRoom 1 self.old }
+        ensures { IfOk result (NumbersEntry entry.now self.old self.new) }
+    {
+        let name = self.name(&entry.0)?;
+        let class = self.classes.number(&entry.1)?;
+        Ok(Entry { name, class })
+    }
+
+    /// The names that a run consulted.
+    pub fn entries(
+        &mut self,
+        alloc: Global,
+        entries: &'n [(Name, Option<SharedBytes>)],
+    ) -> Result<Seq<Entry>, Memory>
+        requires known { IsNumbering self.old }
+        requires fit { All FitsEntry entries.now }
+        requires room { HasRoom (length entries.now) self.old }
+        ensures { IfOk result (NumbersEntries entries.now self.old self.new) }
+    {
+        let mut numbers = Seq::with_capacity(alloc, entries.len())?;
+        for entry in entries {
+            let entry = self.entry(entry)?;
+            numbers.push(entry)?;
+        }
+        Ok(numbers)
+    }
+}
