@@ -1,9 +1,10 @@
 -- The numbers of a row one after the other: rows are equal where these are (this project's own).
-use Rattle.std.specs.Prelude.{◌≡◌, ◌++◌, ℕ, List, [], ◌∷◌, length, map, Bool, true, false, not, is_some}
+use Rattle.std.specs.Prelude.{◌≡◌, ◌++◌, ℕ, List, [], ◌∷◌, length, map, Bool, true, false, not, is_some, slice_get}
 use Rattle.std.specs.Prelude.{if◌then◌else◌}
 use Rattle.std.specs.BTreeMap as tree
 use Rattle.std.specs.Cmp.Lexicographic.{slice_cmp}
 use Rattle.std.specs.List.{flat_map}
+use Rattle.std.specs.Option.{option_map_or}
 use Rattle.std.specs.Ordering.{nat_cmp}
 use Rattle.program_rules.specs.Names.{is_listed}
 use Rattle.history_file.specs.declared.row.End.{End}
@@ -55,6 +56,10 @@ first_among seen (key ∷ keys) = not (is_listed key seen) ∷ first_among (key 
 
 abbrev pub are_first : List (List ℕ) → List Bool
 are_first keys = first_among [] keys
+
+-- Whether it is said of a place.
+abbrev pub is_yes : List Bool → ℕ → Bool
+is_yes bs k = option_map_or (λ b. b) (slice_get bs k) false
 
 -- Those of which this says yes.
 abbrev pub picked : {X : Type 0} → List Bool → List X → List X

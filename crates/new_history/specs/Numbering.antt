@@ -117,21 +117,24 @@ pub record HasRoom (count : ℕ) (n : Numbering) : Type 0 where
   pub classes : length (classes_in n) + count < 2 ^ 32
 
 -- So many were added at most, behind those that were there.
+pub record Grows (count : ℕ) (old new : List (List ℕ)) : Type 0 where
+  pub more : List (List ℕ)
+  pub grown : new ≡ old ++ more
+  pub few : length new ≤ length old + count
+
 pub record Takes (count : ℕ) (old new : Numbering) : Type 0 where
   pub known : IsNumbering new
-  pub more_names : List Name
-  pub names : names_in new ≡ names_in old ++ more_names
-  pub few_names : length (names_in new) ≤ length (names_in old) + count
+  pub names : Grows count (names_in old) (names_in new)
   pub same : known_by new.classes ≡ known_by old.classes
-  pub more_classes : List (List ℕ)
-  pub classes : classes_in new ≡ classes_in old ++ more_classes
-  pub few_classes : length (classes_in new) ≤ length (classes_in old) + count
+  pub classes : Grows count (classes_in old) (classes_in new)
 
 -- ---- what was numbered
 
 -- A name has this number.
 pub record NumbersName (name : Name) (old new : Numbering) (k : ℕ) : Type 0 where
-  pub took : Takes 1 old new
+  pub known : IsNumbering new
+  pub names : Grows 1 (names_in old) (names_in new)
+  pub same : new.classes ≡ old.classes
   pub is : slice_get (names_in new) k ≡ Some name
 
 -- An outcome is this one.

@@ -1,8 +1,7 @@
 //! Which rows come first among equal ones.
 
-ghost use Rattle.std.specs.Prelude.{◌≡◌, false, length, map, filter, slice_get, IfOk};
-ghost use Rattle.std.specs.Option.{option_map_or};
-ghost use Rattle.new_history.specs.Keys.{are_first, key_of, picked};
+ghost use Rattle.std.specs.Prelude.{◌≡◌, ◌&&◌, length, map, filter, IfOk};
+ghost use Rattle.new_history.specs.Keys.{are_first, is_yes, key_of, picked};
 ghost use Rattle.new_history.specs.Needed.{is_old};
 
 use crate::keys::{Keys, key_of};
@@ -49,16 +48,18 @@ pub fn pick(alloc: Global, firsts: &[bool], rows: Seq<Row>) -> Result<Seq<Row>, 
     ensures { IfOk result (λ some. some ≡ picked firsts.now rows) }
 {
     let mut some = Seq::new(alloc);
-    for (i, row) in rows.into_vec().into_iter().enumerate() {
-        if is_yes(firsts, i) {
+    let mut at = 0;
+    for row in rows.into_vec() {
+        if is_yes(firsts, at) {
             some.push(row)?;
         }
+        at += 1;
     }
     Ok(some)
 }
 
 fn is_yes(firsts: &[bool], i: usize) -> bool
-    ensures { result ≡ option_map_or (λ b. b) (slice_get firsts.now i) false }
+    ensures { result ≡ is_yes firsts.now i }
 {
     match firsts.get(i) {
         Some(first) => *first,
@@ -75,13 +76,20 @@ fn is_old(needed: Needed) -> bool
     }
 }
 
+// Whether the one at a place comes first and is an old one.
+fn is_first_old(needed: Needed, firsts: &[bool], at: usize) -> bool
+    ensures { result ≡ (is_yes firsts.now at && is_old needed.entry) }
+{
+    is_yes(firsts, at) && is_old(needed)
+}
+
 /// How many of those that come first are old ones.
 pub fn count_old(needed: &[Needed], firsts: &[bool]) -> u64
     ensures { result ≡ length (filter is_old (picked firsts.now needed.now)) }
 {
     let mut count = 0;
-    for (i, one) in needed.iter().enumerate() {
-        if is_yes(firsts, i) && is_old(*one) {
+    for (at, one) in needed.iter().enumerate() {
+        if is_first_old(*one, firsts, at) {
             count += 1;
         }
     }

@@ -18,7 +18,7 @@ pub enum Needed<'r> {
 
 // How many names a record may add to those of the old history, and as many classes.
 fn names_in(needed: Needed) -> u64
-    requires { (n : Numbered) × IsNeeded n needed.entry }
+    requires { (n : Numbered) × IsNeeded n needed }
     ensures { result ≡ names_in needed.entry }
 {
     match needed {

@@ -64,8 +64,8 @@ fn old_row(alloc: Global, row: &Row, limit: u64) -> Result<Row, Memory>
 // A record that is needed.
 fn row_of<'n>(alloc: Global, numbers: &mut Numbering<'n>, needed: Needed<'n>) -> Result<Row, Memory>
     requires known { IsNumbering numbers.old }
-    requires fits { FitsMade needed.entry }
-    requires room { HasRoom (names_in needed.entry) numbers.old }
+    requires fits { FitsMade needed }
+    requires room { HasRoom (names_in needed) numbers.old }
     ensures { IfOk result (NumbersNeeded needed.entry numbers.old numbers.new) }
 {
     match needed {

@@ -1,0 +1,7 @@
+use Rattle.std.proofs.Common.{◌≡◌, ◌++◌, ℕ, List, map, drop}
+use Rattle.new_history.specs.Keys.{HasKeys, are_first, first_among}
+use Rattle.new_history.proofs.Picking.{FirstsSoFar}
+use Rattle.new_history.proofs.firsts.are_first.Given as goal
+
+abbrev pub invariant-loop-key : goal.invariant-loop-key
+invariant-loop-key l = FirstsSoFar (map (λ k. k.items) l.keys) l.key-index l.seen l.firsts.items
