@@ -140,6 +140,14 @@ alike_again firsts seen r h there key = h key ∙ by (same (key_of r) key) refl
     by false e = refl
 
 module _ (n : Numbered) (ns : List Name) (cs : List (List ℕ)) (once : Once ns) (unique : Once cs) where
+  -- one record more
+  once_step : (seen : List RunRecord) (r : Row) (x : Needed) (xs : List Needed) (fs : List Bool) (b : Bool) → record_by ns cs r ≡ (kept_by n x).entry
+      → (b ≡ true → once_behind seen (map (kept_by n) xs) ≡ map (kept_by n) (picked fs xs)) → (b ≡ false → once_behind (record_by ns cs r ∷ seen) (map (kept_by n) xs) ≡ map (kept_by n) (picked fs xs))
+      → (if b then once_behind seen (map (kept_by n) xs) else kept_by n x ∷ once_behind ((kept_by n x).entry ∷ seen) (map (kept_by n) xs)) ≡ map (kept_by n) (if not b then x ∷ picked fs xs else picked fs xs)
+  once_step seen r x xs fs true head again first = again refl
+  once_step seen r x xs fs false head again first =
+      ap (λ (ks : List Kept). kept_by n x ∷ ks) (ap (λ (z : RunRecord). once_behind (z ∷ seen) (map (kept_by n) xs)) (sym head) ∙ first refl)
+
   -- those that come first among these, behind others
   once_is : (firsts : List Row) (seen : List (List ℕ)) (rs : List Row) (xs : List Needed) → Alike firsts seen → All (IsRow (length ns) (length cs)) firsts → All (IsRow (length ns) (length cs)) rs → map (record_by ns cs) rs ≡ map (λ k. k.entry) (map (kept_by n) xs)
       → once_behind (map (record_by ns cs) firsts) (map (kept_by n) xs) ≡ map (kept_by n) (picked (first_among seen (map key_of rs)) xs)
@@ -147,34 +155,16 @@ module _ (n : Numbered) (ns : List Name) (cs : List (List ℕ)) (once : Once ns)
   once_is firsts seen [] (x ∷ xs) alike p q e = absurd cc
   once_is firsts seen (r ∷ rs) [] alike p q e = absurd cc
   once_is firsts seen (r ∷ rs) (x ∷ xs) alike p q e =
+      let head : record_by ns cs r ≡ (kept_by n x).entry = cc in
+      let tail : map (record_by ns cs) rs ≡ map (λ k. k.entry) (map (kept_by n) xs) = cc in
+      let here : IsRow (length ns) (length cs) r = All-head (IsRow (length ns) (length cs)) r rs q in
+      let later : All (IsRow (length ns) (length cs)) rs = All-tail (IsRow (length ns) (length cs)) r rs q in
+      let any : list_any (same_record (kept_by n x).entry) (map (record_by ns cs) firsts) ≡ is_listed (key_of r) seen =
+      ap (λ (z : RunRecord). list_any (same_record z) (map (record_by ns cs) firsts)) (sym head) ∙ any_by_key ns cs once unique r firsts here p ∙ alike (key_of r) in
       ap (λ (b : Bool). if b then once_behind (map (record_by ns cs) firsts) (map (kept_by n) xs) else kept_by n x ∷ once_behind ((kept_by n x).entry ∷ map (record_by ns cs) firsts) (map (kept_by n) xs)) any
-      ∙ step (is_listed (key_of r) seen) refl
-    where
-      head : record_by ns cs r ≡ (kept_by n x).entry
-      head = cc
-
-      tail : map (record_by ns cs) rs ≡ map (λ k. k.entry) (map (kept_by n) xs)
-      tail = cc
-
-      here : IsRow (length ns) (length cs) r
-      here = All-head (IsRow (length ns) (length cs)) r rs q
-
-      later : All (IsRow (length ns) (length cs)) rs
-      later = All-tail (IsRow (length ns) (length cs)) r rs q
-
-      any : list_any (same_record (kept_by n x).entry) (map (record_by ns cs) firsts) ≡ is_listed (key_of r) seen
-      any =
-          ap (λ (z : RunRecord). list_any (same_record z) (map (record_by ns cs) firsts)) (sym head)
-          ∙ any_by_key ns cs once unique r firsts here p ∙ alike (key_of r)
-
-      step : (b : Bool) → is_listed (key_of r) seen ≡ b
-          → (if b then once_behind (map (record_by ns cs) firsts) (map (kept_by n) xs) else kept_by n x ∷ once_behind ((kept_by n x).entry ∷ map (record_by ns cs) firsts) (map (kept_by n) xs))
-          ≡ map (kept_by n) (if not b then x ∷ picked (first_among (key_of r ∷ seen) (map key_of rs)) xs else picked (first_among (key_of r ∷ seen) (map key_of rs)) xs)
-      step true is = once_is firsts (key_of r ∷ seen) rs xs (alike_again firsts seen r alike is) p later tail
-      step false is =
-          ap (λ (ks : List Kept). kept_by n x ∷ ks)
-          (ap (λ (z : RunRecord). once_behind (z ∷ map (record_by ns cs) firsts) (map (kept_by n) xs)) (sym head)
-          ∙ once_is (r ∷ firsts) (key_of r ∷ seen) rs xs (alike_more firsts seen r alike) (All-cons (IsRow (length ns) (length cs)) r firsts here p) later tail)
+      ∙ once_step (map (record_by ns cs) firsts) r x xs (first_among (key_of r ∷ seen) (map key_of rs)) (is_listed (key_of r) seen) head
+      (λ is. once_is firsts (key_of r ∷ seen) rs xs (alike_again firsts seen r alike is) p later tail)
+      (λ is. once_is (r ∷ firsts) (key_of r ∷ seen) rs xs (alike_more firsts seen r alike) (All-cons (IsRow (length ns) (length cs)) r firsts here p) later tail)
 
   pub firsts_are : (rs : List Row) (xs : List Needed) → All (IsRow (length ns) (length cs)) rs → map (record_by ns cs) rs ≡ map (λ k. k.entry) (map (kept_by n) xs) → once_behind [] (map (kept_by n) xs) ≡ map (kept_by n) (picked (are_first (map key_of rs)) xs)
   firsts_are rs xs q e = once_is [] [] rs xs (λ key. refl) (All-nil (IsRow (length ns) (length cs))) q e
@@ -188,12 +178,12 @@ picked-map f (b ∷ bs) [] = refl
 picked-map f (true ∷ bs) (x ∷ xs) = ap (λ ys. f x ∷ ys) (picked-map f bs xs)
 picked-map f (false ∷ bs) (x ∷ xs) = picked-map f bs xs
 
+picked-nothing : {X : Type 0} (P : X → Type 0) (xs : List X) → All P (picked [] xs)
+picked-nothing P [] = All-nil P
+picked-nothing P (x ∷ xs) = All-nil P
+
 pub picked-all : {X : Type 0} (P : X → Type 0) (bs : List Bool) (xs : List X) → All P xs → All P (picked bs xs)
-picked-all P [] xs h = nothing xs
-  where
-    nothing : (ys : List X) → All P (picked [] ys)
-    nothing [] = All-nil P
-    nothing (y ∷ ys) = All-nil P
+picked-all P [] xs h = picked-nothing P xs
 picked-all P (b ∷ bs) [] h = All-nil P
 picked-all P (true ∷ bs) (x ∷ xs) h = All-cons P x (picked bs xs) (All-head P x xs h) (picked-all P bs xs (All-tail P x xs h))
 picked-all P (false ∷ bs) (x ∷ xs) h = picked-all P bs xs (All-tail P x xs h)

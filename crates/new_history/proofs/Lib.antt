@@ -5,3 +5,4 @@ pub mod FirstRows
 pub mod Picking
 pub mod Spelling
 pub mod Taking
+pub mod Parting

@@ -38,21 +38,22 @@ pub firsts_all : (keys : List (List ℕ)) (i : ℕ) (set : Keys) (firsts : List 
 firsts_all keys i set firsts le f =
     sym (append-nil firsts) ∙ ap (λ (l : List (List ℕ)). firsts ++ first_among f.seen l) (sym (drop_all i keys le)) ∙ f.rest
 
+pub get_mapped : {X Y : Type 0} (f : X → Y) (xs : List X) (i : ℕ) (d : X) → get_or (map f xs) i (f d) ≡ f (get_or xs i d)
+get_mapped f [] i d = refl
+get_mapped f (x ∷ xs) zero d = refl
+get_mapped f (x ∷ xs) (suc i) d = get_mapped f xs i d
+
 -- ---- what is picked
+
+pub picked_none : {X : Type 0} (bs : List Bool) → picked {X = X} bs [] ≡ []
+picked_none [] = refl
+picked_none (b ∷ bs) = refl
 
 pub picked_push : {X : Type 0} (bs : List Bool) (xs : List X) (x : X) → picked bs (xs ++ x ∷ []) ≡ picked bs xs ++ (if is_yes bs (length xs) then x ∷ [] else [])
 picked_push [] [] x = refl
 picked_push [] (y ∷ ys) x = refl
-picked_push (true ∷ bs) [] x = ap (λ zs. x ∷ zs) (none bs)
-  where
-    none : (cs : List Bool) → picked cs [] ≡ []
-    none [] = refl
-    none (c ∷ cs) = refl
-picked_push (false ∷ bs) [] x = none bs
-  where
-    none : (cs : List Bool) → picked cs [] ≡ []
-    none [] = refl
-    none (c ∷ cs) = refl
+picked_push (true ∷ bs) [] x = ap (λ zs. x ∷ zs) (picked_none bs)
+picked_push (false ∷ bs) [] x = picked_none bs
 picked_push (true ∷ bs) (y ∷ ys) x = ap (λ zs. y ∷ zs) (picked_push bs ys x)
 picked_push (false ∷ bs) (y ∷ ys) x = picked_push bs ys x
 

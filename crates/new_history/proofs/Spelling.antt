@@ -1,5 +1,5 @@
 -- Names and the texts that spell them, by number.
-use Rattle.std.proofs.Common.{◌≡◌, ◌∙◌, ℕ, zero, suc, ◌+◌, ◌<◌, ◌≤◌, Bool, true, false, List, [], ◌∷◌, ◌++◌, length, map, drop, Option, Some, None, is_some, IsTrue, refl, sym, ap, ap₂, subst, append_assoc, true≢false, arith}
+use Rattle.std.proofs.Common.{◌≡◌, ◌∙◌, ℕ, zero, suc, ◌+◌, ◌^◌, ◌<◌, ◌≤◌, Bool, true, false, List, [], ◌∷◌, ◌++◌, length, map, drop, Option, Some, None, is_some, IsTrue, refl, sym, ap, ap₂, subst, append_assoc, true≢false, arith}
 use Rattle.std.specs.Prelude.{◌||◌, All, slice_get, option_and_then, if◌then◌else◌}
 use Rattle.std.specs.Option.{option_map}
 use Rattle.std.proofs.lemmas.List.{append-nil, map-append, length-map, drop_at}
@@ -50,13 +50,18 @@ pub texts_once : (ts : List (List ℕ)) → AllBy IsTextBehind with_class [] ts 
 texts_once ts all k x e = number_is [] ts k x all e
 
 -- what is among some has a number below how many they are
-listed_number : (before more : List (List ℕ)) (x : List ℕ) → is_listed x before ≡ true → (j : ℕ) × (j < length before) × (number_in (before ++ more) x ≡ Some j)
+abbrev Numbered : List (List ℕ) → List (List ℕ) → List ℕ → Type 0
+Numbered before more x = (j : ℕ) × (j < length before) × (number_in (before ++ more) x ≡ Some j)
+
+listed_case : (c x : List ℕ) (cs more : List (List ℕ)) (b : Bool) → same c x ≡ b → b || is_listed x cs ≡ true → (is_listed x cs ≡ true → Numbered cs more x) → Numbered (c ∷ cs) more x
+listed_case c x cs more true is f rest = (0, omega arith, here (same c x) (number_in (cs ++ more) x) is)
+listed_case c x cs more false is f rest =
+    let r = rest f in
+    let lt = r.1 in (suc r.0, omega (arith, lt), later (same c x) (number_in (cs ++ more) x) r.0 is r.2)
+
+listed_number : (before more : List (List ℕ)) (x : List ℕ) → is_listed x before ≡ true → Numbered before more x
 listed_number [] more x e = absurd cc
-listed_number (c ∷ cs) more x e = by (same c x) refl e
-  where
-    by : (b : Bool) → b ≡ same c x → b || is_listed x cs ≡ true → (j : ℕ) × (j < suc (length cs)) × (number_in (c ∷ cs ++ more) x ≡ Some j)
-    by true is f = (0, omega arith, here (same c x) (number_in (cs ++ more) x) (sym is))
-    by false is f = let r = listed_number cs more x f in let lt = r.1 in (suc r.0, omega (arith, lt), later (same c x) (number_in (cs ++ more) x) r.0 (sym is) r.2)
+listed_number (c ∷ cs) more x e = listed_case c x cs more (same c x) refl e (λ f. listed_number cs more x f)
 
 get_middle : (before more : List (List ℕ)) (x : List ℕ) → slice_get (before ++ x ∷ more) (length before) ≡ Some x
 get_middle [] more x = refl

@@ -61,7 +61,7 @@ table_more P get more xs x t p fresh room is =
 
 -- ---- those that are there from the start
 
-unseen : (all : List (List ℕ)) (i : ℕ) (d : List ℕ) → Once all → i < length all → number_in (take i all) (get_or all i d) ≡ None
+pub unseen : (all : List (List ℕ)) (i : ℕ) (d : List ℕ) → Once all → i < length all → number_in (take i all) (get_or all i d) ≡ None
 unseen all i d once lt = by (number_in (take i all) (get_or all i d)) refl
   where
     by : (o : Option ℕ) → number_in (take i all) (get_or all i d) ≡ o → o ≡ None

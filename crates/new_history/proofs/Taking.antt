@@ -1,12 +1,17 @@
 -- Records by number, one after the other.
-use Rattle.std.proofs.Common.{◌≡◌, ◌∙◌, ℕ, zero, suc, ◌+◌, ◌<◌, ◌≤◌, List, [], ◌∷◌, ◌++◌, length, map, take, get_or, Option, Some, None, refl, sym, ap, ap₂, subst, append_assoc, arith}
+use Rattle.std.proofs.Common.{◌≡◌, ◌∙◌, ℕ, zero, suc, ◌+◌, ◌<◌, ◌≤◌, List, [], ◌∷◌, ◌++◌, length, map, take, get_or, Bor, Option, Some, None, refl, sym, ap, ap₂, subst, append_assoc, arith}
 use Rattle.std.specs.Prelude.{All, slice_get, sum_by}
-use Rattle.std.proofs.lemmas.List.{append-nil, map-append, length-map, length-append, length_push, take_more, length-take-le}
+use Rattle.std.proofs.lemmas.List.{append-nil, map-append, length-map, length-append, length_push, take_all, take_more}
 use Rattle.std.proofs.lemmas.List.Elements.{All-nil, All-push, All-get_or}
 use Rattle.std.proofs.lemmas.List.Sums.{sum_by_more, sum_by-take-le}
 use Rattle.std.proofs.lemmas.Option.{slice_get_within}
 use Rattle.class_model.specs.Text.{units_of}
+use Rattle.class_model.specs.declared.outcome.Cause.{Cause}
+use Rattle.class_model.specs.declared.outcome.Cause.TheVariants as cause
+use Rattle.class_model.specs.declared.outcome.Outcome.TheVariants as outcome
 use Rattle.program_rules.specs.Names.{Name}
+use Rattle.history_file.specs.declared.row.End.TheVariants as end
+use Rattle.new_history.specs.declared.needed.Needed.TheVariants as need
 use Rattle.record_rules.specs.declared.record.RunRecord.{RunRecord}
 use Rattle.record_rules.specs.Jobs.{with_limit}
 use Rattle.history_rules.specs.Entries as history
@@ -47,6 +52,14 @@ name_takes old new x k p = record {
 -- the name at its number
 pub named_at : (n : Numbering) (x : Name) (k : ℕ) → slice_get (names_in n) k ≡ Some x → name_at (names_in n) k ≡ x
 named_at n x k e = ap name_or_empty e
+
+-- what was thrown
+pub thrown_put : (old new : Numbering) (x : Cause) (n : Name) (k : ℕ) → x ≡ cause.Thrown n → NumbersName n old new k → NumbersEnd (outcome.Failed x) old new (end.Thrown k)
+thrown_put old new x n k e p = record {
+  took = name_takes old new n k p;
+  is = ap (λ (m : Name). outcome.Failed (cause.Thrown m)) (named_at new n k p.is) ∙ ap (λ (y : Cause). outcome.Failed y) (sym e);
+  within = slice_get_within (names_in new) k n p.is;
+}
 
 -- ---- consulted names
 
@@ -154,6 +167,11 @@ old_put n by row r limit h within is =
           (row_wider (length n.texts) (length n.classes) (length (names_in by)) (length (classes_in by)) long.0 long.1 limited (record { class = within.class; method = within.method; thrown = within.thrown; names = within.names }));
     }
 
+pub old_needed : (by : Numbering) (x : Needed) (row : Bor Row) (r : Row) (limit : ℕ) → IsNumbering by → x ≡ need.Old row limit → r ≡ record row.now { limit = limit } → NumbersNeeded x by by r
+old_needed by x row r limit known e is =
+    subst (λ (y : Needed). NumbersNeeded y by by r) (sym e)
+    (record { took = takes_none by known; row = λ n begins within. old_put n by row.now r limit begins within is })
+
 pub begins_later : (a : ℕ) (n : Numbered) (by new : Numbering) → BeginsWith n by → Takes a by new → BeginsWith n new
 begins_later a n by new h t = record {
   spell = h.spell;
@@ -195,4 +213,12 @@ rows_more xs i d old now new rs more r lt h p push =
           (rows_push new (map (λ k. k.entry) (map (kept_by n) (take i xs))) (kept_by n x).entry rs r
           (rows_later (needed.names_in x) now new p.took (map (λ k. k.entry) (map (kept_by n) (take i xs))) rs (h.rows n begins all))
           (p.row n (begins_later a n old now begins h.took) (All-get_or (IsNeeded n) xs i d lt all)))));
+    }
+
+pub rows_all : (xs : List Needed) (i : ℕ) (old now : Numbering) (rs : List Row) → length xs ≤ i → RowsSoFar xs i old now rs → NumbersAll xs old now rs
+rows_all xs i old now rs le h =
+    let all = take_all i xs le in
+    record {
+      took = subst (λ (ys : List Needed). Takes (sum_by needed.names_in ys) old now) all h.took;
+      rows = λ n begins each. subst (λ (ys : List Needed). RowsBy now (map (λ k. k.entry) (map (kept_by n) ys)) rs) all (h.rows n begins each);
     }

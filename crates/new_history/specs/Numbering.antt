@@ -36,6 +36,12 @@ pub record IsTable (P : List ℕ → Type 0) (get : List ℕ → Option ℕ) (xs
   pub each : All P xs
   pub few : length xs < 2 ^ 32
 
+-- What such a table may begin with.
+pub record StandOnce (P : List ℕ → Type 0) (xs : List (List ℕ)) : Type 0 where
+  pub each : All P xs
+  pub once : Once xs
+  pub few : length xs < 2 ^ 32
+
 -- One more, if it isn't there.
 abbrev pub with_slice : List (List ℕ) → List ℕ → List (List ℕ)
 with_slice xs x = if is_some (number_in xs x) then xs else xs ++ x ∷ []

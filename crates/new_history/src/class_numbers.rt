@@ -127,7 +127,7 @@ impl<'n> ClassNumbers<'n> {
 
     /// The classes that the old history lacks, in the order of their numbers.
     pub fn into_fresh(self) -> Seq<SharedBytes>
-        ensures { known_by self.entry ++ result ≡ classes_by self.entry }
+        ensures { result ≡ self.entry.fresh }
     {
         self.fresh
     }

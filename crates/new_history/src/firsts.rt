@@ -1,6 +1,6 @@
 //! Which rows come first among equal ones.
 
-ghost use Rattle.std.specs.Prelude.{◌≡◌, ◌&&◌, length, map, filter, IfOk};
+ghost use Rattle.std.specs.Prelude.{◌≡◌, ◌&&◌, ◌∷◌, ◌++◌, [], length, map, filter, if◌then◌else◌, IfOk, OnOk};
 ghost use Rattle.new_history.specs.Keys.{are_first, is_yes, key_of, picked};
 ghost use Rattle.new_history.specs.Needed.{is_old};
 
@@ -43,6 +43,16 @@ pub fn firsts_of(alloc: Global, rows: &[Row]) -> Result<Vec<bool>, Memory>
     Ok(firsts)
 }
 
+// Adds a row, if it comes first.
+fn keep_if(first: bool, row: Row, some: &mut Seq<Row>) -> Result<(), Memory>
+    ensures { OnOk result (some.new ≡ some.old ++ (if first then row ∷ [] else [])) }
+{
+    if first {
+        some.push(row)?;
+    }
+    Ok(())
+}
+
 /// The rows of which this says yes.
 pub fn pick(alloc: Global, firsts: &[bool], rows: Seq<Row>) -> Result<Seq<Row>, Memory>
     ensures { IfOk result (λ some. some ≡ picked firsts.now rows) }
@@ -50,9 +60,8 @@ pub fn pick(alloc: Global, firsts: &[bool], rows: Seq<Row>) -> Result<Seq<Row>, 
     let mut some = Seq::new(alloc);
     let mut at = 0;
     for row in rows.into_vec() {
-        if is_yes(firsts, at) {
-            some.push(row)?;
-        }
+        let first = is_yes(firsts, at);
+        keep_if(first, row, &mut some)?;
         at += 1;
     }
     Ok(some)

@@ -12,7 +12,6 @@ ghost use Rattle.new_history.specs.Needed.{IsNeeded, kept_by};
 ghost use Rattle.new_history.specs.Numbering.{names_by};
 ghost use Rattle.new_history.specs.New.{AreFew, ArePartsOf, AreTooMany, IsNewOf};
 
-use crate::class_numbers::ClassNumbers;
 use crate::decoded::{names_of, texts_of};
 use crate::firsts::{count_old, firsts_of, pick};
 use crate::name_numbers::NameNumbers;
@@ -86,26 +85,29 @@ fn fresh_texts(alloc: Global, names: &NameNumbers, from: usize) -> Result<Seq<By
     ensures { IfOk result (λ texts. texts ≡ map text (drop from (names_by names.now))) }
 {
     let names = names.names();
-    texts_of(alloc, &names[from..])
+    let texts = texts_of(alloc, &names[from..])?;
+    Ok(texts)
 }
 
 // All records that are needed, by number.
-fn parts_of(alloc: Global, old: &History, needed: &[Needed]) -> Result<Parts, Memory>
+fn parts_of<'x>(
+    alloc: Global,
+    old: &'x History<'x>,
+    needed: &'x [Needed<'x>],
+) -> Result<Parts, Memory>
     requires needed { All (IsNeeded old.now) needed.now }
     requires few { AreFew (length old.now.texts) (length old.now.classes) needed.now }
     ensures { IfOk result (ArePartsOf old.now needed.now) }
 {
     let texts = old.texts();
     let known = names_of(alloc, texts)?;
-    let names = NameNumbers::of(alloc, known.as_slice())?;
-    let classes = ClassNumbers::of(alloc, old.classes())?;
-    let mut numbers = Numbering { names, classes };
+    let mut numbers = Numbering::of(alloc, known.as_slice(), old.classes())?;
     let rows = rows_of(alloc, &mut numbers, needed)?;
-    let fresh = fresh_texts(alloc, &numbers.names, texts.len())?;
-    let Numbering { names: _, classes } = numbers;
+    let texts = fresh_texts(alloc, &numbers.names, texts.len())?;
+    let classes = numbers.into_fresh();
     Ok(Parts {
-        texts: fresh,
-        classes: classes.into_fresh(),
+        texts,
+        classes,
         rows,
     })
 }

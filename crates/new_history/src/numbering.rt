@@ -1,11 +1,11 @@
 //! The parts of a record that was made, by number.
 
-ghost use Rattle.std.specs.Prelude.{All, length, IfOk};
+ghost use Rattle.std.specs.Prelude.{◌≡◌, ◌++◌, [], All, length, map, IfOk};
 ghost use Rattle.class_model.specs.Text.{IsUnits};
 ghost use Rattle.class_model.specs.declared.outcome.Outcome.TheVariants.{Failed};
 ghost use Rattle.history_rules.specs.Fitting.{FitsEntry};
 ghost use Rattle.history_rules.specs.Spelling.{IsOutcome, IsToldCause};
-ghost use Rattle.new_history.specs.Numbering.{HasRoom, IsNumbering, NumbersName, NumbersEnd, NumbersEntry, NumbersEntries};
+ghost use Rattle.new_history.specs.Numbering.{HasRoom, IsNumbering, IsShort, NumbersEnd, NumbersEntries, NumbersEntry, NumbersName, StandOnce, classes_in, known_by, names_in};
 
 use crate::class_numbers::ClassNumbers;
 use crate::name_numbers::NameNumbers;
@@ -21,6 +21,24 @@ pub struct Numbering<'n> {
 }
 
 impl<'n> Numbering<'n> {
+    /// These names and these classes of an old history, by their places, and no others.
+    pub fn of(
+        alloc: Global,
+        names: &'n [Name],
+        classes: &[&'n [u8]],
+    ) -> Result<Numbering<'n>, Memory>
+        requires names { StandOnce IsUnits names.now }
+        requires classes { StandOnce IsShort (map (λ s. s.now) classes.now) }
+        ensures known { IfOk result IsNumbering }
+        ensures names { IfOk result (λ n. names_in n ≡ names.entry.now) }
+        ensures classes { IfOk result (λ n. known_by n.classes ≡ map (λ s. s.now) classes.now) }
+        ensures none { IfOk result (λ n. n.classes.fresh ≡ []) }
+    {
+        let names = NameNumbers::of(alloc, names)?;
+        let classes = ClassNumbers::of(alloc, classes)?;
+        Ok(Numbering { names, classes })
+    }
+
     /// The number of a name.
     pub fn name(&mut self, name: &'n Name) -> Result<u32, Memory>
         requires known { IsNumbering self.old }
@@ -95,5 +113,13 @@ impl<'n> Numbering<'n> {
             numbers.push(entry)?;
         }
         Ok(numbers)
+    }
+
+    /// The classes that the old history lacks, in the order of their numbers.
+    pub fn into_fresh(self) -> Seq<SharedBytes>
+        ensures { result ≡ self.entry.classes.fresh }
+    {
+        let Numbering { names: _, classes } = self;
+        classes.into_fresh()
     }
 }

@@ -69,8 +69,14 @@ fn row_of<'n>(alloc: Global, numbers: &mut Numbering<'n>, needed: Needed<'n>) ->
     ensures { IfOk result (NumbersNeeded needed.entry numbers.old numbers.new) }
 {
     match needed {
-        Needed::Old { row, limit } => old_row(alloc, row, limit),
-        Needed::Made(made) => made_row(alloc, numbers, made),
+        Needed::Old { row, limit } => {
+            let row = old_row(alloc, row, limit)?;
+            Ok(row)
+        }
+        Needed::Made(made) => {
+            let row = made_row(alloc, numbers, made)?;
+            Ok(row)
+        }
     }
 }
 

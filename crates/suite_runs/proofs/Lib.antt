@@ -1,3 +1,6 @@
 pub mod Answered
 pub mod Unchanged
 pub mod Scratch
+pub mod FailedOnes
+pub mod Judged
+pub mod TriedOnce

@@ -1,2 +1,10 @@
 pub mod Answers
 pub mod Laws
+pub mod Failing
+pub mod Covering
+pub mod Judging
+pub mod Reaching
+pub mod Placing
+pub mod Originals
+pub mod Keeping
+pub mod Ending

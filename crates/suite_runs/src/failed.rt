@@ -2,10 +2,10 @@
 
 ghost use Rattle.std.specs.Prelude.{◌≡◌, ◌++◌, ◌<◌, ◌^◌, length, map, IfOk, OnOk};
 ghost use Rattle.suite_workers.specs.Said.{known_record};
-ghost use Rattle.suite_runs.specs.Answers.{unless_passed};
+ghost use Rattle.suite_runs.specs.Answers.{unless_failed, unless_passed};
 ghost use Rattle.suite_runs.specs.Failing.{failed_among, is_passed, outcome_by};
 
-use crate::refusal::FailedTest;
+use crate::refusal::{FailedTest, JobRefusal};
 use class_model::{Cause, Memory, Outcome, Seq};
 use mutator_ops::State;
 use std::alloc::Global;
@@ -90,4 +90,14 @@ pub fn failed_of(alloc: Global, runs: &[KnownRun]) -> Result<Seq<FailedTest>, Me
         note(&mut failed, number as u32, outcome)?;
     }
     Ok(Seq::from_vec(failed))
+}
+
+/// Refuses a job some of whose tests failed.
+pub fn refuse_failed(failed: Seq<FailedTest>) -> Result<(), JobRefusal>
+    ensures { result ≡ unless_failed failed (Ok tt) }
+{
+    if failed.is_empty() {
+        return Ok(());
+    }
+    Err(JobRefusal::NotGreen { failed })
 }

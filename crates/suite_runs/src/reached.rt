@@ -29,11 +29,7 @@ fn class_named(program: &Program, name: &Name) -> Option<ClassId>
 }
 
 // The class that a text names; one that spells no name is empty.
-fn class_spelled(
-    alloc: Global,
-    program: &Program,
-    text: &[u8],
-) -> Result<Option<ClassId>, Memory>
+fn class_spelled(alloc: Global, program: &Program, text: &[u8]) -> Result<Option<ClassId>, Memory>
     ensures { IfOk result (λ c. c ≡ class_named program.now (name_or_empty (units_of text.now))) }
 {
     match read_text(alloc, text) {
@@ -69,11 +65,7 @@ pub struct NamedClasses {
 
 impl NamedClasses {
     /// Those of old records.
-    pub fn of(
-        alloc: Global,
-        program: &Program,
-        old: OldRecords,
-    ) -> Result<NamedClasses, Memory>
+    pub fn of(alloc: Global, program: &Program, old: OldRecords) -> Result<NamedClasses, Memory>
         ensures { IfOk result (AreNamed program.now (texts_in old.entry)) }
     {
         let nameless = class_named(program, &Seq::new(alloc));
@@ -112,7 +104,8 @@ fn classes_of(
 {
     let mut classes = Vec::with_capacity(alloc, consulted.len())?;
     for entry in consulted {
-        classes.push(named.get(entry.name))?;
+        let class = named.get(entry.name);
+        classes.push(class)?;
     }
     Ok(classes)
 }
@@ -126,18 +119,15 @@ fn classes_in(
 {
     let mut classes = Vec::with_capacity(alloc, consulted.len())?;
     for entry in consulted {
-        classes.push(class_named(program, &entry.0))?;
+        let class = class_named(program, &entry.0);
+        classes.push(class)?;
     }
     Ok(classes)
 }
 
 // ---- lines
 
-fn class_at(
-    classes: &[Option<ClassId>],
-    nameless: Option<ClassId>,
-    place: u32,
-) -> Option<ClassId>
+fn class_at(classes: &[Option<ClassId>], nameless: Option<ClassId>, place: u32) -> Option<ClassId>
     ensures { result ≡ class_at classes.now nameless place }
 {
     match classes.get(place as usize) {
@@ -172,7 +162,8 @@ fn lines_at(
 {
     let mut lines = Vec::with_capacity(alloc, reached.len())?;
     for pair in reached {
-        push_line(class_at(classes, nameless, pair.0), pair.1, &mut lines)?;
+        let class = class_at(classes, nameless, pair.0);
+        push_line(class, pair.1, &mut lines)?;
     }
     Ok(lines)
 }
@@ -189,7 +180,12 @@ fn found_lines(
     match found.row() {
         Some(row) => {
             let classes = classes_of(alloc, named, row.consulted.as_slice())?;
-            lines_at(alloc, classes.as_slice(), named.nameless, row.reached.as_slice())
+            lines_at(
+                alloc,
+                classes.as_slice(),
+                named.nameless,
+                row.reached.as_slice(),
+            )
         }
         None => Ok(Vec::new(alloc)),
     }
@@ -206,7 +202,8 @@ fn made_lines(
     ensures { IfOk result (λ lines. lines.items ≡ lines_in program.now made.now) }
 {
     let classes = classes_in(alloc, program, made.consulted.as_slice())?;
-    lines_at(alloc, classes.as_slice(), nameless, made.reached.as_slice())
+    let lines = lines_at(alloc, classes.as_slice(), nameless, made.reached.as_slice())?;
+    Ok(lines)
 }
 
 // The lines that a run reached, as it is known.
