@@ -1,13 +1,10 @@
 -- Rows that come first are the records that are kept once.
-use Rattle.std.proofs.Common.{◌≡◌, ◌∙◌, ℕ, zero, suc, ◌<◌, ◌≤◌, Bool, true, false, not, List, [], ◌∷◌, ◌++◌, length, map, Option, Some, None, refl, sym, ap, ap₂, subst, true≢false, arith}
-use Rattle.std.specs.Prelude.{◌||◌, All, filter, slice_get, if◌then◌else◌}
+use Rattle.std.proofs.Common.{◌≡◌, ◌∙◌, ℕ, zero, suc, ◌<◌, ◌≤◌, Bool, true, false, not, List, [], ◌∷◌, length, map, Some, None, refl, sym, ap, ap₂, subst, arith}
+use Rattle.std.specs.Prelude.{◌||◌, All, filter, if◌then◌else◌}
 use Rattle.std.specs.List.{list_any}
 use Rattle.std.proofs.lemmas.List.Elements.{All-head, All-tail, All-cons, All-nil}
 use Rattle.std.proofs.lemmas.Option.{same_Some}
-use Rattle.class_model.specs.declared.outcome.Cause.{Cause}
 use Rattle.class_model.specs.declared.outcome.Cause.TheVariants as cause
-use Rattle.class_model.specs.declared.outcome.Outcome.{Outcome}
-use Rattle.class_model.specs.declared.outcome.Outcome.TheVariants as outcome
 use Rattle.program_rules.specs.Names.{Name, same, is_listed}
 use Rattle.record_rules.specs.declared.record.RunRecord.{RunRecord}
 use Rattle.record_rules.specs.Histories.{same_record, Kept, once_behind}

@@ -1,11 +1,10 @@
 -- What numbers stand for stays the same while further names and classes come behind those that are
 -- there.
-use Rattle.std.proofs.Common.{◌≡◌, ◌∙◌, ℕ, zero, suc, ◌+◌, ◌<◌, ◌≤◌, Bool, List, [], ◌∷◌, ◌++◌, length, map, Option, Some, None, is_some, refl, sym, ap, subst, append_assoc, arith}
+use Rattle.std.proofs.Common.{◌≡◌, ◌∙◌, ℕ, zero, suc, ◌+◌, ◌<◌, ◌≤◌, List, [], ◌∷◌, ◌++◌, length, map, Option, Some, None, is_some, refl, sym, ap, append_assoc, arith}
 use Rattle.std.specs.Prelude.{All, slice_get, if◌then◌else◌}
 use Rattle.std.proofs.lemmas.List.{append-nil, length_push, length-append}
-use Rattle.std.proofs.lemmas.List.Elements.{All-nil, All-cons, All-head, All-tail, All-weaker}
+use Rattle.std.proofs.lemmas.List.Elements.{All-head, All-tail, All-weaker}
 use Rattle.class_model.specs.declared.outcome.Cause.TheVariants as cause
-use Rattle.class_model.specs.declared.outcome.Outcome.{Outcome}
 use Rattle.class_model.specs.declared.outcome.Outcome.TheVariants as outcome
 use Rattle.program_rules.specs.Names.{Name}
 use Rattle.record_rules.specs.declared.record.RunRecord.{RunRecord}
@@ -20,7 +19,7 @@ use Rattle.history_file.specs.Texts.{number_in}
 use Rattle.history_file.proofs.Numbers.{get_kept}
 use Rattle.new_history.specs.declared.numbering.Numbering.{Numbering}
 use Rattle.new_history.specs.Naming.{name_at, outcome_by, entry_by, record_by}
-use Rattle.new_history.specs.Numbering.{with_slice, with_class, Grows, Takes, IsNumbering, HasRoom, names_in, classes_in, known_by, EntryBy, EntriesBy, RowBy, RowsBy}
+use Rattle.new_history.specs.Numbering.{with_slice, with_class, Grows, Takes, IsNumbering, HasRoom, names_in, classes_in, EntryBy, EntriesBy, RowBy, RowsBy}
 
 -- ---- lists that grow
 

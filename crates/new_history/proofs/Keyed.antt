@@ -1,12 +1,12 @@
 -- Rows are equal where their keys are.
-use Rattle.std.proofs.Common.{◌≡◌, ◌∙◌, ℕ, zero, suc, List, [], ◌∷◌, ◌++◌, length, refl, sym, ap, append_assoc, arith}
+use Rattle.std.proofs.Common.{◌≡◌, ◌∙◌, ℕ, List, [], ◌∷◌, ◌++◌, length, refl, sym, ap, arith}
 use Rattle.std.specs.List.{flat_map}
 use Rattle.std.proofs.lemmas.List.Concat.{flat_map-cons}
 use Rattle.history_file.specs.declared.row.End.{End}
 use Rattle.history_file.specs.declared.row.End.TheVariants as end
 use Rattle.history_file.specs.declared.row.Entry.{Entry}
 use Rattle.history_file.specs.declared.row.Row.{Row}
-use Rattle.new_history.specs.Keys.{end_tag, end_name, entry_key, pair_key, front_of, key_of}
+use Rattle.new_history.specs.Keys.{end_tag, end_name, entry_key, pair_key, key_of}
 
 end_is : (a b : End) → end_tag a ≡ end_tag b → end_name a ≡ end_name b → a ≡ b
 end_is end.Passed end.Passed t n = refl

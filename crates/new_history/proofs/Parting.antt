@@ -1,27 +1,26 @@
 -- Records that are needed are numbered behind an old history, and those that come first are kept.
-use Rattle.std.proofs.Common.{◌≡◌, ◌∙◌, ℕ, ◌+◌, ◌^◌, ◌<◌, ◌≤◌, Bool, List, [], ◌∷◌, ◌++◌, length, map, drop, IsTrue, is_some, refl, sym, ap, ap₂, subst, arith}
-use Rattle.std.specs.Prelude.{All, filter, max, sum_by}
+use Rattle.std.proofs.Common.{◌≡◌, ◌∙◌, ℕ, ◌^◌, ◌<◌, ◌≤◌, Bool, List, [], ◌++◌, length, map, drop, sym, ap, ap₂, subst, arith}
+use Rattle.std.specs.Prelude.{All, filter, sum_by}
 use Rattle.std.proofs.lemmas.List.{append-nil, length-append, length-map, drop_at}
 use Rattle.std.proofs.lemmas.List.Elements.{All-drop, All-weaker}
 use Rattle.class_model.specs.Text.{IsUnits, units_of, text}
 use Rattle.program_rules.specs.Names.{Name}
-use Rattle.record_rules.specs.declared.record.RunRecord.{RunRecord}
 use Rattle.record_rules.specs.Histories.{Kept, once_behind}
 use Rattle.history_rules.specs.Items.{AllBy}
 use Rattle.history_rules.specs.Classes.{with_class, IsClassBehind}
 use Rattle.history_file.specs.declared.row.Row.{Row}
-use Rattle.history_file.specs.Rows.{Numbered, IsNumbered, IsRow, IsTextBehind, name_or_empty, record_of, records_of}
+use Rattle.history_file.specs.Rows.{Numbered, IsNumbered, IsRow, name_or_empty, record_of, records_of}
 use Rattle.new_history.specs.declared.history.Parts.{Parts}
 use Rattle.new_history.specs.declared.needed.Needed.{Needed}
 use Rattle.new_history.specs.declared.needed.Needed.TheVariants as need
 use Rattle.new_history.specs.declared.numbering.Numbering.{Numbering}
 use Rattle.new_history.specs.Keys.{key_of, are_first, picked}
-use Rattle.new_history.specs.Left.{Left, numbered_by}
+use Rattle.new_history.specs.Left.{numbered_by}
 use Rattle.new_history.specs.Naming.{names_of, Spell, record_by}
 use Rattle.new_history.specs.Needed as needed
 use Rattle.new_history.specs.Needed.{kept_by, IsNeeded, FitsMade, is_old}
 use Rattle.new_history.specs.New.{AreFew, IsNewOf, parted, ArePartsOf}
-use Rattle.new_history.specs.Numbering.{Once, StandOnce, IsShort, HasRoom, names_in, classes_in, classes_by, known_by}
+use Rattle.new_history.specs.Numbering.{Once, StandOnce, IsShort, HasRoom, names_in, classes_in, known_by}
 use Rattle.new_history.specs.Rows.{BeginsWith, NumbersAll}
 use Rattle.new_history.proofs.FirstRows.{firsts_are, picked-map, picked-all, olds_are}
 use Rattle.new_history.proofs.Spelling.{classes_once, texts_once, classes_differ, texts_differ, classes_short, texts_spell, more_spell, both_spell, spelled_long, spelled_valid, names_once, spelled_once, names_units, spelled_rows}

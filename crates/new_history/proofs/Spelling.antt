@@ -1,20 +1,18 @@
 -- Names and the texts that spell them, by number.
-use Rattle.std.proofs.Common.{◌≡◌, ◌∙◌, ℕ, zero, suc, ◌+◌, ◌^◌, ◌<◌, ◌≤◌, Bool, true, false, List, [], ◌∷◌, ◌++◌, length, map, drop, Option, Some, None, is_some, IsTrue, refl, sym, ap, ap₂, subst, append_assoc, true≢false, arith}
+use Rattle.std.proofs.Common.{◌≡◌, ◌∙◌, ℕ, zero, suc, ◌^◌, ◌<◌, Bool, true, false, List, [], ◌∷◌, ◌++◌, length, map, Option, Some, None, is_some, IsTrue, refl, sym, ap, ap₂, subst, append_assoc, arith}
 use Rattle.std.specs.Prelude.{◌||◌, All, slice_get, option_and_then, if◌then◌else◌}
 use Rattle.std.specs.Option.{option_map}
-use Rattle.std.proofs.lemmas.List.{append-nil, map-append, length-map, drop_at}
+use Rattle.std.proofs.lemmas.List.{map-append, length-map}
 use Rattle.std.proofs.lemmas.List.Elements.{All-nil, All-cons, All-head, All-tail}
 use Rattle.std.proofs.lemmas.Option.{same_Some, slice_get-map}
 use Rattle.class_model.specs.Text.{IsUnits, units_of, text}
 use Rattle.class_model.specs.declared.outcome.Cause.TheVariants as cause
-use Rattle.class_model.specs.declared.outcome.Outcome.{Outcome}
 use Rattle.class_model.specs.declared.outcome.Outcome.TheVariants as outcome
 use Rattle.class_model.proofs.TextReading.{units_of-text, units_of-takes}
 use Rattle.program_rules.specs.Names.{Name, same, is_listed}
 use Rattle.record_rules.specs.declared.record.RunRecord.{RunRecord}
 use Rattle.history_rules.specs.Items.{AllBy}
 use Rattle.history_rules.specs.Classes.{with_class, class_of, IsClassBehind}
-use Rattle.history_rules.specs.Entries as history
 use Rattle.history_rules.proofs.Pools.{bytes_are, same_self, fewer, not_before}
 use Rattle.history_file.specs.declared.row.End.{End}
 use Rattle.history_file.specs.declared.row.End.TheVariants as end

@@ -1,9 +1,9 @@
 -- Records by number, one after the other.
-use Rattle.std.proofs.Common.{◌≡◌, ◌∙◌, ℕ, zero, suc, ◌+◌, ◌<◌, ◌≤◌, List, [], ◌∷◌, ◌++◌, length, map, take, get_or, Bor, Option, Some, None, refl, sym, ap, ap₂, subst, append_assoc, arith}
+use Rattle.std.proofs.Common.{◌≡◌, ◌∙◌, ℕ, ◌+◌, ◌<◌, ◌≤◌, List, [], ◌∷◌, ◌++◌, length, map, take, get_or, Bor, Some, refl, sym, ap, ap₂, subst, append_assoc, arith}
 use Rattle.std.specs.Prelude.{All, slice_get, sum_by}
-use Rattle.std.proofs.lemmas.List.{append-nil, map-append, length-map, length-append, length_push, take_all, take_more}
+use Rattle.std.proofs.lemmas.List.{map-append, length-map, length-append, take_all, take_more}
 use Rattle.std.proofs.lemmas.List.Elements.{All-nil, All-push, All-get_or}
-use Rattle.std.proofs.lemmas.List.Sums.{sum_by_more, sum_by-take-le}
+use Rattle.std.proofs.lemmas.List.Sums.{sum_by_more}
 use Rattle.std.proofs.lemmas.Option.{slice_get_within}
 use Rattle.class_model.specs.Text.{units_of}
 use Rattle.class_model.specs.declared.outcome.Cause.{Cause}
@@ -18,7 +18,7 @@ use Rattle.history_rules.specs.Entries as history
 use Rattle.history_file.specs.declared.row.End.{End}
 use Rattle.history_file.specs.declared.row.Entry.{Entry}
 use Rattle.history_file.specs.declared.row.Row.{Row}
-use Rattle.history_file.specs.Rows.{Numbered, name_or_empty, record_of, IsEnd, IsEntry, IsRow}
+use Rattle.history_file.specs.Rows.{Numbered, name_or_empty, record_of, IsEntry, IsRow}
 use Rattle.new_history.specs.declared.class_numbers.ClassNumbers.{ClassNumbers}
 use Rattle.new_history.specs.declared.name_numbers.NameNumbers.{NameNumbers}
 use Rattle.new_history.specs.declared.needed.Needed.{Needed}
@@ -26,9 +26,9 @@ use Rattle.new_history.specs.declared.numbering.Numbering.{Numbering}
 use Rattle.new_history.specs.Naming.{names_of, name_at, outcome_by, entry_by, record_by}
 use Rattle.new_history.specs.Needed.{kept_by, IsNeeded}
 use Rattle.new_history.specs.Needed as needed
-use Rattle.new_history.specs.Numbering.{AreClasses, AreNames, Grows, Takes, IsNumbering, HasRoom, names_in, classes_in, names_by, classes_by, known_by, PutsName, ChoosesClass, NumbersName, NumbersEnd, NumbersEntry, NumbersEntries, NumbersRow, EntryBy, EntriesBy, RowBy, RowsBy}
+use Rattle.new_history.specs.Numbering.{AreClasses, AreNames, Grows, Takes, IsNumbering, names_in, classes_in, names_by, classes_by, known_by, PutsName, ChoosesClass, NumbersName, NumbersEnd, NumbersEntry, NumbersEntries, NumbersRow, EntryBy, EntriesBy, RowBy, RowsBy}
 use Rattle.new_history.specs.Rows.{BeginsWith, NumbersNeeded, NumbersAll}
-use Rattle.new_history.proofs.Growing.{grows_none, grows_within, grows_slice, grows_class, longer, takes_none, takes_within, takes_then, room_left, room_within, entry_later, entries_later, row_later, rows_later, name_later, outcome_kept, end_wider, row_kept, row_wider}
+use Rattle.new_history.proofs.Growing.{grows_none, grows_within, grows_slice, grows_class, longer, takes_none, takes_within, takes_then, entries_later, rows_later, name_later, outcome_kept, end_wider, row_kept, row_wider}
 use Rattle.new_history.proofs.Spelling.{spelled_row}
 
 -- ---- names

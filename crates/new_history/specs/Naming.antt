@@ -1,5 +1,5 @@
 -- Records by number, where the names that they name stand as code units (this project's own).
-use Rattle.std.specs.Prelude.{◌≡◌, ℕ, List, map, Option, Some, slice_get, All}
+use Rattle.std.specs.Prelude.{◌≡◌, ℕ, List, map, Some, slice_get}
 use Rattle.class_model.specs.Text.{units_of}
 use Rattle.class_model.specs.declared.outcome.Cause.TheVariants as cause
 use Rattle.class_model.specs.declared.outcome.Outcome.{Outcome}

@@ -1,8 +1,6 @@
 -- The records that a job leaves (this project's own).
-use Rattle.std.specs.Prelude.{◌≡◌, ◌≤◌, ◌<◌, ◌+◌, ◌++◌, ◌^◌, ℕ, List, [], map, max, filter, length, sum_by}
-use Rattle.record_rules.specs.declared.record.RunRecord.{RunRecord}
+use Rattle.std.specs.Prelude.{◌≡◌, ◌≤◌, ◌<◌, ◌+◌, ◌^◌, ℕ, List, [], map, max, filter, length, sum_by}
 use Rattle.record_rules.specs.Histories.{Kept, once_behind}
-use Rattle.history_file.specs.declared.row.Row.{Row}
 use Rattle.history_file.specs.Rows.{Numbered, IsNumbered, records_of}
 use Rattle.new_history.specs.declared.history.Parts.{Parts}
 use Rattle.new_history.specs.declared.needed.Needed.{Needed}

@@ -1,4 +1,4 @@
-use Rattle.std.proofs.Common.{◌≡◌, ◌∙◌, ◌<◌, ℕ, List, length, map, get_or, sym, ap, subst, arith}
+use Rattle.std.proofs.Common.{◌≡◌, ◌∙◌, ◌<◌, length, map, get_or, sym, ap, arith}
 use Rattle.std.proofs.lemmas.List.{length-map}
 use Rattle.new_history.proofs.Picking.{firsts_more, get_mapped}
 use Rattle.new_history.proofs.firsts.are_first.Goals as goal

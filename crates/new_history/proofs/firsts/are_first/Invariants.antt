@@ -1,5 +1,4 @@
-use Rattle.std.proofs.Common.{◌≡◌, ◌++◌, ℕ, List, map, drop}
-use Rattle.new_history.specs.Keys.{HasKeys, are_first, first_among}
+use Rattle.std.proofs.Common.{map}
 use Rattle.new_history.proofs.Picking.{FirstsSoFar}
 use Rattle.new_history.proofs.firsts.are_first.Given as goal
 

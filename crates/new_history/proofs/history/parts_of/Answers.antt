@@ -1,7 +1,6 @@
 use Rattle.std.proofs.Common.{◌≡◌, ◌∙◌, ℕ, List, length, map, drop, sym, ap, subst}
 use Rattle.std.proofs.lemmas.List.{length-map}
 use Rattle.class_model.specs.Text.{IsUnits, text}
-use Rattle.program_rules.specs.Names.{Name}
 use Rattle.new_history.specs.New.{ArePartsOf}
 use Rattle.new_history.specs.Naming.{names_of}
 use Rattle.new_history.specs.Numbering.{IsShort, StandOnce, known_by, names_by, names_in}

@@ -1,4 +1,4 @@
-use Rattle.std.proofs.Common.{◌≡◌, ◌∙◌, Some, sym, ap, subst}
+use Rattle.std.proofs.Common.{◌≡◌, ◌∙◌, Some, sym, ap}
 use Rattle.history_file.specs.Texts.{number_in}
 use Rattle.history_file.proofs.Numbers.{text_at_number}
 use Rattle.new_history.specs.Numbering.{names_by}
