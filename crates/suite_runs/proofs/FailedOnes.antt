@@ -9,8 +9,8 @@ use Rattle.mutant_runs.specs.Runs.{detected_by}
 use Rattle.record_rules.specs.declared.record.RunRecord.{RunRecord}
 use Rattle.suite_workers.specs.Said.{known_record}
 use Rattle.suite_workers.specs.declared.said.KnownRun.{KnownRun}
-use Rattle.suite_runs.specs.declared.refusal.FailedTest.{FailedTest}
-use Rattle.suite_runs.specs.Answers.{unless_passed}
+use Rattle.job_answers.specs.declared.refusal.FailedTest.{FailedTest}
+use Rattle.job_answers.specs.Answers.{unless_passed}
 use Rattle.suite_runs.specs.Failing.{outcome_by, failed_from, failed_among}
 
 pub outcome_said : (o : Outcome) → outcome_by (detected_by o) ≡ o

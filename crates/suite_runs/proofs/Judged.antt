@@ -3,7 +3,7 @@ use Rattle.std.proofs.Common.{◌≡◌, ◌∙◌, ℕ, zero, suc, ◌+◌, ◌
 use Rattle.std.specs.Prelude.{slice_index_or}
 use Rattle.mutator_ops.specs.declared.mutant.State.{State}
 use Rattle.mutator_ops.specs.declared.mutant.Verdict.{Verdict}
-use Rattle.suite_runs.specs.Answers.{verdict_with}
+use Rattle.job_answers.specs.Answers.{verdict_with}
 use Rattle.suite_runs.specs.Judging.{state_by, verdict_at, verdicts_from}
 
 -- the verdict by its parts

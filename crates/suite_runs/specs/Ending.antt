@@ -12,10 +12,10 @@ use Rattle.suite_workers.specs.Old.{records_in}
 use Rattle.suite_workers.specs.declared.old_records.OldRecords.{OldRecords}
 use Rattle.suite_runs.specs.declared.job.JobDone.{JobDone}
 use Rattle.suite_runs.specs.declared.job.SuiteJob.{SuiteJob}
-use Rattle.suite_runs.specs.declared.refusal.JobFault.{JobFault}
-use Rattle.suite_runs.specs.declared.refusal.JobFault.TheVariants as fault
-use Rattle.suite_runs.specs.declared.refusal.JobRefusal.{JobRefusal}
-use Rattle.suite_runs.specs.Answers.{JobAnswer, JobCost, job_answer, job_cost, job_reused}
+use Rattle.suite_runs.specs.declared.fault.JobFault.{JobFault}
+use Rattle.suite_runs.specs.declared.fault.JobFault.TheVariants as fault
+use Rattle.job_answers.specs.declared.refusal.JobRefusal.{JobRefusal}
+use Rattle.job_answers.specs.Answers.{JobAnswer, JobCost, job_answer, job_cost, job_reused}
 
 -- ---- the suite of a job
 

@@ -5,8 +5,8 @@ use Rattle.class_model.specs.declared.outcome.Outcome.TheVariants as outcome
 use Rattle.mutator_ops.specs.declared.mutant.State.{State}
 use Rattle.mutator_ops.specs.declared.mutant.State.TheVariants as state
 use Rattle.record_rules.specs.declared.record.RunRecord.{RunRecord}
-use Rattle.suite_runs.specs.declared.refusal.FailedTest.{FailedTest}
-use Rattle.suite_runs.specs.Answers.{unless_passed}
+use Rattle.job_answers.specs.declared.refusal.FailedTest.{FailedTest}
+use Rattle.job_answers.specs.Answers.{unless_passed}
 
 -- How a run ended that gives this state to a mutant, or none.
 abbrev pub outcome_by : Option State → Outcome

@@ -4,7 +4,7 @@ use Rattle.mutator_ops.specs.declared.mutant.State.{State}
 use Rattle.mutator_ops.specs.declared.mutant.State.TheVariants as state
 use Rattle.mutator_ops.specs.declared.mutant.Verdict.{Verdict}
 use Rattle.mutant_runs.specs.Verdicts.{not_viable}
-use Rattle.suite_runs.specs.Answers.{verdict_with}
+use Rattle.job_answers.specs.Answers.{verdict_with}
 
 -- The state of a mutant that some test covers, or none, by those that detect it.
 abbrev pub state_by : Bool → List (ℕ × State) → State

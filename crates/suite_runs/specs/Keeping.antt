@@ -1,5 +1,5 @@
 -- What is known of runs, as new records take it (this project's own).
-use Rattle.std.specs.Prelude.{◌≡◌, ◌<◌, ◌++◌, ℕ, Bool, true, false, List, [], length, map, All}
+use Rattle.std.specs.Prelude.{◌≡◌, ◌<◌, ◌++◌, ℕ, Bool, true, false, List, [], length, map, All, Contains}
 use Rattle.std.specs.List.{AllZip}
 use Rattle.record_rules.specs.Histories.{Kept}
 use Rattle.history_rules.specs.Fitting.{FitsFields}
@@ -30,10 +30,27 @@ pub record IsKeptAs (h : Numbered) (k : KnownRun) (x : Needed) : Type 0 where
   pub kept : kept_by h x ≡ kept_as k
   pub needed : IsNeeded h x
 
--- These stand for what is known of runs, up to the first that doesn't fit.
+-- These stand for what is known of runs.
 pub record AreKeptAs (h : Numbered) (ks : List KnownRun) (xs : List Needed) : Type 0 where
   pub kept : map (kept_by h) xs ≡ map kept_as ks
   pub needed : All (IsNeeded h) xs
+
+-- They were added, or some record doesn't fit.
+pub record AddsKept (h : Numbered) (ks : List KnownRun) (old new : List Needed) : Type 0 where
+  pub more : List Needed
+  pub added : new ≡ old ++ more
+  pub are : AreKeptAs h ks more
+
+-- Some of them doesn't fit.
+pub record HasUnfit (ks : List KnownRun) : Type 0 where
+  pub run : KnownRun
+  pub there : Contains ks run
+  pub unfit : IsUnfit run
+
+abbrev pub PushesKept :
+    Numbered → List KnownRun → List Needed → List Needed → Bool → Type 0
+PushesKept h ks old new true = AddsKept h ks old new
+PushesKept h ks old new false = HasUnfit ks
 
 -- The history of old records; none has no names and no classes.
 abbrev pub history_in : OldRecords → Numbered

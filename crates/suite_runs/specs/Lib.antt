@@ -1,5 +1,3 @@
-pub mod Answers
-pub mod Laws
 pub mod Failing
 pub mod Covering
 pub mod Judging

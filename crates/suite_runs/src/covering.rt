@@ -2,12 +2,12 @@
 
 ghost use Rattle.std.specs.Prelude.{◌≡◌, ◌<◌, ◌^◌, length, map, zip, IfOk};
 ghost use Rattle.std.specs.Io.Iter.{u64_saturate};
-ghost use Rattle.suite_runs.specs.Answers.{unless_many};
+ghost use Rattle.job_answers.specs.Answers.{unless_many};
 ghost use Rattle.suite_runs.specs.Covering.{count_all, numbers_of};
 
-use crate::refusal::JobRefusal;
 use class_model::{Memory, Seq};
 use class_table::Program;
+use job_answers::JobRefusal;
 use line_coverage::Coverage;
 use mutant_runs::covering_tests;
 use mutator_ops::Mutant;

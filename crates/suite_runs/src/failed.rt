@@ -2,11 +2,11 @@
 
 ghost use Rattle.std.specs.Prelude.{◌≡◌, ◌++◌, ◌<◌, ◌^◌, length, map, IfOk, OnOk};
 ghost use Rattle.suite_workers.specs.Said.{known_record};
-ghost use Rattle.suite_runs.specs.Answers.{unless_failed, unless_passed};
+ghost use Rattle.job_answers.specs.Answers.{unless_failed, unless_passed};
 ghost use Rattle.suite_runs.specs.Failing.{failed_among, is_passed, outcome_by};
 
-use crate::refusal::{FailedTest, JobRefusal};
 use class_model::{Cause, Memory, Outcome, Seq};
+use job_answers::{FailedTest, JobRefusal};
 use mutator_ops::State;
 use std::alloc::Global;
 use suite_workers::KnownRun;

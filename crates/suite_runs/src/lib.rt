@@ -1,11 +1,19 @@
 //! A whole job of an accepted suite: with old records and workers.
 #![tactic(auto)]
 
-mod laws;
-mod refusal;
+mod bounds;
+mod covering;
+mod failed;
+mod fault;
+mod finished;
+mod job;
+mod originals;
+mod prepared;
+mod reached;
+mod records;
+mod run;
+mod verdicts;
 
-pub use laws::{
-    answers_are_of_all_tests, answers_are_true, costs_are_as_asked, each_mutant_has_one_verdict,
-    true_records_change_nothing,
-};
-pub use refusal::{FailedTest, JobFault, JobRefusal};
+pub use fault::JobFault;
+pub use job::{JobDone, SuiteJob};
+pub use run::run_job;

@@ -14,6 +14,7 @@ use crate::job::SuiteJob;
 use class_model::Memory;
 use class_table::{Program, Test};
 use jvm_step::Tables;
+use machine_laws::runs_keep_limits;
 use machine_rules::Limits;
 use mt_edge::MeterPart;
 use record_rules::RunRecord;
@@ -99,6 +100,7 @@ pub fn originals<'a>(
     ensures steps { OnOk result (part.new ≡ original_cost program.now job.now look_ups.now) }
     ensures memory { part.new ≤ original_cost program.now job.now look_ups.now }
 {
+    runs_keep_limits();
     let mut runs = Vec::with_capacity(alloc, job.tests.len())?;
     for number in 0..job.tests.len() {
         let run = original(alloc, program, tables, look_ups, job, number, part)?;

@@ -1,22 +1,21 @@
-//! What a job needs before its cells are run, and what it makes of them.
+//! What a job needs before its cells are run.
 
 use crate::bounds::bounds_of;
 use crate::covering::{cell_count, covering_all, refuse_many};
 use crate::failed::{failed_of, refuse_failed};
-use crate::job::{JobDone, SuiteJob};
+use crate::fault::JobFault;
+use crate::job::SuiteJob;
 use crate::originals::originals;
 use crate::reached::{NamedClasses, coverage_of};
-use crate::records::new_records;
-use crate::refusal::JobFault;
-use crate::verdicts::verdicts_of;
 use class_model::{Memory, Seq};
 use class_table::Program;
 use jvm_step::Tables;
 use line_coverage::Coverage;
 use mt_edge::Meter;
-use mutant_runs::{ready_may_run, viable};
+use mutant_runs::viable;
+use mutator_ops::Mutant;
 use std::alloc::Global;
-use suite_workers::{CellsSaid, KnownRun, LookUps, OldRecords};
+use suite_workers::{KnownRun, LookUps, OldRecords};
 
 /// What is known of the original runs; which mutants are viable, and which tests cover each; what
 /// runs on mutants may take, and what look-ups of them go by.
@@ -56,4 +55,61 @@ fn original_runs<'a>(
     let runs = originals(alloc, program, &mut tables, &look_ups, job, &mut part);
     meter.join(part);
     runs
+}
+
+// Which tests reach a line.
+fn coverage<'a>(
+    alloc: Global,
+    program: &Program,
+    old: OldRecords<'a>,
+    runs: &[KnownRun<'a>],
+) -> Result<Coverage, Memory> {
+    let named = NamedClasses::of(alloc, program, old)?;
+    let cover = coverage_of(alloc, program, &named, runs)?;
+    Ok(cover)
+}
+
+// For each mutant the tests that cover it, unless that makes too many cells.
+fn few_covering(
+    alloc: Global,
+    program: &Program,
+    cover: &Coverage,
+    mutants: &[Mutant],
+    viable: &[bool],
+) -> Result<Vec<Seq<u32>>, JobFault> {
+    refuse_many(cell_count(program, cover, mutants, viable))?;
+    let covering = covering_all(alloc, program, cover, mutants, viable)?;
+    Ok(covering)
+}
+
+/// What the cells of a job need, or why it is refused.
+pub fn prepare<'a>(
+    alloc: Global,
+    program: &mut Program,
+    job: &SuiteJob<'a>,
+    old: OldRecords<'a>,
+    meter: &mut Meter,
+) -> Result<Prepared<'a>, JobFault> {
+    let runs = original_runs(alloc, program, job, old, meter)?;
+    let failed = failed_of(alloc, runs.as_slice())?;
+    refuse_failed(failed)?;
+    let viable = viable(alloc, program, job.mutants)?;
+    let cover = coverage(alloc, program, old, runs.as_slice())?;
+    let covering = few_covering(alloc, program, &cover, job.mutants, viable.as_slice())?;
+    let bounds = bounds_of(alloc, runs.as_slice())?;
+    let look_ups = LookUps::new(
+        alloc,
+        old,
+        program,
+        job.tests,
+        job.limits,
+        bounds.as_slice(),
+    )?;
+    Ok(Prepared {
+        runs,
+        viable,
+        covering,
+        bounds,
+        look_ups,
+    })
 }

@@ -1,17 +1,14 @@
 //! The new records, by number.
 
-ghost use Rattle.std.specs.Prelude.{◌≡◌, ◌++◌, ℕ, All, List, IfOk, IfSome, MatchOption};
+ghost use Rattle.std.specs.Prelude.{◌≡◌, ◌++◌, ℕ, All, List, IfOk, IfSome, IsSome, MatchOption};
 ghost use Rattle.history_file.specs.Rows.{Numbered};
-ghost use Rattle.new_history.specs.New.{IsNewOf};
-ghost use Rattle.suite_runs.specs.Keeping.{AreKeptAs, IsKeptAs, IsOf, IsUnfit, history_in, kept_as};
+ghost use Rattle.new_history.specs.declared.needed.Needed.{Needed as NeededOne};
+ghost use Rattle.suite_runs.specs.Keeping.{IsKeptAs, IsOf, IsUnfit, PushesKept};
 
-use crate::refusal::JobFault;
 use class_model::Memory;
-use history_file::History;
-use new_history::{Needed, NewFault, NewHistory};
+use new_history::Needed;
 use run_records::fits_fields;
-use std::alloc::Global;
-use suite_workers::{KnownRun, OldRecords};
+use suite_workers::KnownRun;
 
 // What is known of a run, as new records take it; nothing where a record that was made doesn't fit
 // the fields of a history.
@@ -28,29 +25,33 @@ fn needed_of<'n>(run: &'n KnownRun) -> Option<Needed<'n>>
                 None
             }
         }
-        KnownRun::Found(found) => match found.row() {
-            Some(row) => Some(Needed::Old {
-                row,
-                limit: found.limit,
-            }),
-            None => unreachable!(),
-        },
+        KnownRun::Found(found) => {
+            // What every history is, for the prover alone.
+            let history = found.index.history();
+            let _texts = history.texts();
+            match found.row() {
+                Some(row) => Some(Needed::Old {
+                    row,
+                    limit: found.limit,
+                }),
+                None => unreachable!(),
+            }
+        }
     }
 }
 
-// The same of these, behind those that are there; nothing where some doesn't fit.
-fn push_all<'n>(
-    runs: &'n [KnownRun],
-    mut all: Vec<Needed<'n>>,
-) -> Result<Option<Vec<Needed<'n>>>, Memory>
+/// What is known of these runs, as new records take it, behind what is there; `false` where some
+/// record that was made doesn't fit the fields of a history.
+pub fn push_needed<'n>(runs: &'n [KnownRun], all: &mut Vec<Needed<'n>>) -> Result<bool, Memory>
     requires { (h : Numbered) × All (IsOf h) runs.now }
-    ensures { IfOk result (PushesAll runs.entry.now all.entry.items) }
+    ensures { (h : Numbered) → All (IsOf h) runs.entry.now →
+        IfOk result (PushesKept h runs.entry.now all.old.items all.new.items) }
 {
     for run in runs {
         match needed_of(run) {
             Some(needed) => all.push(needed)?,
-            None => return Ok(None),
+            None => return Ok(false),
         }
     }
-    Ok(Some(all))
+    Ok(true)
 }

@@ -3,9 +3,10 @@
 ghost use Rattle.std.specs.Prelude.{◌≡◌};
 ghost use Rattle.suite_runs.specs.Ending.{JobEnds, JobMeters, MayRunJob};
 
+use crate::fault::JobFault;
+use crate::finished::finish;
 use crate::job::{JobDone, SuiteJob};
-use crate::prepared::{Prepared, finish, prepare};
-use crate::refusal::JobFault;
+use crate::prepared::prepare;
 use class_table::Program;
 use mt_edge::Meter;
 use record_rules::RunRecord;

@@ -1,7 +1,7 @@
 //! The verdicts on mutants, by the tests that cover them and those that detect them.
 
 ghost use Rattle.std.specs.Prelude.{◌≡◌, ◌≤◌, length, map, IfOk};
-ghost use Rattle.suite_runs.specs.Answers.{verdict_with};
+ghost use Rattle.job_answers.specs.Answers.{verdict_with};
 ghost use Rattle.suite_runs.specs.Judging.{state_by, verdict_at, verdicts_from};
 
 use class_model::{Memory, Seq};

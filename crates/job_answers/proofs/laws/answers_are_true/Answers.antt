@@ -2,8 +2,8 @@ use Rattle.std.proofs.Common.{List, sym, ap, subst}
 use Rattle.class_records.specs.Profile.{profile}
 use Rattle.record_rules.specs.declared.record.RunRecord.{RunRecord}
 use Rattle.reuse_laws.specs.Jobs.{AreTrue}
-use Rattle.suite_runs.proofs.Answered.{answered}
-use Rattle.suite_runs.proofs.laws.answers_are_true.Goals as goal
+use Rattle.job_answers.proofs.Answered.{answered}
+use Rattle.job_answers.proofs.laws.answers_are_true.Goals as goal
 
 pub returns : goal.returns
 returns c = λ a s old all x h true_old e.

@@ -16,9 +16,9 @@ use Rattle.record_rules.specs.declared.record.RunRecord.{RunRecord}
 use Rattle.job_rules.specs.Tried.{Tried, JobRuns, known, detections}
 use Rattle.suite_jobs.specs.Jobs.{Allowed, Suite, says, numbered, original_tried, viable_file, mutant_runs, job_runs}
 use Rattle.suite_jobs.specs.Laws.{ReuseChangesNoAnswer}
-use Rattle.suite_runs.specs.declared.refusal.FailedTest.{FailedTest}
-use Rattle.suite_runs.specs.Answers.{JobAnswer, verdict_with, verdict_of_runs, verdict_in, unless_passed, failed_by, failed_tests, cell_total, unless_failed, unless_many, answer_by, job_answer}
-use Rattle.suite_runs.specs.Laws.{TrueRecordsChangeNothing}
+use Rattle.job_answers.specs.declared.refusal.FailedTest.{FailedTest}
+use Rattle.job_answers.specs.Answers.{JobAnswer, verdict_with, verdict_of_runs, verdict_in, unless_passed, failed_by, failed_tests, cell_total, unless_failed, unless_many, answer_by, job_answer}
+use Rattle.job_answers.specs.Laws.{TrueRecordsChangeNothing}
 
 abbrev Runs : Type 0
 Runs = List (Tried RunRecord)

@@ -3,12 +3,15 @@ use Rattle.std.proofs.Common.{◌≡◌, ◌∙◌, ℕ, Bool, true, false, List
 use Rattle.std.specs.Prelude.{nat_lt, if◌then◌else◌}
 use Rattle.record_rules.specs.declared.record.RunRecord.{RunRecord}
 use Rattle.suite_jobs.specs.Jobs.{Allowed, Suite, job_runs}
-use Rattle.suite_runs.specs.declared.refusal.FailedTest.{FailedTest}
-use Rattle.suite_runs.specs.declared.refusal.JobRefusal.{JobRefusal}
-use Rattle.suite_runs.specs.declared.refusal.JobRefusal.TheVariants.{NotGreen, TooManyCells}
-use Rattle.suite_runs.specs.Answers.{JobAnswer, failed_tests, cell_total, most_cells, unless_failed, unless_many, answer_by, job_answer}
+use Rattle.job_answers.specs.declared.refusal.FailedTest.{FailedTest}
+use Rattle.job_answers.specs.declared.refusal.JobRefusal.{JobRefusal}
+use Rattle.job_answers.specs.declared.refusal.JobRefusal.TheVariants.{NotGreen, TooManyCells}
+use Rattle.job_answers.specs.Answers.{JobAnswer, failed_tests, cell_total, most_cells, unless_failed, unless_many, answer_by, job_answer}
 
-many_case : (b : Bool) (y x : JobAnswer) → (if b then Err TooManyCells else Ok y) ≡ Ok {E = JobRefusal} x → (b ≡ false) × (x ≡ y)
+abbrev as_answer : JobAnswer → Result JobAnswer JobRefusal
+as_answer x = Ok x
+
+many_case : (b : Bool) (y x : JobAnswer) → (if b then Err TooManyCells else as_answer y) ≡ as_answer x → (b ≡ false) × (x ≡ y)
 many_case true y x e = absurd cc
 many_case false y x e = (refl, cc)
 

@@ -16,9 +16,9 @@ use Rattle.job_rules.specs.Tried.{Tried, JobRuns, known, detections, need, cost_
 use Rattle.job_rules.specs.Tried.{most_cost, records_once, reused_among}
 use Rattle.suite_jobs.specs.Jobs.{Allowed, Suite, says, first_of, viable_file, mutant_runs, job_runs}
 use Rattle.suite_jobs.specs.Laws.{steps_of}
-use Rattle.suite_runs.specs.declared.refusal.FailedTest.{FailedTest}
-use Rattle.suite_runs.specs.declared.refusal.JobRefusal.{JobRefusal}
-use Rattle.suite_runs.specs.declared.refusal.JobRefusal.TheVariants.{NotGreen, TooManyCells}
+use Rattle.job_answers.specs.declared.refusal.FailedTest.{FailedTest}
+use Rattle.job_answers.specs.declared.refusal.JobRefusal.{JobRefusal}
+use Rattle.job_answers.specs.declared.refusal.JobRefusal.TheVariants.{NotGreen, TooManyCells}
 
 -- ---- verdicts
 

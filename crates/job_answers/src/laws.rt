@@ -3,8 +3,8 @@
 //!
 //! Each law is the contract of a function that does nothing but call the laws on which it stands.
 
-ghost use Rattle.suite_runs.specs.Laws.{AnswersAreOfAllTests, AnswersAreTrue, CostsAreAsAsked};
-ghost use Rattle.suite_runs.specs.Laws.{EachMutantHasOneVerdict, TrueRecordsChangeNothing};
+ghost use Rattle.job_answers.specs.Laws.{AnswersAreOfAllTests, AnswersAreTrue, CostsAreAsAsked};
+ghost use Rattle.job_answers.specs.Laws.{EachMutantHasOneVerdict, TrueRecordsChangeNothing};
 
 use suite_jobs::{
     jobs_cost_as_asked, reuse_changes_no_answer, runs_are_own, verdicts_are_of_all_tests,

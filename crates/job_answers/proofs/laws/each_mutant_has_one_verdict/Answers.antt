@@ -1,9 +1,9 @@
 use Rattle.std.proofs.Common.{◌∙◌, length, ap, slice_get}
 use Rattle.std.proofs.lemmas.List.{length-map}
 use Rattle.std.proofs.lemmas.Option.{slice_get-map}
-use Rattle.suite_runs.specs.Answers.{verdict_in}
-use Rattle.suite_runs.proofs.Answered.{answered}
-use Rattle.suite_runs.proofs.laws.each_mutant_has_one_verdict.Goals as goal
+use Rattle.job_answers.specs.Answers.{verdict_in}
+use Rattle.job_answers.proofs.Answered.{answered}
+use Rattle.job_answers.proofs.laws.each_mutant_has_one_verdict.Goals as goal
 
 pub returns : goal.returns
 returns c = λ a s old all x e.

@@ -1,6 +1,6 @@
-//! Why a job is refused, and how it fails.
+//! Why a job is refused.
 
-use class_model::{Memory as WantOfMemory, Outcome, Seq};
+use class_model::{Outcome, Seq};
 
 /// A test that doesn't pass on the program as it is, by its number, with how its run ended.
 #[derive(Drop)]
@@ -16,13 +16,4 @@ pub enum JobRefusal {
     NotGreen { failed: Seq<FailedTest> },
     /// More than 4,194,304 tests cover mutants, each counted for each mutant that it covers.
     TooManyCells,
-}
-
-/// Why a job has no answer.
-#[derive(Drop)]
-pub enum JobFault {
-    Refused(JobRefusal),
-    /// Some new record doesn't fit the fields of a history.
-    Unwritable,
-    Memory,
 }

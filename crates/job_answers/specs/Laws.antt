@@ -7,7 +7,7 @@ use Rattle.record_rules.specs.declared.record.RunRecord.{RunRecord}
 use Rattle.record_rules.specs.Jobs.{NeedCost, Cost}
 use Rattle.reuse_laws.specs.Jobs.{AreTrue}
 use Rattle.suite_jobs.specs.Jobs.{Allowed, Suite, IsAccepted, asked_job, job_runs}
-use Rattle.suite_runs.specs.Answers.{JobAnswer, failed_tests, job_answer, job_cost, verdict_in}
+use Rattle.job_answers.specs.Answers.{JobAnswer, failed_tests, job_answer, job_cost, verdict_in}
 
 -- Where all old records are true, they change nothing of the answer.
 abbrev pub TrueRecordsChangeNothing : Type 0

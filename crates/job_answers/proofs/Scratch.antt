@@ -21,10 +21,10 @@ use Rattle.record_rules.specs.Outcomes.{outcome_at}
 use Rattle.job_rules.specs.Tried.{Tried, JobRuns, known, saying, detections, detections_in}
 use Rattle.suite_jobs.specs.Jobs.{Allowed, Suite, says, first_of, numbered, original_tried, viable_file, mutant_runs, job_runs, verdict_on, job_verdict}
 use Rattle.suite_jobs.specs.Laws.{IsOwn, RunsAreOwn, VerdictsAreOfAllTests, JobsCostAsAsked}
-use Rattle.suite_runs.specs.declared.refusal.FailedTest.{FailedTest}
-use Rattle.suite_runs.specs.Answers.{verdict_with, verdict_of_runs, verdict_in, unless_passed, failed_by, failed_tests, job_answer, cost_by}
-use Rattle.suite_runs.specs.Laws.{IsOfAllTests, AnswersAreOfAllTests, CostsAsAsked, CostsAreAsAsked}
-use Rattle.suite_runs.proofs.Answered.{answered}
+use Rattle.job_answers.specs.declared.refusal.FailedTest.{FailedTest}
+use Rattle.job_answers.specs.Answers.{verdict_with, verdict_of_runs, verdict_in, unless_passed, failed_by, failed_tests, job_answer, cost_by}
+use Rattle.job_answers.specs.Laws.{IsOfAllTests, AnswersAreOfAllTests, CostsAsAsked, CostsAreAsAsked}
+use Rattle.job_answers.proofs.Answered.{answered}
 
 -- ---- verdicts by the first detection
 
