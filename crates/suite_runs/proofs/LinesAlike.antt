@@ -17,7 +17,7 @@ use Rattle.mutator_ops.specs.declared.mutant.Mutant.{Mutant}
 use Rattle.mutant_runs.specs.Runs.{is_at}
 use Rattle.record_rules.specs.declared.record.RunRecord.{RunRecord}
 use Rattle.suite_jobs.specs.Jobs.{has_reached, name_at}
-use Rattle.suite_runs.specs.Reaching.{class_named, line_in, lines_in}
+use Rattle.suite_runs.specs.Reaching.{class_id, class_named, line_in, lines_in}
 
 or_none : (b : Bool) → (b || false) ≡ b
 or_none true = refl
@@ -41,7 +41,7 @@ module _ (p : List Info) (m : Mutant) (id : ℕ) (here : number_of p m.class ≡
   none_case name line false e n = refl
   none_case name line true e n = let no : None ≡ Some id = sym n ∙ ap (number_of p) (same_text name m.class e) ∙ here in absurd cc
 
-  line_case : (name : Name) (line : ℕ) (o : Option ℕ) → number_of p name ≡ o → is_listed (id, m.line) (option_to_list (option_map (λ (c : ClassId). (c, line)) (option_map (λ (k : ℕ). record { 0 = k }) o))) ≡ is_at m (name, line)
+  line_case : (name : Name) (line : ℕ) (o : Option ℕ) → number_of p name ≡ o → is_listed (id, m.line) (option_to_list (option_map (λ (c : ClassId). (c, line)) (option_map class_id o))) ≡ is_at m (name, line)
   line_case name line None e = none_case name line (same name m.class) refl e
   line_case name line (Some k) e = or_none (nat_eq k id && line == m.line) ∙ ap (λ (c : Bool). c && line == m.line) (tie name k (same name m.class) (nat_eq k id) refl refl e)
 

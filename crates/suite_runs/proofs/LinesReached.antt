@@ -22,13 +22,13 @@ use Rattle.suite_workers.specs.Said.{known_record}
 use Rattle.suite_workers.specs.declared.old_records.FoundRun.{FoundRun}
 use Rattle.suite_workers.specs.declared.said.KnownRun.{KnownRun}
 use Rattle.suite_runs.specs.declared.reached.NamedClasses.{NamedClasses}
-use Rattle.suite_runs.specs.Reaching.{class_named, classes_named, classes_in, line_in, lines_in, CoversKnown}
+use Rattle.suite_runs.specs.Reaching.{class_id, class_named, classes_named, classes_in, line_in, lines_in, CoversKnown}
 use Rattle.suite_runs.specs.Placing.{AreNamed, class_at, lines_at}
 
 -- a number that was found
-pub class_is : (r : Option ClassId) (n : Option ℕ) → IfSome r (λ id. n ≡ Some id.0) → IfNone r (n ≡ None) → r ≡ option_map (λ k. record { 0 = k }) n
-class_is None n s e = ap (option_map (λ (k : ℕ). record { 0 = k })) (sym e)
-class_is (Some id) n s e = ap (option_map (λ (k : ℕ). record { 0 = k })) (sym s)
+pub class_is : (r : Option ClassId) (n : Option ℕ) → IfSome r (λ id. n ≡ Some id.0) → IfNone r (n ≡ None) → r ≡ option_map class_id n
+class_is None n s e = ap (option_map class_id) (sym e)
+class_is (Some id) n s e = ap (option_map class_id) (sym s)
 
 -- one line more
 pub lines_more : (classes : List (Option ClassId)) (nameless : Option ClassId) (reached : List (ℕ × ℕ)) (i : ℕ) (x : ℕ × ℕ) → i < length reached → x ≡ get_or reached i x

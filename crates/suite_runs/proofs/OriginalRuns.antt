@@ -15,7 +15,7 @@ use Rattle.suite_workers.specs.Said.{known_record, is_found}
 use Rattle.suite_workers.specs.declared.look_ups.LookUps.{LookUps}
 use Rattle.suite_workers.specs.declared.said.KnownRun.{KnownRun}
 use Rattle.suite_runs.specs.declared.job.SuiteJob.{SuiteJob}
-use Rattle.suite_runs.specs.Originals.{run_tried, tried_from, all_tried, original_cost, AreKnown, IsKnown, Costs, CostsAtMost, MayRunOriginals}
+use Rattle.suite_runs.specs.Originals.{run_asked, run_tried, tried_from, all_tried, original_cost, AreKnown, IsKnown, Costs, CostsAtMost, MayRunOriginals}
 
 cost_push : (ts : List (Tried RunRecord)) (t : Tried RunRecord) → cost_of steps_of (ts ++ t ∷ []) ≡ cost_of steps_of ts + cost_of_run steps_of t
 cost_push [] t = omega arith
@@ -69,7 +69,8 @@ module _ (p : List Info) (j : SuiteJob) (l : LookUps) where
   module _ (law : RunsKeepLimits) (fit : j.steps ≤ most_steps) where
     run_most : (k : ℕ) → one_cost k ≤ 10000000
     run_most k =
-        let within = (law _ _ _ _).0 in
+        let x = run_asked p j k in
+        let within : (run_tried p j l k).made.steps ≤ j.steps = (law x.look x.test x.limits x.limit).0 in
         cost_case (run_tried p j l k).found (run_tried p j l k).made.steps 10000000 (omega (arith, within, fit))
 
     costs_most : (ns : List ℕ) → cost_of steps_of (map (run_tried p j l) ns) ≤ length ns * 10000000

@@ -17,10 +17,13 @@ use Rattle.suite_jobs.specs.Jobs.{name_at}
 use Rattle.suite_workers.specs.Said.{known_record}
 use Rattle.suite_workers.specs.declared.said.KnownRun.{KnownRun}
 
+abbrev pub class_id : ℕ → ClassId
+class_id k = record { 0 = k }
+
 module _ (p : List Info) where
   -- The class of a name.
   abbrev pub class_named : Name → Option ClassId
-  class_named name = option_map (λ k. record { 0 = k }) (number_of p name)
+  class_named name = option_map class_id (number_of p name)
 
   -- Those that texts name, and those that entries of a history with these texts name.
   abbrev pub classes_named : List (List ℕ) → List (Option ClassId)

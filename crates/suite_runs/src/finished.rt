@@ -1,6 +1,12 @@
 //! What a job makes of what its cells said.
 
 use crate::fault::JobFault;
+ghost use Rattle.std.specs.Prelude.{All, List};
+ghost use Rattle.class_link.specs.Info.{Info};
+ghost use Rattle.suite_runs.specs.Keeping.{IsOf, history_in};
+ghost use Rattle.suite_runs.specs.Preparing.{AreOfJob, Finishes};
+ghost use Rattle.suite_runs.specs.declared.job.SuiteJob.{SuiteJob as Job};
+
 use crate::job::JobDone;
 use crate::prepared::Prepared;
 use crate::records::push_needed;
@@ -59,7 +65,12 @@ pub fn finish<'a>(
     old: OldRecords<'a>,
     ready: &Prepared<'a>,
     said: CellsSaid<'a>,
-) -> Result<JobDone<'a>, JobFault> {
+) -> Result<JobDone<'a>, JobFault>
+    requires runs { AreOfJob old ready.now }
+    requires records { All (IsOf (history_in old)) said.records }
+    ensures { (p : List Info) (j : Job) →
+        Finishes p j old.entry ready.now said.entry result }
+{
     let CellsSaid {
         detections,
         records,

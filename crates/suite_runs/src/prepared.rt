@@ -1,5 +1,13 @@
 //! What a job needs before its cells are run.
 
+ghost use Rattle.std.specs.Prelude.{◌≡◌, ◌<◌, ◌^◌, length, All, IfOk};
+ghost use Rattle.suite_workers.specs.Old.{AreLookUps, old_of, records_in};
+ghost use Rattle.suite_runs.specs.Ending.{MayRunJob};
+ghost use Rattle.suite_runs.specs.Keeping.{IsOf, history_in};
+ghost use Rattle.suite_runs.specs.Originals.{same_steps};
+ghost use Rattle.suite_runs.specs.Preparing.{AreOfJob, Prepares, PreparingMeters};
+ghost use Rattle.suite_runs.specs.Reaching.{CoversKnown};
+
 use crate::bounds::bounds_of;
 use crate::covering::{cell_count, covering_all, refuse_many};
 use crate::failed::{failed_of, refuse_failed};
@@ -34,7 +42,11 @@ fn original_look_ups<'a>(
     program: &Program,
     job: &SuiteJob,
     old: OldRecords<'a>,
-) -> Result<LookUps<'a>, Memory> {
+) -> Result<LookUps<'a>, Memory>
+    ensures of { IfOk result
+        (AreLookUps program.now job.now.tests.now job.now.limits (same_steps job.now)) }
+    ensures old { IfOk result (λ l. old_of l ≡ records_in old.entry) }
+{
     let steps = vec![in alloc; job.steps; job.tests.len()]?;
     LookUps::new(alloc, old, program, job.tests, job.limits, steps.as_slice())
 }
@@ -63,7 +75,11 @@ fn coverage<'a>(
     program: &Program,
     old: OldRecords<'a>,
     runs: &[KnownRun<'a>],
-) -> Result<Coverage, Memory> {
+) -> Result<Coverage, Memory>
+    requires few { length runs.now < 2 ^ 32 }
+    requires of { All (IsOf (history_in old)) runs.now }
+    ensures { IfOk result (CoversKnown program.now runs.now) }
+{
     let named = NamedClasses::of(alloc, program, old)?;
     let cover = coverage_of(alloc, program, &named, runs)?;
     Ok(cover)
@@ -89,7 +105,13 @@ pub fn prepare<'a>(
     job: &SuiteJob<'a>,
     old: OldRecords<'a>,
     meter: &mut Meter,
-) -> Result<Prepared<'a>, JobFault> {
+) -> Result<Prepared<'a>, JobFault>
+    requires { MayRunJob program.old job.now old meter.old }
+    ensures prepared { Prepares program.old job.now old.entry result }
+    ensures meter { PreparingMeters program.old job.now old.entry meter.old meter.new result }
+    ensures of { IfOk result (AreOfJob old.entry) }
+    ensures same { program.new ≡ program.old }
+{
     let runs = original_runs(alloc, program, job, old, meter)?;
     let failed = failed_of(alloc, runs.as_slice())?;
     refuse_failed(failed)?;
