@@ -1,11 +1,11 @@
 -- What an answer says of what it was made of.
-use Rattle.std.proofs.Common.{◌≡◌, ◌∙◌, ℕ, Bool, true, false, List, [], ◌∷◌, Result, Ok, Err, refl, sym, ap}
+use Rattle.std.proofs.Common.{◌≡◌, Bool, true, false, List, [], ◌∷◌, Result, Ok, Err, refl}
 use Rattle.std.specs.Prelude.{nat_lt, if◌then◌else◌}
 use Rattle.record_rules.specs.declared.record.RunRecord.{RunRecord}
 use Rattle.suite_jobs.specs.Jobs.{Allowed, Suite, job_runs}
 use Rattle.job_answers.specs.declared.refusal.FailedTest.{FailedTest}
 use Rattle.job_answers.specs.declared.refusal.JobRefusal.{JobRefusal}
-use Rattle.job_answers.specs.declared.refusal.JobRefusal.TheVariants.{NotGreen, TooManyCells}
+use Rattle.job_answers.specs.declared.refusal.JobRefusal.TheVariants.{TooManyCells}
 use Rattle.job_answers.specs.Answers.{JobAnswer, failed_tests, cell_total, most_cells, unless_failed, unless_many, answer_by, job_answer}
 
 abbrev as_answer : JobAnswer → Result JobAnswer JobRefusal

@@ -1,6 +1,6 @@
 -- Where all old records are true, a job answers what the runs of all tests say.
-use Rattle.std.proofs.Common.{◌≡◌, ◌∙◌, ◌⊎◌, inl, inr, ℕ, ◌+◌, Bool, true, false, List, [], ◌∷◌, ◌++◌, map, Option, Some, None, Ok, refl, sym, ap, ap₂, subst}
-use Rattle.std.specs.Prelude.{All, if◌then◌else◌}
+use Rattle.std.proofs.Common.{◌≡◌, ◌∙◌, ◌⊎◌, inl, inr, ℕ, ◌+◌, false, List, [], ◌∷◌, ◌++◌, map, Option, Some, None, refl, sym, ap, ap₂, subst}
+use Rattle.std.specs.Prelude.{All}
 use Rattle.std.specs.List.{flat_map, enumerate_from}
 use Rattle.std.specs.Option.{option_map_or, unwrap_or}
 use Rattle.std.proofs.lemmas.List.Concat.{flat_map-cons}
@@ -15,15 +15,15 @@ use Rattle.mutator_ops.specs.declared.mutant.Mutant.{Mutant}
 use Rattle.mutator_ops.specs.declared.mutant.State.{State}
 use Rattle.mutator_ops.specs.declared.mutant.Verdict.{Verdict}
 use Rattle.mutant_runs.specs.Verdicts.{verdict_by, not_viable}
-use Rattle.suite_laws.specs.Covered.{original_run, AllPass}
+use Rattle.suite_laws.specs.Covered.{original_run}
 use Rattle.record_rules.specs.declared.record.RunRecord.{RunRecord}
 use Rattle.record_rules.specs.Outcomes.{outcome_at}
-use Rattle.job_rules.specs.Tried.{Tried, JobRuns, known, saying, detections, detections_in}
-use Rattle.suite_jobs.specs.Jobs.{Allowed, Suite, says, first_of, numbered, original_tried, viable_file, mutant_runs, job_runs, verdict_on, job_verdict}
+use Rattle.job_rules.specs.Tried.{Tried, known, saying, detections, detections_in}
+use Rattle.suite_jobs.specs.Jobs.{Allowed, Suite, says, first_of, original_tried, viable_file, mutant_runs, job_runs, verdict_on, job_verdict}
 use Rattle.suite_jobs.specs.Laws.{IsOwn, RunsAreOwn, VerdictsAreOfAllTests, JobsCostAsAsked}
 use Rattle.job_answers.specs.declared.refusal.FailedTest.{FailedTest}
-use Rattle.job_answers.specs.Answers.{verdict_with, verdict_of_runs, verdict_in, unless_passed, failed_by, failed_tests, job_answer, cost_by}
-use Rattle.job_answers.specs.Laws.{IsOfAllTests, AnswersAreOfAllTests, CostsAsAsked, CostsAreAsAsked}
+use Rattle.job_answers.specs.Answers.{verdict_with, verdict_of_runs, verdict_in, unless_passed, failed_by, cost_by}
+use Rattle.job_answers.specs.Laws.{AnswersAreOfAllTests, CostsAreAsAsked}
 use Rattle.job_answers.proofs.Answered.{answered}
 
 -- ---- verdicts by the first detection

@@ -1,5 +1,5 @@
 -- What true old records leave as it is.
-use Rattle.std.proofs.Common.{◌≡◌, ◌∙◌, ℕ, Bool, List, [], ◌∷◌, ◌++◌, ◌+◌, length, map, Option, Some, None, Ok, refl, sym, ap, ap₂}
+use Rattle.std.proofs.Common.{◌≡◌, ◌∙◌, ℕ, Bool, List, [], ◌∷◌, ◌++◌, ◌+◌, length, map, Ok, refl, sym, ap, ap₂}
 use Rattle.std.specs.Prelude.{sum_by}
 use Rattle.std.specs.List.{flat_map}
 use Rattle.std.specs.Option.{option_map_or}
@@ -9,15 +9,14 @@ use Rattle.std.proofs.lemmas.List.Sums.{sum_by-cons}
 use Rattle.class_model.specs.declared.class.Class.{Class}
 use Rattle.class_table.specs.declared.scripted.Test.{Test}
 use Rattle.mutator_ops.specs.declared.mutant.Mutant.{Mutant}
-use Rattle.mutator_ops.specs.declared.mutant.State.{State}
 use Rattle.mutator_ops.specs.declared.mutant.Verdict.{Verdict}
 use Rattle.mutant_runs.specs.Verdicts.{not_viable}
 use Rattle.record_rules.specs.declared.record.RunRecord.{RunRecord}
-use Rattle.job_rules.specs.Tried.{Tried, JobRuns, known, detections}
+use Rattle.job_rules.specs.Tried.{Tried, known, detections}
 use Rattle.suite_jobs.specs.Jobs.{Allowed, Suite, says, numbered, original_tried, viable_file, mutant_runs, job_runs}
 use Rattle.suite_jobs.specs.Laws.{ReuseChangesNoAnswer}
 use Rattle.job_answers.specs.declared.refusal.FailedTest.{FailedTest}
-use Rattle.job_answers.specs.Answers.{JobAnswer, verdict_with, verdict_of_runs, verdict_in, unless_passed, failed_by, failed_tests, cell_total, unless_failed, unless_many, answer_by, job_answer}
+use Rattle.job_answers.specs.Answers.{verdict_with, verdict_of_runs, verdict_in, unless_passed, failed_by, failed_tests, cell_total, unless_failed, unless_many, answer_by, job_answer}
 use Rattle.job_answers.specs.Laws.{TrueRecordsChangeNothing}
 
 abbrev Runs : Type 0

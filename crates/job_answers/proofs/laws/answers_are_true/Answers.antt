@@ -1,6 +1,5 @@
-use Rattle.std.proofs.Common.{List, sym, ap, subst}
+use Rattle.std.proofs.Common.{sym, ap, subst}
 use Rattle.class_records.specs.Profile.{profile}
-use Rattle.record_rules.specs.declared.record.RunRecord.{RunRecord}
 use Rattle.reuse_laws.specs.Jobs.{AreTrue}
 use Rattle.job_answers.proofs.Answered.{answered}
 use Rattle.job_answers.proofs.laws.answers_are_true.Goals as goal
