@@ -6,3 +6,4 @@ pub mod Placing
 pub mod Originals
 pub mod Keeping
 pub mod Ending
+pub mod Preparing

@@ -1,12 +1,12 @@
 //! What a job makes of what its cells said.
 
-use crate::fault::JobFault;
 ghost use Rattle.std.specs.Prelude.{All, List};
 ghost use Rattle.class_link.specs.Info.{Info};
 ghost use Rattle.suite_runs.specs.Keeping.{IsOf, history_in};
 ghost use Rattle.suite_runs.specs.Preparing.{AreOfJob, Finishes};
 ghost use Rattle.suite_runs.specs.declared.job.SuiteJob.{SuiteJob as Job};
 
+use crate::fault::JobFault;
 use crate::job::JobDone;
 use crate::prepared::Prepared;
 use crate::records::push_needed;

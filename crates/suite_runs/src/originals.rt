@@ -84,7 +84,7 @@ fn original<'a>(
 
 /// What is known of the run of each test, in their order. The steps of those that are made are
 /// counted in the part.
-pub fn originals<'a>(
+pub fn originals_of<'a>(
     alloc: Global,
     program: &Program,
     tables: &mut Tables,

@@ -13,7 +13,7 @@ use crate::covering::{cell_count, covering_all, refuse_many};
 use crate::failed::{failed_of, refuse_failed};
 use crate::fault::JobFault;
 use crate::job::SuiteJob;
-use crate::originals::originals;
+use crate::originals::originals_of;
 use crate::reached::{NamedClasses, coverage_of};
 use class_model::{Memory, Seq};
 use class_table::Program;
@@ -64,7 +64,7 @@ fn original_runs<'a>(
         unreachable!()
     };
     let mut part = meter.split();
-    let runs = originals(alloc, program, &mut tables, &look_ups, job, &mut part);
+    let runs = originals_of(alloc, program, &mut tables, &look_ups, job, &mut part);
     meter.join(part);
     runs
 }

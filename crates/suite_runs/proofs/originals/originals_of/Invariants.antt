@@ -3,7 +3,7 @@ use Rattle.jvm_step.specs.Tables.{AreTablesOf}
 use Rattle.job_rules.specs.Tried.{cost_of}
 use Rattle.suite_jobs.specs.Laws.{steps_of}
 use Rattle.suite_runs.specs.Originals.{AreKnown, tried_from}
-use Rattle.suite_runs.proofs.originals.originals.Given as goal
+use Rattle.suite_runs.proofs.originals.originals_of.Given as goal
 
 abbrev pub invariant-loop-number : goal.invariant-loop-number
 invariant-loop-number l = record {
