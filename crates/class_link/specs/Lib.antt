@@ -1,5 +1,6 @@
 pub mod Symbols
 pub mod Opcodes
+pub mod Bootstraps
 pub mod Linking
 pub mod View
 pub mod Switches
