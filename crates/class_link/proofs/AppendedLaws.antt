@@ -9,7 +9,7 @@ use Rattle.class_model.specs.declared.instruction.Insn.{Insn}
 use Rattle.class_model.specs.declared.instruction.Arg.{Arg}
 use Rattle.class_model.specs.declared.instruction.Arg.TheVariants as arg
 use Rattle.class_model.specs.Pool.{entry_of, text_in, class_in, pair_in, text_of, class_name_of, pair_name_of, pair_desc_of, IsEntry, IsPoolForm}
-use Rattle.class_link.specs.Symbols.{Symbol, IsText, IsClass, IsField, IsMethod, name_or_empty, field_ref, method_ref, symbol_in, symbol_or_other, symbol_at}
+use Rattle.class_link.specs.Symbols.{Symbol, IsText, IsClass, IsField, IsMethod, IsDynamic, name_or_empty, field_ref, method_ref, dynamic_ref, symbol_in, symbol_or_other, symbol_at}
 use Rattle.class_link.specs.Opcodes.{with_operand, with_symbol, with_count, instruction_by, instruction_in}
 use Rattle.class_link.specs.Appended.{NamesWithin}
 
@@ -119,7 +119,10 @@ module _ (pool more : List Const) where
   symbol_kept (const.Pair name desc) form h = refl
   symbol_kept (const.Handle kind member) form h = refl
   symbol_kept (const.MethodKind desc) form h = refl
-  symbol_kept (const.Dynamic bootstrap pair) form h = refl
+  symbol_kept (const.Dynamic bootstrap pair) form h =
+      let some = some_of _ (pair_desc_of pool pair) h.1 in
+      ap (λ (o : Option Name). IsDynamic (dynamic_ref bootstrap (name_or_empty o) (name_or_empty (pair_desc_of (pool ++ more) pair)))) (name_kept pair (pair_named pair form some))
+      ∙ ap (λ (o : Option Name). IsDynamic (dynamic_ref bootstrap (name_or_empty (pair_name_of pool pair)) (name_or_empty o))) (desc_kept pair some)
   symbol_kept const.Second form h = refl
 
   meaning_case : (i : ℕ) (o : Option Const) → entry_of pool i ≡ o → IsPoolForm pool → symbol_or_other (pool ++ more) o ≡ symbol_or_other pool o

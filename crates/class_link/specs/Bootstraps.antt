@@ -1,5 +1,5 @@
 -- The bootstrap methods of a class (JVMS 4.7.23), as far as they are of the form that is run.
-use Rattle.std.specs.Prelude.{ℕ, zero, suc, ◌+◌, ◌*◌, ◌&&◌, Bool, if◌then◌else◌, nat_eq, codes, List, [], ◌∷◌, map, Option, Some, None, option_and_then}
+use Rattle.std.specs.Prelude.{ℕ, ◌==◌, ◌&&◌, Bool, if◌then◌else◌, nat_eq, codes, List, [], ◌∷◌, length, map, Option, Some, None, Result, Ok, Err}
 use Rattle.std.specs.Option.{option_map}
 use Rattle.class_model.specs.declared.class.Class.{Class}
 use Rattle.class_model.specs.declared.constant.Const.{Const}
@@ -8,44 +8,42 @@ use Rattle.class_model.specs.declared.attribute.Attr.{Attr, out-Attr}
 use Rattle.class_model.specs.declared.attribute.Body.{Body, out-Body}
 use Rattle.class_model.specs.declared.attribute.Body.TheOpen.{Body-F}
 use Rattle.class_model.specs.declared.attribute.Code.{Code}
+use Rattle.class_model.specs.declared.fault.ClassFault.{ClassFault}
 use Rattle.class_model.specs.Pool.{entry_of}
+use Rattle.codec_rules.specs.Input.{Input}
+use Rattle.codec_rules.specs.Reading.{many_at}
+use Rattle.codec_rules.specs.Sequence.{◌>>=◌}
+use Rattle.mt_bytes.specs.Items.{ItemReader, u2_at}
 use Rattle.program_rules.specs.Names.{Name, same}
 use Rattle.program_rules.specs.Instructions.{MethodRef}
 use Rattle.program_rules.specs.Linked.{Bootstrap}
+use Rattle.class_link.specs.declared.bootstraps.RawEntry.{RawEntry}
 use Rattle.class_link.specs.Symbols.{Symbol, IsMethod, symbol_at, kind_of, type_stated, text_named}
 
 -- ---- the attribute's bytes
 
--- So many numbers of two bytes, and what is behind them.
-abbrev pub numbers_before : ℕ → List ℕ → Option (List ℕ × List ℕ)
-numbers_before zero bs = Some ([], bs)
-numbers_before (suc n) (a ∷ b ∷ bs) =
-    option_map (λ r. ((a * 256 + b) ∷ r.0, r.1)) (numbers_before n bs)
-numbers_before (suc n) bs = None
+-- An entry: the index of its method, and those of its arguments, with their number before them.
+unfoldable pub raw_entry_at : ItemReader RawEntry
+raw_entry_at input = do
+  method ← u2_at input
+  count ← u2_at method.1
+  args ← many_at u2_at count.0 count.1
+  Ok (record { method = method.0; args = args.0 }, args.1)
 
--- An entry: the index of its method, and those of its arguments.
-pub record RawEntry : Type 0 where
-  pub method : ℕ
-  pub args : List ℕ
+-- The entries, with their number before them.
+unfoldable pub table_at : ItemReader (List RawEntry)
+table_at input = do
+  count ← u2_at input
+  many_at raw_entry_at count.0 count.1
 
--- The first entry, and what is behind it.
-abbrev pub entry_before : List ℕ → Option (RawEntry × List ℕ)
-entry_before (a ∷ b ∷ c ∷ d ∷ bs) =
-    option_map (λ r. (record { method = a * 256 + b; args = r.0 }, r.1))
-    (numbers_before (c * 256 + d) bs)
-entry_before bs = None
+-- There are none where the bytes are too few or too many.
+abbrev pub entries_read : Result (List RawEntry × Input) ClassFault → List RawEntry
+entries_read (Ok x) = if length x.1.bytes == 0 then x.0 else []
+entries_read (Err fault) = []
 
--- So many entries, behind which nothing stands.
-abbrev pub entries_in : ℕ → List ℕ → Option (List RawEntry)
-entries_in zero [] = Some []
-entries_in zero (b ∷ bs) = None
-entries_in (suc n) bs =
-    option_and_then (λ r. option_map (λ es. r.0 ∷ es) (entries_in n r.1)) (entry_before bs)
-
--- The whole attribute.
-abbrev pub table_in : List ℕ → Option (List RawEntry)
-table_in (a ∷ b ∷ bs) = entries_in (a * 256 + b) bs
-table_in bs = None
+-- The entries of the whole attribute.
+abbrev pub entries_in : List ℕ → List RawEntry
+entries_in bytes = entries_read (table_at (record { at = 0; bytes = bytes }))
 
 -- ---- entries of the form
 
@@ -81,8 +79,8 @@ abbrev pub type_at : List Const → ℕ → Option Name
 type_at pool index = type_of pool (entry_of pool index)
 
 -- Of the interface's method, the target and the instantiated type.
-abbrev pub bootstrap_of : Name → ℕ × MethodRef → Name → Bootstrap
-bootstrap_of desc target inst = record {
+abbrev pub bootstrap_made : Name → ℕ × MethodRef → Name → Bootstrap
+bootstrap_made desc target inst = record {
   desc = desc;
   args = map kind_of (type_stated desc).args;
   result = option_map kind_of (type_stated desc).ret;
@@ -93,7 +91,7 @@ bootstrap_of desc target inst = record {
 
 abbrev pub bootstrap_with :
     Option Name → Option (ℕ × MethodRef) → Option Name → Option Bootstrap
-bootstrap_with (Some desc) (Some target) (Some inst) = Some (bootstrap_of desc target inst)
+bootstrap_with (Some desc) (Some target) (Some inst) = Some (bootstrap_made desc target inst)
 bootstrap_with desc target inst = None
 
 -- The three arguments.
@@ -117,21 +115,20 @@ abbrev pub raw_of : Body-F Body Attr Code → List ℕ
 raw_of (Body-F.Raw bytes) = bytes
 raw_of other = []
 
+-- Whether an attribute is one.
+abbrev pub is_table : List Const → Attr → Bool
+is_table pool a = same (text_named pool (out-Attr a).name) (codes "BootstrapMethods")
+
 -- Those of all of them.
 abbrev pub tables_of : List Const → List Attr → List (List ℕ)
 tables_of pool [] = []
 tables_of pool (a ∷ attrs) =
-    if same (text_named pool (out-Attr a).name) (codes "BootstrapMethods")
-    then raw_of (out-Body (out-Attr a).body) ∷ tables_of pool attrs
+    if is_table pool a then raw_of (out-Body (out-Attr a).body) ∷ tables_of pool attrs
     else tables_of pool attrs
-
-abbrev pub entries_or_none : Option (List RawEntry) → List RawEntry
-entries_or_none None = []
-entries_or_none (Some es) = es
 
 -- The entries of the one attribute, none where it isn't the only one or isn't well formed.
 abbrev pub entries_by : List (List ℕ) → List RawEntry
-entries_by (bytes ∷ []) = entries_or_none (table_in bytes)
+entries_by (bytes ∷ []) = entries_in bytes
 entries_by other = []
 
 -- The bootstrap methods of a class.

@@ -72,10 +72,11 @@ abbrev pub HaveBodyAt :
 HaveBodyAt es pool old k attrs new =
     map (method_of es) new ≡ with_body_at k (body_by pool attrs) (map (method_of es) old)
 
--- What isn't edited: all but the methods and the entries is the first class's.
+-- What isn't edited: all but the methods, the entries and the bootstrap methods is the first class's.
 abbrev pub SharesRest :
     code_class.LinkedClass → code_class.LinkedClass → code_class.LinkedClass → Type 0
-SharesRest c old new = new ≡ record c { methods = old.methods; entries = old.entries }
+SharesRest c old new =
+    new ≡ record c { methods = old.methods; entries = old.entries; bootstraps = old.bootstraps }
 
 -- A class of the code is another one with these entries of a pool, and with the body at a place
 -- that attributes give there.

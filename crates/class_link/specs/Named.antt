@@ -4,11 +4,13 @@ use Rattle.std.specs.Prelude.{◌≡◌, ℕ, Bool, List, map, Option}
 use Rattle.std.specs.Option.{option_map}
 use Rattle.class_model.specs.declared.attribute.Attr.{Attr}
 use Rattle.class_model.specs.declared.attribute.Code.{Code}
+use Rattle.class_model.specs.declared.class.Class.{Class}
 use Rattle.class_model.specs.declared.class.Member.{Member}
 use Rattle.class_model.specs.declared.constant.Const.{Const}
 use Rattle.class_model.specs.Pool.{pair_name_of, pair_desc_of}
 use Rattle.program_rules.specs.Names.{Name}
 use Rattle.program_rules.specs.Linked.{HasCode, method_place}
+use Rattle.class_link.specs.declared.linked.Bootstrap.{Bootstrap}
 use Rattle.class_link.specs.declared.linked.Entry.{Entry}
 use Rattle.class_link.specs.declared.linked.FieldConstant.{FieldConstant}
 use Rattle.class_link.specs.declared.linked.LinkedBody.{LinkedBody}
@@ -16,9 +18,10 @@ use Rattle.class_link.specs.declared.linked.LinkedCode.{LinkedCode}
 use Rattle.class_link.specs.declared.linked.LinkedMethod.{LinkedMethod}
 use Rattle.class_link.specs.declared.loaded.LibBody.{LibBody}
 use Rattle.class_link.specs.declared.loaded.LibMethod.{LibMethod}
+use Rattle.class_link.specs.Bootstraps.{bootstraps_in}
 use Rattle.class_link.specs.Linking as linking
-use Rattle.class_link.specs.Symbols.{IsField, IsMethod, name_or_empty, class_named, field_ref, method_ref}
-use Rattle.class_link.specs.View.{symbol_of, constant_of, code_of, body_of, method_of}
+use Rattle.class_link.specs.Symbols.{IsField, IsMethod, IsDynamic, name_or_empty, class_named, field_ref, method_ref, dynamic_ref}
+use Rattle.class_link.specs.View.{symbol_of, bootstrap_of, constant_of, code_of, body_of, method_of}
 
 -- ---- entries
 
@@ -40,6 +43,12 @@ NamesMethod pool class pair interface e =
     symbol_of e
     ≡ IsMethod (method_ref interface (class_named pool class) (name_in_pair pool pair)
     (desc_in_pair pool pair))
+
+-- And those of a dynamic call site's: a place and an index.
+abbrev pub NamesDynamic : List Const → ℕ → ℕ → Entry → Type 0
+NamesDynamic pool bootstrap pair e =
+    symbol_of e
+    ≡ IsDynamic (dynamic_ref bootstrap (name_in_pair pool pair) (desc_in_pair pool pair))
 
 -- ---- fields
 
@@ -76,6 +85,10 @@ AreMethodsIn es pool members ms = map (method_of es) ms ≡ map (linking.method_
 abbrev pub IsPlaceIn : List LinkedMethod → Name → Name → Option ℕ → Type 0
 IsPlaceIn ms name desc place =
     (es : List Entry) → method_place name desc (map (method_of es) ms) ≡ place
+
+-- The bootstrap methods of a class file.
+abbrev pub AreBootstraps : List (Option Bootstrap) → Class → Type 0
+AreBootstraps bs class = map (option_map bootstrap_of) bs ≡ bootstraps_in class
 
 -- ---- the library
 

@@ -65,6 +65,7 @@ pub enum Instruction {
     InvokeInterface(u32),
     InvokeSpecial(u32),
     InvokeStatic(u32),
+    InvokeDynamic(u32),
     New(u32),
     /// An array of elements of this number: 4 boolean, 5 char, 8 byte, 9 short, 10 int, 11 long
     /// (JVMS 6.5, newarray).

@@ -34,6 +34,30 @@ pub struct FieldRef {
     pub kind: Shared<Kind>,
 }
 
+/// A dynamic call site, with what its descriptor states (JVMS 4.3.3, 4.4.10): the place of its
+/// bootstrap method among those of the class, and the name of the method that its object has. A
+/// result of `None` is void.
+#[derive(Drop)]
+pub struct DynamicRef {
+    pub bootstrap: u16,
+    pub name: Shared<Name>,
+    pub args: Shared<Seq<Kind>>,
+    pub result: Shared<Option<Kind>>,
+}
+
+/// A bootstrap method of the form that is run, `LambdaMetafactory.metafactory`, with its arguments
+/// (JVMS 4.7.23): the type of the interface's method, what is called by its kind of handle (JVMS
+/// 4.4.8), and what the instantiated type takes.
+#[derive(Drop)]
+pub struct Bootstrap {
+    pub desc: Shared<Name>,
+    pub args: Shared<Seq<Kind>>,
+    pub result: Shared<Option<Kind>>,
+    pub kind: u8,
+    pub target: MethodRef,
+    pub inst_args: Shared<Seq<Kind>>,
+}
+
 /// An entry of the run-time constant pool (JVMS 5.1): what an index means to an instruction.
 #[derive(Drop)]
 pub enum Entry {
@@ -45,6 +69,7 @@ pub enum Entry {
     Class(Shared<Name>),
     Field(FieldRef),
     Method(MethodRef),
+    Dynamic(DynamicRef),
 }
 
 /// A `tableswitch` or a `lookupswitch` (JVMS 6.5).
@@ -136,6 +161,8 @@ pub struct LinkedClass {
     /// The run-time constant pool by the indices of the class file. At place 0, which is no index,
     /// stands `Other`.
     pub entries: Shared<Seq<Entry>>,
+    /// The bootstrap methods in order, none for one that isn't of the form that is run.
+    pub bootstraps: Shared<Seq<Option<Bootstrap>>>,
 }
 
 impl LinkedClass {

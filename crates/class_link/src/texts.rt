@@ -121,6 +121,13 @@ impl Text {
         })
     }
 
+    /// The units of the text.
+    pub fn units(&self) -> &[u16]
+        ensures { result.now ≡ self.now }
+    {
+        self.name.as_slice()
+    }
+
     /// The text.
     pub fn name(&self) -> Result<Shared<Name>, Memory>
         ensures { IfOk result (λ n. n ≡ self.now) }

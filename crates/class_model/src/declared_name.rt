@@ -5,13 +5,16 @@ ghost use Rattle.std.specs.Char.Utf16.{is_high_surrogate, is_low_surrogate, has_
 ghost use Rattle.std.specs.List.{list_all};
 ghost use Rattle.class_model.specs.Steps.{behind_char};
 ghost use Rattle.class_model.specs.Parting.{parted_at};
-ghost use Rattle.class_model.specs.DeclaredName.{is_reserved, is_special, is_field_name, is_method_name, is_class_name};
+ghost use Rattle.class_model.specs.DeclaredName.{is_reserved, is_special, is_field_name, is_method_name, is_class_name, is_adapter_name};
 
 const SLASH: u16 = b'/' as u16;
 
 const INIT: [u16; 6] = [60, 105, 110, 105, 116, 62];
 
 const CLASS_INIT: [u16; 8] = [60, 99, 108, 105, 110, 105, 116, 62];
+
+// `mt/Site;`.
+const ADAPTER: [u16; 8] = [109, 116, 47, 83, 105, 116, 101, 59];
 
 fn is_high_surrogate(unit: u16) -> bool
     ensures { result ≡ is_high_surrogate unit }
@@ -124,4 +127,12 @@ pub fn is_class_name(name: &[u16]) -> bool
         rest = behind;
     }
     is_field_name(rest)
+}
+
+/// Whether it is as the names of adapters, the classes of the objects that dynamic call sites make.
+/// No class file declares or uses one.
+pub fn is_adapter_name(name: &[u16]) -> bool
+    ensures { result ≡ is_adapter_name name.now }
+{
+    name.starts_with(&ADAPTER)
 }

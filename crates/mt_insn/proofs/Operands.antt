@@ -12,8 +12,8 @@ use Rattle.codec_rules.specs.Sequence.{◌>>=◌}
 use Rattle.codec_rules.specs.Spelling.{IsCodecAt}
 use Rattle.codec_rules.proofs.Codec.{chain, made, made_tested, reread}
 use Rattle.mt_insn.specs.Item.{u1_in, u2_in, s1_in, s2_in, s4_in}
-use Rattle.mt_insn.specs.Named.{names, is_loaded, is_long, is_interface_method, is_class, is_counted, is_array_kind, loaded_refusal, long_refusal, array_refusal}
-use Rattle.mt_insn.specs.Operands.{small_number_at, wide_number_at, small_constant_at, constant_at, long_constant_at, local_at, increment_at, wide_local_at, wide_increment_at, jump_at, far_jump_at, named_at, interface_at, array_at, dimensions_at}
+use Rattle.mt_insn.specs.Named.{names, is_loaded, is_long, is_interface_method, is_class, is_dynamic, is_counted, is_array_kind, loaded_refusal, long_refusal, array_refusal}
+use Rattle.mt_insn.specs.Operands.{small_number_at, wide_number_at, small_constant_at, constant_at, long_constant_at, local_at, increment_at, wide_local_at, wide_increment_at, jump_at, far_jump_at, named_at, interface_at, dynamic_at, array_at, dimensions_at}
 use Rattle.mt_insn.specs.Spelling.{number_in, index_in, count_in, kind_in, local_in, offset_in, u1, u2, s1, s2, s4, IsOperand, IsWideOperand, IsNamed}
 use Rattle.mt_insn.specs.declared.opcode.Form.TheVariants as form
 use Rattle.mt_insn.specs.declared.raw.Operand.{Operand}
@@ -149,4 +149,29 @@ interface_codec pool at =
     (λ n low good. let g = both_true named _ good in let h = both_true (is_counted pool index count) _ g.1 in ((((refl, lt, small, g.0, h.0), refl), refl), sym (eqb-true n 0 h.1)))
     (λ o q. (omega arith, subst (λ (k : ℕ). names is_interface_method pool k && (is_counted pool k count && eqb 0 0) ≡ true) q.0.1 (subst (λ (k : ℕ). names is_interface_method pool (index_in o) && (is_counted pool (index_in o) k && eqb 0 0) ≡ true) q.1 (all_true _ _ q.0.0.3 q.0.0.4)), ap (λ (l : ℕ). operand.Done (arg.Multi l count)) (sym q.0.1) ∙ ap (λ (c : ℕ). operand.Done (arg.Multi (index_in o) c)) (sym q.1) ∙ sym q.0.0.0))))
     (λ o q. q.0.2))
+    (λ o q. q.1)
+
+-- three tests, one after the other, are one
+three_tests : {A : Type 0} (a b c : Bool) (x : A) (e f g : ClassFault) → cond a (cond b (cond c (Ok x) (Err e)) (Err f)) (Err g) ≡ cond (a && (b && c)) (Ok x) (Err (cond a (cond b e f) g))
+three_tests true true c x e f g = refl
+three_tests true false c x e f g = refl
+three_tests false b c x e f g = refl
+
+pub dynamic_codec : (base : ℕ) (pool : List Const) (at : ℕ) → IsCodecAt (dynamic_at pool base at) (λ place o. u2 (index_in o) ++ (u1 0 ++ u1 0)) (IsNamed is_dynamic pool)
+unfolding dynamic_at
+dynamic_codec base pool at =
+    let Q : Operand → Type 0 = IsNamed is_dynamic pool in
+    chain (u2_in at) (λ place. u2) (λ n. n < 2 ^ 16) (λ i index j. u1_in at j >>= λ third. u1_in at third.1 >>= λ fourth. cond (names is_dynamic pool index) (cond (eqb third.0 0) (cond (eqb fourth.0 0) (Ok (pool_of index, fourth.1)) (Err (fault.Padding (base + i.at + 3)))) (Err (fault.Padding (base + i.at + 2)))) (Err (fault.BadIndex (at + 1)))) index_in (λ place o. u1 0 ++ u1 0) Q (u2_codec at)
+    (λ i index lt.
+    chain (u1_in at) (λ place. u1) (λ n. n < 2 ^ 8) (λ k third j. u1_in at j >>= λ fourth. cond (names is_dynamic pool index) (cond (eqb third 0) (cond (eqb fourth.0 0) (Ok (pool_of index, fourth.1)) (Err (fault.Padding (base + i.at + 3)))) (Err (fault.Padding (base + i.at + 2)))) (Err (fault.BadIndex (at + 1)))) (λ o. 0) (λ place o. u1 0) (λ o. Q o × (index_in o ≡ index)) (u1_codec at)
+    (λ k third small.
+    let named = names is_dynamic pool index in
+    let test : ℕ → Bool = λ fourth. named && (eqb third 0 && eqb fourth 0) in
+    let refusal = cond named (cond (eqb third 0) (fault.Padding (base + i.at + 3)) (fault.Padding (base + i.at + 2))) (fault.BadIndex (at + 1)) in
+    reread (λ j. u1_in at j >>= λ fourth. cond (test fourth.0) (Ok (pool_of index, fourth.1)) (Err refusal)) _ (λ place o. u1 0) (λ o. (Q o × (index_in o ≡ index)) × (0 ≡ third))
+    (λ j. bind_same (u1_in at j) _ _ (λ fourth. three_tests named (eqb third 0) (eqb fourth.0 0) (pool_of index, fourth.1) (fault.Padding (base + i.at + 3)) (fault.Padding (base + i.at + 2)) (fault.BadIndex (at + 1))))
+    (made_tested (u1_in at) (λ place. u1) (λ n. n < 2 ^ 8) test (λ fourth. refusal) (λ fourth. pool_of index) (λ o. 0) (λ o. (Q o × (index_in o ≡ index)) × (0 ≡ third)) (u1_codec at)
+    (λ n low good. let g = both_true named _ good in let h = both_true (eqb third 0) _ g.1 in ((((refl, lt, g.0), refl), sym (eqb-true third 0 h.0)), sym (eqb-true n 0 h.1)))
+    (λ o q. (omega arith, subst (λ (k : ℕ). names is_dynamic pool k && (eqb third 0 && eqb 0 0) ≡ true) q.0.1 (subst (λ (t : ℕ). names is_dynamic pool (index_in o) && (eqb t 0 && eqb 0 0) ≡ true) q.1 (all_true _ _ q.0.0.2 refl)), ap pool_of (sym q.0.1) ∙ sym q.0.0.0))))
+    (λ o q. omega arith))
     (λ o q. q.1)

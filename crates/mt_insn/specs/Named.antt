@@ -50,6 +50,11 @@ abbrev pub is_class : Const → Bool
 is_class (const.Class name) = true
 is_class other = false
 
+-- What invokedynamic calls: a dynamic call site.
+abbrev pub is_dynamic : Const → Bool
+is_dynamic (const.Dynamic bootstrap pair) = true
+is_dynamic other = false
+
 abbrev pub is_some_and : {A : Type 0} → (A → Bool) → Option A → Bool
 is_some_and test None = false
 is_some_and test (Some x) = test x

@@ -12,7 +12,7 @@ use Rattle.class_model.specs.declared.fault.ClassFault.TheVariants as fault
 use Rattle.codec_rules.specs.Reading.{many_at}
 use Rattle.codec_rules.specs.Sequence.{◌>>=◌, unless}
 use Rattle.mt_insn.specs.Item.{CodeReader, bytes_in, u1_in, u2_in, u4_in, s1_in, s2_in, s4_in}
-use Rattle.mt_insn.specs.Named.{names, is_loaded, is_long, is_interface_method, is_class, is_counted, is_array_kind, loaded_refusal, long_refusal, array_refusal}
+use Rattle.mt_insn.specs.Named.{names, is_loaded, is_long, is_interface_method, is_class, is_dynamic, is_counted, is_array_kind, loaded_refusal, long_refusal, array_refusal}
 use Rattle.mt_insn.specs.declared.raw.TableItems.{TableItems}
 use Rattle.mt_insn.specs.declared.raw.Operand.{Operand}
 use Rattle.mt_insn.specs.declared.raw.Operand.TheVariants as operand
@@ -99,6 +99,20 @@ interface_at pool at input = do
       then (if is_counted pool index.0 count.0 && last.0 == 0
       then Ok (operand.Done (arg.Multi index.0 count.0), last.1)
       else Err (fault.BadLength at))
+      else Err (fault.BadIndex (at + 1))
+
+-- invokedynamic: the index, and two bytes 0, the first other one of which is told at its place in
+-- the file. `base` is that of the code's first byte.
+unfoldable pub dynamic_at : List Const → ℕ → ℕ → CodeReader Operand
+dynamic_at pool base at input = do
+  index ← u2_in at input
+  third ← u1_in at index.1
+  fourth ← u1_in at third.1
+  if names is_dynamic pool index.0
+      then (if third.0 == 0
+      then (if fourth.0 == 0 then Ok (operand.Done (arg.Pool index.0), fourth.1)
+      else Err (fault.Padding (base + input.at + 3)))
+      else Err (fault.Padding (base + input.at + 2)))
       else Err (fault.BadIndex (at + 1))
 
 -- newarray

@@ -1,10 +1,11 @@
 -- Nothing is told of the entries of a pool exactly where their indices are right.
-use Rattle.std.proofs.Common.{◌≡◌, ℕ, zero, suc, ◌+◌, ◌-◌, ◌^◌, ◌<◌, ◌⊎◌, inl, inr, Bool, true, false, not, eqb, List, [], ◌∷◌, length, Option, Some, None, Result, Ok, Err, refl, sym, ap, subst, ◌∙◌, arith}
+use Rattle.std.proofs.Common.{◌≡◌, ℕ, zero, suc, ◌+◌, ◌-◌, ◌^◌, ◌<◌, ◌⊎◌, inl, inr, Bool, true, false, not, eqb, List, [], ◌∷◌, length, cond, Option, Some, None, Result, Ok, Err, refl, sym, ap, subst, ◌∙◌, arith}
 use Rattle.std.specs.Prelude.{IsTrue, IsSome, IsSomeAnd, is_some, slice_get, option_and_then}
 use Rattle.std.specs.List.{AllByRecursion}
 use Rattle.std.proofs.lemmas.Bool.{eqb-true}
 use Rattle.std.proofs.lemmas.Option.{slice_get_within}
 use Rattle.class_model.specs.DescriptorReading.{field_type_of, method_descriptor_of, field_kind, method_kinds}
+use Rattle.class_model.specs.DeclaredName.{is_adapter_name}
 use Rattle.class_model.specs.Pool.{entry_of, class_in, pair_in, text_of, class_name_of, pair_desc_of, HasKind, HasMethodType, is_handle, IsClassEntryName, IsEntry}
 use Rattle.class_model.specs.Descriptor.{FieldType, MethodDescriptor}
 use Rattle.class_model.specs.declared.constant.Const.{Const}
@@ -137,10 +138,17 @@ only_method desc (inl h) e = let there : is_of_field desc ≡ true = ap is_some 
 only_method desc (inr h) e = h
 
 class_text_passed : (place : ℕ) (name : List ℕ) → class_text_fault place name ≡ good → IsClassEntryName name
-class_text_passed place name e array =
-    let same : class_text_fault place name ≡ desc_verdict place (field_kind name) = rw array refl in
-    let k = desc_passed place (field_kind name) (sym same ∙ e) in
-    HasKind-from_read name k.0 k.1
+class_text_passed place name e = record {
+  plain = plain_by (is_adapter_name name) e;
+  array = λ array.
+      let same : class_text_fault place name ≡ desc_verdict place (field_kind name) = rw (plain_by (is_adapter_name name) e, array) refl in
+      let k = desc_passed place (field_kind name) (sym same ∙ e) in
+      HasKind-from_read name k.0 k.1;
+}
+  where
+    plain_by : (b : Bool) {other : Verdict} → cond b (Err (fault.BadText place)) other ≡ good → b ≡ false
+    plain_by true h = absurd cc
+    plain_by false h = refl
 
 -- ---- an entry of which nothing is told has right indices, where nothing is told of the others
 

@@ -5,6 +5,7 @@ use Rattle.std.specs.Prelude.{ℕ, ◌+◌, Bool, false, is_some, not, nat_eq, L
 use Rattle.std.specs.Prelude.{⊤}
 use Rattle.std.specs.List.{starts_with}
 use Rattle.class_model.specs.Pool.{entry_of, text_of, class_in, pair_in, is_handle}
+use Rattle.class_model.specs.DeclaredName.{is_adapter_name}
 use Rattle.class_model.specs.DescriptorReading.{field_type_of, method_descriptor_of, field_kind, method_kinds}
 use Rattle.class_model.specs.declared.constant.Const.{Const}
 use Rattle.class_model.specs.declared.constant.Const.TheVariants as const
@@ -47,10 +48,13 @@ method_text_fault place desc = desc_verdict place (method_kinds desc)
 abbrev pub member_text_fault : ℕ → List ℕ → Verdict
 member_text_fault place desc = either_desc_verdict place (field_kind desc) (method_kinds desc)
 
--- A class's name is under no rule, unless it begins with `[`: then it is an array's descriptor.
+-- A class's name is none of an adapter, and one that begins with `[` is an array's descriptor. Else
+-- it is under no rule.
 abbrev pub class_text_fault : ℕ → List ℕ → Verdict
 class_text_fault place name =
-    if starts_with nat_eq name (codes "[") then desc_verdict place (field_kind name) else Ok tt
+    if is_adapter_name name then Err (fault.BadText place)
+    else if starts_with nat_eq name (codes "[") then desc_verdict place (field_kind name)
+    else Ok tt
 
 abbrev pub any_text_fault : ℕ → List ℕ → Verdict
 any_text_fault place units = Ok tt

@@ -1,7 +1,7 @@
 //! The mutants of a class.
 
 ghost use Rattle.std.specs.Prelude.{◌≡◌, ◌++◌, IfOk, OnOk};
-ghost use Rattle.mutator_ops.specs.Mutants.{mutant_by, mutants_by, mutants_from, is_synthetic, is_left_out, method_mutants, methods_mutants, class_mutants};
+ghost use Rattle.mutator_ops.specs.Mutants.{mutant_by, mutants_by, mutants_from, is_synthetic, is_bridge, is_left_out, method_mutants, methods_mutants, class_mutants};
 ghost use Rattle.mutator_ops.specs.Table.{row, mutators};
 
 use crate::mutant::Mutant;
@@ -76,11 +76,17 @@ pub fn is_synthetic(flags: u16) -> bool
     flags & 0x1000 != 0
 }
 
-/// The methods aren't mutated that are synthetic or bridges.
-pub fn is_left_out(flags: u16) -> bool
-    ensures { result ≡ is_left_out flags }
+fn is_bridge(flags: u16) -> bool
+    ensures { result ≡ is_bridge flags }
 {
-    is_synthetic(flags) || flags & 0x0040 != 0
+    flags & 0x0040 != 0
+}
+
+/// The methods aren't mutated that are bridges, or synthetic and no lambda's body.
+pub fn is_left_out(pool: &Pool, member: &Member) -> bool
+    ensures { result ≡ is_left_out pool.now member.now }
+{
+    is_bridge(member.flags) || is_synthetic(member.flags) && !pool.is_lambda(member)
 }
 
 fn push_method_mutants(
@@ -94,7 +100,7 @@ fn push_method_mutants(
     ensures { OnOk result (
         mutants.new ≡ mutants.old ++ method_mutants class.now pool.now number member.now) }
 {
-    if is_left_out(member.flags) {
+    if is_left_out(pool, member) {
         return Ok(());
     }
     let Some(code) = code_of(member.attrs.as_slice()) else {
@@ -132,7 +138,8 @@ fn push_methods_mutants(
 }
 
 /// The mutants of a class: methods in file order, instructions by number, mutators in the order of
-/// the table. Synthetic and bridge methods and methods of synthetic classes have none.
+/// the table. Bridge methods, synthetic methods that are no lambda's body, and methods of synthetic
+/// classes have none.
 pub fn class_mutants(alloc: Global, class: &Class) -> Result<Seq<Mutant>, Memory>
     ensures { IfOk result (λ mutants. mutants ≡ class_mutants class.now) }
 {

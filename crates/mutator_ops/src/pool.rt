@@ -3,14 +3,20 @@
 
 ghost use Rattle.std.specs.Prelude.{◌≡◌, IfOk, map, option_copied};
 ghost use Rattle.mutator_ops.specs.Calls.{type_in, type_of, is_call, pool_index, called_pair, called_type, called_args, is_initializer, is_void_call};
+ghost use Rattle.mutator_ops.specs.Mutants.{is_lambda};
 
-use class_model::{Arg, Const, DescFault, Insn, Kind, Memory, MethodType, Seq, parse_method};
+use class_model::{
+    Arg, Const, DescFault, Insn, Kind, Member, Memory, MethodType, Seq, parse_method,
+};
 use mt_pool::{entry_of, pair_of, text_of};
 use std::alloc::Global;
 use std::marker::Model;
 
 /// `<init>`
 const INITIALIZER: [u16; 6] = [60, 105, 110, 105, 116, 62];
+
+/// `lambda$`
+const LAMBDA: [u16; 7] = [108, 97, 109, 98, 100, 97, 36];
 
 /// The entries of a constant pool, each with what it means as a method's descriptor: read once,
 /// however many methods and calls name it. Contracts see the entries.
@@ -143,6 +149,16 @@ impl<'a> Pool<'a> {
         };
         match text_of(self.entries, name) {
             Some(name) => name.as_slice() == INITIALIZER.as_slice(),
+            None => false,
+        }
+    }
+
+    /// The method is one that compilers make of a lambda's body.
+    pub fn is_lambda(&self, member: &Member) -> bool
+        ensures { result ≡ is_lambda self.now member.now }
+    {
+        match text_of(self.entries, member.name) {
+            Some(name) => name.as_slice().starts_with(&LAMBDA),
             None => false,
         }
     }

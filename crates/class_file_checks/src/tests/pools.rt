@@ -145,3 +145,17 @@ fn damaged_pools(rt: HostRuntime) -> Result<(), Fail> {
     assert_eq!(rt; other_of_damages(rt.alloc())?, 16);
     Ok(())
 }
+
+/// A class named as adapters are.
+const ADAPTER: [u8; 17] = [
+    0, 3, 1, 0, 9, b'm', b't', b'/', b'S', b'i', b't', b'e', b';', b'A', 7, 0, 1,
+];
+
+#[test]
+fn no_class_is_an_adapter(rt: HostRuntime) -> Result<(), Fail> {
+    let named = told_of(rt.alloc(), &ADAPTER, 0, 0)?;
+    let other = told_of(rt.alloc(), &ADAPTER, 12, b'x')?;
+    assert_eq!(rt; named, Some(ClassFault::BadText { at: 23 }));
+    assert_eq!(rt; other, None);
+    Ok(())
+}

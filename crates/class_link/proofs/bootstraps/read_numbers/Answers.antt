@@ -1,0 +1,18 @@
+use Rattle.std.proofs.lemmas.Result.{err_from_is_err_and}
+use Rattle.class_model.specs.declared.fault.ClassFault.TheVariants as fault
+use Rattle.codec_rules.specs.Reading.{many_at}
+use Rattle.codec_rules.proofs.Loops.{goes_on, ends, is_done}
+use Rattle.mt_bytes.specs.Items.{u2_at}
+use Rattle.class_link.proofs.bootstraps.read_numbers.Goals as goal
+
+pub returns-in_err-number : goal.returns-in_err-number
+returns-in_err-number c =
+    let p = err_from_is_err_and c.from_residual.result c.from_residual.ensures.1 in
+    rw (p.1, p.2) (ends fault.Memory c.in_err-number.field-0.0 u2_at c.loop.numbers c.args.count c.loop.counter c.loop.cur (many_at u2_at c.args.count c.args.cur.now) c.loop-test.true c.in_err-number.ensures c.loop.invariant)
+
+pub loop-preserved : goal.loop-preserved
+loop-preserved c =
+    rw c.in_ok-push.ensures.ok (goes_on u2_at c.loop.numbers c.args.count c.loop.counter c.loop.cur c.in_ok-number.number c.read_number.new.cur (many_at u2_at c.args.count c.args.cur.now) c.loop-test.true c.in_ok-number.ensures c.loop.invariant)
+
+pub returns : goal.returns
+returns c = is_done u2_at c.loop.numbers c.args.count c.loop.counter c.loop.cur (many_at u2_at c.args.count c.args.cur.now) c.loop-test.false c.loop.invariant
