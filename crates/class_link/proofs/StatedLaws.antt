@@ -1,6 +1,7 @@
 -- The kinds of what is linked are those that descriptors state.
-use Rattle.std.proofs.Common.{◌≡◌, refl, ℕ, zero, suc, Bool, true, false, List, [], ◌∷◌, map, Option, None, Some, slice_get, subst, arith}
-use Rattle.std.specs.Prelude.{⊤, ℤ, ◌==◌, nat_lt, if◌then◌else◌}
+use Rattle.std.proofs.Common.{◌≡◌, refl, ap, ℕ, zero, suc, Bool, true, false, List, [], ◌∷◌, map, Option, None, Some, slice_get, subst, arith}
+use Rattle.std.specs.Prelude.{⊤, ℤ, ◌==◌, ◌&&◌, nat_eq, nat_lt, if◌then◌else◌}
+use Rattle.std.specs.Option.{option_map}
 use Rattle.class_model.specs.declared.attribute.Code.{Code, out-Code}
 use Rattle.class_model.specs.declared.class.Class.{Class}
 use Rattle.class_model.specs.declared.constant.Const.{Const}
@@ -8,20 +9,23 @@ use Rattle.class_model.specs.declared.constant.Const.TheVariants as const
 use Rattle.class_model.specs.declared.instruction.Insn.{Insn}
 use Rattle.class_model.specs.declared.instruction.Arg.{Arg}
 use Rattle.class_model.specs.declared.instruction.Arg.TheVariants as arg
-use Rattle.class_model.specs.Pool.{entry_of}
-use Rattle.program_rules.specs.Instructions.{Instruction, TableSwitch, LookupSwitch, Unlinked}
+use Rattle.class_model.specs.Pool.{entry_of, pair_desc_of}
+use Rattle.program_rules.specs.Names.{Name}
+use Rattle.program_rules.specs.Instructions.{Instruction, MethodRef, TableSwitch, LookupSwitch, Unlinked}
 use Rattle.program_rules.specs.Deeds.{Meaning}
-use Rattle.program_rules.specs.Linked.{LinkedMethod, LinkedField, LinkedCode, LinkedBody, HasCode}
+use Rattle.program_rules.specs.Linked.{LinkedMethod, LinkedField, LinkedCode, LinkedBody, HasCode, Bootstrap}
 use Rattle.class_link.specs.declared.loaded.ClassBody.TheVariants as body
 use Rattle.library_rules.specs.Numbered.{meaning_numbered}
 use Rattle.class_link.specs.declared.loaded.LibBody.{LibBody}
 use Rattle.class_link.specs.declared.loaded.LibBody.TheVariants as lib
 use Rattle.class_link.specs.declared.loaded.LibClass.{LibClass}
-use Rattle.class_link.specs.Symbols.{Symbol, IsOther, IsInteger, IsLong, IsText, IsClass, IsField, IsMethod, IsDynamic, symbol_or_other, symbol_at}
+use Rattle.class_link.specs.Symbols.{Symbol, IsOther, IsInteger, IsLong, IsText, IsClass, IsField, IsMethod, IsDynamic, name_or_empty, symbol_or_other, symbol_at}
 use Rattle.class_link.specs.Opcodes as op
 use Rattle.class_link.specs.Linking as linking
+use Rattle.class_link.specs.declared.bootstraps.RawEntry.{RawEntry}
+use Rattle.class_link.specs.Bootstraps.{method_of, handle_of, handle_at, type_at, bootstrap_made, bootstrap_with, bootstrap_by, is_metafactory, if_metafactory, bootstrap_in, entries_by, tables_of}
 use Rattle.class_link.specs.Edits.{class_edited}
-use Rattle.class_link.specs.Stated.{IsCallStated, IsUseStated, IsStated, HasStatedKinds, LinkedHaveStatedKinds, args_stated, result_stated, field_stated}
+use Rattle.class_link.specs.Stated.{IsCallStated, IsUseStated, IsSiteStated, IsBootstrapStated, IsStated, HasStatedKinds, LinkedHaveStatedKinds, args_stated, result_stated, field_stated}
 
 -- ---- instructions
 
@@ -74,6 +78,7 @@ increment_stated n k z = grind (arith)
 abbrev IsEntryStated : Symbol → Type 0
 IsEntryStated (IsField r) = IsUseStated r
 IsEntryStated (IsMethod r) = IsCallStated r
+IsEntryStated (IsDynamic r) = IsSiteStated r
 IsEntryStated other = ⊤
 
 entry_stated : (pool : List Const) (o : Option Const) → IsEntryStated (symbol_or_other pool o)
@@ -91,7 +96,7 @@ entry_stated pool (Some (const.IMethod c p)) = (refl, refl)
 entry_stated pool (Some (const.Pair n d)) = tt
 entry_stated pool (Some (const.Handle k n)) = tt
 entry_stated pool (Some (const.MethodKind n)) = tt
-entry_stated pool (Some (const.Dynamic b p)) = tt
+entry_stated pool (Some (const.Dynamic b p)) = record { desc = name_or_empty (pair_desc_of pool p); args = refl; result = refl }
 entry_stated pool (Some const.Second) = tt
 
 symbol_stated : (n : ℕ) (s : Symbol) → IsEntryStated s → IsStated (op.with_symbol n s)
@@ -102,7 +107,7 @@ symbol_stated n (IsText t) h = grind (arith)
 symbol_stated n (IsClass c) h = grind (arith)
 symbol_stated n (IsField r) h = grind (arith, h)
 symbol_stated n (IsMethod r) h = grind (arith, h)
-symbol_stated n (IsDynamic r) h = grind (arith)
+symbol_stated n (IsDynamic r) h = grind (arith, h)
 
 count_stated : (n : ℕ) (s : Symbol) (k : ℕ) → IsEntryStated s → IsStated (op.with_count n s k)
 count_stated n IsOther k h = grind (arith)
@@ -171,12 +176,51 @@ HasBodyStated m = IsBodyStated m.body
 abbrev IsFieldStated : LinkedField → Type 0
 IsFieldStated f = f.kind ≡ field_stated f.desc
 
+-- ---- bootstrap methods
+
+method_stated : (s : Symbol) (r : MethodRef) → method_of s ≡ Some r → IsEntryStated s → IsCallStated r
+method_stated (IsMethod m) r e h = let same : m ≡ r = cc in subst IsCallStated same h
+method_stated other r e h = absurd cc
+
+with_kind : (kind : ℕ) (o : Option MethodRef) (t : ℕ × MethodRef) → option_map (λ (r : MethodRef). (kind, r)) o ≡ Some t → o ≡ Some t.1
+with_kind kind (Some r) t e = let same : (kind, r) ≡ t = cc in ap (λ (x : ℕ × MethodRef). Some x.1) same
+with_kind kind None t e = absurd cc
+
+handle_stated : (pool : List Const) (o : Option Const) (t : ℕ × MethodRef) → handle_of pool o ≡ Some t → IsCallStated t.1
+handle_stated pool (Some (const.Handle kind member)) t e = method_stated (symbol_at pool member) t.1 (with_kind kind (method_of (symbol_at pool member)) t e) (entry_stated pool (entry_of pool member))
+handle_stated pool o t e = absurd cc
+
+with_stated : (desc : Option Name) (target : Option (ℕ × MethodRef)) (inst : Option Name) (b : Bootstrap) → ((t : ℕ × MethodRef) → target ≡ Some t → IsCallStated t.1) → bootstrap_with desc target inst ≡ Some b → IsBootstrapStated b
+with_stated (Some desc) (Some t) (Some inst) b stated e =
+    let same : bootstrap_made desc t inst ≡ b = cc in
+    subst IsBootstrapStated same (record { args = refl; result = refl; target = stated t refl })
+with_stated desc target inst b stated e = absurd cc
+
+by_stated : (pool : List Const) (args : List ℕ) (b : Bootstrap) → bootstrap_by pool args ≡ Some b → IsBootstrapStated b
+by_stated pool (x ∷ y ∷ z ∷ []) b e = with_stated (type_at pool x) (handle_at pool y) (type_at pool z) b (λ t. handle_stated pool (entry_of pool y) t) e
+by_stated pool args b e = absurd cc
+
+if_some : (b : Bool) (o : Option Bootstrap) (x : Bootstrap) → (if b then o else None) ≡ Some x → o ≡ Some x
+if_some true o x e = e
+if_some false o x e = absurd cc
+
+behind_metafactory : (h : Option (ℕ × MethodRef)) (o : Option Bootstrap) (b : Bootstrap) → if_metafactory h o ≡ Some b → o ≡ Some b
+behind_metafactory None o b e = absurd cc
+behind_metafactory (Some r) o b e = if_some (nat_eq r.0 6 && is_metafactory r.1) o b e
+
+abbrev IsSomeStated : Option Bootstrap → Type 0
+IsSomeStated o = (b : Bootstrap) → o ≡ Some b → IsBootstrapStated b
+
+bootstrap_stated : (pool : List Const) (e : RawEntry) → IsSomeStated (bootstrap_in pool e)
+bootstrap_stated pool e b is = by_stated pool e.args b (behind_metafactory (handle_at pool e.method) (bootstrap_by pool e.args) b is)
+
 file_stated : (c : Class) → HasStatedKinds (linking.link c)
 unfolding linking.link
 file_stated c = record {
   method = made_of (linking.method_in c.pool) IsMethodStated (λ m. (refl, refl)) c.methods;
   field = made_of (linking.field_in c.pool) IsFieldStated (λ f. refl) c.fields;
   instruction = λ k m code at i e b s. made_of (linking.method_in c.pool) HasBodyStated (λ m. body_stated c.pool (linking.first_of linking.code_within m.attrs)) c.methods k m e code b at i s;
+  bootstrap = λ k b e. made_of (bootstrap_in c.pool) IsSomeStated (bootstrap_stated c.pool) (entries_by (tables_of c.pool c.attrs)) k (Some b) e b refl;
 }
 
 library_class_stated : (c : LibClass) → HasStatedKinds (linking.link_library c)
@@ -185,6 +229,7 @@ library_class_stated c = record {
   method = made_of (linking.library_method c.pool) IsMethodStated (λ m. (refl, refl)) c.methods;
   field = made_of linking.library_field IsFieldStated (λ f. refl) c.fields;
   instruction = λ k m code at i e b s. made_of (linking.library_method c.pool) HasBodyStated (λ m. library_stated c.pool m.body) c.methods k m e code b at i s;
+  bootstrap = λ k b e. absurd cc;
 }
 
 pub linked_have_stated_kinds : LinkedHaveStatedKinds

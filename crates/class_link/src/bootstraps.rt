@@ -12,7 +12,8 @@ ghost use Rattle.mt_bytes.specs.Items.{ReadsItem, u2_at};
 
 use crate::linked::{Bootstrap, Entry, MethodRef};
 use crate::texts::{Text, Texts};
-use class_model::{Attr, Body, Class, ClassFault, Const, Copied, Memory, Seq, is_text};
+use class_model::names::is_text;
+use class_model::{Attr, Body, Class, ClassFault, Const, Copied, Memory, Seq};
 use mt_bytes::Cursor;
 use std::alloc::Global;
 

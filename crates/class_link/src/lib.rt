@@ -34,6 +34,7 @@ pub use linked::{
     Bootstrap, DynamicRef, Entry, FieldConstant, FieldRef, LinkedBody, LinkedClass, LinkedCode,
     LinkedField, LinkedLine, LinkedMethod, LinkedRow, MethodRef, Switch,
 };
+pub use linking::link;
 pub use loaded::{ClassBody, EditedFile, LibBody, LibClass, LibField, LibMethod, Loaded};
 pub use long_pool::at_place;
 pub use program_rules::{CallKind, Comparison, Conversion, Element, Operation, ShiftKind};

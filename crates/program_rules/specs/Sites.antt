@@ -337,11 +337,17 @@ is_right_target class b =
     nat_eq b.kind 5 || nat_eq b.kind 6 || (nat_eq b.kind 7 && same b.target.class class)
     || (nat_eq b.kind 8 && same b.target.name instance_initializer) || nat_eq b.kind 9
 
--- A site, where its target is right and all that is given converts. The adapter's name makes no
--- difference to that.
+-- Whether the descriptors of a site and of the interface's method are short enough to be a method's:
+-- it takes 255 words at most, and the object that it is called on is one of them (JVMS 4.3.3).
+abbrev pub is_short : Site → Bool
+is_short s = nat_le (words_of_kinds s.captured) 255 && nat_le (words_of_kinds s.boot.args) 254
+
+-- A site, where it is short, its target is right and all that is given converts. The adapter's name
+-- makes no difference to that.
 abbrev pub if_formed : Name → Site → Option Site
 if_formed class s =
-    if is_right_target class s.boot && is_some (adapter_code [] s) then Some s else None
+    if is_short s && is_right_target class s.boot && is_some (adapter_code [] s) then Some s
+    else None
 
 -- By what the descriptor gives, which has to be a class.
 abbrev pub site_given : Name → DynamicRef → Bootstrap → Option Kind → Option Site

@@ -1,0 +1,4 @@
+pub mod Added
+pub mod Boxed
+pub mod Pools
+pub mod Written
