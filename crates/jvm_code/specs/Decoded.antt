@@ -5,7 +5,7 @@ use Rattle.class_link.specs.declared.instruction.Instruction.{Instruction}
 use Rattle.class_link.specs.declared.instruction.Instruction.TheVariants.{LongConstant}
 use Rattle.class_link.specs.declared.linked.Entry.{Entry}
 use Rattle.class_link.specs.declared.linked.Switch.{Switch}
-use Rattle.class_link.specs.Opcodes.{on_text, on_class, on_field, on_method, array_of}
+use Rattle.class_link.specs.Opcodes.{on_text, on_class, on_field, on_method, on_dynamic, array_of}
 use Rattle.class_link.specs.View.{meaning_at, table_of, lookup_of}
 use Rattle.class_link.specs.View as view
 use Rattle.jvm_state.specs.declared.op.Op.{Op}
@@ -27,6 +27,7 @@ named_by es ss naming.InvokeVirtual k = on_method def.InvokeVirtual (meaning_at 
 named_by es ss naming.InvokeInterface k = on_method def.InvokeInterface (meaning_at es k)
 named_by es ss naming.InvokeSpecial k = on_method def.InvokeSpecial (meaning_at es k)
 named_by es ss naming.InvokeStatic k = on_method def.InvokeStatic (meaning_at es k)
+named_by es ss naming.InvokeDynamic k = on_dynamic (meaning_at es k)
 named_by es ss naming.New k = on_class def.New (meaning_at es k)
 named_by es ss naming.NewArray k = array_of k
 named_by es ss naming.NewReferenceArray k = on_class def.NewReferenceArray (meaning_at es k)

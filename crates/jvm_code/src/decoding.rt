@@ -193,6 +193,7 @@ pub fn decode_one(i: Instruction, long: u32) -> Op
         Instruction::InvokeInterface(n) => Op::InvokeInterface(n),
         Instruction::InvokeSpecial(n) => Op::InvokeSpecial(n),
         Instruction::InvokeStatic(n) => Op::InvokeStatic(n),
+        Instruction::InvokeDynamic(n) => Op::InvokeDynamic(n),
         Instruction::New(n) => Op::New(n),
         Instruction::NewArray(n) => Op::NewArray(n),
         Instruction::NewReferenceArray(n) => Op::NewReferenceArray(n),

@@ -32,6 +32,7 @@ pub data Naming : Type 0 where
   InvokeInterface : Naming
   InvokeSpecial : Naming
   InvokeStatic : Naming
+  InvokeDynamic : Naming
   New : Naming
   NewArray : Naming
   NewReferenceArray : Naming
@@ -141,6 +142,7 @@ instruction_of longs named (op.InvokeVirtual n) = named InvokeVirtual n
 instruction_of longs named (op.InvokeInterface n) = named InvokeInterface n
 instruction_of longs named (op.InvokeSpecial n) = named InvokeSpecial n
 instruction_of longs named (op.InvokeStatic n) = named InvokeStatic n
+instruction_of longs named (op.InvokeDynamic n) = named InvokeDynamic n
 instruction_of longs named (op.New n) = named New n
 instruction_of longs named (op.NewArray n) = named NewArray n
 instruction_of longs named (op.NewReferenceArray n) = named NewReferenceArray n
@@ -183,6 +185,7 @@ is_alone (op.InvokeVirtual n) = false
 is_alone (op.InvokeInterface n) = false
 is_alone (op.InvokeSpecial n) = false
 is_alone (op.InvokeStatic n) = false
+is_alone (op.InvokeDynamic n) = false
 is_alone (op.New n) = false
 is_alone (op.NewArray n) = false
 is_alone (op.NewReferenceArray n) = false
@@ -244,6 +247,7 @@ left_by (op.InvokeVirtual n) q row = row
 left_by (op.InvokeInterface n) q row = row
 left_by (op.InvokeSpecial n) q row = row
 left_by (op.InvokeStatic n) q row = row
+left_by (op.InvokeDynamic n) q row = row
 left_by (op.New n) q row = row
 left_by (op.NewArray n) q row = row
 left_by (op.NewReferenceArray n) q row = row

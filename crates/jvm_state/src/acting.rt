@@ -188,6 +188,7 @@ pub fn act<const MANY: bool>(
         Op::InvokeInterface(_) => None,
         Op::InvokeSpecial(_) => None,
         Op::InvokeStatic(_) => None,
+        Op::InvokeDynamic(_) => None,
         Op::New(_) => None,
         Op::NewArray(_) => None,
         Op::NewReferenceArray(_) => None,

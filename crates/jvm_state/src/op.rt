@@ -103,6 +103,7 @@ pub enum Op {
     InvokeInterface(u32),
     InvokeSpecial(u32),
     InvokeStatic(u32),
+    InvokeDynamic(u32),
     New(u32),
     /// The number of the elements (JVMS 6.5, newarray).
     NewArray(u8),

@@ -18,20 +18,20 @@ use class_link::{
     Bootstrap, DynamicRef, Entry, Instruction, LibClass, LinkedBody, LinkedClass, LinkedCode,
     LinkedMethod, Loaded, link, linked_have_stated_kinds, own_name,
 };
-use class_model::{Memory, Name, Seq};
+use class_model::{Memory, Name, Seq, flags};
 use std::alloc::Global;
 use std::collections::BTreeMap;
 
 // ---- which names are interfaces
 
 // Notes whether a name is that of an interface, unless it is noted already.
-fn note(interfaces: &mut BTreeMap<Name, bool>, name: &Name, flags: u16) -> Result<(), Memory>
-    ensures { OnOk result (listed.Notes name.now flags interfaces.old interfaces.new) }
+fn note(interfaces: &mut BTreeMap<Name, bool>, name: &Name, access: u16) -> Result<(), Memory>
+    ensures { OnOk result (listed.Notes name.now access interfaces.old interfaces.new) }
 {
     if interfaces.contains_key(name) {
         return Ok(());
     }
-    interfaces.insert(name.copy()?, flags & 0x0200 != 0)?;
+    interfaces.insert(name.copy()?, flags::is_interface(access))?;
     Ok(())
 }
 

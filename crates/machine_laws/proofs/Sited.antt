@@ -11,8 +11,8 @@ use Rattle.program_rules.specs.Programs.{Look}
 use Rattle.program_rules.specs.Library.{library_classes, class_among, first_of, with_library}
 use Rattle.program_rules.specs.Sites.{Site, is_dynamic, dynamics_before, site_of, site_name, adapter, adapter_method, adapter_code, code_or_none, is_interface_at, adapter_if, adapters_in_code, adapters_in_body, adapters_in_methods, adapters_of, with_sites}
 use Rattle.program_rules.specs.Adapted.{IsSite, HasAdapters}
-use Rattle.machine_laws.specs.Sited.{AreDistinct, AreApart, SitedHaveAdapters}
-use Rattle.machine_laws.specs.Whole.{is_plain_class, is_plain_instruction, is_plain_code}
+use Rattle.machine_laws.specs.Sited.{AreDistinct, AreApart, SitedHaveAdapters, with_others, sited_beside, SitedBeside}
+use Rattle.machine_laws.specs.Whole.{is_plain_class, are_plain_classes, is_plain_instruction, is_plain_code}
 use Rattle.machine_laws.proofs.Closing.{first_true, found_all}
 use Rattle.machine_laws.proofs.Tested.{all_at, library_classes_plain}
 use Rattle.machine_laws.proofs.Siteless.{first_of_or, rest_of_or, adapters_siteless}
@@ -69,7 +69,7 @@ among_in n c (y ∷ ys) e = among_if (same y.0 n) y ys n c refl (λ g. among_in 
 
 -- ---- the adapters of a code
 
-step_case : (p : Look) (class : Name) (bs : List (Option Bootstrap)) (k j : ℕ) (i : Instruction) (is : List Instruction) → is_dynamic i ≡ false → adapters_in_code p class bs k j (i ∷ is) ≡ adapters_in_code p class bs k j is
+pub step_case : (p : Look) (class : Name) (bs : List (Option Bootstrap)) (k j : ℕ) (i : Instruction) (is : List Instruction) → is_dynamic i ≡ false → adapters_in_code p class bs k j (i ∷ is) ≡ adapters_in_code p class bs k j is
 step_case p class bs k j Nop is h = refl
 step_case p class bs k j NullConstant is h = refl
 step_case p class bs k j (IntConstant z0) is h = refl
@@ -136,7 +136,7 @@ step_case p class bs k j MonitorEnter is h = refl
 step_case p class bs k j MonitorExit is h = refl
 step_case p class bs k j Unlinked is h = refl
 
-dynamic_is : (i : Instruction) → is_dynamic i ≡ true → (r : DynamicRef) × (i ≡ InvokeDynamic r)
+pub dynamic_is : (i : Instruction) → is_dynamic i ≡ true → (r : DynamicRef) × (i ≡ InvokeDynamic r)
 dynamic_is Nop h = cc
 dynamic_is NullConstant h = cc
 dynamic_is (IntConstant z0) h = cc
@@ -323,9 +323,9 @@ of_adapter c k at m code r a e b i =
     let list : code_or_none (adapter_code a.own a.site) ≡ code.instructions = cc in
     no_dynamic code.instructions at r (ap (list_any is_dynamic) (sym list) ∙ adapters_siteless a.own a.site) i
 
-module _ (cs : List Class) (distinct : AreDistinct (adapters_of (with_library cs) cs)) (away : AreApart (with_library cs) (adapters_of (with_library cs) cs)) where
+module _ (others cs : List Class) (plain : are_plain_classes others ≡ true) (distinct : AreDistinct (adapters_of (with_others others cs) cs)) (away : AreApart (with_others others cs) (adapters_of (with_others others cs) cs)) where
   abbrev p : Look
-  p = with_library cs
+  p = with_others others cs
 
   abbrev made : List Class
   made = adapters_of p cs
@@ -339,16 +339,16 @@ module _ (cs : List Class) (distinct : AreDistinct (adapters_of (with_library cs
   made_is : (n : Name) (a : Linked) → class_among made n ≡ Some a → IsAdapter a
   made_is n a e = all_in (n, a) made (classes_adapters p cs) (among_in n a made e)
 
-  of_class : (own : Name) (s : Site) (x : IsSite (with_sites cs) own s) (o q g : Option Linked) → class_among cs x.owner ≡ o → class_among library_classes x.owner ≡ q → class_among made x.owner ≡ g → first_of (first_of o q) g ≡ Some x.class → In (x.owner, x.class) cs
+  of_class : (own : Name) (s : Site) (x : IsSite (sited_beside others cs) own s) (o q g : Option Linked) → class_among cs x.owner ≡ o → class_among others x.owner ≡ q → class_among made x.owner ≡ g → first_of (first_of o q) g ≡ Some x.class → In (x.owner, x.class) cs
   of_class own s x (Some c) q g h k l e = among_in x.owner x.class cs (h ∙ e)
   of_class own s x None (Some c) g h k l e =
-      absurd (of_plain x.class x.method x.at x.member x.code x.dynamic (found_all is_plain_class library_classes x.owner x.class library_classes_plain (k ∙ e)) x.has_method x.has_code x.has_dynamic)
+      absurd (of_plain x.class x.method x.at x.member x.code x.dynamic (found_all is_plain_class others x.owner x.class plain (k ∙ e)) x.has_method x.has_code x.has_dynamic)
   of_class own s x None None g h k l e =
       absurd (of_adapter x.class x.method x.at x.member x.code x.dynamic (made_is x.owner x.class (l ∙ e)) x.has_method x.has_code x.has_dynamic)
 
-  pub sited : HasAdapters (with_sites cs)
+  pub sited : HasAdapters (sited_beside others cs)
   sited own s x =
-      let here = of_class own s x (class_among cs x.owner) (class_among library_classes x.owner) (class_among made x.owner) refl refl refl x.has_class in
+      let here = of_class own s x (class_among cs x.owner) (class_among others x.owner) (class_among made x.owner) refl refl refl x.has_class in
       let name = site_name x.owner x.method (dynamics_before x.at x.code.instructions) in
       let number = dynamics_before x.at x.code.instructions in
       let none : 0 + number ≡ number = omega arith in
@@ -361,11 +361,14 @@ module _ (cs : List Class) (distinct : AreDistinct (adapters_of (with_library cs
       (in_methods p x.owner x.class.bootstraps _ x.member 0 x.method x.class.methods x.has_method
       (subst (λ b. In (name, adapter name (is_interface_at p s.interface) s) (adapters_in_body p x.owner x.class.bootstraps (0 + x.method) (code_in b))) (sym x.has_code)
       (subst (λ k. In (name, adapter name (is_interface_at p s.interface) s) (adapters_in_code p x.owner x.class.bootstraps k 0 x.code.instructions)) zero_more coded))) in
-      let look : with_sites cs name ≡ Some (adapter name (is_interface_at p s.interface) s) =
+      let look : sited_beside others cs name ≡ Some (adapter name (is_interface_at p s.interface) s) =
       ap (λ o. first_of o (class_among made name)) (apart p name _ made away listed) ∙ found name _ made distinct listed in
-      let interface : is_interface_at (with_sites cs) s.interface ≡ is_interface_at p s.interface = interface_same (p s.interface) (class_among made s.interface) (made_is s.interface) in
-      subst (λ n. with_sites cs n ≡ Some (adapter n (is_interface_at (with_sites cs) s.interface) s)) (sym x.named)
+      let interface : is_interface_at (sited_beside others cs) s.interface ≡ is_interface_at p s.interface = interface_same (p s.interface) (class_among made s.interface) (made_is s.interface) in
+      subst (λ n. sited_beside others cs n ≡ Some (adapter n (is_interface_at (sited_beside others cs) s.interface) s)) (sym x.named)
       (look ∙ ap (λ b. Some (adapter name b s)) (sym interface))
 
+pub sited_beside_have : SitedBeside
+sited_beside_have others cs plain distinct away = sited others cs plain distinct away
+
 pub sited_have_adapters : SitedHaveAdapters
-sited_have_adapters cs distinct away = sited cs distinct away
+sited_have_adapters cs distinct away = sited library_classes cs library_classes_plain distinct away

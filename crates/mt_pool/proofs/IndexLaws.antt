@@ -139,16 +139,16 @@ only_method desc (inr h) e = h
 
 class_text_passed : (place : ℕ) (name : List ℕ) → class_text_fault place name ≡ good → IsClassEntryName name
 class_text_passed place name e = record {
-  plain = plain_by (is_adapter_name name) e;
+  plain = plain_by (is_adapter_name name) _ e;
   array = λ array.
-      let same : class_text_fault place name ≡ desc_verdict place (field_kind name) = rw (plain_by (is_adapter_name name) e, array) refl in
+      let same : class_text_fault place name ≡ desc_verdict place (field_kind name) = rw (plain_by (is_adapter_name name) _ e, array) refl in
       let k = desc_passed place (field_kind name) (sym same ∙ e) in
       HasKind-from_read name k.0 k.1;
 }
   where
-    plain_by : (b : Bool) {other : Verdict} → cond b (Err (fault.BadText place)) other ≡ good → b ≡ false
-    plain_by true h = absurd cc
-    plain_by false h = refl
+    plain_by : (b : Bool) (other : Verdict) → cond b (Err (fault.BadText place)) other ≡ good → b ≡ false
+    plain_by true other h = absurd cc
+    plain_by false other h = refl
 
 -- ---- an entry of which nothing is told has right indices, where nothing is told of the others
 

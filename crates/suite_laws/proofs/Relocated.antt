@@ -6,7 +6,7 @@ use Rattle.class_model.specs.declared.instruction.Arg.{Arg}
 use Rattle.class_model.specs.declared.instruction.Arg.TheVariants as arg
 use Rattle.class_model.specs.declared.instruction.Insn.{Insn}
 use Rattle.program_rules.specs.Instructions.{Instruction, TableSwitch, LookupSwitch, Unlinked}
-use Rattle.class_link.specs.Symbols.{Symbol, IsOther, IsInteger, IsLong, IsText, IsClass, IsField, IsMethod, symbol_at}
+use Rattle.class_link.specs.Symbols.{Symbol, IsOther, IsInteger, IsLong, IsText, IsClass, IsField, IsMethod, IsDynamic, symbol_at}
 use Rattle.class_link.specs.Opcodes as op
 use Rattle.machine_laws.specs.Edit.{moved_keys, relocate}
 use Rattle.mutant_apply.specs.Moved.{moved_arg, moved_insn}
@@ -68,6 +68,7 @@ module _ (mv : ℕ → ℕ) where
   symbol_stays n (IsClass c) = grind (arith)
   symbol_stays n (IsField r) = grind (arith)
   symbol_stays n (IsMethod r) = grind (arith)
+  symbol_stays n (IsDynamic r) = grind (arith)
 
   count_stays : (n : ℕ) (s : Symbol) (k : ℕ) → relocate mv (op.with_count n s k) ≡ op.with_count n s k
   count_stays n IsOther k = grind (arith)
@@ -77,6 +78,7 @@ module _ (mv : ℕ → ℕ) where
   count_stays n (IsClass c) k = grind (arith)
   count_stays n (IsField r) k = grind (arith)
   count_stays n (IsMethod r) k = grind (arith)
+  count_stays n (IsDynamic r) k = grind (arith)
 
   -- ---- opcodes that lead somewhere
 

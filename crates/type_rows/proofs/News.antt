@@ -11,8 +11,8 @@ use Rattle.class_link.specs.declared.instruction.Instruction.TheVariants as code
 use Rattle.class_link.specs.declared.linked.Entry.{Entry}
 use Rattle.class_link.specs.declared.linked.Switch.{Switch}
 use Rattle.class_link.specs.declared.linked.Switch.TheVariants as switch
-use Rattle.class_link.specs.Symbols.{Symbol, IsOther, IsInteger, IsLong, IsText, IsClass, IsField, IsMethod}
-use Rattle.class_link.specs.Opcodes.{on_text, on_class, on_field, on_method, array_of}
+use Rattle.class_link.specs.Symbols.{Symbol, IsOther, IsInteger, IsLong, IsText, IsClass, IsField, IsMethod, IsDynamic}
+use Rattle.class_link.specs.Opcodes.{on_text, on_class, on_field, on_method, on_dynamic, array_of}
 use Rattle.class_link.specs.View.{instruction_of, meaning_at, table_of, lookup_of}
 
 on_text_made : (made : Name → def.Instruction) → ((x : Name) → new_of (Some (made x)) ≡ None) → (m : Symbol) → new_of (Some (on_text made m)) ≡ None
@@ -23,6 +23,7 @@ on_text_made made other (IsText x) = other x
 on_text_made made other (IsClass x) = refl
 on_text_made made other (IsField x) = refl
 on_text_made made other (IsMethod x) = refl
+on_text_made made other (IsDynamic x) = refl
 
 on_class_made : (made : Name → def.Instruction) → ((x : Name) → new_of (Some (made x)) ≡ None) → (m : Symbol) → new_of (Some (on_class made m)) ≡ None
 on_class_made made other IsOther = refl
@@ -32,6 +33,7 @@ on_class_made made other (IsText x) = refl
 on_class_made made other (IsClass x) = other x
 on_class_made made other (IsField x) = refl
 on_class_made made other (IsMethod x) = refl
+on_class_made made other (IsDynamic x) = refl
 
 on_field_made : (made : def.FieldRef → def.Instruction) → ((x : def.FieldRef) → new_of (Some (made x)) ≡ None) → (m : Symbol) → new_of (Some (on_field made m)) ≡ None
 on_field_made made other IsOther = refl
@@ -41,6 +43,7 @@ on_field_made made other (IsText x) = refl
 on_field_made made other (IsClass x) = refl
 on_field_made made other (IsField x) = other x
 on_field_made made other (IsMethod x) = refl
+on_field_made made other (IsDynamic x) = refl
 
 on_method_made : (made : def.MethodRef → def.Instruction) → ((x : def.MethodRef) → new_of (Some (made x)) ≡ None) → (m : Symbol) → new_of (Some (on_method made m)) ≡ None
 on_method_made made other IsOther = refl
@@ -50,6 +53,17 @@ on_method_made made other (IsText x) = refl
 on_method_made made other (IsClass x) = refl
 on_method_made made other (IsField x) = refl
 on_method_made made other (IsMethod x) = other x
+on_method_made made other (IsDynamic x) = refl
+
+on_dynamic_made : (m : Symbol) → new_of (Some (on_dynamic m)) ≡ None
+on_dynamic_made IsOther = refl
+on_dynamic_made (IsInteger z) = refl
+on_dynamic_made (IsLong z) = refl
+on_dynamic_made (IsText x) = refl
+on_dynamic_made (IsClass x) = refl
+on_dynamic_made (IsField x) = refl
+on_dynamic_made (IsMethod x) = refl
+on_dynamic_made (IsDynamic x) = refl
 
 table_made : (o : Option Switch) → new_of (Some (table_of o)) ≡ None
 table_made None = refl
@@ -125,6 +139,7 @@ not_new es ss (code.InvokeVirtual k) other = on_method_made def.InvokeVirtual (�
 not_new es ss (code.InvokeInterface k) other = on_method_made def.InvokeInterface (λ x. refl) (meaning_at es k)
 not_new es ss (code.InvokeSpecial k) other = on_method_made def.InvokeSpecial (λ x. refl) (meaning_at es k)
 not_new es ss (code.InvokeStatic k) other = on_method_made def.InvokeStatic (λ x. refl) (meaning_at es k)
+not_new es ss (code.InvokeDynamic k) other = on_dynamic_made (meaning_at es k)
 not_new es ss (code.New k) other = absurd (other k refl)
 not_new es ss (code.NewArray n) other = array_made n
 not_new es ss (code.NewReferenceArray k) other = on_class_made def.NewReferenceArray (λ x. refl) (meaning_at es k)

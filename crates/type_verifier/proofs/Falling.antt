@@ -13,8 +13,8 @@ use Rattle.class_link.specs.declared.instruction.Instruction.{Instruction}
 use Rattle.class_link.specs.declared.instruction.Instruction.TheVariants as code
 use Rattle.class_link.specs.declared.linked.Entry.{Entry}
 use Rattle.class_link.specs.declared.linked.Switch.{Switch}
-use Rattle.class_link.specs.Symbols.{Symbol, IsOther, IsInteger, IsLong, IsText, IsClass, IsField, IsMethod}
-use Rattle.class_link.specs.Opcodes.{on_text, on_class, on_field, on_method, array_of}
+use Rattle.class_link.specs.Symbols.{Symbol, IsOther, IsInteger, IsLong, IsText, IsClass, IsField, IsMethod, IsDynamic}
+use Rattle.class_link.specs.Opcodes.{on_text, on_class, on_field, on_method, on_dynamic, array_of}
 use Rattle.class_link.specs.View.{instruction_of, meaning_at}
 use Rattle.type_rows.specs.declared.site.Site.{Site}
 use Rattle.type_rows.specs.Sites.{IsSettingOf}
@@ -28,6 +28,7 @@ on_text_made made other (IsText x) = other x
 on_text_made made other (IsClass x) = refl
 on_text_made made other (IsField x) = refl
 on_text_made made other (IsMethod x) = refl
+on_text_made made other (IsDynamic x) = refl
 
 on_class_made : (made : Name → def.Instruction) → ((x : Name) → never_falls (made x) ≡ false) → (m : Symbol) → never_falls (on_class made m) ≡ false
 on_class_made made other IsOther = refl
@@ -37,6 +38,7 @@ on_class_made made other (IsText x) = refl
 on_class_made made other (IsClass x) = other x
 on_class_made made other (IsField x) = refl
 on_class_made made other (IsMethod x) = refl
+on_class_made made other (IsDynamic x) = refl
 
 on_field_made : (made : def.FieldRef → def.Instruction) → ((x : def.FieldRef) → never_falls (made x) ≡ false) → (m : Symbol) → never_falls (on_field made m) ≡ false
 on_field_made made other IsOther = refl
@@ -46,6 +48,7 @@ on_field_made made other (IsText x) = refl
 on_field_made made other (IsClass x) = refl
 on_field_made made other (IsField x) = other x
 on_field_made made other (IsMethod x) = refl
+on_field_made made other (IsDynamic x) = refl
 
 on_method_made : (made : def.MethodRef → def.Instruction) → ((x : def.MethodRef) → never_falls (made x) ≡ false) → (m : Symbol) → never_falls (on_method made m) ≡ false
 on_method_made made other IsOther = refl
@@ -55,6 +58,17 @@ on_method_made made other (IsText x) = refl
 on_method_made made other (IsClass x) = refl
 on_method_made made other (IsField x) = refl
 on_method_made made other (IsMethod x) = other x
+on_method_made made other (IsDynamic x) = refl
+
+on_dynamic_made : (m : Symbol) → never_falls (on_dynamic m) ≡ false
+on_dynamic_made IsOther = refl
+on_dynamic_made (IsInteger z) = refl
+on_dynamic_made (IsLong z) = refl
+on_dynamic_made (IsText x) = refl
+on_dynamic_made (IsClass x) = refl
+on_dynamic_made (IsField x) = refl
+on_dynamic_made (IsMethod x) = refl
+on_dynamic_made (IsDynamic x) = refl
 
 tested : (b : Bool) (i j : def.Instruction) → never_falls i ≡ false → never_falls j ≡ false → never_falls (if b then i else j) ≡ false
 tested true i j e f = e
@@ -130,6 +144,7 @@ falls es ss (code.InvokeVirtual k) other = on_method_made def.InvokeVirtual (λ 
 falls es ss (code.InvokeInterface k) other = on_method_made def.InvokeInterface (λ x. refl) (meaning_at es k)
 falls es ss (code.InvokeSpecial k) other = on_method_made def.InvokeSpecial (λ x. refl) (meaning_at es k)
 falls es ss (code.InvokeStatic k) other = on_method_made def.InvokeStatic (λ x. refl) (meaning_at es k)
+falls es ss (code.InvokeDynamic k) other = on_dynamic_made (meaning_at es k)
 falls es ss (code.New k) other = on_class_made def.New (λ x. refl) (meaning_at es k)
 falls es ss (code.NewArray n) other = array_made n
 falls es ss (code.NewReferenceArray k) other = on_class_made def.NewReferenceArray (λ x. refl) (meaning_at es k)
