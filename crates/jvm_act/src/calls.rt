@@ -45,6 +45,7 @@ fn method_at(p: &Program, class: ClassId, index: u32) -> Option<&MethodRef>
         Some(Entry::Text(_)) => None,
         Some(Entry::Class(_)) => None,
         Some(Entry::Field(_)) => None,
+        Some(Entry::Dynamic(_)) => None,
         None => None,
     }
 }

@@ -24,6 +24,7 @@ pub fn text_at(p: &Program, class: ClassId, index: u32) -> Option<&Name>
         Some(Entry::Class(_)) => None,
         Some(Entry::Field(_)) => None,
         Some(Entry::Method(_)) => None,
+        Some(Entry::Dynamic(_)) => None,
         None => None,
     }
 }
@@ -42,6 +43,7 @@ pub fn class_at(p: &Program, class: ClassId, index: u32) -> Option<&Name>
         Some(Entry::Text(_)) => None,
         Some(Entry::Field(_)) => None,
         Some(Entry::Method(_)) => None,
+        Some(Entry::Dynamic(_)) => None,
         None => None,
     }
 }
@@ -60,6 +62,7 @@ pub fn field_at(p: &Program, class: ClassId, index: u32) -> Option<&FieldRef>
         Some(Entry::Text(_)) => None,
         Some(Entry::Class(_)) => None,
         Some(Entry::Method(_)) => None,
+        Some(Entry::Dynamic(_)) => None,
         None => None,
     }
 }

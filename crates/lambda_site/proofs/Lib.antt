@@ -1,5 +1,6 @@
 pub mod Added
 pub mod Boxed
+pub mod Built
 pub mod Described
 pub mod Dynamics
 pub mod Forms

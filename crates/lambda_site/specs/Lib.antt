@@ -1,3 +1,4 @@
+pub mod Built
 pub mod Formed
 pub mod Listed
 pub mod Writing

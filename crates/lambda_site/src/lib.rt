@@ -5,10 +5,12 @@
 mod adapter;
 mod boxes;
 mod converting;
+mod laws;
 mod listing;
 mod naming;
 mod parts;
 mod site;
 mod writing;
 
+pub use laws::built_has_adapters;
 pub use listing::sites;

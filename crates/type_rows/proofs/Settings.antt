@@ -43,6 +43,9 @@ by_kinds s (k ∷ ks) stack go =
     taken_alike s (type_of_kind k) stack (λ rest. takes_reversed s ks rest go) (λ rest. takes_types s (map type_of_kind ks) rest go)
     (λ rest. by_kinds s ks rest go)
 
+pub kinds_at : (s : Setting) (ns : List Named) (ks : List Kind) (vs us : List SlotType) (stack : List VType) (go : List VType → Checked) → map type_of_kind (reversed_onto ks []) ≡ types_in ns vs → us ≡ vs → takes_args s ks stack go ≡ takes_types s (types_in ns us) stack go
+kinds_at s ns ks vs us stack go i e = by_kinds s (reversed_onto ks []) stack go ∙ ap (λ l. takes_types s l stack go) (i ∙ ap (types_in ns) (sym e))
+
 pub args_are : (s : Setting) (ns : List Named) (r : MethodRef) (m : Signature) (stack : List VType) (go : List VType → Checked) → IsSignature ns r m → takes_args s r.args stack go ≡ takes_types s (types_in ns m.args.items) stack go
 args_are s ns r m stack go i =
     by_kinds s (reversed_onto r.args []) stack go ∙ ap (λ us. takes_types s us stack go) i.args
@@ -57,21 +60,33 @@ result_is ns (Some k) None rest e = cc
 result_is ns (Some k) (Some t) rest e = let same : type_of_kind k ≡ type_of ns t = cc in ap (λ u. u ∷ types_in ns rest) same
 
 -- the stack behind a call, with its result, where there is no room for it, and where there is
-pub room_lacks : (s : Setting) (t : Site) (r : MethodRef) (m : Signature) (go : List VType → Checked) (rest new : List SlotType) → IsSettingOf s t → IsSignature t.names.now r m → new ≡ pushed m.result rest → false ≡ nat_le (height (types_in t.names.now new)) t.code.now.max_stack → has_room s (with_result r.result (types_in t.names.now rest)) (go (with_result r.result (types_in t.names.now rest))) ≡ Fails 8
-room_lacks s t r m go rest new x i e full =
+pub result_lacks : (s : Setting) (t : Site) (o : Option Kind) (given : Option SlotType) (go : List VType → Checked) (rest new : List SlotType) → IsSettingOf s t → option_map type_of_kind o ≡ option_map (type_of t.names.now) given → new ≡ pushed given rest → false ≡ nat_le (height (types_in t.names.now new)) t.code.now.max_stack → has_room s (with_result o (types_in t.names.now rest)) (go (with_result o (types_in t.names.now rest))) ≡ Fails 8
+result_lacks s t o given go rest new x i e full =
     let ns = t.names.now in
-    let stack : with_result r.result (types_in ns rest) ≡ types_in ns new = result_is ns r.result m.result rest i.result ∙ ap (types_in ns) (sym e) in
+    let stack : with_result o (types_in ns rest) ≡ types_in ns new = result_is ns o given rest i ∙ ap (types_in ns) (sym e) in
     ap (λ l. has_room s l (go l)) stack
     ∙ ap (λ b. if b then go (types_in ns new) else Fails 8)
     (ap (nat_le (height (types_in ns new))) (room_is s t x) ∙ sym full)
 
-pub room_serves : (s : Setting) (t : Site) (r : MethodRef) (m : Signature) (go : List VType → Checked) (rest new : List SlotType) → IsSettingOf s t → IsSignature t.names.now r m → new ≡ pushed m.result rest → true ≡ nat_le (height (types_in t.names.now new)) t.code.now.max_stack → has_room s (with_result r.result (types_in t.names.now rest)) (go (with_result r.result (types_in t.names.now rest))) ≡ go (types_in t.names.now new)
-room_serves s t r m go rest new x i e room =
+pub result_serves : (s : Setting) (t : Site) (o : Option Kind) (given : Option SlotType) (go : List VType → Checked) (rest new : List SlotType) → IsSettingOf s t → option_map type_of_kind o ≡ option_map (type_of t.names.now) given → new ≡ pushed given rest → true ≡ nat_le (height (types_in t.names.now new)) t.code.now.max_stack → has_room s (with_result o (types_in t.names.now rest)) (go (with_result o (types_in t.names.now rest))) ≡ go (types_in t.names.now new)
+result_serves s t o given go rest new x i e room =
     let ns = t.names.now in
-    let stack : with_result r.result (types_in ns rest) ≡ types_in ns new = result_is ns r.result m.result rest i.result ∙ ap (types_in ns) (sym e) in
+    let stack : with_result o (types_in ns rest) ≡ types_in ns new = result_is ns o given rest i ∙ ap (types_in ns) (sym e) in
     ap (λ l. has_room s l (go l)) stack
     ∙ ap (λ b. if b then go (types_in ns new) else Fails 8)
     (ap (nat_le (height (types_in ns new))) (room_is s t x) ∙ sym room)
+
+pub room_lacks : (s : Setting) (t : Site) (r : MethodRef) (m : Signature) (go : List VType → Checked) (rest new : List SlotType) → IsSettingOf s t → IsSignature t.names.now r m → new ≡ pushed m.result rest → false ≡ nat_le (height (types_in t.names.now new)) t.code.now.max_stack → has_room s (with_result r.result (types_in t.names.now rest)) (go (with_result r.result (types_in t.names.now rest))) ≡ Fails 8
+room_lacks s t r m go rest new x i e full = result_lacks s t r.result m.result go rest new x i.result e full
+
+pub room_serves : (s : Setting) (t : Site) (r : MethodRef) (m : Signature) (go : List VType → Checked) (rest new : List SlotType) → IsSettingOf s t → IsSignature t.names.now r m → new ≡ pushed m.result rest → true ≡ nat_le (height (types_in t.names.now new)) t.code.now.max_stack → has_room s (with_result r.result (types_in t.names.now rest)) (go (with_result r.result (types_in t.names.now rest))) ≡ go (types_in t.names.now new)
+room_serves s t r m go rest new x i e room = result_serves s t r.result m.result go rest new x i.result e room
+
+-- ---- sites
+
+-- the end of a site, with its adapter on the stack
+abbrev pub adapter_ends : Bool → Option Kind → FrameTypes → List VType → Checked
+adapter_ends right o f stack = if right then Falls (record f { stack = stack }) else Fails 14
 
 -- the end of a call, with its result on the stack
 abbrev pub call_ends : Setting → MethodRef → FrameTypes → List VType → Checked

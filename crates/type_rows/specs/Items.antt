@@ -3,13 +3,13 @@ use Rattle.std.specs.Prelude.{◌≡◌, ◌&&◌, ◌||◌, ℕ, Bool, true, fa
 use Rattle.std.specs.Option.{option_map}
 use Rattle.program_rules.specs.Names.{Name, same, instance_initializer}
 use Rattle.program_rules.specs.Kinds.{reversed_onto}
-use Rattle.program_rules.specs.Instructions.{FieldRef, MethodRef}
+use Rattle.program_rules.specs.Instructions.{FieldRef, MethodRef, DynamicRef}
 use Rattle.program_rules.specs.Linked.{Linked}
 use Rattle.type_rules.specs.References.{Classes, array_of}
 use Rattle.type_rules.specs.Frames.{type_of as type_of_kind}
 use Rattle.type_rules.specs.Rows.{Setting, declares, is_parent, is_plain_name, may_name}
 use Rattle.class_link.specs.declared.linked.Entry.{Entry}
-use Rattle.class_link.specs.Symbols.{Symbol, IsOther, IsInteger, IsLong, IsText, IsClass, IsField as IsFieldSymbol, IsMethod}
+use Rattle.class_link.specs.Symbols.{Symbol, IsOther, IsInteger, IsLong, IsText, IsClass, IsField as IsFieldSymbol, IsMethod, IsDynamic}
 use Rattle.class_link.specs.View.{meaning_at}
 use Rattle.vframes.specs.declared.named.Named.{Named}
 use Rattle.vframes.specs.declared.slot_type.SlotType.{SlotType}
@@ -20,6 +20,7 @@ use Rattle.type_rows.specs.declared.item.Item.TheVariants as item
 use Rattle.type_rows.specs.declared.item.Called.{Called}
 use Rattle.type_rows.specs.declared.item.Called.TheVariants as called
 use Rattle.type_rows.specs.declared.item.Signature.{Signature}
+use Rattle.type_rows.specs.declared.item.Taking.{Taking}
 
 -- Which method a name is that of.
 abbrev pub is_init : Called → Bool
@@ -62,6 +63,11 @@ pub record IsSignature (ns : List Named) (r : MethodRef) (m : Signature) : Type 
   pub args : map type_of_kind (reversed_onto r.args []) ≡ types_in ns m.args.items
   pub result : option_map type_of_kind r.result ≡ option_map (type_of ns) m.result
 
+-- A site takes and gives this.
+pub record IsTaking (ns : List Named) (r : DynamicRef) (m : Taking) : Type 0 where
+  pub args : map type_of_kind (reversed_onto r.args []) ≡ types_in ns m.args.items
+  pub result : option_map type_of_kind r.result ≡ option_map (type_of ns) m.result
+
 -- What a special call may do by a method, of which class it is: initialise `this`; and call it,
 -- where it is no initializer.
 pub record IsSpecial (h : Home) (r : MethodRef) (m : Signature) : Type 0 where
@@ -78,6 +84,8 @@ IsItem ns h (IsFieldSymbol r) (item.Field c t own) = IsField ns h r c t own
 IsItem ns h (IsFieldSymbol r) _ = ⊥
 IsItem ns h (IsMethod r) (item.Method m) = IsSignature ns r m × IsSpecial h r m
 IsItem ns h (IsMethod r) _ = ⊥
+IsItem ns h (IsDynamic r) (item.Dynamic m) = IsTaking ns r m
+IsItem ns h (IsDynamic r) _ = ⊥
 IsItem ns h s item.Other = ⊤
 IsItem ns h s _ = ⊥
 

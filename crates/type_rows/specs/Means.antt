@@ -6,8 +6,8 @@ use Rattle.program_rules.specs.Instructions as rules
 use Rattle.type_rules.specs.References.{array_name, throwable_name}
 use Rattle.type_rules.specs.Rows.{Setting, row, is_reference_kind}
 use Rattle.class_link.specs.declared.instruction.Instruction.{Instruction}
-use Rattle.class_link.specs.Symbols.{IsText, IsField as IsFieldSymbol, IsMethod}
-use Rattle.class_link.specs.Opcodes.{on_text, on_field, on_method, array_of}
+use Rattle.class_link.specs.Symbols.{IsText, IsField as IsFieldSymbol, IsMethod, IsDynamic}
+use Rattle.class_link.specs.Opcodes.{on_text, on_field, on_method, on_dynamic, array_of}
 use Rattle.class_link.specs.View.{instruction_of, meaning_at}
 use Rattle.vframes.specs.declared.frame.Frame.{Frame}
 use Rattle.vframes.specs.declared.named.Named.{Named}
@@ -16,10 +16,11 @@ use Rattle.vframes.specs.Named.{AreDistinct, AreNamed, HaveComponents, name_at}
 use Rattle.vframes.specs.FrameView.{types_of}
 use Rattle.type_rows.specs.declared.answer.Answer.{Answer}
 use Rattle.type_rows.specs.declared.item.Signature.{Signature}
+use Rattle.type_rows.specs.declared.item.Taking.{Taking}
 use Rattle.type_rows.specs.declared.site.CommonNames.{CommonNames}
 use Rattle.type_rows.specs.declared.site.Site.{Site}
 use Rattle.type_rows.specs.Answers.{checked_of}
-use Rattle.type_rows.specs.Items.{IsField, IsSignature, IsSpecial}
+use Rattle.type_rows.specs.Items.{IsField, IsSignature, IsTaking, IsSpecial}
 use Rattle.type_rows.specs.Sites.{AreItems, IsSettingOf, home_of}
 
 -- The numbers of names are those of the classes and arrays that instructions mean without an index.
@@ -86,6 +87,15 @@ abbrev pub NoMethodAt : Site → ℕ → Type 0
 NoMethodAt t k =
     (made : rules.MethodRef → rules.Instruction)
     → on_method made (meaning_at t.linked.now.entries k) ≡ rules.Unlinked
+
+-- A site; or none.
+pub record DynamicAt (t : Site) (k : ℕ) (m : Taking) : Type 0 where
+  pub site : rules.DynamicRef
+  pub is : meaning_at t.linked.now.entries k ≡ IsDynamic site
+  pub has : IsTaking t.names.now site m
+
+abbrev pub NoDynamicAt : Site → ℕ → Type 0
+NoDynamicAt t k = on_dynamic (meaning_at t.linked.now.entries k) ≡ rules.Unlinked
 
 -- The array of this number is of elements of this kind.
 pub record ArrayAt (t : Site) (n array : ℕ) : Type 0 where

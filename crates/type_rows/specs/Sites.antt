@@ -3,16 +3,18 @@ use Rattle.std.specs.Prelude.{if◌then◌else◌, ◌≡◌, ◌+◌, drop, ℕ
 use Rattle.std.specs.Option.{option_map}
 use Rattle.program_rules.specs.Names.{Name, same, instance_initializer}
 use Rattle.program_rules.specs.Kinds.{Kind, is_int_kind, is_long_kind, reversed_onto}
-use Rattle.program_rules.specs.Instructions.{Instruction, FieldRef, MethodRef, CheckCast, InvokeSpecial, New, NewArray, NewReferenceArray, NewMultiArray, PutField, Unlinked}
+use Rattle.program_rules.specs.Instructions.{Instruction, FieldRef, MethodRef, DynamicRef, CheckCast, InvokeSpecial, InvokeDynamic, New, NewArray, NewReferenceArray, NewMultiArray, PutField, Unlinked}
 use Rattle.program_rules.specs.declared.operation.Element.{Element}
 use Rattle.program_rules.specs.Types.{VType, Obj}
 use Rattle.type_rules.specs.References.{Classes, classes_of, array_of, array_name, dimensions}
 use Rattle.type_rules.specs.Assignability.{FrameTypes, assignable}
 use Rattle.type_rules.specs.Frames.{type_of as type_of_kind, is_initializer, new_at, new_of, stated_at}
 use Rattle.type_rules.specs.Rows.{Setting, Checked, Falls, Fails, row, takes, takes_such, takes_ints, returns, plainly_named, is_array_of, element_type, is_element, is_plain_name, is_reference_kind, has_kind, leads, leads_all, leads_to, replace_type, initialises, calls_special, may_name, is_owner}
-use Rattle.class_link.specs.Symbols.{IsClass}
+use Rattle.program_rules.specs.Sites.{dynamics_before}
+use Rattle.class_link.specs.Symbols.{IsClass, IsDynamic}
 use Rattle.class_link.specs.Opcodes.{on_class, on_field, on_method}
 use Rattle.class_link.specs.declared.instruction.Instruction.{Instruction as Linking}
+use Rattle.class_link.specs.declared.instruction.Instruction.TheVariants as linking
 use Rattle.class_link.specs.declared.linked.Entry.{Entry}
 use Rattle.class_link.specs.declared.linked.Switch.{Switch}
 use Rattle.class_link.specs.View.{code_of, instruction_of, linked_of, meaning_at}
@@ -28,11 +30,12 @@ use Rattle.vframes.specs.FrameView.{types_of}
 use Rattle.vframes.specs.StatedFrames.{stated_types, frame_at}
 use Rattle.type_rows.specs.declared.answer.Answer.{Answer}
 use Rattle.type_rows.specs.declared.item.Signature.{Signature}
+use Rattle.type_rows.specs.declared.item.Taking.{Taking}
 use Rattle.type_rows.specs.declared.site.Given.{Given}
 use Rattle.type_rows.specs.declared.site.Given.TheVariants as given
 use Rattle.type_rows.specs.declared.site.Site.{Site}
 use Rattle.type_rows.specs.Answers.{checked_of}
-use Rattle.type_rows.specs.Items.{Home, IsField, IsSignature, IsSpecial, AreItemsOf}
+use Rattle.type_rows.specs.Items.{Home, IsField, IsSignature, IsTaking, IsSpecial, AreItemsOf}
 
 -- ---- results
 
@@ -83,6 +86,18 @@ pub record IsGiven (p : Classes) (ns : List Named) (k : Option Kind) (g : Given)
 abbrev pub stated_in : Site → ℕ → Option FrameTypes
 stated_in t to = option_map (stated_types t.names.now) (frame_at t.stated.now to)
 
+-- This instruction stands at a place of a site's code.
+abbrev pub StandsAt : Site → ℕ → Linking → Type 0
+StandsAt t at i = slice_get t.code.now.instructions at ≡ Some i
+
+-- Whether a place is noted as right.
+abbrev pub is_noted : Option Bool → Bool
+is_noted None = false
+is_noted (Some b) = b
+
+abbrev pub is_right_at : Site → ℕ → Bool
+is_right_at t at = is_noted (slice_get t.rights.now at)
+
 -- The setting of the rules is this site.
 pub record IsSettingOf (s : Setting) (t : Site) : Type 0 where
   pub program : s.program ≡ classes_of (look t.program.now)
@@ -92,6 +107,10 @@ pub record IsSettingOf (s : Setting) (t : Site) : Type 0 where
   pub frames : (to : ℕ) → stated_at to s.frames ≡ stated_in t to
   pub initializer : is_initializer s.method ≡ t.is_initializer
   pub given : IsGiven (classes_of (look t.program.now)) t.names.now s.method.result t.given
+  pub right :
+      (at k : ℕ) (r : DynamicRef) → StandsAt t at (linking.InvokeDynamic k)
+      → meaning_at t.linked.now.entries k ≡ IsDynamic r
+      → s.right (dynamics_before at s.code.instructions) r ≡ is_right_at t at
 
 -- The class of a site.
 abbrev pub home_of : Site → Home
@@ -167,6 +186,13 @@ abbrev pub CallIs :
 CallIs call t m old a new =
     (s : Setting) (at : ℕ) (r : MethodRef) → IsSettingOf s t → IsSignature t.names.now r m
     → row s at (call r) (types_of t.names.now old) ≡ checked_of t.names.now a new
+
+-- The row of a site that takes and gives this, by its index.
+abbrev pub AdapterIs : Site → ℕ → ℕ → Taking → Frame → Answer → Frame → Type 0
+AdapterIs t at k m old a new =
+    (s : Setting) (r : DynamicRef) → IsSettingOf s t → IsTaking t.names.now r m
+    → meaning_at t.linked.now.entries k ≡ IsDynamic r
+    → row s at (InvokeDynamic r) (types_of t.names.now old) ≡ checked_of t.names.now a new
 
 -- A result on these items, if there is one.
 abbrev pub pushed : Option SlotType → List SlotType → List SlotType

@@ -2,13 +2,14 @@
 #![tactic(auto, unfolding(class_link::specs::View::instruction_of))]
 
 ghost use Rattle.std.specs.Prelude.{◌≡◌, IfOk};
-ghost use Rattle.class_link.specs.declared.instruction.Instruction.TheVariants.{TextConstant, ClassConstant, GetStatic, PutStatic, GetField, PutField, InvokeVirtual, InvokeInterface, InvokeSpecial, InvokeStatic, New, NewReferenceArray, NewMultiArray, CheckCast, InstanceOf};
+ghost use Rattle.class_link.specs.declared.instruction.Instruction.TheVariants.{TextConstant, ClassConstant, GetStatic, PutStatic, GetField, PutField, InvokeVirtual, InvokeInterface, InvokeSpecial, InvokeStatic, InvokeDynamic, New, NewReferenceArray, NewMultiArray, CheckCast, InstanceOf};
 ghost use Rattle.type_rows.specs.Means.{IsSite, RowMeant};
+ghost use Rattle.type_rows.specs.Sites.{StandsAt};
 
-use crate::indices::{field_at, is_text_at, method_at};
+use crate::indices::{dynamic_at, field_at, is_text_at, method_at};
 use crate::{
     Answer, Site, call_method, call_special, call_static, check_cast, class_at, get_field,
-    get_static, give_type, instance_of, new_multi_array, new_object, new_reference_array,
+    get_static, give_type, instance_of, make_adapter, new_multi_array, new_object, new_reference_array,
     put_field, put_static,
 };
 use class_model::Memory;
@@ -106,6 +107,17 @@ pub fn invoke_static(site: &Site, at: u32, f: &mut Frame, index: u32) -> Result<
         return Ok(Answer::Fails(7));
     };
     Ok(call_static(site, f, method)?)
+}
+
+pub fn invoke_dynamic(site: &Site, at: u32, f: &mut Frame, index: u32) -> Result<Answer, Memory>
+    requires site { IsSite site.now }
+    requires stands { StandsAt site.now at (InvokeDynamic index) }
+    ensures { IfOk result (λ a. RowMeant site.now at (InvokeDynamic index) f.old a f.new) }
+{
+    let Some(taking) = dynamic_at(site, index) else {
+        return Ok(Answer::Fails(7));
+    };
+    Ok(make_adapter(site, at, index, f, taking)?)
 }
 
 pub fn make_object(site: &Site, at: u32, f: &mut Frame, index: u32) -> Result<Answer, Memory>

@@ -3,9 +3,10 @@
 
 ghost use Rattle.std.specs.Prelude.{◌≡◌, IfOk};
 ghost use Rattle.type_rows.specs.Means.{IsSite, RowMeant};
+ghost use Rattle.type_rows.specs.Sites.{StandsAt};
 
 use crate::by_index::{
-    cast, class_constant, invoke_method, invoke_special, invoke_static, make_array, make_arrays,
+    cast, class_constant, invoke_dynamic, invoke_method, invoke_special, invoke_static, make_array, make_arrays,
     make_object, read_field, read_static, test_instance, text_constant, write_field, write_static,
 };
 use crate::by_number::{by_keys, by_table, make_plain_array};
@@ -23,7 +24,8 @@ use vframes::Frame;
 
 /// What the instruction at a place makes of the frame before it.
 pub fn row(site: &Site, at: u32, instruction: Instruction, f: &mut Frame) -> Result<Answer, Memory>
-    requires { IsSite site.now }
+    requires site { IsSite site.now }
+    requires stands { StandsAt site.now at instruction }
     ensures { IfOk result (λ a. RowMeant site.now at instruction f.old a f.new) }
 {
     let room = site.code.max_stack;
@@ -81,6 +83,7 @@ pub fn row(site: &Site, at: u32, instruction: Instruction, f: &mut Frame) -> Res
         Instruction::InvokeInterface(index) => Ok(invoke_method(site, at, f, index)?),
         Instruction::InvokeSpecial(index) => Ok(invoke_special(site, at, f, index)?),
         Instruction::InvokeStatic(index) => Ok(invoke_static(site, at, f, index)?),
+        Instruction::InvokeDynamic(index) => Ok(invoke_dynamic(site, at, f, index)?),
         Instruction::New(index) => Ok(make_object(site, at, f, index)?),
         Instruction::NewArray(number) => Ok(make_plain_array(site, at, f, number)?),
         Instruction::NewReferenceArray(index) => Ok(make_array(site, at, f, index)?),

@@ -4,9 +4,9 @@ ghost use Rattle.std.specs.Prelude.{◌≡◌, true, false, IfSome, IfNone};
 ghost use Rattle.program_rules.specs.Instructions.{Unlinked};
 ghost use Rattle.class_link.specs.Opcodes.{array_of};
 ghost use Rattle.type_rows.specs.Sites.{AreItems};
-ghost use Rattle.type_rows.specs.Means.{AreCommon, TextAt, NoTextAt, FieldAt, NoFieldAt, MethodAt, NoMethodAt, ArrayAt};
+ghost use Rattle.type_rows.specs.Means.{AreCommon, TextAt, NoTextAt, FieldAt, NoFieldAt, MethodAt, NoMethodAt, DynamicAt, NoDynamicAt, ArrayAt};
 
-use crate::{Item, Signature, Site};
+use crate::{Item, Signature, Site, Taking};
 use class_link::Entry;
 use vframes::SlotType;
 
@@ -23,6 +23,7 @@ pub fn is_text_at(site: &Site, index: u32) -> bool
         Some(Entry::Class(_)) => false,
         Some(Entry::Field(_)) => false,
         Some(Entry::Method(_)) => false,
+        Some(Entry::Dynamic(_)) => false,
         None => false,
     }
 }
@@ -39,6 +40,7 @@ pub fn field_at(site: &Site, index: u32) -> Option<(usize, SlotType, bool)>
         Some(Item::Other) => None,
         Some(Item::Class(_, _)) => None,
         Some(Item::Method(_)) => None,
+        Some(Item::Dynamic(_)) => None,
         None => None,
     }
 }
@@ -54,6 +56,23 @@ pub fn method_at<'a>(site: &Site<'a>, index: u32) -> Option<&'a Signature>
         Some(Item::Other) => None,
         Some(Item::Class(_, _)) => None,
         Some(Item::Field(_, _, _)) => None,
+        Some(Item::Dynamic(_)) => None,
+        None => None,
+    }
+}
+
+/// What the site takes and gives that an index names.
+pub fn dynamic_at<'a>(site: &Site<'a>, index: u32) -> Option<&'a Taking>
+    requires { AreItems site.now }
+    ensures some { IfSome result (λ m. DynamicAt site.now index m.now) }
+    ensures none { IfNone result (NoDynamicAt site.now index) }
+{
+    match site.items.get(index as usize) {
+        Some(Item::Dynamic(taking)) => Some(taking),
+        Some(Item::Other) => None,
+        Some(Item::Class(_, _)) => None,
+        Some(Item::Field(_, _, _)) => None,
+        Some(Item::Method(_)) => None,
         None => None,
     }
 }

@@ -55,6 +55,13 @@ pub struct Signature {
     pub is_near: bool,
 }
 
+/// What a site takes and what it gives. Of the arguments the last stands first.
+#[derive(Drop)]
+pub struct Taking {
+    pub args: Shared<Vec<SlotType>>,
+    pub result: Option<SlotType>,
+}
+
 /// What an index means, with the numbers of names.
 #[derive(Drop)]
 pub enum Item {
@@ -65,4 +72,5 @@ pub enum Item {
     /// The class of a field, the type that it holds, and whether the class itself declares it.
     Field(usize, SlotType, bool),
     Method(Signature),
+    Dynamic(Taking),
 }

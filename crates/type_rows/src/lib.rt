@@ -18,6 +18,7 @@ mod meaning;
 mod object_rows;
 mod reference_rows;
 mod site;
+mod site_rows;
 mod special_rows;
 mod stack_rows;
 mod switch_rows;
@@ -33,7 +34,7 @@ pub use array_rows::{
 pub use call_rows::{call_method, call_static};
 pub use dispatch::row;
 pub use field_rows::{get_field, get_static, put_field, put_static};
-pub use item::{Called, Item, Signature};
+pub use item::{Called, Item, Signature, Taking};
 pub use jump_rows::{goto, if_int, if_ints, if_reference, if_references, leads};
 pub use local_rows::{
     increment, int_load, int_store, long_load, long_store, reference_load, reference_store,
@@ -45,6 +46,7 @@ pub use reference_rows::{
     throw,
 };
 pub use site::{CommonNames, Given, Site};
+pub use site_rows::make_adapter;
 pub use special_rows::call_special;
 pub use stack_rows::{dup, dup_x1, dup_x2, dup2, dup2_x1, dup2_x2, pop, pop2, swap};
 pub use switch_rows::{lookup_switch, table_switch};

@@ -19,6 +19,7 @@ pub fn class_at(site: &Site, index: u32) -> Option<(usize, usize)>
         Some(Item::Other) => None,
         Some(Item::Field(_, _, _)) => None,
         Some(Item::Method(_)) => None,
+        Some(Item::Dynamic(_)) => None,
         None => None,
     }
 }

@@ -42,5 +42,7 @@ pub struct Site<'a> {
     /// The number of the class's name.
     pub class: usize,
     pub given: Given,
+    /// Whether what stands at an instruction is a site whose adapter is right.
+    pub rights: &'a [bool],
     pub is_initializer: bool,
 }

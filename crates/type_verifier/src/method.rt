@@ -29,6 +29,7 @@ fn is_class(linked: &LinkedClass, index: u32) -> bool
         Some(Entry::Text(_)) => false,
         Some(Entry::Field(_)) => false,
         Some(Entry::Method(_)) => false,
+        Some(Entry::Dynamic(_)) => false,
         None => false,
     }
 }

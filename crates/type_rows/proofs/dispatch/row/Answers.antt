@@ -216,6 +216,10 @@ pub returns-in_ok-invoke_static-in-InvokeStatic : goal.returns-in_ok-invoke_stat
 unfolding instruction_of
 returns-in_ok-invoke_static-in-InvokeStatic c = rw c.in-InvokeStatic.is (λ s x. c.in_ok-invoke_static-in-InvokeStatic.ensures s x)
 
+pub returns-in_ok-invoke_dynamic-in-InvokeDynamic : goal.returns-in_ok-invoke_dynamic-in-InvokeDynamic
+unfolding instruction_of
+returns-in_ok-invoke_dynamic-in-InvokeDynamic c = rw c.in-InvokeDynamic.is (λ s x. c.in_ok-invoke_dynamic-in-InvokeDynamic.ensures s x)
+
 pub returns-in_ok-make_object-in-New : goal.returns-in_ok-make_object-in-New
 unfolding instruction_of
 returns-in_ok-make_object-in-New c = rw c.in-New.is (λ s x. c.in_ok-make_object-in-New.ensures s x)
