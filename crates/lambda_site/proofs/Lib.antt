@@ -5,5 +5,7 @@ pub mod Described
 pub mod Dynamics
 pub mod Forms
 pub mod Interfaces
+pub mod Parted
 pub mod Pools
+pub mod Steps
 pub mod Written
