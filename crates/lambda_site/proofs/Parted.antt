@@ -9,9 +9,9 @@ use Rattle.program_rules.specs.Sites as rules
 use Rattle.program_rules.specs.Sites.{Site, captured_name, captured_ref, captured_code, starts_code, is_making, calls_target, returns_kind, code_of_parts, code_with, adapter_code, arguments_code, converts_result, given_kind, taken_kinds, joined}
 use Rattle.class_link.specs.Symbols.{kind_of, kind_stated, field_ref}
 use Rattle.lambda_site.specs.Formed.{IsDescribed, argument_code}
-use Rattle.lambda_site.specs.Writing.{meaning_of, IsWritten, Writes}
+use Rattle.lambda_site.specs.Writing.{meaning_of, IsWritten, Writes, WritesIf}
 use Rattle.lambda_site.specs.declared.writing.Writing.{Writing}
-use Rattle.lambda_site.proofs.Written.{two_written}
+use Rattle.lambda_site.proofs.Written.{nothing_written, two_written}
 
 -- ---- a captured value
 
@@ -63,3 +63,30 @@ no_result own s args e some none =
 pub all_parts : (own : Name) (s : Site) (args last : List Instruction) → nat_eq (length s.captured + length s.boot.inst_args) (length (taken_kinds s.boot)) ≡ true → arguments_code 1 s.boot.args s.boot.inst_args (drop (length s.captured) (taken_kinds s.boot)) ≡ Some args → converts_result (given_kind s.boot) s.boot.result ≡ Some last → adapter_code own s ≡ Some (code_of_parts own s args last)
 all_parts own s args last e some there =
     counted own s e ∙ ap (λ o. code_with own s o (converts_result (given_kind s.boot) s.boot.result)) some ∙ ap (λ o. code_with own s (Some args) o) there
+
+-- ---- an argument
+
+module _ (n : ℕ) (s t k : Kind) where
+  abbrev loads : List Instruction
+  loads = rules.loads_kind s n ∷ []
+
+  pub argument_written : (a b c d : Writing) (x y : Bool) → Writes a b loads → WritesIf b c (rules.converts_kind s t) x → x ≡ true → WritesIf c d (rules.converts_kind t k) y → WritesIf a d (argument_code n s t k) y
+  argument_written a b c d true true load first is second = (
+    loads ++ (first.0 ++ second.0),
+    (
+      ap (λ o. joined (Some loads) (joined o (rules.converts_kind t k))) first.1.0 ∙ ap (λ o. joined (Some loads) (joined (Some first.0) o)) second.1.0,
+      two_written a b d loads (first.0 ++ second.0) load (two_written b c d first.0 second.0 first.1.1 second.1.1),
+    ),
+  )
+  argument_written a b c d true false load first is second =
+      ap (λ o. joined (Some loads) (joined o (rules.converts_kind t k))) first.1.0 ∙ ap (λ o. joined (Some loads) (joined (Some first.0) o)) second
+  argument_written a b c d false y load first is second = absurd cc
+
+  pub argument_refused : (a b c d : Writing) (x : Bool) → WritesIf b c (rules.converts_kind s t) x → x ≡ false → WritesIf a d (argument_code n s t k) false
+  argument_refused a b c d false first is = ap (λ o. joined (Some loads) (joined o (rules.converts_kind t k))) first
+  argument_refused a b c d true first is = absurd cc
+
+-- ---- no new object
+
+pub no_start : (a : Writing) (b : Bootstrap) → false ≡ is_making b.kind → IsWritten a → Writes a a (starts_code b)
+no_start a b is written = subst (λ t. Writes a a (if t then New b.target.class ∷ Dup ∷ [] else [])) is (nothing_written a written)

@@ -19,6 +19,7 @@ use class_model::{Kind, Memory, Name, Seq};
 use std::alloc::Global;
 
 // A captured value, from its field.
+#[tactic(auto, using(crate::proofs::Parted::field_written, crate::proofs::Parted::field_stated))]
 fn write_field(
     alloc: Global,
     w: &mut Writing,
@@ -54,6 +55,7 @@ fn write_captured(alloc: Global, w: &mut Writing, own: &Name, kinds: &[Kind]) ->
 
 // One argument: what the interface's method is given, as the instantiated type has it, as what is
 // called takes it.
+#[tactic(auto, using(crate::proofs::Parted::argument_written, crate::proofs::Parted::argument_refused))]
 fn write_argument(
     alloc: Global,
     w: &mut Writing,
@@ -141,6 +143,7 @@ fn call_for(boot: &Bootstrap) -> Call
 }
 
 // The new object of a constructor reference.
+#[tactic(auto, using(crate::proofs::Parted::start_written, crate::proofs::Parted::no_start))]
 fn write_start(w: &mut Writing, boot: &Bootstrap) -> Result<(), Memory>
     requires { IsWritten w.old }
     ensures { OnOk result (Writes w.old w.new (rules.starts_code (bootstrap_of boot.now))) }

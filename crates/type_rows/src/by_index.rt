@@ -9,8 +9,8 @@ ghost use Rattle.type_rows.specs.Sites.{StandsAt};
 use crate::indices::{dynamic_at, field_at, is_text_at, method_at};
 use crate::{
     Answer, Site, call_method, call_special, call_static, check_cast, class_at, get_field,
-    get_static, give_type, instance_of, make_adapter, new_multi_array, new_object, new_reference_array,
-    put_field, put_static,
+    get_static, give_type, instance_of, make_adapter, new_multi_array, new_object,
+    new_reference_array, put_field, put_static,
 };
 use class_model::Memory;
 use vframes::{Frame, SlotType, named_at};

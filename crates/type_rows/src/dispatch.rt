@@ -6,8 +6,9 @@ ghost use Rattle.type_rows.specs.Means.{IsSite, RowMeant};
 ghost use Rattle.type_rows.specs.Sites.{StandsAt};
 
 use crate::by_index::{
-    cast, class_constant, invoke_dynamic, invoke_method, invoke_special, invoke_static, make_array, make_arrays,
-    make_object, read_field, read_static, test_instance, text_constant, write_field, write_static,
+    cast, class_constant, invoke_dynamic, invoke_method, invoke_special, invoke_static, make_array,
+    make_arrays, make_object, read_field, read_static, test_instance, text_constant, write_field,
+    write_static,
 };
 use crate::by_number::{by_keys, by_table, make_plain_array};
 use crate::{

@@ -66,7 +66,10 @@ module _ (pool : List Const) where
   symbol_texts (Some (const.Pair name desc)) = tt
   symbol_texts (Some (const.Handle kind member)) = tt
   symbol_texts (Some (const.MethodKind desc)) = tt
-  symbol_texts (Some (const.Dynamic bootstrap pair)) = tt
+  symbol_texts (Some (const.Dynamic bootstrap pair)) = record {
+    args = ap (λ d. map kind_of (type_stated d).args) (desc_is pair);
+    result = ap (λ d. option_map kind_of (type_stated d).ret) (desc_is pair);
+  }
   symbol_texts (Some const.Second) = tt
 
 entries_in : (b : ClassBody) (es : List Entry) → HasEntries b es → AreEntries es (pool_in b)

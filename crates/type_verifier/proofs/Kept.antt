@@ -12,7 +12,7 @@ use Rattle.type_rules.specs.References.{array_of}
 use Rattle.type_rules.specs.Frames.{type_of as type_of_kind}
 use Rattle.class_model.specs.declared.constant.Const.{Const}
 use Rattle.class_link.specs.Symbols.{kind_of, kind_stated, type_stated, text_named}
-use Rattle.class_link.specs.declared.linked.MethodRef.{MethodRef}
+use Rattle.class_model.specs.declared.kind.Kind.{Kind as KindStated}
 use Rattle.vframes.specs.declared.named.Named.{Named}
 use Rattle.vframes.specs.declared.slot_type.SlotType.{SlotType}
 use Rattle.vframes.specs.Named.{name_at}
@@ -93,14 +93,14 @@ module _ {V : Type 0} (Is : Name → Name → V → Type 0) (pool : List Const) 
 
 -- ---- a method's descriptor by its text
 
-pub use_of_text : (ns : List Named) (o : Own) (index : ℕ) (r : MethodRef) (m : MethodUse) → StatesMethod o index r → MethodUseIs ns (text_named (pool_in o.body.now) index) m → UseIs ns (map kind_of r.args) (option_map kind_of r.result) m
-use_of_text ns o index r m states is = record {
-  args = λ more. ap (λ ks. map type_of_kind (reversed_onto ks [])) states.args ∙ is.args more;
+pub use_of_text : (ns : List Named) (o : Own) (index : ℕ) (ks : List KindStated) (k : Option KindStated) (m : MethodUse) → StatesMethod o index ks k → MethodUseIs ns (text_named (pool_in o.body.now) index) m → UseIs ns (map kind_of ks) (option_map kind_of k) m
+use_of_text ns o index ks k m states is = record {
+  args = λ more. ap (λ xs. map type_of_kind (reversed_onto xs [])) states.args ∙ is.args more;
   result = λ more. ap (option_map type_of_kind) states.result ∙ is.result more;
 }
 
-pub text_of_use : (ns : List Named) (o : Own) (index : ℕ) (r : MethodRef) (m : MethodUse) → StatesMethod o index r → UseIs ns (map kind_of r.args) (option_map kind_of r.result) m → MethodUseIs ns (text_named (pool_in o.body.now) index) m
-text_of_use ns o index r m states is = record {
-  args = λ more. ap (λ ks. map type_of_kind (reversed_onto ks [])) (sym states.args) ∙ is.args more;
+pub text_of_use : (ns : List Named) (o : Own) (index : ℕ) (ks : List KindStated) (k : Option KindStated) (m : MethodUse) → StatesMethod o index ks k → UseIs ns (map kind_of ks) (option_map kind_of k) m → MethodUseIs ns (text_named (pool_in o.body.now) index) m
+text_of_use ns o index ks k m states is = record {
+  args = λ more. ap (λ xs. map type_of_kind (reversed_onto xs [])) (sym states.args) ∙ is.args more;
   result = λ more. ap (option_map type_of_kind) (sym states.result) ∙ is.result more;
 }

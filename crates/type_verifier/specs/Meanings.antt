@@ -15,7 +15,8 @@ use Rattle.class_model.specs.declared.kind.Kind.{Kind as KindStated}
 use Rattle.class_link.specs.declared.linked.Entry.{Entry}
 use Rattle.class_link.specs.declared.linked.FieldRef.{FieldRef}
 use Rattle.class_link.specs.declared.linked.MethodRef.{MethodRef}
-use Rattle.class_link.specs.View.{field_of, field_ref_of, method_ref_of}
+use Rattle.class_link.specs.declared.linked.DynamicRef.{DynamicRef}
+use Rattle.class_link.specs.View.{field_of, field_ref_of, method_ref_of, dynamic_ref_of}
 use Rattle.vframes.specs.declared.named.Named.{Named}
 use Rattle.vframes.specs.declared.slot_type.SlotType.{SlotType}
 use Rattle.vframes.specs.View.{type_of, types_in}
@@ -26,7 +27,7 @@ use Rattle.type_verifier.specs.declared.own.Own.{Own}
 use Rattle.type_verifier.specs.declared.names.Names.{Names}
 use Rattle.type_verifier.specs.declared.pool_texts.TextIndices.{TextIndices}
 use Rattle.type_verifier.specs.Tables.{NameLasts, TypeLasts, KindLasts}
-use Rattle.type_verifier.specs.PoolTexts.{pool_in, FieldTexts, MethodTexts, EntryTexts}
+use Rattle.type_verifier.specs.PoolTexts.{pool_in, FieldTexts, MethodTexts, DynamicTexts, EntryTexts}
 use Rattle.type_verifier.specs.Pool.{InitialisesIs, NearIs}
 use Rattle.type_verifier.specs.Pairs.{pair_cmp}
 
@@ -110,8 +111,8 @@ ClassIs t o n c = ClassUseIs t.list.items o n c
 abbrev pub KindUseIs : Names → KindStated → SlotType → Type 0
 KindUseIs t k s = KindLasts t.list.items s k
 
-abbrev pub RefUseIs : Names → MethodRef → MethodUse → Type 0
-RefUseIs t r m = UseIs t.list.items (map kind_of r.args) (option_map kind_of r.result) m
+abbrev pub StatedUseIs : Names → List KindStated → Option KindStated → MethodUse → Type 0
+StatedUseIs t ks k m = UseIs t.list.items (map kind_of ks) (option_map kind_of k) m
 
 abbrev pub MeaningsAre : Names → Own → Meanings → Type 0
 MeaningsAre t o m = AreMeanings t.list.items o m
@@ -124,11 +125,12 @@ IsTextOf o index n = n ≡ text_named (pool_in o.body.now) index
 abbrev pub StatesKind : Own → ℕ → KindStated → Type 0
 StatesKind o index k = kind_of k ≡ kind_of (kind_stated (text_named (pool_in o.body.now) index))
 
-pub record StatesMethod (o : Own) (index : ℕ) (r : MethodRef) : Type 0 where
+pub record StatesMethod (o : Own) (index : ℕ) (ks : List KindStated) (k : Option KindStated) :
+    Type 0 where
   pub args :
-      map kind_of r.args ≡ map kind_of (type_stated (text_named (pool_in o.body.now) index)).args
+      map kind_of ks ≡ map kind_of (type_stated (text_named (pool_in o.body.now) index)).args
   pub result :
-      option_map kind_of r.result
+      option_map kind_of k
       ≡ option_map kind_of (type_stated (text_named (pool_in o.body.now) index)).ret
 
 pub record NamesPair (o : Own) (pair : ℕ × ℕ) (r : FieldRef) : Type 0 where
@@ -140,6 +142,9 @@ FieldTextsOf o r t = FieldTexts (pool_in o.body.now) (field_ref_of r) t
 
 abbrev pub MethodTextsOf : Own → MethodRef → TextIndices → Type 0
 MethodTextsOf o r t = MethodTexts (pool_in o.body.now) (method_ref_of r) t
+
+abbrev pub DynamicTextsOf : Own → DynamicRef → TextIndices → Type 0
+DynamicTextsOf o r t = DynamicTexts (pool_in o.body.now) (dynamic_ref_of r) t
 
 abbrev pub EntryTextsOf : Own → Entry → TextIndices → Type 0
 EntryTextsOf o e t = EntryTexts o.body.now e t

@@ -10,9 +10,10 @@ use Rattle.type_rules.specs.Rows.{Setting, may_name, is_parent, declares}
 use Rattle.class_link.specs.declared.linked.Entry.{Entry}
 use Rattle.class_link.specs.declared.linked.FieldRef.{FieldRef}
 use Rattle.class_link.specs.declared.linked.MethodRef.{MethodRef}
+use Rattle.class_link.specs.declared.linked.DynamicRef.{DynamicRef}
 use Rattle.class_link.specs.Info.{HasEntries}
 use Rattle.class_link.specs.Symbols.{IsClass, IsField, IsMethod, kind_of}
-use Rattle.class_link.specs.View.{linked_of, field_ref_of, method_ref_of, symbol_of}
+use Rattle.class_link.specs.View.{linked_of, field_ref_of, method_ref_of, dynamic_ref_of, symbol_of}
 use Rattle.class_table.specs.Table.{number_of, look}
 use Rattle.vframes.specs.declared.named.Named.{Named}
 use Rattle.vframes.specs.declared.slot_type.SlotType.{SlotType}
@@ -20,7 +21,8 @@ use Rattle.vframes.specs.Named.{IsClosed}
 use Rattle.vframes.specs.View.{type_of}
 use Rattle.type_rows.specs.declared.item.Item.{Item}
 use Rattle.type_rows.specs.declared.item.Signature.{Signature}
-use Rattle.type_rows.specs.Items.{Home, IsIn, IsSignature, IsSpecial, IsItem, AreItemsOf}
+use Rattle.type_rows.specs.declared.item.Taking.{Taking}
+use Rattle.type_rows.specs.Items.{Home, IsIn, IsSignature, IsTaking, IsSpecial, IsItem, AreItemsOf}
 use Rattle.type_verifier.specs.declared.names.Names.{Names}
 use Rattle.type_verifier.specs.declared.own.Own.{Own}
 
@@ -59,7 +61,7 @@ DeclaredIs o r b =
     (s : Setting) → IsIn s (home_of o)
     → (same r.class s.class && declares r.name r.desc s.linked.fields) ≡ b
 
--- However many names are added, these are a result, a field, a method, a class and an entry.
+-- However many names are added, these are a result, a field, a method, a site, a class and an entry.
 abbrev pub ResultLasts : List Named → Option VType → Option SlotType → Type 0
 ResultLasts ns v t = (more : List Named) → v ≡ option_map (type_of (ns ++ more)) t
 
@@ -70,6 +72,9 @@ abbrev pub SignatureLasts : List Named → Home → MethodRef → Signature → 
 SignatureLasts ns h r m =
     (more : List Named)
     → IsSignature (ns ++ more) (method_ref_of r) m × IsSpecial h (method_ref_of r) m
+
+abbrev pub TakingLasts : List Named → DynamicRef → Taking → Type 0
+TakingLasts ns r m = (more : List Named) → IsTaking (ns ++ more) (dynamic_ref_of r) m
 
 abbrev pub ClassLasts : List Named → Home → Name → Item → Type 0
 ClassLasts ns h n i = (more : List Named) → IsItem (ns ++ more) h (IsClass n) i

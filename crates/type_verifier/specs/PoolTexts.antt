@@ -4,12 +4,12 @@ use Rattle.std.specs.Option.{option_map}
 use Rattle.class_model.specs.declared.constant.Const.{Const}
 use Rattle.class_model.specs.declared.constant.Const.TheVariants as const
 use Rattle.class_model.specs.Pool.{entry_of, class_in, pair_in}
-use Rattle.program_rules.specs.Instructions.{FieldRef, MethodRef}
+use Rattle.program_rules.specs.Instructions.{FieldRef, MethodRef, DynamicRef}
 use Rattle.class_link.specs.declared.loaded.ClassBody.{ClassBody}
 use Rattle.class_link.specs.declared.loaded.ClassBody.TheVariants as body
 use Rattle.class_link.specs.declared.linked.Entry.{Entry}
 use Rattle.class_link.specs.Edits.{class_edited}
-use Rattle.class_link.specs.Symbols.{Symbol, IsClass, IsField, IsMethod, kind_of, kind_stated, type_stated, text_named}
+use Rattle.class_link.specs.Symbols.{Symbol, IsClass, IsField, IsMethod, IsDynamic, kind_of, kind_stated, type_stated, text_named}
 use Rattle.class_link.specs.View.{symbol_of}
 use Rattle.type_verifier.specs.declared.pool_texts.TextIndices.{TextIndices}
 
@@ -43,6 +43,14 @@ member_texts pool class pair = record {
   desc = (pair_texts pool pair).1;
 }
 
+-- Those of a pair, without a class.
+abbrev pub of_pair : List Const → ℕ → TextIndices
+of_pair pool pair = record {
+  class = 0;
+  name = (pair_texts pool pair).0;
+  desc = (pair_texts pool pair).1;
+}
+
 abbrev pub of_class : ℕ → TextIndices
 of_class index = record { class = index; name = 0; desc = 0 }
 
@@ -52,10 +60,11 @@ texts_in pool (Some (const.Class name)) = of_class name
 texts_in pool (Some (const.Field class pair)) = member_texts pool class pair
 texts_in pool (Some (const.Method class pair)) = member_texts pool class pair
 texts_in pool (Some (const.IMethod class pair)) = member_texts pool class pair
+texts_in pool (Some (const.Dynamic bootstrap pair)) = of_pair pool pair
 texts_in pool other = of_class 0
 
 -- The texts of these indices are a field's: its class, its name, and its descriptor, which states
--- its kind; or a method's.
+-- its kind; or a method's; or a site's.
 pub record FieldTexts (pool : List Const) (r : FieldRef) (t : TextIndices) : Type 0 where
   pub class : r.class ≡ text_named pool t.class
   pub name : r.name ≡ text_named pool t.name
@@ -67,11 +76,16 @@ pub record MethodTexts (pool : List Const) (r : MethodRef) (t : TextIndices) : T
   pub args : r.args ≡ map kind_of (type_stated (text_named pool t.desc)).args
   pub result : r.result ≡ option_map kind_of (type_stated (text_named pool t.desc)).ret
 
+pub record DynamicTexts (pool : List Const) (r : DynamicRef) (t : TextIndices) : Type 0 where
+  pub args : r.args ≡ map kind_of (type_stated (text_named pool t.desc)).args
+  pub result : r.result ≡ option_map kind_of (type_stated (text_named pool t.desc)).ret
+
 -- The texts of these indices are those that an entry names.
 abbrev pub SymbolTexts : List Const → Symbol → TextIndices → Type 0
 SymbolTexts pool (IsClass n) t = n ≡ text_named pool t.class
 SymbolTexts pool (IsField r) t = FieldTexts pool r t
 SymbolTexts pool (IsMethod r) t = MethodTexts pool r t
+SymbolTexts pool (IsDynamic r) t = DynamicTexts pool r t
 SymbolTexts pool other t = ⊤
 
 abbrev pub EntryTexts : ClassBody → Entry → TextIndices → Type 0

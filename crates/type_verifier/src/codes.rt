@@ -40,6 +40,7 @@ fn fault_of_stated(
         code,
         class: parts.class,
         given: parts.given,
+        rights: &[],
         is_initializer: is_init(method),
     };
     let fault = check_code(&site, &parts.handlers, first);
@@ -53,6 +54,7 @@ fn fault_of_stated(
         code: _,
         class: _,
         given: _,
+        rights: _,
         is_initializer: _,
     } = site;
     fault

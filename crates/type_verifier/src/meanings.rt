@@ -8,13 +8,13 @@ ghost use Rattle.type_rules.specs.Rows.{declares};
 ghost use Rattle.class_link.specs.View.{field_of};
 ghost use Rattle.type_verifier.specs.Tables.{IsTable, Adds};
 ghost use Rattle.type_verifier.specs.Pool.{IsOwn, KindIfAny, DeclaredIs, NearIs};
-ghost use Rattle.type_verifier.specs.Meanings.{ClassIs, KindUseIs, RefUseIs, DeclaresIs, ClassesKept, NearKept, FieldsKept, MethodsKept, DeclaredKept, KeepNothing, IsTextOf, StatesKind, StatesMethod, NamesPair};
+ghost use Rattle.type_verifier.specs.Meanings.{ClassIs, KindUseIs, StatedUseIs, DeclaresIs, ClassesKept, NearKept, FieldsKept, MethodsKept, DeclaredKept, KeepNothing, IsTextOf, StatesKind, StatesMethod, NamesPair};
 
 use crate::names::Names;
 use crate::own::{Own, initialises_this, is_near};
 use crate::pool_texts::TextIndices;
 use crate::types::{kind_type, kind_types};
-use class_link::{FieldRef, LinkedField, MethodRef, Shared};
+use class_link::{FieldRef, LinkedField, Shared};
 use class_model::{Kind, Memory, Name, Seq};
 use class_table::Program;
 use std::alloc::Global;
@@ -197,16 +197,21 @@ fn result_type(
     }
 }
 
-// What the descriptor of a method states.
-fn method_use(names: &mut Names, program: &Program, r: &MethodRef) -> Result<MethodUse, Memory>
+// What a descriptor of these arguments and this result states.
+fn method_use(
+    names: &mut Names,
+    program: &Program,
+    kinds: &[Kind],
+    given: &Option<Kind>,
+) -> Result<MethodUse, Memory>
     requires { IsTable program.now names.old }
     ensures adds { OnOk result (Adds program.now names.old names.new) }
-    ensures method { IfOk result (λ m. RefUseIs names.new r.now m) }
+    ensures method { IfOk result (λ m. StatedUseIs names.new kinds.now given.now m) }
 {
     let alloc = *names.list.allocator();
-    let mut args = kind_types(names, program, r.args.as_slice())?;
+    let mut args = kind_types(names, program, kinds)?;
     args.reverse();
-    let given = result_type(names, program, &r.result)?;
+    let given = result_type(names, program, given)?;
     let shared = Shared::new(alloc, args)?;
     Ok(MethodUse {
         args: shared,
@@ -214,26 +219,27 @@ fn method_use(names: &mut Names, program: &Program, r: &MethodRef) -> Result<Met
     })
 }
 
-/// What the descriptor of a method, which is the text of this index, states.
+/// What a descriptor of these arguments and this result states, which is the text of this index.
 pub fn method_by_text(
     names: &mut Names,
     own: &Own,
     kept: &mut HashMap<u16, MethodUse>,
     text: u16,
-    r: &MethodRef,
+    kinds: &[Kind],
+    given: &Option<Kind>,
 ) -> Result<MethodUse, Memory>
     requires table { IsTable own.now.program.now names.old }
     requires kept { MethodsKept names.old.list.items own.now kept.old }
-    requires text { StatesMethod own.now text r.now }
+    requires text { StatesMethod own.now text kinds.now given.now }
     ensures adds { OnOk result (Adds own.now.program.now names.old names.new) }
     ensures kept { OnOk result (MethodsKept names.new.list.items own.now kept.new) }
-    ensures method { IfOk result (λ m. RefUseIs names.new r.now m) }
+    ensures method { IfOk result (λ m. StatedUseIs names.new kinds.now given.now m) }
 {
     if let Some(method) = kept.get(&text) {
         let shared = method.share()?;
         return Ok(shared);
     }
-    let method = method_use(names, own.program, r)?;
+    let method = method_use(names, own.program, kinds, given)?;
     let shared = method.share()?;
     kept.insert(text, shared)?;
     Ok(method)

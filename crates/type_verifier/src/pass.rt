@@ -2,6 +2,7 @@
 
 ghost use Rattle.std.specs.Prelude.{◌≡◌, ◌<◌, ◌^◌, IfOk, length};
 ghost use Rattle.type_rows.specs.Means.{IsSite};
+ghost use Rattle.type_rows.specs.Sites.{StandsAt};
 ghost use Rattle.type_verifier.specs.Passes.{FaultsAgree, GoesOn, IsLesser, Judged, FirstFaultIs, HandledRow, rule_of};
 
 use crate::covering_handlers::handlers_fit;
@@ -58,7 +59,8 @@ pub fn row_with_handlers(
     instruction: Instruction,
     f: &mut Frame,
 ) -> Result<Answer, Memory>
-    requires { IsSite site.now }
+    requires site { IsSite site.now }
+    requires stands { StandsAt site.now at instruction }
     ensures { IfOk result (λ a. HandledRow site.now handlers.now at instruction f.old a f.new) }
 {
     let fit = handlers_fit(site, at, handlers, f)?;

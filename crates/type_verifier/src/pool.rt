@@ -5,8 +5,8 @@ ghost use Rattle.program_rules.specs.Names.{same, instance_initializer};
 ghost use Rattle.type_rules.specs.Rows.{is_plain_name};
 ghost use Rattle.type_rows.specs.Items.{is_init, is_plain};
 ghost use Rattle.type_verifier.specs.Tables.{IsTable, Adds};
-ghost use Rattle.type_verifier.specs.Pool.{IsOwn, home_of, FieldLasts, ClassLasts, MethodIs, ItemLasts, ItemsAre};
-ghost use Rattle.type_verifier.specs.Meanings.{MeaningsAre, IsTextOf, FieldTextsOf, MethodTextsOf, EntryTextsOf};
+ghost use Rattle.type_verifier.specs.Pool.{IsOwn, home_of, FieldLasts, ClassLasts, TakingLasts, MethodIs, ItemLasts, ItemsAre};
+ghost use Rattle.type_verifier.specs.Meanings.{MeaningsAre, IsTextOf, FieldTextsOf, MethodTextsOf, DynamicTextsOf, EntryTextsOf};
 
 use crate::meanings::{
     Meanings, class_by_text, field_by_text, is_declared, method_by_text, near_by_text, no_meanings,
@@ -14,10 +14,10 @@ use crate::meanings::{
 use crate::names::Names;
 use crate::own::Own;
 use crate::pool_texts::{TextIndices, texts_of};
-use class_link::{Entry, FieldRef, MethodRef};
+use class_link::{DynamicRef, Entry, FieldRef, MethodRef};
 use class_model::names::is_text;
 use class_model::{Memory, Name};
-use type_rows::{Called, Item, Signature};
+use type_rows::{Called, Item, Signature, Taking};
 
 // Which method a name is that of.
 fn called_of(name: &Name) -> Called
@@ -94,7 +94,14 @@ fn signature_of(
 {
     let class = class_by_text(names, own, &mut meanings.classes, texts.class, &r.class)?;
     let near = near_by_text(own, &mut meanings.near, texts.class, &r.class)?;
-    let stated = method_by_text(names, own, &mut meanings.methods, texts.desc, r)?;
+    let stated = method_by_text(
+        names,
+        own,
+        &mut meanings.methods,
+        texts.desc,
+        r.args.as_slice(),
+        &r.result,
+    )?;
     Ok(Signature {
         class: class.number,
         called: called_of(&r.name),
@@ -102,6 +109,36 @@ fn signature_of(
         result: stated.result,
         initialises_this: class.initialises_this,
         is_near: near,
+    })
+}
+
+// What a site that is named takes and gives.
+fn taking_of(
+    names: &mut Names,
+    own: &Own,
+    meanings: &mut Meanings,
+    texts: TextIndices,
+    r: &DynamicRef,
+) -> Result<Taking, Memory>
+    requires own { IsOwn own.now }
+    requires table { IsTable own.now.program.now names.old }
+    requires meanings { MeaningsAre names.old own.now meanings.old }
+    requires texts { DynamicTextsOf own.now r.now texts }
+    ensures adds { OnOk result (Adds own.now.program.now names.old names.new) }
+    ensures meanings { OnOk result (MeaningsAre names.new own.now meanings.new) }
+    ensures taking { IfOk result (λ m. TakingLasts names.new.list.items r.now m) }
+{
+    let stated = method_by_text(
+        names,
+        own,
+        &mut meanings.methods,
+        texts.desc,
+        r.args.as_slice(),
+        &r.result,
+    )?;
+    Ok(Taking {
+        args: stated.args,
+        result: stated.result,
     })
 }
 
@@ -128,6 +165,10 @@ fn item_of(
         Entry::Method(r) => {
             let method = signature_of(names, own, meanings, texts, r)?;
             Ok(Item::Method(method))
+        }
+        Entry::Dynamic(r) => {
+            let taking = taking_of(names, own, meanings, texts, r)?;
+            Ok(Item::Dynamic(taking))
         }
         Entry::Other => Ok(Item::Other),
         Entry::Integer(_) => Ok(Item::Other),

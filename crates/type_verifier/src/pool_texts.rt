@@ -3,7 +3,7 @@
 ghost use Rattle.std.specs.Prelude.{◌≡◌, slice_get};
 ghost use Rattle.std.specs.Option.{option_copied};
 ghost use Rattle.class_model.specs.Pool.{entry_of};
-ghost use Rattle.type_verifier.specs.PoolTexts.{pool_in, class_text, pair_texts, member_texts, of_class, texts_in};
+ghost use Rattle.type_verifier.specs.PoolTexts.{pool_in, class_text, pair_texts, member_texts, of_pair, of_class, texts_in};
 
 use class_link::{ClassBody, at_place};
 use class_model::Const;
@@ -74,6 +74,18 @@ fn of_class(name: u16) -> TextIndices
     }
 }
 
+// Those of a pair, without a class.
+fn of_pair(body: &ClassBody, pair: u16) -> TextIndices
+    ensures { result ≡ of_pair (pool_in body.now) pair }
+{
+    let texts = pair_texts(body, pair);
+    TextIndices {
+        class: 0,
+        name: texts.0,
+        desc: texts.1,
+    }
+}
+
 // Those of a member by the indices of its class and its pair.
 fn member_texts(body: &ClassBody, class: u16, pair: u16) -> TextIndices
     ensures { result ≡ member_texts (pool_in body.now) class pair }
@@ -95,6 +107,7 @@ pub fn texts_of(body: &ClassBody, index: usize) -> TextIndices
         Some(Const::Field(class, pair)) => member_texts(body, *class, *pair),
         Some(Const::Method(class, pair)) => member_texts(body, *class, *pair),
         Some(Const::IMethod(class, pair)) => member_texts(body, *class, *pair),
+        Some(Const::Dynamic(_, pair)) => of_pair(body, *pair),
         _ => of_class(0),
     }
 }

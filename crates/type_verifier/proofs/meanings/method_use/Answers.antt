@@ -13,15 +13,14 @@ returns-clause-adds c = added_twice c.args.program.now c.args.names.now c.kind_t
 
 pub returns-clause-method : goal.returns-clause-method
 returns-clause-method c =
-    let r = c.args.r.now in
     let a = c.kind_types.new.names.list.items in
     let b = c.result_type.new.names.list.items in
     record {
       args = λ more.
           let ns = b ++ more in
-          let types = lasts (λ ns. types_in ns c.in_ok-args.args.items ≡ map (λ k. type_of_kind (kind_of k)) c.as_slice.result.now) a b c.in_ok-given.ensures.adds.more c.in_ok-args.ensures.types more in
-          args_turned type_of_kind kind_of r.args
-          ∙ ap reverse (sym (types ∙ ap (map (λ k. type_of_kind (kind_of k))) (c.as_slice.ensures ∙ c.deref.ensures)))
+          let types = lasts (λ ns. types_in ns c.in_ok-args.args.items ≡ map (λ k. type_of_kind (kind_of k)) c.args.kinds.now) a b c.in_ok-given.ensures.adds.more c.in_ok-args.ensures.types more in
+          args_turned type_of_kind kind_of c.args.kinds.now
+          ∙ ap reverse (sym types)
           ∙ sym (map_turned (type_of ns) c.in_ok-args.args.items) ∙ ap (types_in ns) (sym c.reverse.ensures.items ∙ ap (λ v. v.items) (sym c.in_ok-shared.ensures));
-      result = λ more. map_twice type_of_kind kind_of r.result ∙ ap (option_map (λ k. type_of_kind (kind_of k))) (sym c.deref-2.ensures) ∙ c.in_ok-given.ensures.result_ more;
+      result = λ more. map_twice type_of_kind kind_of c.args.given.now ∙ c.in_ok-given.ensures.result_ more;
     }

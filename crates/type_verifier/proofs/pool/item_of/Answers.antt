@@ -34,3 +34,11 @@ pub returns-in_ok-method-in-Method-clause-item : goal.returns-in_ok-method-in-Me
 returns-in_ok-method-in-Method-clause-item c = λ more.
     subst (λ e. IsItem (c.signature_of.new.names.list.items ++ more) (home_of c.args.own.now) (symbol_of e) (item.Method c.in_ok-method-in-Method.method)) (sym c.in-Method.is)
     (c.in_ok-method-in-Method.ensures.method more)
+
+pub taking_of-requires-clause-texts : goal.taking_of-requires-clause-texts
+taking_of-requires-clause-texts c = subst (λ e. EntryTextsOf c.args.own.now e c.args.texts) c.in-Dynamic.is c.requires.texts
+
+pub returns-in_ok-taking-in-Dynamic-clause-item : goal.returns-in_ok-taking-in-Dynamic-clause-item
+returns-in_ok-taking-in-Dynamic-clause-item c = λ more.
+    subst (λ e. IsItem (c.taking_of.new.names.list.items ++ more) (home_of c.args.own.now) (symbol_of e) (item.Dynamic c.in_ok-taking-in-Dynamic.taking)) (sym c.in-Dynamic.is)
+    (c.in_ok-taking-in-Dynamic.ensures.taking more)

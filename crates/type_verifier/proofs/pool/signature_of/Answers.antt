@@ -1,4 +1,6 @@
-use Rattle.std.proofs.Common.{◌≡◌, ◌∙◌, sym, ap, subst}
+use Rattle.std.proofs.Common.{◌≡◌, ◌∙◌, sym, ap, subst, map}
+use Rattle.std.specs.Option.{option_map}
+use Rattle.class_link.specs.Symbols.{kind_of}
 use Rattle.program_rules.specs.Names.{same, instance_initializer}
 use Rattle.type_rules.specs.Rows.{is_plain_name}
 use Rattle.vframes.specs.Named.{name_at}
@@ -18,7 +20,10 @@ method_by_text-requires-clause-kept c =
     methods_more c.args.names.now.list.items c.class_by_text.new.names.list.items c.args.own.now c.in_ok-class.ensures.adds.more c.args.meanings.now.methods c.requires.meanings.methods
 
 pub method_by_text-requires-clause-text : goal.method_by_text-requires-clause-text
-method_by_text-requires-clause-text c = record { args = c.requires.texts.args; result = c.requires.texts.result }
+method_by_text-requires-clause-text c = record {
+  args = ap (map kind_of) (c.as_slice.ensures ∙ c.deref-3.ensures) ∙ c.requires.texts.args;
+  result = ap (option_map kind_of) c.deref-4.ensures ∙ c.requires.texts.result;
+}
 
 pub returns-clause-adds : goal.returns-clause-adds
 returns-clause-adds c = added_twice c.args.own.now.program.now c.args.names.now c.class_by_text.new.names c.method_by_text.new.names c.in_ok-class.ensures.adds c.in_ok-stated.ensures.adds
@@ -43,8 +48,8 @@ returns-clause-method c = λ more.
     let class = c.in_ok-class.ensures.class in (
       record {
         class = lasts (λ ns. name_at ns c.in_ok-class.class.number ≡ c.deref.result.now) c.class_by_text.new.names.list.items c.method_by_text.new.names.list.items c.in_ok-stated.ensures.adds.more class.number more ∙ c.deref.ensures;
-        init = ap (λ n. same n instance_initializer) (sym c.deref-3.ensures) ∙ c.called_of.ensures.init;
-        plain = ap is_plain_name (sym c.deref-3.ensures) ∙ c.called_of.ensures.plain;
+        init = ap (λ n. same n instance_initializer) (sym c.deref-5.ensures) ∙ c.called_of.ensures.init;
+        plain = ap is_plain_name (sym c.deref-5.ensures) ∙ c.called_of.ensures.plain;
         args = c.in_ok-stated.ensures.method.args more;
         result = c.in_ok-stated.ensures.method.result more;
       },
