@@ -18,6 +18,7 @@ pub mod Optionals
 pub mod Iterators
 pub mod KeepingClasses
 mod LinkingArrays
+mod PlainNames
 pub mod Operands
 mod Instructions
 mod LinkingAccepted

@@ -8,3 +8,4 @@ pub mod Facts
 pub mod NativeFacts
 pub mod Beside
 pub mod Bounded
+pub mod PlainNames

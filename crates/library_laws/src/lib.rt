@@ -9,6 +9,7 @@ mod kept_items;
 mod linking;
 mod native_methods;
 mod natives;
+mod plain_names;
 mod whole;
 
 pub use accepted::{library_is_accepted, library_is_accepted_behind};
@@ -18,4 +19,5 @@ pub use kept_items::natives_that_keep_items_fit;
 pub use linking::accepted_are_linked;
 pub use native_methods::natives_fit;
 pub use natives::{keepers_have_hosts, natives_have_hosts};
+pub use plain_names::files_name_no_adapter;
 pub use whole::{faults_are_there, library_is_closed, library_is_there, object_is_bare};

@@ -7,5 +7,5 @@ use Rattle.lambda_site.proofs.listing.add_code.Given as goal
 
 abbrev pub invariant-loop-instruction : goal.invariant-loop-instruction
 invariant-loop-instruction l =
-    library_of l.found ++ adapters_in_code (noted_look l.interfaces) l.class (bootstraps_of l.linked.bootstraps) l.method l.number (map (instruction_of l.linked.entries l.code.switches) (drop l.instruction-index l.code.instructions))
-    ≡ library_of l.initial.found ++ adapters_in_code (noted_look l.interfaces) l.class (bootstraps_of l.linked.bootstraps) l.method 0 (map (instruction_of l.linked.entries l.code.switches) l.code.instructions)
+    library_of l.found ++ adapters_in_code (noted_look l.interfaces) l.class (bootstraps_of l.linked.bootstraps) l.method l.number (map (instruction_of l.linked.entries l.code.switches) (drop l.instruction-index l.instruction-items))
+    ≡ library_of l.initial.found ++ adapters_in_code (noted_look l.interfaces) l.class (bootstraps_of l.linked.bootstraps) l.method 0 (map (instruction_of l.linked.entries l.code.switches) l.instruction-items)

@@ -7,5 +7,5 @@ use Rattle.lambda_site.proofs.listing.add_linked.Given as goal
 
 abbrev pub invariant-loop-method : goal.invariant-loop-method
 invariant-loop-method l =
-    library_of l.found ++ adapters_in_methods (noted_look l.interfaces) l.class (bootstraps_of l.linked.bootstraps) l.number (map (method_of l.linked.entries) (drop l.method-index l.linked.methods))
-    ≡ library_of l.initial.found ++ adapters_in_methods (noted_look l.interfaces) l.class (bootstraps_of l.linked.bootstraps) 0 (map (method_of l.linked.entries) l.linked.methods)
+    library_of l.found ++ adapters_in_methods (noted_look l.interfaces) l.class (bootstraps_of l.linked.bootstraps) l.number (map (method_of l.linked.entries) (drop l.method-index l.method-items))
+    ≡ library_of l.initial.found ++ adapters_in_methods (noted_look l.interfaces) l.class (bootstraps_of l.linked.bootstraps) 0 (map (method_of l.linked.entries) l.method-items)

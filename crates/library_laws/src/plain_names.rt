@@ -1,0 +1,9 @@
+//! Names of adapters, of which class files have none.
+
+ghost use Rattle.library_laws.specs.PlainNames.{FilesPlain};
+
+/// A class file that was read names no adapter: neither its supers nor its code do.
+#[tactic(auto, using(crate::proofs::PlainNames::files_plain))]
+pub fn files_name_no_adapter()
+    ensures { FilesPlain }
+{}
