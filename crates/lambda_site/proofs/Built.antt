@@ -34,26 +34,26 @@ Class = Name × Linked
 
 place_shift : (n : Name) (i : ℕ) (ms : List Name) → place_from n (suc i) ms ≡ option_map suc (place_from n i ms)
 place_shift n i [] = refl
-place_shift n i (m ∷ ms) = by (same m n)
+place_shift n i (m ∷ ms) = by (same m n) (place_shift n (suc i) ms)
   where
-    by : (b : Bool) → (if b then Some (suc i) else place_from n (suc (suc i)) ms) ≡ option_map suc (if b then Some i else place_from n (suc i) ms)
-    by true = refl
-    by false = place_shift n (suc i) ms
+    by : (b : Bool) → place_from n (suc (suc i)) ms ≡ option_map suc (place_from n (suc i) ms) → (if b then Some (suc i) else place_from n (suc (suc i)) ms) ≡ option_map suc (if b then Some i else place_from n (suc i) ms)
+    by true h = refl
+    by false h = h
 
 abbrev classes_of : List ClassBody → List Class
 classes_of bs = map (λ b. (body_name b, link_body b)) bs
 
 by_place : (bs : List ClassBody) (n : Name) → look_of bs n ≡ class_among (classes_of bs) n
 by_place [] n = refl
-by_place (b ∷ bs) n = by (same (body_name b) n)
+by_place (b ∷ bs) n = by (same (body_name b) n) (by_place bs n)
   where
     shifted : (o : Option ℕ) → option_map link_body (option_and_then (slice_get (b ∷ bs)) (option_map suc o)) ≡ option_map link_body (option_and_then (slice_get bs) o)
     shifted None = refl
     shifted (Some k) = refl
 
-    by : (t : Bool) → option_map link_body (option_and_then (slice_get (b ∷ bs)) (if t then Some 0 else place_from n 1 (map body_name bs))) ≡ (if t then Some (link_body b) else class_among (classes_of bs) n)
-    by true = refl
-    by false = ap (λ o. option_map link_body (option_and_then (slice_get (b ∷ bs)) o)) (place_shift n 0 (map body_name bs)) ∙ shifted (place_in (map body_name bs) n) ∙ by_place bs n
+    by : (t : Bool) → look_of bs n ≡ class_among (classes_of bs) n → option_map link_body (option_and_then (slice_get (b ∷ bs)) (if t then Some 0 else place_from n 1 (map body_name bs))) ≡ (if t then Some (link_body b) else class_among (classes_of bs) n)
+    by true h = refl
+    by false h = ap (λ o. option_map link_body (option_and_then (slice_get (b ∷ bs)) o)) (place_shift n 0 (map body_name bs)) ∙ shifted (place_in (map body_name bs) n) ∙ h
 
 -- ---- the classes of a program
 
@@ -75,11 +75,11 @@ names_are (b ∷ bs) = ap (λ ns. body_name b ∷ ns) (names_are bs)
 
 among_both : (xs ys : List Class) (n : Name) → class_among (xs ++ ys) n ≡ first_of (class_among xs n) (class_among ys n)
 among_both [] ys n = refl
-among_both (x ∷ xs) ys n = by (same x.0 n)
+among_both (x ∷ xs) ys n = by (same x.0 n) (among_both xs ys n)
   where
-    by : (b : Bool) → (if b then Some x.1 else class_among (xs ++ ys) n) ≡ first_of (if b then Some x.1 else class_among xs n) (class_among ys n)
-    by true = refl
-    by false = among_both xs ys n
+    by : (b : Bool) → class_among (xs ++ ys) n ≡ first_of (class_among xs n) (class_among ys n) → (if b then Some x.1 else class_among (xs ++ ys) n) ≡ first_of (if b then Some x.1 else class_among xs n) (class_among ys n)
+    by true h = refl
+    by false h = h
 
 first_thrice : (a b c : Option Linked) → first_of a (first_of b c) ≡ first_of (first_of a b) c
 first_thrice None b c = refl
@@ -112,11 +112,11 @@ once_right (x ∷ xs) ys h = once_right xs ys (once_behind x.0 (names_in (xs ++ 
 
 among_place : (cs : List Class) (n : Name) (c : Linked) → class_among cs n ≡ Some c → (k : ℕ) × (slice_get (names_in cs) k ≡ Some n)
 among_place [] n c e = absurd cc
-among_place (x ∷ xs) n c e = by (same x.0 n) refl e
+among_place (x ∷ xs) n c e = by (same x.0 n) refl (among_place xs n c) e
   where
-    by : (b : Bool) → b ≡ same x.0 n → (if b then Some x.1 else class_among xs n) ≡ Some c → (k : ℕ) × (slice_get (names_in (x ∷ xs)) k ≡ Some n)
-    by true s e = (0, ap Some (same_text x.0 n s))
-    by false s e = let r = among_place xs n c e in (suc r.0, r.1)
+    by : (b : Bool) → b ≡ same x.0 n → (class_among xs n ≡ Some c → (k : ℕ) × (slice_get (names_in xs) k ≡ Some n)) → (if b then Some x.1 else class_among xs n) ≡ Some c → (k : ℕ) × (slice_get (names_in (x ∷ xs)) k ≡ Some n)
+    by true s more e = (0, ap Some (same_text x.0 n s))
+    by false s more e = let r = more e in (suc r.0, r.1)
 
 first_is_other : {A : Type 0} (k : ℕ) → 0 ≡ suc k → A
 first_is_other k e = absurd (omega (arith, e))
@@ -143,14 +143,14 @@ some_both xs ys n c e = by (class_among xs n) refl
 
 clash : (xs ys : List Class) (n : Name) (d c : Linked) → Once (names_in (xs ++ ys)) → class_among xs n ≡ Some d → class_among ys n ≡ Some c → ⊥
 clash [] ys n d c h e f = absurd cc
-clash (x ∷ xs) ys n d c h e f = by (same x.0 n) refl e
+clash (x ∷ xs) ys n d c h e f = by (same x.0 n) refl (λ g. clash xs ys n d c (once_behind x.0 (names_in (xs ++ ys)) h) g f) e
   where
-    by : (b : Bool) → b ≡ same x.0 n → (if b then Some x.1 else class_among xs n) ≡ Some d → ⊥
-    by true s e =
+    by : (b : Bool) → b ≡ same x.0 n → (class_among xs n ≡ Some d → ⊥) → (if b then Some x.1 else class_among xs n) ≡ Some d → ⊥
+    by true s more e =
         let r = some_both xs ys n c f in
         let place = among_place (xs ++ ys) n r.0 r.1 in
         first_is_other place.0 (h 0 (suc place.0) n (ap Some (same_text x.0 n s)) place.1)
-    by false s e = clash xs ys n d c (once_behind x.0 (names_in (xs ++ ys)) h) e f
+    by false s more e = more e
 
 apart_by : (p : Look) (ys : List Class) → ((n : Name) (c : Linked) → class_among ys n ≡ Some c → p n ≡ None) → apart.AreApart p ys
 apart_by p [] h = tt
