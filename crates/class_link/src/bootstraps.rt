@@ -1,12 +1,12 @@
 //! The bootstrap methods of a class (JVMS 4.7.23), as far as they are of the form that is run.
 
 ghost use Rattle.std.specs.Prelude.{◌≡◌, [], ◌∷◌, map, nat_eq, Some, None, IfOk, MatchOption};
-ghost use Rattle.std.specs.Option.{option_map};
+ghost use Rattle.std.specs.Option.{option_map, option_copied};
 ghost use Rattle.class_link.specs.Bootstraps as boots;
 ghost use Rattle.class_link.specs.Linking.{content_of};
 ghost use Rattle.class_link.specs.Switches.{AreEntries};
 ghost use Rattle.class_link.specs.Symbols.{symbol_at};
-ghost use Rattle.class_link.specs.View.{method_ref_of, bootstrap_of};
+ghost use Rattle.class_link.specs.View.{entry_symbol, method_ref_of, bootstrap_of};
 ghost use Rattle.codec_rules.specs.Reading.{many_at};
 ghost use Rattle.mt_bytes.specs.Items.{ReadsItem, u2_at};
 
@@ -101,17 +101,31 @@ fn is_metafactory(method: &MethodRef) -> bool
         )
 }
 
+// The method that an entry is, if it is one.
+fn method_in(entry: Option<&Entry>) -> Option<&MethodRef>
+    ensures { MatchOption result (boots.method_of (entry_symbol (option_copied entry)) ≡ None)
+        (λ r. boots.method_of (entry_symbol (option_copied entry)) ≡ Some (method_ref_of r.now)) }
+{
+    match entry {
+        Some(Entry::Method(method)) => Some(method),
+        Some(Entry::Other) => None,
+        Some(Entry::Integer(_)) => None,
+        Some(Entry::Long(_)) => None,
+        Some(Entry::Text(_)) => None,
+        Some(Entry::Class(_)) => None,
+        Some(Entry::Field(_)) => None,
+        Some(Entry::Dynamic(_)) => None,
+        None => None,
+    }
+}
+
 // The method that an index of the run-time constant pool names, if it names one.
-#[tactic(auto, using(crate::proofs::Resolved::meaning_same))]
 fn method_at<'a>(entries: &'a [Entry], texts: &Texts, index: u16) -> Option<&'a MethodRef>
     requires { AreEntries entries.now texts.now }
     ensures { MatchOption result (boots.method_of (symbol_at texts.now index) ≡ None)
         (λ r. boots.method_of (symbol_at texts.now index) ≡ Some (method_ref_of r.now)) }
 {
-    match entries.get(index as usize) {
-        Some(Entry::Method(method)) => Some(method),
-        _ => None,
-    }
+    method_in(entries.get(index as usize))
 }
 
 // A handle's kind and method.

@@ -1,4 +1,5 @@
--- A class file that was read names no adapter: no entry of its constant pool does.
+-- A class file that was read names no adapter: no entry of its constant pool does. Nor does the
+-- library.
 use Rattle.std.proofs.Common.{◌≡◌, ◌∙◌, refl, sym, ap, subst, arith, ℕ, zero, suc, ◌++◌, ◌&&◌, ◌||◌, Bool, true, false, List, [], ◌∷◌, length, take, drop, map, Option, Some, None}
 use Rattle.std.specs.Prelude.{◌-◌, ◌==◌, nat_eq, nat_lt, not, if◌then◌else◌, codes, slice_get, IfSome, IsSomeAnd, option_and_then}
 use Rattle.std.specs.List.{AllByRecursion, list_all, slice_split, onto_first}
@@ -26,11 +27,16 @@ use Rattle.program_rules.specs.Linked.{code_in, parents_with}
 use Rattle.program_rules.specs.Sites.{is_site_name, begins_with, site_prefix}
 use Rattle.machine_laws.specs.Plain.{IsPlain, ArePlain, CatchesPlain, RowsPlain, named_by}
 use Rattle.class_link.specs.Linking as linking
-use Rattle.class_link.specs.Linking.{code_within, method_in, row_in, class_or_none, link}
+use Rattle.class_link.specs.Linking.{code_within, method_in, row_in, class_or_none, link, link_library}
 use Rattle.class_link.specs.Opcodes as op
 use Rattle.class_link.specs.Opcodes.{instruction_by, instruction_in}
 use Rattle.class_link.specs.Symbols.{Symbol, IsOther, IsInteger, IsLong, IsText, IsClass, IsField, IsMethod, IsDynamic, name_or_empty, class_named, text_named, symbol_or_other, symbol_at}
-use Rattle.library_laws.specs.PlainNames.{CodePlain, ClassPlain, FilesPlain}
+use Rattle.lib_table.specs.Collected.{collections, list_classes, hash_classes, utility_classes, assertions}
+use Rattle.lib_table.specs.Exceptions.{throwables, errors, machine_exceptions, library_exceptions}
+use Rattle.lib_table.specs.Interfaces.{basic_interfaces, collection_interfaces}
+use Rattle.lib_table.specs.LangClasses.{objects, texts, numbers}
+use Rattle.lib_table.specs.Library.{library_meant}
+use Rattle.library_laws.specs.PlainNames.{CodePlain, ClassPlain, FilesPlain, LibraryPlain}
 
 -- ---- names
 
@@ -324,3 +330,7 @@ parents_plain pool h k ks = by (k == 0)
 pub files_plain : FilesPlain
 unfolding link
 files_plain c spelled = let h = spelled.pool.form.entries in record { parents = parents_plain c.pool h c.parent c.interfaces; codes = methods_plain c.pool h c.methods }
+
+pub library_plain : LibraryPlain
+unfolding library_meant link_library instruction_by basic_interfaces collection_interfaces objects texts numbers throwables errors machine_exceptions library_exceptions collections list_classes hash_classes utility_classes assertions
+library_plain = refl
