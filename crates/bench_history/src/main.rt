@@ -247,7 +247,7 @@ fn number(word: Option<String>) -> anyhow::Result<u32> {
     }
 }
 
-fn job(rt: &HostRuntime) -> anyhow::Result<Job> {
+fn asked(rt: &HostRuntime) -> anyhow::Result<Job> {
     let mut words = env::args(rt)?.skip(1);
     match (words.next(), words.next()) {
         (Some(path), Some(count)) => Ok(Job {
@@ -266,7 +266,7 @@ fn job(rt: &HostRuntime) -> anyhow::Result<Job> {
 }
 
 fn main(rt: HostRuntime) -> anyhow::Result<()> {
-    let job = job(&rt)?;
+    let job = asked(&rt)?;
     let mut tree = HostTree::new(&rt);
     let Some(bytes) = tree.read(job.path.as_str())? else {
         anyhow::bail!("there is no such file");
