@@ -46,7 +46,7 @@ abbrev bytes_at : List Info → ℕ → Option (List ℕ)
 bytes_at p k = option_and_then bytes_of (slice_get p k)
 
 module _ (p : List Info) (ok : IsProgram p) (m : Mutant) (id : ℕ) (class : Info) (by : IsEditBy p m id class) (edit : IsEdit by.loaded m.edit by.file) (makes : Makes p m id class) where
-  pub made : Class × List ℕ
+  abbrev pub made : Class × List ℕ
   made = (class_edited by.file, by.file.bytes)
 
   found : files_of p m.class ≡ Some by.loaded.class
