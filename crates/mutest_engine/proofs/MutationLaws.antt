@@ -16,7 +16,7 @@ use Rattle.mutant_runs.specs.Ready.{IsReady}
 use Rattle.suite_laws.specs.Tested.{IsListed}
 use Rattle.test_discovery.specs.Discovery.{Tests}
 use Rattle.test_discovery.specs.declared.fault.TestFault.{TestFault}
-use Rattle.report_schema.specs.declared.input.ReportInput.{ReportInput}
+use Rattle.report_pieces.specs.declared.input.ReportInput.{ReportInput}
 use Rattle.mutest_engine.specs.SuiteFiles.{IsFormed}
 use Rattle.mutest_engine.specs.Steps.{and_then, Refuses}
 use Rattle.suite_program.specs.Faults.{first_fault, RefusesFirst}
@@ -48,9 +48,9 @@ bounded limit n r false e h = ltb-false limit n e
 pub few_is : (ms : List Mutant) → length ms ≤ 262144 → refuse_many_mutants (length ms) ≡ Ok tt
 few_is ms mutants = ap (within (TooMany limit.Mutants 262145)) (le-ltb 262144 (length ms) mutants)
 
-tested_is : (files : ClassFiles) (p : Look) (ts : List Test) (ms : List Mutant) → refuse_many_mutants (length ms) ≡ Ok tt → tested files p ts ms ≡ and_then (testable files p ts ms) (λ ok. Ok (input_of ts ms (verdicts_by files p ts ms)))
+tested_is : (files : ClassFiles) (p : Look) (ts : List Test) (ms : List Mutant) → refuse_many_mutants (length ms) ≡ Ok tt → tested files p ts ms ≡ and_then (testable files p ts ms) (λ ok. Ok (input_of files ts ms (verdicts_by files p ts ms)))
 unfolding tested
-tested_is files p ts ms ready = ap (λ x. and_then x (λ ok. and_then (testable files p ts ms) (λ ok. Ok (input_of ts ms (verdicts_by files p ts ms))))) ready
+tested_is files p ts ms ready = ap (λ x. and_then x (λ ok. and_then (testable files p ts ms) (λ ok. Ok (input_of files ts ms (verdicts_by files p ts ms))))) ready
 
 steps_are : (files : ClassFiles) (p : Look) (ts : List Test) (ms : List Mutant) → refuse_many_mutants (length ms) ≡ Ok tt → tested_steps files p ts ms ≡ all_steps files p ts ms
 unfolding tested_steps
@@ -69,7 +69,7 @@ refused_by (Err q) x y r h = (cc, cc)
 
 pub tested_refused : (files : ClassFiles) (p : Look) (ts : List Test) (ms : List Mutant) (r : Refusal) → refuse_many_mutants (length ms) ≡ Ok tt → verdicts_if_passed files p ts ms ≡ Err r → tested files p ts ms ≡ Err r
 tested_refused files p ts ms r ready is =
-    tested_is files p ts ms ready ∙ (refused_by (testable files p ts ms) (verdicts_by files p ts ms) (input_of ts ms (verdicts_by files p ts ms)) r is).1
+    tested_is files p ts ms ready ∙ (refused_by (testable files p ts ms) (verdicts_by files p ts ms) (input_of files ts ms (verdicts_by files p ts ms)) r is).1
 
 no_case : (P : Type 0) → ⊥ → P
 no_case P q = absurd q
@@ -83,8 +83,8 @@ passed_by : {X Y : Type 0} (g : Result (Unit {0}) Refusal) (x y : X) (f : X → 
 passed_by (Ok ok) x y f h = let e : x ≡ y = cc in (λ i. Ok (f (e i)))
 passed_by (Err q) x y f h = absurd cc
 
-pub tested_ok : (files : ClassFiles) (p : Look) (ts : List Test) (ms : List Mutant) (vs : List Verdict) → refuse_many_mutants (length ms) ≡ Ok tt → verdicts_if_passed files p ts ms ≡ Ok vs → tested files p ts ms ≡ Ok (input_of ts ms vs)
-tested_ok files p ts ms vs ready is = tested_is files p ts ms ready ∙ passed_by (testable files p ts ms) (verdicts_by files p ts ms) vs (input_of ts ms) is
+pub tested_ok : (files : ClassFiles) (p : Look) (ts : List Test) (ms : List Mutant) (vs : List Verdict) → refuse_many_mutants (length ms) ≡ Ok tt → verdicts_if_passed files p ts ms ≡ Ok vs → tested files p ts ms ≡ Ok (input_of files ts ms vs)
+tested_ok files p ts ms vs ready is = tested_is files p ts ms ready ∙ passed_by (testable files p ts ms) (verdicts_by files p ts ms) vs (input_of files ts ms) is
 
 -- ---- a suite
 
@@ -136,7 +136,7 @@ pub record IsRefused (s : LoadedSuite) (r : Refusal) : Type 0 where
 
 tested_refused_by : (files : ClassFiles) (p : Look) (ts : List Test) (ms : List Mutant) (r : Refusal) → refuse_many_mutants (length ms) ≡ Err r → tested files p ts ms ≡ Err r
 unfolding tested
-tested_refused_by files p ts ms r h = ap (λ x. and_then x (λ ok. and_then (testable files p ts ms) (λ ok. Ok (input_of ts ms (verdicts_by files p ts ms))))) h
+tested_refused_by files p ts ms r h = ap (λ x. and_then x (λ ok. and_then (testable files p ts ms) (λ ok. Ok (input_of files ts ms (verdicts_by files p ts ms))))) h
 
 none_run : (files : ClassFiles) (p : Look) (ts : List Test) (ms : List Mutant) (r : Refusal) → refuse_many_mutants (length ms) ≡ Err r → tested_steps files p ts ms ≡ 0
 unfolding tested_steps

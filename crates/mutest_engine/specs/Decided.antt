@@ -9,9 +9,9 @@ use Rattle.class_asm.specs.declared.fault.AsmFault.TheVariants as asm_fault
 use Rattle.mt_edge.specs.Files.{Files}
 use Rattle.mutator_ops.specs.Mutants.{class_mutants}
 use Rattle.mutator_ops.specs.Printing.{id_lines}
-use Rattle.report_schema.specs.Report.{ReportText}
+use Rattle.report_pieces.specs.Report.{ReportText}
 use Rattle.report_schema.specs.Summary.{Summary}
-use Rattle.report_schema.specs.declared.input.ReportInput.{ReportInput}
+use Rattle.report_pieces.specs.declared.input.ReportInput.{ReportInput}
 use Rattle.mutest_words.specs.Words.{Command, list_class, run_suite, assemble_class, AsmOptions, RunOptions, as_run_options}
 use Rattle.mutest_engine.specs.Words.{words_of}
 use Rattle.mutest_engine.specs.Answers.{Answered, file_of, spelled_class}

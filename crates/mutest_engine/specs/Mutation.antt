@@ -23,14 +23,16 @@ use Rattle.mutant_runs.specs.Needed.{needed_of_all}
 use Rattle.mutant_runs.specs.Promises.{AreViable, AreVerdicts, steps_for_all}
 use Rattle.suite_laws.specs.Suites.{IsOfSuite}
 use Rattle.suite_laws.specs.Tested.{IsListed, ArePlaces}
-use Rattle.report_schema.specs.FileKey.{file_key}
-use Rattle.report_schema.specs.declared.input.ReportInput.{ReportInput}
+use Rattle.report_pieces.specs.FileKey.{mutant_keys, test_keys}
+use Rattle.report_pieces.specs.Groups.{groups_of}
+use Rattle.report_pieces.specs.declared.input.ReportInput.{ReportInput}
 use Rattle.mutest_engine.specs.Refusals.{IsBeforeRuns}
 use Rattle.mutest_engine.specs.Steps.{and_then, Counts}
 use Rattle.mutest_engine.specs.Numbers.{numbers_from, numbers_of}
 use Rattle.suite_program.specs.Programs.{classes_in, class_file, program_of}
 use Rattle.mutest_engine.specs.Originals.{all_classes, accepted, run_limits, originals_pass, original_steps, steps_made, AreMeasured}
 use Rattle.mutest_engine.specs.Discovered.{tests_of}
+use Rattle.mutest_engine.specs.declared.mutation.ReportFiles.{ReportFiles}
 use Rattle.mutest_engine.specs.declared.suite.LoadedSuite.{LoadedSuite}
 use Rattle.mutest_engine.specs.declared.refusal.Refusal.{Refusal}
 use Rattle.mutest_engine.specs.declared.stop.Stop.{Stop}
@@ -109,15 +111,15 @@ all_steps files p ts ms =
 
 -- ---- the tests and mutants of a program
 
--- What the report is made of. Each mutant has a key, by its class; no test has one, and no source
+-- What the report is made of. Each mutant and each test stands in the file of its class; no source
 -- is read yet.
-abbrev pub input_of : List Test → List Mutant → List Verdict → ReportInput
-input_of ts ms verdicts = record {
+abbrev pub input_of : ClassFiles → List Test → List Mutant → List Verdict → ReportInput
+input_of files ts ms verdicts = record {
   mutants = ms;
   verdicts = verdicts;
   tests = ts;
-  keys = map (λ m. file_key m.class) ms;
-  test_keys = [];
+  files = groups_of (mutant_keys files ms);
+  test_files = groups_of (test_keys files ts);
   sources = [];
 }
 
@@ -126,7 +128,7 @@ input_of ts ms verdicts = record {
 unfoldable pub tested : ClassFiles → Look → List Test → List Mutant → Result ReportInput Refusal
 tested files p ts ms =
     and_then (refuse_many_mutants (length ms)) (λ ok.
-    and_then (testable files p ts ms) (λ ok. Ok (input_of ts ms (verdicts_by files p ts ms))))
+    and_then (testable files p ts ms) (λ ok. Ok (input_of files ts ms (verdicts_by files p ts ms))))
 
 -- The steps of the runs that are needed.
 unfoldable pub tested_steps : ClassFiles → Look → List Test → List Mutant → ℕ
@@ -183,6 +185,11 @@ tested_in p ts ms = tested (files_of p) (look p) ts ms
 
 abbrev pub tested_steps_in : List Info → List Test → List Mutant → ℕ
 tested_steps_in p ts ms = tested_steps (files_of p) (look p) ts ms
+
+-- Files of a report are those of these mutants and tests.
+abbrev pub AreFilesOf : ClassFiles → List Test → List Mutant → ReportFiles → Type 0
+AreFilesOf files ts ms found =
+    (found.mutants ≡ groups_of (mutant_keys files ms)) × (found.tests ≡ groups_of (test_keys files ts))
 
 -- ---- what the tests that cover a mutant say of it
 

@@ -4,11 +4,11 @@ ghost use Rattle.std.specs.Prelude.{◌≡◌, ◌+◌, ◌<◌, ◌≤◌, ◌^
 ghost use Rattle.class_table.specs.Table.{look};
 ghost use Rattle.mutant_runs.specs.Ready.{IsReady};
 ghost use Rattle.suite_laws.specs.Tested.{IsListed};
-ghost use Rattle.report_schema.specs.FileKey.{file_key};
+ghost use Rattle.mutant_runs.specs.Programs.{ClassFiles, files_of};
 ghost use Rattle.mutest_engine.specs.Steps.{Gives, Refuses, Counts};
 ghost use Rattle.mutest_engine.specs.SuiteFiles.{IsFormed};
 ghost use Rattle.mutest_engine.specs.Mutation.{verdicts_in, steps_on_all, input_of, tested_in, tested_steps_in, report_input, suite_steps, Stays, Meters, MetersRuns};
-ghost use Rattle.mutest_engine.specs.Mutation.{covered_in, covered_steps_in, AreOfSuite, AreCovered, SuitesAreCovered};
+ghost use Rattle.mutest_engine.specs.Mutation.{covered_in, covered_steps_in, AreOfSuite, AreCovered, SuitesAreCovered, AreFilesOf};
 ghost use Rattle.mutest_engine.specs.Originals.{original_steps};
 
 use crate::cells::{cell_count, refuse_many_cells};
@@ -17,14 +17,14 @@ use crate::mutants::first_mutants;
 use crate::originals::{RUN_LIMITS, run_originals};
 use crate::stop::Stop;
 use crate::suite::LoadedSuite;
-use class_model::{Memory, Name, Seq};
+use class_model::{Memory, Seq};
 use class_table::{Loaded, Program, Test};
 use line_coverage::Coverage;
 use mt_edge::{Meter, MeterPart};
 use mutant_apply::mutants_fit;
 use mutant_runs::{TestSet, verdicts, viable};
 use mutator_ops::{Mutant, Verdict};
-use report_schema::{ReportInput, file_key};
+use report_pieces::{Group, ReportInput, mutant_files, test_files};
 use std::alloc::Global;
 use suite_laws::{covering_tests_are_needed, found_tests_fit, suites_are_safe};
 use suite_program::program_of;
@@ -127,35 +127,47 @@ fn metered_runs(
     verdicts
 }
 
-// The key of each mutant: the file of its class.
-fn keys_of(alloc: Global, mutants: &[Mutant]) -> Result<Seq<Name>, Memory>
-    ensures { IfOk result (λ keys. keys ≡ map (λ m. file_key m.class) mutants.now) }
-{
-    let mut keys = Seq::new(alloc);
-    for mutant in mutants {
-        keys.push(file_key(alloc, &mutant.class)?)?;
-    }
-    Ok(keys)
+// The files of the report.
+#[derive(Drop)]
+pub struct ReportFiles {
+    pub mutants: Seq<Group>,
+    pub tests: Seq<Group>,
 }
 
-// What the report is made of. No test has a key, and no source is read yet.
+// The files of mutants and of tests, by their classes.
+fn files_of(
+    alloc: Global,
+    program: &Program,
+    tests: &[Test],
+    mutants: &[Mutant],
+) -> Result<ReportFiles, Memory>
+    ensures { IfOk result (λ files.
+        AreFilesOf (files_of program.now) tests.now mutants.now files) }
+{
+    let mutants = mutant_files(alloc, program, mutants)?;
+    let tests = test_files(alloc, program, tests)?;
+    Ok(ReportFiles { mutants, tests })
+}
+
+// What the report is made of. No source is read yet.
 fn input_of(
     alloc: Global,
+    files: ReportFiles,
     tests: Seq<Test>,
     mutants: Seq<Mutant>,
     verdicts: Seq<Verdict>,
-) -> Result<ReportInput, Memory>
-    ensures { IfOk result (λ input. input ≡ input_of tests mutants verdicts) }
+) -> ReportInput
+    ensures { (classes : ClassFiles) → AreFilesOf classes tests mutants files →
+        result ≡ input_of classes tests mutants verdicts }
 {
-    let keys = keys_of(alloc, mutants.as_slice())?;
-    Ok(ReportInput {
+    ReportInput {
         mutants,
         verdicts,
         tests,
-        keys,
-        test_keys: Seq::new(alloc),
+        files: files.mutants,
+        test_files: files.tests,
         sources: Seq::new(alloc),
-    })
+    }
 }
 
 // What is reported of the tests and the mutants of a program. The meter rises by the steps of the
@@ -176,8 +188,9 @@ fn test_mutants(
     ensures meter { Meters meter.old meter.new (tested_steps_in program.old tests mutants) result }
     ensures stays { IfErr result (Refuses (Stays meter.old meter.new)) }
 {
+    let files = files_of(alloc, program, tests.as_slice(), mutants.as_slice())?;
     let verdicts = metered_runs(alloc, program, tests.as_slice(), mutants.as_slice(), meter)?;
-    Ok(input_of(alloc, tests, mutants, verdicts)?)
+    Ok(input_of(alloc, files, tests, mutants, verdicts))
 }
 
 // One list of the classes of both folders.

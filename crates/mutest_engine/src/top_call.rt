@@ -23,7 +23,8 @@ use class_model::{Bytes, Class, Memory};
 use mt_edge::{EdgeFault, Meter, Sink, Tree};
 use mutator_ops::{class_mutants, id_lines};
 use mutest_words::{AsmOptions, Command, RunOptions};
-use report_schema::{ReportInput, report_text, summary_text};
+use report_pieces::{ReportInput, report_text};
+use report_schema::summary_text;
 use std::alloc::Global;
 
 // ---- answers

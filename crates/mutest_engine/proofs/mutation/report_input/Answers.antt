@@ -3,7 +3,7 @@ use Rattle.std.specs.Prelude.{Result}
 use Rattle.std.proofs.lemmas.Result.{err_from_is_err_and}
 use Rattle.class_table.specs.Table.{look}
 use Rattle.mutant_runs.specs.Programs.{files_of}
-use Rattle.report_schema.specs.declared.input.ReportInput.{ReportInput}
+use Rattle.report_pieces.specs.declared.input.ReportInput.{ReportInput}
 use Rattle.mutest_engine.specs.Discovered.{tests_of}
 use Rattle.mutest_engine.specs.Mutation.{Meters}
 use Rattle.mutest_engine.specs.Steps.{Gives}

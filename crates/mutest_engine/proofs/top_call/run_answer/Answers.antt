@@ -2,7 +2,7 @@ use Rattle.std.proofs.Common.{◌≡◌, ◌∙◌, ℕ, ◌+◌, List, Option, 
 use Rattle.std.specs.Prelude.{IfSome}
 use Rattle.mt_edge.specs.Files.{Files}
 use Rattle.mutest_words.specs.Words.{RunOptions, as_run_options, as_run_command}
-use Rattle.report_schema.specs.declared.input.ReportInput.{ReportInput}
+use Rattle.report_pieces.specs.declared.input.ReportInput.{ReportInput}
 use Rattle.mutest_engine.specs.Answers.{Answered}
 use Rattle.mutest_engine.specs.Decided.{report_answer, run_answer, steps_of_options, steps_of_run, steps_with}
 use Rattle.mutest_engine.specs.Mutation.{report_input, suite_steps}
