@@ -1,0 +1,10 @@
+pub mod FailedOnes
+pub mod Judged
+pub mod TriedOnce
+pub mod OriginalRuns
+pub mod LinesReached
+pub mod CoveringAll
+pub mod KeptAs
+pub mod LinesAlike
+pub mod CoveringAlike
+pub mod VerdictsAlike
