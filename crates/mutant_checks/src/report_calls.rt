@@ -17,9 +17,9 @@ pub fn report_text(alloc: Global, input: &ReportInput) -> Result<Bytes, Memory>
 }
 
 /// The line of counts.
-pub fn summary_text(alloc: Global, verdicts: &Seq<Verdict>) -> Result<Bytes, Memory>
-    ensures { IfOk result (λ text. text ≡ Summary verdicts.now) }
+pub fn summary_text(alloc: Global, verdicts: &Seq<Verdict>, reused: u64) -> Result<Bytes, Memory>
+    ensures { IfOk result (λ text. text ≡ Summary verdicts.now reused) }
 {
-    let text = report_schema::summary_text(alloc, verdicts)?;
+    let text = report_schema::summary_text(alloc, verdicts, reused)?;
     Ok(text)
 }
