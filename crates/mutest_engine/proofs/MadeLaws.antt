@@ -34,19 +34,3 @@ made_may command a (Err h) can made = λ r refused. no_refusal h r _ made refuse
 pub made_reads : (before now : ℕ) (a : Answered) (r : Result Answer Halt) → Makes a r → IfErr r (FailsReading before now)
 made_reads before now a (Ok x) made = tt
 made_reads before now a (Err h) made = λ faults is. no_fault h faults _ made is
-
-at_least : (before after steps : ℕ) → after ≡ before + steps → before ≤ after
-at_least before after steps e = omega (arith, e)
-
-at_most : (before after steps : ℕ) → after ≡ before + steps → after ≤ before + steps
-at_most before after steps e = omega (arith, e)
-
-pub made_meters : (held : Option Files) (before after : ℕ) (steps : Files → ℕ) (a : Answered) (r : Result Answer Halt) → IfSome held (λ files. after ≡ before + steps files) → Makes a r → MetersHeld held before after steps r
-made_meters None before after steps a r e made = tt
-made_meters (Some files) before after steps a (Ok x) e made = e
-made_meters (Some files) before after steps a (Err h) e made =
-    (at_least before after (steps files) e, at_most before after (steps files) e, λ r is. e, λ faults is. no_fault h faults _ made is)
-
-pub made_stays : (before after steps : ℕ) (a : Answered) (r : Result Answer Halt) → after ≡ before + steps → Makes a r → IfErr r (HaltStays before after)
-made_stays before after steps a (Ok x) e made = tt
-made_stays before after steps a (Err h) e made = (at_least before after steps e, λ r is. no_refusal h r _ made is, λ faults is. no_fault h faults _ made is)

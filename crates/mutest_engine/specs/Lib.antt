@@ -4,10 +4,15 @@ pub mod Refusals
 pub mod Steps
 pub mod Answers
 pub mod SuiteFiles
-pub mod Originals
+pub mod Linked
 pub mod Numbers
 pub mod Discovered
-pub mod Mutation
+pub mod NamedJobs
+pub mod Made
+pub mod Old
+pub mod Jobs
+pub mod Reported
 pub mod Decided
+pub mod Known
 pub mod Ends
 pub mod Promises

@@ -27,11 +27,6 @@ abbrev pub fault_text : ClassFault → Option ℕ → List ℕ
 fault_text fault None = []
 fault_text fault (Some number) = codes " " ++ decimal number ++ codes " " ++ decimal (value_of fault)
 
--- a test, and the class, the method and the instruction at which its run is stuck
-abbrev pub place_text : List ℕ → Name → Name → ℕ → List ℕ
-place_text test class method at =
-    test ++ codes " " ++ printed class ++ codes " " ++ printed method ++ codes " " ++ decimal at
-
 -- the line of a test whose original run didn't pass
 unfoldable pub not_green_line : List ℕ × Outcome → List ℕ
 not_green_line test =

@@ -2,6 +2,10 @@
 -- project's own).
 use Rattle.std.specs.Prelude.{◌≡◌, ℕ, List, true, if◌then◌else◌, Option, None, Some, Result, Ok, Err}
 use Rattle.mutest_words.specs.Words.{Command, list_class, run_suite, assemble_class, command_of, is_archive}
+use Rattle.mutest_words.specs.Laws.{AreLimited}
+use Rattle.mutest_words.specs.Words.{as_run_options}
+use Rattle.mutest_words.specs.declared.command.Command.{Command as Found}
+use Rattle.mutest_words.specs.declared.command.Command.TheVariants as found
 use Rattle.mutest_engine.specs.declared.refusal.Refusal.{Refusal}
 use Rattle.mutest_engine.specs.declared.refusal.Refusal.TheVariants.{Usage, Archive}
 
@@ -24,3 +28,8 @@ or_usage (Some command) = without_archive command
 -- What the words decide alone: the command, or the refusal of the words.
 abbrev pub words_of : List (List ℕ) → Result Command Refusal
 words_of words = or_usage (command_of words)
+
+-- The numbers of a command's options are within their bounds.
+abbrev pub IsLimited : Found → Type 0
+IsLimited (found.Run options) = AreLimited (as_run_options options)
+IsLimited command = Unit {0}

@@ -4,15 +4,17 @@
 
 mod answer;
 mod assembling;
-mod cells;
 mod discovered;
 mod files;
+mod job;
 mod line;
+mod made;
 mod mutants;
-mod mutation;
 mod numbers;
-mod originals;
+mod old;
 mod refusal;
+mod reported;
+mod running;
 mod status;
 mod stop;
 mod suite;

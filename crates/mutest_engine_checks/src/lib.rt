@@ -7,6 +7,8 @@ mod assembling;
 #[cfg(test)]
 mod calls;
 #[cfg(test)]
+mod history;
+#[cfg(test)]
 mod listing;
 #[cfg(test)]
 mod needed;

@@ -1,6 +1,6 @@
 -- Numbers of options are within their bounds.
 use Rattle.std.proofs.Common.{◌≡◌, ◌∙◌, ℕ, ◌≤◌, Bool, true, false, ltb, List, [], ◌∷◌, Option, Some, None, refl, sym, ap, subst, arith}
-use Rattle.std.specs.Prelude.{◌||◌, ◌&&◌, nat_lt, option_and_then, option_map, if◌then◌else◌, codes}
+use Rattle.std.specs.Prelude.{◌||◌, ◌&&◌, nat_lt, option_and_then, option_map, is_none, if◌then◌else◌, codes}
 use Rattle.std.proofs.lemmas.Bool.{ltb-false}
 use Rattle.clap.specs.Words.{Row, Text, first_of}
 use Rattle.mutest_words.specs.Given.{given, is_word, lacks}
@@ -18,8 +18,8 @@ some_mapped : {A B : Type 0} (f : A → B) (x : Option A) (b : B) → option_map
 some_mapped f None b h = absurd cc
 some_mapped f (Some a) b h = (a, refl, cc)
 
-if_some : {B : Type 0} (t : Bool) (x : Option B) (b : B) → (if t then x else None) ≡ Some b → x ≡ Some b
-if_some true x b h = h
+if_some : {B : Type 0} (t : Bool) (x : Option B) (b : B) → (if t then x else None) ≡ Some b → (t ≡ true) × (x ≡ Some b)
+if_some true x b h = (refl, h)
 if_some false x b h = absurd cc
 
 -- ---- numbers
@@ -45,10 +45,34 @@ counted : (least most usual n : ℕ) (word : Option Text) → IsBetween least mo
 counted least most usual n None is h = let same : usual ≡ n = cc in subst (IsBetween least most) same is
 counted least most usual n (Some word) is h = is_between least most n word h
 
+-- ---- options that aren't built
+
+both_true : (a b : Bool) → a && b ≡ true → (a ≡ true) × (b ≡ true)
+both_true true b h = (refl, h)
+both_true false b h = absurd cc
+
+is_nothing : {A : Type 0} (x : Option A) → is_none x ≡ true → x ≡ None
+is_nothing None h = refl
+is_nothing (Some a) h = absurd cc
+
+abbrev lacks_one : Text → List Row → Bool
+lacks_one name rows = is_none (first_of name rows)
+
+none_given : (rows : List Row) → lacks unbuilt rows ≡ true → first_of (codes "steps") rows ≡ None
+none_given rows h =
+    let behind = both_true (lacks_one (codes "sources") rows) _ h in
+    let later = both_true (lacks_one (codes "journal") rows) _ behind.1 in
+    is_nothing (first_of (codes "steps") rows) (both_true (lacks_one (codes "steps") rows) _ later.1).0
+
+usual_one : (n : ℕ) (word : Option Text) → word ≡ None → number_or 1 1_000_000_000 10_000_000 word ≡ Some n → n ≡ 10_000_000
+usual_one n word none h =
+    let both : Some 10_000_000 ≡ Some n = sym (ap (number_or 1 1_000_000_000 10_000_000) none) ∙ h in
+    cc
+
 -- ---- commands
 
-limited : (rows : List Row) (o : RunOptions) → run_options rows ≡ Some o → AreLimited o
-limited rows o h =
+limited : (rows : List Row) (o : RunOptions) → lacks unbuilt rows ≡ true → run_options rows ≡ Some o → AreLimited o
+limited rows o lacking h =
     let classes = some_then _ (first_of (codes "classes") rows) o h in
     let tests = some_then _ (first_of (codes "tests") rows) o classes.2 in
     let report = some_then _ (first_of (codes "report") rows) o tests.2 in
@@ -59,26 +83,27 @@ limited rows o h =
     subst AreLimited depth.2
     (record {
       workers = counted 1 64 1 workers.0 (first_of (codes "workers") rows) (record { least_is = omega arith; most_is = omega arith }) workers.1;
-      steps = counted 1 1_000_000_000 10_000_000 steps.0 (first_of (codes "steps") rows) (record { least_is = omega arith; most_is = omega arith }) steps.1;
+      steps = usual_one steps.0 (first_of (codes "steps") rows) (none_given rows lacking) steps.1;
       heap = counted 1_024 4_194_304 4_194_304 heap.0 (first_of (codes "heap") rows) (record { least_is = omega arith; most_is = omega arith }) heap.1;
       depth = counted 16 65_536 1_024 depth.0 (first_of (codes "depth") rows) (record { least_is = omega arith; most_is = omega arith }) depth.1;
     })
 
-checked_is : (lacking : List Text) (rows : List Row) (o found : RunOptions) → run_options rows ≡ Some found → checked lacking found ≡ Some (run_suite o) → AreLimited o
-checked_is lacking rows o found is h = by_test (paths_differ found) h
+checked_is : (rows : List Row) (o found : RunOptions) → lacks unbuilt rows ≡ true → run_options rows ≡ Some found → checked unbuilt found ≡ Some (run_suite o) → AreLimited o
+checked_is rows o found lacking is h = by_test (paths_differ found) h
   where
     by_whole : (u : Bool) → (if u then Some (run_suite found) else None) ≡ Some (run_suite o) → AreLimited o
-    by_whole true e = let same : found ≡ o = cc in subst AreLimited same (limited rows found is)
+    by_whole true e = let same : found ≡ o = cc in subst AreLimited same (limited rows found lacking is)
     by_whole false e = absurd cc
 
-    by_test : (t : Bool) → (if t && is_whole lacking found then Some (run_suite found) else None) ≡ Some (run_suite o) → AreLimited o
-    by_test true e = by_whole (is_whole lacking found) e
+    by_test : (t : Bool) → (if t && is_whole unbuilt found then Some (run_suite found) else None) ≡ Some (run_suite o) → AreLimited o
+    by_test true e = by_whole (is_whole unbuilt found) e
     by_test false e = absurd cc
 
-run_is : (lacking : List Text) (rows : List Row) (o : RunOptions) → run_of lacking rows ≡ Some (run_suite o) → AreLimited o
-run_is lacking rows o h =
-    let found = some_then (checked lacking) (run_options rows) (run_suite o) (if_some (lacks lacking rows) (option_and_then (checked lacking) (run_options rows)) (run_suite o) h) in
-    checked_is lacking rows o found.0 found.1 found.2
+run_is : (rows : List Row) (o : RunOptions) → run_of unbuilt rows ≡ Some (run_suite o) → AreLimited o
+run_is rows o h =
+    let whole = if_some (lacks unbuilt rows) (option_and_then (checked unbuilt) (run_options rows)) (run_suite o) h in
+    let found = some_then (checked unbuilt) (run_options rows) (run_suite o) whole.1 in
+    checked_is rows o found.0 whole.0 found.1 found.2
 
 no_list : (rows : List Row) (o : RunOptions) → list_of rows ≡ Some (run_suite o) → ⊥
 no_list rows o h = let found = some_mapped list_class (first_of (codes "file") rows) (run_suite o) h in other found.0 found.2
@@ -92,15 +117,15 @@ no_asm rows o h = let found = some_mapped assemble_class (asm_options rows) (run
     other : (a : AsmOptions) → assemble_class a ≡ run_suite o → ⊥
     other a e = absurd cc
 
-by_name : (lacking : List Text) (words : List Text) (o : RunOptions) (list run asm : Bool)
-    → (if list then option_and_then list_of (given list_app words) else if run then option_and_then (run_of lacking) (given run_app words) else if asm then option_and_then asm_of (given asm_app words) else None) ≡ Some (run_suite o)
+by_name : (words : List Text) (o : RunOptions) (list run asm : Bool)
+    → (if list then option_and_then list_of (given list_app words) else if run then option_and_then (run_of unbuilt) (given run_app words) else if asm then option_and_then asm_of (given asm_app words) else None) ≡ Some (run_suite o)
     → AreLimited o
-by_name lacking words o true run asm h = let found = some_then list_of (given list_app words) (run_suite o) h in absurd (no_list found.0 o found.2)
-by_name lacking words o false true asm h = let found = some_then (run_of lacking) (given run_app words) (run_suite o) h in run_is lacking found.0 o found.2
-by_name lacking words o false false true h = let found = some_then asm_of (given asm_app words) (run_suite o) h in absurd (no_asm found.0 o found.2)
-by_name lacking words o false false false h = absurd cc
+by_name words o true run asm h = let found = some_then list_of (given list_app words) (run_suite o) h in absurd (no_list found.0 o found.2)
+by_name words o false true asm h = let found = some_then (run_of unbuilt) (given run_app words) (run_suite o) h in run_is found.0 o found.2
+by_name words o false false true h = let found = some_then asm_of (given asm_app words) (run_suite o) h in absurd (no_asm found.0 o found.2)
+by_name words o false false false h = absurd cc
 
-pub command_limited : (lacking words : List Text) (o : RunOptions) → command_by lacking words ≡ Some (run_suite o) → AreLimited o
+pub command_limited : (words : List Text) (o : RunOptions) → command_by unbuilt words ≡ Some (run_suite o) → AreLimited o
 unfolding command_by
-command_limited lacking [] o h = absurd cc
-command_limited lacking (name ∷ words) o h = by_name lacking words o (is_word name (codes "list")) (is_word name (codes "run")) (is_word name (codes "asm")) h
+command_limited [] o h = absurd cc
+command_limited (name ∷ words) o h = by_name words o (is_word name (codes "list")) (is_word name (codes "run")) (is_word name (codes "asm")) h

@@ -2,8 +2,8 @@ use Rattle.std.proofs.Common.{map, ℕ, sym, subst}
 use Rattle.std.specs.Prelude.{Option}
 use Rattle.mutest_engine.specs.Ends.{ReadsFailed, Prints}
 use Rattle.mutest_engine.specs.Answers.{Answered}
-use Rattle.mutest_engine.specs.Decided.{answer_of, steps_of}
-use Rattle.mutest_engine.specs.Promises.{LeavesOf}
+use Rattle.mutest_engine.specs.Decided.{answer_of, scratch_of, bounds_of, HasTrueRecords}
+use Rattle.mutest_engine.specs.Promises.{LeavesOf, Leaves}
 use Rattle.mutest_engine.specs.Words.{words_of}
 use Rattle.std.specs.Prelude.{string_bytes, Result}
 use Rattle.mt_edge.specs.Files.{Files}
@@ -38,7 +38,7 @@ returns-clause-printed_untold g c =
 
 pub returns-clause-meter : goal.returns-clause-meter
 returns-clause-meter g c =
-    rose_by (g.T.Tree.holds c.args.tree.now) c.args.meter.now c.answer_to-answer.new.meter (λ (files : Files). steps_of (map string_bytes c.args.words.now.items) files) c.answer_to-answer.result c.finish.result c.answer_to-answer.ensures.meter c.finish.ensures.status
+    rose_by (g.T.Tree.holds c.args.tree.now) c.args.meter.now c.answer_to-answer.new.meter (λ (files : Files). bounds_of (map string_bytes c.args.words.now.items) files) c.answer_to-answer.result c.finish.result c.answer_to-answer.ensures.meter c.finish.ensures.status
 
 pub returns-clause-meter_untold : goal.returns-clause-meter_untold
 returns-clause-meter_untold g c = stays_by c.args.meter.now c.answer_to-answer.new.meter c.answer_to-answer.result c.finish.result c.answer_to-answer.ensures.stays c.answer_to-answer.ensures.later c.finish.ensures.status
