@@ -398,7 +398,7 @@ ok_rose before after steps a WantOfMemory q is = (omega (arith, is), omega (arit
 
 halt_rose : (before after steps : ℕ) (h : Halt) (end : Status) → HaltRose before after steps h → IsToldAs h end → MeterRose before after steps end
 halt_rose before after steps (halt.Refused r) end rose same = by_status (Refused r) end (MeterRose before after steps) same (rose.2 r refl) (rose.0, rose.1)
-halt_rose before after steps (halt.ReadFault faults) end rose same = by_status (ReadFault faults) end (MeterRose before after steps) same (rose.3 faults refl) (rose.0, rose.1)
+halt_rose before after steps (halt.ReadFault faults) end rose same = by_status (ReadFault faults) end (MeterRose before after steps) same (rose.0, rose.1) (rose.0, rose.1)
 halt_rose before after steps halt.WantOfMemory end rose same = by_status WantOfMemory end (MeterRose before after steps) same (rose.0, rose.1) (rose.0, rose.1)
 
 pub rose_by : (held : Option Files) (before after : ℕ) (steps : Files → ℕ) (answer : Result Answer Halt) (end : Status) → IfSome held (λ files. AnswerMeters before after (steps files) answer) → Finished answer end
@@ -416,7 +416,7 @@ ok_stays before after a WantOfMemory q le = le
 
 halt_stays : (before after : ℕ) (h : Halt) (end : Status) → HaltStays before after h → IsToldAs h end → MeterStays before after end
 halt_stays before after (halt.Refused r) end stays same = by_status (Refused r) end (MeterStays before after) same (stays.1 r refl) stays.0
-halt_stays before after (halt.ReadFault faults) end stays same = by_status (ReadFault faults) end (MeterStays before after) same (stays.2 faults refl) stays.0
+halt_stays before after (halt.ReadFault faults) end stays same = by_status (ReadFault faults) end (MeterStays before after) same stays.0 stays.0
 halt_stays before after halt.WantOfMemory end stays same = by_status WantOfMemory end (MeterStays before after) same stays.0 stays.0
 
 pub stays_by : (before after : ℕ) (answer : Result Answer Halt) (end : Status) → IfErr answer (HaltStays before after) → before ≤ after → Finished answer end → MeterStays before after end

@@ -10,6 +10,7 @@ mod NeededLaws
 mod NumberLaws
 mod OriginalLaws
 mod RefusalLaws
+mod SourceLaws
 mod StepLaws
 mod SuiteLaws
 mod TestLaws

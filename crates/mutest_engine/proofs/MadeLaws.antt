@@ -1,11 +1,13 @@
 -- What a command answers whose last step makes this answer, unless memory runs out.
-use Rattle.std.proofs.Common.{◌≡◌, ◌∙◌, ℕ, ◌+◌, ◌≤◌, sym, ap, subst, arith}
+use Rattle.std.proofs.Common.{◌≡◌, ◌∙◌, ℕ, ◌+◌, ◌≤◌, List, sym, ap, subst, arith}
 use Rattle.std.specs.Prelude.{Option, None, Some, IfSome, IfErr, Result, Ok, Err}
 use Rattle.mt_edge.specs.Files.{Files}
-use Rattle.mutest_words.specs.Words.{Command}
+use Rattle.mutest_words.specs.Words.{Command, RunOptions}
+use Rattle.report_pieces.specs.declared.input.ReportInput.{ReportInput}
 use Rattle.mutest_engine.specs.Answers.{Answered}
-use Rattle.mutest_engine.specs.Decided.{CanAnswer}
-use Rattle.mutest_engine.specs.Ends.{Makes, MayAnswer, AnswersHeld, MetersHeld, HaltStays}
+use Rattle.mutest_engine.specs.Decided.{CanAnswer, report_answer}
+use Rattle.mutest_engine.specs.Ends.{Makes, MayAnswer, MayReport, AnswersHeld, MetersHeld, HaltStays}
+use Rattle.mutest_engine.specs.Sources.{AreNamed, with_sources}
 use Rattle.mutest_engine.specs.Steps.{FailsReading}
 use Rattle.mutest_engine.specs.declared.answer.Answer.{Answer}
 use Rattle.mutest_engine.specs.declared.refusal.Refusal.{Refusal}
@@ -21,6 +23,9 @@ no_refusal h r P want is = let e : halt.WantOfMemory ≡ halt.Refused r = sym wa
 
 no_fault : (h : Halt) (faults : ℕ) (P : Type 0) → h ≡ halt.WantOfMemory → h ≡ halt.ReadFault faults → P
 no_fault h faults P want is = let e : halt.WantOfMemory ≡ halt.ReadFault faults = sym want ∙ is in absurd cc
+
+no_case : (P : Type 0) → ⊥ → P
+no_case P q = absurd q
 
 pub made_held : (held : Option Files) (stated : Files → Result Answered Refusal) (a : Answered) (r : Result Answer Halt) → IfSome held (λ files. stated files ≡ Ok a) → Makes a r → AnswersHeld held stated r
 made_held None stated a r is made = tt
@@ -41,12 +46,20 @@ at_least before after steps e = omega (arith, e)
 at_most : (before after steps : ℕ) → after ≡ before + steps → after ≤ before + steps
 at_most before after steps e = omega (arith, e)
 
-pub made_meters : (held : Option Files) (before after : ℕ) (steps : Files → ℕ) (a : Answered) (r : Result Answer Halt) → IfSome held (λ files. after ≡ before + steps files) → Makes a r → MetersHeld held before after steps r
-made_meters None before after steps a r e made = tt
-made_meters (Some files) before after steps a (Ok x) e made = e
-made_meters (Some files) before after steps a (Err h) e made =
-    (at_least before after (steps files) e, at_most before after (steps files) e, λ r is. e, λ faults is. no_fault h faults _ made is)
+-- ---- a step behind all runs
 
-pub made_stays : (before after steps : ℕ) (a : Answered) (r : Result Answer Halt) → after ≡ before + steps → Makes a r → IfErr r (HaltStays before after)
-made_stays before after steps a (Ok x) e made = tt
-made_stays before after steps a (Err h) e made = (at_least before after steps e, λ r is. no_refusal h r _ made is, λ faults is. no_fault h faults _ made is)
+pub all_meters : (held : Option Files) (before after : ℕ) (steps : Files → ℕ) (r : Result Answer Halt) → IfSome held (λ files. after ≡ before + steps files) → MetersHeld held before after steps r
+all_meters None before after steps r e = tt
+all_meters (Some files) before after steps (Ok x) e = e
+all_meters (Some files) before after steps (Err h) e = (at_least before after (steps files) e, at_most before after (steps files) e, λ r is. e)
+
+pub late_stays : (before after steps : ℕ) (options : RunOptions) (input : ReportInput) (r : Result Answer Halt) → after ≡ before + steps → MayReport options input r → IfErr r (HaltStays before after)
+late_stays before after steps options input (Ok x) e may = tt
+late_stays before after steps options input (Err h) e may =
+    let le = at_least before after steps e in
+    (le, λ r is. (le, λ early. no_case _ ((may r is).1 early)))
+
+pub made_report : (options : RunOptions) (input : ReportInput) (sources : List (List ℕ)) (r : Result Answer Halt) → AreNamed options.sources sources → Makes (report_answer options.report (with_sources input sources)) r
+    → MayReport options input r
+made_report options input sources (Ok x) named made = (sources, named, made)
+made_report options input sources (Err h) named made = λ r refused. no_refusal h r _ made refused

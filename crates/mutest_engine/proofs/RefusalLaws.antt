@@ -10,7 +10,7 @@ use Rattle.program_rules.specs.Programs.{Look}
 use Rattle.class_table.specs.declared.scripted.Test.{Test}
 use Rattle.mutator_ops.specs.declared.mutant.Mutant.{Mutant}
 use Rattle.mutant_runs.specs.Programs.{ClassFiles}
-use Rattle.mutest_engine.specs.Refusals.{IsOfSuite, IsBeforeRuns, IsTestFault}
+use Rattle.mutest_engine.specs.Refusals.{IsOfSuite, IsOfRuns, IsTestFault}
 use Rattle.mutest_engine.specs.Steps.{and_then}
 use Rattle.suite_program.specs.Faults as program_faults
 use Rattle.suite_program.specs.Programs.{classes_in, class_file, names_in}
@@ -43,10 +43,6 @@ no_ok : {X : Type 0} (x : X) (r : Refusal) (P : Type 0) → Ok x ≡ Err r → P
 no_ok x r P h = absurd cc
 
 -- ---- by the runs of its tests
-
--- Such a refusal comes among the runs.
-abbrev pub IsOfRuns : Refusal → Type 0
-IsOfRuns r = IsOfSuite r × (IsBeforeRuns r → ⊥)
 
 of_settled : (t : Test) (e : Ending) (r : Refusal) → failure_of t e ≡ Err r → IsOfRuns r
 of_settled t (With Passed) r h = absurd cc

@@ -19,6 +19,7 @@ use Rattle.mutest_engine.specs.Refusals.{MayRefuse}
 use Rattle.mutest_engine.specs.Steps.{and_then}
 use Rattle.mutest_engine.specs.SuiteFiles.{suite_of}
 use Rattle.mutest_engine.specs.Mutation.{report_input, suite_steps}
+use Rattle.mutest_engine.specs.Sources.{sources_in, with_sources, AreNamed}
 use Rattle.mutest_words.specs.declared.command.RunOptions.{RunOptions as FoundRun}
 use Rattle.mutest_engine.specs.declared.answer.Product.TheVariants.{Report, Assembled}
 use Rattle.mutest_engine.specs.declared.suite.LoadedSuite.{LoadedSuite}
@@ -43,10 +44,16 @@ report_answer path input = record {
   text = Summary input.verdicts;
 }
 
+-- The same with the sources, which are read behind the runs.
+abbrev pub sourced_answer : RunOptions → ReportInput → Files → Result Answered Refusal
+sourced_answer options input files =
+    and_then (sources_in options.sources input.files files) (λ sources.
+    Ok (report_answer options.report (with_sources input sources)))
+
 abbrev pub run_answer : RunOptions → Files → Result Answered Refusal
 run_answer options files =
     and_then (suite_of options.classes options.tests files) (λ loaded.
-    and_then (report_input loaded) (λ input. Ok (report_answer options.report input)))
+    and_then (report_input loaded) (λ input. sourced_answer options input files))
 
 -- The class that a text states, or its first line at fault. Want of memory is no fault of a text.
 abbrev pub or_refused : Result Class AsmFault → Result Class Refusal
@@ -89,13 +96,19 @@ abbrev pub IsAssembledTo : List ℕ → List ℕ → Type 0
 IsAssembledTo text bytes =
     (class : Class) × (AssembledClass text ≡ Ok class) × IsClass class × (bytes ≡ class_bytes class)
 
+-- This is reported, with some sources where a folder of them is named.
+abbrev pub CanReport : RunOptions → ReportInput → Answered → Type 0
+CanReport options input a =
+    (sources : List (List ℕ)) × AreNamed options.sources sources
+    × (a ≡ report_answer options.report (with_sources input sources))
+
 -- The answer is that of some class, of some suite whose tests pass, or of some text that states a
 -- class.
 abbrev pub CanAnswer : Command → Answered → Type 0
 CanAnswer (list_class path) a = (class : Class) × (a ≡ listing class)
 CanAnswer (run_suite options) a =
     (s : LoadedSuite) × (input : ReportInput) × (report_input s ≡ Ok input)
-    × (a ≡ report_answer options.report input)
+    × CanReport options input a
 CanAnswer (assemble_class options) a =
     (text : List ℕ) × (class : Class) × (AssembledClass text ≡ Ok class) × IsClass class
     × (a ≡ assembly options.out class)

@@ -1,13 +1,14 @@
 -- How a call may end: each status with its number and its line, when it comes, what it leaves in
 -- the sink and in the tree, and the meter (this project's own).
 use Rattle.std.specs.Prelude.{◌≡◌, ◌⊎◌, ℕ, ◌+◌, ◌≤◌, List, [], ◌∷◌, Option, IfSome, Result, Ok, Err, MatchResult, ◌++◌, map, option_map, codes}
-use Rattle.mutest_words.specs.Words.{Command}
+use Rattle.mutest_words.specs.Words.{Command, RunOptions}
 use Rattle.mutest_engine.specs.Answers.{Answered, Write, answered, write_of}
-use Rattle.mutest_engine.specs.Refusals.{MayRefuse, refusal_line, refusal_number}
-use Rattle.mutest_engine.specs.Decided.{CanAnswer, steps_of_options, steps_of}
+use Rattle.mutest_engine.specs.Refusals.{IsOfRuns, MayRefuse, refusal_line, refusal_number}
+use Rattle.mutest_engine.specs.Decided.{CanAnswer, CanReport, steps_of_options, steps_of}
 use Rattle.mutest_engine.specs.Mutation.{Stays}
 use Rattle.mutest_engine.specs.Steps.{Failed, ReadsBy, RefusesReading}
 use Rattle.mt_edge.specs.Files.{Files}
+use Rattle.report_pieces.specs.declared.input.ReportInput.{ReportInput}
 use Rattle.mutest_engine.specs.declared.answer.Answer.{Answer}
 use Rattle.mutest_words.specs.declared.command.RunOptions.{RunOptions as FoundRun}
 use Rattle.mutest_engine.specs.declared.answer.Product.{Product}
@@ -141,6 +142,11 @@ abbrev pub MayAnswer : Command → Result Answer Halt → Type 0
 MayAnswer command result =
     MatchResult result (λ a. CanAnswer command (answered a)) (RefusesReading (MayRefuse command))
 
+-- The answer reports this, with some sources, or the refusal is one that comes behind the runs.
+abbrev pub MayReport : RunOptions → ReportInput → Result Answer Halt → Type 0
+MayReport options input result =
+    MatchResult result (λ a. CanReport options input (answered a)) (RefusesReading IsOfRuns)
+
 abbrev pub AnswersUntold : Result Command Refusal → Result Answer Halt → Type 0
 AnswersUntold words result =
     MatchResult result
@@ -167,17 +173,16 @@ PutsFailed before after s = Unit {0}
 
 -- ---- the meter
 
--- The meter rose by exactly these steps. A fault of reading comes before all runs, and memory may
--- run out before or among them.
+-- The meter rose by exactly these steps. A fault of reading comes before all runs or, of sources,
+-- behind them, and memory may run out before or among them.
 abbrev pub MeterRose : ℕ → ℕ → ℕ → Status → Type 0
-MeterRose before after steps (ReadFault faults) = after ≡ before
+MeterRose before after steps (ReadFault faults) = (before ≤ after) × (after ≤ before + steps)
 MeterRose before after steps WantOfMemory = (before ≤ after) × (after ≤ before + steps)
 MeterRose before after steps s = after ≡ before + steps
 
 -- A refusal that comes before all runs leaves the meter as it is, and none lets it fall.
 abbrev pub MeterStays : ℕ → ℕ → Status → Type 0
 MeterStays before after (Refused refusal) = Stays before after refusal
-MeterStays before after (ReadFault faults) = after ≡ before
 MeterStays before after s = before ≤ after
 
 -- the same before anything is written
@@ -185,13 +190,11 @@ abbrev pub HaltRose : ℕ → ℕ → ℕ → Halt → Type 0
 HaltRose before after steps h =
     (before ≤ after) × (after ≤ before + steps)
     × ((refusal : Refusal) → h ≡ halt.Refused refusal → after ≡ before + steps)
-    × ((faults : ℕ) → h ≡ halt.ReadFault faults → after ≡ before)
 
 abbrev pub HaltStays : ℕ → ℕ → Halt → Type 0
 HaltStays before after h =
     (before ≤ after)
     × ((refusal : Refusal) → h ≡ halt.Refused refusal → Stays before after refusal)
-    × ((faults : ℕ) → h ≡ halt.ReadFault faults → after ≡ before)
 
 -- What a step answers, where these are the files that the tree tells.
 abbrev pub AnswersHeld :

@@ -44,6 +44,7 @@ limit_name limit.Bytes = codes "bytes"
 limit_name limit.Tests = codes "tests"
 limit_name limit.Mutants = codes "mutants"
 limit_name limit.Cells = codes "cells"
+limit_name limit.Sources = codes "sources"
 
 -- an instruction's class, its method and its number
 abbrev pub code_place : Name → Name → ℕ → List ℕ
@@ -113,6 +114,7 @@ IsPassed limit.Bytes number = 67108864 < number
 IsPassed limit.Tests number = number ≡ 65536
 IsPassed limit.Mutants number = number ≡ 262145
 IsPassed limit.Cells number = number ≡ 4194305
+IsPassed limit.Sources number = 67108864 < number
 
 -- by the class file at this path
 abbrev pub IsOfFile : List ℕ → Refusal → Type 0
@@ -157,4 +159,9 @@ abbrev pub IsBeforeRuns : Refusal → Type 0
 IsBeforeRuns (NotGreen tests) = ⊥
 IsBeforeRuns (MachineCheck test class method at) = ⊥
 IsBeforeRuns (TooMany limit.Cells number) = ⊥
+IsBeforeRuns (TooMany limit.Sources number) = ⊥
 IsBeforeRuns refusal = Unit {0}
+
+-- Refusals of a suite that come with its runs or behind them.
+abbrev pub IsOfRuns : Refusal → Type 0
+IsOfRuns r = IsOfSuite r × (IsBeforeRuns r → ⊥)

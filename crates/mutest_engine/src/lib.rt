@@ -13,6 +13,7 @@ mod mutation;
 mod numbers;
 mod originals;
 mod refusal;
+mod sources;
 mod status;
 mod stop;
 mod suite;

@@ -2,10 +2,10 @@
 
 ghost use Rattle.std.specs.Prelude.{◌≡◌, ◌⊎◌, ◌<◌, ◌≤◌, ◌^◌, IfOk, IfErr, OnOk, Ok};
 ghost use Rattle.mutest_engine.specs.declared.status.Status.TheVariants.{WantOfMemory};
-ghost use Rattle.mutest_engine.specs.Ends.{line_of, status_of, unwritten_status, CarriedOut, TextEnds, AgreesUntold, MayAnswer, AnswersUntold, AnswersHeld, MetersRun, MetersWords, Makes, Finished, ReadsFailed, WritesFailed, PutsFailed, MeterStays, HaltStays, Wrote, WroteAll, LeavesOne, LeavesAll, FailsWriting, FilesAfter};
+ghost use Rattle.mutest_engine.specs.Ends.{line_of, status_of, unwritten_status, CarriedOut, TextEnds, AgreesUntold, MayAnswer, MayReport, AnswersUntold, AnswersHeld, MetersRun, MetersWords, Makes, Finished, ReadsFailed, WritesFailed, PutsFailed, MeterStays, HaltStays, Wrote, WroteAll, LeavesOne, LeavesAll, FailsWriting, FilesAfter};
 ghost use Rattle.mutest_words.specs.Words.{list_class, as_run_options, as_asm_options, as_run_command, as_asm_command};
 ghost use Rattle.mutest_engine.specs.Words.{words_of};
-ghost use Rattle.mutest_engine.specs.Decided.{listing, list_answer, report_answer, run_answer, written_class, asm_answer, answer_of};
+ghost use Rattle.mutest_engine.specs.Decided.{listing, list_answer, report_answer, sourced_answer, run_answer, written_class, asm_answer, answer_of};
 ghost use Rattle.mutest_engine.specs.Answers.{answered, one_write, writes_of, made, one};
 ghost use Rattle.mutest_engine.specs.SuiteFiles.{texts};
 ghost use Rattle.mutest_engine.specs.Steps.{OnlyReads};
@@ -15,6 +15,7 @@ use crate::answer::{Answer, Product, Write};
 use crate::assembling::class_file_of;
 use crate::files::{read_file, spelled_class};
 use crate::mutation::report_input;
+use crate::sources::{sources_in, with_sources};
 use crate::status::{Output, Status};
 use crate::stop::Halt;
 use crate::suite::load_suite;
@@ -80,6 +81,23 @@ fn report_answer<'a>(alloc: Global, path: &'a str, input: &ReportInput) -> Resul
     Ok(Answer { writes, text })
 }
 
+// The report with its sources, and the summary.
+fn sourced_answer<'a, T: Tree>(
+    alloc: Global,
+    tree: &mut T,
+    options: RunOptions<'a>,
+    input: ReportInput,
+) -> Result<Answer<'a>, Halt>
+    ensures value { AnswersHeld (T.holds tree.old)
+        (sourced_answer (as_run_options options.entry) input) result }
+    ensures answer { MayReport (as_run_options options.entry) input result }
+    ensures tree { OnlyReads T.holds T.writing T.reading tree.old tree.new result }
+{
+    let sources = sources_in(alloc, tree, options.sources, input.files.as_slice())?;
+    let input = with_sources(input, sources);
+    report_answer(alloc, options.report, &input)
+}
+
 // The report on a suite and its summary. The meter rises by the steps of all runs.
 #[tactic(auto, using(crate::proofs::RefusalLaws::of_report_input))]
 fn run_answer<'a, T: Tree>(
@@ -99,7 +117,7 @@ fn run_answer<'a, T: Tree>(
 {
     let loaded = load_suite(alloc, tree, options.classes, options.tests)?;
     let input = report_input(alloc, loaded, meter)?;
-    report_answer(alloc, options.report, &input)
+    sourced_answer(alloc, tree, options, input)
 }
 
 // A class file at its path, and no text.

@@ -61,9 +61,8 @@ pub enum Command<'a> {
 }
 
 /// The options that aren't built: they are refused, and none of them has to stand.
-const UNBUILT: [&str; 8] = [
+const UNBUILT: [&str; 7] = [
     "new-history",
-    "sources",
     "history",
     "journal",
     "workers",
