@@ -118,6 +118,7 @@ past_limit() {
         classes) echo "there are $2 class files; 20,000 are the most" ;;
         tests) echo "there are $2 tests; 65,535 are the most" ;;
         mutants) echo "there are $2 mutants; 262,144 are the most" ;;
+        sources) echo "the sources have $2 bytes; 67,108,864 are the most" ;;
         cells) echo "mutants have $2 tests that cover them; 4,194,304 are the most" ;;
     esac
 }

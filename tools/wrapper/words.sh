@@ -2,8 +2,9 @@
 # The words of a command line as the program reads them, for what is said beside its answer.
 # A further command or option: its line here and in help.txt.
 
-# The options that a command needs, and how many plain words.
+# The options that a command needs, those that it may have, and how many plain words.
 declare -A NEEDED=([run]='--classes --tests --report' [list]='' [asm]='--out')
+declare -A ALLOWED=([run]='--sources')
 declare -A PLAIN=([run]=0 [list]=1 [asm]=1)
 # The options that name a file to be written, with what the program calls it.
 declare -A WRITTEN=([--report]=report [--new-history]=history)
@@ -32,7 +33,7 @@ read_words() {
         elif [[ $word != -?* ]]; then
             plain+=("$word")
             continue
-        elif [[ " ${NEEDED[$command]} " != *" $option "* ]]; then
+        elif [[ " ${NEEDED[$command]} ${ALLOWED[$command]-} " != *" $option "* ]]; then
             fault="$command has no option '$option'"
         elif [ -n "${given[$option]+twice}" ]; then
             fault="$option stands twice"

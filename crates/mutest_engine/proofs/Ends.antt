@@ -422,7 +422,7 @@ ok_stays before after a WantOfMemory q le = le
 
 halt_stays : (before after : ℕ) (h : Halt) (end : Status) → HaltStays before after h → IsToldAs h end → MeterStays before after end
 halt_stays before after (halt.Refused r) end stays same = by_status (Refused r) end (MeterStays before after) same (stays.1 r refl) stays.0
-halt_stays before after (halt.ReadFault faults) end stays same = by_status (ReadFault faults) end (MeterStays before after) same (stays.2 faults refl) stays.0
+halt_stays before after (halt.ReadFault faults) end stays same = by_status (ReadFault faults) end (MeterStays before after) same stays.0 stays.0
 halt_stays before after halt.WantOfMemory end stays same = by_status WantOfMemory end (MeterStays before after) same stays.0 stays.0
 
 pub stays_by : (before after : ℕ) (answer : Result Answer Halt) (end : Status) → IfErr answer (HaltStays before after) → before ≤ after → Finished answer end → MeterStays before after end

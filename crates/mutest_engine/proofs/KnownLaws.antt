@@ -1,6 +1,6 @@
 -- What is made of a suite and of old records, in the words of the definitions.
-use Rattle.std.proofs.Common.{◌≡◌, ◌∙◌, ◌⊎◌, inl, inr, ⊎_elim, ℕ, ◌+◌, ◌<◌, ◌≤◌, ◌^◌, Bool, false, List, Option, Some, None, Result, Ok, Err, refl, sym, ap, subst, arith}
-use Rattle.std.specs.Prelude.{All, IfSome, length}
+use Rattle.std.proofs.Common.{◌≡◌, ◌∙◌, ◌⊎◌, inl, inr, ⊎_elim, ℕ, ◌+◌, ◌<◌, ◌≤◌, ◌^◌, Bool, false, List, length, Option, Some, None, Result, Ok, Err, refl, sym, ap, subst, arith}
+use Rattle.std.specs.Prelude.{All, IfSome}
 use Rattle.class_link.specs.declared.loaded.Loaded.{Loaded}
 use Rattle.class_records.specs.Profile.{profile}
 use Rattle.class_table.specs.declared.scripted.Test.{Test}
@@ -20,26 +20,28 @@ use Rattle.suite_runs.specs.declared.job.SuiteJob.{SuiteJob}
 use Rattle.suite_workers.specs.Old.{records_in as records_among}
 use Rattle.suite_workers.specs.declared.old_records.OldRecords.{OldRecords}
 use Rattle.mutest_engine.specs.Answers.{Answered, answered}
-use Rattle.mutest_engine.specs.Decided.{AreTrueIn, IsRunAnswer, allowed_by, answer_with, before_runs, bounds_behind, every_answer, known_answer, known_bounds, made_answer, run_answer, run_bounds, run_scratch}
-use Rattle.mutest_engine.specs.Ends.{AnswersHeld, HaltRose, HaltStays, MayAnswer, MetersRun, Stays}
-use Rattle.mutest_engine.specs.Jobs.{Bounds, GivesJob, Meters, MetersJob, RoseInAll, RoseWithin, job_bounds, job_made, no_steps}
+use Rattle.mutest_engine.specs.Decided.{AreTrueIn, CanReport, IsRunAnswer, allowed_by, before_runs, bounds_behind, known_bounds, run_answer, run_bounds, run_scratch, sourced_answer}
+use Rattle.mutest_engine.specs.Ends.{AnswerMeters, AnswersHeld, HaltStays, MayAnswer, MayReport, MetersRun, Stays}
+use Rattle.mutest_engine.specs.Jobs.{Bounds, GivesJob, Meters, MetersJob, job_bounds, job_made}
 use Rattle.mutest_engine.specs.Known.{AnswersTrue, HaltsBefore, IsKnownOf, RefusesKnown}
 use Rattle.mutest_engine.specs.Made.{IsMade, made_suite, suite_in}
-use Rattle.mutest_engine.specs.NamedJobs.{NamedSuite, named, named_answer, named_cost, named_reused}
-use Rattle.mutest_engine.specs.Old.{IsOfPath, history_bytes, old_records, records_in}
-use Rattle.mutest_engine.specs.Refusals.{IsBeforeRuns, IsOfHistory, IsOfRun, IsOfRuns, IsOfSuite}
-use Rattle.mutest_engine.specs.Steps.{and_then, Gives, GivesBy, HaltsHeld, IsHaltOf, ReadsBy, Refuses, RefusesReading}
+use Rattle.mutest_engine.specs.NamedJobs.{NamedSuite, named, named_answer, named_reused}
+use Rattle.mutest_engine.specs.Old.{history_bytes, old_records, records_in}
+use Rattle.mutest_engine.specs.Refusals.{IsOfRun, IsOfRuns}
+use Rattle.mutest_engine.specs.Reported.{every_reported, known_reported, reported, reported_with}
+use Rattle.mutest_engine.specs.Steps.{and_then, Gives, IsHaltOf, ReadsBy, Refuses, RefusesReading}
 use Rattle.mutest_engine.specs.SuiteFiles.{suite_of as suite_at}
 use Rattle.mutest_engine.specs.declared.answer.Answer.{Answer}
 use Rattle.mutest_engine.specs.declared.job.JobMade.{JobMade}
 use Rattle.mutest_engine.specs.declared.made.MadeSuite.{MadeSuite}
+use Rattle.mutest_engine.specs.declared.reported.Reported.{Reported}
 use Rattle.mutest_engine.specs.declared.running.KnownJob.{KnownJob}
 use Rattle.mutest_engine.specs.declared.suite.LoadedSuite.{LoadedSuite}
 use Rattle.mutest_engine.specs.declared.refusal.Refusal.{Refusal}
 use Rattle.mutest_engine.specs.declared.stop.Halt.{Halt}
-use Rattle.mutest_engine.specs.declared.stop.Halt.TheVariants as halt
 use Rattle.mutest_engine.specs.declared.stop.Stop.{Stop}
 use Rattle.mutest_engine.specs.declared.stop.Stop.TheVariants as stop
+use Rattle.mutest_engine.proofs.MadeLaws.{early_meters, late_meters, none_in_all, none_rose}
 use Rattle.mutest_engine.proofs.NamedLaws.{answer_is, cost_is, reused_is, scratch_is}
 use Rattle.mutest_engine.proofs.RefusalLaws.{of_records}
 
@@ -128,7 +130,7 @@ module _ (o : RunOptions) (s : LoadedSuite) (x : MadeSuite) (j : SuiteJob) (h : 
       → Meters (known_bounds o (named (suite_in s x)) (records_among old)) before after result
   meters_named old before after result made meters = subst (λ (b : Bounds). Meters b before after result) (bounds_are (records_among old)) (meters files (is_suite made))
 
--- ---- what is made of it
+-- ---- what is reported of it
 
 -- The meter of a later step is that of the first.
 pub meters_on : {X Y : Type 0} (b : Bounds) (before after : ℕ) (x : X) (result : Result Y Stop) → Meters b before after (Ok x) → Meters b before after result
@@ -138,28 +140,35 @@ meters_on b before after x (Err s) m = record { in_all = m.in_all; ended = λ r 
 pub meters_lost : {X Y : Type 0} (b : Bounds) (before after : ℕ) (s : Stop) → Meters {X = X} b before after (Err s) → Meters {X = Y} b before after (Err s)
 meters_lost b before after s m = record { in_all = m.in_all; ended = m.ended }
 
--- A job gives this, and this is made of it.
-pub job_answered : (o : RunOptions) (suite : NamedSuite) (reused : ℕ) (given : Result JobMade Refusal) (made : JobMade) (a : Answered) → given ≡ Ok made → a ≡ made_answer o suite made → and_then given (λ made. Ok (made_answer o suite made)) ≡ Ok a
-job_answered o suite reused given made a is same = ap (λ x. and_then x (λ m. Ok (made_answer o suite m))) is ∙ ap (λ z. Ok z) (sym same)
+-- Nothing was run, and memory ran out.
+pub meters_want : {X : Type 0} (b : Bounds) (before : ℕ) (s : Stop) → s ≡ stop.WantOfMemory → Meters {X = X} b before before (Err s)
+meters_want b before s want = record {
+  in_all = none_in_all b before;
+  ended = λ r is. let e : stop.WantOfMemory ≡ stop.Refused r = sym want ∙ is in absurd cc;
+}
 
-pub job_refused : (o : RunOptions) (suite : NamedSuite) (given : Result JobMade Refusal) (r : Refusal) → given ≡ Err r → and_then given (λ made. Ok (made_answer o suite made)) ≡ Err r
-job_refused o suite given r is = ap (λ x. and_then x (λ m. Ok (made_answer o suite m))) is
+-- A job gives this, and this is reported of it.
+pub job_reports : (suite : NamedSuite) (given : Result JobMade Refusal) (made : JobMade) (r : Reported) → given ≡ Ok made → r ≡ reported suite made → and_then given (λ m. Ok (reported suite m)) ≡ Ok r
+job_reports suite given made r is same = ap (λ x. and_then x (λ m. Ok (reported suite m))) is ∙ ap (λ z. Ok z) (sym same)
+
+pub job_refused : (suite : NamedSuite) (given : Result JobMade Refusal) (r : Refusal) → given ≡ Err r → and_then given (λ m. Ok (reported suite m)) ≡ Err r
+job_refused suite given r is = ap (λ x. and_then x (λ m. Ok (reported suite m))) is
 
 -- With true old records it is what every test on every mutant gives.
-pub every_is : TrueRecordsChangeNothing → AnswersAreOfAllTests → (o : RunOptions) (s : LoadedSuite) (x : MadeSuite) (old : List RunRecord) → IsMade s x → AreTrue profile old → known_answer o (named (suite_in s x)) old ≡ every_answer o (named (suite_in s x)) old
-every_is same of o s x old made true_ones =
-    ap (answer_with o (named (suite_in s x)) (named_reused (allowed_by o) (named (suite_in s x)) old)) (scratch_is same of (allowed_by o) (suite_in s x) old made.accepted true_ones)
+every_is : TrueRecordsChangeNothing → AnswersAreOfAllTests → (a : Allowed) (s : LoadedSuite) (x : MadeSuite) (old : List RunRecord) → IsMade s x → AreTrue profile old → known_reported a (named (suite_in s x)) old ≡ every_reported a (named (suite_in s x)) old
+every_is same of a s x old made true_ones =
+    ap (reported_with (named (suite_in s x)) (named_reused a (named (suite_in s x)) old)) (scratch_is same of a (suite_in s x) old made.accepted true_ones)
 
-pub gives_every : TrueRecordsChangeNothing → AnswersAreOfAllTests → (o : RunOptions) (s : LoadedSuite) (x : MadeSuite) (old : List RunRecord) (result : Result Answer Stop) → IsMade s x → AreTrue profile old
-    → GivesBy answered (known_answer o (named (suite_in s x)) old) result → GivesBy answered (every_answer o (named (suite_in s x)) old) result
-gives_every same of o s x old result made true_ones gives = subst (λ (stated : Result Answered Refusal). GivesBy answered stated result) (every_is same of o s x old made true_ones) gives
+pub gives_every : TrueRecordsChangeNothing → AnswersAreOfAllTests → (a : Allowed) (s : LoadedSuite) (x : MadeSuite) (old : List RunRecord) (result : Result Reported Stop) → IsMade s x → AreTrue profile old
+    → Gives (known_reported a (named (suite_in s x)) old) result → Gives (every_reported a (named (suite_in s x)) old) result
+gives_every same of a s x old result made true_ones gives = subst (λ (stated : Result Reported Refusal). Gives stated result) (every_is same of a s x old made true_ones) gives
 
 -- ---- behind the history's bytes
 
-pub after_records : (next : List RunRecord → Result Answered Refusal) (read : Result (List RunRecord) Refusal) (old : List RunRecord) (result : Result Answer Stop) → read ≡ Ok old → GivesBy answered (next old) result → GivesBy answered (and_then read next) result
-after_records next read old result is gives = subst (λ (r : Result (List RunRecord) Refusal). GivesBy answered (and_then r next) result) (sym is) gives
+pub after_records : (next : List RunRecord → Result Reported Refusal) (read : Result (List RunRecord) Refusal) (old : List RunRecord) (result : Result Reported Stop) → read ≡ Ok old → Gives (next old) result → Gives (and_then read next) result
+after_records next read old result is gives = subst (λ (r : Result (List RunRecord) Refusal). Gives (and_then r next) result) (sym is) gives
 
-pub records_refused : (next : List RunRecord → Result Answered Refusal) (read : Result (List RunRecord) Refusal) (r : Refusal) → read ≡ Err r → and_then read next ≡ Err r
+pub records_refused : (next : List RunRecord → Result Reported Refusal) (read : Result (List RunRecord) Refusal) (r : Refusal) → read ≡ Err r → and_then read next ≡ Err r
 records_refused next read r is = ap (λ x. and_then x next) is
 
 pub true_then : (read : Result (List RunRecord) Refusal) (old : List RunRecord) → read ≡ Ok old → AreTrueIn read → AreTrue profile old
@@ -168,16 +177,10 @@ true_then read old is true_ones = subst AreTrueIn is true_ones
 pub meters_after : {X : Type 0} (bounds : List RunRecord → Bounds) (read : Result (List RunRecord) Refusal) (old : List RunRecord) (before after : ℕ) (result : Result X Stop) → read ≡ Ok old → Meters (bounds old) before after result → Meters (bounds_behind read bounds) before after result
 meters_after bounds read old before after result is m = subst (λ (r : Result (List RunRecord) Refusal). Meters (bounds_behind r bounds) before after result) (sym is) m
 
-none_rose : (before : ℕ) → RoseWithin no_steps before before
-none_rose before = record { least = omega arith; most = omega arith }
-
-none_in_all : (b : Bounds) (before : ℕ) → RoseInAll b before before
-none_in_all b before = record { least = omega arith; most = omega arith }
-
 pub meters_none : {X : Type 0} (bounds : List RunRecord → Bounds) (read : Result (List RunRecord) Refusal) (before : ℕ) (s : Stop) → Refuses (λ r. read ≡ Err r) s → Meters {X = X} (bounds_behind read bounds) before before (Err s)
 meters_none bounds read before s refused = record {
   in_all = none_in_all (bounds_behind read bounds) before;
-  ended = λ r is. subst (λ (x : Result (List RunRecord) Refusal). RoseWithin (bounds_behind x bounds) before before) (sym (refused r is)) (none_rose before);
+  ended = λ r is. none_rose read r bounds before (refused r is);
 }
 
 -- ---- a run
@@ -190,9 +193,9 @@ known_so o k loaded files made read held =
     ∙ ap (λ x. and_then x (λ suite. and_then (old_records o.history files) (λ old. Ok (suite, old)))) made.stated
     ∙ ap (λ x. and_then (and_then x records_in) (λ old. Ok (named (suite_in loaded k.suite), old))) held
 
-nested : {X Y Z : Type 0} (a : Result X Refusal) (f : X → Y) (g : Y → Result Z Refusal) → and_then (and_then a (λ x. Ok (f x))) g ≡ and_then a (λ x. g (f x))
-nested (Ok x) f g = refl
-nested (Err r) f g = refl
+nested : {X Y Z W : Type 0} (a : Result X Refusal) (f : X → Y) (g : Y → Result Z Refusal) (tail : Z → Result W Refusal) → and_then (and_then a (λ x. Ok (f x))) (λ y. and_then (g y) tail) ≡ and_then (and_then a (λ x. g (f x))) tail
+nested (Ok x) f g tail = refl
+nested (Err r) f g tail = refl
 
 nested_bounds : {X Y : Type 0} (a : Result X Refusal) (f : X → Y) (g : Y → Bounds) → bounds_behind (and_then a (λ x. Ok (f x))) g ≡ bounds_behind a (λ x. g (f x))
 nested_bounds (Ok x) f g = refl
@@ -201,114 +204,123 @@ nested_bounds (Err r) f g = refl
 true_of : (o : RunOptions) (k : KnownJob) (files : Files) → history_bytes o.history files ≡ Ok k.history → AreTrueIn (old_records o.history files) → AreTrueIn (records_in k.history)
 true_of o k files held true_ones = subst AreTrueIn (ap (λ x. and_then x records_in) held) true_ones
 
--- A step's result, as a step's that reads.
-pub reads_gives : (stated : Result Answered Refusal) (a : Answer) → GivesBy answered stated (Ok a) → ReadsBy answered stated (Ok a)
-reads_gives stated a gives = gives
+-- What a run does by what is known.
+abbrev Next : Type 0
+Next = NamedSuite → List RunRecord → Result Reported Refusal
 
-halts_gives : (stated : Result Answered Refusal) (s : Stop) (h : Halt) → IsHaltOf s h → Refuses (λ r. stated ≡ Err r) s → RefusesReading (λ r. stated ≡ Err r) h
-halts_gives stated s h is refuses = λ r e. refuses r (is.0 r e)
+abbrev run_by : RunOptions → Next → Files → Result Answered Refusal
+run_by o next files = and_then (before_runs o files) (λ x. and_then (next x.0 x.1) (λ r. sourced_answer o r files))
 
 module _ (held : Option Files) (o : RunOptions) (k : KnownJob) (known : IsKnownOf held o k) where
   abbrev suite : NamedSuite
   suite = named (suite_in known.loaded k.suite)
 
-  abbrev stated : (NamedSuite → List RunRecord → Result Answered Refusal) → Result Answered Refusal
+  abbrev stated : Next → Result Reported Refusal
   stated next = and_then (records_in k.history) (next suite)
 
-  -- What words and files say, by what is known.
-  run_is : (next : NamedSuite → List RunRecord → Result Answered Refusal) → IfSome held (λ files. and_then (before_runs o files) (λ x. next x.0 x.1) ≡ stated next)
-  run_is next = by_held held known.read known.old
+  abbrev IsRead : Files → Type 0
+  IsRead files = (suite_at o.classes o.tests files ≡ Ok known.loaded) × (history_bytes o.history files ≡ Ok k.history)
+
+  run_is : (next : Next) (files : Files) → IsRead files → run_by o next files ≡ and_then (stated next) (λ r. sourced_answer o r files)
+  run_is next files read =
+      ap (λ r. and_then r (λ x. and_then (next x.0 x.1) (λ r. sourced_answer o r files))) (known_so o k known.loaded files known.made read.0 read.1)
+      ∙ nested (records_in k.history) (λ old. (suite, old)) (λ x. next x.0 x.1) (λ r. sourced_answer o r files)
+
+  all_read : IfSome held IsRead
+  all_read = by_held held known.read known.old
     where
-      by_held : (h : Option Files) → IfSome h (λ files. suite_at o.classes o.tests files ≡ Ok known.loaded) → IfSome h (λ files. history_bytes o.history files ≡ Ok k.history) → IfSome h (λ files. and_then (before_runs o files) (λ x. next x.0 x.1) ≡ stated next)
+      by_held : (h : Option Files) → IfSome h (λ files. suite_at o.classes o.tests files ≡ Ok known.loaded) → IfSome h (λ files. history_bytes o.history files ≡ Ok k.history) → IfSome h IsRead
       by_held None read old = tt
-      by_held (Some files) read old =
-          ap (λ r. and_then r (λ x. next x.0 x.1)) (known_so o k known.loaded files known.made read old)
-          ∙ nested (records_in k.history) (λ old. (suite, old)) (λ x. next x.0 x.1)
+      by_held (Some files) read old = (read, old)
 
-  bounds_is : IfSome held (λ files. run_bounds o files ≡ bounds_behind (records_in k.history) (known_bounds o suite))
-  bounds_is = by_held held known.read known.old
-    where
-      by_held : (h : Option Files) → IfSome h (λ files. suite_at o.classes o.tests files ≡ Ok known.loaded) → IfSome h (λ files. history_bytes o.history files ≡ Ok k.history) → IfSome h (λ files. run_bounds o files ≡ bounds_behind (records_in k.history) (known_bounds o suite))
-      by_held None read old = tt
-      by_held (Some files) read old =
-          ap (λ r. bounds_behind r (λ x. known_bounds o x.0 x.1)) (known_so o k known.loaded files known.made read old)
-          ∙ nested_bounds (records_in k.history) (λ old. (suite, old)) (λ x. known_bounds o x.0 x.1)
+  -- It is answered with the sources,
+  answered_by : (next : Next) (rep : Reported) (r : Result Answer Halt) (files : Files) → stated next ≡ Ok rep → IsRead files → ReadsBy answered (sourced_answer o rep files) r → ReadsBy answered (run_by o next files) r
+  answered_by next rep r files is read answers =
+      subst (λ (x : Result Answered Refusal). ReadsBy answered x r) (sym (run_is next files read ∙ ap (λ x. and_then x (λ r. sourced_answer o r files)) is)) answers
 
-  -- It answers,
-  pub answers_held : (a : Answer) → stated (known_answer o) ≡ Ok (answered a) → AnswersHeld held (run_answer o) (Ok a)
-  answers_held a is = by_held held (run_is (known_answer o))
+  pub answers_held : (rep : Reported) (r : Result Answer Halt) → stated (known_reported (allowed_by o)) ≡ Ok rep → AnswersHeld held (sourced_answer o rep) r → AnswersHeld held (run_answer o) r
+  answers_held rep r is answers = by_held held all_read answers
     where
-      by_held : (h : Option Files) → IfSome h (λ files. run_answer o files ≡ stated (known_answer o)) → IfSome h (λ files. run_answer o files ≡ Ok (answered a))
-      by_held None same = tt
-      by_held (Some files) same = same ∙ is
+      by_held : (h : Option Files) → IfSome h IsRead → AnswersHeld h (sourced_answer o rep) r → AnswersHeld h (run_answer o) r
+      by_held None read answers = tt
+      by_held (Some files) read answers = answered_by (known_reported (allowed_by o)) rep r files is read answers
 
-  -- or halts.
-  pub halts_held : (h : Halt) (s : Stop) → IsHaltOf s h → Refuses (λ r. stated (known_answer o) ≡ Err r) s → AnswersHeld held (run_answer o) (Err h)
-  halts_held h s is refuses = by_held held (run_is (known_answer o))
+  pub answers_true : (rep : Reported) (r : Result Answer Halt) → (AreTrueIn (records_in k.history) → stated (every_reported (allowed_by o)) ≡ Ok rep) → AnswersHeld held (sourced_answer o rep) r → AnswersTrue held o r
+  answers_true rep r is answers = by_held held all_read answers
     where
-      by_held : (t : Option Files) → IfSome t (λ files. run_answer o files ≡ stated (known_answer o)) → IfSome t (λ files. RefusesReading (λ r. run_answer o files ≡ Err r) h)
-      by_held None same = tt
-      by_held (Some files) same = λ r e. same ∙ halts_gives (stated (known_answer o)) s h is refuses r e
+      by_held : (h : Option Files) → IfSome h IsRead → AnswersHeld h (sourced_answer o rep) r → AnswersTrue h o r
+      by_held None read answers = tt
+      by_held (Some files) read answers = λ true_ones. answered_by (every_reported (allowed_by o)) rep r files (is (true_of o k files read.1 true_ones)) read answers
 
-  -- The same from scratch.
-  pub answers_true : (a : Answer) → (AreTrueIn (records_in k.history) → stated (every_answer o) ≡ Ok (answered a)) → AnswersTrue held o (Ok a)
-  answers_true a is = by_held held (run_is (every_answer o)) known.old
-    where
-      by_held : (h : Option Files) → IfSome h (λ files. run_scratch o files ≡ stated (every_answer o)) → IfSome h (λ files. history_bytes o.history files ≡ Ok k.history) → AnswersTrue h o (Ok a)
-      by_held None same old = tt
-      by_held (Some files) same old = λ true_ones. same ∙ is (true_of o k files old true_ones)
+  -- or the run halts.
+  refused_by : (next : Next) (h : Halt) (s : Stop) (files : Files) → IsHaltOf s h → Refuses (λ r. stated next ≡ Err r) s → IsRead files → RefusesReading (λ r. run_by o next files ≡ Err r) h
+  refused_by next h s files is refuses read = λ r e. run_is next files read ∙ ap (λ x. and_then x (λ r. sourced_answer o r files)) (refuses r (is.0 r e))
 
-  pub halts_true : (h : Halt) (s : Stop) → IsHaltOf s h → (AreTrueIn (records_in k.history) → Refuses (λ r. stated (every_answer o) ≡ Err r) s) → AnswersTrue held o (Err h)
-  halts_true h s is refuses = by_held held (run_is (every_answer o)) known.old
+  pub halts_held : (h : Halt) (s : Stop) → IsHaltOf s h → Refuses (λ r. stated (known_reported (allowed_by o)) ≡ Err r) s → AnswersHeld held (run_answer o) (Err h)
+  halts_held h s is refuses = by_held held all_read
     where
-      by_held : (t : Option Files) → IfSome t (λ files. run_scratch o files ≡ stated (every_answer o)) → IfSome t (λ files. history_bytes o.history files ≡ Ok k.history) → AnswersTrue t o (Err h)
-      by_held None same old = tt
-      by_held (Some files) same old = λ true_ones. λ r e. same ∙ halts_gives (stated (every_answer o)) s h is (refuses (true_of o k files old true_ones)) r e
+      by_held : (t : Option Files) → IfSome t IsRead → AnswersHeld t (run_answer o) (Err h)
+      by_held None read = tt
+      by_held (Some files) read = refused_by (known_reported (allowed_by o)) h s files is refuses read
 
-  -- Whatever a tree tells: the answer is one that a run can have,
-  pub can_answer : (a : Answered) → stated (known_answer o) ≡ Ok a → IsRunAnswer o a
-  can_answer a is = by_read (records_in k.history) refl is
+  pub halts_true : (h : Halt) (s : Stop) → IsHaltOf s h → (AreTrueIn (records_in k.history) → Refuses (λ r. stated (every_reported (allowed_by o)) ≡ Err r) s) → AnswersTrue held o (Err h)
+  halts_true h s is refuses = by_held held all_read
     where
-      by_read : (read : Result (List RunRecord) Refusal) → records_in k.history ≡ read → and_then read (known_answer o suite) ≡ Ok a → IsRunAnswer o a
-      by_read (Ok old) same answer = record {
+      by_held : (t : Option Files) → IfSome t IsRead → AnswersTrue t o (Err h)
+      by_held None read = tt
+      by_held (Some files) read = λ true_ones. refused_by (every_reported (allowed_by o)) h s files is (refuses (true_of o k files read.1 true_ones)) read
+
+  -- Whatever a tree tells: the answer is one that a run can have, or the refusal one that it may
+  -- have.
+  can_answer : (rep : Reported) (a : Answered) → stated (known_reported (allowed_by o)) ≡ Ok rep → CanReport o rep a → IsRunAnswer o a
+  can_answer rep a is can = by_read (records_in k.history) refl is
+    where
+      by_read : (read : Result (List RunRecord) Refusal) → records_in k.history ≡ read → and_then read (known_reported (allowed_by o) suite) ≡ Ok rep → IsRunAnswer o a
+      by_read (Ok old) same given = record {
         loaded = known.loaded;
         suite = suite;
         history = k.history;
         old = old;
+        reported = rep;
         made = known.made.stated;
         read = same;
-        answer = answer;
+        known = given;
+        answer = can;
       }
-      by_read (Err r) same answer = absurd cc
+      by_read (Err r) same given = absurd cc
 
-  -- and the refusal one that it may have.
-  pub may_refuse : (before after : ℕ) (r : Refusal) → RefusesKnown k before after r → IsOfRun o r
-  may_refuse before after r refuses =
-      ⊎_elim (λ (runs : IsOfRuns r). inl runs.0) (λ (read : (records_in k.history ≡ Err r) × (after ≡ before)). inr (of_records o.history k.history r known.path read.0)) refuses
+  pub may_answer : (rep : Reported) (r : Result Answer Halt) → stated (known_reported (allowed_by o)) ≡ Ok rep → MayReport o rep r → MayAnswer (run_suite o) r
+  may_answer rep (Ok a) is may = can_answer rep (answered a) is may
+  may_answer rep (Err h) is may = λ r e. inl (may r e).0
+
+  pub may_refuse : (before after : ℕ) (s : Stop) (h : Halt) → IsHaltOf s h → Refuses (RefusesKnown k before after) s → MayAnswer (run_suite o) (Err h)
+  may_refuse before after s h is refuses = λ r e.
+      ⊎_elim (λ (runs : IsOfRuns r). inl runs.0) (λ (read : (records_in k.history ≡ Err r) × (after ≡ before)). inr (of_records o.history k.history r known.path read.0)) (refuses r (is.0 r e))
 
   -- The meter.
-  pub meters_held : (before after : ℕ) (a : Answer) → Meters (bounds_behind (records_in k.history) (known_bounds o suite)) before after (Ok a) → MetersRun held before after o (Ok a)
-  meters_held before after a m = by_held held bounds_is
+  abbrev own_bounds : Bounds
+  own_bounds = bounds_behind (records_in k.history) (known_bounds o suite)
+
+  bounds_is : (files : Files) → IsRead files → run_bounds o files ≡ own_bounds
+  bounds_is files read =
+      ap (λ r. bounds_behind r (λ x. known_bounds o x.0 x.1)) (known_so o k known.loaded files known.made read.0 read.1)
+      ∙ nested_bounds (records_in k.history) (λ old. (suite, old)) (λ x. known_bounds o x.0 x.1)
+
+  meters_by : (before after : ℕ) (r : Result Answer Halt) → AnswerMeters before after own_bounds r → MetersRun held before after o r
+  meters_by before after r m = by_held held all_read
     where
-      by_held : (h : Option Files) → IfSome h (λ files. run_bounds o files ≡ bounds_behind (records_in k.history) (known_bounds o suite)) → MetersRun h before after o (Ok a)
-      by_held None same = tt
-      by_held (Some files) same = subst (λ (b : Bounds). RoseInAll b before after × RoseWithin b before after) (sym same) (m.in_all, m.ended)
+      by_held : (t : Option Files) → IfSome t IsRead → MetersRun t before after o r
+      by_held None read = tt
+      by_held (Some files) read = subst (λ (b : Bounds). AnswerMeters before after b r) (sym (bounds_is files read)) m
 
--- ---- how a run halts
+  pub meters_held : (before after : ℕ) (rep : Reported) (r : Result Answer Halt) → Meters own_bounds before after (Ok rep) → MetersRun held before after o r
+  meters_held before after rep r m = meters_by before after r (late_meters own_bounds before after r m.in_all m.ended)
 
--- By the bounds of what words and files say.
-pub halt_meters : {X : Type 0} (held : Option Files) (o : RunOptions) (k : KnownJob) (known : IsKnownOf held o k) (before after : ℕ) (s : Stop) (h : Halt) → IsHaltOf s h
-    → Meters {X = X} (bounds_behind (records_in k.history) (known_bounds o (named (suite_in known.loaded k.suite)))) before after (Err s) → MetersRun held before after o (Err h)
-halt_meters held o k known before after s h is m = by_held held (bounds_is held o k known)
-  where
-    by_held : (t : Option Files) → IfSome t (λ files. run_bounds o files ≡ bounds_behind (records_in k.history) (known_bounds o (named (suite_in known.loaded k.suite)))) → MetersRun t before after o (Err h)
-    by_held None same = tt
-    by_held (Some files) same = subst (λ (b : Bounds). RoseInAll b before after × HaltRose before after b h) (sym same)
-        (m.in_all, λ r e. m.ended r (is.0 r e), λ faults e. absurd (is.1 faults e))
+  pub meters_halt : (before after : ℕ) (s : Stop) (h : Halt) → IsHaltOf s h → Meters {X = Reported} own_bounds before after (Err s) → MetersRun held before after o (Err h)
+  meters_halt before after s h is m = meters_by before after (Err h) (m.in_all, (λ r e. m.ended r (is.0 r e), λ faults e. absurd (is.1 faults e)))
 
 pub halt_stays : (k : KnownJob) (before after : ℕ) (s : Stop) (h : Halt) → IsHaltOf s h → before ≤ after → Refuses (RefusesKnown k before after) s → HaltStays before after h
-halt_stays k before after s h is later refuses =
-    (later, (λ r e. stays_so r (refuses r (is.0 r e)), λ faults e. absurd (is.1 faults e)))
+halt_stays k before after s h is later refuses = (later, λ r e. stays_so r (refuses r (is.0 r e)))
   where
     stays_so : (r : Refusal) → RefusesKnown k before after r → Stays before after r
     stays_so r known =
@@ -318,19 +330,15 @@ halt_stays k before after s h is later refuses =
 
 pub before_held : (held : Option Files) (o : RunOptions) (h : Halt) → HaltsBefore held o h → AnswersHeld held (run_answer o) (Err h)
 before_held None o h halts = tt
-before_held (Some files) o h halts = λ r e. ap (λ x. and_then x (λ known. known_answer o known.0 known.1)) (halts r e)
+before_held (Some files) o h halts = λ r e. ap (λ x. and_then x (λ known. and_then (known_reported (allowed_by o) known.0 known.1) (λ r. sourced_answer o r files))) (halts r e)
 
 pub before_true : (held : Option Files) (o : RunOptions) (h : Halt) → HaltsBefore held o h → AnswersTrue held o (Err h)
 before_true None o h halts = tt
-before_true (Some files) o h halts = λ true_ones. λ r e. ap (λ x. and_then x (λ known. every_answer o known.0 known.1)) (halts r e)
+before_true (Some files) o h halts = λ true_ones. λ r e. ap (λ x. and_then x (λ known. and_then (every_reported (allowed_by o) known.0 known.1) (λ r. sourced_answer o r files))) (halts r e)
 
 pub before_meters : (held : Option Files) (o : RunOptions) (before : ℕ) (h : Halt) → HaltsBefore held o h → MetersRun held before before o (Err h)
 before_meters None o before h halts = tt
-before_meters (Some files) o before h halts = (
-  none_in_all (run_bounds o files) before,
-  λ r e. subst (λ (x : Result (NamedSuite × List RunRecord) Refusal). RoseWithin (bounds_behind x (λ known. known_bounds o known.0 known.1)) before before) (sym (halts r e)) (none_rose before),
-  λ faults e. refl,
-)
+before_meters (Some files) o before h halts = early_meters (before_runs o files) (λ known. known_bounds o known.0 known.1) before h halts
 
-pub before_stays : (before : ℕ) (h : Halt) → HaltStays before before h
-before_stays before h = (omega arith, (λ r e. (omega arith, λ early. refl), λ faults e. refl))
+pub before_may : (o : RunOptions) (h : Halt) → RefusesReading (IsOfRun o) h → MayAnswer (run_suite o) (Err h)
+before_may o h may = may

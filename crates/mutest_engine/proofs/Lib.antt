@@ -9,7 +9,9 @@ mod KnownLaws
 mod MadeLaws
 mod NamedLaws
 mod NumberLaws
+mod ReadLaws
 mod RefusalLaws
+mod SourceLaws
 mod SuiteLaws
 mod SuiteMade
 mod TestLaws

@@ -15,9 +15,6 @@ use Rattle.class_records.specs.Profile.{profile}
 use Rattle.record_rules.specs.declared.record.RunRecord.{RunRecord}
 use Rattle.reuse_laws.specs.Jobs.{AreTrue}
 use Rattle.suite_jobs.specs.Jobs.{Allowed}
-use Rattle.job_answers.specs.Answers.{JobAnswer}
-use Rattle.job_answers.specs.declared.refusal.JobRefusal.{JobRefusal}
-use Rattle.report_pieces.specs.declared.input.ReportInput.{ReportInput}
 use Rattle.mutest_words.specs.Words.{Command, list_class, run_suite, assemble_class, AsmOptions, RunOptions}
 use Rattle.mutest_engine.specs.Words.{words_of}
 use Rattle.mutest_engine.specs.Answers.{Answered, Write, file_of, spelled_class}
@@ -25,11 +22,12 @@ use Rattle.mutest_engine.specs.Refusals.{MayRefuse}
 use Rattle.mutest_engine.specs.Steps.{and_then}
 use Rattle.mutest_engine.specs.SuiteFiles.{suite_of}
 use Rattle.mutest_engine.specs.Made.{made_suite}
-use Rattle.mutest_engine.specs.NamedJobs.{NamedSuite, named_answer, named_reused, named_cost, scratch_answer}
+use Rattle.mutest_engine.specs.NamedJobs.{NamedSuite, named_cost}
 use Rattle.mutest_engine.specs.Old.{old_records, records_in}
-use Rattle.mutest_engine.specs.Jobs.{Bounds, no_steps, job_bounds, job_made}
-use Rattle.mutest_engine.specs.Reported.{input_of}
-use Rattle.mutest_engine.specs.declared.job.JobMade.{JobMade}
+use Rattle.mutest_engine.specs.Jobs.{Bounds, no_steps, job_bounds}
+use Rattle.mutest_engine.specs.Reported.{known_reported, every_reported}
+use Rattle.mutest_engine.specs.Sources.{AreNamed, sources_in, with_sources}
+use Rattle.mutest_engine.specs.declared.reported.Reported.{Reported}
 use Rattle.mutest_engine.specs.declared.answer.Product.TheVariants.{Report, History, Assembled}
 use Rattle.mutest_engine.specs.declared.suite.LoadedSuite.{LoadedSuite}
 use Rattle.mutest_engine.specs.declared.refusal.Refusal.{Refusal}
@@ -72,38 +70,28 @@ results o report history =
     ∷ history_write o.new_history history
 
 -- The report is replaced, and then the new history; then the summary is put.
-abbrev pub report_answer : RunOptions → ReportInput → List ℕ → ℕ → Answered
-report_answer o input history reused = record {
-  writes = results o (ReportText input) history;
-  text = Summary input.verdicts reused;
+abbrev pub report_answer : RunOptions → Reported → List (List ℕ) → Answered
+report_answer o r sources = record {
+  writes = results o (ReportText (with_sources r.input sources)) r.history;
+  text = Summary r.input.verdicts r.reused;
 }
 
-abbrev pub made_answer : RunOptions → NamedSuite → JobMade → Answered
-made_answer o s made =
-    report_answer o (input_of s.files s.tests s.mutants made.verdicts) made.history made.reused
-
--- By the answer of the job, and how many of its records old ones stand for.
-abbrev pub answer_with :
-    RunOptions → NamedSuite → ℕ → Result JobAnswer JobRefusal → Result Answered Refusal
-answer_with o s reused answer =
-    and_then (job_made s.tests reused answer) (λ made. Ok (made_answer o s made))
+-- The sources are read behind the runs.
+abbrev pub sourced_answer : RunOptions → Reported → Files → Result Answered Refusal
+sourced_answer o r files =
+    and_then (sources_in o.sources r.input.files files) (λ sources. Ok (report_answer o r sources))
 
 -- By what is known of all runs.
-abbrev pub known_answer : RunOptions → NamedSuite → List RunRecord → Result Answered Refusal
-known_answer o s old =
-    answer_with o s (named_reused (allowed_by o) s old) (named_answer (allowed_by o) s old)
-
 abbrev pub run_answer : RunOptions → Files → Result Answered Refusal
-run_answer o files = and_then (before_runs o files) (λ known. known_answer o known.0 known.1)
+run_answer o files =
+    and_then (before_runs o files) (λ known.
+    and_then (known_reported (allowed_by o) known.0 known.1) (λ r. sourced_answer o r files))
 
--- By running every test on every mutant from scratch. Old records have only to do with how many of
--- the new ones they stand for.
-abbrev pub every_answer : RunOptions → NamedSuite → List RunRecord → Result Answered Refusal
-every_answer o s old =
-    answer_with o s (named_reused (allowed_by o) s old) (scratch_answer (allowed_by o) s)
-
+-- By running every test on every mutant from scratch.
 abbrev pub run_scratch : RunOptions → Files → Result Answered Refusal
-run_scratch o files = and_then (before_runs o files) (λ known. every_answer o known.0 known.1)
+run_scratch o files =
+    and_then (before_runs o files) (λ known.
+    and_then (every_reported (allowed_by o) known.0 known.1) (λ r. sourced_answer o r files))
 
 -- ---- class files of texts
 
@@ -166,15 +154,23 @@ abbrev pub IsAssembledTo : List ℕ → List ℕ → Type 0
 IsAssembledTo text bytes =
     (class : Class) × (AssembledClass text ≡ Ok class) × IsClass class × (bytes ≡ class_bytes class)
 
+-- This is reported, with some sources where a folder of them is named.
+abbrev pub CanReport : RunOptions → Reported → Answered → Type 0
+CanReport options reported a =
+    (sources : List (List ℕ)) × AreNamed options.sources sources
+    × (a ≡ report_answer options reported sources)
+
 -- The answer is that of some suite and of some history, if any.
 pub record IsRunAnswer (o : RunOptions) (a : Answered) : Type 0 where
   pub loaded : LoadedSuite
   pub suite : NamedSuite
   pub history : Option (List ℕ)
   pub old : List RunRecord
+  pub reported : Reported
   pub made : made_suite loaded ≡ Ok suite
   pub read : records_in history ≡ Ok old
-  pub answer : known_answer o suite old ≡ Ok a
+  pub known : known_reported (allowed_by o) suite old ≡ Ok reported
+  pub answer : CanReport o reported a
 
 -- The answer is that of some class, of some suite whose tests pass, or of some text that states a
 -- class.

@@ -3,11 +3,12 @@
 use Rattle.std.specs.Prelude.{◌≡◌, ◌⊎◌, ℕ, ◌+◌, ◌≤◌, List, [], ◌∷◌, Option, IfSome, Result, Ok, Err, MatchResult, ◌++◌, map, option_map, codes}
 use Rattle.mutest_words.specs.Words.{Command, RunOptions}
 use Rattle.mutest_engine.specs.Answers.{Answered, Write, answered, write_of}
-use Rattle.mutest_engine.specs.Refusals.{MayRefuse, IsBeforeRuns, refusal_line, refusal_number}
-use Rattle.mutest_engine.specs.Decided.{CanAnswer, bounds_of, run_bounds}
-use Rattle.mutest_engine.specs.Jobs.{Bounds, RoseWithin, RoseInAll}
+use Rattle.mutest_engine.specs.Refusals.{MayRefuse, IsBeforeRuns, IsOfRuns, refusal_line, refusal_number}
+use Rattle.mutest_engine.specs.Decided.{CanAnswer, CanReport, bounds_of, run_bounds}
+use Rattle.mutest_engine.specs.Jobs.{Bounds, RoseAtMost, RoseWithin, RoseInAll}
 use Rattle.mutest_engine.specs.Steps.{Failed, ReadsBy, RefusesReading}
 use Rattle.mt_edge.specs.Files.{Files}
+use Rattle.mutest_engine.specs.declared.reported.Reported.{Reported}
 use Rattle.mutest_engine.specs.declared.answer.Answer.{Answer}
 use Rattle.mutest_engine.specs.declared.answer.Product.{Product}
 use Rattle.mutest_engine.specs.declared.refusal.Refusal.{Refusal}
@@ -141,6 +142,11 @@ abbrev pub MayAnswer : Command → Result Answer Halt → Type 0
 MayAnswer command result =
     MatchResult result (λ a. CanAnswer command (answered a)) (RefusesReading (MayRefuse command))
 
+-- The answer reports this, with some sources, or the refusal is one that comes behind the runs.
+abbrev pub MayReport : RunOptions → Reported → Result Answer Halt → Type 0
+MayReport options reported result =
+    MatchResult result (λ a. CanReport options reported (answered a)) (RefusesReading IsOfRuns)
+
 abbrev pub AnswersUntold : Result Command Refusal → Result Answer Halt → Type 0
 AnswersUntold words result =
     MatchResult result
@@ -167,10 +173,10 @@ PutsFailed before after s = Unit {0}
 
 -- ---- the meter
 
--- The meter rose within these bounds. A fault of reading comes before all runs, and memory may run
--- out before, among or behind them.
+-- The meter rose within these bounds. A fault of reading comes before all runs or, of sources,
+-- behind them, and memory may run out before, among or behind them.
 abbrev pub MeterRose : ℕ → ℕ → Bounds → Status → Type 0
-MeterRose before after b (ReadFault faults) = after ≡ before
+MeterRose before after b (ReadFault faults) = RoseAtMost b before after
 MeterRose before after b WantOfMemory = RoseInAll b before after
 MeterRose before after b s = RoseWithin b before after
 
@@ -181,20 +187,18 @@ Stays before after refusal = (before ≤ after) × (IsBeforeRuns refusal → aft
 -- A refusal that comes before all runs leaves the meter as it is, and none lets it fall.
 abbrev pub MeterStays : ℕ → ℕ → Status → Type 0
 MeterStays before after (Refused refusal) = Stays before after refusal
-MeterStays before after (ReadFault faults) = after ≡ before
 MeterStays before after s = before ≤ after
 
 -- the same before anything is written
 abbrev pub HaltRose : ℕ → ℕ → Bounds → Halt → Type 0
 HaltRose before after b h =
     ((refusal : Refusal) → h ≡ halt.Refused refusal → RoseWithin b before after)
-    × ((faults : ℕ) → h ≡ halt.ReadFault faults → after ≡ before)
+    × ((faults : ℕ) → h ≡ halt.ReadFault faults → RoseAtMost b before after)
 
 abbrev pub HaltStays : ℕ → ℕ → Halt → Type 0
 HaltStays before after h =
     (before ≤ after)
     × ((refusal : Refusal) → h ≡ halt.Refused refusal → Stays before after refusal)
-    × ((faults : ℕ) → h ≡ halt.ReadFault faults → after ≡ before)
 
 -- What a step answers, where these are the files that the tree tells.
 abbrev pub AnswersHeld :

@@ -110,6 +110,11 @@ pub record RoseWithin (b : Bounds) (before after : ℕ) : Type 0 where
   pub least : before + b.least ≤ after
   pub most : after ≤ before + b.most
 
+-- Where only the most is known.
+pub record RoseAtMost (b : Bounds) (before after : ℕ) : Type 0 where
+  pub least : before ≤ after
+  pub most : after ≤ before + b.most
+
 -- Wherever memory may have run out.
 pub record RoseInAll (b : Bounds) (before after : ℕ) : Type 0 where
   pub least : before ≤ after

@@ -1,4 +1,4 @@
--- What is known before the first run, and what is made of it then (this project's own).
+-- What is known before the first run, and what is reported then (this project's own).
 use Rattle.std.specs.Prelude.{◌≡◌, ◌⊎◌, ℕ, List, Option, IfSome, Result, Ok, Err}
 use Rattle.mt_edge.specs.Files.{Files}
 use Rattle.mutest_words.specs.Words.{RunOptions}
@@ -6,16 +6,18 @@ use Rattle.class_records.specs.Profile.{profile}
 use Rattle.record_rules.specs.declared.record.RunRecord.{RunRecord}
 use Rattle.reuse_laws.specs.Jobs.{AreTrue}
 use Rattle.mutest_engine.specs.Answers.{answered}
-use Rattle.mutest_engine.specs.Decided.{AreTrueIn, before_runs, bounds_behind, every_answer, known_answer, known_bounds, run_scratch}
+use Rattle.mutest_engine.specs.Decided.{AreTrueIn, allowed_by, before_runs, bounds_behind, known_bounds, run_scratch}
 use Rattle.mutest_engine.specs.Jobs.{Meters}
 use Rattle.mutest_engine.specs.Made.{IsMade, suite_in}
 use Rattle.mutest_engine.specs.NamedJobs.{named}
 use Rattle.mutest_engine.specs.Old.{IsOfPath, history_bytes, old_records, records_in}
 use Rattle.mutest_engine.specs.Refusals.{IsOfRuns}
-use Rattle.mutest_engine.specs.Steps.{and_then, GivesBy, HaltsHeld, ReadsBy}
+use Rattle.mutest_engine.specs.Reported.{every_reported, known_reported}
+use Rattle.mutest_engine.specs.Steps.{and_then, Gives, HaltsHeld, ReadsBy}
 use Rattle.mutest_engine.specs.SuiteFiles.{suite_of}
 use Rattle.mutest_engine.specs.declared.answer.Answer.{Answer}
 use Rattle.mutest_engine.specs.declared.made.MadeSuite.{MadeSuite}
+use Rattle.mutest_engine.specs.declared.reported.Reported.{Reported}
 use Rattle.mutest_engine.specs.declared.running.KnownJob.{KnownJob}
 use Rattle.mutest_engine.specs.declared.suite.LoadedSuite.{LoadedSuite}
 use Rattle.mutest_engine.specs.declared.refusal.Refusal.{Refusal}
@@ -37,40 +39,42 @@ pub record IsKnownOf (held : Option Files) (o : RunOptions) (k : KnownJob) : Typ
 abbrev pub HaltsBefore : Option Files → RunOptions → Halt → Type 0
 HaltsBefore held o h = HaltsHeld held (before_runs o) h
 
--- ---- what is made of a suite and of old records
+-- ---- what is reported of a suite with old records
 
 module _ (o : RunOptions) (x : MadeSuite) (old : List RunRecord) where
-  abbrev pub AnswersJob : Result Answer Stop → Type 0
-  AnswersJob result =
+  abbrev pub ReportsJob : Result Reported Stop → Type 0
+  ReportsJob result =
       (s : LoadedSuite) → IsMade s x →
-      GivesBy answered (known_answer o (named (suite_in s x)) old) result
+      Gives (known_reported (allowed_by o) (named (suite_in s x)) old) result
 
   -- Where all of them are true, it is what every test on every mutant gives.
-  abbrev pub AnswersTrueJob : Result Answer Stop → Type 0
-  AnswersTrueJob result =
+  abbrev pub ReportsTrueJob : Result Reported Stop → Type 0
+  ReportsTrueJob result =
       (s : LoadedSuite) → IsMade s x → AreTrue profile old →
-      GivesBy answered (every_answer o (named (suite_in s x)) old) result
+      Gives (every_reported (allowed_by o) (named (suite_in s x)) old) result
 
-  abbrev pub MetersOfJob : ℕ → ℕ → Result Answer Stop → Type 0
+  abbrev pub MetersOfJob : ℕ → ℕ → Result Reported Stop → Type 0
   MetersOfJob before after result =
       (s : LoadedSuite) → IsMade s x →
       Meters (known_bounds o (named (suite_in s x)) old) before after result
 
 -- The same where the history's bytes are read first.
 module _ (o : RunOptions) (k : KnownJob) where
-  abbrev pub AnswersKnown : Result Answer Stop → Type 0
-  AnswersKnown result =
+  abbrev pub ReportsKnown : Result Reported Stop → Type 0
+  ReportsKnown result =
       (s : LoadedSuite) → IsMade s k.suite →
-      GivesBy answered
-      (and_then (records_in k.history) (known_answer o (named (suite_in s k.suite)))) result
+      Gives
+      (and_then (records_in k.history)
+      (known_reported (allowed_by o) (named (suite_in s k.suite)))) result
 
-  abbrev pub AnswersTrueKnown : Result Answer Stop → Type 0
-  AnswersTrueKnown result =
+  abbrev pub ReportsTrueKnown : Result Reported Stop → Type 0
+  ReportsTrueKnown result =
       (s : LoadedSuite) → IsMade s k.suite → AreTrueIn (records_in k.history) →
-      GivesBy answered
-      (and_then (records_in k.history) (every_answer o (named (suite_in s k.suite)))) result
+      Gives
+      (and_then (records_in k.history)
+      (every_reported (allowed_by o) (named (suite_in s k.suite)))) result
 
-  abbrev pub MetersOfKnown : ℕ → ℕ → Result Answer Stop → Type 0
+  abbrev pub MetersOfKnown : ℕ → ℕ → Result Reported Stop → Type 0
   MetersOfKnown before after result =
       (s : LoadedSuite) → IsMade s k.suite →
       Meters

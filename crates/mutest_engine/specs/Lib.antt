@@ -1,6 +1,7 @@
 pub mod Words
 pub mod Lines
 pub mod Refusals
+pub mod Sources
 pub mod Steps
 pub mod Answers
 pub mod SuiteFiles

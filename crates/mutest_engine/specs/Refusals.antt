@@ -45,6 +45,7 @@ limit_name limit.Tests = codes "tests"
 limit_name limit.Mutants = codes "mutants"
 limit_name limit.Cells = codes "cells"
 limit_name limit.History = codes "history"
+limit_name limit.Sources = codes "sources"
 
 -- an instruction's class, its method and its number
 abbrev pub code_place : Name → Name → ℕ → List ℕ
@@ -114,6 +115,7 @@ IsPassed limit.Tests number = number ≡ 65536
 IsPassed limit.Mutants number = number ≡ 262145
 IsPassed limit.Cells number = number ≡ 4194305
 IsPassed limit.History number = 536870912 < number
+IsPassed limit.Sources number = 67108864 < number
 
 -- by the class file at this path
 abbrev pub IsOfFile : List ℕ → Refusal → Type 0
@@ -166,6 +168,7 @@ MayRefuse (assemble_class assembly) r = IsOfText assembly.text r
 abbrev pub IsBeforeRuns : Refusal → Type 0
 IsBeforeRuns (NotGreen tests) = ⊥
 IsBeforeRuns (TooMany limit.Cells number) = ⊥
+IsBeforeRuns (TooMany limit.Sources number) = ⊥
 IsBeforeRuns (TooMany limit.History number) = ⊥
 IsBeforeRuns refusal = Unit {0}
 

@@ -15,6 +15,7 @@ mod old;
 mod refusal;
 mod reported;
 mod running;
+mod sources;
 mod status;
 mod stop;
 mod suite;

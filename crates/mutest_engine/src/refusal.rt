@@ -27,6 +27,8 @@ pub enum Limit {
     Mutants,
     /// Viable mutants with the tests that cover them.
     Cells,
+    /// Bytes of all sources of a report.
+    Sources,
     /// Bytes of the new history.
     History,
 }
@@ -42,6 +44,7 @@ impl Limit {
             Limit::Tests => "tests",
             Limit::Mutants => "mutants",
             Limit::Cells => "cells",
+            Limit::Sources => "sources",
             Limit::History => "history",
         }
     }

@@ -4,7 +4,7 @@ ghost use Rattle.std.specs.Prelude.{◌≡◌, IfOk};
 ghost use Rattle.mutant_runs.specs.Programs.{ClassFiles, files_of};
 ghost use Rattle.mutest_engine.specs.Reported.{AreFilesOf, input_of};
 
-use class_model::{Memory, Seq};
+use class_model::{Bytes, Memory, Seq};
 use class_table::{Program, Test};
 use mutator_ops::{Mutant, Verdict};
 use report_pieces::{Group, ReportInput, mutant_files, test_files};
@@ -15,6 +15,15 @@ use std::alloc::Global;
 pub struct ReportFiles {
     pub mutants: Seq<Group>,
     pub tests: Seq<Group>,
+}
+
+/// What is reported of a job, but for sources: the report's input, the bytes of the new history, and
+/// how many of its records old ones stand for.
+#[derive(Drop)]
+pub struct Reported {
+    pub input: ReportInput,
+    pub history: Bytes,
+    pub reused: u64,
 }
 
 /// The files of mutants and of tests, by their classes.

@@ -1,9 +1,9 @@
 //! What the words decide alone: the command that they are, or why they are refused.
 
 ghost use Rattle.std.specs.Prelude.{◌≡◌, false, map, string_bytes, IfOk, OnOk, IfErr};
-ghost use Rattle.mutest_words.specs.Words.{is_archive, as_command};
-ghost use Rattle.mutest_engine.specs.Steps.{GivesBy, Refuses};
-ghost use Rattle.mutest_engine.specs.Words.{IsArchived, IsLimited, words_of};
+ghost use Rattle.mutest_words.specs.Words.{is_archive, as_command, lent_text};
+ghost use Rattle.mutest_engine.specs.Steps.{Gives, GivesBy, Refuses};
+ghost use Rattle.mutest_engine.specs.Words.{IsArchived, IsLimited, no_archive_in, words_of};
 
 use crate::refusal::Refusal;
 use crate::stop::Stop;
@@ -22,6 +22,16 @@ fn no_archive(alloc: Global, folder: &str) -> Result<(), Stop>
     Ok(())
 }
 
+// The same of a folder, if one is named.
+fn no_archive_in(alloc: Global, folder: Option<&str>) -> Result<(), Stop>
+    ensures { Gives (no_archive_in (lent_text folder.entry)) result }
+{
+    match folder {
+        Some(folder) => no_archive(alloc, folder),
+        None => Ok(()),
+    }
+}
+
 /// The command that the words are, unless one of its folders is an archive.
 pub fn read_words<'a>(alloc: Global, words: &'a Vec<String>) -> Result<Command<'a>, Stop>
     ensures value { GivesBy as_command (words_of (map string_bytes words.now.items)) result }
@@ -33,6 +43,7 @@ pub fn read_words<'a>(alloc: Global, words: &'a Vec<String>) -> Result<Command<'
         Some(Command::Run(options)) => {
             no_archive(alloc, options.classes)?;
             no_archive(alloc, options.tests)?;
+            no_archive_in(alloc, options.sources)?;
             Ok(Command::Run(options))
         }
         Some(Command::List(file)) => Ok(Command::List(file)),

@@ -15,5 +15,7 @@ mod needed;
 #[cfg(test)]
 mod running;
 mod same_call;
+#[cfg(test)]
+mod sourced;
 
 pub use same_call::called;

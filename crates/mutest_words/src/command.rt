@@ -61,7 +61,7 @@ pub enum Command<'a> {
 }
 
 /// The options that aren't built: they are refused, and none of them has to stand.
-const UNBUILT: [&str; 5] = ["sources", "journal", "steps", "heap", "depth"];
+const UNBUILT: [&str; 4] = ["journal", "steps", "heap", "depth"];
 
 const RUN_OPTIONS: [&str; 11] = [
     "classes",

@@ -1,12 +1,14 @@
-//! The calls of `report_pieces` and of `report_sources`, under their own contracts.
+//! The calls of `report_schema`, `report_pieces` and `report_sources`, under their own contracts.
 
 ghost use Rattle.std.specs.Prelude.{◌≡◌, map, IfOk, string_bytes};
 ghost use Rattle.report_pieces.specs.Groups.{groups_of, keys_at};
 ghost use Rattle.report_pieces.specs.Report.{ReportText};
+ghost use Rattle.report_schema.specs.Summary.{Summary};
 ghost use Rattle.report_sources.specs.Sources.{sources_of, Asks, ReadsBy};
 
 use class_model::{Bytes, Memory, Seq};
 use mt_edge::Tree;
+use mutator_ops::Verdict;
 use report_pieces::{Group, ReportInput};
 use report_sources::SourceFault;
 use std::alloc::Global;
@@ -16,6 +18,14 @@ pub fn report_text(alloc: Global, input: &ReportInput) -> Result<Bytes, Memory>
     ensures { IfOk result (λ text. text ≡ ReportText input.now) }
 {
     Ok(report_pieces::report_text(alloc, input)?)
+}
+
+/// The line of counts.
+pub fn summary_text(alloc: Global, verdicts: &Seq<Verdict>, reused: u64) -> Result<Bytes, Memory>
+    ensures { IfOk result (λ text. text ≡ Summary verdicts.now reused) }
+{
+    let text = report_schema::summary_text(alloc, verdicts, reused)?;
+    Ok(text)
 }
 
 /// The places of each key.

@@ -1,4 +1,4 @@
-//! What the wrong bodies of the report in pieces and of its sources are tried on, and their tests.
+//! What the wrong bodies of the report, its sources and its summary are tried on, and their tests.
 //!
 //! Each function outside the tests is a call of a crate below with the same contract. A wrong body
 //! in its place that is refused would be refused there too.
@@ -10,4 +10,4 @@ mod report_tests;
 #[cfg(test)]
 mod source_tests;
 
-pub use calls::{grouped, read_sources, report_text};
+pub use calls::{grouped, read_sources, report_text, summary_text};

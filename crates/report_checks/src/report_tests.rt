@@ -1,6 +1,6 @@
 //! Reports of a few mutants, as the schema has them, and the files in which they stand.
 
-use crate::{grouped, report_text};
+use crate::{grouped, report_text, summary_text};
 use class_model::names::ascii;
 use class_model::{Cause, Edit, Memory, Mutator, Name, Seq};
 use class_table::Test;
@@ -154,8 +154,9 @@ fn files_stand_in_byte_order_with_sources_tests_and_killers(rt: HostRuntime) -> 
 }
 
 #[test]
-fn each_state_has_its_status(rt: HostRuntime) -> Result<(), Fail> {
+fn each_state_has_its_status_and_its_count(rt: HostRuntime) -> Result<(), Fail> {
     let alloc = rt.alloc();
+    let mut verdicts = Seq::new(alloc);
     let case = Case {
         class: "A",
         key: "A.java",
@@ -173,6 +174,8 @@ fn each_state_has_its_status(rt: HostRuntime) -> Result<(), Fail> {
         (7, "\"Survived\""),
     ] {
         let state = state_of(alloc, number)?;
+        verdicts.push(verdict(alloc, state, [].as_slice(), [].as_slice())?)?;
+        let state = state_of(alloc, number)?;
         let mut one = Seq::new(alloc);
         one.push(verdict(alloc, state, [].as_slice(), [].as_slice())?)?;
         let text = report_text(alloc, &input_of(alloc, [case].as_slice(), one)?)?;
@@ -181,6 +184,9 @@ fn each_state_has_its_status(rt: HostRuntime) -> Result<(), Fail> {
         let wanted = format!(in alloc; "{before}{status}}}],\"source\":\"\"")?;
         assert!(rt; text.as_slice().starts_with(wanted.as_bytes()));
     }
+    let text = summary_text(alloc, &verdicts, 3)?;
+    let wanted = "mutants 8 killed 2 survived 1 no_coverage 1 timed_out 1 non_viable 1 errors 2 reused 3\n";
+    assert!(rt; text.as_slice() == wanted.as_bytes());
     Ok(())
 }
 
