@@ -60,8 +60,7 @@ lacks_one name rows = is_none (first_of name rows)
 
 none_given : (rows : List Row) → lacks unbuilt rows ≡ true → first_of (codes "steps") rows ≡ None
 none_given rows h =
-    let behind = both_true (lacks_one (codes "sources") rows) _ h in
-    let later = both_true (lacks_one (codes "journal") rows) _ behind.1 in
+    let later = both_true (lacks_one (codes "journal") rows) _ h in
     is_nothing (first_of (codes "steps") rows) (both_true (lacks_one (codes "steps") rows) _ later.1).0
 
 usual_one : (n : ℕ) (word : Option Text) → word ≡ None → number_or 1 1_000_000_000 10_000_000 word ≡ Some n → n ≡ 10_000_000
