@@ -11,6 +11,7 @@ mod NamedLaws
 mod NumberLaws
 mod ReadLaws
 mod RefusalLaws
+mod ScratchLaws
 mod SourceLaws
 mod SuiteLaws
 mod SuiteMade
