@@ -1,6 +1,5 @@
 pub mod FailedOnes
 pub mod Judged
-pub mod TriedOnce
 pub mod OriginalRuns
 pub mod LinesReached
 pub mod CoveringAll
