@@ -41,7 +41,7 @@ and_second : (b c : Bool) → (b && c) ≡ true → c ≡ true
 and_second true c e = e
 and_second false c e = absurd cc
 
-fits_of : (r : RunRecord) (x : Asked) → matches r x ≡ true → fits_limit r x.limit ≡ true
+pub fits_of : (r : RunRecord) (x : Asked) → matches r x ≡ true → fits_limit r x.limit ≡ true
 unfolding matches
 fits_of r x e =
     let holds = holds_all x.look x.held r.consulted in
@@ -74,15 +74,15 @@ formed_with r x f e lt = record {
 }
 
 -- The first record that matches is one of these, and matches.
-record IsMatch (x : Asked) (r : RunRecord) : Type 0 where
-  formed : IsFormed r
-  is : matches r x ≡ true
+pub record IsMatch (x : Asked) (r : RunRecord) : Type 0 where
+  pub formed : IsFormed r
+  pub is : matches r x ≡ true
 
 match_case : (x : Asked) (o r : RunRecord) (next : Option RunRecord) (b : Bool) → matches o x ≡ b → IsFormed o → (next ≡ Some r → IsMatch x r) → (if b then Some o else next) ≡ Some r → IsMatch x r
 match_case x o r next true e f rest h = let same : o ≡ r = cc in subst (IsMatch x) same (record { formed = f; is = e })
 match_case x o r next false e f rest h = rest h
 
-first_is : (x : Asked) (old : List RunRecord) (r : RunRecord) → AllByRecursion IsFormed old → first_match old x ≡ Some r → IsMatch x r
+pub first_is : (x : Asked) (old : List RunRecord) (r : RunRecord) → AllByRecursion IsFormed old → first_match old x ≡ Some r → IsMatch x r
 unfolding first_match
 first_is x [] r all e = absurd cc
 first_is x (o ∷ old) r all e = match_case x o r (first_match old x) (matches o x) refl all.0 (first_is x old r all.1) e

@@ -7,3 +7,8 @@ pub mod KeptAs
 pub mod LinesAlike
 pub mod CoveringAlike
 pub mod VerdictsAlike
+pub mod MutantsFit
+pub mod Suited
+pub mod CellsAsked
+pub mod Ended
+pub mod Readying

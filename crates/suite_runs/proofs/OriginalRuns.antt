@@ -118,3 +118,10 @@ module _ (p : List Info) (j : SuiteJob) (old : List RunRecord) where
         let most = costs_most (range_with_len 0 k) in
         let long = length-range_with_len 0 k in
         omega (arith, most, long, few, is, fit)
+
+    -- what all cost
+    pub cost_most : length j.tests.now ≤ 65535 → original_cost p j old ≤ 655350000000
+    cost_most few =
+        let most = costs_most (range_with_len 0 (length j.tests.now)) in
+        let long = length-range_with_len 0 (length j.tests.now) in
+        omega (arith, most, long, few)

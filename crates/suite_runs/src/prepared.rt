@@ -20,6 +20,7 @@ use crate::originals::originals_of;
 use crate::reached::{NamedClasses, coverage_of};
 use class_model::{Memory, Seq};
 use class_table::Program;
+use class_writer::what_is_spelled_is_written;
 use job_answers::originals_have_records;
 use jvm_step::Tables;
 use line_coverage::Coverage;
@@ -177,6 +178,8 @@ fn readied<'a>(
     ensures ends { ReadyEnds program.old job.now old.entry result }
     ensures same { program.new ≡ program.old }
 {
+    what_is_spelled_is_written();
+    mutants_are_of();
     let viable = viable(alloc, program, job.mutants)?;
     let cover = coverage(alloc, program, old, runs.as_slice())?;
     let covering = few_covering(alloc, program, &cover, job.mutants, viable.as_slice())?;

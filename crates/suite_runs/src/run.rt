@@ -8,6 +8,7 @@ use crate::finished::finish;
 use crate::job::{JobDone, SuiteJob};
 use crate::prepared::prepare;
 use class_table::Program;
+use class_writer::what_is_spelled_is_written;
 use job_answers::answers_can_be_written;
 use machine_laws::runs_keep_limits;
 use mt_edge::Meter;
@@ -38,6 +39,7 @@ pub fn run_job<'a, W: Threads + Wait + Sync, R: Recorder<RunRecord> + Sync, G: G
     ensures same { program.new ≡ program.old }
 {
     runs_keep_limits();
+    what_is_spelled_is_written();
     mutants_are_of();
     accepted_may_run();
     cells_are_of_suite();
