@@ -12,3 +12,4 @@ pub mod Suited
 pub mod CellsAsked
 pub mod Ended
 pub mod Readying
+pub mod Keeps

@@ -68,6 +68,22 @@ found_is p j l k o are lt finds =
     finds.finds p j.tests.now j.limits (same_steps j) are lt
     ∙ ap (λ (n : ℕ). found_in (old_of l) (asked p (test_at j.tests.now k) j.limits n)) (get_or-replicate (length j.tests.now) k j.steps 0 lt)
 
+module _ (p : List Info) (j : SuiteJob) (l : LookUps) (k : ℕ) (may : MayRunOriginals p j l) (lt : k < length j.tests.now) where
+  pub found_known : (f : FoundRun) → FindsOriginal l k (Some f) → IsKnown (run_tried p j (old_of l) k) (run.Found f)
+  found_known f finds = known_found (run_tried p j (old_of l) k) f (found_is p j l k (Some f) may.look_ups lt finds)
+
+  pub found_costs : (f : FoundRun) (n : ℕ) → FindsOriginal l k (Some f) → Costs (run_tried p j (old_of l) k) n n
+  found_costs f n finds = costs_none (run_tried p j (old_of l) k) (found_record f) n (found_is p j l k (Some f) may.look_ups lt finds)
+
+  pub none_known : (r : RunRecord) → FindsOriginal l k None → r ≡ made_by (run_asked p j k) → IsKnown (run_tried p j (old_of l) k) (run.Made r)
+  none_known r finds is = known_made (run_tried p j (old_of l) k) r (found_is p j l k None may.look_ups lt finds) is
+
+  pub none_costs : (before after : ℕ) → FindsOriginal l k None → after ≡ before + (made_by (run_asked p j k)).steps → Costs (run_tried p j (old_of l) k) before after
+  none_costs before after finds is = costs_made (run_tried p j (old_of l) k) before after (found_is p j l k None may.look_ups lt finds) is
+
+  pub none_costs_most : (before after : ℕ) → FindsOriginal l k None → after ≤ before + (made_by (run_asked p j k)).steps → CostsAtMost (run_tried p j (old_of l) k) before after
+  none_costs_most before after finds most = costs_at_most (run_tried p j (old_of l) k) before after (found_is p j l k None may.look_ups lt finds) most
+
 module _ (p : List Info) (j : SuiteJob) (old : List RunRecord) where
   abbrev one_cost : ℕ → ℕ
   one_cost k = cost_of_run steps_of (run_tried p j old k)

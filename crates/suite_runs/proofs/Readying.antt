@@ -113,11 +113,14 @@ runs_long p j old ks h =
 
 -- ---- where some fail
 
-pub none_failed : (fs : List FailedTest) → Ok tt ≡ unless_failed fs (Ok tt) → fs ≡ []
+abbrev pub none : Result Unit JobRefusal
+none = Ok tt
+
+pub none_failed : (fs : List FailedTest) → none ≡ unless_failed fs none → fs ≡ []
 none_failed [] e = refl
 none_failed (f ∷ fs) e = absurd cc
 
-pub some_failed : (fs : List FailedTest) (r : JobRefusal) → Err r ≡ unless_failed fs (Ok tt) → {X : Type 0} → (next : Result X JobRefusal) → unless_failed fs next ≡ Err r
+pub some_failed : (fs : List FailedTest) (r : JobRefusal) → Err r ≡ unless_failed fs none → {X : Type 0} → (next : Result X JobRefusal) → unless_failed fs next ≡ Err r
 some_failed [] r e next = absurd cc
 some_failed (f ∷ fs) r e next = let is : r ≡ NotGreen (f ∷ fs) = cc in ap (λ (x : JobRefusal). Err x) (sym is)
 
@@ -149,18 +152,18 @@ saturated n = by (nat_lt most_cells n) refl
     by true e = let lt = ltb-true most_cells n e in lt-ltb most_cells (u64_saturate n) (omega (arith, lt)) ∙ sym e
     by false e = let le = ltb-false most_cells n e in let same : u64_saturate n ≡ n = omega (arith, le) in ap (nat_lt most_cells) same
 
-few_case : (b : Bool) → Ok tt ≡ (if b then Err TooManyCells else Ok tt) → b ≡ false
+few_case : (b : Bool) → none ≡ (if b then Err TooManyCells else none) → b ≡ false
 few_case true e = absurd cc
 few_case false e = refl
 
-pub few_cells : (n count : ℕ) → count ≡ u64_saturate n → Ok tt ≡ unless_many count (Ok tt) → nat_lt most_cells n ≡ false
+pub few_cells : (n count : ℕ) → count ≡ u64_saturate n → none ≡ unless_many count none → nat_lt most_cells n ≡ false
 few_cells n count is e = sym (saturated n) ∙ ap (nat_lt most_cells) (sym is) ∙ few_case (nat_lt most_cells count) e
 
-many_case : (b : Bool) (r : JobRefusal) → Err r ≡ (if b then Err TooManyCells else Ok tt) → (b ≡ true) × (r ≡ TooManyCells)
+many_case : (b : Bool) (r : JobRefusal) → Err r ≡ (if b then Err TooManyCells else none) → (b ≡ true) × (r ≡ TooManyCells)
 many_case true r e = (refl, cc)
 many_case false r e = absurd cc
 
-pub many_cells : (n count : ℕ) (r : JobRefusal) → count ≡ u64_saturate n → Err r ≡ unless_many count (Ok tt) → (nat_lt most_cells n ≡ true) × (r ≡ TooManyCells)
+pub many_cells : (n count : ℕ) (r : JobRefusal) → count ≡ u64_saturate n → Err r ≡ unless_many count none → (nat_lt most_cells n ≡ true) × (r ≡ TooManyCells)
 many_cells n count r is e =
     let many = many_case (nat_lt most_cells count) r e in
     (sym (saturated n) ∙ ap (nat_lt most_cells) (sym is) ∙ many.0, many.1)
