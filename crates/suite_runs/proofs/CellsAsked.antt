@@ -9,7 +9,9 @@ use Rattle.class_writer.specs.Writing.{SpelledIsWritten}
 use Rattle.class_link.specs.Info.{Info}
 use Rattle.class_link.specs.declared.loaded.Loaded.{Loaded}
 use Rattle.machine_laws.specs.Walks.{RunsKeepLimits}
+use Rattle.machine_rules.specs.declared.machine.Limits.{Limits}
 use Rattle.machine_rules.specs.Runs.{limit_of}
+use Rattle.class_table.specs.declared.scripted.Test.{Test}
 use Rattle.mutator_ops.specs.declared.mutant.Mutant.{Mutant}
 use Rattle.mutant_runs.specs.Laws.{MutantsAreOf}
 use Rattle.mutant_runs.specs.Runs.{most_limit, most_steps}
@@ -18,6 +20,7 @@ use Rattle.suite_workers.specs.Jobs.{CellJob, FitsNumbers, IsSetupOf, cell_runs,
 use Rattle.suite_workers.specs.Laws.{AcceptedMayRun, CellsAreOfSuite}
 use Rattle.suite_workers.specs.Old.{AreByName, AreLookUps, old_of, records_in}
 use Rattle.suite_workers.specs.Said.{MayRunCells, known_record}
+use Rattle.suite_workers.specs.declared.look_ups.LookUps.{LookUps}
 use Rattle.suite_workers.specs.declared.old_records.OldRecords.{OldRecords}
 use Rattle.suite_workers.specs.declared.said.KnownRun.{KnownRun}
 use Rattle.suite_workers.specs.declared.setup.JobSetup.{JobSetup}
@@ -65,24 +68,24 @@ module _ (p : List Info) (j : SuiteJob) (old : OldRecords) (x : Prepared) (r : I
   few_cells : length (flat c.covering.now) ≤ 4194304
   few_cells =
       let pairs = zip j.mutants.now x.viable in
-      let long : length (flat c.covering.now) ≡ count_all p r.cover pairs = ap (λ ks. length (flat ks)) (is.covering ∙ r.covering_is) ∙ flat_long (numbers_of p r.cover) pairs in
+      let long : length (flat c.covering.now) ≡ count_all p r.cover pairs = ap (λ (ks : List (List ℕ)). length (flat ks)) (is.covering ∙ r.covering_is) ∙ flat_long (numbers_of p r.cover) pairs in
       let few = ltb-false most_cells (count_all p r.cover pairs) r.few in
       omega (arith, long, few)
 
   fits : (meter : ℕ) → MayRunJob p j old meter → FitsNumbers (job_in c)
   fits meter may = record {
-    mutants = subst (λ ms. length ms ≤ 262144) (sym is.mutants) may.few_mutants;
-    tests = subst (λ ts. length ts ≤ 65535) (sym is.tests) may.few_tests;
+    mutants = subst (λ (ms : List Mutant). length ms ≤ 262144) (sym is.mutants) may.few_mutants;
+    tests = subst (λ (ts : List Test). length ts ≤ 65535) (sym is.tests) may.few_tests;
     cells = few_cells;
-    bounds = subst (λ ns. All (λ (n : ℕ). n ≤ most_limit) ns) (sym (is.bounds ∙ r.bounds)) (bounds_most x.runs r.runs.are.within);
-    heap = subst (λ q. q.heap < 2 ^ 31) (sym is.limits) may.heap_fits;
+    bounds = subst (λ (ns : List ℕ). All (λ (n : ℕ). n ≤ most_limit) ns) (sym (is.bounds ∙ r.bounds)) (bounds_most x.runs r.runs.are.within);
+    heap = subst (λ (q : Limits). q.heap < 2 ^ 31) (sym is.limits) may.heap_fits;
   }
 
   look_ups_are : AreLookUps p c.tests.now c.limits c.bounds.now c.look_ups.now
-  look_ups_are = subst (λ l. AreLookUps p c.tests.now c.limits c.bounds.now l) (sym is.look_ups) by_bounds
+  look_ups_are = subst (λ (l : LookUps). AreLookUps p c.tests.now c.limits c.bounds.now l) (sym is.look_ups) by_bounds
     where
       by_bounds : AreLookUps p c.tests.now c.limits c.bounds.now x.look_ups
-      by_bounds = subst (λ ns. AreLookUps p c.tests.now c.limits ns x.look_ups) (sym is.bounds) (subst (λ q. AreLookUps p c.tests.now q x.bounds x.look_ups) (sym is.limits) (subst (λ ts. AreLookUps p ts j.limits x.bounds x.look_ups) (sym is.tests) r.look_ups))
+      by_bounds = subst (λ (ns : List ℕ). AreLookUps p c.tests.now c.limits ns x.look_ups) (sym is.bounds) (subst (λ (q : Limits). AreLookUps p c.tests.now q x.bounds x.look_ups) (sym is.limits) (subst (λ (ts : List Test). AreLookUps p ts j.limits x.bounds x.look_ups) (sym is.tests) r.look_ups))
 
   pub setup_is : (files : List Loaded) (suite : IsSuiteOf files p j) → IsSetupOf (allowed_in j) (suite_of files p j) (records_in old) (job_in c)
   setup_is files suite = is_setup files p j old suite x r (job_in c) is.mutants is.covering is.tests is.bounds is.limits (ap old_of is.look_ups ∙ r.old_is)

@@ -1,6 +1,7 @@
 -- How a job ends, by what its cells said.
 use Rattle.std.proofs.Common.{◌≡◌, ◌∙◌, ◌⊎◌, inl, inr, ℕ, zero, suc, ◌+◌, ◌*◌, ◌<◌, ◌≤◌, ◌^◌, Bool, true, false, List, [], ◌∷◌, ◌++◌, length, map, get_or, Option, Some, None, refl, sym, ap, ap₂, subst, arith}
 use Rattle.std.specs.Prelude.{All, Result, Ok, Err, is_some, if◌then◌else◌, max, slice_index_or, sum_by}
+use Rattle.std.specs.List.{AllByRecursion}
 use Rattle.std.specs.Option.{unwrap_or}
 use Rattle.std.proofs.Math.Nat.{le-mul_of_pos_right, mul-add, mul_comm}
 use Rattle.std.proofs.lemmas.List.{get_or-map, length-map, map-append}
@@ -15,7 +16,7 @@ use Rattle.history_rules.specs.Fitting.{FitsFields}
 use Rattle.history_rules.specs.Laws.{IsFormed}
 use Rattle.history_file.specs.Rows.{Numbered}
 use Rattle.new_history.specs.Left.{Left}
-use Rattle.job_rules.specs.Tried.{Tried, known, knowns, cost_of, cost_of_all, detections, firsts_after, is_among, need, need_cost, needed_of_all, records_once, reused_among}
+use Rattle.job_rules.specs.Tried.{Tried, known, knowns, cost_of, cost_of_all, detections, firsts_after, is_among, most_cost, need, need_cost, needed_of_all, records_once, reused_among}
 use Rattle.suite_jobs.specs.Jobs.{Allowed, Suite, job_runs, mutant_runs, says, viable_file}
 use Rattle.suite_jobs.specs.Laws.{steps_of}
 use Rattle.suite_workers.specs.Jobs.{covering_numbers}
@@ -56,7 +57,8 @@ kepts_alike (k ∷ ks) (t ∷ ts) e f =
     let found : is_found k ≡ is_some t.found = cc in
     let entries : map known_record ks ≡ knowns ts = cc in
     let founds : map is_found ks ≡ map (λ (u : Tried RunRecord). is_some u.found) ts = cc in
-    ap₂ (λ (x : Kept) (xs : List Kept). x ∷ xs) (λ i. record { entry = entry i; is_old = found i }) (kepts_alike ks ts entries founds)
+    let one : kept_as k ≡ kept t = λ i. record { entry = entry i; is_old = found i } in
+    ap₂ (λ (x : Kept) (xs : List Kept). x ∷ xs) one (kepts_alike ks ts entries founds)
 
 names_case : (o : Option RunRecord) (made : RunRecord) → (if is_some o then 0 else length (unwrap_or o made).consulted + 3) ≡ (if is_some o then 0 else length made.consulted + 3)
 names_case None made = refl
@@ -70,13 +72,15 @@ names_alike (t ∷ ts) =
     ∙ sym (sum_by-cons names_added t ts)
 
 -- the records that are needed are among these
+kept_first : (P : RunRecord → Type 0) (b : Bool) (t : Tried RunRecord) (rest others : Runs) → P (known t) → AllByRecursion P (knowns rest) → AllByRecursion P (knowns others) → AllByRecursion P (knowns (if b then rest else t ∷ others))
+kept_first P true t rest others h q r = q
+kept_first P false t rest others h q r = (h, r)
+
 all_firsts : (P : RunRecord → Type 0) (seen ts : Runs) → AllByRecursion P (knowns ts) → AllByRecursion P (knowns (firsts_after same_record seen ts))
 all_firsts P seen [] q = tt
-all_firsts P seen (t ∷ ts) q = first_case (is_among same_record seen t)
-  where
-    first_case : (b : Bool) → AllByRecursion P (knowns (if b then firsts_after same_record seen ts else t ∷ firsts_after same_record (t ∷ seen) ts))
-    first_case true = all_firsts P seen ts q.1
-    first_case false = (q.0, all_firsts P (t ∷ seen) ts q.1)
+all_firsts P seen (t ∷ ts) q =
+    kept_first P (is_among same_record seen t) t (firsts_after same_record seen ts) (firsts_after same_record (t ∷ seen) ts) q.0 (all_firsts P seen ts q.1)
+    (all_firsts P (t ∷ seen) ts q.1)
 
 module _ (old : OldRecords) (ks : List KnownRun) (ts : Runs) (entries : map known_record ks ≡ knowns ts) (found : map is_found ks ≡ map (λ (t : Tried RunRecord). is_some t.found) ts) where
   same : map kept_as ks ≡ map kept ts

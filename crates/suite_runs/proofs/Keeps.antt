@@ -27,9 +27,9 @@ use Rattle.suite_runs.specs.Keeping.{AddsKept, AreKept, AreKeptAs, CannotKeep, I
 
 pub is_of : (o : OldRecords) (k : KnownRun) → IsKnownIn (history_in o) k → IsOf (numbered_in o) k
 is_of o (run.Made made) h = tt
-is_of old.None (run.Found f) h = let e = h.history_is in absurd cc
+is_of old.None (run.Found f) h = let e : None ≡ Some f.index.now.history = h.history_is in absurd cc
 is_of (old.Of index) (run.Found f) h =
-    let e = h.history_is in
+    let e : Some index.now.history ≡ Some f.index.now.history = h.history_is in
     let same : index.now.history ≡ f.index.now.history = cc in
     (sym same, subst (λ (n : Numbered). f.place < length n.rows) (sym same) h.there)
 

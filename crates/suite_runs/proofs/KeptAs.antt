@@ -73,17 +73,19 @@ fits_with r limit f lt = record {
   lines = All-from_recursion FitsPair r.reached (pairs_fit r.consulted None r.reached f.lines);
 }
 
+rows_formed : (texts classes : List (List ℕ)) (rows : List Row) → AllByRecursion IsFormed (map (record_of texts classes) rows) → AllByRecursion (λ (x : Row). IsFormed (record_of texts classes x)) rows
+rows_formed texts classes [] q = tt
+rows_formed texts classes (x ∷ rows) q = (q.0, rows_formed texts classes rows q.1)
+
 row_formed : (texts classes : List (List ℕ)) (rows : List Row) (k : ℕ) (row : Row) → All IsFormed (map (record_of texts classes) rows) → Some row ≡ slice_get rows k → IsFormed (record_of texts classes row)
-row_formed texts classes rows k row all is = row_there (λ (x : Row). IsFormed (record_of texts classes x)) rows k row (All-unmapped texts classes rows all) is
-  where
-    All-unmapped : (texts classes : List (List ℕ)) (rows : List Row) → All IsFormed (map (record_of texts classes) rows) → All (λ (x : Row). IsFormed (record_of texts classes x)) rows
-    All-unmapped texts classes rows all = All-from_recursion (λ (x : Row). IsFormed (record_of texts classes x)) rows (each rows (recursion_from_All IsFormed (map (record_of texts classes) rows) all))
-      where
-        each : (rows : List Row) → AllByRecursion IsFormed (map (record_of texts classes) rows) → AllByRecursion (λ (x : Row). IsFormed (record_of texts classes x)) rows
-        each [] q = tt
-        each (x ∷ rows) q = (q.0, each rows q.1)
+row_formed texts classes rows k row all is =
+    row_there (λ (x : Row). IsFormed (record_of texts classes x)) rows k row
+    (All-from_recursion (λ (x : Row). IsFormed (record_of texts classes x)) rows (rows_formed texts classes rows (recursion_from_All IsFormed (map (record_of texts classes) rows) all))) is
 
 -- ---- a run that was found
+
+abbrev pub old_one : RunRecord → Kept
+old_one r = record { entry = r; is_old = true }
 
 pub found_fits : (h : Numbered) (f : FoundRun) (row : Row) → f.index.now.history ≡ h → Some row ≡ slice_get f.index.now.history.rows f.place → f.limit < 2 ^ 64 → All IsFormed (records_of h) → FitsFields (known_record (run.Found f))
 found_fits h f row same is lt formed =
@@ -91,9 +93,9 @@ found_fits h f row same is lt formed =
     let own : All IsFormed (records_of n) = subst (λ (m : Numbered). All IsFormed (records_of m)) (sym same) formed in
     subst FitsFields (found_is n f row refl is) (fits_with (record_of n.texts n.classes row) f.limit (row_formed n.texts n.classes n.rows f.place row own is) lt)
 
-pub found_kept : (h : Numbered) (f : FoundRun) (row : Row) (x : Needed) → IsNumbered f.index.now.history → IsOf h (run.Found f) → Some row ≡ slice_get f.index.now.history.rows f.place → f.limit < 2 ^ 64 → kept_by h x ≡ record { entry = with_limit f.limit (record_of h.texts h.classes row); is_old = true } → (IsRow (length h.texts) (length h.classes) row → IsNeeded h x) → IsKeptAs h (run.Found f) x
+pub found_kept : (h : Numbered) (f : FoundRun) (row : Row) (x : Needed) → IsNumbered f.index.now.history → IsOf h (run.Found f) → Some row ≡ slice_get f.index.now.history.rows f.place → f.limit < 2 ^ 64 → kept_by h x ≡ old_one (with_limit f.limit (record_of h.texts h.classes row)) → (IsRow (length h.texts) (length h.classes) row → IsNeeded h x) → IsKeptAs h (run.Found f) x
 found_kept h f row x numbered of is lt kept needed = record {
-  kept = kept ∙ ap (λ (r : RunRecord). record { entry = r; is_old = true }) (found_is h f row of.0 is);
+  kept = kept ∙ ap old_one (found_is h f row of.0 is);
   needed = needed (found_row h f row numbered of.0 is);
   fits = found_fits h f row of.0 is lt;
 }

@@ -29,6 +29,7 @@ use Rattle.record_rules.specs.Jobs.{with_limit}
 use Rattle.record_rules.specs.Matching.{first_match, is_timed_out, matches}
 use Rattle.record_rules.specs.Records.{Asked}
 use Rattle.history_rules.specs.Laws.{IsFormed}
+use Rattle.history_file.specs.Rows.{Numbered}
 use Rattle.suite_records.specs.Suites.{asked_on}
 use Rattle.job_rules.specs.Tried.{known, knowns}
 use Rattle.suite_jobs.specs.Jobs.{made_by, tried_on}
@@ -128,11 +129,11 @@ some_failed (f ∷ fs) r e next = let is : r ≡ NotGreen (f ∷ fs) = cc in ap 
 
 named_case : (p : List Info) (o : OldRecords) (n : NamedClasses) → AreNamed p (texts_in o) n → (k : KnownRun) → IsKnownIn (history_in o) k → IsNamedFor p n k
 named_case p o n named (run.Made made) h = named.nameless_is
-named_case p old.None n named (run.Found f) h = let e = h.history_is in absurd cc
-named_case p (old.Of index) n named (run.Found f) h = subst (λ texts. AreNamed p texts n) (texts_alike h.history_is) named
+named_case p old.None n named (run.Found f) h = let e : None ≡ Some f.index.now.history = h.history_is in absurd cc
+named_case p (old.Of index) n named (run.Found f) h = subst (λ (texts : List (List ℕ)). AreNamed p texts n) (texts_alike h.history_is) named
   where
     texts_alike : Some index.now.history ≡ Some f.index.now.history → index.now.history.texts ≡ f.index.now.history.texts
-    texts_alike e = let same : index.now.history ≡ f.index.now.history = cc in ap (λ h. h.texts) same
+    texts_alike e = let same : index.now.history ≡ f.index.now.history = cc in ap (λ (m : Numbered). m.texts) same
 
 pub named_for : (p : List Info) (o : OldRecords) (n : NamedClasses) (ks : List KnownRun) → AreNamed p (texts_in o) n → All (IsKnownIn (history_in o)) ks → All (IsNamedFor p n) ks
 named_for p o n ks named all i d lt = named_case p o n named (get_or ks i d) (all i d lt)

@@ -176,7 +176,7 @@ module _ (files : List Loaded) (p : List Info) (j : SuiteJob) (old : OldRecords)
   green_is runs g = sym (failed_is files p j rs is runs g.are.known.entries) ∙ g.green
 
   pub failed_refuses : (r : JobRefusal) → RefusesFailed p j old r → (all : Bool) → job_answer (allowed_in j) (suite_of files p j) rs all ≡ Err r
-  failed_refuses r h all = refused_failed files p j rs is r (failed_among (map known_record h.runs)) (failed_is files p j rs is h.runs h.are.known.entries) h.refused all
+  failed_refuses r h all = refused_failed files p j rs is r (failed_among (map known_record h.runs)) (failed_is files p j rs is h.runs h.are.known.entries) (λ next. h.refused next) all
 
   pub many_refuses : (r : JobRefusal) → RefusesMany p j old r → (all : Bool) → job_answer (allowed_in j) (suite_of files p j) rs all ≡ Err r
   many_refuses r h all =

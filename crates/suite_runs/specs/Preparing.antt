@@ -12,7 +12,7 @@ use Rattle.suite_workers.specs.declared.old_records.OldRecords.{OldRecords}
 use Rattle.suite_workers.specs.declared.said.KnownRun.{KnownRun}
 use Rattle.job_answers.specs.declared.refusal.JobRefusal.{JobRefusal}
 use Rattle.job_answers.specs.declared.refusal.JobRefusal.TheVariants.{TooManyCells}
-use Rattle.job_answers.specs.Answers.{most_cells, unless_failed}
+use Rattle.job_answers.specs.Answers.{JobAnswer, most_cells, unless_failed}
 use Rattle.suite_runs.specs.declared.fault.JobFault.{JobFault}
 use Rattle.suite_runs.specs.declared.fault.JobFault.TheVariants as fault
 use Rattle.suite_runs.specs.declared.job.SuiteJob.{SuiteJob}
@@ -50,7 +50,7 @@ module _ (p : List Info) (j : SuiteJob) (old : OldRecords) where
   pub record RefusesFailed (refusal : JobRefusal) : Type 0 where
     pub runs : List KnownRun
     pub are : AreOriginals runs
-    pub refused : {X : Type 0} → (next : Result X JobRefusal) →
+    pub refused : (next : Result JobAnswer JobRefusal) →
         unless_failed (failed_among (map known_record runs)) next ≡ Err refusal
 
   -- ---- all that is prepared
