@@ -1,5 +1,5 @@
 -- The records of an answer have the form of a history where they fit its fields, and they differ.
-use Rattle.std.proofs.Common.{◌≡◌, ◌∙◌, ℕ, ◌+◌, ◌<◌, ◌^◌, Bool, true, false, not, nat_eq, List, [], ◌∷◌, ◌++◌, map, Option, Some, None, refl, sym, ap, subst}
+use Rattle.std.proofs.Common.{◌≡◌, ◌∙◌, ℕ, ◌+◌, ◌<◌, ◌^◌, Bool, true, false, cond, not, nat_eq, List, [], ◌∷◌, ◌++◌, map, Option, Some, None, refl, sym, ap, subst}
 use Rattle.std.specs.Prelude.{All, ◌&&◌, nat_le, is_some, if◌then◌else◌}
 use Rattle.std.specs.List.{AllByRecursion, enumerate_from, filter}
 use Rattle.std.specs.Option.{option_map, option_map_or, unwrap_or}
@@ -112,7 +112,7 @@ module _ (g : Given) (ok : IsProfile profile) (law : FittingAreFormed) (a : Allo
     one_forms : (t : ℕ × Test) → IsGood g a s h t.1 → FormsIfFits (mutant_tried a s old made t)
     one_forms t q = forms t.0 (mutant_asked s.files s.program made t.1 a.limits (limit_at t)) (mutant g a s h m of made at t.1 (limit_at t) q)
 
-    pick_case : (b : Bool) (t : ℕ × Test) (rest : List (ℕ × Test)) → IsGood g a s h t.1 → AllByRecursion FormsIfFits (map (mutant_tried a s old made) rest) → AllByRecursion FormsIfFits (map (mutant_tried a s old made) (if b then t ∷ rest else rest))
+    pick_case : (b : Bool) (t : ℕ × Test) (rest : List (ℕ × Test)) → IsGood g a s h t.1 → AllByRecursion FormsIfFits (map (mutant_tried a s old made) rest) → AllByRecursion FormsIfFits (map (mutant_tried a s old made) (cond b (t ∷ rest) rest))
     pick_case true t rest q r = (one_forms t q, r)
     pick_case false t rest q r = r
 

@@ -15,7 +15,7 @@ use Rattle.machine_rules.specs.Runs.{limit_of}
 use Rattle.class_link.specs.Info.{Info}
 use Rattle.class_link.specs.declared.loaded.Loaded.{Loaded}
 use Rattle.class_table.specs.declared.scripted.Test.{Test}
-use Rattle.class_table.specs.Table.{IsProgram, look}
+use Rattle.class_table.specs.Table.{look}
 use Rattle.jvm_world.specs.View.{test_of}
 use Rattle.line_coverage.specs.Coverage.{Covered}
 use Rattle.mutator_ops.specs.declared.mutant.Mutant.{Mutant}
@@ -61,16 +61,18 @@ use Rattle.suite_runs.proofs.Suited.{bounds_are}
 
 -- ---- the runs of the tests
 
-pub may_make : (p : List Info) (j : SuiteJob) (old : OldRecords) → ReadyMayRun → OriginalsHaveRecords → IsProgram p → MayBeRun p j old → MayMakeOriginals p j
-may_make p j old ready have program be =
+pub may_make : (p : List Info) (j : SuiteJob) (old : OldRecords) → ReadyMayRun → OriginalsHaveRecords → MayBeRun p j old → MayMakeOriginals p j
+may_make p j old ready have be =
     let may = be.1 in
     let suite = may.suite in
+    let accepted = suite.accepted in
+    let made = accepted.suite in
     let all = have (allowed_in j) (suite_of may.files p j) suite.accepted in
     record {
       few = may.few_tests;
       steps_fit = may.steps_fit;
       heap_fits = may.heap_fits;
-      runnable = ready p program may.ready;
+      runnable = ready p made.of.program may.ready;
       goes_on = λ k lt. subst HasRecord (λ i. asked_on (look p) (sym suite.holds i) (test_at j.tests.now k) j.limits j.steps) (all k no_test lt);
     }
 

@@ -58,12 +58,11 @@ fn original_look_ups<'a>(
     LookUps::new(alloc, old, program, job.tests, job.limits, steps.as_slice())
 }
 
-// The form of a program is known, and the runs of tests may be made. Only the prover reads this.
+// The runs of tests may be made. Only the prover reads this.
 fn may_make(program: &Program, job: &SuiteJob, old: OldRecords)
     requires { MayBeRun program.now job.now old }
     ensures { MayMakeOriginals program.now job.now }
 {
-    let _count = program.len();
     ready_may_run();
     originals_have_records();
 }
