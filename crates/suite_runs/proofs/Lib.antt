@@ -13,3 +13,4 @@ pub mod CellsAsked
 pub mod Ended
 pub mod Readying
 pub mod Keeps
+pub mod Whole
