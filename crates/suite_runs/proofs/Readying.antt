@@ -1,5 +1,5 @@
 -- What is prepared for the cells of a job, step by step.
-use Rattle.std.proofs.Common.{◌≡◌, ◌∙◌, ℕ, zero, suc, ◌+◌, ◌<◌, ◌≤◌, ◌^◌, Bool, true, false, List, [], ◌∷◌, ◌++◌, length, map, replicate, get_or, nat_eq, Option, Some, None, refl, sym, ap, ap₂, subst, arith}
+use Rattle.std.proofs.Common.{◌≡◌, ◌∙◌, ℕ, zero, suc, ◌+◌, ◌<◌, ◌≤◌, ◌^◌, Bool, true, false, List, [], ◌∷◌, ◌++◌, length, map, replicate, get_or, nat_eq, Option, Some, None, inl, inr, refl, sym, ap, ap₂, subst, arith}
 use Rattle.std.specs.Prelude.{All, Result, Ok, Err, is_some, if◌then◌else◌, nat_le, nat_lt, zip}
 use Rattle.std.specs.Io.Iter.{u64_saturate}
 use Rattle.std.specs.List.{AllByRecursion, range_with_len}
@@ -48,13 +48,16 @@ use Rattle.job_answers.specs.declared.refusal.JobRefusal.TheVariants.{NotGreen, 
 use Rattle.job_answers.specs.Answers.{most_cells, unless_failed, unless_many}
 use Rattle.job_answers.specs.Laws.{HasRecord, OriginalsHaveRecords}
 use Rattle.job_answers.proofs.Written.{first_is, fits_of}
+use Rattle.suite_runs.specs.declared.fault.JobFault.{JobFault}
+use Rattle.suite_runs.specs.declared.fault.JobFault.TheVariants as fault
 use Rattle.suite_runs.specs.declared.job.SuiteJob.{SuiteJob}
+use Rattle.suite_runs.specs.declared.prepared.Prepared.{Prepared}
 use Rattle.suite_runs.specs.declared.reached.NamedClasses.{NamedClasses}
 use Rattle.suite_runs.specs.Ending.{IsSuiteOf, MayRunJob, allowed_in, suite_of}
 use Rattle.suite_runs.specs.Failing.{failed_among}
 use Rattle.suite_runs.specs.Originals.{AreKnown, MayMakeOriginals, all_tried, run_asked, run_tried, same_steps}
 use Rattle.suite_runs.specs.Placing.{AreNamed, IsNamedFor, texts_in}
-use Rattle.suite_runs.specs.Preparing.{AreBoundsBy, AreGreen, AreOriginals, MayBeRun, RefusesFailed}
+use Rattle.suite_runs.specs.Preparing.{AreBoundsBy, AreGreen, AreOriginals, GreenEnds, MayBeRun, Prepares, ReadyEnds, RefusesFailed, RisesBy}
 use Rattle.suite_runs.specs.Reaching.{CoversKnown, lines_in}
 use Rattle.suite_runs.proofs.MutantsFit.{mutants_fit}
 use Rattle.suite_runs.proofs.Suited.{bounds_are}
@@ -202,3 +205,33 @@ bounds_named p j old ks ns law be are by =
 
 pub all_fit : (p : List Info) (j : SuiteJob) (old : OldRecords) → SpelledIsWritten → MutantsAreOf → MayBeRun p j old → All (IsMutantOf (files_of p)) j.mutants.now
 all_fit p j old written law be = let may = be.1 in let suite = may.suite in mutants_fit written law (suite_of may.files p j) suite.accepted
+
+-- ---- how preparing ends
+
+pub green_prepares : (p : List Info) (j : SuiteJob) (old : OldRecords) (f : JobFault) → GreenEnds p j old (Err f) → Prepares p j old (Err f)
+green_prepares p j old (fault.Refused r) h = inl h
+green_prepares p j old fault.Unwritable h = h
+green_prepares p j old fault.Memory h = tt
+
+pub ready_prepares : (p : List Info) (j : SuiteJob) (old : OldRecords) (result : Result Prepared JobFault) → ReadyEnds p j old result → Prepares p j old result
+ready_prepares p j old (Ok x) h = h
+ready_prepares p j old (Err (fault.Refused r)) h = inr h
+ready_prepares p j old (Err fault.Unwritable) h = h
+ready_prepares p j old (Err fault.Memory) h = tt
+
+abbrev pub refused_runs : JobFault → Result (List KnownRun) JobFault
+refused_runs f = Err f
+
+abbrev pub refused_all : JobFault → Result Prepared JobFault
+refused_all f = Err f
+
+pub rises_alike : (cost before after : ℕ) (f : JobFault) → RisesBy cost before after (refused_runs f) → RisesBy cost before after (refused_all f)
+rises_alike cost before after (fault.Refused r) h = h
+rises_alike cost before after fault.Unwritable h = h
+rises_alike cost before after fault.Memory h = h
+
+pub rises_after : (p : List Info) (j : SuiteJob) (old : OldRecords) (cost before after : ℕ) (result : Result Prepared JobFault) → ReadyEnds p j old result → after ≡ before + cost → RisesBy cost before after result
+rises_after p j old cost before after (Ok x) h e = e
+rises_after p j old cost before after (Err (fault.Refused r)) h e = e
+rises_after p j old cost before after (Err fault.Unwritable) h e = h
+rises_after p j old cost before after (Err fault.Memory) h e = (omega (arith, e), omega (arith, e))
