@@ -1,6 +1,6 @@
 -- What is prepared for the cells of a job, step by step.
 use Rattle.std.proofs.Common.{◌≡◌, ◌∙◌, ℕ, zero, suc, ◌+◌, ◌<◌, ◌≤◌, ◌^◌, Bool, true, false, List, [], ◌∷◌, ◌++◌, length, map, replicate, get_or, nat_eq, Option, Some, None, inl, inr, refl, sym, ap, ap₂, subst, arith}
-use Rattle.std.specs.Prelude.{All, Result, Ok, Err, is_some, if◌then◌else◌, nat_le, nat_lt, zip}
+use Rattle.std.specs.Prelude.{All, IfOk, OnOk, Result, Ok, Err, is_some, if◌then◌else◌, nat_le, nat_lt, zip}
 use Rattle.std.specs.Io.Iter.{u64_saturate}
 use Rattle.std.specs.List.{AllByRecursion, range_with_len}
 use Rattle.std.specs.Option.{option_map, unwrap_or}
@@ -8,6 +8,7 @@ use Rattle.std.proofs.lemmas.Bool.{eqb-true, leb-true, lt-ltb, ltb-false, ltb-tr
 use Rattle.std.proofs.lemmas.List.{get_or-replicate, length-map}
 use Rattle.std.proofs.lemmas.List.Elements.{All-from_recursion, recursion_from_All}
 use Rattle.std.proofs.lemmas.List.FromFn.{length-range_with_len}
+use Rattle.class_model.specs.declared.memory.Memory.{Memory}
 use Rattle.class_writer.specs.Writing.{SpelledIsWritten}
 use Rattle.machine_laws.specs.Walks.{RunsKeepLimits}
 use Rattle.machine_rules.specs.declared.machine.Limits.{Limits}
@@ -35,7 +36,7 @@ use Rattle.job_rules.specs.Tried.{known, knowns}
 use Rattle.suite_jobs.specs.Jobs.{made_by, tried_on}
 use Rattle.suite_workers.specs.Jobs.{CellJob, covering_numbers}
 use Rattle.suite_workers.specs.Laws.{BoundsAreByName}
-use Rattle.suite_workers.specs.Old.{AreByName, AreLookUps, history_in, no_test, old_of, records_in, test_at}
+use Rattle.suite_workers.specs.Old.{AreByName, AreLookUps, history_in, history_of, no_test, old_of, records_in, test_at}
 use Rattle.suite_workers.specs.Said.{IsKnownIn, known_record}
 use Rattle.suite_workers.specs.declared.look_ups.LookUps.{LookUps}
 use Rattle.suite_workers.specs.declared.old_records.OldRecords.{OldRecords}
@@ -55,11 +56,12 @@ use Rattle.suite_runs.specs.declared.prepared.Prepared.{Prepared}
 use Rattle.suite_runs.specs.declared.reached.NamedClasses.{NamedClasses}
 use Rattle.suite_runs.specs.Ending.{IsSuiteOf, MayRunJob, allowed_in, suite_of}
 use Rattle.suite_runs.specs.Failing.{failed_among}
-use Rattle.suite_runs.specs.Originals.{AreKnown, MayMakeOriginals, all_tried, run_asked, run_tried, same_steps}
+use Rattle.suite_runs.specs.Originals.{AreKnown, MayMakeOriginals, MayRunOriginals, all_tried, original_cost, run_asked, run_tried, same_steps}
 use Rattle.suite_runs.specs.Placing.{AreNamed, IsNamedFor, texts_in}
 use Rattle.suite_runs.specs.Preparing.{AreBoundsBy, AreGreen, AreOriginals, GreenEnds, MayBeRun, Prepares, ReadyEnds, RefusesFailed, RisesBy}
 use Rattle.suite_runs.specs.Reaching.{CoversKnown, lines_in}
 use Rattle.suite_runs.proofs.MutantsFit.{mutants_fit}
+use Rattle.suite_runs.proofs.OriginalRuns.{cost_most}
 use Rattle.suite_runs.proofs.Suited.{bounds_are}
 
 -- ---- the runs of the tests
@@ -235,3 +237,37 @@ rises_after p j old cost before after (Ok x) h e = e
 rises_after p j old cost before after (Err (fault.Refused r)) h e = e
 rises_after p j old cost before after (Err fault.Unwritable) h e = h
 rises_after p j old cost before after (Err fault.Memory) h e = (omega (arith, e), omega (arith, e))
+
+-- ---- the original runs
+
+module _ (keep : RunsKeepLimits) (p : List Info) (j : SuiteJob) (old : OldRecords) (be : MayBeRun p j old) (l : LookUps) (same : old_of l ≡ records_in old) (history : history_of l ≡ history_in old) where
+  pub originals_are : (r : Result (List KnownRun) Memory) → IfOk r (λ runs. AreKnown (all_tried p j (old_of l)) runs) → IfOk r (λ runs. All (IsKnownIn (history_of l)) runs) → IfOk r (AreOriginals p j old)
+  originals_are (Ok runs) known histories =
+      let may = be.1 in
+      let own : AreKnown (all_tried p j (records_in old)) runs = subst (λ (rs : List RunRecord). AreKnown (all_tried p j rs) runs) same known in
+      record {
+        known = own;
+        histories = subst (λ (o : Option Numbered). All (IsKnownIn o) runs) history histories;
+        within = all_within keep p j may.steps_fit (records_in old) may.formed runs own;
+      }
+  originals_are (Err e) known histories = tt
+
+  cost_alike : original_cost p j (old_of l) ≡ original_cost p j (records_in old)
+  cost_alike = ap (original_cost p j) same
+
+  pub originals_cost : (r : Result (List KnownRun) Memory) (before part after : ℕ) → after ≡ before + part → OnOk r (part ≡ original_cost p j (old_of l)) → OnOk r (after ≡ before + original_cost p j (records_in old))
+  originals_cost (Ok runs) before part after joined is = joined ∙ ap (λ (n : ℕ). before + n) (is ∙ cost_alike)
+  originals_cost (Err e) before part after joined is = tt
+
+  pub originals_most : (before part after : ℕ) → after ≡ before + part → part ≤ original_cost p j (old_of l) → after ≤ before + original_cost p j (records_in old)
+  originals_most before part after joined most = let e = cost_alike in omega (arith, joined, most, e)
+
+  pub joins : (before part : ℕ) → before < 2 ^ 62 → part ≤ original_cost p j (old_of l) → before + part < 2 ^ 64
+  joins before part start most =
+      let may = be.1 in
+      let e = cost_alike in
+      let all = cost_most p j (records_in old) keep may.steps_fit may.few_tests in
+      omega (arith, start, most, e, all)
+
+  pub may_run_originals : MayMakeOriginals p j → AreLookUps p j.tests.now j.limits (same_steps j) l → MayRunOriginals p j l
+  may_run_originals make are = record { make = make; look_ups = are }

@@ -68,6 +68,7 @@ fn may_make(program: &Program, job: &SuiteJob, old: OldRecords)
 }
 
 // What is known of the original runs. The steps of those that are made are counted in the meter.
+#[tactic(auto, using(mutant_runs::proofs::ReadyLaws::not_lacking))]
 fn original_runs<'a>(
     alloc: Global,
     program: &Program,
