@@ -1,12 +1,17 @@
 -- What is said of the answer of a suite's job.
-use Rattle.std.specs.Prelude.{◌≡◌, ℕ, Bool, false, List, [], length, slice_get, Ok, option_map}
+use Rattle.std.specs.Prelude.{◌≡◌, ℕ, Bool, false, List, [], All, length, slice_get, Some, Ok}
+use Rattle.std.specs.Prelude.{option_map}
 use Rattle.class_records.specs.Profile.{profile}
 use Rattle.suite_laws.specs.Covered.{AllPass}
 use Rattle.suite_laws.specs.Tested.{all_verdicts}
 use Rattle.record_rules.specs.declared.record.RunRecord.{RunRecord}
+use Rattle.record_rules.specs.Records.{Asked, record_of}
 use Rattle.record_rules.specs.Jobs.{NeedCost, Cost}
 use Rattle.reuse_laws.specs.Jobs.{AreTrue}
-use Rattle.suite_jobs.specs.Jobs.{Allowed, Suite, IsAccepted, asked_job, job_runs}
+use Rattle.history_rules.specs.Fitting.{FitsFields}
+use Rattle.history_rules.specs.Laws.{AreWritable, IsFormed}
+use Rattle.suite_records.specs.Suites.{original_asked}
+use Rattle.suite_jobs.specs.Jobs.{Allowed, Suite, IsAccepted, asked_job, job_runs, made_by}
 use Rattle.job_answers.specs.Answers.{JobAnswer, failed_tests, job_answer, job_cost, verdict_in}
 
 -- Where all old records are true, they change nothing of the answer.
@@ -58,3 +63,20 @@ abbrev pub CostsAreAsAsked : Type 0
 CostsAreAsAsked =
     (a : Allowed) (s : Suite) (old : List RunRecord) (x : JobAnswer) → IsAccepted s →
     AreTrue profile old → job_answer a s old false ≡ Ok x → CostsAsAsked a s old x
+
+-- The record that a run makes is its own: it isn't stuck.
+abbrev pub HasRecord : Asked → Type 0
+HasRecord x = record_of x ≡ Some (made_by x)
+
+abbrev pub OriginalsHaveRecords : Type 0
+OriginalsHaveRecords =
+    (a : Allowed) (s : Suite) → IsAccepted s →
+    All (λ t. HasRecord (original_asked s.files s.program t a.limits a.steps)) s.tests
+
+-- Whatever is said by old records that have the form of a history: where the records of an answer
+-- fit its fields, they can be written.
+abbrev pub AnswersCanBeWritten : Type 0
+AnswersCanBeWritten =
+    (a : Allowed) (s : Suite) (old : List RunRecord) (all : Bool) (x : JobAnswer) → IsAccepted s →
+    All IsFormed old → job_answer a s old all ≡ Ok x → All FitsFields x.records →
+    AreWritable x.records

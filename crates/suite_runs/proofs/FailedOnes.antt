@@ -1,5 +1,5 @@
 -- The tests that don't pass, one more after the other.
-use Rattle.std.proofs.Common.{◌≡◌, ◌∙◌, ℕ, zero, suc, ◌+◌, ◌<◌, List, [], ◌∷◌, ◌++◌, length, map, take, get_or, Option, Some, None, refl, sym, ap, ap₂, append_assoc, arith}
+use Rattle.std.proofs.Common.{◌≡◌, ◌∙◌, ℕ, zero, suc, ◌+◌, ◌<◌, Bool, true, false, List, [], ◌∷◌, ◌++◌, length, map, take, get_or, Option, Some, None, refl, sym, ap, ap₂, append_assoc, arith}
 use Rattle.std.specs.List.{flat_map, enumerate_from}
 use Rattle.std.proofs.lemmas.List.{append-nil, map-append, length-map, length-take-le, take_more}
 use Rattle.std.proofs.lemmas.List.Concat.{flat_map-cons}
@@ -11,7 +11,19 @@ use Rattle.suite_workers.specs.Said.{known_record}
 use Rattle.suite_workers.specs.declared.said.KnownRun.{KnownRun}
 use Rattle.job_answers.specs.declared.refusal.FailedTest.{FailedTest}
 use Rattle.job_answers.specs.Answers.{unless_passed}
-use Rattle.suite_runs.specs.Failing.{outcome_by, failed_from, failed_among}
+use Rattle.suite_runs.specs.Failing.{is_passed, outcome_by, failed_from, failed_among}
+
+pub passes : (n : ℕ) (o : Outcome) → is_passed o ≡ true → unless_passed n o ≡ []
+passes n outcome.Passed e = refl
+passes n (outcome.Failed c) e = absurd cc
+passes n outcome.TimedOut e = absurd cc
+passes n outcome.MemoryOut e = absurd cc
+
+pub fails : (n : ℕ) (o : Outcome) → is_passed o ≡ false → unless_passed n o ≡ record { test = n; outcome = o } ∷ []
+fails n outcome.Passed e = absurd cc
+fails n (outcome.Failed c) e = refl
+fails n outcome.TimedOut e = refl
+fails n outcome.MemoryOut e = refl
 
 pub outcome_said : (o : Outcome) → outcome_by (detected_by o) ≡ o
 outcome_said outcome.Passed = refl

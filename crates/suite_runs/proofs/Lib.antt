@@ -1,6 +1,5 @@
 pub mod FailedOnes
 pub mod Judged
-pub mod TriedOnce
 pub mod OriginalRuns
 pub mod LinesReached
 pub mod CoveringAll
@@ -8,3 +7,10 @@ pub mod KeptAs
 pub mod LinesAlike
 pub mod CoveringAlike
 pub mod VerdictsAlike
+pub mod MutantsFit
+pub mod Suited
+pub mod CellsAsked
+pub mod Ended
+pub mod Readying
+pub mod Keeps
+pub mod Whole

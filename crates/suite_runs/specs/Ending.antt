@@ -6,7 +6,7 @@ use Rattle.class_link.specs.Info.{Info}
 use Rattle.mutant_runs.specs.Ready.{IsReady}
 use Rattle.mutant_runs.specs.Runs.{most_steps}
 use Rattle.record_rules.specs.declared.record.RunRecord.{RunRecord}
-use Rattle.job_rules.specs.Tried.{Tried, known, need}
+use Rattle.job_rules.specs.Tried.{Tried, knowns, need}
 use Rattle.history_rules.specs.Fitting.{FitsFields}
 use Rattle.history_rules.specs.Laws.{IsFormed, AreWritable}
 use Rattle.history_file.specs.Rows.{Numbered}
@@ -63,11 +63,11 @@ abbrev pub numbered_in : OldRecords → Numbered
 numbered_in old.None = record { texts = []; classes = []; rows = [] }
 numbered_in (old.Of index) = index.now.history
 
--- What is known of some run doesn't fit the fields of a history.
-pub record HasUnfit (ts : List (Tried RunRecord)) : Type 0 where
-  pub run : Tried RunRecord
-  pub there : Contains ts run
-  pub unfit : FitsFields (known run) → ⊥
+-- Some record doesn't fit the fields of a history.
+pub record HasUnfit (rs : List RunRecord) : Type 0 where
+  pub entry : RunRecord
+  pub there : Contains rs entry
+  pub unfit : FitsFields entry → ⊥
 
 -- How many names and how many classes the record of a run may add to old ones: its test has two
 -- names, its outcome one.
@@ -82,7 +82,7 @@ AreTooMany h ts =
 
 -- What is known of these runs may have no place in one history.
 abbrev pub CannotBeKept : OldRecords → List (Tried RunRecord) → Type 0
-CannotBeKept old ts = HasUnfit ts ⊎ AreTooMany (numbered_in old) ts
+CannotBeKept old ts = HasUnfit (knowns ts) ⊎ AreTooMany (numbered_in old) ts
 
 -- ---- how it ends
 

@@ -4,6 +4,6 @@ pub mod Judging
 pub mod Reaching
 pub mod Placing
 pub mod Originals
-pub mod Keeping
 pub mod Ending
 pub mod Preparing
+pub mod Keeping

@@ -1,27 +1,24 @@
 -- The runs of a job's tests on its program as it is, by number (this project's own).
-use Rattle.std.specs.Prelude.{◌≡◌, ◌<◌, ◌≤◌, ◌+◌, ◌^◌, ℕ, List, length, map, replicate, Some, is_some}
+use Rattle.std.specs.Prelude.{◌≡◌, ◌<◌, ◌≤◌, ◌+◌, ◌^◌, ℕ, List, length, map, replicate, is_some}
 use Rattle.std.specs.List.{range_with_len}
 use Rattle.class_link.specs.Info.{Info}
 use Rattle.class_table.specs.Table.{look}
 use Rattle.jvm_step.specs.Programs.{IsRunnable}
 use Rattle.mutant_runs.specs.Runs.{most_steps}
 use Rattle.record_rules.specs.declared.record.RunRecord.{RunRecord}
-use Rattle.record_rules.specs.Records.{Asked, record_of}
+use Rattle.record_rules.specs.Records.{Asked}
 use Rattle.run_records.specs.Asking.{asked}
 use Rattle.job_rules.specs.Tried.{Tried, known, knowns, cost_of_run, cost_of}
-use Rattle.suite_jobs.specs.Jobs.{made_by, tried_on}
+use Rattle.suite_jobs.specs.Jobs.{tried_on}
 use Rattle.suite_jobs.specs.Laws.{steps_of}
-use Rattle.suite_workers.specs.Old.{AreLookUps, old_of, test_at}
+use Rattle.suite_workers.specs.Old.{AreLookUps, test_at}
 use Rattle.suite_workers.specs.Said.{known_record, is_found}
 use Rattle.suite_workers.specs.declared.look_ups.LookUps.{LookUps}
 use Rattle.suite_workers.specs.declared.said.KnownRun.{KnownRun}
+use Rattle.job_answers.specs.Laws.{HasRecord}
 use Rattle.suite_runs.specs.declared.job.SuiteJob.{SuiteJob}
 
 -- ---- the runs
-
--- The run is not stuck, so it has a record.
-abbrev pub IsRecorded : Asked → Type 0
-IsRecorded x = record_of x ≡ Some (made_by x)
 
 -- Each test may take the same steps.
 abbrev pub same_steps : SuiteJob → List ℕ
@@ -31,18 +28,22 @@ module _ (p : List Info) (j : SuiteJob) where
   abbrev pub run_asked : ℕ → Asked
   run_asked k = asked p (test_at j.tests.now k) j.limits j.steps
 
-  -- They may be looked up and made.
-  pub record MayRunOriginals (l : LookUps) : Type 0 where
+  -- They may be made.
+  pub record MayMakeOriginals : Type 0 where
     pub few : length j.tests.now ≤ 65535
     pub steps_fit : j.steps ≤ most_steps
     pub heap_fits : j.limits.heap < 2 ^ 31
     pub runnable : IsRunnable (look p)
-    pub look_ups : AreLookUps p j.tests.now j.limits (same_steps j) l
-    pub goes_on : (k : ℕ) → k < length j.tests.now → IsRecorded (run_asked k)
+    pub goes_on : (k : ℕ) → k < length j.tests.now → HasRecord (run_asked k)
 
-  module _ (l : LookUps) where
+  -- And looked up by these.
+  pub record MayRunOriginals (l : LookUps) : Type 0 where
+    pub make : MayMakeOriginals
+    pub look_ups : AreLookUps p j.tests.now j.limits (same_steps j) l
+
+  module _ (old : List RunRecord) where
     abbrev pub run_tried : ℕ → Tried RunRecord
-    run_tried k = tried_on (old_of l) k (run_asked k)
+    run_tried k = tried_on old k (run_asked k)
 
     abbrev pub tried_from : ℕ → ℕ → List (Tried RunRecord)
     tried_from n count = map run_tried (range_with_len n count)

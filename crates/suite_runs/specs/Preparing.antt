@@ -1,76 +1,112 @@
--- What is prepared for the cells of a job, and what is made of what these say, in the words of its
--- suite (this project's own).
-use Rattle.std.specs.Prelude.{◌≡◌, ◌≤◌, ◌+◌, ℕ, Bool, false, List, [], map, nat_lt, All, is_some, Result, Ok, Err}
-use Rattle.record_rules.specs.declared.record.RunRecord.{RunRecord}
+-- What is prepared for the cells of a job (this project's own).
+use Rattle.std.specs.Prelude.{◌≡◌, ◌≤◌, ◌+◌, ◌⊎◌, ℕ, Bool, true, false, List, [], map, nat_lt, zip}
+use Rattle.std.specs.Prelude.{All, Result, Ok, Err}
+use Rattle.machine_rules.specs.Runs.{limit_of}
 use Rattle.class_link.specs.Info.{Info}
-use Rattle.class_link.specs.declared.loaded.Loaded.{Loaded}
-use Rattle.job_rules.specs.Tried.{cost_of}
-use Rattle.suite_jobs.specs.Jobs.{Allowed, Suite, job_runs, numbered, viable_file}
-use Rattle.suite_jobs.specs.Laws.{steps_of}
-use Rattle.suite_workers.specs.Jobs.{bound_of, covering_numbers}
+use Rattle.line_coverage.specs.Coverage.{Covered}
+use Rattle.mutant_runs.specs.Promises.{AreViable}
+use Rattle.mutant_runs.specs.Runs.{most_steps}
 use Rattle.suite_workers.specs.Old.{AreLookUps, history_in, history_of, old_of, records_in}
-use Rattle.suite_workers.specs.Said.{IsKnownIn, IsSaidOf}
+use Rattle.suite_workers.specs.Said.{IsKnownIn, known_record}
 use Rattle.suite_workers.specs.declared.old_records.OldRecords.{OldRecords}
-use Rattle.suite_workers.specs.declared.said.CellsSaid.{CellsSaid}
-use Rattle.job_answers.specs.Answers.{cell_total, failed_tests, job_answer, most_cells}
+use Rattle.suite_workers.specs.declared.said.KnownRun.{KnownRun}
+use Rattle.job_answers.specs.declared.refusal.JobRefusal.{JobRefusal}
+use Rattle.job_answers.specs.declared.refusal.JobRefusal.TheVariants.{TooManyCells}
+use Rattle.job_answers.specs.Answers.{JobAnswer, most_cells, unless_failed}
 use Rattle.suite_runs.specs.declared.fault.JobFault.{JobFault}
 use Rattle.suite_runs.specs.declared.fault.JobFault.TheVariants as fault
-use Rattle.suite_runs.specs.declared.job.JobDone.{JobDone}
 use Rattle.suite_runs.specs.declared.job.SuiteJob.{SuiteJob}
 use Rattle.suite_runs.specs.declared.prepared.Prepared.{Prepared}
-use Rattle.suite_runs.specs.Ending.{EndsOf, IsSuiteOf, allowed_in, suite_of}
-use Rattle.suite_runs.specs.Originals.{AreKnown}
+use Rattle.suite_runs.specs.Covering.{count_all, numbers_of}
+use Rattle.suite_runs.specs.Ending.{MayRunJob}
+use Rattle.suite_runs.specs.Failing.{failed_among}
+use Rattle.suite_runs.specs.Originals.{AreKnown, all_tried}
+use Rattle.suite_runs.specs.Reaching.{CoversKnown}
 
--- ---- prepared
+-- How many steps the runs of tests on mutants may take, by what is known of those on the program.
+abbrev pub AreBoundsBy : List KnownRun → List ℕ → Type 0
+AreBoundsBy runs bounds = bounds ≡ map (λ k. limit_of (known_record k).steps) runs
 
--- The job isn't refused, and this is told of it.
-pub record IsPrepared (a : Allowed) (s : Suite) (old : List RunRecord) (x : Prepared) : Type 0 where
-  pub runs : AreKnown (job_runs a s old).originals x.runs.items
-  pub green : failed_tests (job_runs a s old) ≡ []
-  pub few : nat_lt most_cells (cell_total (job_runs a s old)) ≡ false
-  pub viable : x.viable ≡ map (λ m. is_some (viable_file s.program m)) s.mutants
-  pub covering_is : x.covering.items ≡ map (covering_numbers a s old) s.mutants
-  pub bounds : x.bounds ≡ map (bound_of a s old) (numbered s)
-  pub look_ups : AreLookUps s.program s.tests a.limits x.bounds x.look_ups
-  pub old_is : old_of x.look_ups ≡ old
+module _ (p : List Info) (j : SuiteJob) (old : OldRecords) where
+  -- The job may be run where the meter stands somewhere.
+  abbrev pub MayBeRun : Type 0
+  MayBeRun = (meter : ℕ) × MayRunJob p j old meter
 
-abbrev pub PreparesAs :
-    Allowed → Suite → List RunRecord → Bool → Result Prepared JobFault → Type 0
-PreparesAs a s old all (Ok x) = IsPrepared a s old x
-PreparesAs a s old all (Err (fault.Refused refusal)) = job_answer a s old all ≡ Err refusal
-PreparesAs a s old all (Err fault.Unwritable) = ⊥
-PreparesAs a s old all (Err fault.Memory) = Unit {0}
+  -- ---- the runs of the tests on the program
 
-abbrev pub Prepares : List Info → SuiteJob → OldRecords → Result Prepared JobFault → Type 0
-Prepares p j old result =
-    (files : List Loaded) → IsSuiteOf files p j →
-    PreparesAs (allowed_in j) (suite_of files p j) (records_in old) j.all result
+  -- These are known of them, found ones of the old records' own history, and took at most what they
+  -- may.
+  pub record AreOriginals (runs : List KnownRun) : Type 0 where
+    pub known : AreKnown (all_tried p j (records_in old)) runs
+    pub histories : All (IsKnownIn (history_in old)) runs
+    pub within : All (λ k. (known_record k).steps ≤ most_steps) runs
 
--- The meter rose by the steps of the original runs that were made.
-abbrev pub RisesBy : ℕ → ℕ → ℕ → Result Prepared JobFault → Type 0
+  -- All pass besides.
+  pub record AreGreen (runs : List KnownRun) : Type 0 where
+    pub are : AreOriginals runs
+    pub green : failed_among (map known_record runs) ≡ []
+
+  -- Some don't, and so the job is refused.
+  pub record RefusesFailed (refusal : JobRefusal) : Type 0 where
+    pub runs : List KnownRun
+    pub are : AreOriginals runs
+    pub refused : (next : Result JobAnswer JobRefusal) →
+        unless_failed (failed_among (map known_record runs)) next ≡ Err refusal
+
+  -- ---- all that is prepared
+
+  -- Which mutants are viable, and a coverage of the tests.
+  pub record AreCovered (runs : List KnownRun) (viable : List Bool) (cover : Covered) : Type 0 where
+    pub told : AreViable p j.mutants.now viable
+    pub covers : CoversKnown p runs cover
+
+  abbrev pub cells_by : List Bool → Covered → ℕ
+  cells_by viable cover = count_all p cover (zip j.mutants.now viable)
+
+  pub record IsReadied (x : Prepared) : Type 0 where
+    pub runs : AreGreen x.runs
+    pub cover : Covered
+    pub covered : AreCovered x.runs x.viable cover
+    pub few : nat_lt most_cells (cells_by x.viable cover) ≡ false
+    pub covering_is : x.covering ≡ map (numbers_of p cover) (zip j.mutants.now x.viable)
+    pub bounds : AreBoundsBy x.runs x.bounds
+    pub look_ups : AreLookUps p j.tests.now j.limits x.bounds x.look_ups
+    pub old_is : old_of x.look_ups ≡ records_in old
+    pub history : history_of x.look_ups ≡ history_in old
+
+  -- There are too many cells, and so the job is refused.
+  pub record RefusesMany (refusal : JobRefusal) : Type 0 where
+    pub runs : List KnownRun
+    pub are : AreGreen runs
+    pub viable : List Bool
+    pub cover : Covered
+    pub covered : AreCovered runs viable cover
+    pub many : nat_lt most_cells (cells_by viable cover) ≡ true
+    pub refused : refusal ≡ TooManyCells
+
+  -- ---- how preparing ends
+
+  abbrev pub GreenEnds : Result (List KnownRun) JobFault → Type 0
+  GreenEnds (Ok runs) = AreGreen runs
+  GreenEnds (Err (fault.Refused refusal)) = RefusesFailed refusal
+  GreenEnds (Err fault.Unwritable) = ⊥
+  GreenEnds (Err fault.Memory) = Unit {0}
+
+  abbrev pub ReadyEnds : Result Prepared JobFault → Type 0
+  ReadyEnds (Ok x) = IsReadied x
+  ReadyEnds (Err (fault.Refused refusal)) = RefusesMany refusal
+  ReadyEnds (Err fault.Unwritable) = ⊥
+  ReadyEnds (Err fault.Memory) = Unit {0}
+
+  abbrev pub Prepares : Result Prepared JobFault → Type 0
+  Prepares (Ok x) = IsReadied x
+  Prepares (Err (fault.Refused refusal)) = RefusesFailed refusal ⊎ RefusesMany refusal
+  Prepares (Err fault.Unwritable) = ⊥
+  Prepares (Err fault.Memory) = Unit {0}
+
+-- The meter rose by this, or by at most this where memory ran out.
+abbrev pub RisesBy : {X : Type 0} → ℕ → ℕ → ℕ → Result X JobFault → Type 0
+RisesBy cost before after (Ok x) = after ≡ before + cost
+RisesBy cost before after (Err (fault.Refused refusal)) = after ≡ before + cost
+RisesBy cost before after (Err fault.Unwritable) = ⊥
 RisesBy cost before after (Err fault.Memory) = (before ≤ after) × (after ≤ before + cost)
-RisesBy cost before after end = after ≡ before + cost
-
-abbrev pub PreparingMeters :
-    List Info → SuiteJob → OldRecords → ℕ → ℕ → Result Prepared JobFault → Type 0
-PreparingMeters p j old before after result =
-    (files : List Loaded) → IsSuiteOf files p j →
-    RisesBy
-    (cost_of steps_of (job_runs (allowed_in j) (suite_of files p j) (records_in old)).originals)
-    before after result
-
--- All that was found is of the job's own history, and so is what look-ups go by.
-pub record AreOfJob (old : OldRecords) (x : Prepared) : Type 0 where
-  pub runs : All (IsKnownIn (history_in old)) x.runs.items
-  pub history : history_of x.look_ups ≡ history_in old
-
--- ---- finished
-
-abbrev pub Finishes :
-    List Info → SuiteJob → OldRecords → Prepared → CellsSaid → Result JobDone JobFault → Type 0
-Finishes p j old x said result =
-    (files : List Loaded) → IsSuiteOf files p j →
-    IsPrepared (allowed_in j) (suite_of files p j) (records_in old) x →
-    IsSaidOf j.all (history_in old)
-    (job_runs (allowed_in j) (suite_of files p j) (records_in old)).mutants said →
-    EndsOf (allowed_in j) (suite_of files p j) old j.all result

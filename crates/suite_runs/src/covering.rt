@@ -78,13 +78,13 @@ pub fn covering_all(
     cover: &Coverage,
     mutants: &[Mutant],
     viable: &[bool],
-) -> Result<Vec<Seq<u32>>, Memory>
+) -> Result<Seq<Seq<u32>>, Memory>
     requires tests { cover.now.tests < 2 ^ 32 }
     requires viable { length viable.now ≡ length mutants.now }
     ensures { IfOk result (λ all.
-        all.items ≡ map (numbers_of program.now cover.now) (zip mutants.now viable.now)) }
+        all ≡ map (numbers_of program.now cover.now) (zip mutants.now viable.now)) }
 {
-    let mut all = Vec::with_capacity(alloc, mutants.len())?;
+    let mut all = Seq::with_capacity(alloc, mutants.len())?;
     for (at, mutant) in mutants.iter().enumerate() {
         let tests = covering_one(alloc, program, cover, mutant, viable[at])?;
         all.push(tests)?;

@@ -51,6 +51,7 @@ fn copied_cause(cause: &Cause) -> Result<Cause, Memory>
 }
 
 // How a run ended, as it is known.
+#[tactic(auto, using(crate::proofs::FailedOnes::outcome_said))]
 fn outcome_of(alloc: Global, run: &KnownRun) -> Result<Outcome, Memory>
     ensures { IfOk result (λ outcome. outcome ≡ (known_record run.now).outcome) }
 {
@@ -70,6 +71,7 @@ fn is_passed(outcome: &Outcome) -> bool
 }
 
 // Adds a test, unless it passes.
+#[tactic(auto, using(crate::proofs::FailedOnes::passes, crate::proofs::FailedOnes::fails))]
 fn note(failed: &mut Vec<FailedTest>, test: u32, outcome: Outcome) -> Result<(), Memory>
     ensures { OnOk result (failed.new.items ≡ failed.old.items ++ unless_passed test outcome) }
 {

@@ -1,17 +1,20 @@
 //! The runs of the tests on the program as it is: those that old records have are found, the others
-//! are made.
+//! are made, one after the other.
 
-ghost use Rattle.std.specs.Prelude.{◌≡◌, ◌+◌, ◌≤◌, ◌<◌, ◌^◌, length, IfOk, OnOk};
+ghost use Rattle.std.specs.Prelude.{◌≡◌, ◌+◌, ◌≤◌, ◌<◌, ◌^◌, All, length, IfOk, OnOk};
 ghost use Rattle.class_table.specs.Table.{look};
 ghost use Rattle.jvm_step.specs.Programs.{IsRunnable};
 ghost use Rattle.jvm_step.specs.Tables.{AreTablesOf};
 ghost use Rattle.run_records.specs.Asking.{asked};
 ghost use Rattle.suite_jobs.specs.Jobs.{made_by};
-ghost use Rattle.suite_runs.specs.Originals.{AreKnown, Costs, CostsAtMost, IsKnown, IsRecorded};
+ghost use Rattle.suite_workers.specs.Old.{history_of, old_of};
+ghost use Rattle.suite_workers.specs.Said.{IsKnownIn};
+ghost use Rattle.job_answers.specs.Laws.{HasRecord};
+ghost use Rattle.suite_runs.specs.Originals.{AreKnown, Costs, CostsAtMost, IsKnown};
 ghost use Rattle.suite_runs.specs.Originals.{MayRunOriginals, all_tried, original_cost, run_tried};
 
 use crate::job::SuiteJob;
-use class_model::Memory;
+use class_model::{Memory, Seq};
 use class_table::{Program, Test};
 use jvm_step::Tables;
 use machine_laws::runs_keep_limits;
@@ -36,7 +39,7 @@ fn made(
     requires runnable { IsRunnable (look program.now) }
     requires small { limits.heap < 2 ^ 31 }
     requires room { part.old + steps < 2 ^ 64 }
-    requires goes_on { IsRecorded (asked program.now test.now limits steps) }
+    requires goes_on { HasRecord (asked program.now test.now limits steps) }
     ensures made { IfOk result (λ r. r ≡ made_by (asked program.now test.now limits steps)) }
     ensures steps { OnOk result (part.new
         ≡ part.old + (made_by (asked program.now test.now limits steps)).steps) }
@@ -65,10 +68,12 @@ fn original<'a>(
     requires may { MayRunOriginals program.now job.now look_ups.now }
     requires there { number < length job.now.tests.now }
     requires room { part.old + job.now.steps < 2 ^ 64 }
-    ensures known { IfOk result (IsKnown (run_tried program.now job.now look_ups.now number)) }
-    ensures steps { OnOk result (Costs (run_tried program.now job.now look_ups.now number)
+    ensures known { IfOk result
+        (IsKnown (run_tried program.now job.now (old_of look_ups.now) number)) }
+    ensures history { IfOk result (IsKnownIn (history_of look_ups.now)) }
+    ensures steps { OnOk result (Costs (run_tried program.now job.now (old_of look_ups.now) number)
         part.old part.new) }
-    ensures memory { CostsAtMost (run_tried program.now job.now look_ups.now number)
+    ensures memory { CostsAtMost (run_tried program.now job.now (old_of look_ups.now) number)
         part.old part.new }
     ensures tables { AreTablesOf program.now tables.new }
 {
@@ -76,8 +81,8 @@ fn original<'a>(
         Some(found) => Ok(KnownRun::Found(found)),
         None => {
             let test = &job.tests[number];
-            let made = made(alloc, program, tables, test, job.limits, job.steps, part)?;
-            Ok(KnownRun::Made(made))
+            let run = made(alloc, program, tables, test, job.limits, job.steps, part)?;
+            Ok(KnownRun::Made(run))
         }
     }
 }
@@ -91,17 +96,20 @@ pub fn originals_of<'a>(
     look_ups: &LookUps<'a>,
     job: &SuiteJob,
     part: &mut MeterPart,
-) -> Result<Vec<KnownRun<'a>>, Memory>
+) -> Result<Seq<KnownRun<'a>>, Memory>
     requires tables { AreTablesOf program.now tables.old }
     requires may { MayRunOriginals program.now job.now look_ups.now }
     requires start { part.old ≡ 0 }
     ensures known { IfOk result (λ runs.
-        AreKnown (all_tried program.now job.now look_ups.now) runs.items) }
-    ensures steps { OnOk result (part.new ≡ original_cost program.now job.now look_ups.now) }
-    ensures memory { part.new ≤ original_cost program.now job.now look_ups.now }
+        AreKnown (all_tried program.now job.now (old_of look_ups.now)) runs) }
+    ensures histories { IfOk result (λ runs.
+        All (IsKnownIn (history_of look_ups.now)) runs) }
+    ensures steps { OnOk result
+        (part.new ≡ original_cost program.now job.now (old_of look_ups.now)) }
+    ensures memory { part.new ≤ original_cost program.now job.now (old_of look_ups.now) }
 {
     runs_keep_limits();
-    let mut runs = Vec::with_capacity(alloc, job.tests.len())?;
+    let mut runs = Seq::with_capacity(alloc, job.tests.len())?;
     for number in 0..job.tests.len() {
         let run = original(alloc, program, tables, look_ups, job, number, part)?;
         runs.push(run)?;

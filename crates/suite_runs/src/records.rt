@@ -1,14 +1,18 @@
 //! The new records, by number.
 
-ghost use Rattle.std.specs.Prelude.{◌≡◌, ◌++◌, ℕ, All, List, IfOk, IfSome, IsSome, MatchOption};
+ghost use Rattle.std.specs.Prelude.{◌<◌, ◌^◌, All, IfOk, MatchOption};
 ghost use Rattle.history_file.specs.Rows.{Numbered};
-ghost use Rattle.new_history.specs.declared.needed.Needed.{Needed as NeededOne};
 ghost use Rattle.suite_runs.specs.Keeping.{IsKeptAs, IsOf, IsUnfit, PushesKept};
 
 use class_model::Memory;
 use new_history::Needed;
 use run_records::fits_fields;
 use suite_workers::KnownRun;
+
+// For the prover alone.
+fn limit_fits(limit: u64)
+    ensures { limit < 2 ^ 64 }
+{}
 
 // What is known of a run, as new records take it; nothing where a record that was made doesn't fit
 // the fields of a history.
@@ -29,6 +33,7 @@ fn needed_of<'n>(run: &'n KnownRun) -> Option<Needed<'n>>
             // What every history is, for the prover alone.
             let history = found.index.history();
             let _texts = history.texts();
+            limit_fits(found.limit);
             match found.row() {
                 Some(row) => Some(Needed::Old {
                     row,

@@ -8,12 +8,16 @@ use crate::finished::finish;
 use crate::job::{JobDone, SuiteJob};
 use crate::prepared::prepare;
 use class_table::Program;
+use class_writer::what_is_spelled_is_written;
+use job_answers::answers_can_be_written;
+use machine_laws::runs_keep_limits;
 use mt_edge::Meter;
+use mutant_runs::mutants_are_of;
 use record_rules::RunRecord;
 use std::alloc::Global;
 use std::sync::Wait;
 use std::thread::Threads;
-use suite_workers::{JobSetup, OldRecords, run_cells};
+use suite_workers::{JobSetup, OldRecords, accepted_may_run, cells_are_of_suite, run_cells};
 use worker_gate::{Gate, Recorder};
 
 /// The job of an accepted suite: its tests are run on the program as it is, and then those that
@@ -34,6 +38,12 @@ pub fn run_job<'a, W: Threads + Wait + Sync, R: Recorder<RunRecord> + Sync, G: G
     ensures meter { JobMeters program.old job.now old.entry meter.old meter.new result }
     ensures same { program.new ≡ program.old }
 {
+    runs_keep_limits();
+    what_is_spelled_is_written();
+    mutants_are_of();
+    accepted_may_run();
+    cells_are_of_suite();
+    answers_can_be_written();
     let ready = prepare(alloc, program, job, old, meter)?;
     let setup = JobSetup {
         mutants: job.mutants,

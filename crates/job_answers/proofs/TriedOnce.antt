@@ -27,7 +27,8 @@ turned a b e = subst (λ (x : RunRecord). same_record x a ≡ true) (records_equ
 symmetric : (a b : RunRecord) → same_record a b ≡ same_record b a
 symmetric a b = one_of (same_record a b) (same_record b a) (turned a b) (turned b a)
 
-among : (seen : Runs) (t : Tried RunRecord) → list_any (same_record (known t)) (map known seen) ≡ is_among same_record seen t
+-- a record is among those of runs just where its run is
+pub among : (seen : Runs) (t : Tried RunRecord) → list_any (same_record (known t)) (map known seen) ≡ is_among same_record seen t
 among [] t = refl
 among (u ∷ us) t = ap₂ (λ (x y : Bool). x || y) (symmetric (known t) (known u)) (among us t)
 
