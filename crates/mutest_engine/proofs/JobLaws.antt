@@ -12,6 +12,8 @@ use Rattle.suite_runs.specs.Ending.{EndsAs, IsDone, MeterBy, MeterRose}
 use Rattle.suite_runs.specs.declared.fault.JobFault.{JobFault}
 use Rattle.suite_runs.specs.declared.fault.JobFault.TheVariants as fault
 use Rattle.suite_runs.specs.declared.job.JobDone.{JobDone}
+use Rattle.mutator_ops.specs.declared.mutant.Verdict.{Verdict}
+use Rattle.new_history.specs.Left.{Left}
 use Rattle.mutest_engine.specs.Jobs.{Bounds, RoseWithin, RoseInAll, Meters, job_bounds, job_made, new_history, or_refusal, refusal_of, with_history, with_left}
 use Rattle.mutest_engine.specs.Refusals.{IsOfRuns}
 use Rattle.mutest_engine.specs.Steps.{and_then, Gives, Refuses}
@@ -48,6 +50,14 @@ pub done_gives : (ts : List Test) (answer : Result JobAnswer JobRefusal) (reused
 done_gives ts (Ok x) reused unkept done result is gives = subst (λ (stated : Result JobMade Refusal). Gives stated result) (sym (done_is x reused done is)) gives
 done_gives ts (Err refusal) reused unkept done result is gives = absurd is
 
+pub left_made : (verdicts : List Verdict) (left : Left) (history : List ℕ) (reused : ℕ) → new_history left.records ≡ Ok history → reused ≡ left.reused → with_left verdicts left ≡ Ok (record { verdicts = verdicts; history = history; reused = reused })
+left_made verdicts left history reused is same =
+    ap (λ x. and_then x (λ h. Ok (record { verdicts = verdicts; history = h; reused = left.reused }))) is
+    ∙ ap (λ n. Ok (record { verdicts = verdicts; history = history; reused = n })) (sym same)
+
+pub left_refused : (verdicts : List Verdict) (left : Left) (r : Refusal) → new_history left.records ≡ Err r → with_left verdicts left ≡ Err r
+left_refused verdicts left r is = ap (λ x. and_then x (λ h. Ok (record { verdicts = verdicts; history = h; reused = left.reused }))) is
+
 -- ---- how it stops
 
 -- What is said of the stop by the fault.
@@ -65,7 +75,7 @@ stop_refuses ts fault.Memory s is = no_refusal IsOfRuns s (is.lost (λ q e. absu
 
 pub stop_gives : (ts : List Test) (answer : Result JobAnswer JobRefusal) (reused : ℕ) (unkept : Type 0) (f : JobFault) (s : Stop) → EndsAs answer reused unkept (Err f) → IsStopOf ts f s → Refuses (λ r. job_made ts reused answer ≡ Err r) s
 stop_gives ts (Ok x) reused unkept (fault.Refused refusal) s ends is = absurd ends
-stop_gives ts (Err q) reused unkept (fault.Refused refusal) s ends is = λ r e. (λ i. Err (refusal_of ts (sym ends i))) ∙ ap (λ z. Err z) (sym (is.refused refusal refl r e).0)
+stop_gives ts (Err q) reused unkept (fault.Refused refusal) s ends is = λ r e. ap (λ (z : JobRefusal). job_made ts reused (Err z)) (sym ends) ∙ ap (λ z. Err z) (sym (is.refused refusal refl r e).0)
 stop_gives ts answer reused unkept fault.Unwritable s ends is = no_refusal (λ r. job_made ts reused answer ≡ Err r) s (is.lost (λ q e. absurd cc))
 stop_gives ts answer reused unkept fault.Memory s ends is = no_refusal (λ r. job_made ts reused answer ≡ Err r) s (is.lost (λ q e. absurd cc))
 

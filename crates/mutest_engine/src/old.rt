@@ -87,9 +87,9 @@ fn history_at<T: Tree>(tree: &mut T, path: &str) -> Result<Option<Bytes>, Halt>
 
 /// The bytes of the history at a path, if there is a path and something is held there.
 pub fn history_bytes<T: Tree>(tree: &mut T, path: Option<&str>) -> Result<Option<Bytes>, Halt>
-    ensures value { ReadsHeld (T.holds tree.old) (history_bytes (lent_text path)) result }
-    ensures none { IfOk result (IsOfPath (lent_text path)) }
-    ensures tree { Asks T.holds T.writing T.reading (IsOfHistory (lent_text path)) tree.old tree.new
+    ensures value { ReadsHeld (T.holds tree.old) (history_bytes (lent_text path.entry)) result }
+    ensures none { IfOk result (IsOfPath (lent_text path.entry)) }
+    ensures tree { Asks T.holds T.writing T.reading (IsOfHistory (lent_text path.entry)) tree.old tree.new
         result }
 {
     match path {
