@@ -1,11 +1,10 @@
 -- What the job of a suite gives, in the words of the definitions.
 use Rattle.std.proofs.Common.{◌≡◌, ◌∙◌, ℕ, zero, suc, ◌+◌, ◌*◌, ◌<◌, ◌≤◌, Bool, true, false, eqb, List, [], ◌∷◌, ◌++◌, map, Result, Ok, Err, refl, sym, ap, subst, append_assoc, arith}
-use Rattle.std.specs.Prelude.{IfErr, if◌then◌else◌}
+use Rattle.std.specs.Prelude.{if◌then◌else◌}
 use Rattle.std.proofs.lemmas.Bool.{eqb-true}
 use Rattle.std.proofs.lemmas.List.{append-nil}
 use Rattle.class_table.specs.declared.scripted.Test.{Test}
 use Rattle.history_rules.specs.Laws.{AreWritable}
-use Rattle.record_rules.specs.declared.record.RunRecord.{RunRecord}
 use Rattle.job_answers.specs.Answers.{JobAnswer, JobCost}
 use Rattle.job_answers.specs.declared.refusal.JobRefusal.{JobRefusal}
 use Rattle.suite_runs.specs.Ending.{EndsAs, IsDone, MeterBy, MeterRose}
@@ -14,7 +13,7 @@ use Rattle.suite_runs.specs.declared.fault.JobFault.TheVariants as fault
 use Rattle.suite_runs.specs.declared.job.JobDone.{JobDone}
 use Rattle.mutator_ops.specs.declared.mutant.Verdict.{Verdict}
 use Rattle.new_history.specs.Left.{Left}
-use Rattle.mutest_engine.specs.Jobs.{Bounds, RoseWithin, RoseInAll, Meters, job_bounds, job_made, new_history, or_refusal, refusal_of, with_history, with_left}
+use Rattle.mutest_engine.specs.Jobs.{RoseWithin, RoseInAll, Meters, job_bounds, job_made, new_history, refusal_of, with_history, with_left}
 use Rattle.mutest_engine.specs.Refusals.{IsOfRuns}
 use Rattle.mutest_engine.specs.Steps.{and_then, Gives, Refuses}
 use Rattle.mutest_engine.specs.declared.job.JobMade.{JobMade}

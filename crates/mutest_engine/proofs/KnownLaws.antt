@@ -1,5 +1,5 @@
 -- What is made of a suite and of old records, in the words of the definitions.
-use Rattle.std.proofs.Common.{◌≡◌, ◌∙◌, ◌⊎◌, inl, inr, ⊎_elim, ℕ, ◌+◌, ◌<◌, ◌≤◌, ◌^◌, Bool, false, List, length, Option, Some, None, Result, Ok, Err, refl, sym, ap, subst, arith}
+use Rattle.std.proofs.Common.{◌≡◌, ◌∙◌, ◌⊎◌, inl, inr, ⊎_elim, ℕ, ◌+◌, ◌<◌, ◌≤◌, ◌^◌, false, List, length, Option, Some, None, Result, Ok, Err, refl, sym, ap, subst, arith}
 use Rattle.std.specs.Prelude.{All, IfSome}
 use Rattle.class_link.specs.declared.loaded.Loaded.{Loaded}
 use Rattle.class_records.specs.Profile.{profile}
@@ -14,13 +14,13 @@ use Rattle.record_rules.specs.declared.record.RunRecord.{RunRecord}
 use Rattle.reuse_laws.specs.Jobs.{AreTrue}
 use Rattle.job_answers.specs.Answers.{job_answer, job_cost, job_reused}
 use Rattle.job_answers.specs.Laws.{AnswersAreOfAllTests, TrueRecordsChangeNothing}
-use Rattle.suite_jobs.specs.Jobs.{Allowed, Suite, IsAccepted}
+use Rattle.suite_jobs.specs.Jobs.{Allowed, IsAccepted}
 use Rattle.suite_runs.specs.Ending.{IsSuiteOf, MayRunJob, allowed_in, suite_of}
 use Rattle.suite_runs.specs.declared.job.SuiteJob.{SuiteJob}
 use Rattle.suite_workers.specs.Old.{records_in as records_among}
 use Rattle.suite_workers.specs.declared.old_records.OldRecords.{OldRecords}
 use Rattle.mutest_engine.specs.Answers.{Answered, answered}
-use Rattle.mutest_engine.specs.Decided.{AreTrueIn, CanReport, IsRunAnswer, allowed_by, before_runs, bounds_behind, known_bounds, run_answer, run_bounds, run_scratch, sourced_answer}
+use Rattle.mutest_engine.specs.Decided.{AreTrueIn, CanReport, IsRunAnswer, allowed_by, before_runs, bounds_behind, known_bounds, run_answer, run_bounds, sourced_answer}
 use Rattle.mutest_engine.specs.Ends.{AnswerMeters, AnswersHeld, HaltStays, MayAnswer, MayReport, MetersRun, Stays}
 use Rattle.mutest_engine.specs.Jobs.{Bounds, GivesJob, Meters, MetersJob, job_bounds, job_made}
 use Rattle.mutest_engine.specs.Known.{AnswersTrue, HaltsBefore, IsKnownOf, RefusesKnown}

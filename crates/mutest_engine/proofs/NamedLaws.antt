@@ -1,11 +1,10 @@
 -- The job of a suite by its classes' names is its job by their numbers.
-use Rattle.std.proofs.Common.{◌≡◌, ◌∙◌, ℕ, Bool, false, List, [], Result, Ok, Err, refl, sym, ap}
+use Rattle.std.proofs.Common.{◌≡◌, ◌∙◌, false, List, [], Result, Ok, Err, refl, sym, ap}
 use Rattle.std.proofs.lemmas.List.Elements.{All-from_recursion}
 use Rattle.class_records.specs.Profile.{profile}
 use Rattle.record_rules.specs.Truth.{IsTrueRecord}
 use Rattle.record_rules.specs.declared.record.RunRecord.{RunRecord}
 use Rattle.reuse_laws.specs.Jobs.{AreTrue}
-use Rattle.mutator_ops.specs.declared.mutant.Verdict.{Verdict}
 use Rattle.suite_jobs.specs.Jobs.{Allowed, Suite, IsAccepted, job_runs}
 use Rattle.job_answers.specs.Answers.{JobAnswer, job_answer, job_cost, job_reused}
 use Rattle.job_answers.specs.Laws.{AnswersAreOfAllTests, TrueRecordsChangeNothing}

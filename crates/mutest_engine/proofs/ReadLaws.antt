@@ -1,6 +1,6 @@
 -- What is read before the first run of a job, one step after the other.
-use Rattle.std.proofs.Common.{◌≡◌, ◌∙◌, inl, inr, ℕ, List, Option, None, Some, Result, Ok, Err, sym, ap, subst}
-use Rattle.std.specs.Prelude.{IfSome, IfErr}
+use Rattle.std.proofs.Common.{◌≡◌, ◌∙◌, inl, inr, ℕ, List, Option, None, Some, Result, Ok, Err, ap, subst}
+use Rattle.std.specs.Prelude.{IfSome}
 use Rattle.mt_edge.specs.Files.{Files}
 use Rattle.mutest_words.specs.Words.{RunOptions}
 use Rattle.record_rules.specs.declared.record.RunRecord.{RunRecord}
@@ -10,15 +10,14 @@ use Rattle.mutest_engine.specs.Made.{IsMade, made_suite, suite_in}
 use Rattle.mutest_engine.specs.NamedJobs.{NamedSuite, named}
 use Rattle.mutest_engine.specs.Old.{IsOfPath, history_bytes, old_records, records_in}
 use Rattle.mutest_engine.specs.Refusals.{IsOfHistory, IsOfRun, IsOfSuite}
-use Rattle.mutest_engine.specs.Steps.{and_then, FailsReading, Halts, IsHaltOf, IsRead, Reads, Refuses, RefusesReading}
+use Rattle.mutest_engine.specs.Steps.{and_then, Halts, IsHaltOf, IsRead, Refuses, RefusesReading}
 use Rattle.mutest_engine.specs.SuiteFiles.{suite_of}
 use Rattle.mutest_engine.specs.declared.made.MadeSuite.{MadeSuite}
-use Rattle.mutest_engine.specs.declared.running.KnownJob.{KnownJob}
 use Rattle.mutest_engine.specs.declared.suite.LoadedSuite.{LoadedSuite}
 use Rattle.mutest_engine.specs.declared.refusal.Refusal.{Refusal}
 use Rattle.mutest_engine.specs.declared.stop.Halt.{Halt}
 use Rattle.mutest_engine.specs.declared.stop.Stop.{Stop}
-use Rattle.mutest_engine.proofs.FaultLaws.{halts_on, is_read_on}
+use Rattle.mutest_engine.proofs.FaultLaws.{halts_on}
 use Rattle.mutest_engine.proofs.RefusalLaws.{of_made}
 
 abbrev behind_suite : RunOptions → Files → NamedSuite → Result (NamedSuite × List RunRecord) Refusal

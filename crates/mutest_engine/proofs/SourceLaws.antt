@@ -1,5 +1,5 @@
 -- What is read of sources, in the words of the call.
-use Rattle.std.proofs.Common.{◌≡◌, ◌∙◌, ℕ, List, Option, None, Some, Result, Ok, Err, refl, ap, subst, arith}
+use Rattle.std.proofs.Common.{◌≡◌, ◌∙◌, ℕ, List, Option, None, Some, Ok, Err, refl, ap, subst, arith}
 use Rattle.std.specs.Prelude.{IfSome}
 use Rattle.mt_edge.specs.Files.{Files}
 use Rattle.report_pieces.specs.declared.input.Group.{Group}
@@ -10,7 +10,6 @@ use Rattle.mutest_engine.specs.Refusals.{IsOfRuns}
 use Rattle.mutest_engine.specs.Sources.{or_too_many, sources_below, halt_of}
 use Rattle.mutest_engine.specs.Steps.{Failed, Halts, IsRead, RefusesReading}
 use Rattle.mutest_engine.specs.declared.refusal.Limit.TheVariants as limit
-use Rattle.mutest_engine.specs.declared.refusal.Refusal.{Refusal}
 use Rattle.mutest_engine.specs.declared.refusal.Refusal.TheVariants.{TooMany}
 
 pub read_so : (held : Option Files) (folder : List ℕ) (groups : List Group) (sources : List (List ℕ)) → IfSome held (λ files. sources_of folder groups files ≡ Ok sources)

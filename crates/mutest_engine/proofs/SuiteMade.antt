@@ -13,7 +13,7 @@ use Rattle.mutant_runs.specs.Programs.{files_of}
 use Rattle.mutant_runs.specs.Ready.{IsReady}
 use Rattle.suite_laws.specs.Tested.{IsListed}
 use Rattle.suite_program.specs.Faults.{first_fault, RefusesFirst}
-use Rattle.suite_program.specs.Programs.{classes_in, class_file, program_of, names_in, AreSpelled, HaveFirstNumbers, IsMadeOf}
+use Rattle.suite_program.specs.Programs.{classes_in, class_file, program_of, names_in, HaveFirstNumbers, IsMadeOf}
 use Rattle.suite_program.specs.declared.fault.ProgramEnd.{ProgramEnd}
 use Rattle.suite_program.specs.declared.fault.ProgramEnd.TheVariants as end
 use Rattle.test_discovery.specs.Discovery.{Tests}

@@ -1,6 +1,6 @@
 -- What the words of the command line and the files that are held decide: each command's answer, and
 -- the steps that it takes (this project's own).
-use Rattle.std.specs.Prelude.{◌≡◌, ℕ, List, [], ◌∷◌, Option, Some, None, All, Result, Ok, Err}
+use Rattle.std.specs.Prelude.{◌≡◌, ℕ, List, [], ◌∷◌, Option, Some, None, Result, Ok, Err}
 use Rattle.class_model.specs.declared.class.Class.{Class}
 use Rattle.class_reader.specs.Spells.{class_bytes, IsClass}
 use Rattle.class_asm.specs.Assembled.{AssembledClass}

@@ -1,12 +1,10 @@
 -- The parts of the lines that tell refusals and faults (this project's own).
 use Rattle.std.specs.Prelude.{ℕ, List, [], ◌++◌, codes, decimal, Option, Some, None}
 use Rattle.std.specs.List.{flat_map}
-use Rattle.mutator_ops.specs.Printing.{printed}
 use Rattle.class_model.specs.Fault.{value_of}
 use Rattle.class_model.specs.declared.outcome.Outcome.{Outcome}
 use Rattle.class_model.specs.declared.outcome.Outcome.TheVariants as outcome
 use Rattle.class_model.specs.declared.fault.ClassFault.{ClassFault}
-use Rattle.program_rules.specs.Names.{Name}
 
 abbrev pub outcome_name : Outcome → List ℕ
 outcome_name outcome.Passed = codes "Passed"

@@ -2,14 +2,13 @@
 -- mutants, each with what old records have of it; and what is known of all of them says. It is the
 -- job of `suite_jobs` and its answer of `job_answers`, which speak of classes by number (this
 -- project's own).
-use Rattle.std.specs.Prelude.{◌≡◌, ℕ, Bool, false, List, [], map, filter, Option, Some, None}
+use Rattle.std.specs.Prelude.{◌≡◌, ℕ, false, List, [], map, filter, Option, Some, None}
 use Rattle.std.specs.Prelude.{is_some, if◌then◌else◌, option_and_then, Result, Ok, Err}
 use Rattle.std.specs.List.{enumerate_from}
 use Rattle.std.specs.Option.{option_map_or}
 use Rattle.class_model.specs.declared.class.Class.{Class}
 use Rattle.program_rules.specs.Programs.{Look}
 use Rattle.machine_rules.specs.Runs.{limit_of, run_of}
-use Rattle.class_link.specs.Info.{Info}
 use Rattle.class_table.specs.Table.{look}
 use Rattle.class_table.specs.declared.scripted.Test.{Test}
 use Rattle.jvm_world.specs.View.{test_of}

@@ -1,5 +1,5 @@
 -- What the history of earlier runs has (this project's own).
-use Rattle.std.specs.Prelude.{◌≡◌, ℕ, List, [], length, nat_lt, if◌then◌else◌, Option, None, Some, IfSome}
+use Rattle.std.specs.Prelude.{◌≡◌, ℕ, List, [], length, nat_lt, if◌then◌else◌, Option, None, Some}
 use Rattle.std.specs.Prelude.{Result, Ok, Err}
 use Rattle.std.specs.FinMap.{get}
 use Rattle.mt_edge.specs.Files.{Files}
@@ -9,10 +9,9 @@ use Rattle.history_rules.specs.declared.fault.HistoryFault.{HistoryFault}
 use Rattle.history_rules.specs.declared.fault.HistoryFault.TheVariants as fault
 use Rattle.history_file.specs.Rows.{records_of}
 use Rattle.history_index.specs.Numbers.{Indexed}
-use Rattle.mutest_engine.specs.Steps.{and_then, ReadsHeld, HaltsHeld}
+use Rattle.mutest_engine.specs.Steps.{and_then}
 use Rattle.mutest_engine.specs.declared.refusal.Refusal.{Refusal}
 use Rattle.mutest_engine.specs.declared.refusal.Refusal.TheVariants.{HistoryBad}
-use Rattle.mutest_engine.specs.declared.stop.Halt.{Halt}
 
 -- The profile number under which this tool writes and reads histories.
 abbrev pub profile_number : ℕ

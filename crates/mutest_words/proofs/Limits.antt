@@ -6,7 +6,7 @@ use Rattle.clap.specs.Words.{Row, Text, first_of}
 use Rattle.mutest_words.specs.Given.{given, is_word, lacks}
 use Rattle.mutest_words.specs.Laws.{IsBetween, AreLimited}
 use Rattle.mutest_words.specs.Numbers.{number_between, number_in, within}
-use Rattle.mutest_words.specs.Words.{Command, RunOptions, AsmOptions, run_suite, list_class, assemble_class, number_or, count_of, folder_of, list_of, asm_of, asm_options, run_options, checked, run_of, paths_differ, is_whole, named_command, command_by, unbuilt, list_app, run_app, asm_app}
+use Rattle.mutest_words.specs.Words.{RunOptions, AsmOptions, run_suite, list_class, assemble_class, number_or, count_of, list_of, asm_of, asm_options, run_options, checked, run_of, paths_differ, is_whole, command_by, unbuilt, list_app, run_app, asm_app}
 
 -- ---- what gives something
 

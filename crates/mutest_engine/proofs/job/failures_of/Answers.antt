@@ -2,7 +2,7 @@ use Rattle.std.proofs.Common.{◌≡◌, ◌++◌, List, map, subst}
 use Rattle.std.specs.Vec.Iter.{into_iter_items}
 use Rattle.job_answers.specs.declared.refusal.FailedTest.{FailedTest}
 use Rattle.mutest_engine.specs.Jobs.{failure_of}
-use Rattle.mutest_engine.proofs.JobLaws.{mapped_on, mapped_end}
+use Rattle.mutest_engine.proofs.JobLaws.{mapped_on}
 use Rattle.mutest_engine.proofs.job.failures_of.Goals as goal
 
 pub loop-failure-preserved : goal.loop-failure-preserved

@@ -1,4 +1,4 @@
-use Rattle.std.proofs.Common.{inl, inr, refl}
+use Rattle.std.proofs.Common.{inr, refl}
 use Rattle.std.proofs.lemmas.Result.{err_from_is_err_and}
 use Rattle.mutest_words.specs.Words.{as_run_options}
 use Rattle.mutest_engine.specs.Decided.{allowed_by, known_bounds}

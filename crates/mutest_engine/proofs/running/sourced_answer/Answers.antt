@@ -1,4 +1,4 @@
-use Rattle.std.proofs.Common.{◌≡◌, ◌∙◌, ℕ, List, Option, None, Some, Result, Ok, Err, ap, sym}
+use Rattle.std.proofs.Common.{◌≡◌, ◌∙◌, ℕ, List, Option, None, Some, Result, Ok, ap, sym}
 use Rattle.std.specs.Prelude.{IfSome}
 use Rattle.mt_edge.specs.Files.{Files}
 use Rattle.mutest_words.specs.Words.{RunOptions, as_run_options}

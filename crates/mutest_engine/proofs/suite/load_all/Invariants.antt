@@ -2,7 +2,6 @@ use Rattle.std.proofs.Common.{◌≡◌}
 use Rattle.std.specs.Prelude.{All}
 use Rattle.std.specs.Vec.Iter.{into_iter_items}
 use Rattle.codec_rules.specs.Reading.{with_values}
-use Rattle.class_link.specs.declared.loaded.Loaded.{Loaded}
 use Rattle.mutest_engine.specs.SuiteFiles.{all_loaded, IsRead}
 use Rattle.mutest_engine.proofs.suite.load_all.Given as goal
 
