@@ -16,3 +16,4 @@ mod SourceLaws
 mod SuiteLaws
 mod SuiteMade
 mod TestLaws
+mod WordLaws
