@@ -135,7 +135,7 @@ fn job_reported<W: Threads + Wait + Sync, G: Gate + Sync>(
         all: false,
         workers: u64::from(options.workers),
     };
-    let old = OldRecords::Of(index);
+    let old = OldRecords::Of(&*index);
     let made = job_made(rt, alloc, &mut program, &job, old, gate, meter)?;
     Ok(made_reported(alloc, files, tests, mutants, made))
 }
