@@ -1,10 +1,7 @@
 -- What is known before the first run, and what is reported then (this project's own).
-use Rattle.std.specs.Prelude.{◌≡◌, ◌⊎◌, ℕ, List, Option, IfSome, Result, Ok, Err}
+use Rattle.std.specs.Prelude.{◌≡◌, ◌⊎◌, ℕ, Option, IfSome, Result, Ok, Err}
 use Rattle.mt_edge.specs.Files.{Files}
 use Rattle.mutest_words.specs.Words.{RunOptions}
-use Rattle.class_records.specs.Profile.{profile}
-use Rattle.record_rules.specs.declared.record.RunRecord.{RunRecord}
-use Rattle.reuse_laws.specs.Jobs.{AreTrue}
 use Rattle.mutest_engine.specs.Answers.{answered}
 use Rattle.mutest_engine.specs.Decided.{AreTrueIn, allowed_by, before_runs, bounds_behind, known_bounds, run_scratch}
 use Rattle.mutest_engine.specs.Jobs.{Meters}
@@ -16,7 +13,6 @@ use Rattle.mutest_engine.specs.Reported.{every_reported, known_reported}
 use Rattle.mutest_engine.specs.Steps.{and_then, Gives, HaltsHeld, ReadsBy}
 use Rattle.mutest_engine.specs.SuiteFiles.{suite_of}
 use Rattle.mutest_engine.specs.declared.answer.Answer.{Answer}
-use Rattle.mutest_engine.specs.declared.made.MadeSuite.{MadeSuite}
 use Rattle.mutest_engine.specs.declared.reported.Reported.{Reported}
 use Rattle.mutest_engine.specs.declared.running.KnownJob.{KnownJob}
 use Rattle.mutest_engine.specs.declared.suite.LoadedSuite.{LoadedSuite}
@@ -39,26 +35,9 @@ pub record IsKnownOf (held : Option Files) (o : RunOptions) (k : KnownJob) : Typ
 abbrev pub HaltsBefore : Option Files → RunOptions → Halt → Type 0
 HaltsBefore held o h = HaltsHeld held (before_runs o) h
 
--- ---- what is reported of a suite with old records
+-- ---- what is reported then
 
-module _ (o : RunOptions) (x : MadeSuite) (old : List RunRecord) where
-  abbrev pub ReportsJob : Result Reported Stop → Type 0
-  ReportsJob result =
-      (s : LoadedSuite) → IsMade s x →
-      Gives (known_reported (allowed_by o) (named (suite_in s x)) old) result
-
-  -- Where all of them are true, it is what every test on every mutant gives.
-  abbrev pub ReportsTrueJob : Result Reported Stop → Type 0
-  ReportsTrueJob result =
-      (s : LoadedSuite) → IsMade s x → AreTrue profile old →
-      Gives (every_reported (allowed_by o) (named (suite_in s x)) old) result
-
-  abbrev pub MetersOfJob : ℕ → ℕ → Result Reported Stop → Type 0
-  MetersOfJob before after result =
-      (s : LoadedSuite) → IsMade s x →
-      Meters (known_bounds o (named (suite_in s x)) old) before after result
-
--- The same where the history's bytes are read first.
+-- The records of the history are read, and then the job is done.
 module _ (o : RunOptions) (k : KnownJob) where
   abbrev pub ReportsKnown : Result Reported Stop → Type 0
   ReportsKnown result =
@@ -67,6 +46,7 @@ module _ (o : RunOptions) (k : KnownJob) where
       (and_then (records_in k.history)
       (known_reported (allowed_by o) (named (suite_in s k.suite)))) result
 
+  -- Where all of them are true, it is what every test on every mutant gives.
   abbrev pub ReportsTrueKnown : Result Reported Stop → Type 0
   ReportsTrueKnown result =
       (s : LoadedSuite) → IsMade s k.suite → AreTrueIn (records_in k.history) →

@@ -1,17 +1,15 @@
 //! A run: what is known before the first run, the job, the report and the new history.
 
-ghost use Rattle.std.specs.Prelude.{◌≡◌, ◌<◌, ◌≤◌, ◌^◌, All, IfOk, IfErr};
-ghost use Rattle.history_rules.specs.Laws.{IsFormed};
+ghost use Rattle.std.specs.Prelude.{◌≡◌, ◌<◌, ◌≤◌, ◌^◌, IfOk, IfErr};
 ghost use Rattle.mutant_runs.specs.Programs.{ClassFiles};
 ghost use Rattle.mutest_words.specs.Laws.{AreLimited};
 ghost use Rattle.mutest_words.specs.Words.{as_run_options, as_run_command};
 ghost use Rattle.mutest_engine.specs.Answers.{writes_of};
 ghost use Rattle.mutest_engine.specs.Decided.{report_answer, results, run_answer, sourced_answer};
 ghost use Rattle.mutest_engine.specs.Ends.{AnswersHeld, HaltStays, Makes, MayAnswer, MayReport, MetersRun};
-ghost use Rattle.mutest_engine.specs.Known.{AnswersTrue, HaltsBefore, IsKnownOf, MetersOfJob, MetersOfKnown, RefusesKnown, ReportsJob, ReportsKnown, ReportsTrueJob, ReportsTrueKnown};
+ghost use Rattle.mutest_engine.specs.Known.{AnswersTrue, HaltsBefore, IsKnownOf, MetersOfKnown, RefusesKnown, ReportsKnown, ReportsTrueKnown};
 ghost use Rattle.mutest_engine.specs.Made.{IsMade};
-ghost use Rattle.mutest_engine.specs.Old.{indexed_records};
-ghost use Rattle.mutest_engine.specs.Refusals.{IsOfRun, IsOfRuns};
+ghost use Rattle.mutest_engine.specs.Refusals.{IsOfRun};
 ghost use Rattle.mutest_engine.specs.Reported.{AreFilesOf, input_of};
 ghost use Rattle.mutest_engine.specs.Steps.{Asks, OnlyReads, Refuses};
 ghost use Rattle.mutest_engine.specs.declared.suite.LoadedSuite.{LoadedSuite};
@@ -26,7 +24,6 @@ use crate::stop::{Halt, Stop};
 use crate::suite::load_suite;
 use class_model::{Bytes, Memory, Seq};
 use class_table::Test;
-use history_index::HistoryIndex;
 use job_answers::{answers_are_of_all_tests, true_records_change_nothing};
 use machine_rules::Limits;
 use mt_edge::{Gate, Meter, Tree};
@@ -92,55 +89,7 @@ fn made_reported(
     }
 }
 
-// The job of a suite with these old records.
-fn job_reported<W: Threads + Wait + Sync, G: Gate + Sync>(
-    rt: &W,
-    alloc: Global,
-    options: RunOptions<'_>,
-    suite: MadeSuite,
-    index: &HistoryIndex<'_>,
-    gate: &G,
-    meter: &mut Meter,
-) -> Result<Reported, Stop>
-    requires limited { AreLimited (as_run_options options) }
-    requires made { (s : LoadedSuite) × IsMade s suite }
-    requires formed { All IsFormed (indexed_records index.now) }
-    requires room { meter.old < 2 ^ 62 }
-    ensures value { ReportsJob (as_run_options options.entry) suite
-        (indexed_records index.entry.now) result }
-    ensures scratch { ReportsTrueJob (as_run_options options.entry) suite
-        (indexed_records index.entry.now) result }
-    ensures meter { MetersOfJob (as_run_options options.entry) suite
-        (indexed_records index.entry.now) meter.old meter.new result }
-    ensures later { meter.old ≤ meter.new }
-    ensures refusal { IfErr result (Refuses IsOfRuns) }
-{
-    true_records_change_nothing();
-    answers_are_of_all_tests();
-    let MadeSuite {
-        program,
-        tests,
-        mutants,
-    } = suite;
-    let mut program = program;
-    let files = files_of(alloc, &program, tests.as_slice(), mutants.as_slice())?;
-    let job = SuiteJob {
-        tests: tests.as_slice(),
-        mutants: mutants.as_slice(),
-        limits: Limits {
-            heap: options.heap,
-            depth: options.depth,
-        },
-        steps: u64::from(options.steps),
-        all: false,
-        workers: u64::from(options.workers),
-    };
-    let old = OldRecords::Of(&*index);
-    let made = job_made(rt, alloc, &mut program, &job, old, gate, meter)?;
-    Ok(made_reported(alloc, files, tests, mutants, made))
-}
-
-// The same by what the history's bytes say.
+// What is reported of the job of a suite, by what the history's bytes say.
 fn known_reported<W: Threads + Wait + Sync, G: Gate + Sync>(
     rt: &W,
     alloc: Global,
@@ -158,9 +107,31 @@ fn known_reported<W: Threads + Wait + Sync, G: Gate + Sync>(
     ensures later { meter.old ≤ meter.new }
     ensures refusal { IfErr result (Refuses (RefusesKnown known meter.old meter.new)) }
 {
+    true_records_change_nothing();
+    answers_are_of_all_tests();
     let KnownJob { suite, history } = known;
+    let MadeSuite {
+        program,
+        tests,
+        mutants,
+    } = suite;
+    let mut program = program;
     let index = old_records(alloc, &history)?;
-    job_reported(rt, alloc, options, suite, &index, gate, meter)
+    let files = files_of(alloc, &program, tests.as_slice(), mutants.as_slice())?;
+    let job = SuiteJob {
+        tests: tests.as_slice(),
+        mutants: mutants.as_slice(),
+        limits: Limits {
+            heap: options.heap,
+            depth: options.depth,
+        },
+        steps: u64::from(options.steps),
+        all: false,
+        workers: u64::from(options.workers),
+    };
+    let old = OldRecords::Of(&index);
+    let made = job_made(rt, alloc, &mut program, &job, old, gate, meter)?;
+    Ok(made_reported(alloc, files, tests, mutants, made))
 }
 
 // ---- what is written and put
