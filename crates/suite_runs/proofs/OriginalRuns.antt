@@ -1,5 +1,5 @@
 -- The runs of tests on a program as it is, one more after the other, and what they cost.
-use Rattle.std.proofs.Common.{◌≡◌, ◌∙◌, ℕ, zero, suc, ◌+◌, ◌*◌, ◌<◌, ◌≤◌, ◌^◌, List, [], ◌∷◌, ◌++◌, length, map, Option, None, Some, Bool, true, false, refl, sym, ap, ap₂, arith}
+use Rattle.std.proofs.Common.{◌≡◌, ◌∙◌, ℕ, zero, suc, ◌+◌, ◌*◌, ◌<◌, ◌≤◌, ◌^◌, List, [], ◌∷◌, ◌++◌, length, map, Option, None, Some, Bool, true, false, refl, sym, ap, ap₂, subst, arith}
 use Rattle.std.specs.Prelude.{is_some, if◌then◌else◌}
 use Rattle.std.specs.List.{range_with_len}
 use Rattle.std.proofs.Math.Nat.{suc-mul}
@@ -90,6 +90,11 @@ module _ (p : List Info) (j : SuiteJob) (old : List RunRecord) where
 
   pub tried_more : (k : ℕ) → tried_from p j old 0 (k + 1) ≡ tried_from p j old 0 k ++ run_tried p j old k ∷ []
   tried_more k = map-range_with_len_more (run_tried p j old) 0 k k (omega arith)
+
+  pub next_known : (k : ℕ) (runs new : List KnownRun) (one : KnownRun) → AreKnown (tried_from p j old 0 k) runs → IsKnown (run_tried p j old k) one → new ≡ runs ++ one ∷ [] → AreKnown (tried_from p j old 0 (k + 1)) new
+  next_known k runs new one all is push =
+      subst (λ (ks : List KnownRun). AreKnown (tried_from p j old 0 (k + 1)) ks) (sym push)
+      (subst (λ (ts : List (Tried RunRecord)). AreKnown ts (runs ++ one ∷ [])) (sym (tried_more k)) (known_more (tried_from p j old 0 k) (run_tried p j old k) runs one all is))
 
   pub cost_more : (k before after : ℕ) → before ≡ cost_of steps_of (tried_from p j old 0 k) → Costs (run_tried p j old k) before after → after ≡ cost_of steps_of (tried_from p j old 0 (k + 1))
   cost_more k before after is more =

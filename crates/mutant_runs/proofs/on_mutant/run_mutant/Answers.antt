@@ -3,7 +3,7 @@ use Rattle.std.specs.Arc.{arc_value}
 use Rattle.class_link.specs.Info.{Info}
 use Rattle.mutant_runs.specs.Edited.{IsReadyBut}
 use Rattle.mutant_runs.specs.Programs.{Makes}
-use Rattle.mutant_runs.proofs.ProgramLaws.{set_back, makes_swap_back}
+use Rattle.mutant_runs.proofs.ProgramLaws.{set_back, makes_swap, makes_swap_back}
 use Rattle.mutant_runs.proofs.MutantLaws.{ready_with, told_made, counted_made, most_made}
 use Rattle.mutant_runs.proofs.NamedLaws.{named_made, named_back}
 use Rattle.mutant_runs.proofs.on_mutant.run_mutant.Goals as goal
@@ -14,6 +14,11 @@ run_on-verdict-requires-clause-ready c =
     let P : List Info → Type 0 = λ w. IsReadyBut w c.args.mutant.now.class c.in-Some.id.0 in
     let ready : P c.swap-original.new.self = subst P (sym c.swap-original.ensures.program) (c.edited_are_ready.ensures c.args.program.now c.args.mutant.now c.in-Some.id.0 (arc_value c.in-Some.edited) c.is_program.ensures c.requires.ready made) in
     ready_with c.args.program.now c.swap-original.new.self c.args.mutant.now c.in-Some.id.0 (arc_value c.in-Some.edited) made c.swap-original.ensures.program ready c.requires.viable c.first_faults_are_found.ensures.accepted
+
+pub swap-original-requires : goal.swap-original-requires
+swap-original-requires c =
+    let made : Makes c.args.program.now c.args.mutant.now c.in-Some.id.0 (arc_value c.in-Some.edited) = rw c.in-Some.is at c.in_ok-id.ensures.made in
+    makes_swap c.args.program.now c.args.mutant.now c.in-Some.id.0 (arc_value c.in-Some.edited) made
 
 pub swap-edited-requires : goal.swap-edited-requires
 swap-edited-requires c =
