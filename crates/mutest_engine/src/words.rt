@@ -26,10 +26,11 @@ fn no_archive(alloc: Global, folder: &str) -> Result<(), Stop>
 fn no_archive_in(alloc: Global, folder: Option<&str>) -> Result<(), Stop>
     ensures { Gives (no_archive_in (lent_text folder.entry)) result }
 {
-    match folder {
-        Some(folder) => no_archive(alloc, folder),
-        None => Ok(()),
-    }
+    let Some(folder) = folder else {
+        return Ok(());
+    };
+    no_archive(alloc, folder)?;
+    Ok(())
 }
 
 /// The command that the words are, unless one of its folders is an archive.
