@@ -24,13 +24,13 @@ use suite_workers::{JobSetup, OldRecords, accepted_may_run, cells_are_of_suite, 
 use worker_gate::{Gate, Recorder};
 
 // What the workers of a job share.
-fn setup_of<'c>(
+fn setup_of<'c, 'r>(
     mutants: &'c [Mutant],
     tests: &'c [Test],
     limits: Limits,
     all: bool,
-    ready: &'c Prepared<'c>,
-) -> JobSetup<'c>
+    ready: &'c Prepared<'r>,
+) -> JobSetup<'c, 'r>
     ensures { IsSetupFor mutants.entry.now tests.entry.now limits all ready.entry.now result }
 {
     JobSetup {
