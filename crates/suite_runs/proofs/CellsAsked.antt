@@ -31,7 +31,7 @@ use Rattle.suite_runs.specs.declared.prepared.Prepared.{Prepared}
 use Rattle.suite_runs.specs.Covering.{count_all, numbers_of}
 use Rattle.suite_runs.specs.Ending.{IsSuiteOf, MayRunJob, allowed_in, suite_of}
 use Rattle.suite_runs.specs.Originals.{original_cost}
-use Rattle.suite_runs.specs.Preparing.{AreBoundsBy, IsReadied, MayBeRun}
+use Rattle.suite_runs.specs.Preparing.{AreBoundsBy, IsReadied, IsSetupFor, MayBeRun}
 use Rattle.suite_runs.proofs.MutantsFit.{mutants_fit}
 use Rattle.suite_runs.proofs.OriginalRuns.{cost_most}
 use Rattle.suite_runs.proofs.Suited.{is_setup}
@@ -54,17 +54,7 @@ flat_long f (x ∷ xs) = length-append (f x) (flat (map f xs)) ∙ ap (λ (n : �
 
 -- ---- the cells
 
--- What the workers share is of what is prepared.
-pub record IsSetupFor (j : SuiteJob) (x : Prepared) (c : JobSetup) : Type 0 where
-  pub mutants : c.mutants.now ≡ j.mutants.now
-  pub covering : c.covering.now ≡ x.covering
-  pub tests : c.tests.now ≡ j.tests.now
-  pub bounds : c.bounds.now ≡ x.bounds
-  pub limits : c.limits ≡ j.limits
-  pub all_is : c.all ≡ j.all
-  pub look_ups : c.look_ups.now ≡ x.look_ups
-
-module _ (p : List Info) (j : SuiteJob) (old : OldRecords) (x : Prepared) (r : IsReadied p j old x) (c : JobSetup) (is : IsSetupFor j x c) where
+module _ (p : List Info) (j : SuiteJob) (old : OldRecords) (x : Prepared) (r : IsReadied p j old x) (c : JobSetup) (is : IsSetupFor j.mutants.now j.tests.now j.limits j.all x c) where
   few_cells : length (flat c.covering.now) ≤ 4194304
   few_cells =
       let pairs = zip j.mutants.now x.viable in
@@ -74,21 +64,21 @@ module _ (p : List Info) (j : SuiteJob) (old : OldRecords) (x : Prepared) (r : I
 
   fits : (meter : ℕ) → MayRunJob p j old meter → FitsNumbers (job_in c)
   fits meter may = record {
-    mutants = subst (λ (ms : List Mutant). length ms ≤ 262144) (sym is.mutants) may.few_mutants;
-    tests = subst (λ (ts : List Test). length ts ≤ 65535) (sym is.tests) may.few_tests;
+    mutants = subst (λ (ms : List Mutant). length ms ≤ 262144) (sym is.mutants_are) may.few_mutants;
+    tests = subst (λ (ts : List Test). length ts ≤ 65535) (sym is.tests_are) may.few_tests;
     cells = few_cells;
     bounds = subst (λ (ns : List ℕ). All (λ (n : ℕ). n ≤ most_limit) ns) (sym (is.bounds ∙ r.bounds)) (bounds_most x.runs r.runs.are.within);
-    heap = subst (λ (q : Limits). q.heap < 2 ^ 31) (sym is.limits) may.heap_fits;
+    heap = subst (λ (q : Limits). q.heap < 2 ^ 31) (sym is.limits_are) may.heap_fits;
   }
 
   look_ups_are : AreLookUps p c.tests.now c.limits c.bounds.now c.look_ups.now
   look_ups_are = subst (λ (l : LookUps). AreLookUps p c.tests.now c.limits c.bounds.now l) (sym is.look_ups) by_bounds
     where
       by_bounds : AreLookUps p c.tests.now c.limits c.bounds.now x.look_ups
-      by_bounds = subst (λ (ns : List ℕ). AreLookUps p c.tests.now c.limits ns x.look_ups) (sym is.bounds) (subst (λ (q : Limits). AreLookUps p c.tests.now q x.bounds x.look_ups) (sym is.limits) (subst (λ (ts : List Test). AreLookUps p ts j.limits x.bounds x.look_ups) (sym is.tests) r.look_ups))
+      by_bounds = subst (λ (ns : List ℕ). AreLookUps p c.tests.now c.limits ns x.look_ups) (sym is.bounds) (subst (λ (q : Limits). AreLookUps p c.tests.now q x.bounds x.look_ups) (sym is.limits_are) (subst (λ (ts : List Test). AreLookUps p ts j.limits x.bounds x.look_ups) (sym is.tests_are) r.look_ups))
 
   pub setup_is : (files : List Loaded) (suite : IsSuiteOf files p j) → IsSetupOf (allowed_in j) (suite_of files p j) (records_in old) (job_in c)
-  setup_is files suite = is_setup files p j old suite x r (job_in c) is.mutants is.covering is.tests is.bounds is.limits (ap old_of is.look_ups ∙ r.old_is)
+  setup_is files suite = is_setup files p j old suite x r (job_in c) is.mutants_are is.covering is.tests_are is.bounds is.limits_are (ap old_of is.look_ups ∙ r.old_is)
 
   -- The runs are those of the suite.
   pub cells_are : CellsAreOfSuite → (files : List Loaded) (suite : IsSuiteOf files p j) → cell_runs p (job_in c) ≡ (job_runs (allowed_in j) (suite_of files p j) (records_in old)).mutants

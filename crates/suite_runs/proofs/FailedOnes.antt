@@ -32,7 +32,9 @@ outcome_said outcome.TimedOut = refl
 outcome_said outcome.MemoryOut = refl
 
 failed_push : (n : ℕ) (rs : List RunRecord) (r : RunRecord) → failed_from n (rs ++ r ∷ []) ≡ failed_from n rs ++ unless_passed (n + length rs) r.outcome
-failed_push n [] r = append-nil (unless_passed n r.outcome)
+failed_push n [] r =
+    let none : n ≡ n + 0 = omega arith in
+    append-nil (unless_passed n r.outcome) ∙ ap (λ (k : ℕ). unless_passed k r.outcome) none
 failed_push n (x ∷ rs) r =
     let next : suc n + length rs ≡ n + suc (length rs) = omega arith in
     ap (λ (fs : List FailedTest). unless_passed n x.outcome ++ fs) (failed_push (suc n) rs r ∙ ap (λ (k : ℕ). failed_from (suc n) rs ++ unless_passed k r.outcome) next)

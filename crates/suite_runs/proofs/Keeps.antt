@@ -1,6 +1,6 @@
 -- New records by number, of what is known of runs.
 use Rattle.std.proofs.Common.{◌≡◌, ◌∙◌, inl, inr, ℕ, suc, ◌+◌, ◌<◌, ◌≤◌, ◌^◌, Bool, List, [], ◌∷◌, ◌++◌, length, map, get_or, Option, Some, None, refl, sym, ap, ap₂, subst, arith, append_assoc}
-use Rattle.std.specs.Prelude.{All, max, sum_by}
+use Rattle.std.specs.Prelude.{All, Result, Ok, Err, max, sum_by}
 use Rattle.std.proofs.lemmas.List.{length-map, map-append}
 use Rattle.std.proofs.lemmas.List.Elements.{All-append, All-nil, Contains-append_left, Contains-append_right}
 use Rattle.std.proofs.lemmas.List.Sums.{sum_by-cons}
@@ -20,8 +20,10 @@ use Rattle.suite_workers.specs.declared.old_records.OldRecords.{OldRecords}
 use Rattle.suite_workers.specs.declared.old_records.OldRecords.TheVariants as old
 use Rattle.suite_workers.specs.declared.said.KnownRun.{KnownRun}
 use Rattle.suite_workers.specs.declared.said.KnownRun.TheVariants as run
+use Rattle.suite_runs.specs.declared.fault.JobFault.{JobFault}
+use Rattle.suite_runs.specs.declared.fault.JobFault.TheVariants as fault
 use Rattle.suite_runs.specs.Ending.{HasUnfit, numbered_in}
-use Rattle.suite_runs.specs.Keeping.{AddsKept, AreKept, AreKeptAs, CannotKeep, IsOf, KeepTooMany, kept_as, names_kept}
+use Rattle.suite_runs.specs.Keeping.{AddsKept, AreKept, AreKeptAs, CannotKeep, IsOf, KeepEnds, KeepTooMany, NewEnds, PutEnds, kept_as, names_kept}
 
 -- ---- of one history
 
@@ -84,3 +86,20 @@ unfit_first o ks ls h = inl (subst HasUnfit (sym (map-append known_record ks ls)
 
 pub unfit_second : (o : OldRecords) (ks ls : List KnownRun) → HasUnfit (map known_record ls) → CannotKeep o (ks ++ ls)
 unfit_second o ks ls h = inl (subst HasUnfit (sym (map-append known_record ks ls)) (record { entry = h.entry; there = Contains-append_right (map known_record ks) (map known_record ls) h.entry h.there; unfit = h.unfit }))
+
+-- ---- how keeping ends early
+
+pub puts_first : (o : OldRecords) (ks ls : List KnownRun) (new : List Needed) (f : JobFault) → PutEnds (numbered_in o) ks [] new (Err f) → KeepEnds o (ks ++ ls) (Err f)
+puts_first o ks ls new (fault.Refused r) h = h
+puts_first o ks ls new fault.Unwritable h = unfit_first o ks ls h
+puts_first o ks ls new fault.Memory h = tt
+
+pub puts_second : (o : OldRecords) (ks ls : List KnownRun) (mid new : List Needed) (f : JobFault) → PutEnds (numbered_in o) ls mid new (Err f) → KeepEnds o (ks ++ ls) (Err f)
+puts_second o ks ls mid new (fault.Refused r) h = h
+puts_second o ks ls mid new fault.Unwritable h = unfit_second o ks ls h
+puts_second o ks ls mid new fault.Memory h = tt
+
+pub no_history : (o : OldRecords) (ks : List KnownRun) (xs : List Needed) (f : JobFault) → AreKeptAs (numbered_in o) ks xs → NewEnds (numbered_in o) xs (Err f) → KeepEnds o ks (Err f)
+no_history o ks xs (fault.Refused r) are h = h
+no_history o ks xs fault.Unwritable are h = cannot_keep o ks xs are h
+no_history o ks xs fault.Memory are h = tt

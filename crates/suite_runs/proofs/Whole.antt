@@ -29,8 +29,8 @@ use Rattle.suite_runs.specs.declared.prepared.Prepared.{Prepared}
 use Rattle.suite_runs.specs.Ending.{IsSuiteOf, JobEnds, JobMeters, MayRunJob, allowed_in, suite_of}
 use Rattle.suite_runs.specs.Keeping.{FinishEnds}
 use Rattle.suite_runs.specs.Originals.{original_cost}
-use Rattle.suite_runs.specs.Preparing.{IsReadied, Prepares, RisesBy}
-use Rattle.suite_runs.proofs.CellsAsked.{IsSetupFor, cells_are}
+use Rattle.suite_runs.specs.Preparing.{IsReadied, IsSetupFor, Prepares, RisesBy}
+use Rattle.suite_runs.proofs.CellsAsked.{cells_are}
 use Rattle.suite_runs.proofs.Ended.{cells_meter, early_meter, end_meter, finished_ends, memory_ends, refused_ends, refused_meter}
 use Rattle.suite_runs.proofs.Suited.{answers, covering_is, failed_refuses, many_refuses, runs_alike, viable_is}
 
@@ -67,7 +67,7 @@ module _ (p : List Info) (j : SuiteJob) (old : OldRecords) where
 
   -- ---- where the cells are run
 
-  module _ (x : Prepared) (r : IsReadied p j old x) (c : JobSetup) (set : IsSetupFor j x c) (law : CellsAreOfSuite) where
+  module _ (x : Prepared) (r : IsReadied p j old x) (c : JobSetup) (set : IsSetupFor j.mutants.now j.tests.now j.limits j.all x c) (law : CellsAreOfSuite) where
     pub cells_cost : (before mid after : ℕ) → 0 < j.workers → mid ≡ before + original_cost p j (records_in old) → CostsAtMost j.workers (cell_runs p (job_in c)) mid after → JobMeters p j old before after (Err fault.Memory)
     cells_cost before mid after some start h files is =
         cells_meter j.all (job_runs (allowed_in j) (suite_of files p j) (records_in old)) (job_answer (allowed_in j) (suite_of files p j) (records_in old) j.all)

@@ -1,15 +1,19 @@
 -- What is prepared for the cells of a job (this project's own).
 use Rattle.std.specs.Prelude.{◌≡◌, ◌≤◌, ◌+◌, ◌⊎◌, ℕ, Bool, true, false, List, [], map, nat_lt, zip}
 use Rattle.std.specs.Prelude.{All, Result, Ok, Err}
+use Rattle.machine_rules.specs.declared.machine.Limits.{Limits}
 use Rattle.machine_rules.specs.Runs.{limit_of}
 use Rattle.class_link.specs.Info.{Info}
+use Rattle.class_table.specs.declared.scripted.Test.{Test}
 use Rattle.line_coverage.specs.Coverage.{Covered}
+use Rattle.mutator_ops.specs.declared.mutant.Mutant.{Mutant}
 use Rattle.mutant_runs.specs.Promises.{AreViable}
 use Rattle.mutant_runs.specs.Runs.{most_steps}
 use Rattle.suite_workers.specs.Old.{AreLookUps, history_in, history_of, old_of, records_in}
 use Rattle.suite_workers.specs.Said.{IsKnownIn, known_record}
 use Rattle.suite_workers.specs.declared.old_records.OldRecords.{OldRecords}
 use Rattle.suite_workers.specs.declared.said.KnownRun.{KnownRun}
+use Rattle.suite_workers.specs.declared.setup.JobSetup.{JobSetup}
 use Rattle.job_answers.specs.declared.refusal.JobRefusal.{JobRefusal}
 use Rattle.job_answers.specs.declared.refusal.JobRefusal.TheVariants.{TooManyCells}
 use Rattle.job_answers.specs.Answers.{JobAnswer, most_cells, unless_failed}
@@ -110,3 +114,16 @@ RisesBy cost before after (Ok x) = after ≡ before + cost
 RisesBy cost before after (Err (fault.Refused refusal)) = after ≡ before + cost
 RisesBy cost before after (Err fault.Unwritable) = ⊥
 RisesBy cost before after (Err fault.Memory) = (before ≤ after) × (after ≤ before + cost)
+
+-- What the workers share is of what is prepared.
+pub record IsSetupFor
+    (mutants : List Mutant) (tests : List Test) (limits : Limits) (all : Bool) (x : Prepared)
+    (c : JobSetup)
+    : Type 0 where
+  pub mutants_are : c.mutants.now ≡ mutants
+  pub covering : c.covering.now ≡ x.covering
+  pub tests_are : c.tests.now ≡ tests
+  pub bounds : c.bounds.now ≡ x.bounds
+  pub limits_are : c.limits ≡ limits
+  pub all_is : c.all ≡ all
+  pub look_ups : c.look_ups.now ≡ x.look_ups

@@ -65,11 +65,11 @@ fn history_of<'a>(
 }
 
 // The new records of what is known of the original runs, and behind it of the runs on mutants.
-fn records_of<'a>(
+fn records_of<'a, 'n>(
     alloc: Global,
     old: OldRecords<'a>,
-    originals: &[KnownRun],
-    others: &[KnownRun],
+    originals: &'n [KnownRun],
+    others: &'n [KnownRun],
 ) -> Result<NewHistory<'a>, JobFault>
     requires originals { All (IsKnownIn (history_in old)) originals.now }
     requires others { All (IsKnownIn (history_in old)) others.now }
@@ -83,11 +83,11 @@ fn records_of<'a>(
 }
 
 /// The answer of a job.
-pub fn finish<'a, 's>(
+pub fn finish<'a>(
     alloc: Global,
     old: OldRecords<'a>,
-    ready: &Prepared<'s>,
-    said: CellsSaid<'s>,
+    ready: &Prepared,
+    said: CellsSaid,
 ) -> Result<JobDone<'a>, JobFault>
     requires runs { All (IsKnownIn (history_in old)) ready.now.runs }
     requires records { All (IsKnownIn (history_in old)) said.records }

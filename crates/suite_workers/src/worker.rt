@@ -29,13 +29,13 @@ use worker_gate::Hands;
 /// mutant that they were asked of last stands edited, its tables, and the bytes of the class file
 /// that is edited. Contracts see the runs of their job.
 #[derive(Drop)]
-pub struct Worker<'a> {
+pub struct Worker<'a, 'r> {
     alloc: Global,
     stand: Stand,
-    setup: &'a JobSetup<'a>,
+    setup: &'a JobSetup<'a, 'r>,
 }
 
-impl<'a> Model for Worker<'a> {
+impl<'a, 'r> Model for Worker<'a, 'r> {
     ghost use Rattle.std.specs.Prelude.{List};
     ghost use Rattle.record_rules.specs.declared.record.RunRecord.{RunRecord as Record};
     ghost use Rattle.job_rules.specs.Tried.{Tried};
@@ -48,14 +48,14 @@ impl<'a> Model for Worker<'a> {
     ghost invariant = { IsWorker };
 }
 
-impl<'a> Worker<'a> {
+impl<'a, 'r> Worker<'a, 'r> {
     /// Hands for the cells of a job on a program. The program's classes are shared.
     #[tactic(auto, using(mutant_runs::proofs::ReadyLaws::not_lacking, mutant_runs::proofs::NamedLaws::named_of))]
     pub fn new(
         alloc: Global,
         program: &Program,
-        setup: &'a JobSetup<'a>,
-    ) -> Result<Worker<'a>, Memory>
+        setup: &'a JobSetup<'a, 'r>,
+    ) -> Result<Worker<'a, 'r>, Memory>
         requires { StartsFrom program.now setup.now }
         ensures { IfOk result (λ w. w ≡ cell_runs program.now (job_in setup.entry.now)) }
     {
@@ -90,13 +90,13 @@ fn is_detecting(outcome: &Outcome) -> bool
 }
 
 // The old record of a cell's run, if there is one.
-fn find_in<'a>(
+fn find_in<'a, 'r>(
     alloc: Global,
     stand: &mut Stand,
-    setup: &JobSetup<'a>,
+    setup: &JobSetup<'a, 'r>,
     mutant: u64,
     test: u64,
-) -> Result<Option<FoundRun<'a>>, Memory>
+) -> Result<Option<FoundRun<'r>>, Memory>
     requires work { CanWork setup.now stand.old }
     requires cell { IsCellOf (runs_for setup.now stand.old) mutant test }
     ensures base { base_of stand.new ≡ base_of stand.old }
@@ -148,10 +148,10 @@ fn run_in(
     }
 }
 
-impl<'a> Hands for Worker<'a> {
+impl<'a, 'r> Hands for Worker<'a, 'r> {
     type Made = RunRecord;
 
-    type Found = FoundRun<'a>;
+    type Found = FoundRun<'r>;
 
     type Record = RunRecord;
 
@@ -167,11 +167,11 @@ impl<'a> Hands for Worker<'a> {
         is_detecting(&made.outcome)
     }
 
-    fn found_detects(found: &FoundRun<'a>) -> bool {
+    fn found_detects(found: &FoundRun<'r>) -> bool {
         found.detects()
     }
 
-    fn find(&mut self, mutant: u64, test: u64) -> Result<Option<FoundRun<'a>>, Memory> {
+    fn find(&mut self, mutant: u64, test: u64) -> Result<Option<FoundRun<'r>>, Memory> {
         find_in(self.alloc, &mut self.stand, self.setup, mutant, test)
     }
 
