@@ -8,27 +8,38 @@ use std::alloc::Global;
 use std::collections::BTreeMap;
 
 /// The number of each of some slices. A question costs the logarithm of how many there are times
-/// the length of the slice that is asked about, whatever the others are.
+/// the length of the slice that is asked about, whatever the others are. The slices' bytes are kept
+/// as keys of their own, so that what has these numbers may be lent for less than the slices are.
 #[derive(Drop)]
-pub struct Numbers<'a> {
-    numbers: BTreeMap<&'a [u8], u32>,
+pub struct Numbers {
+    numbers: BTreeMap<Vec<u8>, u32>,
 }
 
-impl<'a> Numbers<'a> {
+// The bytes of a slice, as a key of their own.
+fn key_of(alloc: Global, slice: &[u8]) -> Result<Vec<u8>, Memory>
+    ensures { IfOk result (λ key. key.items ≡ slice.now) }
+{
+    let mut key = Vec::new(alloc);
+    key.extend_from_slice(slice)?;
+    Ok(key)
+}
+
+impl Numbers {
     // One slice more, whose number is kept if it has none yet.
     #[tactic(auto, using(crate::proofs::Noting::noted_again))]
-    fn note(&mut self, slice: &'a [u8], number: u32) -> Result<(), Memory>
+    fn note(&mut self, alloc: Global, slice: &[u8], number: u32) -> Result<(), Memory>
         ensures { OnOk result (NotesNumber slice.now number self.old self.new) }
     {
         if self.numbers.contains_key(slice) {
             return Ok(());
         }
-        self.numbers.insert(slice, number)?;
+        let key = key_of(alloc, slice)?;
+        self.numbers.insert(key, number)?;
         Ok(())
     }
 
     /// How many slices stand before each.
-    pub fn of(alloc: Global, slices: &[&'a [u8]]) -> Result<Numbers<'a>, Memory>
+    pub fn of(alloc: Global, slices: &[&[u8]]) -> Result<Numbers, Memory>
         requires { length slices.now < 2 ^ 32 }
         ensures { IfOk result (AreNumbersOf (map (λ s. s.now) slices.now)) }
     {
@@ -37,7 +48,7 @@ impl<'a> Numbers<'a> {
         };
         let mut before = 0;
         for slice in slices {
-            numbers.note(slice, before)?;
+            numbers.note(alloc, slice, before)?;
             before += 1;
         }
         Ok(numbers)
