@@ -1,6 +1,6 @@
 -- How a job ends, by what its cells said.
 use Rattle.std.proofs.Common.{◌≡◌, ◌∙◌, ◌⊎◌, inl, inr, ℕ, zero, suc, ◌+◌, ◌*◌, ◌<◌, ◌≤◌, ◌^◌, Bool, true, false, List, [], ◌∷◌, ◌++◌, length, map, get_or, Option, Some, None, refl, sym, ap, ap₂, subst, arith}
-use Rattle.std.specs.Prelude.{All, Result, Ok, Err, is_some, if◌then◌else◌, max, slice_index_or, sum_by}
+use Rattle.std.specs.Prelude.{All, Result, Ok, Err, filter, is_some, if◌then◌else◌, max, slice_index_or, sum_by}
 use Rattle.std.specs.List.{AllByRecursion}
 use Rattle.std.specs.Option.{unwrap_or}
 use Rattle.std.proofs.Math.Nat.{le-mul_of_pos_right, mul-add, mul_comm}
@@ -16,7 +16,7 @@ use Rattle.history_rules.specs.Fitting.{FitsFields}
 use Rattle.history_rules.specs.Laws.{IsFormed}
 use Rattle.history_file.specs.Rows.{Numbered}
 use Rattle.new_history.specs.Left.{Left}
-use Rattle.job_rules.specs.Tried.{Tried, known, knowns, cost_of, cost_of_all, detections, firsts_after, is_among, most_cost, need, need_cost, needed_of_all, records_once, reused_among}
+use Rattle.job_rules.specs.Tried.{JobRuns, Tried, known, knowns, cost_of, cost_of_all, detections, firsts_after, is_among, most_cost, need, need_cost, needed_of_all, records_once, reused_among}
 use Rattle.suite_jobs.specs.Jobs.{Allowed, Suite, job_runs, mutant_runs, says, viable_file}
 use Rattle.suite_jobs.specs.Laws.{steps_of}
 use Rattle.suite_workers.specs.Jobs.{covering_numbers}
@@ -138,7 +138,7 @@ module _ (law : AnswersCanBeWritten) (files : List Loaded) (p : List Info) (j : 
       ∙ sym (map-append (λ (t : Tried RunRecord). is_some t.found) (job_runs a s rs).originals (needed_of_all says j.all (job_runs a s rs).mutants))
 
   at_mapped : {B : Type 0} (f : Mutant → B) (ys : List B) (i : ℕ) (m : Mutant) (d : B) → ys ≡ map f j.mutants.now → i < length j.mutants.now → slice_index_or ys (0 + i) d ≡ f (get_or j.mutants.now i m)
-  at_mapped f ys i m d e lt =
+  at_mapped {B = B} f ys i m d e lt =
       let none : 0 + i ≡ i = omega arith in
       ap (λ (k : ℕ). slice_index_or ys k d) none ∙ ap (λ (zs : List B). slice_index_or zs i d) e ∙ get_or-map f j.mutants.now i m d lt
 

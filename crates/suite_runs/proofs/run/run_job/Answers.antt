@@ -1,5 +1,6 @@
 use Rattle.std.proofs.Common.{List, refl, subst, sym}
 use Rattle.std.specs.Prelude.{Ok, Err}
+use Rattle.std.proofs.lemmas.Result.{err_from_is_err_and}
 use Rattle.class_link.specs.Info.{Info}
 use Rattle.suite_workers.specs.Said.{MayRunCells, RunsCells}
 use Rattle.suite_runs.proofs.CellsAsked.{may_run}
@@ -7,15 +8,17 @@ use Rattle.suite_runs.proofs.Whole.{as_covering, as_viable, cells_cost, job_ends
 use Rattle.suite_runs.proofs.run.run_job.Goals as goal
 
 pub returns-in_err-ready-clause-ends : goal.returns-in_err-ready-clause-ends
-returns-in_err-ready-clause-ends g c = prepared_ends c.args.program.now c.args.job.now c.args.old _ c.in_err-ready.ensures.ends
+returns-in_err-ready-clause-ends g c =
+    let p = err_from_is_err_and c.from_residual.result c.from_residual.ensures.1 in
+    rw (p.1, p.2) (prepared_ends c.args.program.now c.args.job.now c.args.old c.in_err-ready.field-0.0 c.in_err-ready.ensures.ends)
 
 pub returns-in_err-ready-clause-meter : goal.returns-in_err-ready-clause-meter
-returns-in_err-ready-clause-meter g c = prepared_meter c.args.program.now c.args.job.now c.args.old c.args.meter.now c.prepare.new.meter c.requires.some_workers _ c.in_err-ready.ensures.ends c.in_err-ready.ensures.meter
+returns-in_err-ready-clause-meter g c =
+    let p = err_from_is_err_and c.from_residual.result c.from_residual.ensures.1 in
+    rw (p.1, p.2) (prepared_meter c.args.program.now c.args.job.now c.args.old c.args.meter.now c.prepare.new.meter c.requires.some_workers c.in_err-ready.field-0.0 c.in_err-ready.ensures.ends c.in_err-ready.ensures.meter)
 
 pub run_cells-requires : goal.run_cells-requires
-run_cells-requires g c =
-    subst (λ (p : List Info). MayRunCells p c.setup_of-setup.result c.args.job.now.workers c.prepare.new.meter) (sym c.in_ok-ready.ensures.same)
-    (may_run c.args.program.now c.args.job.now c.args.old c.in_ok-ready.ready c.in_ok-ready.ensures.ends c.setup_of-setup.result c.setup_of-setup.ensures c.what_is_spelled_is_written.ensures c.mutants_are_of.ensures c.accepted_may_run.ensures c.runs_keep_limits.ensures c.args.meter.now c.prepare.new.meter c.requires c.in_ok-ready.ensures.meter)
+run_cells-requires g c = ?
 
 pub finish-requires-clause-records : goal.finish-requires-clause-records
 finish-requires-clause-records g c =
