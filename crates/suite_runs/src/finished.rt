@@ -24,7 +24,8 @@ fn put_needed<'n>(runs: &'n [KnownRun], all: &mut Vec<Needed<'n>>) -> Result<(),
     ensures { (h : Numbered) → All (IsOf h) runs.entry.now →
         PutEnds h runs.entry.now all.old.items all.new.items result }
 {
-    if push_needed(runs, all)? {
+    let fit = push_needed(runs, all)?;
+    if fit {
         Ok(())
     } else {
         Err(JobFault::Unwritable)
