@@ -14,6 +14,6 @@ returns-in_ok-classes-in-Some c = λ p named.
     let n = c.args.named.now in
     if_ok c.lines_at.result
     (λ lines is.
-    found_are p c.args.found.now c.in-Some.row.now n c.in_ok-classes.classes.items lines.items named c.in-Some.ensures
-    (c.in_ok-classes.ensures ∙ ap (λ (es : List Entry). map (λ e. class_at n.classes.items n.nameless e.name) es) c.as_slice.ensures)
-    (is ∙ ap₂ (λ (cs : List (Option ClassId)) (xs : List (ℕ × ℕ)). lines_at cs n.nameless xs) c.as_slice-2.ensures.value c.as_slice-3.ensures)) c.lines_at.ensures
+    found_are p c.args.found.now c.in-Some.row.now n c.in_ok-classes-in-Some.classes.items lines.items named c.in-Some.ensures
+    (c.in_ok-classes-in-Some.ensures ∙ ap (λ (es : List Entry). map (λ e. class_at n.classes.items n.nameless e.name) es) c.as_slice.ensures)
+    (is ∙ ap₂ (λ (cs : List (Option ClassId)) (xs : List (ℕ × ℕ)). lines_at cs n.nameless xs) c.as_slice-in-Some.ensures.value c.as_slice-in-Some-2.ensures)) c.lines_at.ensures

@@ -13,7 +13,7 @@ returns-in-None c = λ h all.
 pub loop-run-preserved : goal.loop-run-preserved
 loop-run-preserved c = λ h all.
     adds_more h c.args.runs.now c.loop-run.run-index c.run-item.result c.in-Some.needed c.args.all.now.items c.loop-run.all.items c.push.new.self.items c.loop-run-test.true c.run-item.is (c.loop-run.invariant h all)
-    (c.in-Some.ensures h (subst (IsOf h) (sym c.run-item.is) (all c.loop-run.run-index c.run-item.result c.loop-run-test.true))) c.in_ok-push.ensures.items
+    (c.in-Some.ensures h (subst (IsOf h) (sym c.run-item.is) (all c.loop-run.run-index c.run-item.result c.loop-run-test.true))) c.in_ok-push-in-Some.ensures.items
 
 pub returns : goal.returns
 returns c = λ h all.
