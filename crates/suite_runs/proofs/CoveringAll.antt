@@ -2,7 +2,7 @@
 use Rattle.std.proofs.Common.{◌≡◌, ◌∙◌, ℕ, zero, suc, ◌+◌, ◌<◌, Bool, List, [], ◌∷◌, ◌++◌, length, map, take, get_or, zip, refl, sym, ap, ap₂, arith}
 use Rattle.std.specs.Prelude.{sum_by}
 use Rattle.std.specs.Io.Iter.{u64_saturate}
-use Rattle.std.proofs.lemmas.List.{map-append}
+use Rattle.std.proofs.lemmas.List.{get_or_default, map-append}
 use Rattle.std.proofs.lemmas.List.Sums.{sum_by-append, sum_by-cons}
 use Rattle.class_link.specs.Info.{Info}
 use Rattle.line_coverage.specs.Coverage.{Covered}
@@ -34,3 +34,14 @@ module _ (p : List Info) (cover : Covered) where
       ap (sum_by own) (zip_more ms bs i m b long lt is by) ∙ sum_by-append own (zip (take i ms) (take i bs)) ((m, b) ∷ []) in
       let one = sum_by-cons own (m, b) [] in
       omega (arith, before, now, more, one)
+
+  pub count_next : (ms : List Mutant) (bs : List Bool) (i : ℕ) (m : Mutant) (d : Bool) (n k new : ℕ) → length bs ≡ length ms → i < length ms → m ≡ get_or ms i m → n ≡ u64_saturate (count_all p cover (zip (take i ms) (take i bs))) → k ≡ u64_saturate (length (numbers_of p cover (m, get_or bs i d))) → new ≡ u64_saturate (n + k)
+      → new ≡ u64_saturate (count_all p cover (zip (take (i + 1) ms) (take (i + 1) bs)))
+  count_next ms bs i m d n k new long lt is before now sum =
+      sum ∙ count_more ms bs i m (get_or bs i d) n k long lt is (get_or_default bs i d (get_or bs i d) (omega (arith, lt, long))) before now
+
+  pub covering_next : (ms : List Mutant) (bs : List Bool) (i : ℕ) (m : Mutant) (d : Bool) (all new : List (List ℕ)) (ks : List ℕ) → length bs ≡ length ms → i < length ms → m ≡ get_or ms i m → all ≡ map (numbers_of p cover) (zip (take i ms) (take i bs)) → ks ≡ numbers_of p cover (m, get_or bs i d) → new ≡ all ++ ks ∷ []
+      → new ≡ map (numbers_of p cover) (zip (take (i + 1) ms) (take (i + 1) bs))
+  covering_next ms bs i m d all new ks long lt is before now push =
+      push ∙ ap₂ (λ (xs : List (List ℕ)) (x : List ℕ). xs ++ x ∷ []) before now
+      ∙ sym (covering_more ms bs i m (get_or bs i d) long lt is (get_or_default bs i d (get_or bs i d) (omega (arith, lt, long))))

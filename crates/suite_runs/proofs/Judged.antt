@@ -15,7 +15,9 @@ verdict_made (n ∷ ns) [] true f g = refl
 verdict_made (n ∷ ns) (d ∷ ds) true f g = refl
 
 pub verdicts_push : (viable : List Bool) (covering : List (List ℕ)) (k : ℕ) (done : List (List (ℕ × State))) (one : List (ℕ × State)) → verdicts_from viable covering k (done ++ one ∷ []) ≡ verdicts_from viable covering k done ++ verdict_at (slice_index_or viable (k + length done) false) (slice_index_or covering (k + length done) []) one ∷ []
-verdicts_push viable covering k [] one = refl
+verdicts_push viable covering k [] one =
+    let none : k ≡ k + 0 = omega arith in
+    ap (λ (j : ℕ). verdict_at (slice_index_or viable j false) (slice_index_or covering j []) one ∷ []) none
 verdicts_push viable covering k (x ∷ done) one =
     let next : suc k + length done ≡ k + suc (length done) = omega arith in
     ap (λ (vs : List Verdict). verdict_at (slice_index_or viable k false) (slice_index_or covering k []) x ∷ vs)

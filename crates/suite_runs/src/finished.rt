@@ -1,6 +1,6 @@
 //! What a job makes of what its cells said.
 
-ghost use Rattle.std.specs.Prelude.{◌≡◌, ◌++◌, All, length};
+ghost use Rattle.std.specs.Prelude.{◌≡◌, ◌++◌, [], All, IfOk, length};
 ghost use Rattle.history_file.specs.Rows.{Numbered};
 ghost use Rattle.new_history.specs.Needed.{IsNeeded};
 ghost use Rattle.suite_workers.specs.Old.{history_in};
@@ -13,6 +13,7 @@ use crate::job::JobDone;
 use crate::prepared::Prepared;
 use crate::records::push_needed;
 use crate::verdicts::verdicts_of;
+use class_model::Memory;
 use history_file::History;
 use new_history::{Needed, NewFault, NewHistory};
 use std::alloc::Global;
@@ -24,7 +25,8 @@ fn put_needed<'n>(runs: &'n [KnownRun], all: &mut Vec<Needed<'n>>) -> Result<(),
     ensures { (h : Numbered) → All (IsOf h) runs.entry.now →
         PutEnds h runs.entry.now all.old.items all.new.items result }
 {
-    if push_needed(runs, all)? {
+    let fit = push_needed(runs, all)?;
+    if fit {
         Ok(())
     } else {
         Err(JobFault::Unwritable)
@@ -64,6 +66,14 @@ fn history_of<'a>(
     }
 }
 
+// Room for so many.
+fn no_needed<'n>(alloc: Global, count: usize) -> Result<Vec<Needed<'n>>, Memory>
+    ensures { IfOk result (λ none. none.items ≡ []) }
+{
+    let none = Vec::with_capacity(alloc, count)?;
+    Ok(none)
+}
+
 // The new records of what is known of the original runs, and behind it of the runs on mutants.
 fn records_of<'a, 'n>(
     alloc: Global,
@@ -75,7 +85,7 @@ fn records_of<'a, 'n>(
     requires others { All (IsKnownIn (history_in old)) others.now }
     ensures { KeepEnds old.entry (originals.entry.now ++ others.entry.now) result }
 {
-    let mut needed = Vec::with_capacity(alloc, originals.len())?;
+    let mut needed = no_needed(alloc, originals.len())?;
     put_needed(originals, &mut needed)?;
     put_needed(others, &mut needed)?;
     let history = history_of(alloc, old, needed.as_slice())?;

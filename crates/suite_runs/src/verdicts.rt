@@ -1,6 +1,6 @@
 //! The verdicts on mutants, by the tests that cover them and those that detect them.
 
-ghost use Rattle.std.specs.Prelude.{◌≡◌, ◌≤◌, length, map, IfOk};
+ghost use Rattle.std.specs.Prelude.{◌≡◌, ◌<◌, ◌≤◌, [], false, length, map, slice_index_or, IfOk};
 ghost use Rattle.job_answers.specs.Answers.{verdict_with};
 ghost use Rattle.suite_runs.specs.Judging.{state_by, verdict_at, verdicts_from};
 
@@ -69,6 +69,23 @@ fn verdict_at(
     Ok(verdict)
 }
 
+// The verdict on the mutant of this number.
+fn verdict_of(
+    alloc: Global,
+    viable: &[bool],
+    covering: &[Seq<u32>],
+    at: usize,
+    found: Seq<(u32, State)>,
+) -> Result<Verdict, Memory>
+    requires viable { at < length viable.now }
+    requires covering { at < length covering.now }
+    ensures { IfOk result (λ v. v ≡ verdict_at (slice_index_or viable.now at false)
+        (slice_index_or covering.now at []) found) }
+{
+    let verdict = verdict_at(alloc, viable[at], &covering[at], found)?;
+    Ok(verdict)
+}
+
 /// The verdict on each mutant, of which it is told whether it is viable, and which tests cover it.
 pub fn verdicts_of(
     alloc: Global,
@@ -83,7 +100,7 @@ pub fn verdicts_of(
     let mut verdicts = Seq::with_capacity(alloc, viable.len())?;
     let mut at = 0;
     for one in found.into_vec() {
-        let verdict = verdict_at(alloc, viable[at], &covering[at], one)?;
+        let verdict = verdict_of(alloc, viable, covering, at, one)?;
         verdicts.push(verdict)?;
         at += 1;
     }

@@ -12,5 +12,5 @@ returns-in-None c =
 
 pub returns-in-Of : goal.returns-in-Of
 returns-in-Of c =
-    subst (λ (o : OldRecords). NewEnds (numbered_in o) c.args.needed.now c.new_of.result) (sym c.in-Of.is)
-    (subst (λ (h : Numbered). NewEnds h c.args.needed.now c.new_of.result) c.history.ensures c.new_of.ensures)
+    subst (λ (o : OldRecords). NewEnds (numbered_in o) c.args.needed.now c.new_of-in-Of.result) (sym c.in-Of.is)
+    (subst (λ (h : Numbered). NewEnds h c.args.needed.now c.new_of-in-Of.result) c.history.ensures c.new_of-in-Of.ensures)

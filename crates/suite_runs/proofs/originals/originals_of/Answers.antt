@@ -1,4 +1,4 @@
-use Rattle.std.proofs.Common.{arith, subst, sym}
+use Rattle.std.proofs.Common.{◌≡◌, ◌++◌, ◌∷◌, [], arith, subst, sym}
 use Rattle.std.specs.Prelude.{All}
 use Rattle.std.proofs.lemmas.List.Elements.{All-push}
 use Rattle.suite_workers.specs.Old.{history_of, old_of}
@@ -21,9 +21,13 @@ returns-in_err-push-clause-memory c =
     cost_within c.args.program.now c.args.job.now (old_of c.args.look_ups.now) c.loop-number.number c.loop-number.part c.original.new.part c.loop-number-test.true c.loop-number.invariant.steps c.original.ensures.memory
 
 pub loop-number-preserved : goal.loop-number-preserved
-loop-number-preserved c = record {
-  known = next_known c.args.program.now c.args.job.now (old_of c.args.look_ups.now) c.loop-number.number c.loop-number.runs c.push.new.self c.in_ok-run.run c.loop-number.invariant.known c.in_ok-run.ensures.known c.in_ok-push.ensures;
-  histories = subst (All (IsKnownIn (history_of c.args.look_ups.now))) (sym c.in_ok-push.ensures) (All-push (IsKnownIn (history_of c.args.look_ups.now)) c.loop-number.runs c.in_ok-run.run c.loop-number.invariant.histories c.in_ok-run.ensures.history);
-  steps = cost_more c.args.program.now c.args.job.now (old_of c.args.look_ups.now) c.loop-number.number c.loop-number.part c.original.new.part c.loop-number.invariant.steps c.in_ok-run.ensures.steps;
-  tables = c.original.ensures.tables;
-}
+loop-number-preserved c =
+    let l = c.args.look_ups.now in
+    let run = c.in_ok-run.run' in
+    let push : c.push.new.self ≡ c.loop-number.runs ++ run ∷ [] = c.in_ok-push.ensures.ok in
+    record {
+      known = next_known c.args.program.now c.args.job.now (old_of l) c.loop-number.number c.loop-number.runs c.push.new.self run c.loop-number.invariant.known c.in_ok-run.ensures.known push;
+      histories = subst (All (IsKnownIn (history_of l))) (sym push) (All-push (IsKnownIn (history_of l)) c.loop-number.runs run c.loop-number.invariant.histories c.in_ok-run.ensures.history);
+      steps = cost_more c.args.program.now c.args.job.now (old_of l) c.loop-number.number c.loop-number.part c.original.new.part c.loop-number.invariant.steps c.in_ok-run.ensures.steps;
+      tables = c.original.ensures.tables;
+    }
