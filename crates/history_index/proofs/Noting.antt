@@ -3,12 +3,10 @@ use Rattle.std.proofs.Common.{◌≡◌, ◌∙◌, ℕ, ◌+◌, ◌<◌, Bor, 
 use Rattle.std.specs.Prelude.{is_some, if◌then◌else◌}
 use Rattle.std.specs.Option.{option_or}
 use Rattle.std.specs.BTreeMap as tree
-use Rattle.std.specs.Cmp.{eq_by_cmp_equiv}
-use Rattle.std.specs.Cmp.Lexicographic.{slice_cmp, nat_list_cmp_total, nat_list_eq_equiv}
-use Rattle.std.specs.Map.{AreApart, IsKeyTest, KeepsOthers, lookup}
-use Rattle.std.specs.Ordering.{is_eq, nat_cmp}
+use Rattle.std.specs.Cmp.Lexicographic.{slice_cmp}
+use Rattle.std.specs.Ordering.{nat_cmp}
 use Rattle.std.proofs.lemmas.List.{length-map, length-take-le, map-append, take_more}
-use Rattle.std.proofs.lemmas.Map.Text.{is_eq-slice_cmp}
+use Rattle.std.proofs.lemmas.Map.Text.{btree_map_updates_str}
 use Rattle.program_rules.specs.Names.{same}
 use Rattle.history_rules.proofs.Pools.{bytes_are}
 use Rattle.history_index.specs.declared.numbers.Numbers.{Numbers}
@@ -22,24 +20,10 @@ or_none (Some x) = refl
 -- what a slice sets
 abbrev pub Sets : Numbers → Numbers → List ℕ → ℕ → Type 0
 Sets old new bytes number =
-    tree.UpdatesBy (λ x y. slice_cmp nat_cmp x.items y.items) (λ k. slice_cmp nat_cmp bytes k.items) old.numbers new.numbers (Some number)
-
--- other bytes are at other keys
-apart : (bytes q key : List ℕ) → same bytes q ≡ false → is_eq (slice_cmp nat_cmp bytes key) ≡ true → is_eq (slice_cmp nat_cmp q key) ≡ false
-apart bytes q key differ at =
-    let here : same bytes key ≡ true = sym (is_eq-slice_cmp bytes key) ∙ at in
-    is_eq-slice_cmp q key ∙ nat_list_eq_equiv.symm q key ∙ sym (nat_list_eq_equiv.congr bytes key q here) ∙ differ
-
-others : {K X : Type 0} (eq : K → K → Bool) (test other : K → Bool) (old new : List (K × X)) → KeepsOthers eq test old new → IsKeyTest eq other → AreApart test other → lookup other new ≡ lookup other old
-unfolding KeepsOthers
-others eq test other old new keeps is away = keeps other is away
+    tree.UpdatesBy (λ x y. slice_cmp nat_cmp x.now y.now) (λ k. slice_cmp nat_cmp bytes k.now) old.numbers new.numbers (Some number)
 
 set_is : (old new : Numbers) (bytes : List ℕ) (number : ℕ) → Sets old new bytes number → (q : List ℕ) → number_at new q ≡ (if same bytes q then Some number else number_at old q)
-set_is old new bytes number sets q = by (same bytes q) refl
-  where
-    by : (b : Bool) → b ≡ same bytes q → number_at new q ≡ (if b then Some number else number_at old q)
-    by true e = subst (λ z. number_at new z ≡ Some number) (bytes_are bytes q (sym e)) sets.1
-    by false e = others _ _ _ _ _ sets.3 (λ x y. (eq_by_cmp_equiv nat_list_cmp_total).congr q x.items y.items) (λ k. apart bytes q k.items (sym e))
+set_is old new bytes number sets q = btree_map_updates_str bytes old.numbers new.numbers (Some number) sets q
 
 kept_or : (o p : Option ℕ) → is_some o ≡ true → o ≡ option_or o p
 kept_or (Some x) p h = refl

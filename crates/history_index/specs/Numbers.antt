@@ -23,7 +23,7 @@ number_in slices bytes = position_from (λ s. same s bytes) 0 slices
 
 -- The number that is kept of some bytes.
 abbrev pub number_at : Numbers → List ℕ → Option ℕ
-number_at n q = tree.get_by (λ k. slice_cmp nat_cmp q k.items) n.numbers
+number_at n q = tree.get_by (λ k. slice_cmp nat_cmp q k.now) n.numbers
 
 -- Each of these is found by its number, and nothing else is found.
 abbrev pub AreNumbersOf : List (List ℕ) → Numbers → Type 0

@@ -19,8 +19,8 @@ use std::marker::Model;
 #[derive(Drop)]
 pub struct HistoryIndex<'a> {
     history: History<'a>,
-    names: Numbers,
-    classes: Numbers,
+    names: Numbers<'a>,
+    classes: Numbers<'a>,
     tests: Pairs,
 }
 

@@ -8,38 +8,27 @@ use std::alloc::Global;
 use std::collections::BTreeMap;
 
 /// The number of each of some slices. A question costs the logarithm of how many there are times
-/// the length of the slice that is asked about, whatever the others are. The slices' bytes are kept
-/// as keys of their own, so that what has these numbers may be lent for less than the slices are.
+/// the length of the slice that is asked about, whatever the others are.
 #[derive(Drop)]
-pub struct Numbers {
-    numbers: BTreeMap<Vec<u8>, u32>,
+pub struct Numbers<'a> {
+    numbers: BTreeMap<&'a [u8], u32>,
 }
 
-// The bytes of a slice, as a key of their own.
-fn key_of(alloc: Global, slice: &[u8]) -> Result<Vec<u8>, Memory>
-    ensures { IfOk result (λ key. key.items ≡ slice.now) }
-{
-    let mut key = Vec::new(alloc);
-    key.extend_from_slice(slice)?;
-    Ok(key)
-}
-
-impl Numbers {
+impl<'a> Numbers<'a> {
     // One slice more, whose number is kept if it has none yet.
     #[tactic(auto, using(crate::proofs::Noting::noted_again))]
-    fn note(&mut self, alloc: Global, slice: &[u8], number: u32) -> Result<(), Memory>
+    fn note(&mut self, slice: &'a [u8], number: u32) -> Result<(), Memory>
         ensures { OnOk result (NotesNumber slice.now number self.old self.new) }
     {
         if self.numbers.contains_key(slice) {
             return Ok(());
         }
-        let key = key_of(alloc, slice)?;
-        self.numbers.insert(key, number)?;
+        self.numbers.insert(slice, number)?;
         Ok(())
     }
 
     /// How many slices stand before each.
-    pub fn of(alloc: Global, slices: &[&[u8]]) -> Result<Numbers, Memory>
+    pub fn of(alloc: Global, slices: &[&'a [u8]]) -> Result<Numbers<'a>, Memory>
         requires { length slices.now < 2 ^ 32 }
         ensures { IfOk result (AreNumbersOf (map (λ s. s.now) slices.now)) }
     {
@@ -48,7 +37,7 @@ impl Numbers {
         };
         let mut before = 0;
         for slice in slices {
-            numbers.note(alloc, slice, before)?;
+            numbers.note(slice, before)?;
             before += 1;
         }
         Ok(numbers)
