@@ -17,12 +17,10 @@ returns-in_err-ready-clause-meter g c =
     let p = err_from_is_err_and c.from_residual.result c.from_residual.ensures.1 in
     rw (p.1, p.2) (prepared_meter c.args.program.now c.args.job.now c.args.old c.args.meter.now c.prepare.new.meter c.requires.some_workers c.in_err-ready.field-0.0 c.in_err-ready.ensures.ends c.in_err-ready.ensures.meter)
 
-pub run_cells-requires : goal.run_cells-requires
-run_cells-requires g c =
-    let may =
+pub run_cells-requires-after_bounds : goal.run_cells-requires-after_bounds
+run_cells-requires-after_bounds g c κs within =
     subst (λ (p : List Info). MayRunCells p c.setup_of-setup.result c.args.job.now.workers c.prepare.new.meter) (sym c.in_ok-ready.ensures.same)
-    (may_run c.args.program.now c.args.job.now c.args.old c.in_ok-ready.ready c.in_ok-ready.ensures.ends c.setup_of-setup.result c.setup_of-setup.ensures c.what_is_spelled_is_written.ensures c.mutants_are_of.ensures c.accepted_may_run.ensures c.runs_keep_limits.ensures c.args.meter.now c.prepare.new.meter c.requires c.in_ok-ready.ensures.meter) in
-    (c.type_bounds.sync-W.shared, (c.type_bounds.sync-R.shared, (c.type_bounds.sync-G.shared, may)))
+    (may_run c.args.program.now c.args.job.now c.args.old c.in_ok-ready.ready c.in_ok-ready.ensures.ends c.setup_of-setup.result c.setup_of-setup.ensures c.what_is_spelled_is_written.ensures c.mutants_are_of.ensures c.accepted_may_run.ensures c.runs_keep_limits.ensures c.args.meter.now c.prepare.new.meter c.requires c.in_ok-ready.ensures.meter)
 
 pub returns-in_err-said-clause-ends : goal.returns-in_err-said-clause-ends
 returns-in_err-said-clause-ends g c =
