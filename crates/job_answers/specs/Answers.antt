@@ -14,7 +14,8 @@ use Rattle.record_rules.specs.declared.record.RunRecord.{RunRecord}
 use Rattle.record_rules.specs.Histories.{same_record}
 use Rattle.job_rules.specs.Tried.{Tried, JobRuns, known, detections, need, cost_of, least_cost}
 use Rattle.job_rules.specs.Tried.{most_cost, records_once, reused_among}
-use Rattle.suite_jobs.specs.Jobs.{Allowed, Suite, says, first_of, viable_file, mutant_runs, job_runs}
+use Rattle.suite_jobs.specs.Jobs.{Allowed, Suite, says, first_of, viable_file, mutant_runs}
+use Rattle.suite_jobs.specs.Jobs.{job_runs}
 use Rattle.suite_jobs.specs.Laws.{steps_of}
 use Rattle.job_answers.specs.declared.refusal.FailedTest.{FailedTest}
 use Rattle.job_answers.specs.declared.refusal.JobRefusal.{JobRefusal}
@@ -22,8 +23,8 @@ use Rattle.job_answers.specs.declared.refusal.JobRefusal.TheVariants.{NotGreen, 
 
 -- ---- verdicts
 
--- The verdict by the tests that cover a mutant and those that detect it, each with the state that it
--- gives: the first one's state, and all are its killers.
+-- The verdict by the tests that cover a mutant and those that detect it, each with the state that
+-- it gives: the first one's state, and all are its killers.
 abbrev pub verdict_with : List ℕ → List (ℕ × State) → Verdict
 verdict_with covering found =
     record (verdict_by covering (first_of found)) { killers = map (λ d. d.0) found }
@@ -58,7 +59,8 @@ abbrev pub most_cells : ℕ
 most_cells = 4194304
 
 -- The first refusal, if there is one; else this.
-abbrev pub unless_failed : {X : Type 0} → List FailedTest → Result X JobRefusal → Result X JobRefusal
+abbrev pub unless_failed :
+    {X : Type 0} → List FailedTest → Result X JobRefusal → Result X JobRefusal
 unless_failed [] next = next
 unless_failed (t ∷ ts) next = Err (NotGreen (t ∷ ts))
 
@@ -98,7 +100,8 @@ abbrev pub exactly : ℕ → JobCost
 exactly n = record { least = n; most = n }
 
 abbrev pub cost_by : {X : Type 0} → Bool → JobRuns RunRecord → Result X JobRefusal → JobCost
-cost_by all j (Ok x) = record { least = least_cost says steps_of all j; most = most_cost steps_of j }
+cost_by all j (Ok x) =
+    record { least = least_cost says steps_of all j; most = most_cost steps_of j }
 cost_by all j (Err refusal) = exactly (cost_of steps_of j.originals)
 
 abbrev pub job_cost : Allowed → Suite → List RunRecord → Bool → JobCost

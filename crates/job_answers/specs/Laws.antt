@@ -52,8 +52,8 @@ AnswersAreTrue =
     (a : Allowed) (s : Suite) (old : List RunRecord) (all : Bool) (x : JobAnswer) → IsAccepted s →
     AreTrue profile old → job_answer a s old all ≡ Ok x → AreTrue profile x.records
 
--- Where all tests pass and the answer isn't refused, it costs the steps of the runs that old records
--- lack: at least of those that are needed, at most of those of all tests that cover a mutant.
+-- Where all tests pass and the answer isn't refused, it costs the steps of the runs that old
+-- records lack: at least of those that are needed, at most of those of all tests that cover a mutant.
 pub record CostsAsAsked (a : Allowed) (s : Suite) (old : List RunRecord) (x : JobAnswer) : Type 0
   where
     pub least : (job_cost a s old false).least ≡ NeedCost old (asked_job a s)

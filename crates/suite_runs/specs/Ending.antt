@@ -1,6 +1,6 @@
 -- How a job may end, and what the meter tells then (this project's own).
-use Rattle.std.specs.Prelude.{◌≡◌, ◌<◌, ◌≤◌, ◌+◌, ◌*◌, ◌^◌, ◌⊎◌, ℕ, Bool, List, [], length, max, sum_by}
-use Rattle.std.specs.Prelude.{All, Contains, is_some, if◌then◌else◌, Result, Ok, Err}
+use Rattle.std.specs.Prelude.{◌≡◌, ◌<◌, ◌≤◌, ◌+◌, ◌*◌, ◌^◌, ◌⊎◌, ℕ, Bool, List, [], length, max}
+use Rattle.std.specs.Prelude.{sum_by, All, Contains, is_some, if◌then◌else◌, Result, Ok, Err}
 use Rattle.class_link.specs.declared.loaded.Loaded.{Loaded}
 use Rattle.class_link.specs.Info.{Info}
 use Rattle.mutant_runs.specs.Ready.{IsReady}
@@ -74,8 +74,8 @@ pub record HasUnfit (rs : List RunRecord) : Type 0 where
 abbrev pub names_added : Tried RunRecord → ℕ
 names_added t = if is_some t.found then 0 else length t.made.consulted + 3
 
--- So many names or classes may come together, or so many records, that numbers of four bytes may not
--- suffice.
+-- So many names or classes may come together, or so many records, that numbers of four bytes may
+-- not suffice.
 abbrev pub AreTooMany : Numbered → List (Tried RunRecord) → Type 0
 AreTooMany h ts =
     2 ^ 32 ≤ max (length ts) (max (length h.texts) (length h.classes) + sum_by names_added ts)

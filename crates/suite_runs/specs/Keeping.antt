@@ -1,6 +1,6 @@
 -- What is known of runs, as new records take it (this project's own).
-use Rattle.std.specs.Prelude.{◌≡◌, ◌<◌, ◌≤◌, ◌+◌, ◌++◌, ◌^◌, ◌⊎◌, ℕ, Bool, true, false, List, length, map}
-use Rattle.std.specs.Prelude.{max, sum_by, All, if◌then◌else◌, Result, Ok, Err}
+use Rattle.std.specs.Prelude.{◌≡◌, ◌<◌, ◌≤◌, ◌+◌, ◌++◌, ◌^◌, ◌⊎◌, ℕ, Bool, true, false, List, map}
+use Rattle.std.specs.Prelude.{length, max, sum_by, All, if◌then◌else◌, Result, Ok, Err}
 use Rattle.class_model.specs.declared.memory.Memory.{Memory}
 use Rattle.record_rules.specs.Histories.{Kept}
 use Rattle.record_rules.specs.declared.record.RunRecord.{RunRecord}
@@ -78,8 +78,8 @@ abbrev pub KeepTooMany : Numbered → List Kept → Type 0
 KeepTooMany h ks =
     2 ^ 32 ≤ max (length ks) (max (length h.texts) (length h.classes) + sum_by names_kept ks)
 
--- These are the new records of what is known of runs, all of which fits the fields of a history where
--- the old records have the form of one.
+-- These are the new records of what is known of runs, all of which fits the fields of a history
+-- where the old records have the form of one.
 pub record AreKept (old : OldRecords) (ks : List KnownRun) (new : Left) : Type 0 where
   pub records : IsNewOf (map kept_as ks) new
   pub fit : All IsFormed (records_in old) → All FitsFields (map known_record ks)

@@ -6,9 +6,9 @@ use machine_rules::Limits;
 use mutator_ops::{Mutant, Verdict};
 use new_history::NewHistory;
 
-/// The job of a suite whose program stands beside it: its tests and its mutants; what a run may take
-/// of the heap and in frames, and in steps on the program as it is; whether all detecting tests are
-/// asked for, or the first; and how many workers there are.
+/// The job of a suite whose program stands beside it: its tests and its mutants; what a run may
+/// take of the heap and in frames, and in steps on the program as it is; whether all detecting tests
+/// are asked for, or the first; and how many workers there are.
 #[derive(Clone, Copy)]
 pub struct SuiteJob<'a> {
     pub tests: &'a [Test],

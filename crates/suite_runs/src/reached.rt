@@ -2,12 +2,14 @@
 //! program. A name is looked up once for each history, and once for each made record that lists it;
 //! lines go by number.
 
-ghost use Rattle.std.specs.Prelude.{◌≡◌, ◌<◌, ◌++◌, ◌^◌, [], All, List, length, map, option_map, IfOk, OnOk};
+ghost use Rattle.std.specs.Prelude.{◌≡◌, ◌<◌, ◌++◌, ◌^◌, [], All, List, length, map, option_map};
+ghost use Rattle.std.specs.Prelude.{IfOk, OnOk};
 ghost use Rattle.std.specs.Option.{option_to_list};
 ghost use Rattle.class_model.specs.Text.{units_of};
 ghost use Rattle.class_link.specs.Info.{Info};
 ghost use Rattle.history_file.specs.Rows.{name_or_empty};
-ghost use Rattle.suite_runs.specs.Reaching.{CoversKnown, class_named, classes_in, classes_named, lines_in};
+ghost use Rattle.suite_runs.specs.Reaching.{CoversKnown, class_named, classes_in};
+ghost use Rattle.suite_runs.specs.Reaching.{classes_named, lines_in};
 ghost use Rattle.suite_runs.specs.Placing.{AreNamed, IsNamedFor, class_at, lines_at, texts_in};
 ghost use Rattle.suite_workers.specs.Old.{found_record};
 ghost use Rattle.suite_workers.specs.Said.{known_record};
