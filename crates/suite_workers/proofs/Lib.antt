@@ -13,4 +13,5 @@ mod Prefixes
 mod LookedUp
 mod Bounds
 mod Walked
+mod Crosses
 mod RunAll

@@ -25,13 +25,13 @@ use Rattle.suite_jobs.specs.Jobs.{made_by}
 use Rattle.job_rules.specs.Tried.{Tried}
 use Rattle.worker_gate.specs.Hands.{Counts, CountsAtMost, IsCellOf, IsRunOf, Makes, Runs}
 use Rattle.suite_workers.specs.Marks.{Marked, mark_made, run_reading}
-use Rattle.suite_workers.specs.Old.{history_of, no_test, test_at}
+use Rattle.suite_workers.specs.Old.{history_of, test_at}
 use Rattle.suite_workers.specs.Jobs.{asked_of, cell_runs, job_in}
 use Rattle.suite_workers.specs.Standing.{HasEdit, HasEditAt, StandsAt}
 use Rattle.suite_workers.specs.Working.{StartsFrom, runs_from}
 use Rattle.suite_workers.specs.declared.setup.JobSetup.{JobSetup}
 use Rattle.suite_workers.specs.declared.standing.Stand.{Stand}
-use Rattle.suite_workers.proofs.Lists.{at_default, bound_at}
+use Rattle.suite_workers.proofs.Lists.{bound_at}
 use Rattle.suite_workers.proofs.EditedRuns.{asked_edited, has_edit, tells_viable}
 use Rattle.suite_workers.proofs.Finding.{has_standing, is_test}
 use Rattle.suite_workers.proofs.Marking.{cell_unmarked, unmark}
@@ -119,34 +119,32 @@ module _ (p : List Info) (x : JobSetup) (mutant test : ℕ) (cell : IsCellOf (ru
     pub is_runnable : EditedAreReady → FaultlessAreAccepted → ReadyMayRun → IsProgram s.program → IsRunnable (look s.program)
     is_runnable = may_run law p x starts mutant test s stands cell_is.run cell_is.is
 
-    pub has_room : (part : ℕ) → part < 2 ^ 63 → part + slice_index x.bounds.now test < 2 ^ 64
-    has_room part room = let bound = bound_at most_limit x.bounds.now test starts.fits.bounds in omega (arith, room, bound)
+    pub has_room : (part limit : ℕ) → limit ≡ slice_index x.bounds.now test → part < 2 ^ 63 → part + limit < 2 ^ 64
+    has_room part limit is room = let bound = bound_at most_limit x.bounds.now test starts.fits.bounds in omega (arith, is, room, bound)
 
-    module _ (u : Test) (is_u : u ≡ slice_index_or x.tests.now test u) where
-      test_is : u ≡ test_at x.tests.now test
-      test_is = is_u ∙ at_default x.tests.now test u no_test has_test
+    module _ (u : Test) (test_is : u ≡ test_at x.tests.now test) (limit : ℕ) (limit_is : limit ≡ slice_index x.bounds.now test) where
+      same_asked : asked s.program u x.limits limit ≡ asked s.program u x.limits (slice_index x.bounds.now test)
+      same_asked = ap (λ n. asked s.program u x.limits n) limit_is
 
-      pub never_none : None ≡ record_of (asked s.program u x.limits (slice_index x.bounds.now test)) → ⊥
-      never_none = not_stuck law p x starts mutant test s stands cell_is.run cell_is.is u test_is
+      pub never_none : None ≡ record_of (asked s.program u x.limits limit) → ⊥
+      never_none h = not_stuck law p x starts mutant test s stands cell_is.run cell_is.is u test_is (h ∙ ap record_of same_asked)
 
-      pub makes_so : (made : RunRecord) → Some made ≡ record_of (asked s.program u x.limits (slice_index x.bounds.now test)) → Makes run_reading (runs_from p x) mutant test made
+      pub makes_so : (made : RunRecord) → Some made ≡ record_of (asked s.program u x.limits limit) → Makes run_reading (runs_from p x) mutant test made
       makes_so made h = record {
         makes = λ m is.
             let un = unmark (history_of x.look_ups.now) (cell_runs p (job_in x)) mutant test m is in
-            ap mark_made (made_is law p x starts mutant test s stands un.run un.is u test_is made h) ∙ ap (λ (r : Tried Marked). r.made) (sym un.mark_is);
+            ap mark_made (made_is law p x starts mutant test s stands un.run un.is u test_is made (h ∙ ap record_of same_asked)) ∙ ap (λ (r : Tried Marked). r.made) (sym un.mark_is);
       }
 
-      counted : (m : Tried Marked) → IsRunOf (runs_from p x) mutant test m → (run (asked s.program u x.limits (slice_index x.bounds.now test))).steps ≡ run_reading.steps m.made
+      counted : (m : Tried Marked) → IsRunOf (runs_from p x) mutant test m → (run (asked s.program u x.limits limit)).steps ≡ run_reading.steps m.made
       counted m is =
           let un = unmark (history_of x.look_ups.now) (cell_runs p (job_in x)) mutant test m is in
-          steps_are law p x starts mutant test s stands un.run un.is u test_is ∙ ap (λ (r : Tried Marked). r.made.0.steps) (sym un.mark_is)
+          ap (λ a. (run a).steps) same_asked
+          ∙ steps_are law p x starts mutant test s stands un.run un.is u test_is
+          ∙ ap (λ (r : Tried Marked). r.made.0.steps) (sym un.mark_is)
 
-      pub counts_so : (before after : ℕ) → after ≡ before + (run (asked s.program u x.limits (slice_index x.bounds.now test))).steps → Counts run_reading (runs_from p x) mutant test before after
+      pub counts_so : (before after : ℕ) → after ≡ before + (run (asked s.program u x.limits limit)).steps → Counts run_reading (runs_from p x) mutant test before after
       counts_so before after h = record { counts = λ m is. h ∙ ap (λ n. before + n) (counted m is) }
 
-      pub counts_most : (before after : ℕ) → after ≤ before + (run (asked s.program u x.limits (slice_index x.bounds.now test))).steps → CountsAtMost run_reading (runs_from p x) mutant test before after
+      pub counts_most : (before after : ℕ) → after ≤ before + (run (asked s.program u x.limits limit)).steps → CountsAtMost run_reading (runs_from p x) mutant test before after
       counts_most before after h = record { most = λ m is. let same = counted m is in omega (arith, h, same) }
-
--- Where nothing was run nothing is counted.
-pub counts_none : (ms : Runs Marked) (mutant test before after : ℕ) → after ≡ before → CountsAtMost run_reading ms mutant test before after
-counts_none ms mutant test before after same = record { most = λ m is. omega (arith, same) }

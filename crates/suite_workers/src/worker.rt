@@ -1,10 +1,11 @@
 //! A worker: hands that run the cells of a suite.
 
-ghost use Rattle.std.specs.Prelude.{◌≡◌, ◌+◌, ◌≤◌, ◌<◌, ◌^◌, IfOk, OnOk, is_some};
+ghost use Rattle.std.specs.Prelude.{◌≡◌, ◌+◌, ◌≤◌, ◌<◌, ◌^◌, IfOk, OnOk, is_some, length, slice_index};
 ghost use Rattle.class_table.specs.Table.{IsProgram};
 ghost use Rattle.mutant_runs.specs.Runs.{detected_by};
 ghost use Rattle.worker_gate.specs.Hands.{Counts, CountsAtMost, Finds, IsCellOf, Makes, detects_made};
 ghost use Rattle.suite_workers.specs.Marks.{run_reading};
+ghost use Rattle.suite_workers.specs.Old.{test_at};
 ghost use Rattle.suite_workers.specs.Standing.{base_of};
 ghost use Rattle.suite_workers.specs.Working.{CanWork, StartsFrom, runs_for, runs_from};
 
@@ -12,7 +13,7 @@ use crate::old_records::FoundRun;
 use crate::setup::JobSetup;
 use crate::standing::{Stand, place, swap_in};
 use class_model::{Memory, Outcome};
-use class_table::Program;
+use class_table::{Program, Test};
 use history_file::History;
 use jvm_step::Tables;
 use mt_edge::MeterPart;
@@ -118,6 +119,22 @@ fn find_in<'a>(
     Ok(found)
 }
 
+// The test of this number.
+fn test_at(tests: &[Test], number: usize) -> &Test
+    requires { number < length tests.now }
+    ensures { result.now ≡ test_at tests.now number }
+{
+    &tests[number]
+}
+
+// How many steps its run may take.
+fn bound_at(bounds: &[u64], number: usize) -> u64
+    requires { number < length bounds.now }
+    ensures { result ≡ slice_index bounds.now number }
+{
+    bounds[number]
+}
+
 // Runs a cell.
 fn run_in(
     alloc: Global,
@@ -143,16 +160,16 @@ fn run_in(
     edited_are_ready();
     first_faults_are_found();
     ready_may_run();
-    let tests = setup.tests;
-    let bounds = setup.bounds;
-    let at = test as usize;
+    let number = test as usize;
+    let own = test_at(setup.tests, number);
+    let bound = bound_at(setup.bounds, number);
     let made = make_record(
         alloc,
         &stand.program,
         &mut stand.tables,
-        &tests[at],
+        own,
         setup.limits,
-        bounds[at],
+        bound,
         part,
     )?;
     match made {

@@ -11,7 +11,7 @@ use Rattle.suite_workers.proofs.standing.put_in.Goals as goal
 
 pub returns-in_err-made-clause-err : goal.returns-in_err-made-clause-err
 returns-in_err-made-clause-err c =
-    let kept : IsKept c.args.stand.now.program c.take.new.self = search rules in
+    let kept : IsKept c.args.stand.now.program c.take-kept.new.self = search rules in
     on_err c.from_residual.result (bare_without c.args.stand.now.program c.args.stand.now _ c.requires.bare refl refl refl kept)
 
 pub returns-in_err-swap-clause-err : goal.returns-in_err-swap-clause-err
