@@ -1,10 +1,12 @@
 //! Reads a history, writes it again, indexes it and looks records up; prints what came of it, and
 //! with two words, a file and a number of look-ups, how many milliseconds each took. Without words
-//! it takes the file `runs.history` and six look-ups, and tells no times.
+//! it takes the file `runs.history` and six look-ups, and tells no times. Two words more are how
+//! often all look-ups that find a record are made, and those that find none; else each is once.
 //!
 //! The program that is looked out for has under each name the class of the first record that
 //! consults it. A look-up is for the test of a record, where the second class that the record
-//! consults has the recorded bytes, or others that no record has.
+//! consults has the recorded bytes, or others that no record has. The records are taken from all
+//! over the history, so that each history has the same share of records that match as it is.
 #![tactic(auto)]
 
 ghost use Rattle.history_rules.specs.Laws.{AreWritable};
@@ -21,6 +23,21 @@ use std::env;
 use std::time::Instant;
 
 const PROFILE: u16 = 1;
+
+// How far the record of a look-up is behind that of the look-up before: a prime, so that it is
+// none of the numbers of tests or of records of a test.
+const STRIDE: usize = 1_000_003;
+
+// What is asked for.
+#[derive(Drop)]
+struct Job {
+    path: String,
+    // how many look-ups
+    count: usize,
+    // how often those that find a record are made, and those that find none
+    rounds: (u32, u32),
+    timed: bool,
+}
 
 // Prints what was done, and since when, if times are told.
 fn say(rt: &HostRuntime, timed: bool, start: Instant, done: &str) -> anyhow::Result<()> {
@@ -101,7 +118,7 @@ fn questions_of(
     let rows = index.history().rows();
     let mut questions = Vec::new(alloc);
     for k in 0..count {
-        let Some(place) = k.checked_rem(rows.len()) else {
+        let Some(place) = k.wrapping_mul(STRIDE).checked_rem(rows.len()) else {
             break;
         };
         let Some(row) = rows.get(place) else {
@@ -143,9 +160,13 @@ fn say_found(
     timed: bool,
     lookout: &Lookout,
     questions: &[Question],
+    rounds: u32,
 ) -> anyhow::Result<()> {
     let start = Instant::now(rt)?;
-    let found = look_up(lookout, questions);
+    let mut found = 0;
+    for _ in 0..rounds {
+        found = look_up(lookout, questions);
+    }
     let count = questions.len();
     if timed {
         let micros = start.elapsed(rt)?.as_micros();
@@ -156,19 +177,14 @@ fn say_found(
     Ok(())
 }
 
-fn ask_all(
-    rt: &HostRuntime,
-    index: &HistoryIndex,
-    count: usize,
-    timed: bool,
-) -> anyhow::Result<()> {
+fn ask_all(rt: &HostRuntime, job: &Job, index: &HistoryIndex) -> anyhow::Result<()> {
     let alloc = rt.alloc();
     let start = Instant::now(rt)?;
     let lookout = lookout_of(alloc, index)?;
-    say(rt, timed, start, "looked out")?;
-    for changed in [false, true] {
-        let questions = questions_of(alloc, index, count, changed)?;
-        say_found(rt, timed, &lookout, questions.as_slice())?;
+    say(rt, job.timed, start, "looked out")?;
+    for (changed, rounds) in [(false, job.rounds.0), (true, job.rounds.1)] {
+        let questions = questions_of(alloc, index, job.count, changed)?;
+        say_found(rt, job.timed, &lookout, questions.as_slice(), rounds)?;
     }
     Ok(())
 }
@@ -202,42 +218,58 @@ fn write_again(rt: &HostRuntime, timed: bool, history: &History, bytes: &[u8]) -
     say(rt, timed, start, done)
 }
 
-fn index_all(rt: &HostRuntime, timed: bool, count: usize, history: History) -> anyhow::Result<()> {
+fn index_all(rt: &HostRuntime, job: &Job, history: History) -> anyhow::Result<()> {
     let alloc = rt.alloc();
     let start = Instant::now(rt)?;
     let index = HistoryIndex::build(alloc, history)?;
     let tests = index.tests().len();
     let done = format!(in alloc; "indexed by {tests} tests")?;
-    say(rt, timed, start, done.as_str())?;
-    ask_all(rt, &index, count, timed)
+    say(rt, job.timed, start, done.as_str())?;
+    ask_all(rt, job, &index)
 }
 
-fn run(rt: &HostRuntime, timed: bool, count: usize, bytes: &[u8]) -> anyhow::Result<()> {
+fn run(rt: &HostRuntime, job: &Job, bytes: &[u8]) -> anyhow::Result<()> {
     let start = Instant::now(rt)?;
     match read_history(rt.alloc(), PROFILE, bytes) {
         Ok(history) => {
-            say_read(rt, timed, start, &history)?;
-            write_again(rt, timed, &history, bytes)?;
-            index_all(rt, timed, count, history)
+            say_read(rt, job.timed, start, &history)?;
+            write_again(rt, job.timed, &history, bytes)?;
+            index_all(rt, job, history)
         }
-        Err(fault) => say_fault(rt, timed, start, fault),
+        Err(fault) => say_fault(rt, job.timed, start, fault),
     }
 }
 
-// The file, how many look-ups, and whether times are told.
-fn asked(rt: &HostRuntime) -> anyhow::Result<(String, usize, bool)> {
+fn number(word: Option<String>) -> anyhow::Result<u32> {
+    match word {
+        Some(word) => Ok(word.parse::<u32>()?),
+        None => Ok(1),
+    }
+}
+
+fn asked(rt: &HostRuntime) -> anyhow::Result<Job> {
     let mut words = env::args(rt)?.skip(1);
     match (words.next(), words.next()) {
-        (Some(path), Some(count)) => Ok((path, count.parse::<usize>()?, true)),
-        _ => Ok((String::from_str(rt.alloc(), "runs.history")?, 6, false)),
+        (Some(path), Some(count)) => Ok(Job {
+            path,
+            count: count.parse::<usize>()?,
+            rounds: (number(words.next())?, number(words.next())?),
+            timed: true,
+        }),
+        _ => Ok(Job {
+            path: String::from_str(rt.alloc(), "runs.history")?,
+            count: 6,
+            rounds: (1, 1),
+            timed: false,
+        }),
     }
 }
 
 fn main(rt: HostRuntime) -> anyhow::Result<()> {
-    let (path, count, timed) = asked(&rt)?;
+    let job = asked(&rt)?;
     let mut tree = HostTree::new(&rt);
-    let Some(bytes) = tree.read(path.as_str())? else {
+    let Some(bytes) = tree.read(job.path.as_str())? else {
         anyhow::bail!("there is no such file");
     };
-    run(&rt, timed, count, bytes.as_slice())
+    run(&rt, &job, bytes.as_slice())
 }

@@ -1,5 +1,6 @@
-mod Keys
 mod Positions
+mod Grouping
+mod Keys
 mod Places
 mod Holding
 mod Named

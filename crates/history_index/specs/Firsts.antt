@@ -4,6 +4,7 @@ use Rattle.std.specs.Prelude.{false, slice_get, if◌then◌else◌, Some, None}
 use Rattle.std.specs.BTreeMap.{get}
 use Rattle.std.specs.Option.{option_or, unwrap_or}
 use Rattle.std.specs.Ordering.{nat_cmp, ordering_then}
+use Rattle.history_index.specs.Groups.{group_of}
 use Rattle.history_index.specs.declared.firsts.Firsts.{Firsts}
 use Rattle.history_index.specs.declared.lists.Places.{Places}
 use Rattle.history_index.specs.declared.runs.Runs.{Runs}
@@ -13,7 +14,7 @@ use Rattle.history_index.specs.declared.lookout.Lookout.{Lookout}
 abbrev pub first_at : Firsts → ℕ → ℕ → ℕ → Option ℕ
 first_at f t k c =
     get (λ x y. ordering_then (ordering_then (nat_cmp x.0 y.0) (nat_cmp x.1 y.1)) (nat_cmp x.2 y.2))
-    f.places (t, k, c)
+    (group_of f.last f.others.items t) (t, k, c)
 
 -- A place is kept, unless one was.
 abbrev pub Notes : ℕ → ℕ → ℕ → ℕ → Firsts → Firsts → Type 0
@@ -23,11 +24,20 @@ Notes test name class place old new =
     ≡ option_or (first_at old t k c)
     (if nat_eq test t && (nat_eq name k && nat_eq class c) then Some place else None)
 
+-- Another place is kept.
+abbrev pub SetsFirst : ℕ → ℕ → ℕ → ℕ → Firsts → Firsts → Type 0
+SetsFirst test name class place old new =
+    (t k c : ℕ) →
+    first_at new t k c
+    ≡ (if nat_eq test t && (nat_eq name k && nat_eq class c) then Some place
+    else first_at old t k c)
+
 -- The length that is kept of a test and a name; 0 where none is.
 abbrev pub run_at : Runs → ℕ → ℕ → ℕ
 run_at r t k =
     unwrap_or
-    (get (λ x y. ordering_then (nat_cmp x.0 y.0) (nat_cmp x.1 y.1)) r.lengths (t, k))
+    (get (λ x y. ordering_then (nat_cmp x.0 y.0) (nat_cmp x.1 y.1))
+    (group_of r.last r.others.items t) (t, k))
     0
 
 -- Another length is kept.

@@ -1,4 +1,5 @@
 pub mod Numbers
 pub mod Standings
+pub mod Groups
 pub mod Firsts
 pub mod Lookouts

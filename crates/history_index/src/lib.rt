@@ -6,6 +6,7 @@
 #![tactic(auto)]
 
 mod firsts;
+mod groups;
 mod index;
 mod lists;
 mod lookout;

@@ -116,8 +116,8 @@ impl Lookout {
         Ok(Lookout {
             standings,
             whole: no_places(alloc, tests)?,
-            runs: Runs::new(alloc),
-            firsts: Firsts::new(alloc),
+            runs: Runs::new(alloc, tests)?,
+            firsts: Firsts::new(alloc, tests)?,
         })
     }
 

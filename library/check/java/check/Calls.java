@@ -6,6 +6,10 @@ import java.io.InputStream;
 import java.io.Reader;
 import java.io.StringReader;
 import java.io.StringWriter;
+import java.math.BigDecimal;
+import java.math.BigInteger;
+import java.math.MathContext;
+import java.math.RoundingMode;
 import java.nio.charset.Charset;
 import java.nio.charset.StandardCharsets;
 import java.util.ArrayDeque;
@@ -16,6 +20,8 @@ import java.util.Collection;
 import java.util.Collections;
 import java.util.Comparator;
 import java.util.Deque;
+import java.util.EnumMap;
+import java.util.EnumSet;
 import java.util.Enumeration;
 import java.util.HashMap;
 import java.util.HashSet;
@@ -28,11 +34,14 @@ import java.util.ListIterator;
 import java.util.Locale;
 import java.util.Map;
 import java.util.Optional;
+import java.util.PriorityQueue;
 import java.util.Set;
 import java.util.SortedMap;
 import java.util.SortedSet;
+import java.util.StringJoiner;
 import java.util.TreeMap;
 import java.util.TreeSet;
+import java.util.concurrent.TimeUnit;
 import java.util.regex.MatchResult;
 import java.util.regex.Matcher;
 import java.util.regex.Pattern;
@@ -40,8 +49,8 @@ import java.util.regex.PatternSyntaxException;
 
 /** Draws calls and their arguments by a seed, and sums up what they give. What it draws is the same everywhere. */
 public final class Calls {
-    /** What numbers, characters and objects are drawn: few small ones; all of them; those of letters; one kind, in an order. */
-    public static final int FEW = 0, WIDE = 1, LETTERS = 2, ORDERED = 3;
+    /** What numbers, characters and objects are drawn: few small ones; all of them; those of letters; one kind, in an order; constants of an enum. */
+    public static final int FEW = 0, WIDE = 1, LETTERS = 2, ORDERED = 3, CONSTANTS = 4;
     /** Whether each step is printed. */
     public static boolean shows;
     /** Whether what can be stated of calls is kept. */
@@ -177,7 +186,10 @@ public final class Calls {
         if (of.getClass().isArray()) {
             return codeOfArray(of, depth);
         }
-        if (of instanceof CharSequence || of instanceof Locale || of instanceof Charset || of instanceof StringWriter) {
+        if (of instanceof Enum && !(of instanceof Comparator)) {
+            return ((Enum<?>) of).ordinal() + 53;
+        }
+        if (of instanceof CharSequence || of instanceof BigInteger || of instanceof BigDecimal || of instanceof StringJoiner || of instanceof Locale || of instanceof Charset || of instanceof StringWriter) {
             return String.valueOf(of).hashCode();
         }
         if (of instanceof Optional) {
@@ -347,8 +359,29 @@ public final class Calls {
     /** An enum to call Enum's members on. */
     public enum Constant { ONE, TWO { }, THREE }
 
+    /** One with constants that no set of others takes. */
+    public enum Other { ELSE }
+
     public Enum aConstant() {
-        return Constant.values()[below(3)];
+        return below(16) == 0 ? Other.ELSE : Constant.values()[below(3)];
+    }
+
+    public Enum[] constants() {
+        Enum[] made = new Enum[below(4)];
+        for (int at = 0; at < made.length; at++) {
+            made[at] = aConstant();
+        }
+        return made;
+    }
+
+    public EnumSet aConstantSet() {
+        EnumSet made = EnumSet.noneOf((Class) (below(16) == 0 ? Other.class : Constant.class));
+        return filled(made);
+    }
+
+    public EnumMap aConstantMap() {
+        EnumMap made = new EnumMap((Class) (below(16) == 0 ? Other.class : Constant.class));
+        return filled(made);
     }
 
     public int anInt() {
@@ -436,6 +469,12 @@ public final class Calls {
         return aPattern().matcher(aText());
     }
 
+    public MatchResult aResult() {
+        Matcher made = aMatcher();
+        made.find();
+        return made.toMatchResult();
+    }
+
     public CharSequence aSequence() {
         int kind = below(8);
         return kind == 0 ? new StringBuilder(aText()) : kind == 1 ? new StringBuffer(aText()) : aText();
@@ -446,6 +485,9 @@ public final class Calls {
         if (kind == 0 && mode != ORDERED) {
             return null;
         }
+        if (mode == CONSTANTS && kind < 14) {
+            return aConstant();
+        }
         return mode == ORDERED || kind < 11 ? Integer.valueOf(below(10)) : kind < 15 ? TEXTS[below(8)] : (Object) Character.valueOf('a');
     }
 
@@ -454,7 +496,7 @@ public final class Calls {
         return kind < 8 ? anObject() : kind == 8 ? aList() : kind == 9 ? aSet() : kind == 10 ? aMap() : objects();
     }
 
-    private <C extends Collection<Object>> C filled(C into) {
+    private <C extends Collection> C filled(C into) {
         for (int count = below(6); count > 0; count--) {
             try {
                 into.add(anObject());
@@ -465,7 +507,7 @@ public final class Calls {
         return into;
     }
 
-    private <M extends Map<Object, Object>> M filled(M into) {
+    private <M extends Map> M filled(M into) {
         for (int count = below(6); count > 0; count--) {
             try {
                 into.put(anObject(), anObject());
@@ -486,8 +528,9 @@ public final class Calls {
         return kind == 0 ? filled(new LinkedList<>()) : kind == 1 ? Arrays.asList(objects()) : filled(new ArrayList<>());
     }
 
+    /** Constants have the hash codes of a run, so they are in no HashSet and no HashMap. */
     public Set aSet() {
-        return below(3) == 0 ? filled(new LinkedHashSet<>()) : filled(new HashSet<>());
+        return mode == CONSTANTS || below(3) == 0 ? filled(new LinkedHashSet<>()) : filled(new HashSet<>());
     }
 
     public Deque aDeque() {
@@ -496,7 +539,7 @@ public final class Calls {
 
     public Map aMap() {
         int kind = below(4);
-        return kind == 0 ? filled(new LinkedHashMap<>()) : filled(new HashMap<>());
+        return mode == CONSTANTS || kind == 0 ? filled(new LinkedHashMap<>()) : filled(new HashMap<>());
     }
 
     public SortedMap aSortedMap() {
@@ -599,6 +642,32 @@ public final class Calls {
         return made;
     }
 
+    public BigInteger aWhole() {
+        int kind = below(8);
+        BigInteger made = BigInteger.valueOf(kind < 3 ? anInt() : kind < 6 ? state : (long) state << 32 ^ below(1 << 30));
+        return kind == 7 ? made.multiply(BigInteger.valueOf(state)) : made;
+    }
+
+    public BigDecimal aDecimal() {
+        return new BigDecimal(aWhole(), anInt());
+    }
+
+    public MathContext aContext() {
+        return new MathContext(below(12), aRounding());
+    }
+
+    public RoundingMode aRounding() {
+        return RoundingMode.values()[below(8)];
+    }
+
+    public TimeUnit aUnit() {
+        return TimeUnit.values()[below(7)];
+    }
+
+    public PriorityQueue aHeap() {
+        return filled(new PriorityQueue<>(aComparator()));
+    }
+
     public Charset aCharset() {
         int kind = below(4);
         return kind == 0 ? StandardCharsets.US_ASCII : kind == 1 ? StandardCharsets.ISO_8859_1 : StandardCharsets.UTF_8;
@@ -610,6 +679,9 @@ public final class Calls {
 
     public Class aClass() {
         int kind = below(4);
+        if (mode == CONSTANTS && kind > 0) {
+            return Constant.class;
+        }
         return kind == 0 ? Integer.class : kind == 1 ? String.class : kind == 2 ? Object.class : Comparable.class;
     }
 

@@ -97,6 +97,9 @@ public abstract class EnumSet<E extends Enum<E>> extends AbstractSet<E> implemen
     }
 
     public static <E extends Enum<E>> EnumSet<E> range(E from, E to) {
+        if (from.getDeclaringClass() != to.getDeclaringClass()) {
+            throw new ClassCastException();
+        }
         if (from.compareTo(to) > 0) {
             throw new IllegalArgumentException(from + " > " + to);
         }

@@ -22,6 +22,13 @@ public final class Enum {
         throw new IllegalArgumentException("No enum constant " + of.getName().replace('$', '.') + "." + name);
     }
 
+    public static int compareTo(java.lang.Enum of, java.lang.Enum other) {
+        if (of.getClass() != other.getClass() && getDeclaringClass(of) != getDeclaringClass(other)) {
+            throw new ClassCastException();
+        }
+        return of.ordinal() - other.ordinal();
+    }
+
     public static Class getDeclaringClass(java.lang.Enum of) {
         Class own = of.getClass();
         String above = Known.above(own.getName());

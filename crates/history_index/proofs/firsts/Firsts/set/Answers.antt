@@ -1,0 +1,22 @@
+use Rattle.std.proofs.Common.{◌<◌, ◌≤◌, length, refl, rules}
+use Rattle.std.specs.Vec.{with_item}
+use Rattle.history_index.specs.declared.firsts.Firsts.{Firsts}
+use Rattle.history_index.proofs.Keys.{first_set_last, first_set_other}
+use Rattle.history_index.proofs.firsts.Firsts.set.Goals as goal
+
+pub returns-then-place-len : goal.returns-then-place-len
+returns-then-place-len c =
+    let place = c.place_of-place.result in
+    let old = c.args.self.now in
+    let new : Firsts = record { others = with_item old.others place c.insert.new.self; last = old.last } in
+    let lt : place < length old.others.items = search rules in
+    first_set_other c.args.test c.args.name c.args.class c.args.at place old new c.insert.new.self c.index_mut.result.now
+    c.place_of-place.ensures lt refl refl (rw c.index_mut.ensures.value at c.in_ok-insert.ensures.updates)
+
+pub returns : goal.returns
+returns c =
+    let place = c.place_of-place.result in
+    let old = c.args.self.now in
+    let new : Firsts = record { others = old.others; last = c.insert-2.new.self } in
+    let le : length old.others.items ≤ place = search rules in
+    first_set_last c.args.test c.args.name c.args.class c.args.at place old new c.place_of-place.ensures le refl c.in_ok-insert-2.ensures.updates

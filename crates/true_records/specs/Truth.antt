@@ -1,0 +1,10 @@
+-- Records that are true of class files and may stand in a history (this project's own).
+use Rattle.record_rules.specs.declared.record.RunRecord.{RunRecord}
+use Rattle.record_rules.specs.Truth.{IsTrueRecord}
+use Rattle.history_rules.specs.Laws.{IsFormed}
+use Rattle.class_records.specs.Profile.{profile}
+
+-- The record is that of its test's run on its own class files, and has the form of a history.
+pub record IsTrueAndFormed (r : RunRecord) : Type 0 where
+  pub true_is : IsTrueRecord profile r
+  pub form : IsFormed r
