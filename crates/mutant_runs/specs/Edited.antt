@@ -1,5 +1,8 @@
 -- The class that a mutant's edit makes, and the program with it (this project's own).
-use Rattle.std.specs.Prelude.{◌≡◌, ◌<◌, ℕ, Bool, List, length, Some, is_none, slice_get, slice_set}
+use Rattle.std.specs.Prelude.{◌≡◌, ◌<◌, ℕ, Bool, List, length, Option, Some, IfSome, is_none, slice_get, slice_set}
+use Rattle.std.specs.Arc.{arc_value}
+use Rattle.std.specs.declared.sync.Arc.{Arc}
+use Rattle.class_model.specs.declared.class.ClassId.{ClassId}
 use Rattle.program_rules.specs.Names.{Name}
 use Rattle.type_rules.specs.Faults.{class_fault}
 use Rattle.type_rules.specs.Rules.{ClassAccepted}
@@ -26,6 +29,11 @@ pub record IsEditBy (p : List Info) (m : Mutant) (id : ℕ) (new : Info) : Type 
   pub made : made_file loaded m.edit ≡ Some file
   pub edited : new.body ≡ body.Edited file
   pub meant : IsInfo new
+
+-- What is made of a mutant's edit is the class of the class file which it makes.
+abbrev pub IsEditOfMutant :
+    {Z : Type 0} → List Info → Mutant → Option (ClassId × Arc Info Z) → Type 0
+IsEditOfMutant p m made = IfSome made (λ a. IsEditBy p m a.0.0 (arc_value a.1))
 
 -- Such a class is the one that the edit makes.
 abbrev pub EditsMake : Type 0

@@ -5,7 +5,7 @@ ghost use Rattle.class_link.specs.Info.{IsInfo};
 ghost use Rattle.class_table.specs.Table.{look, IsProgram};
 ghost use Rattle.jvm_step.specs.Tables.{AreNamedOf, AreTablesOf};
 ghost use Rattle.type_verifier.specs.Programs.{AreNumbered, IsLibraryAccepted};
-ghost use Rattle.mutant_runs.specs.Edited.{TellsAccepted};
+ghost use Rattle.mutant_runs.specs.Edited.{IsEditOfMutant, TellsAccepted};
 ghost use Rattle.mutant_runs.specs.Files.{IsKept};
 ghost use Rattle.mutant_runs.specs.Programs.{files_of, IsMutantOf, ComesOf};
 ghost use Rattle.mutant_runs.specs.Promises.{TellsViable, IsByRuns, steps_run};
@@ -57,6 +57,7 @@ pub fn edited_class(
     requires fit { IsMutantOf (files_of program.now) mutant.now }
     requires kept { IsKept program.now kept.old }
     ensures made { IfOk result (ComesOf program.now mutant.now) }
+    ensures edit { IfOk result (IsEditOfMutant program.now mutant.now) }
     ensures kept { OnOk result (IsKept program.now kept.new) }
 {
     let Some(id) = program.find(&mutant.class) else {

@@ -4,6 +4,7 @@ use Rattle.class_writer.specs.Writing.{HasClassForm}
 use Rattle.class_link.specs.declared.loaded.ClassBody.TheVariants as body
 use Rattle.class_link.specs.declared.loaded.Loaded.{Loaded}
 use Rattle.class_link.specs.Info.{Info}
+use Rattle.mutant_runs.specs.Edited.{IsEditBy}
 use Rattle.mutant_runs.specs.Programs.{Makes}
 use Rattle.mutant_runs.proofs.ProgramLaws.{file_found, edited_by, of_file}
 use Rattle.mutant_runs.proofs.EditLaws.{is_edit, none_made}
@@ -31,6 +32,24 @@ edited-requires-clause-alone c =
     let known = of_file p m loaded.class found c.requires.fit in
     let edit = is_edit c.parts_are_of_applied.ensures loaded m.edit c.in-Some-2.file (sym c.in_ok-file.ensures.made ∙ c.in-Some-2.is) in
     c.entries_add_alone.ensures c.in-Some-2.file (subst (λ (l : Loaded). HasClassForm l.class) (sym edit.original) known.0) (subst (λ (l : Loaded). IsClass l.class) (sym edit.original) known.2)
+
+pub returns-clause-edit : goal.returns-clause-edit
+returns-clause-edit c =
+    let p = c.args.program.now in
+    let m = c.args.mutant.now in
+    let id = c.in-Some.id.0 in
+    let P : Info → Type 0 = λ i. IsEditBy p m id i in
+    subst P (sym c.in_ok-new.ensures.ok) (record {
+      old = c.info-original.result.now;
+      loaded = c.in-File.loaded;
+      file = c.in-Some-2.file;
+      number = c.in-Some.ensures.found;
+      there = c.info-original.ensures.place;
+      original = sym c.body.ensures ∙ c.in-File.is;
+      made = sym c.in_ok-file.ensures.made ∙ c.in-Some-2.is;
+      edited = c.in_ok-edited.ensures.body;
+      meant = c.is_info.ensures;
+    })
 
 pub returns-clause-made : goal.returns-clause-made
 returns-clause-made c =

@@ -1,0 +1,13 @@
+mod EditedRuns
+mod RunsAt
+mod Shared
+mod Finding
+mod Running
+mod Suites
+mod Sayings
+mod Standings
+mod Prefixes
+mod LookedUp
+mod Bounds
+mod Walked
+mod RunAll

@@ -1,0 +1,100 @@
+-- A run that a worker makes is that of the cell.
+use Rattle.std.proofs.Common.{◌≡◌, ◌∙◌, sym, refl, ap, subst, ℕ, zero, suc, ◌+◌, ◌<◌, ◌≤◌, ◌^◌, Bool, true, List, [], ◌∷◌, Option, None, Some, All, length, slice_get, slice_set, slice_index, slice_index_or, arith}
+use Rattle.std.specs.Prelude.{Contains, zip}
+use Rattle.std.specs.Option.{option_map, unwrap_or}
+use Rattle.class_model.specs.declared.class.Class.{Class}
+use Rattle.class_model.specs.declared.outcome.Outcome.TheVariants.{MemoryOut}
+use Rattle.machine_rules.specs.Runs.{Ending, With, StuckAt}
+use Rattle.type_laws.specs.Faults.{FaultlessAreAccepted}
+use Rattle.type_laws.specs.Soundness.{IsStuck}
+use Rattle.class_link.specs.Info.{Info}
+use Rattle.class_table.specs.declared.scripted.Test.{Test}
+use Rattle.class_table.specs.Table.{look, IsProgram}
+use Rattle.jvm_step.specs.Programs.{IsRunnable}
+use Rattle.mutant_apply.specs.BytesLaws.{PartsAreOfApplied}
+use Rattle.mutant_runs.specs.Edited.{EditedAreReady, ReadyMayRun}
+use Rattle.mutant_runs.specs.Ready.{IsReady}
+use Rattle.mutant_runs.specs.Runs.{most_limit}
+use Rattle.mutant_runs.proofs.MutantLaws.{ready_with}
+use Rattle.record_rules.specs.declared.record.RunRecord.{RunRecord}
+use Rattle.record_rules.specs.Outcomes.{outcome_at}
+use Rattle.record_rules.specs.Records.{Asked, record_of, record_with, run}
+use Rattle.run_records.specs.Asking.{asked}
+use Rattle.suite_jobs.specs.Jobs.{made_by}
+use Rattle.job_rules.specs.Tried.{Tried}
+use Rattle.worker_gate.specs.Hands.{IsRunOf}
+use Rattle.suite_workers.specs.Old.{test_at}
+use Rattle.suite_workers.specs.Jobs.{asked_of, cell_runs, job_in}
+use Rattle.suite_workers.specs.Standing.{StandsAt}
+use Rattle.suite_workers.specs.Working.{StartsFrom}
+use Rattle.suite_workers.specs.declared.setup.JobSetup.{JobSetup}
+use Rattle.suite_workers.specs.declared.standing.Stand.{Stand}
+use Rattle.suite_workers.proofs.EditedRuns.{asked_edited, tells_viable}
+use Rattle.suite_workers.proofs.Finding.{has_standing, is_test}
+use Rattle.suite_workers.proofs.RunsAt.{RunAt, run_at}
+
+-- ---- one run has a record
+
+record_case : (x : Asked) (e : Ending) → (IsStuck e → ⊥) → option_map (record_with x (run x)) (outcome_at e) ≡ Some (record_with x (run x) (unwrap_or (outcome_at e) MemoryOut))
+record_case x (With o) free = refl
+record_case x (StuckAt place) free = absurd (free tt)
+
+has_record : (x : Asked) → (IsStuck (run x).ending → ⊥) → record_of x ≡ Some (made_by x)
+unfolding record_of
+has_record x free = record_case x (run x).ending free
+
+pub at_default : {X : Type 0} (xs : List X) (k : ℕ) (d e : X) → k < length xs → slice_index_or xs k d ≡ slice_index_or xs k e
+at_default [] k d e lt = absurd (omega (arith, lt))
+at_default (x ∷ xs) zero d e lt = refl
+at_default (x ∷ xs) (suc k) d e lt = at_default xs k d e (omega (arith, lt))
+
+bound_at : (bounds : List ℕ) (k : ℕ) → All (λ n. n ≤ most_limit) bounds → slice_index bounds k ≤ most_limit
+bound_at [] k h = omega arith
+bound_at (n ∷ bounds) zero h = h zero n (omega arith)
+bound_at (n ∷ bounds) (suc k) h = bound_at bounds k (λ i d lt. h (suc i) d (omega (arith, lt)))
+
+-- ---- the run that is made
+
+module _ (law : PartsAreOfApplied) (p : List Info) (x : JobSetup) (starts : StartsFrom p x) (mutant test : ℕ) (s : Stand) (stands : StandsAt p x.look_ups.now.history x.mutants.now mutant s) (t : Tried RunRecord) (is : IsRunOf (cell_runs p (job_in x)) mutant test t) where
+  at : RunAt p (job_in x) mutant test t
+  at = run_at p (job_in x) mutant test t is
+
+  pub test_within : test < length x.tests.now
+  test_within = is_test law p x starts mutant test s stands t at
+
+  pub may_run : EditedAreReady → FaultlessAreAccepted → ReadyMayRun → IsProgram s.program → IsRunnable (look s.program)
+  may_run edited_ready accepted may program =
+      let has = has_standing law p x starts mutant test s stands t at in
+      let id = stands.2.standing.id.0 in
+      let but = edited_ready p at.m id has.edited starts.can.program starts.can.ready has.makes in
+      let ready = ready_with p (slice_set p id has.edited) at.m id has.edited has.makes refl but (tells_viable p at.m at.made at.viable) accepted in
+      may s.program program (subst IsReady (sym has.program_is) ready)
+
+  -- What is asked of the machine is what the cell asks.
+  asked_is : (u : Test) → u ≡ test_at x.tests.now test → asked s.program u x.limits (slice_index x.bounds.now test) ≡ asked_of p (job_in x) at.made test
+  asked_is u same =
+      let has = has_standing law p x starts mutant test s stands t at in
+      ap (λ v. asked s.program v x.limits (slice_index x.bounds.now test)) same
+      ∙ ap (λ q. asked q (test_at x.tests.now test) x.limits (slice_index x.bounds.now test)) has.program_is
+      ∙ asked_edited law p at.m at.made stands.2.standing.id.0 has.edited has.makes has.edit at.viable (test_at x.tests.now test) x.limits (slice_index x.bounds.now test)
+
+  recorded : record_of (asked_of p (job_in x) at.made test) ≡ Some (made_by (asked_of p (job_in x) at.made test))
+  recorded = has_record (asked_of p (job_in x) at.made test) (starts.can.free (at.m, at.covering) at.made test at.pair at.viable at.has)
+
+  module _ (u : Test) (same : u ≡ test_at x.tests.now test) where
+    pub not_stuck : None ≡ record_of (asked s.program u x.limits (slice_index x.bounds.now test)) → ⊥
+    not_stuck none =
+        let both : None ≡ Some (made_by (asked_of p (job_in x) at.made test)) = none ∙ ap record_of (asked_is u same) ∙ recorded in
+        cc
+
+    pub made_is : (made : RunRecord) → Some made ≡ record_of (asked s.program u x.limits (slice_index x.bounds.now test)) → made ≡ t.made
+    made_is made h =
+        let both : Some made ≡ Some (made_by (asked_of p (job_in x) at.made test)) = h ∙ ap record_of (asked_is u same) ∙ recorded in
+        let one : made ≡ made_by (asked_of p (job_in x) at.made test) = cc in
+        one ∙ ap (λ (r : Tried RunRecord). r.made) (sym at.run)
+
+    pub steps_are : (run (asked s.program u x.limits (slice_index x.bounds.now test))).steps ≡ t.made.steps
+    steps_are = ap (λ a. (run a).steps) (asked_is u same) ∙ ap (λ (r : Tried RunRecord). r.made.steps) (sym at.run)
+
+    pub limit_fits : (part : ℕ) → part < 2 ^ 63 → part + slice_index x.bounds.now test < 2 ^ 64
+    limit_fits part room = let bound = bound_at x.bounds.now test starts.fits.bounds in omega (arith, room, bound)

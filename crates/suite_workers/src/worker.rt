@@ -1,0 +1,181 @@
+//! A worker: hands that run the cells of a suite.
+
+ghost use Rattle.std.specs.Prelude.{◌≡◌, ◌+◌, ◌≤◌, ◌<◌, ◌^◌, IfOk, OnOk, is_some};
+ghost use Rattle.class_table.specs.Table.{IsProgram};
+ghost use Rattle.mutant_runs.specs.Runs.{detected_by};
+ghost use Rattle.worker_gate.specs.Hands.{Counts, CountsAtMost, Finds, IsCellOf, Makes, detects_made};
+ghost use Rattle.suite_workers.specs.Jobs.{cell_runs, job_in};
+ghost use Rattle.suite_workers.specs.Standing.{base_of};
+ghost use Rattle.suite_workers.specs.Working.{CanWork, StartsFrom, run_reading, runs_for};
+
+use crate::old_records::FoundRun;
+use crate::setup::JobSetup;
+use crate::standing::{Stand, place, swap_in};
+use class_model::{Memory, Outcome};
+use class_table::Program;
+use jvm_step::Tables;
+use mt_edge::MeterPart;
+use mutant_apply::parts_are_of_applied;
+use mutant_runs::{edited_are_ready, ready_may_run};
+use mutator_ops::State;
+use record_rules::RunRecord;
+use run_records::make_record;
+use std::alloc::Global;
+use std::marker::Model;
+use type_laws::first_faults_are_found;
+use worker_gate::Hands;
+
+/// Hands that run the cells of a suite. They have a program of their own, in which the class of the
+/// mutant that they were asked of last stands edited, its tables, and the bytes of the class file
+/// that is edited. Contracts see the runs of their job.
+#[derive(Drop)]
+pub struct Worker<'a> {
+    alloc: Global,
+    stand: Stand,
+    setup: &'a JobSetup<'a>,
+}
+
+impl<'a> Model for Worker<'a> {
+    ghost use Rattle.std.specs.Prelude.{List};
+    ghost use Rattle.record_rules.specs.declared.record.RunRecord.{RunRecord as Record};
+    ghost use Rattle.job_rules.specs.Tried.{Tried};
+    ghost use Rattle.suite_workers.specs.Workers.{worker_runs, IsWorker};
+
+    ghost Value = { List (List (Tried Record)) };
+
+    ghost view = { worker_runs };
+
+    ghost invariant = { IsWorker };
+}
+
+impl<'a> Worker<'a> {
+    /// Hands for the cells of a job on a program. The program's classes are shared.
+    #[tactic(auto, using(mutant_runs::proofs::ReadyLaws::not_lacking, mutant_runs::proofs::NamedLaws::named_of))]
+    pub fn new(
+        alloc: Global,
+        program: &Program,
+        setup: &'a JobSetup<'a>,
+    ) -> Result<Worker<'a>, Memory>
+        requires { StartsFrom program.now setup.now }
+        ensures { IfOk result (λ w. w ≡ cell_runs program.now (job_in setup.entry.now)) }
+    {
+        let program = program.copy()?;
+        let Some(tables) = Tables::find(alloc, &program)? else {
+            unreachable!()
+        };
+        Ok(Worker {
+            alloc,
+            stand: Stand {
+                program,
+                tables,
+                kept: None,
+                standing: None,
+            },
+            setup,
+        })
+    }
+}
+
+// The form of a program is known. Only the prover reads this.
+fn is_program(program: &Program)
+    ensures { IsProgram program.now }
+{
+    let _count = program.len();
+}
+
+fn is_detecting(outcome: &Outcome) -> bool
+    ensures { result ≡ is_some (detected_by outcome.now) }
+{
+    !matches!(outcome, Outcome::Passed)
+}
+
+// The old record of a cell's run, if there is one.
+fn find_in<'a>(
+    alloc: Global,
+    stand: &mut Stand,
+    setup: &JobSetup<'a>,
+    mutant: u64,
+    test: u64,
+) -> Result<Option<FoundRun<'a>>, Memory>
+    requires work { CanWork setup.now stand.old }
+    requires cell { IsCellOf (runs_for setup.now stand.old) mutant test }
+    ensures base { base_of stand.new ≡ base_of stand.old }
+    ensures work { CanWork setup.now stand.new }
+    ensures found { IfOk result (Finds run_reading (runs_for setup.now stand.old) mutant test) }
+{
+    let look_ups = setup.look_ups;
+    if look_ups.is_empty() {
+        return Ok(None);
+    }
+    place(alloc, stand, &look_ups.history, setup.mutants, mutant)?;
+    parts_are_of_applied();
+    Ok(look_ups.on_edited(test as usize, swap_in(stand)))
+}
+
+// Runs a cell.
+fn run_in(
+    alloc: Global,
+    stand: &mut Stand,
+    setup: &JobSetup,
+    mutant: u64,
+    test: u64,
+    part: &mut MeterPart,
+) -> Result<RunRecord, Memory>
+    requires work { CanWork setup.now stand.old }
+    requires cell { IsCellOf (runs_for setup.now stand.old) mutant test }
+    requires room { part.old < 2 ^ 63 }
+    ensures base { base_of stand.new ≡ base_of stand.old }
+    ensures work { CanWork setup.now stand.new }
+    ensures made { IfOk result (Makes run_reading (runs_for setup.now stand.old) mutant test) }
+    ensures steps { OnOk result
+        (Counts run_reading (runs_for setup.now stand.old) mutant test part.old part.new) }
+    ensures most { CountsAtMost run_reading (runs_for setup.now stand.old) mutant test part.old part.new }
+{
+    place(alloc, stand, &setup.look_ups.history, setup.mutants, mutant)?;
+    let at = test as usize;
+    let made = make_record(
+        alloc,
+        &stand.program,
+        &mut stand.tables,
+        &setup.tests[at],
+        setup.limits,
+        setup.bounds[at],
+        part,
+    )?;
+    match made {
+        Some(made) => Ok(made),
+        None => unreachable!(),
+    }
+}
+
+impl<'a> Hands for Worker<'a> {
+    type Made = RunRecord;
+
+    type Found = FoundRun<'a>;
+
+    type Record = RunRecord;
+
+    type State = State;
+
+    ghost reading = { run_reading };
+
+    ghost job = { λ w. w };
+
+    fn made_detects(made: &RunRecord) -> bool
+        ensures { result ≡ detects_made run_reading made.now }
+    {
+        is_detecting(&made.outcome)
+    }
+
+    fn found_detects(found: &FoundRun<'a>) -> bool {
+        found.detects()
+    }
+
+    fn find(&mut self, mutant: u64, test: u64) -> Result<Option<FoundRun<'a>>, Memory> {
+        find_in(self.alloc, &mut self.stand, self.setup, mutant, test)
+    }
+
+    fn run(&mut self, mutant: u64, test: u64, part: &mut MeterPart) -> Result<RunRecord, Memory> {
+        run_in(self.alloc, &mut self.stand, self.setup, mutant, test, part)
+    }
+}
