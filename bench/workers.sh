@@ -13,8 +13,8 @@ time_with() {
     least=
     for round in 1 2 3; do
         start=$(date +%s%N)
-        "$program" run --classes "$work/classes" --tests "$work/tests" --report "$work/report.json" --workers "$1" \
-            > "$work/told"
+        "$program" run --classes "$work/classes" --tests "$work/tests" --report "$work/report.json" \
+            --new-history "$work/history" --workers "$1" > "$work/told"
         took=$((($(date +%s%N) - start) / 1000000))
         [ -n "$least" ] && [ "$least" -le "$took" ] || least=$took
     done
