@@ -13,37 +13,37 @@ use Rattle.suite_workers.specs.contracts.standing.Standing as Standing
 use Rattle.suite_workers.specs.contracts.standing.Stand as Stand
 
 pub attr_send : IsSend Attr.the_row
-attr_send = search (sendable, crosses, maps_cross) depth 60
+attr_send = search (sendable, crosses, maps_cross) depth 60 fits 60000
 
 pub attr_sync : IsSync Attr.the_row
-attr_sync = search (sendable, crosses, maps_cross) depth 60
+attr_sync = search (sendable, crosses, maps_cross) depth 60 fits 60000
 
 pub class_send : IsSend Class.the_row
-class_send = search (sendable, crosses, maps_cross, attr_send, attr_sync) depth 60
+class_send = search (sendable, crosses, maps_cross, attr_send, attr_sync) depth 60 fits 60000
 
 pub class_sync : IsSync Class.the_row
-class_sync = search (sendable, crosses, maps_cross, attr_send, attr_sync) depth 60
+class_sync = search (sendable, crosses, maps_cross, attr_send, attr_sync) depth 60 fits 60000
 
 pub loaded_send : IsSend Loaded.the_row
-loaded_send = search (sendable, crosses, maps_cross, class_send, class_sync) depth 60
+loaded_send = search (sendable, crosses, maps_cross, class_send, class_sync) depth 60 fits 60000
 
 pub info_send : IsSend ClassInfo.the_row
-info_send = search (sendable, crosses, maps_cross, class_send, class_sync, loaded_send) depth 60
+info_send = search (sendable, crosses, maps_cross, class_send, class_sync, loaded_send) depth 60 fits 60000
 
 pub info_sync : IsSync ClassInfo.the_row
-info_sync = search (sendable, crosses, maps_cross, class_send, class_sync, loaded_send) depth 60
+info_sync = search (sendable, crosses, maps_cross, class_send, class_sync, loaded_send) depth 60 fits 60000
 
 pub program_send : IsSend Program.the_row
-program_send = search (sendable, crosses, maps_cross, info_send, info_sync) depth 60
+program_send = search (sendable, crosses, maps_cross, info_send, info_sync) depth 60 fits 60000
 
 pub tables_send : IsSend Tables.the_row
-tables_send = search (sendable, crosses, maps_cross, attr_send) depth 60
+tables_send = search (sendable, crosses, maps_cross, attr_send) depth 60 fits 60000
 
 pub bytes_send : IsSend ClassBytes.the_row
-bytes_send = search (sendable, crosses, maps_cross) depth 60
+bytes_send = search (sendable, crosses, maps_cross) depth 60 fits 60000
 
 pub standing_send : IsSend Standing.the_row
-standing_send = search (sendable, crosses, maps_cross, info_send, info_sync) depth 60
+standing_send = search (sendable, crosses, maps_cross, info_send, info_sync) depth 60 fits 60000
 
 pub stand_send : IsSend Stand.the_row
-stand_send = search (sendable, crosses, maps_cross, program_send, tables_send, bytes_send, standing_send) depth 60
+stand_send = search (sendable, crosses, maps_cross, program_send, tables_send, bytes_send, standing_send) depth 60 fits 60000

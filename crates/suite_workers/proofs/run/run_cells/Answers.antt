@@ -15,4 +15,4 @@ pub returns-in-Err : goal.returns-in-Err
 returns-in-Err g c = no_ends c.runs_keep_limits.ensures c.args.program.now c.args.setup.now c.args.workers c.args.meter.now c.requires c.in_ok-hands.hands.items c.in_ok-cells.cells c.in_ok-hands.ensures.count c.in_ok-hands.ensures.each c.in_ok-cells.ensures c.share_cells.new.meter _ c.in-Err.ensures
 
 pub share_cells-requires-send-C : goal.share_cells-requires-send-C
-share_cells-requires-send-C g c κs within = search (sendable, crosses, maps_cross, stand_send) depth 60
+share_cells-requires-send-C g c κs within = search (sendable, crosses, maps_cross, stand_send) depth 60 fits 60000
