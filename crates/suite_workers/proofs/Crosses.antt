@@ -1,49 +1,43 @@
 -- What workers own crosses to their threads.
+use denote.RattleType.{RattleType}
 use denote.Param.Send.{IsSend, IsSync, sendable}
 use Rattle.std.proofs.Crossing.{crosses}
 use Rattle.std.proofs.MapsCrossing.{crosses as maps_cross}
+use Rattle.class_model.specs.contracts.annotation.Note as Note
+use Rattle.class_model.specs.contracts.frame.Frame as Frame
+use Rattle.class_model.specs.contracts.instruction.Insn as Insn
+use Rattle.class_model.specs.contracts.attribute.Row as Row
 use Rattle.class_model.specs.contracts.attribute.Attr as Attr
+use Rattle.class_model.specs.contracts.attribute.Body as Body
+use Rattle.class_model.specs.contracts.attribute.Code as Code
+use Rattle.class_model.specs.contracts.list.Seq as Seq
+use Rattle.class_model.specs.contracts.class.Member as Member
 use Rattle.class_model.specs.contracts.class.Class as Class
-use Rattle.class_link.specs.contracts.loaded.Loaded as Loaded
-use Rattle.class_link.specs.contracts.info.ClassInfo as ClassInfo
-use Rattle.class_table.specs.contracts.program.Program as Program
-use Rattle.jvm_step.specs.contracts.tables.Tables as Tables
-use Rattle.mutant_runs.specs.contracts.class_bytes.ClassBytes as ClassBytes
-use Rattle.suite_workers.specs.contracts.standing.Standing as Standing
 use Rattle.suite_workers.specs.contracts.standing.Stand as Stand
 
-pub attr_send : IsSend Attr.the_row
-attr_send = search (sendable, crosses, maps_cross) depth 60 fits 60000
+pub note_send : IsSend Note.the_row
+note_send = search (sendable, crosses, maps_cross) depth 60 fits 60000
 
-pub attr_sync : IsSync Attr.the_row
-attr_sync = search (sendable, crosses, maps_cross) depth 60 fits 60000
+pub frame_send : IsSend Frame.the_row
+frame_send = search (sendable, crosses, maps_cross) depth 60 fits 60000
 
-pub class_send : IsSend Class.the_row
-class_send = search (sendable, crosses, maps_cross, attr_send, attr_sync) depth 60 fits 60000
+pub insn_send : IsSend Insn.the_row
+insn_send = search (sendable, crosses, maps_cross) depth 60 fits 60000
 
-pub class_sync : IsSync Class.the_row
-class_sync = search (sendable, crosses, maps_cross, attr_send, attr_sync) depth 60 fits 60000
+pub row_send : IsSend Row.the_row
+row_send = search (sendable, crosses, maps_cross) depth 60 fits 60000
 
-pub loaded_send : IsSend Loaded.the_row
-loaded_send = search (sendable, crosses, maps_cross, class_send, class_sync) depth 60 fits 60000
+pub seq_send : (T : RattleType) → IsSend T → IsSend (Seq.the_row T)
+seq_send T s = search (sendable, crosses, maps_cross) depth 60 fits 60000
 
-pub info_send : IsSend ClassInfo.the_row
-info_send = search (sendable, crosses, maps_cross, class_send, class_sync, loaded_send) depth 60 fits 60000
+pub code_send : IsSend Attr.the_row → IsSend Code.the_row
+code_send s = search (sendable, crosses, maps_cross, note_send, frame_send, insn_send, row_send) depth 60 fits 60000
 
-pub info_sync : IsSync ClassInfo.the_row
-info_sync = search (sendable, crosses, maps_cross, class_send, class_sync, loaded_send) depth 60 fits 60000
+pub body_send : IsSend Code.the_row → IsSend Body.the_row
+body_send s = search (sendable, crosses, maps_cross, note_send, frame_send, insn_send, row_send) depth 60 fits 60000
 
-pub program_send : IsSend Program.the_row
-program_send = search (sendable, crosses, maps_cross, info_send, info_sync) depth 60 fits 60000
-
-pub tables_send : IsSend Tables.the_row
-tables_send = search (sendable, crosses, maps_cross, attr_send) depth 60 fits 60000
-
-pub bytes_send : IsSend ClassBytes.the_row
-bytes_send = search (sendable, crosses, maps_cross) depth 60 fits 60000
-
-pub standing_send : IsSend Standing.the_row
-standing_send = search (sendable, crosses, maps_cross, info_send, info_sync) depth 60 fits 60000
+pub attr_send : IsSend Body.the_row → IsSend Attr.the_row
+attr_send s = search (sendable, crosses, maps_cross, note_send, frame_send, insn_send, row_send) depth 60 fits 60000
 
 pub stand_send : IsSend Stand.the_row
-stand_send = search (sendable, crosses, maps_cross, program_send, tables_send, bytes_send, standing_send) depth 60 fits 60000
+stand_send = ?
