@@ -31,13 +31,13 @@ use worker_gate::Hands;
 /// mutant that they were asked of last stands edited, its tables, and the bytes of the class file
 /// that is edited. Contracts see the runs of their job.
 #[derive(Drop)]
-pub struct Worker<'a> {
+pub struct Worker<'a, 'r, 'h> {
     alloc: Global,
     stand: Stand,
-    setup: &'a JobSetup<'a>,
+    setup: &'a JobSetup<'a, 'r, 'h>,
 }
 
-impl<'a> Model for Worker<'a> {
+impl<'a, 'r, 'h> Model for Worker<'a, 'r, 'h> {
     ghost use Rattle.worker_gate.specs.Hands.{Runs};
     ghost use Rattle.suite_workers.specs.Marks.{Marked};
     ghost use Rattle.suite_workers.specs.Workers.{worker_runs, IsWorker};
@@ -51,16 +51,16 @@ impl<'a> Model for Worker<'a> {
 
 /// A record; and of a found one the history that it is of, and whether its place is one there. No
 /// call makes one.
-pub type MarkedRecord<'a> = (RunRecord, Option<(Option<History<'a>>, bool)>);
+pub type MarkedRecord<'h> = (RunRecord, Option<(Option<History<'h>>, bool)>);
 
-impl<'a> Worker<'a> {
+impl<'a, 'r, 'h> Worker<'a, 'r, 'h> {
     /// Hands for the cells of a job on a program. The program's classes are shared.
     #[tactic(auto, using(mutant_runs::proofs::ReadyLaws::not_lacking, mutant_runs::proofs::NamedLaws::named_of))]
     pub fn new(
         alloc: Global,
         program: &Program,
-        setup: &'a JobSetup<'a>,
-    ) -> Result<Worker<'a>, Memory>
+        setup: &'a JobSetup<'a, 'r, 'h>,
+    ) -> Result<Worker<'a, 'r, 'h>, Memory>
         requires { StartsFrom program.now setup.now }
         ensures { IfOk result (λ w. w ≡ runs_from program.now setup.entry.now) }
     {
@@ -95,13 +95,13 @@ fn is_detecting(outcome: &Outcome) -> bool
 }
 
 // The old record of a cell's run, if there is one.
-fn find_in<'a>(
+fn find_in<'a, 'r, 'h>(
     alloc: Global,
     stand: &mut Stand,
-    setup: &JobSetup<'a>,
+    setup: &JobSetup<'a, 'r, 'h>,
     mutant: u64,
     test: u64,
-) -> Result<Option<FoundRun<'a>>, Memory>
+) -> Result<Option<FoundRun<'r, 'h>>, Memory>
     requires work { CanWork setup.now stand.old }
     requires cell { IsCellOf (runs_for setup.now stand.old) mutant test }
     ensures base { base_of stand.new ≡ base_of stand.old }
@@ -178,12 +178,12 @@ fn run_in(
     }
 }
 
-impl<'a> Hands for Worker<'a> {
+impl<'a, 'r, 'h> Hands for Worker<'a, 'r, 'h> {
     type Made = RunRecord;
 
-    type Found = FoundRun<'a>;
+    type Found = FoundRun<'r, 'h>;
 
-    type Record = MarkedRecord<'a>;
+    type Record = MarkedRecord<'h>;
 
     type State = State;
 
@@ -197,11 +197,11 @@ impl<'a> Hands for Worker<'a> {
         is_detecting(&made.outcome)
     }
 
-    fn found_detects(found: &FoundRun<'a>) -> bool {
+    fn found_detects(found: &FoundRun<'r, 'h>) -> bool {
         found.detects()
     }
 
-    fn find(&mut self, mutant: u64, test: u64) -> Result<Option<FoundRun<'a>>, Memory> {
+    fn find(&mut self, mutant: u64, test: u64) -> Result<Option<FoundRun<'r, 'h>>, Memory> {
         find_in(self.alloc, &mut self.stand, self.setup, mutant, test)
     }
 
