@@ -25,10 +25,10 @@ row_send = search (sendable, crosses, maps_cross) depth 60 fits 60000
 pub seq_send : (T : RattleType) → IsSend T → IsSend (Seq.the_row T)
 seq_send T s = search (sendable, crosses, maps_cross) depth 60 fits 60000
 
--- Left: `Attr`, `Body` and `Code` of `class_model` hold one another, so that search finds no `IsSend`
--- of them (`recorded_send` stops at their holes); `fix_send` and `both_sync` of
--- `denote.Hole.FixSend` are for such rings. From `attr_send` and `attr_sync` search gives those of
--- `Class`, `Member` and `Standing`; then `Loaded`, `ClassInfo`, `Program`, `Tables`, `Stand` and
--- `Worker`, one after the other.
+-- Left: `Attr`, `Body` and `Code` of `class_model` hold one another, and search finds no `IsSend` and
+-- no `IsSync` of them, nor of one from that of another (`recorded_send` stops at their holes);
+-- `fix_send` and `both_sync` of `denote.Hole.FixSend` are for such rings. From those of `Attr` it finds
+-- those of `Class`, and from those of `ClassInfo` those of `Program` and `Standing`. `Loaded`,
+-- `ClassInfo`, `Tables` and `Stand` want lemmas for their parts first.
 pub stand_send : IsSend Stand.the_row
 stand_send = ?
