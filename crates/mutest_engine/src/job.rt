@@ -157,12 +157,12 @@ fn made_of(alloc: Global, done: JobDone<'_>) -> Result<JobMade, Stop>
 
 /// The job of an accepted suite, with the new history as bytes. The meter rises by the steps of the
 /// runs that old records lack.
-pub fn job_made<'x, W: Threads + Wait + Sync, G: Gate + Sync>(
+pub fn job_made<'x, 'h, W: Threads + Wait + Sync, G: Gate + Sync>(
     rt: &W,
     alloc: Global,
     program: &mut Program,
     job: &SuiteJob<'x>,
-    old: OldRecords<'x>,
+    old: OldRecords<'x, 'h>,
     gate: &G,
     meter: &mut Meter,
 ) -> Result<JobMade, Stop>

@@ -33,11 +33,11 @@ fn put_needed<'n>(runs: &'n [KnownRun], all: &mut Vec<Needed<'n>>) -> Result<(),
     }
 }
 
-fn new_of<'a>(
+fn new_of<'h>(
     alloc: Global,
-    old: &History<'a>,
+    old: &History<'h>,
     needed: &[Needed],
-) -> Result<NewHistory<'a>, JobFault>
+) -> Result<NewHistory<'h>, JobFault>
     requires { All (IsNeeded old.now) needed.now }
     ensures { NewEnds old.entry.now needed.entry.now result }
 {
@@ -49,11 +49,11 @@ fn new_of<'a>(
 }
 
 // The records that are needed, with the numbers of the old ones.
-fn history_of<'a>(
+fn history_of<'a, 'h>(
     alloc: Global,
-    old: OldRecords<'a>,
+    old: OldRecords<'a, 'h>,
     needed: &[Needed],
-) -> Result<NewHistory<'a>, JobFault>
+) -> Result<NewHistory<'h>, JobFault>
     requires { All (IsNeeded (numbered_in old)) needed.now }
     ensures { NewEnds (numbered_in old.entry) needed.entry.now result }
 {
@@ -75,12 +75,12 @@ fn no_needed<'n>(alloc: Global, count: usize) -> Result<Vec<Needed<'n>>, Memory>
 }
 
 // The new records of what is known of the original runs, and behind it of the runs on mutants.
-fn records_of<'a, 'n>(
+fn records_of<'a, 'n, 'h>(
     alloc: Global,
-    old: OldRecords<'a>,
+    old: OldRecords<'a, 'h>,
     originals: &'n [KnownRun],
     others: &'n [KnownRun],
-) -> Result<NewHistory<'a>, JobFault>
+) -> Result<NewHistory<'h>, JobFault>
     requires originals { All (IsKnownIn (history_in old)) originals.now }
     requires others { All (IsKnownIn (history_in old)) others.now }
     ensures { KeepEnds old.entry (originals.entry.now ++ others.entry.now) result }
@@ -93,12 +93,12 @@ fn records_of<'a, 'n>(
 }
 
 /// The answer of a job.
-pub fn finish<'a>(
+pub fn finish<'a, 'h>(
     alloc: Global,
-    old: OldRecords<'a>,
+    old: OldRecords<'a, 'h>,
     ready: &Prepared,
     said: CellsSaid,
-) -> Result<JobDone<'a>, JobFault>
+) -> Result<JobDone<'h>, JobFault>
     requires runs { All (IsKnownIn (history_in old)) ready.now.runs }
     requires records { All (IsKnownIn (history_in old)) said.records }
     requires viable { length said.detections ≡ length ready.now.viable }

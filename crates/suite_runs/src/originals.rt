@@ -55,15 +55,15 @@ fn made(
 
 // What is known of the run of the test of this number: the old record of it, else its own, which is
 // made then.
-fn original<'a>(
+fn original<'a, 'h>(
     alloc: Global,
     program: &Program,
     tables: &mut Tables,
-    look_ups: &LookUps<'a>,
+    look_ups: &LookUps<'a, 'h>,
     job: &SuiteJob,
     number: usize,
     part: &mut MeterPart,
-) -> Result<KnownRun<'a>, Memory>
+) -> Result<KnownRun<'a, 'h>, Memory>
     requires tables { AreTablesOf program.now tables.old }
     requires may { MayRunOriginals program.now job.now look_ups.now }
     requires there { number < length job.now.tests.now }
@@ -89,14 +89,14 @@ fn original<'a>(
 
 /// What is known of the run of each test, in their order. The steps of those that are made are
 /// counted in the part.
-pub fn originals_of<'a>(
+pub fn originals_of<'a, 'h>(
     alloc: Global,
     program: &Program,
     tables: &mut Tables,
-    look_ups: &LookUps<'a>,
+    look_ups: &LookUps<'a, 'h>,
     job: &SuiteJob,
     part: &mut MeterPart,
-) -> Result<Seq<KnownRun<'a>>, Memory>
+) -> Result<Seq<KnownRun<'a, 'h>>, Memory>
     requires tables { AreTablesOf program.now tables.old }
     requires may { MayRunOriginals program.now job.now look_ups.now }
     requires start { part.old ≡ 0 }

@@ -34,21 +34,21 @@ use suite_workers::{KnownRun, LookUps, OldRecords, bounds_are_by_name};
 /// What is known of the original runs; which mutants are viable, and which tests cover each; what
 /// runs on mutants may take, and what look-ups of them go by.
 #[derive(Drop)]
-pub struct Prepared<'a> {
-    pub runs: Seq<KnownRun<'a>>,
+pub struct Prepared<'a, 'h> {
+    pub runs: Seq<KnownRun<'a, 'h>>,
     pub viable: Seq<bool>,
     pub covering: Seq<Seq<u32>>,
     pub bounds: Seq<u64>,
-    pub look_ups: LookUps<'a>,
+    pub look_ups: LookUps<'a, 'h>,
 }
 
 // What look-ups of original runs go by.
-fn original_look_ups<'a>(
+fn original_look_ups<'a, 'h>(
     alloc: Global,
     program: &Program,
     job: &SuiteJob,
-    old: OldRecords<'a>,
-) -> Result<LookUps<'a>, Memory>
+    old: OldRecords<'a, 'h>,
+) -> Result<LookUps<'a, 'h>, Memory>
     ensures of { IfOk result
         (AreLookUps program.now job.now.tests.now job.now.limits (same_steps job.now)) }
     ensures old { IfOk result (λ l. old_of l ≡ records_in old.entry) }
@@ -69,13 +69,13 @@ fn may_make(program: &Program, job: &SuiteJob, old: OldRecords)
 
 // What is known of the original runs. The steps of those that are made are counted in the meter.
 #[tactic(auto, using(mutant_runs::proofs::ReadyLaws::not_lacking))]
-fn original_runs<'a>(
+fn original_runs<'a, 'h>(
     alloc: Global,
     program: &Program,
     job: &SuiteJob,
-    old: OldRecords<'a>,
+    old: OldRecords<'a, 'h>,
     meter: &mut Meter,
-) -> Result<Seq<KnownRun<'a>>, Memory>
+) -> Result<Seq<KnownRun<'a, 'h>>, Memory>
     requires { MayRunJob program.now job.now old meter.old }
     ensures are { IfOk result (AreOriginals program.now job.now old.entry) }
     ensures steps { OnOk result
@@ -97,13 +97,13 @@ fn original_runs<'a>(
 }
 
 // What is known of them where all tests pass.
-fn green_runs<'a>(
+fn green_runs<'a, 'h>(
     alloc: Global,
     program: &Program,
     job: &SuiteJob,
-    old: OldRecords<'a>,
+    old: OldRecords<'a, 'h>,
     meter: &mut Meter,
-) -> Result<Seq<KnownRun<'a>>, JobFault>
+) -> Result<Seq<KnownRun<'a, 'h>>, JobFault>
     requires { MayRunJob program.now job.now old meter.old }
     ensures ends { GreenEnds program.now job.now old.entry result }
     ensures meter { RisesBy (original_cost program.now job.now (records_in old.entry))
@@ -116,11 +116,11 @@ fn green_runs<'a>(
 }
 
 // Which tests reach a line.
-fn coverage<'a>(
+fn coverage<'a, 'h>(
     alloc: Global,
     program: &Program,
-    old: OldRecords<'a>,
-    runs: &[KnownRun<'a>],
+    old: OldRecords<'a, 'h>,
+    runs: &[KnownRun<'a, 'h>],
 ) -> Result<Coverage, Memory>
     requires few { length runs.now < 2 ^ 32 }
     requires of { All (IsKnownIn (history_in old)) runs.now }
@@ -166,13 +166,13 @@ fn bounds_by_name(
 }
 
 // The rest of what cells need, by what is known of the original runs.
-fn readied<'a>(
+fn readied<'a, 'h>(
     alloc: Global,
     program: &mut Program,
     job: &SuiteJob<'a>,
-    old: OldRecords<'a>,
-    runs: Seq<KnownRun<'a>>,
-) -> Result<Prepared<'a>, JobFault>
+    old: OldRecords<'a, 'h>,
+    runs: Seq<KnownRun<'a, 'h>>,
+) -> Result<Prepared<'a, 'h>, JobFault>
     requires may { MayBeRun program.old job.now old }
     requires green { AreGreen program.old job.now old runs }
     ensures ends { ReadyEnds program.old job.now old.entry result }
@@ -203,13 +203,13 @@ fn readied<'a>(
 }
 
 /// What the cells of a job need, or why it is refused.
-pub fn prepare<'a>(
+pub fn prepare<'a, 'h>(
     alloc: Global,
     program: &mut Program,
     job: &SuiteJob<'a>,
-    old: OldRecords<'a>,
+    old: OldRecords<'a, 'h>,
     meter: &mut Meter,
-) -> Result<Prepared<'a>, JobFault>
+) -> Result<Prepared<'a, 'h>, JobFault>
     requires { MayRunJob program.old job.now old meter.old }
     ensures ends { Prepares program.old job.now old.entry result }
     ensures meter { RisesBy (original_cost program.old job.now (records_in old.entry))

@@ -24,13 +24,13 @@ use suite_workers::{JobSetup, OldRecords, accepted_may_run, cells_are_of_suite, 
 use worker_gate::{Gate, Recorder};
 
 // What the workers of a job share.
-fn setup_of<'c, 'r>(
+fn setup_of<'c, 'r, 'h>(
     mutants: &'c [Mutant],
     tests: &'c [Test],
     limits: Limits,
     all: bool,
-    ready: &'c Prepared<'r>,
-) -> JobSetup<'c, 'r>
+    ready: &'c Prepared<'r, 'h>,
+) -> JobSetup<'c, 'r, 'h>
     ensures { IsSetupFor mutants.entry.now tests.entry.now limits all ready.entry.now result }
 {
     JobSetup {
@@ -47,16 +47,16 @@ fn setup_of<'c, 'r>(
 /// The job of an accepted suite: its tests are run on the program as it is, and then those that
 /// cover a mutant on it, by workers on threads; runs that old records have are not made. It answers
 /// the verdict on each mutant and the new records, as what is known of all these runs says.
-pub fn run_job<'a, W: Threads + Wait + Sync, R: Recorder<RunRecord> + Sync, G: Gate + Sync>(
+pub fn run_job<'a, 'h, W: Threads + Wait + Sync, R: Recorder<RunRecord> + Sync, G: Gate + Sync>(
     rt: &W,
     alloc: Global,
     program: &mut Program,
     job: &SuiteJob<'a>,
-    old: OldRecords<'a>,
+    old: OldRecords<'a, 'h>,
     rec: &R,
     gate: &G,
     meter: &mut Meter,
-) -> Result<JobDone<'a>, JobFault>
+) -> Result<JobDone<'h>, JobFault>
     requires { MayRunJob program.old job.now old meter.old }
     ensures ends { JobEnds program.old job.now old.entry result }
     ensures meter { JobMeters program.old job.now old.entry meter.old meter.new result }

@@ -16,8 +16,8 @@ use std::alloc::Global;
 
 // What look-ups in a history go by: a look-out, and the number of each test there, if it has one.
 #[derive(Drop)]
-pub struct InHistory<'a> {
-    pub index: &'a HistoryIndex<'a>,
+pub struct InHistory<'a, 'h> {
+    pub index: &'a HistoryIndex<'h>,
     pub lookout: Lookout,
     pub numbers: Seq<Option<u32>>,
 }
@@ -26,8 +26,8 @@ pub struct InHistory<'a> {
 /// another: each of these runs is under the same limits, and takes so many steps at most, by its
 /// test. Nothing is looked up by text.
 #[derive(Drop)]
-pub struct LookUps<'a> {
-    pub(crate) history: Option<InHistory<'a>>,
+pub struct LookUps<'a, 'h> {
+    pub(crate) history: Option<InHistory<'a, 'h>>,
     pub(crate) bounds: Seq<u64>,
 }
 
@@ -101,14 +101,14 @@ fn bounds_there(
     Ok(all)
 }
 
-fn in_history<'a>(
+fn in_history<'a, 'h>(
     alloc: Global,
-    index: &'a HistoryIndex<'a>,
+    index: &'a HistoryIndex<'h>,
     program: &Program,
     tests: &[Test],
     limits: Limits,
     bounds: &[u64],
-) -> Result<InHistory<'a>, Memory>
+) -> Result<InHistory<'a, 'h>, Memory>
     requires long { length bounds.now ≡ length tests.now }
     requires named { AreByName tests.now bounds.now }
     ensures index { IfOk result (λ h. h.index.now ≡ index.now) }
@@ -125,17 +125,17 @@ fn in_history<'a>(
     })
 }
 
-impl<'a> LookUps<'a> {
+impl<'a, 'h> LookUps<'a, 'h> {
     /// What look-ups of the runs of these tests go by. It takes time by the names and bytes of the
     /// program's classes and by the history, once.
     pub fn new(
         alloc: Global,
-        old: OldRecords<'a>,
+        old: OldRecords<'a, 'h>,
         program: &Program,
         tests: &[Test],
         limits: Limits,
         bounds: &[u64],
-    ) -> Result<LookUps<'a>, Memory>
+    ) -> Result<LookUps<'a, 'h>, Memory>
         requires long { length bounds.now ≡ length tests.now }
         requires named { AreByName tests.now bounds.now }
         ensures of { IfOk result (AreLookUps program.now tests.now limits bounds.now) }
@@ -166,7 +166,7 @@ impl<'a> LookUps<'a> {
     }
 
     /// The old record that stands for the run of the test of this number on the program.
-    pub fn original(&self, test: usize) -> Option<FoundRun<'a>>
+    pub fn original(&self, test: usize) -> Option<FoundRun<'a, 'h>>
         ensures finds { FindsOriginal self.now test result }
         ensures there { IfSome result (IsIn (history_of self.now)) }
     {
@@ -174,14 +174,14 @@ impl<'a> LookUps<'a> {
     }
 
     /// The same of its run where a class file is another one.
-    pub fn on_edited(&self, test: usize, swap: Option<Swap>) -> Option<FoundRun<'a>>
+    pub fn on_edited(&self, test: usize, swap: Option<Swap>) -> Option<FoundRun<'a, 'h>>
         ensures finds { FindsEdited self.now test swap result }
         ensures there { IfSome result (IsIn (history_of self.now)) }
     {
         self.found(test, swap)
     }
 
-    fn found(&self, test: usize, swap: Option<Swap>) -> Option<FoundRun<'a>>
+    fn found(&self, test: usize, swap: Option<Swap>) -> Option<FoundRun<'a, 'h>>
         ensures finds { FindsEdited self.now test swap result }
         ensures there { IfSome result (IsIn (history_of self.now)) }
     {

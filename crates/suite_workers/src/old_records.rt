@@ -14,16 +14,16 @@ use std::alloc::Global;
 
 /// No records, or those of an index, in the order of its history.
 #[derive(Clone, Copy)]
-pub enum OldRecords<'a> {
+pub enum OldRecords<'a, 'h> {
     None,
-    Of(&'a HistoryIndex<'a>),
+    Of(&'a HistoryIndex<'h>),
 }
 
 /// An old record that matches a run, with the limit of that run. It names the record by its place,
 /// so it takes no memory, whatever that says.
 #[derive(Clone, Copy)]
-pub struct FoundRun<'a> {
-    pub index: &'a HistoryIndex<'a>,
+pub struct FoundRun<'a, 'h> {
+    pub index: &'a HistoryIndex<'h>,
     pub place: u32,
     pub limit: u64,
 }
@@ -35,7 +35,7 @@ fn is_detecting(end: End) -> bool
     !matches!(end, End::Passed)
 }
 
-impl<'a> FoundRun<'a> {
+impl<'a, 'h> FoundRun<'a, 'h> {
     /// The record, by number.
     pub fn row(&self) -> Option<&'a Row>
         ensures { option_copied result ≡ slice_get self.now.index.now.history.rows self.now.place }

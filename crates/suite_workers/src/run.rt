@@ -20,12 +20,12 @@ use std::thread::Threads;
 use worker_gate::{Gate, Recorder, share_cells};
 
 // Hands for so many workers.
-fn workers_for<'a, 'r>(
+fn workers_for<'a, 'r, 'h>(
     alloc: Global,
     workers: u64,
     program: &Program,
-    setup: &'a JobSetup<'a, 'r>,
-) -> Result<Vec<Worker<'a, 'r>>, Memory>
+    setup: &'a JobSetup<'a, 'r, 'h>,
+) -> Result<Vec<Worker<'a, 'r, 'h>>, Memory>
     requires { StartsFrom program.now setup.now }
     ensures count { IfOk result (λ hands. length hands.items ≡ workers) }
     ensures each { IfOk result (λ hands.
@@ -43,16 +43,23 @@ fn workers_for<'a, 'r>(
 /// its own, whose classes are shared. It answers which tests detect each mutant and what is known
 /// of the needed runs, as running every covering test on every mutant says; the meter rises by what
 /// is needed at least, by what all runs cost at most, and with one worker by just what is needed.
-pub fn run_cells<'a, 'r, W: Threads + Wait + Sync, R: Recorder<RunRecord> + Sync, G: Gate + Sync>(
+pub fn run_cells<
+    'a,
+    'r,
+    'h,
+    W: Threads + Wait + Sync,
+    R: Recorder<RunRecord> + Sync,
+    G: Gate + Sync,
+>(
     rt: &W,
     alloc: Global,
     workers: u64,
     program: &Program,
-    setup: &'a JobSetup<'a, 'r>,
+    setup: &'a JobSetup<'a, 'r, 'h>,
     rec: &R,
     gate: &G,
     meter: &mut Meter,
-) -> Result<CellsSaid<'r>, Memory>
+) -> Result<CellsSaid<'r, 'h>, Memory>
     requires { MayRunCells program.now setup.now workers meter.old }
     ensures { RunsCells program.now setup.entry.now workers meter.old meter.new result }
 {

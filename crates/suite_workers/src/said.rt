@@ -14,21 +14,21 @@ use worker_gate::CellEnd;
 
 /// What is known of a run: the record that was made of it, or the old one that was found.
 #[derive(Drop)]
-pub enum KnownRun<'a> {
+pub enum KnownRun<'a, 'h> {
     Made(RunRecord),
-    Found(FoundRun<'a>),
+    Found(FoundRun<'a, 'h>),
 }
 
 /// For each mutant the tests that detect it, each with the state that it gives; and what is known of
 /// the needed runs, in their order.
 #[derive(Drop)]
-pub struct CellsSaid<'a> {
+pub struct CellsSaid<'a, 'h> {
     pub detections: Seq<Seq<(u32, State)>>,
-    pub records: Seq<KnownRun<'a>>,
+    pub records: Seq<KnownRun<'a, 'h>>,
 }
 
 /// How a cell ended.
-pub type RunEnd<'a> = CellEnd<RunRecord, FoundRun<'a>>;
+pub type RunEnd<'a, 'h> = CellEnd<RunRecord, FoundRun<'a, 'h>>;
 
 // The state that an outcome gives to a mutant.
 fn detected_by(outcome: &Outcome) -> Result<Option<State>, Memory>
@@ -69,7 +69,7 @@ fn state_of(alloc: Global, end: &RunEnd) -> Result<Option<State>, Memory>
 }
 
 // What is known of a cell's run, if it was done.
-fn known_of(end: RunEnd) -> Option<KnownRun>
+fn known_of<'a, 'h>(end: RunEnd<'a, 'h>) -> Option<KnownRun<'a, 'h>>
     ensures { result ≡ known_end end.entry }
 {
     match end {
@@ -80,7 +80,7 @@ fn known_of(end: RunEnd) -> Option<KnownRun>
 }
 
 // Adds what is known of a cell's run, if it was done.
-fn keep<'a>(end: RunEnd<'a>, records: &mut Vec<KnownRun<'a>>) -> Result<(), Memory>
+fn keep<'a, 'h>(end: RunEnd<'a, 'h>, records: &mut Vec<KnownRun<'a, 'h>>) -> Result<(), Memory>
     ensures { OnOk result
         (records.new.items ≡ records.old.items ++ option_to_list (known_end end.entry)) }
 {
@@ -92,13 +92,13 @@ fn keep<'a>(end: RunEnd<'a>, records: &mut Vec<KnownRun<'a>>) -> Result<(), Memo
 }
 
 // Adds what a cell's end says of a mutant that is unsettled. Whether it stays so.
-fn add_end<'a>(
+fn add_end<'a, 'h>(
     alloc: Global,
     all: bool,
     test: u32,
-    end: RunEnd<'a>,
+    end: RunEnd<'a, 'h>,
     said: &mut Vec<(u32, State)>,
-    records: &mut Vec<KnownRun<'a>>,
+    records: &mut Vec<KnownRun<'a, 'h>>,
 ) -> Result<bool, Memory>
     ensures unsettled { IfOk result (λ unsettled. unsettled ≡ open_with all (state_end end.entry)) }
     ensures kept { OnOk result
@@ -118,14 +118,14 @@ fn add_end<'a>(
 }
 
 // Adds what the next cell's end says, if there is one and the mutant is unsettled.
-fn add_next<'a>(
+fn add_next<'a, 'h>(
     alloc: Global,
     all: bool,
     test: u32,
     unsettled: bool,
-    ends: &mut VecDeque<RunEnd<'a>>,
+    ends: &mut VecDeque<RunEnd<'a, 'h>>,
     said: &mut Vec<(u32, State)>,
-    records: &mut Vec<KnownRun<'a>>,
+    records: &mut Vec<KnownRun<'a, 'h>>,
 ) -> Result<bool, Memory>
     ensures { IfOk result (λ now. AddsNext all test unsettled now ends.old.items ends.new.items
         said.old.items said.new.items records.old.items records.new.items) }
@@ -140,12 +140,12 @@ fn add_next<'a>(
 }
 
 // What one mutant's cells say, whose tests these are.
-fn said_of_one<'a>(
+fn said_of_one<'a, 'h>(
     alloc: Global,
     all: bool,
     tests: &[u32],
-    ends: &mut VecDeque<RunEnd<'a>>,
-    records: &mut Vec<KnownRun<'a>>,
+    ends: &mut VecDeque<RunEnd<'a, 'h>>,
+    records: &mut Vec<KnownRun<'a, 'h>>,
 ) -> Result<Seq<(u32, State)>, Memory>
     ensures { IfOk result (λ said. SaysOne all tests.now ends.old.items ends.new.items
         records.old.items records.new.items said) }
@@ -159,12 +159,12 @@ fn said_of_one<'a>(
 }
 
 /// What the cells of mutants say, whose covering tests these are, by their ends in order.
-pub fn said_of<'a>(
+pub fn said_of<'a, 'h>(
     alloc: Global,
     all: bool,
     covering: &[Seq<u32>],
-    ends: Vec<RunEnd<'a>>,
-) -> Result<CellsSaid<'a>, Memory>
+    ends: Vec<RunEnd<'a, 'h>>,
+) -> Result<CellsSaid<'a, 'h>, Memory>
     ensures { IfOk result (λ said. SaysAll all covering.now ends.entry.items said) }
 {
     let mut ends = VecDeque::from_vec(ends);

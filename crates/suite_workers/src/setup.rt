@@ -11,12 +11,12 @@ use mutator_ops::Mutant;
 /// take; the limits of all runs; whether all detecting tests are asked for, or the first; and what
 /// old records have of the runs.
 #[derive(Drop)]
-pub struct JobSetup<'a, 'r> {
+pub struct JobSetup<'a, 'r, 'h> {
     pub mutants: &'a [Mutant],
     pub covering: &'a [Seq<u32>],
     pub tests: &'a [Test],
     pub bounds: &'a [u64],
     pub limits: Limits,
     pub all: bool,
-    pub look_ups: &'a LookUps<'r>,
+    pub look_ups: &'a LookUps<'r, 'h>,
 }

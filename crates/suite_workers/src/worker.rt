@@ -29,13 +29,13 @@ use worker_gate::Hands;
 /// mutant that they were asked of last stands edited, its tables, and the bytes of the class file
 /// that is edited. Contracts see the runs of their job.
 #[derive(Drop)]
-pub struct Worker<'a, 'r> {
+pub struct Worker<'a, 'r, 'h> {
     alloc: Global,
     stand: Stand,
-    setup: &'a JobSetup<'a, 'r>,
+    setup: &'a JobSetup<'a, 'r, 'h>,
 }
 
-impl<'a, 'r> Model for Worker<'a, 'r> {
+impl<'a, 'r, 'h> Model for Worker<'a, 'r, 'h> {
     ghost use Rattle.std.specs.Prelude.{List};
     ghost use Rattle.record_rules.specs.declared.record.RunRecord.{RunRecord as Record};
     ghost use Rattle.job_rules.specs.Tried.{Tried};
@@ -48,14 +48,14 @@ impl<'a, 'r> Model for Worker<'a, 'r> {
     ghost invariant = { IsWorker };
 }
 
-impl<'a, 'r> Worker<'a, 'r> {
+impl<'a, 'r, 'h> Worker<'a, 'r, 'h> {
     /// Hands for the cells of a job on a program. The program's classes are shared.
     #[tactic(auto, using(mutant_runs::proofs::ReadyLaws::not_lacking, mutant_runs::proofs::NamedLaws::named_of))]
     pub fn new(
         alloc: Global,
         program: &Program,
-        setup: &'a JobSetup<'a, 'r>,
-    ) -> Result<Worker<'a, 'r>, Memory>
+        setup: &'a JobSetup<'a, 'r, 'h>,
+    ) -> Result<Worker<'a, 'r, 'h>, Memory>
         requires { StartsFrom program.now setup.now }
         ensures { IfOk result (λ w. w ≡ cell_runs program.now (job_in setup.entry.now)) }
     {
@@ -90,13 +90,13 @@ fn is_detecting(outcome: &Outcome) -> bool
 }
 
 // The old record of a cell's run, if there is one.
-fn find_in<'a, 'r>(
+fn find_in<'a, 'r, 'h>(
     alloc: Global,
     stand: &mut Stand,
-    setup: &JobSetup<'a, 'r>,
+    setup: &JobSetup<'a, 'r, 'h>,
     mutant: u64,
     test: u64,
-) -> Result<Option<FoundRun<'r>>, Memory>
+) -> Result<Option<FoundRun<'r, 'h>>, Memory>
     requires work { CanWork setup.now stand.old }
     requires cell { IsCellOf (runs_for setup.now stand.old) mutant test }
     ensures base { base_of stand.new ≡ base_of stand.old }
@@ -148,10 +148,10 @@ fn run_in(
     }
 }
 
-impl<'a, 'r> Hands for Worker<'a, 'r> {
+impl<'a, 'r, 'h> Hands for Worker<'a, 'r, 'h> {
     type Made = RunRecord;
 
-    type Found = FoundRun<'r>;
+    type Found = FoundRun<'r, 'h>;
 
     type Record = RunRecord;
 
@@ -167,11 +167,11 @@ impl<'a, 'r> Hands for Worker<'a, 'r> {
         is_detecting(&made.outcome)
     }
 
-    fn found_detects(found: &FoundRun<'r>) -> bool {
+    fn found_detects(found: &FoundRun<'r, 'h>) -> bool {
         found.detects()
     }
 
-    fn find(&mut self, mutant: u64, test: u64) -> Result<Option<FoundRun<'r>>, Memory> {
+    fn find(&mut self, mutant: u64, test: u64) -> Result<Option<FoundRun<'r, 'h>>, Memory> {
         find_in(self.alloc, &mut self.stand, self.setup, mutant, test)
     }
 
