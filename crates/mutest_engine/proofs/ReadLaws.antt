@@ -1,6 +1,10 @@
 -- What is read before the first run of a job, one step after the other.
-use Rattle.std.proofs.Common.{◌≡◌, ◌∙◌, inl, inr, ℕ, List, Option, None, Some, Result, Ok, Err, ap, subst}
-use Rattle.std.specs.Prelude.{IfSome}
+use Rattle.std.proofs.Common.{◌≡◌, ◌∙◌, inl, inr, ℕ, List, [], ◌∷◌, Option, None, Some, Result, Ok, Err, ap, subst}
+use Rattle.std.specs.Prelude.{All, IfSome}
+use Rattle.std.specs.List.{AllByRecursion}
+use Rattle.std.proofs.lemmas.List.Elements.{All-from_recursion}
+use Rattle.history_rules.specs.Items.{AllBy}
+use Rattle.history_rules.specs.Laws.{AreWritable, IsFormed, IsOther, before_next}
 use Rattle.mt_edge.specs.Files.{Files}
 use Rattle.mutest_words.specs.Words.{RunOptions}
 use Rattle.record_rules.specs.declared.record.RunRecord.{RunRecord}
@@ -77,3 +81,13 @@ known_is held left o loaded x history same read made old path = record {
   old = subst (λ (t : Option Files). IfSome t (λ files. history_bytes o.history files ≡ Ok history)) same old;
   path = path;
 }
+
+-- ---- records of a history
+
+formed_behind : (before rs : List RunRecord) → AllBy IsOther before_next before rs → AllByRecursion IsFormed rs
+formed_behind before [] others = tt
+formed_behind before (r ∷ rs) others = (others.0.0, formed_behind (before_next before r) rs others.1)
+
+-- Records that a history spells are formed.
+pub writable_formed : (rs : List RunRecord) → AreWritable rs → All IsFormed rs
+writable_formed rs others = All-from_recursion IsFormed rs (formed_behind [] rs others)

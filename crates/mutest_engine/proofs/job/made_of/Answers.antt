@@ -8,4 +8,4 @@ returns-in_err-history-clause-value c =
     rw (q.1, q.2) (λ r e. left_refused c.args.done.verdicts c.args.done.history r (c.in_err-history.ensures.value r e))
 
 pub returns-clause-value : goal.returns-clause-value
-returns-clause-value c = left_made c.args.done.verdicts c.args.done.history c.in_ok-history.history c.reused.result c.in_ok-history.ensures.value c.reused.ensures
+returns-clause-value c = left_made c.args.done.verdicts c.args.done.history c.in_ok-history.history c.reused-reused.result c.in_ok-history.ensures.value c.reused-reused.ensures
