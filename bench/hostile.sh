@@ -30,7 +30,7 @@ assemble_all() { # FOLDER
 }
 run_all() { # FOLDER
     for one in "$1"/*; do
-        [ -d "$one/c" ] && [ -d "$one/t" ] && measure "${one#"$1"/}" run --classes "$one/c" --tests "$one/t" --report "$folder/report.json"
+        [ -d "$one/c" ] && [ -d "$one/t" ] && measure "${one#"$1"/}" run --classes "$one/c" --tests "$one/t" --report "$folder/report.json" --new-history "$folder/history"
     done
 }
 read_histories() {

@@ -118,6 +118,8 @@ past_limit() {
         classes) echo "there are $2 class files; 20,000 are the most" ;;
         tests) echo "there are $2 tests; 65,535 are the most" ;;
         mutants) echo "there are $2 mutants; 262,144 are the most" ;;
+        sources) echo "the sources have $2 bytes; 67,108,864 are the most" ;;
+        history) echo "the new history has $2 bytes; 536,870,912 are the most" ;;
         cells) echo "mutants have $2 tests that cover them; 4,194,304 are the most" ;;
     esac
 }
@@ -156,11 +158,10 @@ explained() {
             echo "$first.$second can't be called as a test: $(test_rule "$third")"
         fi ;;
         8) not_green ;;
+        9) echo "the history '${given[--history]}' is damaged at byte $first: without it all runs are made again" ;;
         10) unread ;;
         11) unwritten "$first" ;;
         12) past_limit "$first" "$second" ;;
-        13) echo "no rule of the interpreter applies to instruction $fourth of $second.$third," \
-            "which $first comes to" ;;
         14) echo "memory ran out; what was to be written is the old or the new one" ;;
         15) echo "line $first of '${plain[0]}' is wrong: $(sed -n "${first}p" "${plain[0]}")" ;;
         126 | 127) echo "this machine can't run $program; that of dist/ is for x86-64 Linux" ;;

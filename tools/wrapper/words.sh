@@ -2,8 +2,9 @@
 # The words of a command line as the program reads them, for what is said beside its answer.
 # A further command or option: its line here and in help.txt.
 
-# The options that a command needs, and how many plain words.
-declare -A NEEDED=([run]='--classes --tests --report' [list]='' [asm]='--out')
+# The options that a command needs, those that it may have, and how many plain words.
+declare -A NEEDED=([run]='--classes --tests --report --new-history' [list]='' [asm]='--out')
+declare -A ALLOWED=([run]='--sources --history --workers')
 declare -A PLAIN=([run]=0 [list]=1 [asm]=1)
 # The options that name a file to be written, with what the program calls it.
 declare -A WRITTEN=([--report]=report [--new-history]=history)
@@ -32,7 +33,7 @@ read_words() {
         elif [[ $word != -?* ]]; then
             plain+=("$word")
             continue
-        elif [[ " ${NEEDED[$command]} " != *" $option "* ]]; then
+        elif [[ " ${NEEDED[$command]} ${ALLOWED[$command]-} " != *" $option "* ]]; then
             fault="$command has no option '$option'"
         elif [ -n "${given[$option]+twice}" ]; then
             fault="$option stands twice"
@@ -57,6 +58,19 @@ read_words() {
         fault="'${plain[${PLAIN[$command]}]}' is a word too many for $command"
     elif [ "${#plain[@]}" -lt "${PLAIN[$command]}" ] || [ "${plain[0]-named}" = '' ]; then
         fault="$command needs a file"
+    elif [ "$command" = run ]; then
+        check_paths
+    fi
+}
+
+# What a run writes, and what it reads of earlier runs, stands at paths of its own.
+check_paths() {
+    if [ "${given[--report]}" = "${given[--new-history]}" ]; then
+        fault="--report and --new-history name one file"
+    elif [ "${given[--report]}" = "${given[--history]-}" ]; then
+        fault="--report and --history name one file"
+    elif ! [[ ${given[--workers]-1} =~ ^([1-9]|[1-5][0-9]|6[0-4])$ ]]; then
+        fault="--workers is a number from 1 to 64"
     fi
 }
 

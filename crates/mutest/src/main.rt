@@ -2,8 +2,8 @@
 //! status is the exit status.
 #![tactic(auto)]
 
-use class_model::Memory;
-use mt_edge::{HostSink, HostTree, Meter};
+use class_model::{Bytes, Memory};
+use mt_edge::{HostSink, HostTree, MemKeeper, Meter, OpenGate};
 use mutest_engine::{Status, run};
 use std::env;
 use std::env::Env;
@@ -43,8 +43,22 @@ fn main(rt: HostRuntime) -> ExitCode {
     let mut tree = HostTree::new(&rt);
     let mut out = HostSink::new(&rt);
     let mut meter = Meter::new();
+    // No command has a journal yet.
+    let keeper = MemKeeper::new(Bytes::new(rt.alloc()), Vec::new(rt.alloc()));
     let status = match words(&rt) {
-        Ok(words) => run(rt.alloc(), &words, &mut tree, &mut out, &mut meter),
+        Ok(words) => {
+            let (status, _keeper) = run(
+                &rt,
+                rt.alloc(),
+                &words,
+                &mut tree,
+                &mut out,
+                &OpenGate,
+                keeper,
+                &mut meter,
+            );
+            status
+        }
         Err(Memory) => Status::WantOfMemory,
     };
     ExitCode::from(status.code())

@@ -4,15 +4,18 @@
 
 mod answer;
 mod assembling;
-mod cells;
 mod discovered;
 mod files;
+mod job;
 mod line;
+mod made;
 mod mutants;
-mod mutation;
 mod numbers;
-mod originals;
+mod old;
 mod refusal;
+mod reported;
+mod running;
+mod sources;
 mod status;
 mod stop;
 mod suite;

@@ -3,7 +3,7 @@
 ghost use Rattle.std.specs.Prelude.{◌≡◌};
 ghost use Rattle.mutest_engine.specs.Steps.{IsHaltOf};
 ghost use Rattle.mutest_engine.specs.Discovered.{IsStopOfTest};
-ghost use Rattle.mutest_engine.specs.Originals.{IsStopOfProgram};
+ghost use Rattle.mutest_engine.specs.Linked.{IsStopOfProgram};
 ghost use Rattle.mutest_engine.specs.declared.stop.Stop.TheVariants as stop;
 ghost use Rattle.mutest_engine.specs.declared.stop.Halt.TheVariants as halt;
 

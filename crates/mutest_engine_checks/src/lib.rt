@@ -7,11 +7,15 @@ mod assembling;
 #[cfg(test)]
 mod calls;
 #[cfg(test)]
+mod history;
+#[cfg(test)]
 mod listing;
 #[cfg(test)]
 mod needed;
 #[cfg(test)]
 mod running;
 mod same_call;
+#[cfg(test)]
+mod sourced;
 
 pub use same_call::called;

@@ -45,9 +45,7 @@ pub data Command : Type 0 where
 
 -- The one place of options that aren't built: they are refused, and none of them has to stand.
 abbrev pub unbuilt : List Text
-unbuilt =
-    codes "new-history" ∷ codes "sources" ∷ codes "history" ∷ codes "journal"
-    ∷ codes "workers" ∷ codes "steps" ∷ codes "heap" ∷ codes "depth" ∷ []
+unbuilt = codes "journal" ∷ codes "steps" ∷ codes "heap" ∷ codes "depth" ∷ []
 
 -- ---- values
 

@@ -61,16 +61,7 @@ pub enum Command<'a> {
 }
 
 /// The options that aren't built: they are refused, and none of them has to stand.
-const UNBUILT: [&str; 8] = [
-    "new-history",
-    "sources",
-    "history",
-    "journal",
-    "workers",
-    "steps",
-    "heap",
-    "depth",
-];
+const UNBUILT: [&str; 4] = ["journal", "steps", "heap", "depth"];
 
 const RUN_OPTIONS: [&str; 11] = [
     "classes",

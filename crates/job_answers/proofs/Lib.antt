@@ -1,0 +1,6 @@
+pub mod Answered
+pub mod Unchanged
+pub mod Scratch
+pub mod TriedOnce
+pub mod Recorded
+pub mod Written

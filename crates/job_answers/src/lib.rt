@@ -1,0 +1,11 @@
+//! What a job answers, by what is known of its runs.
+#![tactic(auto)]
+
+mod laws;
+mod refusal;
+
+pub use laws::{
+    answers_are_of_all_tests, answers_are_true, answers_can_be_written, costs_are_as_asked,
+    each_mutant_has_one_verdict, originals_have_records, true_records_change_nothing,
+};
+pub use refusal::{FailedTest, JobRefusal};

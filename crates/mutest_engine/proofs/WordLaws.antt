@@ -1,0 +1,63 @@
+-- What is answered to words, by the command that they are.
+use Rattle.std.proofs.Common.{◌≡◌, ◌∙◌, ℕ, List, Option, None, Some, Result, Ok, Err, sym, ap, subst}
+use Rattle.mt_edge.specs.Files.{Files}
+use Rattle.mutest_words.specs.Words.{AsmOptions, Command, RunOptions, assemble_class, list_class, run_suite}
+use Rattle.mutest_engine.specs.Answers.{Answered, answered}
+use Rattle.mutest_engine.specs.Decided.{HasTrueRecords, asm_answer, bounds_to, list_answer, scratch_to}
+use Rattle.mutest_engine.specs.Ends.{AnswerMeters, AnswersHeld, MetersRun, MetersWords}
+use Rattle.mutest_engine.specs.Known.{AnswersTrue}
+use Rattle.mutest_engine.specs.Promises.{AnswersTruly}
+use Rattle.mutest_engine.specs.Steps.{and_then, IsHaltOf, ReadsBy, Refuses}
+use Rattle.mutest_engine.specs.Words.{words_of}
+use Rattle.mutest_engine.specs.declared.answer.Answer.{Answer}
+use Rattle.mutest_engine.specs.declared.refusal.Refusal.{Refusal}
+use Rattle.mutest_engine.specs.declared.stop.Halt.{Halt}
+use Rattle.mutest_engine.specs.declared.stop.Halt.TheVariants as halt
+use Rattle.mutest_engine.specs.declared.stop.Stop.{Stop}
+use Rattle.mutest_engine.proofs.MadeLaws.{early_meters, none_meters}
+
+abbrev scratch_by : Result Command Refusal → Files → Result Answered Refusal
+scratch_by said files = and_then said (λ command. scratch_to command files)
+
+-- ---- from scratch
+
+module _ (words : List (List ℕ)) where
+  pub list_truly : (held : Option Files) (path : List ℕ) (r : Result Answer Halt) → words_of words ≡ Ok (list_class path) → AnswersHeld held (list_answer path) r → AnswersTruly held words r
+  list_truly None path r is answers = tt
+  list_truly (Some files) path r is answers = λ true_ones. subst (λ (x : Result Command Refusal). ReadsBy answered (scratch_by x files) r) (sym is) answers
+
+  pub asm_truly : (held : Option Files) (options : AsmOptions) (r : Result Answer Halt) → words_of words ≡ Ok (assemble_class options) → AnswersHeld held (asm_answer options) r → AnswersTruly held words r
+  asm_truly None options r is answers = tt
+  asm_truly (Some files) options r is answers = λ true_ones. subst (λ (x : Result Command Refusal). ReadsBy answered (scratch_by x files) r) (sym is) answers
+
+  pub run_truly : (held : Option Files) (options : RunOptions) (r : Result Answer Halt) → words_of words ≡ Ok (run_suite options) → AnswersTrue held options r → AnswersTruly held words r
+  run_truly None options r is answers = tt
+  run_truly (Some files) options r is answers = λ true_ones.
+      subst (λ (x : Result Command Refusal). ReadsBy answered (scratch_by x files) r) (sym is)
+      (answers (subst (λ (x : Result Command Refusal). HasTrueRecords x files) is true_ones))
+
+  pub refused_truly : (held : Option Files) (s : Stop) (h : Halt) → Refuses (λ r. words_of words ≡ Err r) s → IsHaltOf s h → AnswersTruly held words (Err h)
+  refused_truly None s h refuses is = tt
+  refused_truly (Some files) s h refuses is = λ true_ones. λ r e. ap (λ x. scratch_by x files) (refuses r (is.0 r e))
+
+  -- ---- the meter
+
+  pub list_meters : (held : Option Files) (path : List ℕ) (before : ℕ) (r : Result Answer Halt) → words_of words ≡ Ok (list_class path) → MetersWords held before before words r
+  list_meters None path before r is = tt
+  list_meters (Some files) path before r is = subst (λ (x : Result Command Refusal). AnswerMeters before before (bounds_to x files) r) (sym is) (none_meters before r)
+
+  pub asm_meters : (held : Option Files) (options : AsmOptions) (before : ℕ) (r : Result Answer Halt) → words_of words ≡ Ok (assemble_class options) → MetersWords held before before words r
+  asm_meters None options before r is = tt
+  asm_meters (Some files) options before r is = subst (λ (x : Result Command Refusal). AnswerMeters before before (bounds_to x files) r) (sym is) (none_meters before r)
+
+  pub run_meters : (held : Option Files) (options : RunOptions) (before after : ℕ) (r : Result Answer Halt) → words_of words ≡ Ok (run_suite options) → MetersRun held before after options r → MetersWords held before after words r
+  run_meters None options before after r is meters = tt
+  run_meters (Some files) options before after r is meters = subst (λ (x : Result Command Refusal). AnswerMeters before after (bounds_to x files) r) (sym is) meters
+
+  pub refused_meters : (held : Option Files) (before : ℕ) (s : Stop) (h : Halt) → Refuses (λ r. words_of words ≡ Err r) s → IsHaltOf s h → MetersWords held before before words (Err h)
+  refused_meters None before s h refuses is = tt
+  refused_meters (Some files) before s h refuses is = by_words (words_of words) (λ r e. refuses r (is.0 r e))
+    where
+      by_words : (said : Result Command Refusal) → ((r : Refusal) → h ≡ halt.Refused r → said ≡ Err r) → AnswerMeters before before (bounds_to said files) (Err h)
+      by_words (Ok command) refuse = early_meters (Ok command) (λ c. bounds_to (Ok c) files) before h refuse
+      by_words (Err r) refuse = none_meters before (Err h)

@@ -1,0 +1,139 @@
+-- The job of a suite by the names of its classes: the runs of its tests on its program and on its
+-- mutants, each with what old records have of it; and what is known of all of them says. It is the
+-- job of `suite_jobs` and its answer of `job_answers`, which speak of classes by number (this
+-- project's own).
+use Rattle.std.specs.Prelude.{◌≡◌, ℕ, false, List, [], map, filter, Option, Some, None}
+use Rattle.std.specs.Prelude.{is_some, if◌then◌else◌, option_and_then, Result, Ok, Err}
+use Rattle.std.specs.List.{enumerate_from}
+use Rattle.std.specs.Option.{option_map_or}
+use Rattle.class_model.specs.declared.class.Class.{Class}
+use Rattle.program_rules.specs.Programs.{Look}
+use Rattle.machine_rules.specs.Runs.{limit_of, run_of}
+use Rattle.class_table.specs.Table.{look}
+use Rattle.class_table.specs.declared.scripted.Test.{Test}
+use Rattle.jvm_world.specs.View.{test_of}
+use Rattle.type_rules.specs.Faults.{class_fault}
+use Rattle.mutator_ops.specs.declared.mutant.Mutant.{Mutant}
+use Rattle.mutator_ops.specs.declared.mutant.Verdict.{Verdict}
+use Rattle.mutant_apply.specs.Edited.{applied}
+use Rattle.mutant_runs.specs.Programs.{ClassFiles, files_of, with_class}
+use Rattle.mutant_runs.specs.Runs.{timed}
+use Rattle.mutant_runs.specs.Verdicts.{not_viable, verdict_of}
+use Rattle.record_rules.specs.Profiles.{Held}
+use Rattle.record_rules.specs.declared.record.RunRecord.{RunRecord}
+use Rattle.record_rules.specs.Histories.{same_record}
+use Rattle.suite_records.specs.Suites.{asked_on, bytes_of, put_file}
+use Rattle.job_rules.specs.Tried.{Tried, JobRuns, known, need, records_once, reused_among}
+use Rattle.suite_jobs.specs.Jobs.{Allowed, Suite, tried_on, says, has_reached}
+use Rattle.job_answers.specs.Answers.{JobAnswer, JobCost, verdict_of_runs, failed_tests, cell_total}
+use Rattle.job_answers.specs.Answers.{unless_failed, unless_many, cost_by}
+use Rattle.job_answers.specs.declared.refusal.JobRefusal.{JobRefusal}
+
+-- ---- a suite
+
+-- The program and the class files by name, with their bytes; the tests and the mutants.
+pub record NamedSuite : Type 0 where
+  pub look : Look
+  pub files : ClassFiles
+  pub held : Held
+  pub tests : List Test
+  pub mutants : List Mutant
+
+-- A suite of which classes have numbers, by their names.
+abbrev pub named : Suite → NamedSuite
+named s = record {
+  look = look s.program;
+  files = files_of s.program;
+  held = bytes_of s.files;
+  tests = s.tests;
+  mutants = s.mutants;
+}
+
+-- ---- the runs on the program as it is
+
+module _ (a : Allowed) (s : NamedSuite) (old : List RunRecord) where
+  abbrev pub original_tried : ℕ × Test → Tried RunRecord
+  original_tried t = tried_on old t.0 (asked_on s.look s.held t.1 a.limits a.steps)
+
+  -- The tests that cover a mutant: what is known of their runs reached its line.
+  abbrev pub covering : Mutant → List (ℕ × Test)
+  covering m = filter (λ t. has_reached m (known (original_tried t))) (enumerate_from 0 s.tests)
+
+-- ---- the runs on mutants
+
+-- A class file with its bytes, unless the class of the mutant's name is refused in the program with
+-- it.
+abbrev pub unless_refused : Look → Mutant → Class × List ℕ → Option (Class × List ℕ)
+unless_refused p m made =
+    if is_some (class_fault (with_class made.0 p) m.class) then None else Some made
+
+-- The class file that the edit of a viable mutant makes.
+abbrev pub viable_file : NamedSuite → Mutant → Option (Class × List ℕ)
+viable_file s m =
+    option_and_then (unless_refused s.look m)
+    (option_and_then (λ c. applied c m.edit) (s.files m.class))
+
+module _ (a : Allowed) (s : NamedSuite) (old : List RunRecord) where
+  -- The run of a test on a mutant may take steps by what is known of its run on the program.
+  abbrev pub mutant_tried : Class × List ℕ → ℕ × Test → Tried RunRecord
+  mutant_tried made t =
+      tried_on old t.0
+      (asked_on (with_class made.0 s.look) (put_file made s.held) t.1 a.limits
+      (limit_of (known (original_tried a s old t)).steps))
+
+  -- Those of the tests that cover it. None cover one that isn't viable.
+  abbrev pub mutant_runs : Mutant → List (Tried RunRecord)
+  mutant_runs m =
+      option_map_or (λ made. map (mutant_tried made) (covering a s old m)) (viable_file s m) []
+
+  -- All runs of the job.
+  unfoldable pub named_runs : JobRuns RunRecord
+  named_runs = record {
+    originals = map (original_tried a s old) (enumerate_from 0 s.tests);
+    mutants = map mutant_runs s.mutants;
+  }
+
+-- ---- the answer, by the first test that detects a mutant
+
+module _ (a : Allowed) (s : NamedSuite) (old : List RunRecord) where
+  abbrev pub verdict_in : Mutant → Verdict
+  verdict_in m =
+      option_map_or (λ made. verdict_of_runs false (mutant_runs a s old m)) (viable_file s m)
+      not_viable
+
+  -- The verdict on each mutant, and the records of the runs that are needed, equal ones once.
+  abbrev pub answer_by : JobAnswer
+  answer_by = record {
+    verdicts = map verdict_in s.mutants;
+    records = records_once same_record (need says false (named_runs a s old));
+  }
+
+  unfoldable pub named_answer : Result JobAnswer JobRefusal
+  named_answer =
+      unless_failed (failed_tests (named_runs a s old))
+      (unless_many (cell_total (named_runs a s old)) (Ok answer_by))
+
+  -- How many of the records old ones stand for, and what the job costs.
+  unfoldable pub named_reused : ℕ
+  named_reused = reused_among same_record (need says false (named_runs a s old))
+
+  unfoldable pub named_cost : JobCost
+  named_cost = cost_by false (named_runs a s old) named_answer
+
+-- ---- from scratch
+
+-- The verdict on each mutant by a run of every test on it.
+abbrev pub every_verdict : Allowed → NamedSuite → List Verdict
+every_verdict a s =
+    map
+    (verdict_of a.limits s.files s.look
+    (timed s.tests (map (λ t. (run_of s.look (test_of t) a.limits a.steps).steps) s.tests)))
+    s.mutants
+
+abbrev pub with_every : Allowed → NamedSuite → Result JobAnswer JobRefusal → Result JobAnswer JobRefusal
+with_every a s (Ok x) = Ok (record x { verdicts = every_verdict a s })
+with_every a s (Err refusal) = Err refusal
+
+-- The answer without old records, with the verdicts by every test on every mutant.
+abbrev pub scratch_answer : Allowed → NamedSuite → Result JobAnswer JobRefusal
+scratch_answer a s = with_every a s (named_answer a s [])

@@ -1,0 +1,8 @@
+//! Laws of commands.
+
+ghost use Rattle.mutest_words.specs.Laws.{OptionsAreLimited};
+
+/// The numbers of a command's options are within their bounds.
+pub fn options_are_limited()
+    ensures { OptionsAreLimited }
+{}

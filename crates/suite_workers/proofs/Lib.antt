@@ -1,0 +1,17 @@
+mod Lists
+mod EditedRuns
+mod RunsAt
+mod Marking
+mod Shared
+mod Finding
+mod Running
+mod Suites
+mod Sayings
+mod Standings
+mod Works
+mod Prefixes
+mod LookedUp
+mod Bounds
+mod Walked
+mod Crosses
+mod RunAll
