@@ -1,5 +1,5 @@
 -- What is recorded of a run is its record, or the place where it is stuck.
-use Rattle.std.proofs.Common.{◌≡◌, ◌∙◌, ℕ, ◌<◌, ◌≤◌, ◌^◌, List, length, Option, Some, sym, ap, ap₂, subst, arith}
+use Rattle.std.proofs.Common.{◌≡◌, ◌∙◌, ℕ, ◌<◌, ◌≤◌, ◌^◌, List, length, Option, None, Some, sym, ap, ap₂, subst, arith}
 use Rattle.std.specs.Prelude.{Bool, true, false, IsTrue, IsSomeAnd}
 use Rattle.std.specs.Option.{option_map}
 use Rattle.std.proofs.lemmas.List.{length-map}
@@ -7,6 +7,7 @@ use Rattle.class_model.specs.declared.outcome.Outcome.{Outcome}
 use Rattle.program_rules.specs.Names.{Name}
 use Rattle.machine_rules.specs.declared.machine.Limits.{Limits}
 use Rattle.machine_rules.specs.Runs.{Ending, Ran, With, StuckAt}
+use Rattle.machine_rules.specs.Steps.{Place}
 use Rattle.class_link.specs.Info.{Info}
 use Rattle.class_table.specs.declared.scripted.Test.{Test}
 use Rattle.jvm_run.specs.declared.ending.Ending as code
@@ -84,6 +85,11 @@ module _ (p : List Info) (test : Test) (limits : Limits) (limit : ℕ) (given : 
     goes_by l r kept lists built tells =
         of_run x kept (subst (λ (k : Option RunRecord). Tells k (run x).ending kept) (sym (made l r lists built)) (tells (run x).ending))
 
+    -- the record is that of the run
+    pub record_is : (l : Lists) (r : RunRecord) → AreListsOf p given.consulted given.reached l → r ≡ record_built given.steps l.consulted l.reached → Some r ≡ record_of x
+    unfolding record_of
+    record_is l r lists built = sym (made l r lists built)
+
     -- so many names have no place in a history
     pub too_many : 2 ^ 32 ≤ length given.consulted → IsRecordedOf x Unwritable
     too_many many =
@@ -122,3 +128,12 @@ pub stuck : (p : List Info) (test : Test) (limits : Limits) (limit : ℕ) (given
 stuck p test limits limit given class method at told is =
     let x = asked p test limits limit in
     of_run x (Stuck class method at) (stuck_at (run x).ending class method at (sym told ∙ is.ending))
+
+none_by : (x : Asked) (ran : Ran) (place : Place) → ran.ending ≡ StuckAt place → record_by x ran ≡ None
+none_by x ran place h = ap (λ (e : Ending). option_map (record_with x ran) (outcome_at e)) h
+
+pub stuck_has_none : (p : List Info) (test : Test) (limits : Limits) (limit : ℕ) (given : RunResult) (class method : Name) (at : ℕ) → given.ending ≡ ending.Stuck class method at → IsResultOf p given (run (asked p test limits limit)) → None ≡ record_of (asked p test limits limit)
+unfolding record_of
+stuck_has_none p test limits limit given class method at told is =
+    let x = asked p test limits limit in
+    sym (none_by x (run x) (record { class = class; method = method; at = at }) (stuck_at (run x).ending class method at (sym told ∙ is.ending)))

@@ -10,7 +10,8 @@ mod reached;
 mod recorded;
 mod recording;
 
+pub use fitting::fits_fields;
 pub use looked_up::Lookup;
 pub use matching::{holds_all, matches};
 pub use recorded::Recorded;
-pub use recording::record;
+pub use recording::{make_record, record};

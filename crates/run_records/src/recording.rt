@@ -1,7 +1,7 @@
 //! A run of a test, and its record.
 
 ghost use Rattle.std.specs.Prelude.{◌≡◌, ◌+◌, ◌≤◌, ◌<◌, ◌^◌, length, IfOk, OnOk};
-ghost use Rattle.record_rules.specs.Records.{run};
+ghost use Rattle.record_rules.specs.Records.{record_of, run};
 ghost use Rattle.class_table.specs.Table.{look};
 ghost use Rattle.jvm_world.specs.View.{AreClasses};
 ghost use Rattle.jvm_step.specs.Programs.{IsRunnable};
@@ -126,6 +126,71 @@ fn recorded(
         }
         Ending::Stuck { class, method, at } => Ok(Recorded::Stuck { class, method, at }),
     }
+}
+
+// The record of a run that gave this, if it has one.
+#[tactic(auto, using(crate::proofs::Made::stuck_has_none))]
+fn made(
+    alloc: Global,
+    p: &Program,
+    test: &Test,
+    limits: Limits,
+    limit: u64,
+    given: RunResult,
+) -> Result<Option<RunRecord>, Memory>
+    requires { IsResultOf p.now given (run (asked p.now test.now limits limit)) }
+    ensures { IfOk result (λ made. made ≡ record_of (asked p.now test.now limits limit)) }
+{
+    let RunResult {
+        ending,
+        steps,
+        consulted,
+        reached,
+    } = given;
+    match ending {
+        Ending::With(outcome) => {
+            // no room: lines name places of four bytes
+            if consulted.len() > u32::MAX as usize {
+                return Err(Memory);
+            }
+            let lists = lists_of(alloc, p, consulted, &reached)?;
+            let entry = record_by(test, limits, limit, outcome, steps, lists)?;
+            Ok(Some(entry))
+        }
+        Ending::Stuck {
+            class: _,
+            method: _,
+            at: _,
+        } => Ok(None),
+    }
+}
+
+/// Runs a test on a program, for so many steps at most, and gives the record of the run, whether or
+/// not it fits the fields of a history; none where the run is stuck. The list of consulted names has
+/// room for fewer than 2^32, more than class files within the limits can make: a growth past that is
+/// refused, as want of memory.
+pub fn make_record(
+    alloc: Global,
+    p: &Program,
+    tables: &mut Tables,
+    test: &Test,
+    limits: Limits,
+    limit: u64,
+    part: &mut MeterPart,
+) -> Result<Option<RunRecord>, Memory>
+    requires tables { AreTablesOf p.now tables.old }
+    requires runnable { IsRunnable (look p.now) }
+    requires small { limits.heap < 2 ^ 31 }
+    requires room { part.old + limit < 2 ^ 64 }
+    ensures made { IfOk result (λ made. made ≡ record_of (asked p.now test.now limits limit)) }
+    ensures steps { OnOk result (part.new
+        ≡ part.old + (run (asked p.now test.now limits limit)).steps) }
+    ensures memory { part.new ≤ part.old + (run (asked p.now test.now limits limit)).steps }
+    ensures tables { AreTablesOf p.now tables.new }
+{
+    let given = execute(alloc, p, tables, test, limits, limit, part)?;
+    let made = made(alloc, p, test, limits, limit, given)?;
+    Ok(made)
 }
 
 /// Runs a test on a program, for so many steps at most, and gives the record of the run: what it
