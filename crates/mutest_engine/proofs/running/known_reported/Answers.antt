@@ -16,22 +16,22 @@ use Rattle.mutest_engine.proofs.running.known_reported.Goals as goal
 
 pub returns-in_err-index-clause-value : goal.returns-in_err-index-clause-value
 returns-in_err-index-clause-value g c =
-    let q = err_from_is_err_and c.from_residual-in_err-index.result c.from_residual-in_err-index.ensures.1 in
+    let q = err_from_is_err_and c.from_residual.result c.from_residual.ensures.1 in
     rw (q.1, q.2) (λ s made. λ r e. records_refused (known_reported (allowed_by (as_run_options c.args.options)) (named (suite_in s c.args.known.suite))) (records_in c.args.known.history) r (c.in_err-index.ensures.value r e))
 
 pub returns-in_err-index-clause-scratch : goal.returns-in_err-index-clause-scratch
 returns-in_err-index-clause-scratch g c =
-    let q = err_from_is_err_and c.from_residual-in_err-index.result c.from_residual-in_err-index.ensures.1 in
+    let q = err_from_is_err_and c.from_residual.result c.from_residual.ensures.1 in
     rw (q.1, q.2) (λ s made true_ones. λ r e. records_refused (every_reported (allowed_by (as_run_options c.args.options)) (named (suite_in s c.args.known.suite))) (records_in c.args.known.history) r (c.in_err-index.ensures.value r e))
 
 pub returns-in_err-index-clause-meter : goal.returns-in_err-index-clause-meter
 returns-in_err-index-clause-meter g c =
-    let q = err_from_is_err_and c.from_residual-in_err-index.result c.from_residual-in_err-index.ensures.1 in
+    let q = err_from_is_err_and c.from_residual.result c.from_residual.ensures.1 in
     rw (q.1, q.2) (λ s made. meters_none (known_bounds (as_run_options c.args.options) (named (suite_in s c.args.known.suite))) (records_in c.args.known.history) c.args.meter.now c.in_err-index.field-0.0 c.in_err-index.ensures.value)
 
 pub returns-in_err-index-clause-refusal : goal.returns-in_err-index-clause-refusal
 returns-in_err-index-clause-refusal g c =
-    let q = err_from_is_err_and c.from_residual-in_err-index.result c.from_residual-in_err-index.ensures.1 in
+    let q = err_from_is_err_and c.from_residual.result c.from_residual.ensures.1 in
     rw (q.1, q.2) (λ r e. inr (c.in_err-index.ensures.value r e, refl))
 
 -- ---- memory runs out before the runs
