@@ -1,6 +1,7 @@
 -- What the job of a suite gives, in the words of the definitions.
 use Rattle.std.proofs.Common.{◌≡◌, ◌∙◌, ℕ, zero, suc, ◌+◌, ◌*◌, ◌<◌, ◌≤◌, Bool, true, false, eqb, List, [], ◌∷◌, ◌++◌, map, Result, Ok, Err, refl, sym, ap, subst, append_assoc, arith}
 use Rattle.std.specs.Prelude.{if◌then◌else◌}
+use Rattle.std.proofs.Math.Nat.{suc-mul}
 use Rattle.std.proofs.lemmas.Bool.{eqb-true}
 use Rattle.std.proofs.lemmas.List.{append-nil}
 use Rattle.class_link.specs.Info.{Info}
@@ -99,7 +100,7 @@ rose_within workers before after c rose = record {
 
 times : (workers n : ℕ) → 0 < workers → n ≤ workers * n
 times zero n some = absurd (omega (arith, some))
-times (suc k) n some = let e : suc k * n ≡ n + k * n = refl in omega (arith, e)
+times (suc k) n some = omega (arith, suc-mul k n)
 
 later_by : (least before after : ℕ) → before + least ≤ after → before ≤ after
 later_by least before after le = omega (arith, le)
