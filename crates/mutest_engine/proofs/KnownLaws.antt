@@ -216,6 +216,10 @@ meters_none bounds read before s refused = record {
 
 -- ---- a run
 
+-- A suite and the records of a history.
+abbrev Found : Type 0
+Found = NamedSuite × List RunRecord
+
 -- All that is known, where a tree tells its files.
 known_so : (o : RunOptions) (k : KnownJob) (loaded : LoadedSuite) (files : Files) → IsMade loaded k.suite → suite_at o.classes o.tests files ≡ Ok loaded → history_bytes o.history files ≡ Ok k.history
     → before_runs o files ≡ and_then (records_in k.history) (λ old. Ok (named (suite_in loaded k.suite), old))
@@ -254,8 +258,8 @@ module _ (held : Option Files) (o : RunOptions) (k : KnownJob) (known : IsKnownO
 
   run_is : (next : Next) (files : Files) → IsRead files → run_by o next files ≡ and_then (stated next) (λ r. sourced_answer o r files)
   run_is next files read =
-      ap (λ r. and_then r (λ x. and_then (next x.0 x.1) (λ r. sourced_answer o r files))) (known_so o k known.loaded files known.made read.0 read.1)
-      ∙ nested (records_in k.history) (λ old. (suite, old)) (λ x. next x.0 x.1) (λ r. sourced_answer o r files)
+      ap (λ (r : Result Found Refusal). and_then r (λ x. and_then (next x.0 x.1) (λ r. sourced_answer o r files))) (known_so o k known.loaded files known.made read.0 read.1)
+      ∙ nested {Y = Found} (records_in k.history) (λ old. (suite, old)) (λ x. next x.0 x.1) (λ r. sourced_answer o r files)
 
   all_read : IfSome held IsRead
   all_read = by_held held known.read known.old
@@ -334,8 +338,8 @@ module _ (held : Option Files) (o : RunOptions) (k : KnownJob) (known : IsKnownO
 
   bounds_is : (files : Files) → IsRead files → run_bounds o files ≡ own_bounds
   bounds_is files read =
-      ap (λ r. bounds_behind r (λ x. known_bounds o x.0 x.1)) (known_so o k known.loaded files known.made read.0 read.1)
-      ∙ nested_bounds (records_in k.history) (λ old. (suite, old)) (λ x. known_bounds o x.0 x.1)
+      ap (λ (r : Result Found Refusal). bounds_behind r (λ x. known_bounds o x.0 x.1)) (known_so o k known.loaded files known.made read.0 read.1)
+      ∙ nested_bounds {Y = Found} (records_in k.history) (λ old. (suite, old)) (λ x. known_bounds o x.0 x.1)
 
   meters_by : (before after : ℕ) (r : Result Answer Halt) → AnswerMeters before after own_bounds r → MetersRun held before after o r
   meters_by before after r m = by_held held all_read
@@ -361,11 +365,11 @@ halt_stays k before after s h is later refuses = (later, λ r e. stays_so r (ref
 
 pub before_held : (held : Option Files) (o : RunOptions) (h : Halt) → HaltsBefore held o h → AnswersHeld held (run_answer o) (Err h)
 before_held None o h halts = tt
-before_held (Some files) o h halts = λ r e. ap (λ x. and_then x (λ known. and_then (known_reported (allowed_by o) known.0 known.1) (λ r. sourced_answer o r files))) (halts r e)
+before_held (Some files) o h halts = λ r e. ap (λ (x : Result Found Refusal). and_then x (λ known. and_then (known_reported (allowed_by o) known.0 known.1) (λ r. sourced_answer o r files))) (halts r e)
 
 pub before_true : (held : Option Files) (o : RunOptions) (h : Halt) → HaltsBefore held o h → AnswersTrue held o (Err h)
 before_true None o h halts = tt
-before_true (Some files) o h halts = λ true_ones. λ r e. ap (λ x. and_then x (λ known. and_then (every_reported (allowed_by o) known.0 known.1) (λ r. sourced_answer o r files))) (halts r e)
+before_true (Some files) o h halts = λ true_ones. λ r e. ap (λ (x : Result Found Refusal). and_then x (λ known. and_then (every_reported (allowed_by o) known.0 known.1) (λ r. sourced_answer o r files))) (halts r e)
 
 pub before_meters : (held : Option Files) (o : RunOptions) (before : ℕ) (h : Halt) → HaltsBefore held o h → MetersRun held before before o (Err h)
 before_meters None o before h halts = tt
