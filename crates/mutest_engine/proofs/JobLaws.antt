@@ -72,7 +72,7 @@ pub record IsStopOf (ts : List Test) (f : JobFault) (s : Stop) : Type 0 where
   pub refused : (refusal : JobRefusal) → f ≡ fault.Refused refusal → Refuses (λ r. (r ≡ refusal_of ts refusal) × IsOfRuns r) s
   pub lost : ((refusal : JobRefusal) → f ≡ fault.Refused refusal → ⊥) → s ≡ stop.WantOfMemory
 
-no_refusal : (P : Refusal → Type 0) (s : Stop) → s ≡ stop.WantOfMemory → Refuses P s
+pub no_refusal : (P : Refusal → Type 0) (s : Stop) → s ≡ stop.WantOfMemory → Refuses P s
 no_refusal P s want = λ r is. let e : stop.WantOfMemory ≡ stop.Refused r = sym want ∙ is in absurd cc
 
 pub stop_refuses : (ts : List Test) (f : JobFault) (s : Stop) → IsStopOf ts f s → Refuses IsOfRuns s

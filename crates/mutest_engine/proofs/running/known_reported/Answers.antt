@@ -9,6 +9,7 @@ use Rattle.mutest_engine.specs.Made.{suite_in}
 use Rattle.mutest_engine.specs.NamedJobs.{named}
 use Rattle.mutest_engine.specs.Old.{indexed_records, records_in}
 use Rattle.mutest_engine.specs.Reported.{AreFilesOf, every_reported, known_reported}
+use Rattle.mutest_engine.proofs.JobLaws.{no_refusal}
 use Rattle.mutest_engine.proofs.KnownLaws.{after_records, asked_job, gives_every, gives_named, is_asked, job_refused, job_reports, may_run, meters_after, meters_lost, meters_named, meters_none, meters_on, meters_want, records_refused, true_then}
 use Rattle.mutest_engine.proofs.running.known_reported.Goals as goal
 
@@ -41,6 +42,21 @@ returns-in_err-index-clause-refusal g c =
     rw (q.1, q.2) (λ r e. inr (c.in_err-index.ensures.value r e, refl))
 
 -- ---- memory runs out before the runs
+
+pub returns-in_err-files-clause-value : goal.returns-in_err-files-clause-value
+returns-in_err-files-clause-value g c =
+    let q = err_from_is_err_and c.from_residual-in_err-files.result c.from_residual-in_err-files.ensures.1 in
+    rw (q.1) (λ s made. no_refusal _ q.0 q.2)
+
+pub returns-in_err-files-clause-scratch : goal.returns-in_err-files-clause-scratch
+returns-in_err-files-clause-scratch g c =
+    let q = err_from_is_err_and c.from_residual-in_err-files.result c.from_residual-in_err-files.ensures.1 in
+    rw (q.1) (λ s made true_ones. no_refusal _ q.0 q.2)
+
+pub returns-in_err-files-clause-refusal : goal.returns-in_err-files-clause-refusal
+returns-in_err-files-clause-refusal g c =
+    let q = err_from_is_err_and c.from_residual-in_err-files.result c.from_residual-in_err-files.ensures.1 in
+    rw (q.1) (no_refusal _ q.0 q.2)
 
 pub returns-in_err-files-clause-meter : goal.returns-in_err-files-clause-meter
 returns-in_err-files-clause-meter g c =
