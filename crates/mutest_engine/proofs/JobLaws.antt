@@ -75,6 +75,10 @@ pub record IsStopOf (ts : List Test) (f : JobFault) (s : Stop) : Type 0 where
 pub no_refusal : (P : Refusal → Type 0) (s : Stop) → s ≡ stop.WantOfMemory → Refuses P s
 no_refusal P s want = λ r is. let e : stop.WantOfMemory ≡ stop.Refused r = sym want ∙ is in absurd cc
 
+-- A job's refusal is told so.
+pub refused_by : (ts : List Test) (q : JobRefusal) (told : Refusal) → told ≡ refusal_of ts q → IsOfRuns told → Refuses (λ r. (r ≡ refusal_of ts q) × IsOfRuns r) (stop.Refused told)
+refused_by ts q told is of = λ r e. let same : told ≡ r = cc in (sym same ∙ is, subst IsOfRuns same of)
+
 pub stop_refuses : (ts : List Test) (f : JobFault) (s : Stop) → IsStopOf ts f s → Refuses IsOfRuns s
 stop_refuses ts (fault.Refused refusal) s is = λ r e. (is.refused refusal refl r e).1
 stop_refuses ts fault.Unwritable s is = no_refusal IsOfRuns s (is.lost (λ q e. absurd cc))
