@@ -67,8 +67,8 @@ returns-in_err-files-clause-meter g c =
 
 -- ---- the job
 
-pub job_made-requires : goal.job_made-requires
-job_made-requires g c =
+pub job_made-requires-after_bounds : goal.job_made-requires-after_bounds
+job_made-requires-after_bounds g c κs within =
     let o = as_run_options c.args.options in
     let suite = c.args.known.suite in
     let job = asked_job o c.as_slice-3.result c.as_slice-4.result c.from.result c.from-2.result in
