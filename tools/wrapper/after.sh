@@ -99,7 +99,7 @@ unread() {
     if [ -n "$path" ]; then
         echo "'$path' can't be read, or is no file"
     else
-        echo "a class file or a folder can't be read: closed to you, or its name isn't UTF-8"
+        echo "a class file, a folder, the history or a source can't be read: closed to you, or its name isn't UTF-8"
     fi
 }
 
@@ -143,6 +143,12 @@ lacking() {
     "$here/tools/lacks" "${tests[@]}" "${given[--classes]}" "${given[--tests]}" 2>/dev/null
 }
 
+bad_history() {
+    local what="is damaged at byte $1"
+    [ "$1" != 536870912 ] || what="has more than 536,870,912 bytes"
+    echo "the history '${given[--history]}' $what: without it all runs are made again"
+}
+
 explained() {
     local kind first second third fourth
     read -r _ kind first second third fourth < <(tr -d '\000' <"$answer")
@@ -158,7 +164,7 @@ explained() {
             echo "$first.$second can't be called as a test: $(test_rule "$third")"
         fi ;;
         8) not_green ;;
-        9) echo "the history '${given[--history]}' is damaged at byte $first: without it all runs are made again" ;;
+        9) bad_history "$first" ;;
         10) unread ;;
         11) unwritten "$first" ;;
         12) past_limit "$first" "$second" ;;
