@@ -32,7 +32,7 @@ tell "a first run" "$first"
 tell "nothing changed" "$(time_with --history "$work/history" --new-history "$work/next")"
 number=0
 while [ "$number" -lt "$count" ]; do
-    sed -i 's/int sum = 0;/int sum = -1 + 1;/' "$work/src/gen/C$number.java"
+    sed -i 's/int sum = 0;/int sum = from - from;/' "$work/src/gen/C$number.java"
     number=$((number + 20))
 done
 javac --release 8 -Xlint:-options -g:lines -d "$work/classes" "$work"/src/gen/*.java
