@@ -105,7 +105,8 @@ unread() {
 
 unwritten() {
     case $1 in
-        report | history | journal) echo "the $1 couldn't be written to '${given[--$1]-}'" ;;
+        report) echo "the report couldn't be written to '${given[--report]}'" ;;
+        history) echo "the report is written; the new history couldn't be, to '${given[--new-history]}'" ;;
         assembled) echo "the class file couldn't be written to '${given[--out]}'" ;;
         output) echo "standard output failed; what was to be written is written" ;;
     esac
