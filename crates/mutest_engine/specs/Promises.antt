@@ -70,7 +70,8 @@ LeavesOf old new answer end =
 -- and by what words and files decide.
 abbrev pub LeavesHeld : Option Files → Option Files → WordList → Status → Type 0
 LeavesHeld old new words end =
-    IfSome old (λ files. FilesAfter (writes_in (answer_of (texts words) files)) (Some files) new end)
+    IfSome old (λ files.
+    FilesAfter (writes_in (answer_of (texts words) files)) (Some files) new end)
 
 -- Nothing is written before the last run that is needed.
 abbrev pub WritesLast : Option Files → Option Files → WordList → ℕ → ℕ → Type 0
@@ -93,7 +94,9 @@ AnswersTruly held words result =
 
 -- What a call leaves where this is stated: its status, what the sink got, and what the tree holds
 -- then.
-pub record Leaves {O : Type 0} (faults : O → ℕ) (written : O → Option (List ℕ)) (stated : Result Answered Refusal) (old new : O) (before after : Option Files) (end : Status) : Type 0 where
+pub record Leaves {O : Type 0} (faults : O → ℕ) (written : O → Option (List ℕ))
+    (stated : Result Answered Refusal) (old new : O) (before after : Option Files) (end : Status)
+    : Type 0 where
   pub status : Agrees stated end
   pub printed : Prints (faults old) (faults new) (written old) (written new) stated end
   pub files : FilesAfter (writes_in stated) before after end
