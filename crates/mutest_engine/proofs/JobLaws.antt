@@ -1,16 +1,24 @@
 -- What the job of a suite gives, in the words of the definitions.
 use Rattle.std.proofs.Common.{◌≡◌, ◌∙◌, ℕ, zero, suc, ◌+◌, ◌*◌, ◌<◌, ◌≤◌, Bool, true, false, eqb, List, [], ◌∷◌, ◌++◌, map, Result, Ok, Err, refl, sym, ap, subst, append_assoc, arith}
 use Rattle.std.specs.Prelude.{if◌then◌else◌}
+use Rattle.std.proofs.Math.Nat.{suc-mul}
 use Rattle.std.proofs.lemmas.Bool.{eqb-true}
 use Rattle.std.proofs.lemmas.List.{append-nil}
+use Rattle.class_link.specs.Info.{Info}
+use Rattle.class_link.specs.declared.loaded.Loaded.{Loaded}
 use Rattle.class_table.specs.declared.scripted.Test.{Test}
 use Rattle.history_rules.specs.Laws.{AreWritable}
-use Rattle.job_answers.specs.Answers.{JobAnswer, JobCost}
+use Rattle.job_answers.specs.Answers.{JobAnswer, JobCost, job_answer, job_cost, job_reused}
 use Rattle.job_answers.specs.declared.refusal.JobRefusal.{JobRefusal}
-use Rattle.suite_runs.specs.Ending.{EndsAs, IsDone, MeterBy, MeterRose}
+use Rattle.job_rules.specs.Tried.{need}
+use Rattle.suite_jobs.specs.Jobs.{job_runs, says}
+use Rattle.suite_runs.specs.Ending.{CannotBeKept, EndsAs, EndsOf, IsDone, MeterBy, MeterRose, allowed_in, suite_of}
 use Rattle.suite_runs.specs.declared.fault.JobFault.{JobFault}
 use Rattle.suite_runs.specs.declared.fault.JobFault.TheVariants as fault
 use Rattle.suite_runs.specs.declared.job.JobDone.{JobDone}
+use Rattle.suite_runs.specs.declared.job.SuiteJob.{SuiteJob}
+use Rattle.suite_workers.specs.Old.{records_in}
+use Rattle.suite_workers.specs.declared.old_records.OldRecords.{OldRecords}
 use Rattle.mutator_ops.specs.declared.mutant.Verdict.{Verdict}
 use Rattle.new_history.specs.Left.{Left}
 use Rattle.mutest_engine.specs.Jobs.{RoseWithin, RoseInAll, Meters, job_bounds, job_made, new_history, refusal_of, with_history, with_left}
@@ -41,11 +49,11 @@ done_is x reused done is =
     let count = sym is.reused_is in
     (λ i. and_then (new_history (records i)) (λ history. Ok (record { verdicts = verdicts i; history = history; reused = count i })))
 
-pub done_writable : (answer : Result JobAnswer JobRefusal) (reused : ℕ) (unkept : Type 0) (done : JobDone) → EndsAs answer reused unkept (Ok done) → AreWritable done.history.records
+done_writable : (answer : Result JobAnswer JobRefusal) (reused : ℕ) (unkept : Type 0) (done : JobDone) → EndsAs answer reused unkept (Ok done) → AreWritable done.history.records
 done_writable (Ok x) reused unkept done is = subst AreWritable (sym is.records) is.writable
 done_writable (Err refusal) reused unkept done is = absurd is
 
-pub done_gives : (ts : List Test) (answer : Result JobAnswer JobRefusal) (reused : ℕ) (unkept : Type 0) (done : JobDone) (result : Result JobMade Stop) → EndsAs answer reused unkept (Ok done) → Gives (with_left done.verdicts done.history) result → Gives (job_made ts reused answer) result
+done_gives : (ts : List Test) (answer : Result JobAnswer JobRefusal) (reused : ℕ) (unkept : Type 0) (done : JobDone) (result : Result JobMade Stop) → EndsAs answer reused unkept (Ok done) → Gives (with_left done.verdicts done.history) result → Gives (job_made ts reused answer) result
 done_gives ts (Ok x) reused unkept done result is gives = subst (λ (stated : Result JobMade Refusal). Gives stated result) (sym (done_is x reused done is)) gives
 done_gives ts (Err refusal) reused unkept done result is gives = absurd is
 
@@ -64,15 +72,19 @@ pub record IsStopOf (ts : List Test) (f : JobFault) (s : Stop) : Type 0 where
   pub refused : (refusal : JobRefusal) → f ≡ fault.Refused refusal → Refuses (λ r. (r ≡ refusal_of ts refusal) × IsOfRuns r) s
   pub lost : ((refusal : JobRefusal) → f ≡ fault.Refused refusal → ⊥) → s ≡ stop.WantOfMemory
 
-no_refusal : (P : Refusal → Type 0) (s : Stop) → s ≡ stop.WantOfMemory → Refuses P s
+pub no_refusal : (P : Refusal → Type 0) (s : Stop) → s ≡ stop.WantOfMemory → Refuses P s
 no_refusal P s want = λ r is. let e : stop.WantOfMemory ≡ stop.Refused r = sym want ∙ is in absurd cc
+
+-- A job's refusal is told so.
+pub refused_by : (ts : List Test) (q : JobRefusal) (told : Refusal) → told ≡ refusal_of ts q → IsOfRuns told → Refuses (λ r. (r ≡ refusal_of ts q) × IsOfRuns r) (stop.Refused told)
+refused_by ts q told is of = λ r e. let same : told ≡ r = cc in (sym same ∙ is, subst IsOfRuns same of)
 
 pub stop_refuses : (ts : List Test) (f : JobFault) (s : Stop) → IsStopOf ts f s → Refuses IsOfRuns s
 stop_refuses ts (fault.Refused refusal) s is = λ r e. (is.refused refusal refl r e).1
 stop_refuses ts fault.Unwritable s is = no_refusal IsOfRuns s (is.lost (λ q e. absurd cc))
 stop_refuses ts fault.Memory s is = no_refusal IsOfRuns s (is.lost (λ q e. absurd cc))
 
-pub stop_gives : (ts : List Test) (answer : Result JobAnswer JobRefusal) (reused : ℕ) (unkept : Type 0) (f : JobFault) (s : Stop) → EndsAs answer reused unkept (Err f) → IsStopOf ts f s → Refuses (λ r. job_made ts reused answer ≡ Err r) s
+stop_gives : (ts : List Test) (answer : Result JobAnswer JobRefusal) (reused : ℕ) (unkept : Type 0) (f : JobFault) (s : Stop) → EndsAs answer reused unkept (Err f) → IsStopOf ts f s → Refuses (λ r. job_made ts reused answer ≡ Err r) s
 stop_gives ts (Ok x) reused unkept (fault.Refused refusal) s ends is = absurd ends
 stop_gives ts (Err q) reused unkept (fault.Refused refusal) s ends is = λ r e. ap (λ (z : JobRefusal). job_made ts reused (Err z)) (sym ends) ∙ ap (λ z. Err z) (sym (is.refused refusal refl r e).0)
 stop_gives ts answer reused unkept fault.Unwritable s ends is = no_refusal (λ r. job_made ts reused answer ≡ Err r) s (is.lost (λ q e. absurd cc))
@@ -92,7 +104,7 @@ rose_within workers before after c rose = record {
 
 times : (workers n : ℕ) → 0 < workers → n ≤ workers * n
 times zero n some = absurd (omega (arith, some))
-times (suc k) n some = let e : suc k * n ≡ n + k * n = refl in omega (arith, e)
+times (suc k) n some = omega (arith, suc-mul k n)
 
 later_by : (least before after : ℕ) → before + least ≤ after → before ≤ after
 later_by least before after le = omega (arith, le)
@@ -116,13 +128,44 @@ ended_by workers before after c (Err s) some rose = record {
   ended = λ r is. rose_within workers before after c rose;
 }
 
-pub done_meters : {X : Type 0} (workers before after : ℕ) (c : JobCost) (done : JobDone) (result : Result X Stop) → 0 < workers → MeterBy c workers before after (Ok done) → Meters (job_bounds workers c) before after result
+done_meters : {X : Type 0} (workers before after : ℕ) (c : JobCost) (done : JobDone) (result : Result X Stop) → 0 < workers → MeterBy c workers before after (Ok done) → Meters (job_bounds workers c) before after result
 done_meters workers before after c done result some rose = ended_by workers before after c result some rose
 
-pub stop_meters : {X : Type 0} (ts : List Test) (workers before after : ℕ) (c : JobCost) (f : JobFault) (s : Stop) → 0 < workers → MeterBy c workers before after (Err f) → IsStopOf ts f s → Meters {X = X} (job_bounds workers c) before after (Err s)
+stop_meters : {X : Type 0} (ts : List Test) (workers before after : ℕ) (c : JobCost) (f : JobFault) (s : Stop) → 0 < workers → MeterBy c workers before after (Err f) → IsStopOf ts f s → Meters {X = X} (job_bounds workers c) before after (Err s)
 stop_meters ts workers before after c (fault.Refused refusal) s some rose is = ended_by workers before after c (Err s) some rose
 stop_meters ts workers before after c fault.Unwritable s some rose is = ended_by workers before after c (Err s) some rose
 stop_meters ts workers before after c fault.Memory s some rose is = record {
   in_all = record { least = rose.0; most = rose.1 };
   ended = no_refusal (λ r. RoseWithin (job_bounds workers c) before after) s (is.lost (λ q e. absurd cc));
 }
+
+-- ---- of a suite
+
+module _ (p : List Info) (j : SuiteJob) (old : OldRecords) (files : List Loaded) where
+  abbrev answer : Result JobAnswer JobRefusal
+  answer = job_answer (allowed_in j) (suite_of files p j) (records_in old) j.all
+
+  abbrev reused : ℕ
+  reused = job_reused (allowed_in j) (suite_of files p j) (records_in old) j.all
+
+  abbrev unkept : Type 0
+  unkept = CannotBeKept old (need says j.all (job_runs (allowed_in j) (suite_of files p j) (records_in old)))
+
+  abbrev cost : JobCost
+  cost = job_cost (allowed_in j) (suite_of files p j) (records_in old) j.all
+
+  pub job_writable : (done : JobDone) → EndsOf (allowed_in j) (suite_of files p j) old j.all (Ok done) → AreWritable done.history.records
+  job_writable done ends = done_writable answer reused unkept done ends
+
+  pub job_gives : (done : JobDone) (result : Result JobMade Stop) → EndsOf (allowed_in j) (suite_of files p j) old j.all (Ok done) → Gives (with_left done.verdicts done.history) result
+      → Gives (job_made j.tests.now reused answer) result
+  job_gives done result ends gives = done_gives j.tests.now answer reused unkept done result ends gives
+
+  pub job_stops : (f : JobFault) (s : Stop) → EndsOf (allowed_in j) (suite_of files p j) old j.all (Err f) → IsStopOf j.tests.now f s → Refuses (λ r. job_made j.tests.now reused answer ≡ Err r) s
+  job_stops f s ends is = stop_gives j.tests.now answer reused unkept f s ends is
+
+  pub job_meters : {X : Type 0} (before after : ℕ) (done : JobDone) (result : Result X Stop) → 0 < j.workers → MeterBy cost j.workers before after (Ok done) → Meters (job_bounds j.workers cost) before after result
+  job_meters before after done result some rose = done_meters j.workers before after cost done result some rose
+
+  pub job_lost : {X : Type 0} (before after : ℕ) (f : JobFault) (s : Stop) → 0 < j.workers → MeterBy cost j.workers before after (Err f) → IsStopOf j.tests.now f s → Meters {X = X} (job_bounds j.workers cost) before after (Err s)
+  job_lost before after f s some rose is = stop_meters j.tests.now j.workers before after cost f s some rose is

@@ -1,5 +1,6 @@
 -- What is made of a suite and of old records, in the words of the definitions.
-use Rattle.std.proofs.Common.{◌≡◌, ◌∙◌, ◌⊎◌, inl, inr, ⊎_elim, ℕ, ◌+◌, ◌<◌, ◌≤◌, ◌^◌, false, List, length, Option, Some, None, Result, Ok, Err, refl, sym, ap, subst, arith}
+use Rattle.std.proofs.Common.{◌≡◌, ◌∙◌, inl, inr, ⊎_elim, ℕ, ◌<◌, ◌≤◌, ◌^◌, false, List, length, Option, Some, None, Result, Ok, Err, refl, sym, ap, subst, arith}
+use Rattle.std.specs.Borrow.{Bor}
 use Rattle.std.specs.Prelude.{All, IfSome}
 use Rattle.class_link.specs.declared.loaded.Loaded.{Loaded}
 use Rattle.class_records.specs.Profile.{profile}
@@ -22,7 +23,7 @@ use Rattle.suite_workers.specs.declared.old_records.OldRecords.{OldRecords}
 use Rattle.mutest_engine.specs.Answers.{Answered, answered}
 use Rattle.mutest_engine.specs.Decided.{AreTrueIn, CanReport, IsRunAnswer, allowed_by, before_runs, bounds_behind, known_bounds, run_answer, run_bounds, sourced_answer}
 use Rattle.mutest_engine.specs.Ends.{AnswerMeters, AnswersHeld, HaltStays, MayAnswer, MayReport, MetersRun, Stays}
-use Rattle.mutest_engine.specs.Jobs.{Bounds, GivesJob, Meters, MetersJob, job_bounds, job_made}
+use Rattle.mutest_engine.specs.Jobs.{Bounds, Meters, job_bounds, job_made}
 use Rattle.mutest_engine.specs.Known.{AnswersTrue, HaltsBefore, IsKnownOf, RefusesKnown}
 use Rattle.mutest_engine.specs.Made.{IsMade, made_suite, suite_in}
 use Rattle.mutest_engine.specs.NamedJobs.{NamedSuite, named, named_answer, named_reused}
@@ -55,6 +56,27 @@ pub record IsJobFor (o : RunOptions) (x : MadeSuite) (j : SuiteJob) : Type 0 whe
   pub steps : j.steps ≡ o.steps
   pub all : j.all ≡ false
   pub workers : j.workers ≡ o.workers
+
+-- The code asks this one.
+abbrev pub asked_job : RunOptions → Bor (List Test) → Bor (List Mutant) → ℕ → ℕ → SuiteJob
+asked_job o ts ms steps workers = record {
+  tests = ts;
+  mutants = ms;
+  limits = record { heap = o.heap; depth = o.depth };
+  steps = steps;
+  all = false;
+  workers = workers;
+}
+
+pub is_asked : (o : RunOptions) (x : MadeSuite) (ts : Bor (List Test)) (ms : Bor (List Mutant)) (steps workers : ℕ) → ts.now ≡ x.tests → ms.now ≡ x.mutants → steps ≡ o.steps → workers ≡ o.workers → IsJobFor o x (asked_job o ts ms steps workers)
+is_asked o x ts ms steps workers tests mutants steps_are workers_are = record {
+  tests = tests;
+  mutants = mutants;
+  limits = refl;
+  steps = steps_are;
+  all = refl;
+  workers = workers_are;
+}
 
 module _ (o : RunOptions) (s : LoadedSuite) (x : MadeSuite) (j : SuiteJob) (h : IsJobFor o x j) where
   abbrev files : List Loaded
@@ -113,9 +135,14 @@ module _ (o : RunOptions) (s : LoadedSuite) (x : MadeSuite) (j : SuiteJob) (h : 
       ∙ ap (λ n. job_made x.tests n (job_answer (allowed_by o) (suite_in s x) rs false)) (reused_is (allowed_by o) (suite_in s x) rs)
       ∙ ap (job_made x.tests (named_reused (allowed_by o) (named (suite_in s x)) rs)) (answer_is (allowed_by o) (suite_in s x) rs)
 
-  pub gives_named : (old : OldRecords) (result : Result JobMade Stop) → IsMade s x → GivesJob x.program j old result
-      → Gives (job_made x.tests (named_reused (allowed_by o) (named (suite_in s x)) (records_among old)) (named_answer (allowed_by o) (named (suite_in s x)) (records_among old))) result
-  gives_named old result made gives = subst (λ (stated : Result JobMade Refusal). Gives stated result) (made_is (records_among old)) (gives files (is_suite made))
+  -- Of these records.
+  abbrev pub GivesOf : List RunRecord → Result JobMade Stop → Type 0
+  GivesOf rs result =
+      (of : List Loaded) → IsSuiteOf of x.program j →
+      Gives (job_made j.tests.now (job_reused (allowed_in j) (suite_of of x.program j) rs j.all) (job_answer (allowed_in j) (suite_of of x.program j) rs j.all)) result
+
+  pub gives_named : (rs : List RunRecord) (result : Result JobMade Stop) → IsMade s x → GivesOf rs result → Gives (job_made x.tests (named_reused (allowed_by o) (named (suite_in s x)) rs) (named_answer (allowed_by o) (named (suite_in s x)) rs)) result
+  gives_named rs result made gives = subst (λ (stated : Result JobMade Refusal). Gives stated result) (made_is rs) (gives files (is_suite made))
 
   bounds_are : (rs : List RunRecord) → job_bounds j.workers (job_cost (allowed_in j) (suite_of files x.program j) rs j.all) ≡ known_bounds o (named (suite_in s x)) rs
   bounds_are rs =
@@ -126,9 +153,13 @@ module _ (o : RunOptions) (s : LoadedSuite) (x : MadeSuite) (j : SuiteJob) (h : 
       (λ i. job_bounds (workers i) (job_cost (allowed i) (suite i) rs (all i)))
       ∙ ap (job_bounds o.workers) (cost_is (allowed_by o) (suite_in s x) rs)
 
-  pub meters_named : (old : OldRecords) (before after : ℕ) (result : Result JobMade Stop) → IsMade s x → MetersJob x.program j old before after result
-      → Meters (known_bounds o (named (suite_in s x)) (records_among old)) before after result
-  meters_named old before after result made meters = subst (λ (b : Bounds). Meters b before after result) (bounds_are (records_among old)) (meters files (is_suite made))
+  abbrev pub MetersOf : List RunRecord → ℕ → ℕ → Result JobMade Stop → Type 0
+  MetersOf rs before after result =
+      (of : List Loaded) → IsSuiteOf of x.program j →
+      Meters (job_bounds j.workers (job_cost (allowed_in j) (suite_of of x.program j) rs j.all)) before after result
+
+  pub meters_named : (rs : List RunRecord) (before after : ℕ) (result : Result JobMade Stop) → IsMade s x → MetersOf rs before after result → Meters (known_bounds o (named (suite_in s x)) rs) before after result
+  meters_named rs before after result made meters = subst (λ (b : Bounds). Meters b before after result) (bounds_are rs) (meters files (is_suite made))
 
 -- ---- what is reported of it
 
@@ -185,6 +216,10 @@ meters_none bounds read before s refused = record {
 
 -- ---- a run
 
+-- A suite and the records of a history.
+abbrev Found : Type 0
+Found = NamedSuite × List RunRecord
+
 -- All that is known, where a tree tells its files.
 known_so : (o : RunOptions) (k : KnownJob) (loaded : LoadedSuite) (files : Files) → IsMade loaded k.suite → suite_at o.classes o.tests files ≡ Ok loaded → history_bytes o.history files ≡ Ok k.history
     → before_runs o files ≡ and_then (records_in k.history) (λ old. Ok (named (suite_in loaded k.suite), old))
@@ -223,8 +258,8 @@ module _ (held : Option Files) (o : RunOptions) (k : KnownJob) (known : IsKnownO
 
   run_is : (next : Next) (files : Files) → IsRead files → run_by o next files ≡ and_then (stated next) (λ r. sourced_answer o r files)
   run_is next files read =
-      ap (λ r. and_then r (λ x. and_then (next x.0 x.1) (λ r. sourced_answer o r files))) (known_so o k known.loaded files known.made read.0 read.1)
-      ∙ nested (records_in k.history) (λ old. (suite, old)) (λ x. next x.0 x.1) (λ r. sourced_answer o r files)
+      ap (λ (r : Result Found Refusal). and_then r (λ x. and_then (next x.0 x.1) (λ r. sourced_answer o r files))) (known_so o k known.loaded files known.made read.0 read.1)
+      ∙ nested {Y = Found} (records_in k.history) (λ old. (suite, old)) (λ x. next x.0 x.1) (λ r. sourced_answer o r files)
 
   all_read : IfSome held IsRead
   all_read = by_held held known.read known.old
@@ -303,8 +338,8 @@ module _ (held : Option Files) (o : RunOptions) (k : KnownJob) (known : IsKnownO
 
   bounds_is : (files : Files) → IsRead files → run_bounds o files ≡ own_bounds
   bounds_is files read =
-      ap (λ r. bounds_behind r (λ x. known_bounds o x.0 x.1)) (known_so o k known.loaded files known.made read.0 read.1)
-      ∙ nested_bounds (records_in k.history) (λ old. (suite, old)) (λ x. known_bounds o x.0 x.1)
+      ap (λ (r : Result Found Refusal). bounds_behind r (λ x. known_bounds o x.0 x.1)) (known_so o k known.loaded files known.made read.0 read.1)
+      ∙ nested_bounds {Y = Found} (records_in k.history) (λ old. (suite, old)) (λ x. known_bounds o x.0 x.1)
 
   meters_by : (before after : ℕ) (r : Result Answer Halt) → AnswerMeters before after own_bounds r → MetersRun held before after o r
   meters_by before after r m = by_held held all_read
@@ -330,11 +365,11 @@ halt_stays k before after s h is later refuses = (later, λ r e. stays_so r (ref
 
 pub before_held : (held : Option Files) (o : RunOptions) (h : Halt) → HaltsBefore held o h → AnswersHeld held (run_answer o) (Err h)
 before_held None o h halts = tt
-before_held (Some files) o h halts = λ r e. ap (λ x. and_then x (λ known. and_then (known_reported (allowed_by o) known.0 known.1) (λ r. sourced_answer o r files))) (halts r e)
+before_held (Some files) o h halts = λ r e. ap (λ (x : Result Found Refusal). and_then x (λ known. and_then (known_reported (allowed_by o) known.0 known.1) (λ r. sourced_answer o r files))) (halts r e)
 
 pub before_true : (held : Option Files) (o : RunOptions) (h : Halt) → HaltsBefore held o h → AnswersTrue held o (Err h)
 before_true None o h halts = tt
-before_true (Some files) o h halts = λ true_ones. λ r e. ap (λ x. and_then x (λ known. and_then (every_reported (allowed_by o) known.0 known.1) (λ r. sourced_answer o r files))) (halts r e)
+before_true (Some files) o h halts = λ true_ones. λ r e. ap (λ (x : Result Found Refusal). and_then x (λ known. and_then (every_reported (allowed_by o) known.0 known.1) (λ r. sourced_answer o r files))) (halts r e)
 
 pub before_meters : (held : Option Files) (o : RunOptions) (before : ℕ) (h : Halt) → HaltsBefore held o h → MetersRun held before before o (Err h)
 before_meters None o before h halts = tt

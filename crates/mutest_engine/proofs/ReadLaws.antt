@@ -1,6 +1,6 @@
 -- What is read before the first run of a job, one step after the other.
 use Rattle.std.proofs.Common.{◌≡◌, ◌∙◌, inl, inr, ℕ, List, [], ◌∷◌, Option, None, Some, Result, Ok, Err, ap, subst}
-use Rattle.std.specs.Prelude.{All, IfSome}
+use Rattle.std.specs.Prelude.{All, IfOk, IfSome}
 use Rattle.std.specs.List.{AllByRecursion}
 use Rattle.std.proofs.lemmas.List.Elements.{All-from_recursion}
 use Rattle.history_rules.specs.Items.{AllBy}
@@ -91,3 +91,8 @@ formed_behind before (r ∷ rs) others = (others.0.0, formed_behind (before_next
 -- Records that a history spells are formed.
 pub writable_formed : (rs : List RunRecord) → AreWritable rs → All IsFormed rs
 writable_formed rs others = All-from_recursion IsFormed rs (formed_behind [] rs others)
+
+-- Where there is a path, there may be bytes.
+pub some_path : (path : List ℕ) (r : Result (Option (List ℕ)) Halt) → IfOk r (IsOfPath (Some path))
+some_path path (Ok bytes) = tt
+some_path path (Err h) = tt

@@ -1,16 +1,17 @@
 -- What is read of sources, in the words of the call.
-use Rattle.std.proofs.Common.{◌≡◌, ◌∙◌, ℕ, List, Option, None, Some, Ok, Err, refl, ap, subst, arith}
-use Rattle.std.specs.Prelude.{IfSome}
+use Rattle.std.proofs.Common.{◌≡◌, ◌∙◌, ℕ, List, Option, None, Some, Result, Ok, Err, refl, ap, subst, arith}
+use Rattle.std.specs.Prelude.{IfOk, IfSome}
 use Rattle.mt_edge.specs.Files.{Files}
 use Rattle.report_pieces.specs.declared.input.Group.{Group}
 use Rattle.report_sources.specs.Sources.{sources_of, IsCaused, IsRead as IsReadOfSources, Refuses as RefusesSources}
 use Rattle.report_sources.specs.declared.fault.SourceFault.{SourceFault}
 use Rattle.report_sources.specs.declared.fault.SourceFault.TheVariants as fault
 use Rattle.mutest_engine.specs.Refusals.{IsOfRuns}
-use Rattle.mutest_engine.specs.Sources.{or_too_many, sources_below, halt_of}
+use Rattle.mutest_engine.specs.Sources.{AreNamed, or_too_many, sources_below, halt_of}
 use Rattle.mutest_engine.specs.Steps.{Failed, Halts, IsRead, RefusesReading}
 use Rattle.mutest_engine.specs.declared.refusal.Limit.TheVariants as limit
 use Rattle.mutest_engine.specs.declared.refusal.Refusal.TheVariants.{TooMany}
+use Rattle.mutest_engine.specs.declared.stop.Halt.{Halt}
 
 pub read_so : (held : Option Files) (folder : List ℕ) (groups : List Group) (sources : List (List ℕ)) → IfSome held (λ files. sources_of folder groups files ≡ Ok sources)
     → IfSome held (λ files. sources_below folder groups files ≡ Ok sources)
@@ -36,3 +37,8 @@ halts_so before now (fault.TooMany bytes) caused =
 halts_so before now fault.Failed caused =
     (λ r told. absurd cc, λ faults told. let e : 1 ≡ faults = cc in subst (λ (n : ℕ). Failed before now n) e (omega arith, caused.failed refl))
 halts_so before now fault.Memory caused = (λ r told. absurd cc, λ faults told. absurd cc)
+
+-- Where a folder is named, there may be sources.
+pub some_folder : (folder : List ℕ) (r : Result (List (List ℕ)) Halt) → IfOk r (AreNamed (Some folder))
+some_folder folder (Ok sources) = tt
+some_folder folder (Err h) = tt

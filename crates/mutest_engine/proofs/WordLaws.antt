@@ -1,9 +1,9 @@
 -- What is answered to words, by the command that they are.
-use Rattle.std.proofs.Common.{◌≡◌, ◌∙◌, ℕ, List, Option, None, Some, Result, Ok, Err, sym, ap, subst}
+use Rattle.std.proofs.Common.{◌≡◌, ℕ, List, Option, None, Some, Result, Ok, Err, sym, ap, subst}
 use Rattle.mt_edge.specs.Files.{Files}
 use Rattle.mutest_words.specs.Words.{AsmOptions, Command, RunOptions, assemble_class, list_class, run_suite}
 use Rattle.mutest_engine.specs.Answers.{Answered, answered}
-use Rattle.mutest_engine.specs.Decided.{HasTrueRecords, asm_answer, bounds_to, list_answer, scratch_to}
+use Rattle.mutest_engine.specs.Decided.{HasTrueRecords, answer_of, answer_to, asm_answer, bounds_to, list_answer, scratch_to}
 use Rattle.mutest_engine.specs.Ends.{AnswerMeters, AnswersHeld, MetersRun, MetersWords}
 use Rattle.mutest_engine.specs.Known.{AnswersTrue}
 use Rattle.mutest_engine.specs.Promises.{AnswersTruly}
@@ -19,9 +19,22 @@ use Rattle.mutest_engine.proofs.MadeLaws.{early_meters, none_meters}
 abbrev scratch_by : Result Command Refusal → Files → Result Answered Refusal
 scratch_by said files = and_then said (λ command. scratch_to command files)
 
--- ---- from scratch
+abbrev answer_by : Result Command Refusal → Files → Result Answered Refusal
+answer_by said files = and_then said (λ command. answer_to command files)
 
 module _ (words : List (List ℕ)) where
+  -- ---- what the words and the files decide
+
+  pub command_held : (held : Option Files) (command : Command) (r : Result Answer Halt) → words_of words ≡ Ok command → AnswersHeld held (λ files. answer_to command files) r → AnswersHeld held (λ files. answer_of words files) r
+  command_held None command r is answers = tt
+  command_held (Some files) command r is answers = subst (λ (x : Result Command Refusal). ReadsBy answered (answer_by x files) r) (sym is) answers
+
+  pub refused_held : (held : Option Files) (s : Stop) (h : Halt) → Refuses (λ r. words_of words ≡ Err r) s → IsHaltOf s h → AnswersHeld held (λ files. answer_of words files) (Err h)
+  refused_held None s h refuses is = tt
+  refused_held (Some files) s h refuses is = λ r e. ap (λ x. answer_by x files) (refuses r (is.0 r e))
+
+  -- ---- from scratch
+
   pub list_truly : (held : Option Files) (path : List ℕ) (r : Result Answer Halt) → words_of words ≡ Ok (list_class path) → AnswersHeld held (list_answer path) r → AnswersTruly held words r
   list_truly None path r is answers = tt
   list_truly (Some files) path r is answers = λ true_ones. subst (λ (x : Result Command Refusal). ReadsBy answered (scratch_by x files) r) (sym is) answers

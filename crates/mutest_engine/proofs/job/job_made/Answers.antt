@@ -1,20 +1,24 @@
-use Rattle.mutest_engine.proofs.JobLaws.{done_writable, done_gives, done_meters, stop_gives, stop_meters, stop_refuses}
+use Rattle.mutest_engine.proofs.JobLaws.{job_gives, job_lost, job_meters, job_stops, job_writable, stop_refuses}
 use Rattle.mutest_engine.proofs.job.job_made.Goals as goal
 
 pub made_of-requires : goal.made_of-requires
-made_of-requires g c = done_writable _ _ _ c.in-Ok.done (c.in-Ok.ensures.ends c.requires.files c.requires.suite)
+made_of-requires g c = job_writable c.args.program.now c.args.job.now c.args.old c.requires.files c.in-Ok.done (c.in-Ok.ensures.ends c.requires.files c.requires.suite)
 
 pub returns-in-Ok-clause-value : goal.returns-in-Ok-clause-value
-returns-in-Ok-clause-value g c = λ files suite. done_gives c.args.job.now.tests.now _ _ _ c.in-Ok.done c.made_of.result (c.in-Ok.ensures.ends files suite) c.made_of.ensures.value
+returns-in-Ok-clause-value g c = λ files suite.
+    job_gives c.args.program.now c.args.job.now c.args.old files c.in-Ok.done c.made_of.result (c.in-Ok.ensures.ends files suite) c.made_of.ensures.value
 
 pub returns-in-Ok-clause-meter : goal.returns-in-Ok-clause-meter
-returns-in-Ok-clause-meter g c = λ files suite. done_meters c.args.job.now.workers c.args.meter.now c.run_job.new.meter _ c.in-Ok.done c.made_of.result c.requires.some_workers (c.in-Ok.ensures.meter files suite)
+returns-in-Ok-clause-meter g c = λ files suite.
+    job_meters c.args.program.now c.args.job.now c.args.old files c.args.meter.now c.run_job.new.meter c.in-Ok.done c.made_of.result c.requires.some_workers (c.in-Ok.ensures.meter files suite)
 
 pub returns-in-Err-clause-value : goal.returns-in-Err-clause-value
-returns-in-Err-clause-value g c = λ files suite. stop_gives c.args.job.now.tests.now _ _ _ c.in-Err.fault c.stop_of.result (c.in-Err.ensures.ends files suite) (record { refused = c.stop_of.ensures.refused; lost = c.stop_of.ensures.lost })
+returns-in-Err-clause-value g c = λ files suite.
+    job_stops c.args.program.now c.args.job.now c.args.old files c.in-Err.fault c.stop_of.result (c.in-Err.ensures.ends files suite) (record { refused = c.stop_of.ensures.refused; lost = c.stop_of.ensures.lost })
 
 pub returns-in-Err-clause-meter : goal.returns-in-Err-clause-meter
-returns-in-Err-clause-meter g c = λ files suite. stop_meters c.args.job.now.tests.now c.args.job.now.workers c.args.meter.now c.run_job.new.meter _ c.in-Err.fault c.stop_of.result c.requires.some_workers (c.in-Err.ensures.meter files suite) (record { refused = c.stop_of.ensures.refused; lost = c.stop_of.ensures.lost })
+returns-in-Err-clause-meter g c = λ files suite.
+    job_lost c.args.program.now c.args.job.now c.args.old files c.args.meter.now c.run_job.new.meter c.in-Err.fault c.stop_of.result c.requires.some_workers (c.in-Err.ensures.meter files suite) (record { refused = c.stop_of.ensures.refused; lost = c.stop_of.ensures.lost })
 
 pub returns-in-Err-clause-refusal : goal.returns-in-Err-clause-refusal
 returns-in-Err-clause-refusal g c = stop_refuses c.args.job.now.tests.now c.in-Err.fault c.stop_of.result (record { refused = c.stop_of.ensures.refused; lost = c.stop_of.ensures.lost })

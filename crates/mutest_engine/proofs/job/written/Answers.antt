@@ -1,9 +1,11 @@
-use Rattle.std.proofs.Common.{◌∙◌, Err, ap, sym}
+use Rattle.std.proofs.Common.{◌∙◌, Err, ap, sym, subst}
 use Rattle.mutest_engine.specs.Jobs.{or_long}
-use Rattle.mutest_engine.proofs.RefusalLaws.{of_written}
-use Rattle.std.proofs.Common.{subst}
 use Rattle.mutest_engine.specs.Refusals.{IsOfRuns}
+use Rattle.mutest_engine.proofs.RefusalLaws.{of_written}
 use Rattle.mutest_engine.proofs.job.written.Goals as goal
+
+pub returns-in-Ok-clause-value : goal.returns-in-Ok-clause-value
+returns-in-Ok-clause-value c = ap or_long c.in-Ok.ensures
 
 pub returns-in-Err-clause-value : goal.returns-in-Err-clause-value
 returns-in-Err-clause-value c = λ r e.

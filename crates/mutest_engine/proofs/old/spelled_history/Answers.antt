@@ -8,5 +8,8 @@ returns-in-Err-clause-value c = λ r e.
     let is = c.bad_history.ensures r e in
     ap or_bad_history (c.in-Err.ensures.read is.1) ∙ ap (λ x. Err x) (sym is.0)
 
+pub returns-in-Ok-clause-value : goal.returns-in-Ok-clause-value
+returns-in-Ok-clause-value c = ap or_bad_history c.in-Ok.ensures.read
+
 pub returns-in-Ok-clause-form : goal.returns-in-Ok-clause-form
 returns-in-Ok-clause-form c = writable_formed _ c.in-Ok.ensures.form

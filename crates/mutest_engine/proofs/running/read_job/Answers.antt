@@ -6,12 +6,12 @@ use Rattle.mutest_engine.proofs.running.read_job.Goals as goal
 
 pub returns-in_err-loaded-clause-refused : goal.returns-in_err-loaded-clause-refused
 returns-in_err-loaded-clause-refused g c =
-    let p = err_from_is_err_and c.from_residual-in_err-loaded.result c.from_residual-in_err-loaded.ensures.1 in
+    let p = err_from_is_err_and c.from_residual.result c.from_residual.ensures.1 in
     rw (p.1, p.2) (loaded_halts (g.T.Tree.holds c.args.tree.now) (as_run_options c.args.options) c.in_err-loaded.field-0.0 c.in_err-loaded.ensures.value)
 
 pub returns-in_err-loaded-clause-tree : goal.returns-in_err-loaded-clause-tree
 returns-in_err-loaded-clause-tree g c =
-    let p = err_from_is_err_and c.from_residual-in_err-loaded.result c.from_residual-in_err-loaded.ensures.1 in
+    let p = err_from_is_err_and c.from_residual.result c.from_residual.ensures.1 in
     rw (p.1, p.2) (c.in_err-loaded.ensures.tree.0, of_suite (as_run_options c.args.options) c.in_err-loaded.field-0.0 _ _ c.in_err-loaded.ensures.tree.1)
 
 pub returns-in_err-suite-clause-refused : goal.returns-in_err-suite-clause-refused

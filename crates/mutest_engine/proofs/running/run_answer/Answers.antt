@@ -16,32 +16,32 @@ known_reported-requires-clause-made g c = (c.in_ok-known.ensures.known.loaded, c
 
 pub returns-in_err-known-clause-value : goal.returns-in_err-known-clause-value
 returns-in_err-known-clause-value g c =
-    let p = err_from_is_err_and c.from_residual-in_err-known.result c.from_residual-in_err-known.ensures.1 in
+    let p = err_from_is_err_and c.from_residual.result c.from_residual.ensures.1 in
     rw (p.1, p.2) (before_held (g.T.Tree.holds c.args.tree.now) (as_run_options c.args.options) c.in_err-known.field-0.0 c.in_err-known.ensures.refused)
 
 pub returns-in_err-known-clause-scratch : goal.returns-in_err-known-clause-scratch
 returns-in_err-known-clause-scratch g c =
-    let p = err_from_is_err_and c.from_residual-in_err-known.result c.from_residual-in_err-known.ensures.1 in
+    let p = err_from_is_err_and c.from_residual.result c.from_residual.ensures.1 in
     rw (p.1, p.2) (before_true (g.T.Tree.holds c.args.tree.now) (as_run_options c.args.options) c.in_err-known.field-0.0 c.in_err-known.ensures.refused)
 
 pub returns-in_err-known-clause-answer : goal.returns-in_err-known-clause-answer
 returns-in_err-known-clause-answer g c =
-    let p = err_from_is_err_and c.from_residual-in_err-known.result c.from_residual-in_err-known.ensures.1 in
+    let p = err_from_is_err_and c.from_residual.result c.from_residual.ensures.1 in
     rw (p.1, p.2) (before_may (as_run_options c.args.options) c.in_err-known.field-0.0 c.in_err-known.ensures.tree.1.0)
 
 pub returns-in_err-known-clause-meter : goal.returns-in_err-known-clause-meter
 returns-in_err-known-clause-meter g c =
-    let p = err_from_is_err_and c.from_residual-in_err-known.result c.from_residual-in_err-known.ensures.1 in
+    let p = err_from_is_err_and c.from_residual.result c.from_residual.ensures.1 in
     rw (p.1, p.2) (before_meters (g.T.Tree.holds c.args.tree.now) (as_run_options c.args.options) c.args.meter.now c.in_err-known.field-0.0 c.in_err-known.ensures.refused)
 
 pub returns-in_err-known-clause-stays : goal.returns-in_err-known-clause-stays
 returns-in_err-known-clause-stays g c =
-    let p = err_from_is_err_and c.from_residual-in_err-known.result c.from_residual-in_err-known.ensures.1 in
+    let p = err_from_is_err_and c.from_residual.result c.from_residual.ensures.1 in
     rw (p.1, p.2) (early_stays c.args.meter.now c.in_err-known.field-0.0)
 
 pub returns-in_err-known-clause-tree : goal.returns-in_err-known-clause-tree
 returns-in_err-known-clause-tree g c =
-    let p = err_from_is_err_and c.from_residual-in_err-known.result c.from_residual-in_err-known.ensures.1 in
+    let p = err_from_is_err_and c.from_residual.result c.from_residual.ensures.1 in
     rw (p.1, p.2) (c.in_err-known.ensures.tree.0, c.in_err-known.ensures.tree.1.1)
 
 -- ---- at the runs

@@ -1,14 +1,17 @@
-use Rattle.std.proofs.Common.{◌≡◌, ◌∙◌, ℕ, List, Option, None, Some, Result, Ok, ap, sym}
+use Rattle.std.proofs.Common.{◌≡◌, ◌∙◌, ℕ, List, Option, None, Some, Result, Ok, Err, ap, sym}
 use Rattle.std.specs.Prelude.{IfSome}
+use Rattle.std.proofs.lemmas.Result.{err_from_is_err_and}
 use Rattle.mt_edge.specs.Files.{Files}
 use Rattle.mutest_words.specs.Words.{RunOptions, as_run_options}
 use Rattle.report_pieces.specs.declared.input.Group.{Group}
 use Rattle.mutest_engine.specs.Answers.{Answered}
 use Rattle.mutest_engine.specs.Decided.{report_answer, sourced_answer}
+use Rattle.mutest_engine.specs.Ends.{AnswersHeld}
 use Rattle.mutest_engine.specs.Sources.{sources_in}
-use Rattle.mutest_engine.specs.Steps.{and_then}
+use Rattle.mutest_engine.specs.Steps.{and_then, RefusesReading}
 use Rattle.mutest_engine.specs.declared.refusal.Refusal.{Refusal}
 use Rattle.mutest_engine.specs.declared.reported.Reported.{Reported}
+use Rattle.mutest_engine.specs.declared.stop.Halt.{Halt}
 use Rattle.mutest_engine.proofs.MadeLaws.{made_held, made_reads, made_report}
 use Rattle.mutest_engine.proofs.running.sourced_answer.Goals as goal
 
@@ -22,6 +25,19 @@ sourced None options reported groups sources same read = tt
 sourced (Some files) options reported groups sources same read =
     ap (λ gs. and_then (sources_in options.sources gs files) (with_answer options reported)) (sym same)
     ∙ ap (λ x. and_then x (with_answer options reported)) read
+
+-- They are refused.
+refused : (held : Option Files) (options : RunOptions) (reported : Reported) (groups : List Group) (h : Halt) → groups ≡ reported.input.files → IfSome held (λ files. RefusesReading (λ r. sources_in options.sources groups files ≡ Err r) h)
+    → AnswersHeld held (sourced_answer options reported) (Err h)
+refused None options reported groups h same read = tt
+refused (Some files) options reported groups h same read = λ r e.
+    ap (λ gs. and_then (sources_in options.sources gs files) (with_answer options reported)) (sym same)
+    ∙ ap (λ x. and_then x (with_answer options reported)) (read r e)
+
+pub returns-in_err-sources-clause-value : goal.returns-in_err-sources-clause-value
+returns-in_err-sources-clause-value g c =
+    let q = err_from_is_err_and c.from_residual.result c.from_residual.ensures.1 in
+    rw (q.1, q.2) (refused (g.T.Tree.holds c.args.tree.now) (as_run_options c.args.options) c.args.reported c.as_slice.result.now c.in_err-sources.field-0.0 c.as_slice.ensures c.in_err-sources.ensures.value)
 
 pub returns-clause-value : goal.returns-clause-value
 returns-clause-value g c =

@@ -1,11 +1,112 @@
-use Rattle.std.proofs.Common.{map}
+use Rattle.std.proofs.Common.{◌≡◌, map, Ok, subst}
 use Rattle.std.proofs.lemmas.Result.{err_from_is_err_and}
 use Rattle.std.specs.Prelude.{string_bytes}
-use Rattle.mutest_engine.specs.Words.{words_of}
-use Rattle.mutest_engine.proofs.Ends.{untold_halt}
+use Rattle.mutest_words.specs.Words.{as_asm_command, as_asm_options, as_command, as_run_command, as_run_options, list_class}
+use Rattle.mutest_words.specs.declared.command.Command.{Command as Found}
+use Rattle.mutest_engine.specs.Words.{IsLimited, words_of}
+use Rattle.mutest_engine.proofs.Ends.{untold_answer, untold_halt}
+use Rattle.mutest_engine.proofs.WordLaws.{asm_meters, asm_truly, command_held, list_meters, list_truly, refused_held, refused_meters, refused_truly, run_meters, run_truly}
 use Rattle.mutest_engine.proofs.top_call.answer_to.Goals as goal
+
+-- ---- the words are refused
 
 pub returns-in_err-file-clause-untold : goal.returns-in_err-file-clause-untold
 returns-in_err-file-clause-untold g c =
     let p = err_from_is_err_and c.from_residual.result c.from_residual.ensures.1 in
-    rw p.1 (untold_halt (words_of (map string_bytes c.args.words.now.items)) c.in_err-file.field-0.0 p.0 c.in_err-file.ensures p.2)
+    rw p.1 (untold_halt (words_of (map string_bytes c.args.words.now.items)) c.in_err-file.field-0.0 p.0 c.in_err-file.ensures.value p.2)
+
+pub returns-in_err-file-clause-value : goal.returns-in_err-file-clause-value
+returns-in_err-file-clause-value g c =
+    let p = err_from_is_err_and c.from_residual.result c.from_residual.ensures.1 in
+    rw p.1 (refused_held (map string_bytes c.args.words.now.items) (g.T.Tree.holds c.args.tree.now) c.in_err-file.field-0.0 p.0 c.in_err-file.ensures.value p.2)
+
+pub returns-in_err-file-clause-scratch : goal.returns-in_err-file-clause-scratch
+returns-in_err-file-clause-scratch g c =
+    let p = err_from_is_err_and c.from_residual.result c.from_residual.ensures.1 in
+    rw p.1 (refused_truly (map string_bytes c.args.words.now.items) (g.T.Tree.holds c.args.tree.now) c.in_err-file.field-0.0 p.0 c.in_err-file.ensures.value p.2)
+
+pub returns-in_err-file-clause-meter : goal.returns-in_err-file-clause-meter
+returns-in_err-file-clause-meter g c =
+    let p = err_from_is_err_and c.from_residual.result c.from_residual.ensures.1 in
+    rw p.1 (refused_meters (map string_bytes c.args.words.now.items) (g.T.Tree.holds c.args.tree.now) c.args.meter.now c.in_err-file.field-0.0 p.0 c.in_err-file.ensures.value p.2)
+
+-- ---- `list`
+
+pub returns-in-List-clause-value : goal.returns-in-List-clause-value
+returns-in-List-clause-value g c =
+    let words = map string_bytes c.args.words.now.items in
+    let is = subst (λ (x : Found). words_of words ≡ Ok (as_command x)) c.in-List.is c.in_ok-file.ensures.value in
+    command_held words (g.T.Tree.holds c.args.tree.now) (list_class c.in-List.file.now) c.list_answer.result is c.list_answer.ensures.value
+
+pub returns-in-List-clause-untold : goal.returns-in-List-clause-untold
+returns-in-List-clause-untold g c =
+    let words = map string_bytes c.args.words.now.items in
+    let is = subst (λ (x : Found). words_of words ≡ Ok (as_command x)) c.in-List.is c.in_ok-file.ensures.value in
+    untold_answer (words_of words) (list_class c.in-List.file.now) c.list_answer.result is c.list_answer.ensures.answer
+
+pub returns-in-List-clause-scratch : goal.returns-in-List-clause-scratch
+returns-in-List-clause-scratch g c =
+    let words = map string_bytes c.args.words.now.items in
+    let is = subst (λ (x : Found). words_of words ≡ Ok (as_command x)) c.in-List.is c.in_ok-file.ensures.value in
+    list_truly words (g.T.Tree.holds c.args.tree.now) c.in-List.file.now c.list_answer.result is c.list_answer.ensures.value
+
+pub returns-in-List-clause-meter : goal.returns-in-List-clause-meter
+returns-in-List-clause-meter g c =
+    let words = map string_bytes c.args.words.now.items in
+    let is = subst (λ (x : Found). words_of words ≡ Ok (as_command x)) c.in-List.is c.in_ok-file.ensures.value in
+    list_meters words (g.T.Tree.holds c.args.tree.now) c.in-List.file.now c.args.meter.now c.list_answer.result is
+
+-- ---- `run`
+
+pub run_answer-requires-clause-limited : goal.run_answer-requires-clause-limited
+run_answer-requires-clause-limited g c = subst (λ (x : Found). IsLimited x) c.in-Run.is c.in_ok-file.ensures.limits
+
+pub returns-in-Run-clause-value : goal.returns-in-Run-clause-value
+returns-in-Run-clause-value g c =
+    let words = map string_bytes c.args.words.now.items in
+    let is = subst (λ (x : Found). words_of words ≡ Ok (as_command x)) c.in-Run.is c.in_ok-file.ensures.value in
+    command_held words (g.T.Tree.holds c.args.tree.now) (as_run_command c.in-Run.options) c.run_answer.result is c.run_answer.ensures.value
+
+pub returns-in-Run-clause-untold : goal.returns-in-Run-clause-untold
+returns-in-Run-clause-untold g c =
+    let words = map string_bytes c.args.words.now.items in
+    let is = subst (λ (x : Found). words_of words ≡ Ok (as_command x)) c.in-Run.is c.in_ok-file.ensures.value in
+    untold_answer (words_of words) (as_run_command c.in-Run.options) c.run_answer.result is c.run_answer.ensures.answer
+
+pub returns-in-Run-clause-scratch : goal.returns-in-Run-clause-scratch
+returns-in-Run-clause-scratch g c =
+    let words = map string_bytes c.args.words.now.items in
+    let is = subst (λ (x : Found). words_of words ≡ Ok (as_command x)) c.in-Run.is c.in_ok-file.ensures.value in
+    run_truly words (g.T.Tree.holds c.args.tree.now) (as_run_options c.in-Run.options) c.run_answer.result is c.run_answer.ensures.scratch
+
+pub returns-in-Run-clause-meter : goal.returns-in-Run-clause-meter
+returns-in-Run-clause-meter g c =
+    let words = map string_bytes c.args.words.now.items in
+    let is = subst (λ (x : Found). words_of words ≡ Ok (as_command x)) c.in-Run.is c.in_ok-file.ensures.value in
+    run_meters words (g.T.Tree.holds c.args.tree.now) (as_run_options c.in-Run.options) c.args.meter.now c.run_answer.new.meter c.run_answer.result is c.run_answer.ensures.meter
+
+-- ---- `asm`
+
+pub returns-in-Assemble-clause-value : goal.returns-in-Assemble-clause-value
+returns-in-Assemble-clause-value g c =
+    let words = map string_bytes c.args.words.now.items in
+    let is = subst (λ (x : Found). words_of words ≡ Ok (as_command x)) c.in-Assemble.is c.in_ok-file.ensures.value in
+    command_held words (g.T.Tree.holds c.args.tree.now) (as_asm_command c.in-Assemble.options) c.asm_answer.result is c.asm_answer.ensures.value
+
+pub returns-in-Assemble-clause-untold : goal.returns-in-Assemble-clause-untold
+returns-in-Assemble-clause-untold g c =
+    let words = map string_bytes c.args.words.now.items in
+    let is = subst (λ (x : Found). words_of words ≡ Ok (as_command x)) c.in-Assemble.is c.in_ok-file.ensures.value in
+    untold_answer (words_of words) (as_asm_command c.in-Assemble.options) c.asm_answer.result is c.asm_answer.ensures.answer
+
+pub returns-in-Assemble-clause-scratch : goal.returns-in-Assemble-clause-scratch
+returns-in-Assemble-clause-scratch g c =
+    let words = map string_bytes c.args.words.now.items in
+    let is = subst (λ (x : Found). words_of words ≡ Ok (as_command x)) c.in-Assemble.is c.in_ok-file.ensures.value in
+    asm_truly words (g.T.Tree.holds c.args.tree.now) (as_asm_options c.in-Assemble.options) c.asm_answer.result is c.asm_answer.ensures.value
+
+pub returns-in-Assemble-clause-meter : goal.returns-in-Assemble-clause-meter
+returns-in-Assemble-clause-meter g c =
+    let words = map string_bytes c.args.words.now.items in
+    let is = subst (λ (x : Found). words_of words ≡ Ok (as_command x)) c.in-Assemble.is c.in_ok-file.ensures.value in
+    asm_meters words (g.T.Tree.holds c.args.tree.now) (as_asm_options c.in-Assemble.options) c.args.meter.now c.asm_answer.result is
