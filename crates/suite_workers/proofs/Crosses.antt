@@ -1,6 +1,6 @@
 -- What workers own crosses to their threads. Of a type without a model there are two facts: `x_fields_send` of its row as a
 -- field of another type, and `x_send` of its own row, as in a list.
-use denote.Param.Send.{IsSend, IsSync, sendable, recorded_send}
+use denote.Param.Send.{IsSend, sendable, recorded_send}
 use Rattle.std.proofs.Crossing.{crosses}
 use Rattle.suite_workers.proofs.Rings.{seq_send}
 use Rattle.suite_workers.proofs.ProgramParts.{class_info_send, class_info_sync, program_send}
