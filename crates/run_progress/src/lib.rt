@@ -62,8 +62,7 @@ impl<'a, R: Clock + Eprint> Progress<'a, R> {
         let left = cells.saturating_sub(ended);
         let seconds = millis / 1000;
         let more = seconds_left(millis, ended, left);
-        let _shown = eprint!(
-            self.rt;
+        let _shown = eprint!(self.rt;
             "\rmutest: {ended} of {cells} runs, {seconds} s, about {more} s left\x1b[K"
         );
     }
@@ -85,8 +84,9 @@ impl<'a, R: Clock + Eprint> Gate for Progress<'a, R> {
         if millis < written.saturating_add(PAUSE) {
             return;
         }
-        let taken =
-            self.written.compare_exchange(written, millis, Ordering::SeqCst, Ordering::SeqCst);
+        let taken = self
+            .written
+            .compare_exchange(written, millis, Ordering::SeqCst, Ordering::SeqCst);
         if taken.is_ok() {
             self.show(millis, ended);
         }
