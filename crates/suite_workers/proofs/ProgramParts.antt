@@ -364,143 +364,397 @@ pub comparison_sync : IsSync Comparison.the_row
 comparison_sync = recorded_sync _ _ _ (Comparison.the_type).to_one comparison_fields_sync
 
 pub instruction_fields_send : IsSend (Instruction.the_field).row
-instruction_fields_send = enum_send (E.shape Instruction.the_type)
-    (tt,
-    (tt,
-    ((i32_send, tt),
-    ((i64_send, tt),
-    ((u32_send, tt),
-    ((u32_send, tt),
-    ((u16_send, tt),
-    ((u16_send, tt),
-    ((u16_send, tt),
-    ((u16_send, tt),
-    ((u16_send, tt),
-    ((u16_send, tt),
-    ((element_fields_send, tt),
-    ((element_fields_send, tt),
-    (tt,
-    (tt,
-    (tt,
-    (tt,
-    (tt,
-    (tt,
-    (tt,
-    (tt,
-    (tt,
-    ((operation_fields_send, tt),
-    ((operation_fields_send, tt),
-    (tt,
-    (tt,
-    ((shift_kind_fields_send, tt),
-    ((shift_kind_fields_send, tt),
-    ((u16_send, (i16_send, tt)),
-    ((conversion_fields_send, tt),
-    (tt,
-    ((comparison_fields_send, (u32_send, tt)),
-    ((comparison_fields_send, (u32_send, tt)),
-    ((u32_send, tt),
-    ((u32_send, tt),
-    ((u32_send, tt),
-    ((u32_send, tt),
-    ((u32_send, tt),
-    ((u32_send, tt),
-    ((u32_send, tt),
-    (tt,
-    (tt,
-    (tt,
-    (tt,
-    ((u32_send, tt),
-    ((u32_send, tt),
-    ((u32_send, tt),
-    ((u32_send, tt),
-    ((u32_send, tt),
-    ((u32_send, tt),
-    ((u32_send, tt),
-    ((u32_send, tt),
-    ((u32_send, tt),
-    ((u8_send, tt),
-    ((u32_send, tt),
-    ((u32_send, (u8_send, tt)),
-    (tt,
-    (tt,
-    ((u32_send, tt),
-    ((u32_send, tt),
-    (tt,
-    (tt,
-    (tt,
-    tt))))))))))))))))))))))))))))))))))))))))))))))))))))))))))))))))
+instruction_fields_send = enum_send (E.shape Instruction.the_type) (
+  tt,
+  (
+    tt,
+    (
+      (i32_send, tt),
+      (
+        (i64_send, tt),
+        (
+          (u32_send, tt),
+          (
+            (u32_send, tt),
+            (
+              (u16_send, tt),
+              (
+                (u16_send, tt),
+                (
+                  (u16_send, tt),
+                  (
+                    (u16_send, tt),
+                    (
+                      (u16_send, tt),
+                      (
+                        (u16_send, tt),
+                        (
+                          (element_fields_send, tt),
+                          (
+                            (element_fields_send, tt),
+                            (
+                              tt,
+                              (
+                                tt,
+                                (
+                                  tt,
+                                  (
+                                    tt,
+                                    (
+                                      tt,
+                                      (
+                                        tt,
+                                        (
+                                          tt,
+                                          (
+                                            tt,
+                                            (
+                                              tt,
+                                              (
+                                                (operation_fields_send, tt),
+                                                (
+                                                  (operation_fields_send, tt),
+                                                  (
+                                                    tt,
+                                                    (
+                                                      tt,
+                                                      (
+                                                        (shift_kind_fields_send, tt),
+                                                        (
+                                                          (shift_kind_fields_send, tt),
+                                                          (
+                                                            (u16_send, (i16_send, tt)),
+                                                            (
+                                                              (conversion_fields_send, tt),
+                                                              (
+                                                                tt,
+                                                                (
+                                                                  (comparison_fields_send, (u32_send, tt)),
+                                                                  (
+                                                                    (comparison_fields_send, (u32_send, tt)),
+                                                                    (
+                                                                      (u32_send, tt),
+                                                                      (
+                                                                        (u32_send, tt),
+                                                                        (
+                                                                          (u32_send, tt),
+                                                                          (
+                                                                            (u32_send, tt),
+                                                                            (
+                                                                              (u32_send, tt),
+                                                                              (
+                                                                                (u32_send, tt),
+                                                                                (
+                                                                                  (u32_send, tt),
+                                                                                  (
+                                                                                    tt,
+                                                                                    (
+                                                                                      tt,
+                                                                                      (
+                                                                                        tt,
+                                                                                        (
+                                                                                          tt,
+                                                                                          (
+                                                                                            (u32_send, tt),
+                                                                                            (
+                                                                                              (u32_send, tt),
+                                                                                              (
+                                                                                                (u32_send, tt),
+                                                                                                (
+                                                                                                  (u32_send, tt),
+                                                                                                  (
+                                                                                                    (u32_send, tt),
+                                                                                                    (
+                                                                                                      (u32_send, tt),
+                                                                                                      (
+                                                                                                        (u32_send, tt),
+                                                                                                        (
+                                                                                                          (u32_send, tt),
+                                                                                                          (
+                                                                                                            (u32_send, tt),
+                                                                                                            (
+                                                                                                              (u8_send, tt),
+                                                                                                              (
+                                                                                                                (u32_send, tt),
+                                                                                                                (
+                                                                                                                  (u32_send, (u8_send, tt)),
+                                                                                                                  (
+                                                                                                                    tt,
+                                                                                                                    (
+                                                                                                                      tt,
+                                                                                                                      (
+                                                                                                                        (u32_send, tt),
+                                                                                                                        (
+                                                                                                                          (u32_send, tt),
+                                                                                                                          (
+                                                                                                                            tt,
+                                                                                                                            (
+                                                                                                                              tt,
+                                                                                                                              (
+                                                                                                                                tt,
+                                                                                                                                tt,
+                                                                                                                              ),
+                                                                                                                            ),
+                                                                                                                          ),
+                                                                                                                        ),
+                                                                                                                      ),
+                                                                                                                    ),
+                                                                                                                  ),
+                                                                                                                ),
+                                                                                                              ),
+                                                                                                            ),
+                                                                                                          ),
+                                                                                                        ),
+                                                                                                      ),
+                                                                                                    ),
+                                                                                                  ),
+                                                                                                ),
+                                                                                              ),
+                                                                                            ),
+                                                                                          ),
+                                                                                        ),
+                                                                                      ),
+                                                                                    ),
+                                                                                  ),
+                                                                                ),
+                                                                              ),
+                                                                            ),
+                                                                          ),
+                                                                        ),
+                                                                      ),
+                                                                    ),
+                                                                  ),
+                                                                ),
+                                                              ),
+                                                            ),
+                                                          ),
+                                                        ),
+                                                      ),
+                                                    ),
+                                                  ),
+                                                ),
+                                              ),
+                                            ),
+                                          ),
+                                        ),
+                                      ),
+                                    ),
+                                  ),
+                                ),
+                              ),
+                            ),
+                          ),
+                        ),
+                      ),
+                    ),
+                  ),
+                ),
+              ),
+            ),
+          ),
+        ),
+      ),
+    ),
+  ),
+)
 
 pub instruction_send : IsSend Instruction.the_row
 instruction_send = recorded_send _ _ _ (Instruction.the_type).to_one instruction_fields_send
 
 pub instruction_fields_sync : IsSync (Instruction.the_field).row
-instruction_fields_sync = enum_sync (E.shape Instruction.the_type)
-    (tt,
-    (tt,
-    ((i32_sync, tt),
-    ((i64_sync, tt),
-    ((u32_sync, tt),
-    ((u32_sync, tt),
-    ((u16_sync, tt),
-    ((u16_sync, tt),
-    ((u16_sync, tt),
-    ((u16_sync, tt),
-    ((u16_sync, tt),
-    ((u16_sync, tt),
-    ((element_fields_sync, tt),
-    ((element_fields_sync, tt),
-    (tt,
-    (tt,
-    (tt,
-    (tt,
-    (tt,
-    (tt,
-    (tt,
-    (tt,
-    (tt,
-    ((operation_fields_sync, tt),
-    ((operation_fields_sync, tt),
-    (tt,
-    (tt,
-    ((shift_kind_fields_sync, tt),
-    ((shift_kind_fields_sync, tt),
-    ((u16_sync, (i16_sync, tt)),
-    ((conversion_fields_sync, tt),
-    (tt,
-    ((comparison_fields_sync, (u32_sync, tt)),
-    ((comparison_fields_sync, (u32_sync, tt)),
-    ((u32_sync, tt),
-    ((u32_sync, tt),
-    ((u32_sync, tt),
-    ((u32_sync, tt),
-    ((u32_sync, tt),
-    ((u32_sync, tt),
-    ((u32_sync, tt),
-    (tt,
-    (tt,
-    (tt,
-    (tt,
-    ((u32_sync, tt),
-    ((u32_sync, tt),
-    ((u32_sync, tt),
-    ((u32_sync, tt),
-    ((u32_sync, tt),
-    ((u32_sync, tt),
-    ((u32_sync, tt),
-    ((u32_sync, tt),
-    ((u32_sync, tt),
-    ((u8_sync, tt),
-    ((u32_sync, tt),
-    ((u32_sync, (u8_sync, tt)),
-    (tt,
-    (tt,
-    ((u32_sync, tt),
-    ((u32_sync, tt),
-    (tt,
-    (tt,
-    (tt,
-    tt))))))))))))))))))))))))))))))))))))))))))))))))))))))))))))))))
+instruction_fields_sync = enum_sync (E.shape Instruction.the_type) (
+  tt,
+  (
+    tt,
+    (
+      (i32_sync, tt),
+      (
+        (i64_sync, tt),
+        (
+          (u32_sync, tt),
+          (
+            (u32_sync, tt),
+            (
+              (u16_sync, tt),
+              (
+                (u16_sync, tt),
+                (
+                  (u16_sync, tt),
+                  (
+                    (u16_sync, tt),
+                    (
+                      (u16_sync, tt),
+                      (
+                        (u16_sync, tt),
+                        (
+                          (element_fields_sync, tt),
+                          (
+                            (element_fields_sync, tt),
+                            (
+                              tt,
+                              (
+                                tt,
+                                (
+                                  tt,
+                                  (
+                                    tt,
+                                    (
+                                      tt,
+                                      (
+                                        tt,
+                                        (
+                                          tt,
+                                          (
+                                            tt,
+                                            (
+                                              tt,
+                                              (
+                                                (operation_fields_sync, tt),
+                                                (
+                                                  (operation_fields_sync, tt),
+                                                  (
+                                                    tt,
+                                                    (
+                                                      tt,
+                                                      (
+                                                        (shift_kind_fields_sync, tt),
+                                                        (
+                                                          (shift_kind_fields_sync, tt),
+                                                          (
+                                                            (u16_sync, (i16_sync, tt)),
+                                                            (
+                                                              (conversion_fields_sync, tt),
+                                                              (
+                                                                tt,
+                                                                (
+                                                                  (comparison_fields_sync, (u32_sync, tt)),
+                                                                  (
+                                                                    (comparison_fields_sync, (u32_sync, tt)),
+                                                                    (
+                                                                      (u32_sync, tt),
+                                                                      (
+                                                                        (u32_sync, tt),
+                                                                        (
+                                                                          (u32_sync, tt),
+                                                                          (
+                                                                            (u32_sync, tt),
+                                                                            (
+                                                                              (u32_sync, tt),
+                                                                              (
+                                                                                (u32_sync, tt),
+                                                                                (
+                                                                                  (u32_sync, tt),
+                                                                                  (
+                                                                                    tt,
+                                                                                    (
+                                                                                      tt,
+                                                                                      (
+                                                                                        tt,
+                                                                                        (
+                                                                                          tt,
+                                                                                          (
+                                                                                            (u32_sync, tt),
+                                                                                            (
+                                                                                              (u32_sync, tt),
+                                                                                              (
+                                                                                                (u32_sync, tt),
+                                                                                                (
+                                                                                                  (u32_sync, tt),
+                                                                                                  (
+                                                                                                    (u32_sync, tt),
+                                                                                                    (
+                                                                                                      (u32_sync, tt),
+                                                                                                      (
+                                                                                                        (u32_sync, tt),
+                                                                                                        (
+                                                                                                          (u32_sync, tt),
+                                                                                                          (
+                                                                                                            (u32_sync, tt),
+                                                                                                            (
+                                                                                                              (u8_sync, tt),
+                                                                                                              (
+                                                                                                                (u32_sync, tt),
+                                                                                                                (
+                                                                                                                  (u32_sync, (u8_sync, tt)),
+                                                                                                                  (
+                                                                                                                    tt,
+                                                                                                                    (
+                                                                                                                      tt,
+                                                                                                                      (
+                                                                                                                        (u32_sync, tt),
+                                                                                                                        (
+                                                                                                                          (u32_sync, tt),
+                                                                                                                          (
+                                                                                                                            tt,
+                                                                                                                            (
+                                                                                                                              tt,
+                                                                                                                              (
+                                                                                                                                tt,
+                                                                                                                                tt,
+                                                                                                                              ),
+                                                                                                                            ),
+                                                                                                                          ),
+                                                                                                                        ),
+                                                                                                                      ),
+                                                                                                                    ),
+                                                                                                                  ),
+                                                                                                                ),
+                                                                                                              ),
+                                                                                                            ),
+                                                                                                          ),
+                                                                                                        ),
+                                                                                                      ),
+                                                                                                    ),
+                                                                                                  ),
+                                                                                                ),
+                                                                                              ),
+                                                                                            ),
+                                                                                          ),
+                                                                                        ),
+                                                                                      ),
+                                                                                    ),
+                                                                                  ),
+                                                                                ),
+                                                                              ),
+                                                                            ),
+                                                                          ),
+                                                                        ),
+                                                                      ),
+                                                                    ),
+                                                                  ),
+                                                                ),
+                                                              ),
+                                                            ),
+                                                          ),
+                                                        ),
+                                                      ),
+                                                    ),
+                                                  ),
+                                                ),
+                                              ),
+                                            ),
+                                          ),
+                                        ),
+                                      ),
+                                    ),
+                                  ),
+                                ),
+                              ),
+                            ),
+                          ),
+                        ),
+                      ),
+                    ),
+                  ),
+                ),
+              ),
+            ),
+          ),
+        ),
+      ),
+    ),
+  ),
+)
 
 pub instruction_sync : IsSync Instruction.the_row
 instruction_sync = recorded_sync _ _ _ (Instruction.the_type).to_one instruction_fields_sync

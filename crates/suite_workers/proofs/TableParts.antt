@@ -274,227 +274,649 @@ pub machine_classes_sync : IsSync MachineClasses.the_row
 machine_classes_sync = search (class_id_fields_sync, class_id_sync, sendable, crosses) depth 60 fits 60000
 
 pub op_fields_send : IsSend (Op.the_field).row
-op_fields_send = enum_send (E.shape Op.the_type)
-    (tt,
-    (tt,
-    ((i32_send, tt),
-    ((u32_send, tt),
-    ((u32_send, tt),
-    ((u32_send, tt),
-    ((u16_send, tt),
-    ((u16_send, tt),
-    ((u16_send, tt),
-    ((u16_send, tt),
-    ((u16_send, tt),
-    ((u16_send, tt),
-    (tt,
-    (tt,
-    (tt,
-    (tt,
-    (tt,
-    (tt,
-    (tt,
-    (tt,
-    (tt,
-    (tt,
-    (tt,
-    (tt,
-    (tt,
-    (tt,
-    (tt,
-    (tt,
-    (tt,
-    (tt,
-    (tt,
-    (tt,
-    (tt,
-    (tt,
-    (tt,
-    (tt,
-    (tt,
-    (tt,
-    (tt,
-    (tt,
-    (tt,
-    (tt,
-    (tt,
-    (tt,
-    (tt,
-    (tt,
-    (tt,
-    (tt,
-    (tt,
-    (tt,
-    (tt,
-    (tt,
-    (tt,
-    (tt,
-    (tt,
-    (tt,
-    (tt,
-    ((u16_send, (i16_send, tt)),
-    (tt,
-    (tt,
-    (tt,
-    (tt,
-    (tt,
-    (tt,
-    ((u32_send, tt),
-    ((u32_send, tt),
-    ((u32_send, tt),
-    ((u32_send, tt),
-    ((u32_send, tt),
-    ((u32_send, tt),
-    ((u32_send, tt),
-    ((u32_send, tt),
-    ((u32_send, tt),
-    ((u32_send, tt),
-    ((u32_send, tt),
-    ((u32_send, tt),
-    ((u32_send, tt),
-    ((u32_send, tt),
-    ((u32_send, tt),
-    ((u32_send, tt),
-    ((u32_send, tt),
-    ((u32_send, tt),
-    ((u32_send, tt),
-    (tt,
-    (tt,
-    (tt,
-    (tt,
-    ((u32_send, tt),
-    ((u32_send, tt),
-    ((u32_send, tt),
-    ((u32_send, tt),
-    ((u32_send, tt),
-    ((u32_send, tt),
-    ((u32_send, tt),
-    ((u32_send, tt),
-    ((u32_send, tt),
-    ((u8_send, tt),
-    ((u32_send, tt),
-    ((u8_send, (u32_send, tt)),
-    (tt,
-    (tt,
-    ((u32_send, tt),
-    ((u32_send, tt),
-    (tt,
-    (tt,
-    (tt,
-    tt))))))))))))))))))))))))))))))))))))))))))))))))))))))))))))))))))))))))))))))))))))))))))))))))))))))))))
+op_fields_send = enum_send (E.shape Op.the_type) (
+  tt,
+  (
+    tt,
+    (
+      (i32_send, tt),
+      (
+        (u32_send, tt),
+        (
+          (u32_send, tt),
+          (
+            (u32_send, tt),
+            (
+              (u16_send, tt),
+              (
+                (u16_send, tt),
+                (
+                  (u16_send, tt),
+                  (
+                    (u16_send, tt),
+                    (
+                      (u16_send, tt),
+                      (
+                        (u16_send, tt),
+                        (
+                          tt,
+                          (
+                            tt,
+                            (
+                              tt,
+                              (
+                                tt,
+                                (
+                                  tt,
+                                  (
+                                    tt,
+                                    (
+                                      tt,
+                                      (
+                                        tt,
+                                        (
+                                          tt,
+                                          (
+                                            tt,
+                                            (
+                                              tt,
+                                              (
+                                                tt,
+                                                (
+                                                  tt,
+                                                  (
+                                                    tt,
+                                                    (
+                                                      tt,
+                                                      (
+                                                        tt,
+                                                        (
+                                                          tt,
+                                                          (
+                                                            tt,
+                                                            (
+                                                              tt,
+                                                              (
+                                                                tt,
+                                                                (
+                                                                  tt,
+                                                                  (
+                                                                    tt,
+                                                                    (
+                                                                      tt,
+                                                                      (
+                                                                        tt,
+                                                                        (
+                                                                          tt,
+                                                                          (
+                                                                            tt,
+                                                                            (
+                                                                              tt,
+                                                                              (
+                                                                                tt,
+                                                                                (
+                                                                                  tt,
+                                                                                  (
+                                                                                    tt,
+                                                                                    (
+                                                                                      tt,
+                                                                                      (
+                                                                                        tt,
+                                                                                        (
+                                                                                          tt,
+                                                                                          (
+                                                                                            tt,
+                                                                                            (
+                                                                                              tt,
+                                                                                              (
+                                                                                                tt,
+                                                                                                (
+                                                                                                  tt,
+                                                                                                  (
+                                                                                                    tt,
+                                                                                                    (
+                                                                                                      tt,
+                                                                                                      (
+                                                                                                        tt,
+                                                                                                        (
+                                                                                                          tt,
+                                                                                                          (
+                                                                                                            tt,
+                                                                                                            (
+                                                                                                              tt,
+                                                                                                              (
+                                                                                                                tt,
+                                                                                                                (
+                                                                                                                  tt,
+                                                                                                                  (
+                                                                                                                    (u16_send, (i16_send, tt)),
+                                                                                                                    (
+                                                                                                                      tt,
+                                                                                                                      (
+                                                                                                                        tt,
+                                                                                                                        (
+                                                                                                                          tt,
+                                                                                                                          (
+                                                                                                                            tt,
+                                                                                                                            (
+                                                                                                                              tt,
+                                                                                                                              (
+                                                                                                                                tt,
+                                                                                                                                (
+                                                                                                                                  (u32_send, tt),
+                                                                                                                                  (
+                                                                                                                                    (u32_send, tt),
+                                                                                                                                    (
+                                                                                                                                      (u32_send, tt),
+                                                                                                                                      (
+                                                                                                                                        (u32_send, tt),
+                                                                                                                                        (
+                                                                                                                                          (u32_send, tt),
+                                                                                                                                          (
+                                                                                                                                            (u32_send, tt),
+                                                                                                                                            (
+                                                                                                                                              (u32_send, tt),
+                                                                                                                                              (
+                                                                                                                                                (u32_send, tt),
+                                                                                                                                                (
+                                                                                                                                                  (u32_send, tt),
+                                                                                                                                                  (
+                                                                                                                                                    (u32_send, tt),
+                                                                                                                                                    (
+                                                                                                                                                      (u32_send, tt),
+                                                                                                                                                      (
+                                                                                                                                                        (u32_send, tt),
+                                                                                                                                                        (
+                                                                                                                                                          (u32_send, tt),
+                                                                                                                                                          (
+                                                                                                                                                            (u32_send, tt),
+                                                                                                                                                            (
+                                                                                                                                                              (u32_send, tt),
+                                                                                                                                                              (
+                                                                                                                                                                (u32_send, tt),
+                                                                                                                                                                (
+                                                                                                                                                                  (u32_send, tt),
+                                                                                                                                                                  (
+                                                                                                                                                                    (u32_send, tt),
+                                                                                                                                                                    (
+                                                                                                                                                                      (u32_send, tt),
+                                                                                                                                                                      (
+                                                                                                                                                                        tt,
+                                                                                                                                                                        (
+                                                                                                                                                                          tt,
+                                                                                                                                                                          (
+                                                                                                                                                                            tt,
+                                                                                                                                                                            (
+                                                                                                                                                                              tt,
+                                                                                                                                                                              (
+                                                                                                                                                                                (u32_send, tt),
+                                                                                                                                                                                (
+                                                                                                                                                                                  (u32_send, tt),
+                                                                                                                                                                                  (
+                                                                                                                                                                                    (u32_send, tt),
+                                                                                                                                                                                    (
+                                                                                                                                                                                      (u32_send, tt),
+                                                                                                                                                                                      (
+                                                                                                                                                                                        (u32_send, tt),
+                                                                                                                                                                                        (
+                                                                                                                                                                                          (u32_send, tt),
+                                                                                                                                                                                          (
+                                                                                                                                                                                            (u32_send, tt),
+                                                                                                                                                                                            (
+                                                                                                                                                                                              (u32_send, tt),
+                                                                                                                                                                                              (
+                                                                                                                                                                                                (u32_send, tt),
+                                                                                                                                                                                                (
+                                                                                                                                                                                                  (u8_send, tt),
+                                                                                                                                                                                                  (
+                                                                                                                                                                                                    (u32_send, tt),
+                                                                                                                                                                                                    (
+                                                                                                                                                                                                      (u8_send, (u32_send, tt)),
+                                                                                                                                                                                                      (
+                                                                                                                                                                                                        tt,
+                                                                                                                                                                                                        (
+                                                                                                                                                                                                          tt,
+                                                                                                                                                                                                          (
+                                                                                                                                                                                                            (u32_send, tt),
+                                                                                                                                                                                                            (
+                                                                                                                                                                                                              (u32_send, tt),
+                                                                                                                                                                                                              (
+                                                                                                                                                                                                                tt,
+                                                                                                                                                                                                                (
+                                                                                                                                                                                                                  tt,
+                                                                                                                                                                                                                  (
+                                                                                                                                                                                                                    tt,
+                                                                                                                                                                                                                    tt,
+                                                                                                                                                                                                                  ),
+                                                                                                                                                                                                                ),
+                                                                                                                                                                                                              ),
+                                                                                                                                                                                                            ),
+                                                                                                                                                                                                          ),
+                                                                                                                                                                                                        ),
+                                                                                                                                                                                                      ),
+                                                                                                                                                                                                    ),
+                                                                                                                                                                                                  ),
+                                                                                                                                                                                                ),
+                                                                                                                                                                                              ),
+                                                                                                                                                                                            ),
+                                                                                                                                                                                          ),
+                                                                                                                                                                                        ),
+                                                                                                                                                                                      ),
+                                                                                                                                                                                    ),
+                                                                                                                                                                                  ),
+                                                                                                                                                                                ),
+                                                                                                                                                                              ),
+                                                                                                                                                                            ),
+                                                                                                                                                                          ),
+                                                                                                                                                                        ),
+                                                                                                                                                                      ),
+                                                                                                                                                                    ),
+                                                                                                                                                                  ),
+                                                                                                                                                                ),
+                                                                                                                                                              ),
+                                                                                                                                                            ),
+                                                                                                                                                          ),
+                                                                                                                                                        ),
+                                                                                                                                                      ),
+                                                                                                                                                    ),
+                                                                                                                                                  ),
+                                                                                                                                                ),
+                                                                                                                                              ),
+                                                                                                                                            ),
+                                                                                                                                          ),
+                                                                                                                                        ),
+                                                                                                                                      ),
+                                                                                                                                    ),
+                                                                                                                                  ),
+                                                                                                                                ),
+                                                                                                                              ),
+                                                                                                                            ),
+                                                                                                                          ),
+                                                                                                                        ),
+                                                                                                                      ),
+                                                                                                                    ),
+                                                                                                                  ),
+                                                                                                                ),
+                                                                                                              ),
+                                                                                                            ),
+                                                                                                          ),
+                                                                                                        ),
+                                                                                                      ),
+                                                                                                    ),
+                                                                                                  ),
+                                                                                                ),
+                                                                                              ),
+                                                                                            ),
+                                                                                          ),
+                                                                                        ),
+                                                                                      ),
+                                                                                    ),
+                                                                                  ),
+                                                                                ),
+                                                                              ),
+                                                                            ),
+                                                                          ),
+                                                                        ),
+                                                                      ),
+                                                                    ),
+                                                                  ),
+                                                                ),
+                                                              ),
+                                                            ),
+                                                          ),
+                                                        ),
+                                                      ),
+                                                    ),
+                                                  ),
+                                                ),
+                                              ),
+                                            ),
+                                          ),
+                                        ),
+                                      ),
+                                    ),
+                                  ),
+                                ),
+                              ),
+                            ),
+                          ),
+                        ),
+                      ),
+                    ),
+                  ),
+                ),
+              ),
+            ),
+          ),
+        ),
+      ),
+    ),
+  ),
+)
 
 pub op_send : IsSend Op.the_row
 op_send = recorded_send _ _ _ (Op.the_type).to_one op_fields_send
 
 pub op_fields_sync : IsSync (Op.the_field).row
-op_fields_sync = enum_sync (E.shape Op.the_type)
-    (tt,
-    (tt,
-    ((i32_sync, tt),
-    ((u32_sync, tt),
-    ((u32_sync, tt),
-    ((u32_sync, tt),
-    ((u16_sync, tt),
-    ((u16_sync, tt),
-    ((u16_sync, tt),
-    ((u16_sync, tt),
-    ((u16_sync, tt),
-    ((u16_sync, tt),
-    (tt,
-    (tt,
-    (tt,
-    (tt,
-    (tt,
-    (tt,
-    (tt,
-    (tt,
-    (tt,
-    (tt,
-    (tt,
-    (tt,
-    (tt,
-    (tt,
-    (tt,
-    (tt,
-    (tt,
-    (tt,
-    (tt,
-    (tt,
-    (tt,
-    (tt,
-    (tt,
-    (tt,
-    (tt,
-    (tt,
-    (tt,
-    (tt,
-    (tt,
-    (tt,
-    (tt,
-    (tt,
-    (tt,
-    (tt,
-    (tt,
-    (tt,
-    (tt,
-    (tt,
-    (tt,
-    (tt,
-    (tt,
-    (tt,
-    (tt,
-    (tt,
-    (tt,
-    ((u16_sync, (i16_sync, tt)),
-    (tt,
-    (tt,
-    (tt,
-    (tt,
-    (tt,
-    (tt,
-    ((u32_sync, tt),
-    ((u32_sync, tt),
-    ((u32_sync, tt),
-    ((u32_sync, tt),
-    ((u32_sync, tt),
-    ((u32_sync, tt),
-    ((u32_sync, tt),
-    ((u32_sync, tt),
-    ((u32_sync, tt),
-    ((u32_sync, tt),
-    ((u32_sync, tt),
-    ((u32_sync, tt),
-    ((u32_sync, tt),
-    ((u32_sync, tt),
-    ((u32_sync, tt),
-    ((u32_sync, tt),
-    ((u32_sync, tt),
-    ((u32_sync, tt),
-    ((u32_sync, tt),
-    (tt,
-    (tt,
-    (tt,
-    (tt,
-    ((u32_sync, tt),
-    ((u32_sync, tt),
-    ((u32_sync, tt),
-    ((u32_sync, tt),
-    ((u32_sync, tt),
-    ((u32_sync, tt),
-    ((u32_sync, tt),
-    ((u32_sync, tt),
-    ((u32_sync, tt),
-    ((u8_sync, tt),
-    ((u32_sync, tt),
-    ((u8_sync, (u32_sync, tt)),
-    (tt,
-    (tt,
-    ((u32_sync, tt),
-    ((u32_sync, tt),
-    (tt,
-    (tt,
-    (tt,
-    tt))))))))))))))))))))))))))))))))))))))))))))))))))))))))))))))))))))))))))))))))))))))))))))))))))))))))))
+op_fields_sync = enum_sync (E.shape Op.the_type) (
+  tt,
+  (
+    tt,
+    (
+      (i32_sync, tt),
+      (
+        (u32_sync, tt),
+        (
+          (u32_sync, tt),
+          (
+            (u32_sync, tt),
+            (
+              (u16_sync, tt),
+              (
+                (u16_sync, tt),
+                (
+                  (u16_sync, tt),
+                  (
+                    (u16_sync, tt),
+                    (
+                      (u16_sync, tt),
+                      (
+                        (u16_sync, tt),
+                        (
+                          tt,
+                          (
+                            tt,
+                            (
+                              tt,
+                              (
+                                tt,
+                                (
+                                  tt,
+                                  (
+                                    tt,
+                                    (
+                                      tt,
+                                      (
+                                        tt,
+                                        (
+                                          tt,
+                                          (
+                                            tt,
+                                            (
+                                              tt,
+                                              (
+                                                tt,
+                                                (
+                                                  tt,
+                                                  (
+                                                    tt,
+                                                    (
+                                                      tt,
+                                                      (
+                                                        tt,
+                                                        (
+                                                          tt,
+                                                          (
+                                                            tt,
+                                                            (
+                                                              tt,
+                                                              (
+                                                                tt,
+                                                                (
+                                                                  tt,
+                                                                  (
+                                                                    tt,
+                                                                    (
+                                                                      tt,
+                                                                      (
+                                                                        tt,
+                                                                        (
+                                                                          tt,
+                                                                          (
+                                                                            tt,
+                                                                            (
+                                                                              tt,
+                                                                              (
+                                                                                tt,
+                                                                                (
+                                                                                  tt,
+                                                                                  (
+                                                                                    tt,
+                                                                                    (
+                                                                                      tt,
+                                                                                      (
+                                                                                        tt,
+                                                                                        (
+                                                                                          tt,
+                                                                                          (
+                                                                                            tt,
+                                                                                            (
+                                                                                              tt,
+                                                                                              (
+                                                                                                tt,
+                                                                                                (
+                                                                                                  tt,
+                                                                                                  (
+                                                                                                    tt,
+                                                                                                    (
+                                                                                                      tt,
+                                                                                                      (
+                                                                                                        tt,
+                                                                                                        (
+                                                                                                          tt,
+                                                                                                          (
+                                                                                                            tt,
+                                                                                                            (
+                                                                                                              tt,
+                                                                                                              (
+                                                                                                                tt,
+                                                                                                                (
+                                                                                                                  tt,
+                                                                                                                  (
+                                                                                                                    (u16_sync, (i16_sync, tt)),
+                                                                                                                    (
+                                                                                                                      tt,
+                                                                                                                      (
+                                                                                                                        tt,
+                                                                                                                        (
+                                                                                                                          tt,
+                                                                                                                          (
+                                                                                                                            tt,
+                                                                                                                            (
+                                                                                                                              tt,
+                                                                                                                              (
+                                                                                                                                tt,
+                                                                                                                                (
+                                                                                                                                  (u32_sync, tt),
+                                                                                                                                  (
+                                                                                                                                    (u32_sync, tt),
+                                                                                                                                    (
+                                                                                                                                      (u32_sync, tt),
+                                                                                                                                      (
+                                                                                                                                        (u32_sync, tt),
+                                                                                                                                        (
+                                                                                                                                          (u32_sync, tt),
+                                                                                                                                          (
+                                                                                                                                            (u32_sync, tt),
+                                                                                                                                            (
+                                                                                                                                              (u32_sync, tt),
+                                                                                                                                              (
+                                                                                                                                                (u32_sync, tt),
+                                                                                                                                                (
+                                                                                                                                                  (u32_sync, tt),
+                                                                                                                                                  (
+                                                                                                                                                    (u32_sync, tt),
+                                                                                                                                                    (
+                                                                                                                                                      (u32_sync, tt),
+                                                                                                                                                      (
+                                                                                                                                                        (u32_sync, tt),
+                                                                                                                                                        (
+                                                                                                                                                          (u32_sync, tt),
+                                                                                                                                                          (
+                                                                                                                                                            (u32_sync, tt),
+                                                                                                                                                            (
+                                                                                                                                                              (u32_sync, tt),
+                                                                                                                                                              (
+                                                                                                                                                                (u32_sync, tt),
+                                                                                                                                                                (
+                                                                                                                                                                  (u32_sync, tt),
+                                                                                                                                                                  (
+                                                                                                                                                                    (u32_sync, tt),
+                                                                                                                                                                    (
+                                                                                                                                                                      (u32_sync, tt),
+                                                                                                                                                                      (
+                                                                                                                                                                        tt,
+                                                                                                                                                                        (
+                                                                                                                                                                          tt,
+                                                                                                                                                                          (
+                                                                                                                                                                            tt,
+                                                                                                                                                                            (
+                                                                                                                                                                              tt,
+                                                                                                                                                                              (
+                                                                                                                                                                                (u32_sync, tt),
+                                                                                                                                                                                (
+                                                                                                                                                                                  (u32_sync, tt),
+                                                                                                                                                                                  (
+                                                                                                                                                                                    (u32_sync, tt),
+                                                                                                                                                                                    (
+                                                                                                                                                                                      (u32_sync, tt),
+                                                                                                                                                                                      (
+                                                                                                                                                                                        (u32_sync, tt),
+                                                                                                                                                                                        (
+                                                                                                                                                                                          (u32_sync, tt),
+                                                                                                                                                                                          (
+                                                                                                                                                                                            (u32_sync, tt),
+                                                                                                                                                                                            (
+                                                                                                                                                                                              (u32_sync, tt),
+                                                                                                                                                                                              (
+                                                                                                                                                                                                (u32_sync, tt),
+                                                                                                                                                                                                (
+                                                                                                                                                                                                  (u8_sync, tt),
+                                                                                                                                                                                                  (
+                                                                                                                                                                                                    (u32_sync, tt),
+                                                                                                                                                                                                    (
+                                                                                                                                                                                                      (u8_sync, (u32_sync, tt)),
+                                                                                                                                                                                                      (
+                                                                                                                                                                                                        tt,
+                                                                                                                                                                                                        (
+                                                                                                                                                                                                          tt,
+                                                                                                                                                                                                          (
+                                                                                                                                                                                                            (u32_sync, tt),
+                                                                                                                                                                                                            (
+                                                                                                                                                                                                              (u32_sync, tt),
+                                                                                                                                                                                                              (
+                                                                                                                                                                                                                tt,
+                                                                                                                                                                                                                (
+                                                                                                                                                                                                                  tt,
+                                                                                                                                                                                                                  (
+                                                                                                                                                                                                                    tt,
+                                                                                                                                                                                                                    tt,
+                                                                                                                                                                                                                  ),
+                                                                                                                                                                                                                ),
+                                                                                                                                                                                                              ),
+                                                                                                                                                                                                            ),
+                                                                                                                                                                                                          ),
+                                                                                                                                                                                                        ),
+                                                                                                                                                                                                      ),
+                                                                                                                                                                                                    ),
+                                                                                                                                                                                                  ),
+                                                                                                                                                                                                ),
+                                                                                                                                                                                              ),
+                                                                                                                                                                                            ),
+                                                                                                                                                                                          ),
+                                                                                                                                                                                        ),
+                                                                                                                                                                                      ),
+                                                                                                                                                                                    ),
+                                                                                                                                                                                  ),
+                                                                                                                                                                                ),
+                                                                                                                                                                              ),
+                                                                                                                                                                            ),
+                                                                                                                                                                          ),
+                                                                                                                                                                        ),
+                                                                                                                                                                      ),
+                                                                                                                                                                    ),
+                                                                                                                                                                  ),
+                                                                                                                                                                ),
+                                                                                                                                                              ),
+                                                                                                                                                            ),
+                                                                                                                                                          ),
+                                                                                                                                                        ),
+                                                                                                                                                      ),
+                                                                                                                                                    ),
+                                                                                                                                                  ),
+                                                                                                                                                ),
+                                                                                                                                              ),
+                                                                                                                                            ),
+                                                                                                                                          ),
+                                                                                                                                        ),
+                                                                                                                                      ),
+                                                                                                                                    ),
+                                                                                                                                  ),
+                                                                                                                                ),
+                                                                                                                              ),
+                                                                                                                            ),
+                                                                                                                          ),
+                                                                                                                        ),
+                                                                                                                      ),
+                                                                                                                    ),
+                                                                                                                  ),
+                                                                                                                ),
+                                                                                                              ),
+                                                                                                            ),
+                                                                                                          ),
+                                                                                                        ),
+                                                                                                      ),
+                                                                                                    ),
+                                                                                                  ),
+                                                                                                ),
+                                                                                              ),
+                                                                                            ),
+                                                                                          ),
+                                                                                        ),
+                                                                                      ),
+                                                                                    ),
+                                                                                  ),
+                                                                                ),
+                                                                              ),
+                                                                            ),
+                                                                          ),
+                                                                        ),
+                                                                      ),
+                                                                    ),
+                                                                  ),
+                                                                ),
+                                                              ),
+                                                            ),
+                                                          ),
+                                                        ),
+                                                      ),
+                                                    ),
+                                                  ),
+                                                ),
+                                              ),
+                                            ),
+                                          ),
+                                        ),
+                                      ),
+                                    ),
+                                  ),
+                                ),
+                              ),
+                            ),
+                          ),
+                        ),
+                      ),
+                    ),
+                  ),
+                ),
+              ),
+            ),
+          ),
+        ),
+      ),
+    ),
+  ),
+)
 
 pub op_sync : IsSync Op.the_row
 op_sync = recorded_sync _ _ _ (Op.the_type).to_one op_fields_sync
