@@ -13,8 +13,9 @@ use Rattle.mutest_words.specs.Laws.{AreLimited}
 use Rattle.mutest_words.specs.Words.{RunOptions, run_suite}
 use Rattle.record_rules.specs.declared.record.RunRecord.{RunRecord}
 use Rattle.reuse_laws.specs.Jobs.{AreTrue}
-use Rattle.job_answers.specs.Answers.{job_answer, job_cost, job_reused}
-use Rattle.job_answers.specs.Laws.{AnswersAreOfAllTests, TrueRecordsChangeNothing}
+use Rattle.job_answers.specs.Answers.{JobAnswer, job_answer, job_cost, job_reused}
+use Rattle.job_answers.specs.Laws.{AnswersAreFromScratch}
+use Rattle.job_answers.specs.declared.refusal.JobRefusal.{JobRefusal}
 use Rattle.suite_jobs.specs.Jobs.{Allowed, IsAccepted}
 use Rattle.suite_runs.specs.Ending.{IsSuiteOf, MayRunJob, allowed_in, suite_of}
 use Rattle.suite_runs.specs.declared.job.SuiteJob.{SuiteJob}
@@ -26,7 +27,7 @@ use Rattle.mutest_engine.specs.Ends.{AnswerMeters, AnswersHeld, HaltStays, MayAn
 use Rattle.mutest_engine.specs.Jobs.{Bounds, Meters, job_bounds, job_made}
 use Rattle.mutest_engine.specs.Known.{AnswersTrue, HaltsBefore, IsKnownOf, RefusesKnown}
 use Rattle.mutest_engine.specs.Made.{IsMade, made_suite, suite_in}
-use Rattle.mutest_engine.specs.NamedJobs.{NamedSuite, named, named_answer, named_reused}
+use Rattle.mutest_engine.specs.NamedJobs.{NamedSuite, named, named_answer, named_reused, scratch_reused}
 use Rattle.mutest_engine.specs.Old.{history_bytes, old_records, records_in}
 use Rattle.mutest_engine.specs.Refusals.{IsOfRun, IsOfRuns}
 use Rattle.mutest_engine.specs.Reported.{every_reported, known_reported, reported, reported_with}
@@ -43,7 +44,7 @@ use Rattle.mutest_engine.specs.declared.stop.Halt.{Halt}
 use Rattle.mutest_engine.specs.declared.stop.Stop.{Stop}
 use Rattle.mutest_engine.specs.declared.stop.Stop.TheVariants as stop
 use Rattle.mutest_engine.proofs.MadeLaws.{early_meters, late_meters, none_in_all, none_rose}
-use Rattle.mutest_engine.proofs.NamedLaws.{answer_is, cost_is, reused_is, scratch_is}
+use Rattle.mutest_engine.proofs.NamedLaws.{answer_is, cost_is, counted_is, reused_is, scratch_is}
 use Rattle.mutest_engine.proofs.RefusalLaws.{of_records}
 
 -- ---- the job that is asked for
@@ -185,14 +186,21 @@ job_reports suite given made r is same = ap (λ x. and_then x (λ m. Ok (reporte
 pub job_refused : (suite : NamedSuite) (given : Result JobMade Refusal) (r : Refusal) → given ≡ Err r → and_then given (λ m. Ok (reported suite m)) ≡ Err r
 job_refused suite given r is = ap (λ x. and_then x (λ m. Ok (reported suite m))) is
 
--- With true old records it is what every test on every mutant gives.
-every_is : TrueRecordsChangeNothing → AnswersAreOfAllTests → (a : Allowed) (s : LoadedSuite) (x : MadeSuite) (old : List RunRecord) → IsMade s x → AreTrue profile old → known_reported a (named (suite_in s x)) old ≡ every_reported a (named (suite_in s x)) old
-every_is same of a s x old made true_ones =
-    ap (reported_with (named (suite_in s x)) (named_reused a (named (suite_in s x)) old)) (scratch_is same of a (suite_in s x) old made.accepted true_ones)
+-- A refusal goes without a count.
+counted_alike : (suite : NamedSuite) (m n : ℕ) (r : Result JobAnswer JobRefusal) → ((x : JobAnswer) → r ≡ Ok x → m ≡ n) → reported_with suite m r ≡ reported_with suite n r
+counted_alike suite m n (Ok x) alike = ap (λ (k : ℕ). reported_with suite k (Ok x)) (alike x refl)
+counted_alike suite m n (Err refusal) alike = refl
 
-pub gives_every : TrueRecordsChangeNothing → AnswersAreOfAllTests → (a : Allowed) (s : LoadedSuite) (x : MadeSuite) (old : List RunRecord) (result : Result Reported Stop) → IsMade s x → AreTrue profile old
+-- With true old records it is what there is from scratch.
+every_is : AnswersAreFromScratch → (a : Allowed) (s : LoadedSuite) (x : MadeSuite) (old : List RunRecord) → IsMade s x → AreTrue profile old → known_reported a (named (suite_in s x)) old ≡ every_reported a (named (suite_in s x)) old
+every_is law a s x old made true_ones =
+    let suite = named (suite_in s x) in
+    counted_alike suite (named_reused a suite old) (scratch_reused a suite old) (named_answer a suite old) (counted_is law a (suite_in s x) old made.accepted true_ones)
+    ∙ ap (reported_with suite (scratch_reused a suite old)) (scratch_is law a (suite_in s x) old made.accepted true_ones)
+
+pub gives_every : AnswersAreFromScratch → (a : Allowed) (s : LoadedSuite) (x : MadeSuite) (old : List RunRecord) (result : Result Reported Stop) → IsMade s x → AreTrue profile old
     → Gives (known_reported a (named (suite_in s x)) old) result → Gives (every_reported a (named (suite_in s x)) old) result
-gives_every same of a s x old result made true_ones gives = subst (λ (stated : Result Reported Refusal). Gives stated result) (every_is same of a s x old made true_ones) gives
+gives_every law a s x old result made true_ones gives = subst (λ (stated : Result Reported Refusal). Gives stated result) (every_is law a s x old made true_ones) gives
 
 -- ---- behind the history's bytes
 

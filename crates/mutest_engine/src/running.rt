@@ -24,7 +24,7 @@ use crate::stop::{Halt, Stop};
 use crate::suite::load_suite;
 use class_model::{Bytes, Memory, Seq};
 use class_table::Test;
-use job_answers::{answers_are_of_all_tests, true_records_change_nothing};
+use job_answers::answers_are_from_scratch;
 use machine_rules::Limits;
 use mt_edge::{Gate, Meter, Tree};
 use mutator_ops::Mutant;
@@ -107,8 +107,7 @@ fn known_reported<W: Threads + Wait + Sync, G: Gate + Sync>(
     ensures later { meter.old ≤ meter.new }
     ensures refusal { IfErr result (Refuses (RefusesKnown known meter.old meter.new)) }
 {
-    true_records_change_nothing();
-    answers_are_of_all_tests();
+    answers_are_from_scratch();
     let KnownJob { suite, history } = known;
     let MadeSuite {
         program,
