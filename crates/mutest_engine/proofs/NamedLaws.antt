@@ -6,9 +6,9 @@ use Rattle.record_rules.specs.Jobs.{Job, need as asked_need}
 use Rattle.record_rules.specs.declared.record.RunRecord.{RunRecord}
 use Rattle.reuse_laws.specs.Jobs.{AreTrue}
 use Rattle.suite_jobs.specs.Jobs.{Allowed, Suite, IsAccepted, job_runs, asked_job}
-use Rattle.job_answers.specs.Answers.{JobAnswer, job_answer, job_cost, job_reused, job_scratch}
+use Rattle.job_answers.specs.Answers.{JobAnswer, asked_cost, job_answer, job_cost, job_reused, job_scratch}
 use Rattle.job_answers.specs.Laws.{AnswersAreFromScratch}
-use Rattle.mutest_engine.specs.NamedJobs.{named, named_runs, named_answer, named_reused, named_cost, named_asked, scratch_answer, scratch_reused}
+use Rattle.mutest_engine.specs.NamedJobs.{named, named_runs, named_answer, named_reused, named_cost, named_asked, scratch_answer, scratch_cost, scratch_reused}
 
 pub answer_is : (a : Allowed) (s : Suite) (old : List RunRecord) → job_answer a s old false ≡ named_answer a (named s) old
 unfolding job_answer named_answer named_runs job_runs
@@ -43,3 +43,9 @@ pub counted_is : AnswersAreFromScratch → (a : Allowed) (s : Suite) (old : List
 counted_is law a s old accepted true_ones x e =
     let all = law a s old accepted true_ones in
     sym (reused_is a s old) ∙ all.reused x (answer_is a s old ∙ e) ∙ ap (λ (j : Job). reused old (asked_need j)) (asked_is a s)
+
+-- It costs what it does from scratch.
+pub cost_scratch : AnswersAreFromScratch → (a : Allowed) (s : Suite) (old : List RunRecord) → IsAccepted s → AreTrue profile old → named_cost a (named s) old ≡ scratch_cost a (named s) old
+cost_scratch law a s old accepted true_ones =
+    let all = law a s old accepted true_ones in
+    sym (cost_is a s old) ∙ all.cost ∙ (λ i. asked_cost old (asked_is a s i) (anew_is a s i))

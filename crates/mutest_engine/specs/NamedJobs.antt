@@ -28,7 +28,7 @@ use Rattle.suite_records.specs.Suites.{asked_on, bytes_of, put_file}
 use Rattle.job_rules.specs.Tried.{Tried, JobRuns, known, need, records_once, reused_among}
 use Rattle.suite_jobs.specs.Jobs.{Allowed, Suite, tried_on, says, has_reached}
 use Rattle.job_answers.specs.Answers.{JobAnswer, JobCost, verdict_of_runs, failed_tests, cell_total}
-use Rattle.job_answers.specs.Answers.{unless_failed, unless_many, cost_by, asked_cells}
+use Rattle.job_answers.specs.Answers.{unless_failed, unless_many, cost_by, asked_cells, asked_cost}
 use Rattle.job_answers.specs.declared.refusal.JobRefusal.{JobRefusal}
 
 -- ---- a suite
@@ -177,3 +177,8 @@ scratch_answer a s =
 -- How many of these records old ones stand for.
 abbrev pub scratch_reused : Allowed → NamedSuite → List RunRecord → ℕ
 scratch_reused a s old = reused old (asked_need (named_asked a s))
+
+-- The steps of the runs that old records lack; where the job is refused, of those on the program
+-- as it is.
+abbrev pub scratch_cost : Allowed → NamedSuite → List RunRecord → JobCost
+scratch_cost a s old = asked_cost old (named_asked a s) (scratch_answer a s)
