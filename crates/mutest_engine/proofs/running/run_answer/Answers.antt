@@ -36,7 +36,7 @@ returns-in_err-known-clause-meter g c =
 
 pub returns-in_err-known-clause-scratch_meter : goal.returns-in_err-known-clause-scratch_meter
 returns-in_err-known-clause-scratch_meter g c =
-    let p = err_from_is_err_and c.from_residual-in_err-known.result c.from_residual-in_err-known.ensures.1 in
+    let p = err_from_is_err_and c.from_residual.result c.from_residual.ensures.1 in
     rw (p.1, p.2) (before_meters_true (g.T.Tree.holds c.args.tree.now) (as_run_options c.args.options) c.args.meter.now c.in_err-known.field-0.0 c.in_err-known.ensures.refused)
 
 pub returns-in_err-known-clause-stays : goal.returns-in_err-known-clause-stays
