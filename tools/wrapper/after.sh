@@ -99,13 +99,14 @@ unread() {
     if [ -n "$path" ]; then
         echo "'$path' can't be read, or is no file"
     else
-        echo "a class file or a folder can't be read: closed to you, or its name isn't UTF-8"
+        echo "a class file, a folder, the history or a source can't be read: closed to you, or its name isn't UTF-8"
     fi
 }
 
 unwritten() {
     case $1 in
-        report | history | journal) echo "the $1 couldn't be written to '${given[--$1]-}'" ;;
+        report) echo "the report couldn't be written to '${given[--report]}'" ;;
+        history) echo "the report is written; the new history couldn't be, to '${given[--new-history]}'" ;;
         assembled) echo "the class file couldn't be written to '${given[--out]}'" ;;
         output) echo "standard output failed; what was to be written is written" ;;
     esac
@@ -143,6 +144,12 @@ lacking() {
     "$here/tools/lacks" "${tests[@]}" "${given[--classes]}" "${given[--tests]}" 2>/dev/null
 }
 
+bad_history() {
+    local what="is damaged at byte $1"
+    [ "$1" != 536870912 ] || what="has more than 536,870,912 bytes"
+    echo "the history '${given[--history]}' $what: without it all runs are made again"
+}
+
 explained() {
     local kind first second third fourth
     read -r _ kind first second third fourth < <(tr -d '\000' <"$answer")
@@ -158,7 +165,7 @@ explained() {
             echo "$first.$second can't be called as a test: $(test_rule "$third")"
         fi ;;
         8) not_green ;;
-        9) echo "the history '${given[--history]}' is damaged at byte $first: without it all runs are made again" ;;
+        9) bad_history "$first" ;;
         10) unread ;;
         11) unwritten "$first" ;;
         12) past_limit "$first" "$second" ;;

@@ -4,3 +4,5 @@ pub mod Scratch
 pub mod TriedOnce
 pub mod Recorded
 pub mod Written
+pub mod AsAsked
+pub mod Anew

@@ -1,21 +1,20 @@
 -- No run of a job is stuck, whatever old records there are: each has a record, which has the form of
 -- a history where it fits the fields of one.
-use Rattle.std.proofs.Common.{◌≡◌, ◌∙◌, Bool, true, false, List, [], ◌∷◌, map, Option, Some, None, refl, sym, ap, subst, inr}
+use Rattle.std.proofs.Common.{◌≡◌, ◌∙◌, Bool, true, false, List, [], ◌∷◌, Option, Some, None, refl, sym, ap, subst, inr}
 use Rattle.std.specs.Prelude.{All, length, ℕ, if◌then◌else◌, is_some, option_and_then}
-use Rattle.std.specs.List.{AllByRecursion, enumerate_from}
-use Rattle.std.specs.Option.{option_map, option_map_or, unwrap_or}
+use Rattle.std.specs.List.{AllByRecursion}
+use Rattle.std.specs.Option.{option_map, unwrap_or}
 use Rattle.std.proofs.lemmas.List.Elements.{All-from_recursion, recursion_from_All}
 use Rattle.class_model.specs.declared.class.Class.{Class}
 use Rattle.class_model.specs.declared.outcome.Outcome.TheVariants.{MemoryOut}
 use Rattle.class_reader.specs.Spells.{IsClass}
 use Rattle.program_rules.specs.Names.{Name, same}
 use Rattle.program_rules.specs.Programs.{Look}
-use Rattle.machine_rules.specs.declared.machine.Limits.{Limits}
-use Rattle.machine_rules.specs.Runs.{Ending, With, StuckAt, limit_of}
+use Rattle.machine_laws.specs.Consulted.{IsLibraryWhole}
+use Rattle.machine_rules.specs.Runs.{Ending, With, StuckAt}
 use Rattle.type_rules.specs.Faults.{Placed, class_fault}
 use Rattle.type_laws.specs.Soundness.{IsStuck, NeverStuck}
 use Rattle.program_laws.specs.Ordered.{OrderedIsBuilt}
-use Rattle.class_link.specs.declared.loaded.Loaded.{Loaded}
 use Rattle.class_link.specs.Info.{Info, own_name}
 use Rattle.class_table.specs.declared.scripted.Test.{Test}
 use Rattle.class_table.specs.Table.{look}
@@ -28,13 +27,11 @@ use Rattle.suite_program.specs.Programs.{classes_in, class_file}
 use Rattle.suite_laws.specs.Accepted.{IsSafe, IsSafeMutant, FitsProgram, ViableAreNeverStuck}
 use Rattle.suite_laws.specs.Edited.{IsMutated}
 use Rattle.suite_laws.specs.Suites.{SuitesAreSafe, FoundTestsFit}
-use Rattle.record_rules.specs.declared.record.RunRecord.{RunRecord}
 use Rattle.record_rules.specs.Outcomes.{outcome_at}
 use Rattle.record_rules.specs.Records.{Asked, run, record_with, record_of}
 use Rattle.suite_records.specs.Suites.{IsOwnTest, IsReusable, original_asked, mutant_asked}
 use Rattle.suite_records.specs.Laws.{IsMade, FoundAreOwnTests, OriginalsAreReusable, MutantsAreReusable}
-use Rattle.job_rules.specs.Tried.{known}
-use Rattle.suite_jobs.specs.Jobs.{Suite, Allowed, IsOfFile, IsAccepted, made_by, numbered, original_tried, unless_refused, viable_file}
+use Rattle.suite_jobs.specs.Jobs.{Suite, Allowed, IsOfFile, IsAccepted, unless_refused, viable_file}
 use Rattle.job_answers.specs.Laws.{HasRecord, OriginalsHaveRecords}
 
 -- ---- one run
@@ -98,6 +95,9 @@ pub record IsRecordable (x : Asked) : Type 0 where
 module _ (g : Given) (a : Allowed) (s : Suite) (h : IsAccepted s) where
   safe : IsSafe s.program
   safe = let suite = h.suite in let x = g.safe (classes_in s.files) s.program suite.of in x.0
+
+  pub whole : IsLibraryWhole (look s.program)
+  whole = let suite = h.suite in let x = g.safe (classes_in s.files) s.program suite.of in x.1
 
   fits : All (FitsProgram s.program) s.tests
   fits = let suite = h.suite in g.fit (classes_in s.files) s.program (length s.program) h.names s.tests suite.of h.tests
@@ -169,7 +169,7 @@ module _ (g : Given) (a : Allowed) (s : Suite) (h : IsAccepted s) where
         ap (option_and_then (with_accepted m.class)) is_edited
         ∙ ap (λ (o : Option Placed). if is_some o then None else Some made_look) w.accepted
 
-    is_safe_mutant : IsSafeMutant s.program m made_look
+    pub is_safe_mutant : IsSafeMutant s.program m made_look
     is_safe_mutant = record { safe = safe; mutated = mutated; accepted = is_taken }
 
     pub mutant : (t : Test) (limit : ℕ) → IsGood t → IsRecordable (mutant_asked s.files s.program made t a.limits limit)

@@ -10,12 +10,14 @@ use Rattle.mutator_ops.specs.declared.mutant.Mutant.{Mutant}
 use Rattle.mutator_ops.specs.declared.mutant.State.{State}
 use Rattle.mutator_ops.specs.declared.mutant.Verdict.{Verdict}
 use Rattle.mutant_runs.specs.Verdicts.{verdict_by, not_viable}
+use Rattle.suite_laws.specs.Tested.{all_verdicts}
 use Rattle.record_rules.specs.declared.record.RunRecord.{RunRecord}
-use Rattle.record_rules.specs.Histories.{same_record}
+use Rattle.record_rules.specs.Histories.{same_record, new_records}
+use Rattle.record_rules.specs.Jobs.{Job, covering_runs, need as asked_need, cost, NeedCost, Cost}
 use Rattle.job_rules.specs.Tried.{Tried, JobRuns, known, detections, need, cost_of, least_cost}
 use Rattle.job_rules.specs.Tried.{most_cost, records_once, reused_among}
 use Rattle.suite_jobs.specs.Jobs.{Allowed, Suite, says, first_of, viable_file, mutant_runs}
-use Rattle.suite_jobs.specs.Jobs.{job_runs}
+use Rattle.suite_jobs.specs.Jobs.{job_runs, asked_job}
 use Rattle.suite_jobs.specs.Laws.{steps_of}
 use Rattle.job_answers.specs.declared.refusal.FailedTest.{FailedTest}
 use Rattle.job_answers.specs.declared.refusal.JobRefusal.{JobRefusal}
@@ -106,3 +108,28 @@ cost_by all j (Err refusal) = exactly (cost_of steps_of j.originals)
 
 abbrev pub job_cost : Allowed → Suite → List RunRecord → Bool → JobCost
 job_cost a s old all = cost_by all (job_runs a s old) (job_answer a s old all)
+
+-- ---- from scratch
+
+-- How many runs of tests on mutants reach the mutants' lines.
+abbrev pub asked_cells : Job → ℕ
+asked_cells j = sum_by (λ t. length (covering_runs t)) j.trials
+
+-- Where each run is made anew: the verdict on each mutant by the runs of every test on it, and the
+-- records of the runs that are needed, by the mutants' own runs.
+abbrev pub answer_anew : Allowed → Suite → JobAnswer
+answer_anew a s = record {
+  verdicts = all_verdicts s.program a.limits a.steps s.tests s.mutants;
+  records = new_records (asked_need (asked_job a s));
+}
+
+abbrev pub job_scratch : Allowed → Suite → Result JobAnswer JobRefusal
+job_scratch a s =
+    unless_failed (failed_tests (job_runs a s []))
+    (unless_many (asked_cells (asked_job a s)) (Ok (answer_anew a s)))
+
+-- The steps of the runs that old records lack; where it is refused, of those on the program as it
+-- is.
+abbrev pub asked_cost : {X : Type 0} → List RunRecord → Job → Result X JobRefusal → JobCost
+asked_cost old j (Ok x) = record { least = NeedCost old j; most = Cost old j }
+asked_cost old j (Err refusal) = exactly (cost old j.originals)

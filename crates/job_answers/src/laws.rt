@@ -3,17 +3,23 @@
 //!
 //! Each law is the contract of a function that does nothing but call the laws on which it stands.
 
-ghost use Rattle.job_answers.specs.Laws.{AnswersAreOfAllTests, AnswersAreTrue, CostsAreAsAsked};
-ghost use Rattle.job_answers.specs.Laws.{AnswersCanBeWritten, EachMutantHasOneVerdict};
-ghost use Rattle.job_answers.specs.Laws.{OriginalsHaveRecords, TrueRecordsChangeNothing};
+ghost use Rattle.job_answers.specs.Laws.{AnswersAreAsAsked, AnswersAreFromScratch};
+ghost use Rattle.job_answers.specs.Laws.{AnswersAreOfAllTests, AnswersAreTrue};
+ghost use Rattle.job_answers.specs.Laws.{AnswersCanBeWritten, CostsAreAsAsked};
+ghost use Rattle.job_answers.specs.Laws.{EachMutantHasOneVerdict, OriginalsHaveRecords};
+ghost use Rattle.job_answers.specs.Laws.{RefusalsCostOriginals, TrueRecordsChangeNothing};
 
 use class_records::class_files_are_a_profile;
 use program_laws::ordered_is_built;
 use record_writing::fitting_records_are_formed;
+use reuse_laws::new_records_go_by_runs;
 use suite_jobs::{
-    jobs_cost_as_asked, reuse_changes_no_answer, runs_are_own, verdicts_are_of_all_tests,
+    jobs_cost_as_asked, records_say_runs, reuse_changes_no_answer, runs_are_own,
+    verdicts_are_of_all_tests,
 };
-use suite_laws::{found_tests_fit, suites_are_safe, viable_mutants_are_never_stuck};
+use suite_laws::{
+    found_tests_fit, mutants_are_reached_alike, suites_are_safe, viable_mutants_are_never_stuck,
+};
 use suite_records::{found_are_own_tests, mutants_are_reusable, originals_are_reusable};
 use type_laws::accepted_code_is_never_stuck;
 
@@ -34,6 +40,27 @@ pub fn answers_are_of_all_tests()
     verdicts_are_of_all_tests();
 }
 
+/// Where no test fails, its new records are those of the runs that are needed, by the runs on the
+/// mutants themselves: for each viable mutant those of the tests that reach its line there, up to
+/// the first that detects it.
+pub fn answers_are_as_asked()
+    ensures { AnswersAreAsAsked }
+{
+    answers_are_of_all_tests();
+    accepted_code_is_never_stuck();
+    ordered_is_built();
+    suites_are_safe();
+    found_tests_fit();
+    viable_mutants_are_never_stuck();
+    found_are_own_tests();
+    originals_are_reusable();
+    mutants_are_reusable();
+    suite_records::true_records_change_nothing();
+    records_say_runs();
+    mutants_are_reached_alike();
+    new_records_go_by_runs();
+}
+
 /// And it costs at least and at most the steps of the runs that old records lack: of those that are
 /// needed, and of those of all tests that cover a mutant.
 pub fn costs_are_as_asked()
@@ -41,6 +68,23 @@ pub fn costs_are_as_asked()
 {
     answers_are_of_all_tests();
     jobs_cost_as_asked();
+}
+
+/// A refusal costs the steps of the runs on the program as it is that old records lack.
+pub fn refusals_cost_originals()
+    ensures { RefusalsCostOriginals }
+{}
+
+/// All in one: where all old records are true, a job answers and costs what it does where each run
+/// is made anew, but that old records save their runs' steps.
+pub fn answers_are_from_scratch()
+    ensures { AnswersAreFromScratch }
+{
+    true_records_change_nothing();
+    answers_are_of_all_tests();
+    answers_are_as_asked();
+    costs_are_as_asked();
+    refusals_cost_originals();
 }
 
 /// Each mutant has one verdict, in the order of the mutants.

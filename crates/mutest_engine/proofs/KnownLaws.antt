@@ -13,21 +13,23 @@ use Rattle.mutest_words.specs.Laws.{AreLimited}
 use Rattle.mutest_words.specs.Words.{RunOptions, run_suite}
 use Rattle.record_rules.specs.declared.record.RunRecord.{RunRecord}
 use Rattle.reuse_laws.specs.Jobs.{AreTrue}
-use Rattle.job_answers.specs.Answers.{job_answer, job_cost, job_reused}
-use Rattle.job_answers.specs.Laws.{AnswersAreOfAllTests, TrueRecordsChangeNothing}
+use Rattle.job_answers.specs.Answers.{JobAnswer, job_answer, job_cost, job_reused}
+use Rattle.job_answers.specs.Laws.{AnswersAreFromScratch}
+use Rattle.job_answers.specs.declared.refusal.JobRefusal.{JobRefusal}
 use Rattle.suite_jobs.specs.Jobs.{Allowed, IsAccepted}
 use Rattle.suite_runs.specs.Ending.{IsSuiteOf, MayRunJob, allowed_in, suite_of}
 use Rattle.suite_runs.specs.declared.job.SuiteJob.{SuiteJob}
 use Rattle.suite_workers.specs.Old.{records_in as records_among}
 use Rattle.suite_workers.specs.declared.old_records.OldRecords.{OldRecords}
 use Rattle.mutest_engine.specs.Answers.{Answered, answered}
-use Rattle.mutest_engine.specs.Decided.{AreTrueIn, CanReport, IsRunAnswer, allowed_by, before_runs, bounds_behind, known_bounds, run_answer, run_bounds, sourced_answer}
+use Rattle.mutest_engine.specs.Decided.{AreTrueIn, CanReport, IsRunAnswer, allowed_by, before_runs, bounds_behind, known_bounds, run_answer, run_bounds, scratch_bounds_in, scratch_run_bounds, sourced_answer}
 use Rattle.mutest_engine.specs.Ends.{AnswerMeters, AnswersHeld, HaltStays, MayAnswer, MayReport, MetersRun, Stays}
 use Rattle.mutest_engine.specs.Jobs.{Bounds, Meters, job_bounds, job_made}
 use Rattle.mutest_engine.specs.Known.{AnswersTrue, HaltsBefore, IsKnownOf, RefusesKnown}
 use Rattle.mutest_engine.specs.Made.{IsMade, made_suite, suite_in}
-use Rattle.mutest_engine.specs.NamedJobs.{NamedSuite, named, named_answer, named_reused}
+use Rattle.mutest_engine.specs.NamedJobs.{NamedSuite, named, named_answer, named_reused, scratch_reused}
 use Rattle.mutest_engine.specs.Old.{history_bytes, old_records, records_in}
+use Rattle.mutest_engine.specs.Promises.{MetersTrue}
 use Rattle.mutest_engine.specs.Refusals.{IsOfRun, IsOfRuns}
 use Rattle.mutest_engine.specs.Reported.{every_reported, known_reported, reported, reported_with}
 use Rattle.mutest_engine.specs.Steps.{and_then, Gives, IsHaltOf, ReadsBy, Refuses, RefusesReading}
@@ -43,7 +45,7 @@ use Rattle.mutest_engine.specs.declared.stop.Halt.{Halt}
 use Rattle.mutest_engine.specs.declared.stop.Stop.{Stop}
 use Rattle.mutest_engine.specs.declared.stop.Stop.TheVariants as stop
 use Rattle.mutest_engine.proofs.MadeLaws.{early_meters, late_meters, none_in_all, none_rose}
-use Rattle.mutest_engine.proofs.NamedLaws.{answer_is, cost_is, reused_is, scratch_is}
+use Rattle.mutest_engine.proofs.NamedLaws.{answer_is, cost_is, cost_scratch, counted_is, reused_is, scratch_is}
 use Rattle.mutest_engine.proofs.RefusalLaws.{of_records}
 
 -- ---- the job that is asked for
@@ -185,14 +187,21 @@ job_reports suite given made r is same = ap (λ x. and_then x (λ m. Ok (reporte
 pub job_refused : (suite : NamedSuite) (given : Result JobMade Refusal) (r : Refusal) → given ≡ Err r → and_then given (λ m. Ok (reported suite m)) ≡ Err r
 job_refused suite given r is = ap (λ x. and_then x (λ m. Ok (reported suite m))) is
 
--- With true old records it is what every test on every mutant gives.
-every_is : TrueRecordsChangeNothing → AnswersAreOfAllTests → (a : Allowed) (s : LoadedSuite) (x : MadeSuite) (old : List RunRecord) → IsMade s x → AreTrue profile old → known_reported a (named (suite_in s x)) old ≡ every_reported a (named (suite_in s x)) old
-every_is same of a s x old made true_ones =
-    ap (reported_with (named (suite_in s x)) (named_reused a (named (suite_in s x)) old)) (scratch_is same of a (suite_in s x) old made.accepted true_ones)
+-- A refusal goes without a count.
+counted_alike : (suite : NamedSuite) (m n : ℕ) (r : Result JobAnswer JobRefusal) → ((x : JobAnswer) → r ≡ Ok x → m ≡ n) → reported_with suite m r ≡ reported_with suite n r
+counted_alike suite m n (Ok x) alike = ap (λ (k : ℕ). reported_with suite k (Ok x)) (alike x refl)
+counted_alike suite m n (Err refusal) alike = refl
 
-pub gives_every : TrueRecordsChangeNothing → AnswersAreOfAllTests → (a : Allowed) (s : LoadedSuite) (x : MadeSuite) (old : List RunRecord) (result : Result Reported Stop) → IsMade s x → AreTrue profile old
+-- With true old records it is what there is from scratch.
+every_is : AnswersAreFromScratch → (a : Allowed) (s : LoadedSuite) (x : MadeSuite) (old : List RunRecord) → IsMade s x → AreTrue profile old → known_reported a (named (suite_in s x)) old ≡ every_reported a (named (suite_in s x)) old
+every_is law a s x old made true_ones =
+    let suite = named (suite_in s x) in
+    counted_alike suite (named_reused a suite old) (scratch_reused a suite old) (named_answer a suite old) (counted_is law a (suite_in s x) old made.accepted true_ones)
+    ∙ ap (reported_with suite (scratch_reused a suite old)) (scratch_is law a (suite_in s x) old made.accepted true_ones)
+
+pub gives_every : AnswersAreFromScratch → (a : Allowed) (s : LoadedSuite) (x : MadeSuite) (old : List RunRecord) (result : Result Reported Stop) → IsMade s x → AreTrue profile old
     → Gives (known_reported a (named (suite_in s x)) old) result → Gives (every_reported a (named (suite_in s x)) old) result
-gives_every same of a s x old result made true_ones gives = subst (λ (stated : Result Reported Refusal). Gives stated result) (every_is same of a s x old made true_ones) gives
+gives_every law a s x old result made true_ones gives = subst (λ (stated : Result Reported Refusal). Gives stated result) (every_is law a s x old made true_ones) gives
 
 -- ---- behind the history's bytes
 
@@ -354,6 +363,35 @@ module _ (held : Option Files) (o : RunOptions) (k : KnownJob) (known : IsKnownO
   pub meters_halt : (before after : ℕ) (s : Stop) (h : Halt) → IsHaltOf s h → Meters {X = Reported} own_bounds before after (Err s) → MetersRun held before after o (Err h)
   meters_halt before after s h is m = meters_by before after (Err h) (m.in_all, (λ r e. m.ended r (is.0 r e), λ faults e. absurd (is.1 faults e)))
 
+  -- The meter from scratch.
+  abbrev scratch_own : Bounds
+  scratch_own = bounds_behind (records_in k.history) (scratch_bounds_in o suite)
+
+  scratch_own_is : (files : Files) → IsRead files → scratch_run_bounds o files ≡ scratch_own
+  scratch_own_is files read =
+      ap (λ r. bounds_behind r (λ x. scratch_bounds_in o x.0 x.1)) (known_so o k known.loaded files known.made read.0 read.1)
+      ∙ nested_bounds (records_in k.history) (λ old. (suite, old)) (λ x. scratch_bounds_in o x.0 x.1)
+
+  own_scratch : AnswersAreFromScratch → AreTrueIn (records_in k.history) → own_bounds ≡ scratch_own
+  own_scratch law true_ones = by_read (records_in k.history) true_ones
+    where
+      by_read : (read : Result (List RunRecord) Refusal) → AreTrueIn read → bounds_behind read (known_bounds o suite) ≡ bounds_behind read (scratch_bounds_in o suite)
+      by_read (Ok old) true_ones = ap (job_bounds o.workers) (cost_scratch law (allowed_by o) (suite_in known.loaded k.suite) old known.made.accepted true_ones)
+      by_read (Err r) true_ones = refl
+
+  meters_truly : AnswersAreFromScratch → (before after : ℕ) (r : Result Answer Halt) → AnswerMeters before after own_bounds r → MetersTrue held before after o r
+  meters_truly law before after r m = by_held held all_read
+    where
+      by_held : (t : Option Files) → IfSome t IsRead → MetersTrue t before after o r
+      by_held None read = tt
+      by_held (Some files) read = λ true_ones. subst (λ (b : Bounds). AnswerMeters before after b r) (own_scratch law (true_of o k files read.1 true_ones) ∙ sym (scratch_own_is files read)) m
+
+  pub meters_held_true : AnswersAreFromScratch → (before after : ℕ) (rep : Reported) (r : Result Answer Halt) → Meters own_bounds before after (Ok rep) → MetersTrue held before after o r
+  meters_held_true law before after rep r m = meters_truly law before after r (late_meters own_bounds before after r m.in_all m.ended)
+
+  pub meters_halt_true : AnswersAreFromScratch → (before after : ℕ) (s : Stop) (h : Halt) → IsHaltOf s h → Meters {X = Reported} own_bounds before after (Err s) → MetersTrue held before after o (Err h)
+  meters_halt_true law before after s h is m = meters_truly law before after (Err h) (m.in_all, (λ r e. m.ended r (is.0 r e), λ faults e. absurd (is.1 faults e)))
+
 pub halt_stays : (k : KnownJob) (before after : ℕ) (s : Stop) (h : Halt) → IsHaltOf s h → before ≤ after → Refuses (RefusesKnown k before after) s → HaltStays before after h
 halt_stays k before after s h is later refuses = (later, λ r e. stays_so r (refuses r (is.0 r e)))
   where
@@ -374,6 +412,10 @@ before_true (Some files) o h halts = λ true_ones. λ r e. ap (λ (x : Result Fo
 pub before_meters : (held : Option Files) (o : RunOptions) (before : ℕ) (h : Halt) → HaltsBefore held o h → MetersRun held before before o (Err h)
 before_meters None o before h halts = tt
 before_meters (Some files) o before h halts = early_meters (before_runs o files) (λ known. known_bounds o known.0 known.1) before h halts
+
+pub before_meters_true : (held : Option Files) (o : RunOptions) (before : ℕ) (h : Halt) → HaltsBefore held o h → MetersTrue held before before o (Err h)
+before_meters_true None o before h halts = tt
+before_meters_true (Some files) o before h halts = λ true_ones. early_meters (before_runs o files) (λ known. scratch_bounds_in o known.0 known.1) before h halts
 
 pub before_may : (o : RunOptions) (h : Halt) → RefusesReading (IsOfRun o) h → MayAnswer (run_suite o) (Err h)
 before_may o h may = may

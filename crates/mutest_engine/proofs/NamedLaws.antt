@@ -1,15 +1,14 @@
 -- The job of a suite by its classes' names is its job by their numbers.
-use Rattle.std.proofs.Common.{◌≡◌, ◌∙◌, false, List, [], Result, Ok, Err, refl, sym, ap}
-use Rattle.std.proofs.lemmas.List.Elements.{All-from_recursion}
+use Rattle.std.proofs.Common.{◌≡◌, ◌∙◌, false, List, Ok, refl, sym, ap}
 use Rattle.class_records.specs.Profile.{profile}
-use Rattle.record_rules.specs.Truth.{IsTrueRecord}
+use Rattle.record_rules.specs.Histories.{reused}
+use Rattle.record_rules.specs.Jobs.{Job, need as asked_need}
 use Rattle.record_rules.specs.declared.record.RunRecord.{RunRecord}
 use Rattle.reuse_laws.specs.Jobs.{AreTrue}
-use Rattle.suite_jobs.specs.Jobs.{Allowed, Suite, IsAccepted, job_runs}
-use Rattle.job_answers.specs.Answers.{JobAnswer, job_answer, job_cost, job_reused}
-use Rattle.job_answers.specs.Laws.{AnswersAreOfAllTests, TrueRecordsChangeNothing}
-use Rattle.job_answers.specs.declared.refusal.JobRefusal.{JobRefusal}
-use Rattle.mutest_engine.specs.NamedJobs.{named, named_runs, named_answer, named_reused, named_cost, every_verdict, with_every, scratch_answer}
+use Rattle.suite_jobs.specs.Jobs.{Allowed, Suite, IsAccepted, job_runs, asked_job}
+use Rattle.job_answers.specs.Answers.{JobAnswer, asked_cost, job_answer, job_cost, job_reused, job_scratch}
+use Rattle.job_answers.specs.Laws.{AnswersAreFromScratch}
+use Rattle.mutest_engine.specs.NamedJobs.{named, named_runs, named_answer, named_reused, named_cost, named_asked, scratch_answer, scratch_cost, scratch_reused}
 
 pub answer_is : (a : Allowed) (s : Suite) (old : List RunRecord) → job_answer a s old false ≡ named_answer a (named s) old
 unfolding job_answer named_answer named_runs job_runs
@@ -25,16 +24,28 @@ cost_is a s old = refl
 
 -- ---- from scratch
 
-none_true : AreTrue profile []
-none_true = All-from_recursion (IsTrueRecord profile) [] tt
+asked_is : (a : Allowed) (s : Suite) → asked_job a s ≡ named_asked a (named s)
+unfolding asked_job named_asked
+asked_is a s = refl
 
-with_verdicts : (a : Allowed) (s : Suite) (stated : Result JobAnswer JobRefusal) → ((x : JobAnswer) → stated ≡ Ok x → x.verdicts ≡ every_verdict a (named s)) → stated ≡ with_every a (named s) stated
-with_verdicts a s (Ok x) every = let is = every x refl in (λ i. Ok (record { verdicts = is i; records = x.records }))
-with_verdicts a s (Err refusal) every = refl
+anew_is : (a : Allowed) (s : Suite) → job_scratch a s ≡ scratch_answer a (named s)
+unfolding job_runs named_runs asked_job named_asked
+anew_is a s = refl
 
--- With true old records the answer is that of every test on every mutant.
-pub scratch_is : TrueRecordsChangeNothing → AnswersAreOfAllTests → (a : Allowed) (s : Suite) (old : List RunRecord) → IsAccepted s → AreTrue profile old → named_answer a (named s) old ≡ scratch_answer a (named s)
-scratch_is same of a s old accepted true_ones =
-    sym (answer_is a s old) ∙ same a s old false accepted true_ones
-    ∙ with_verdicts a s (job_answer a s [] false) (λ x is. (of a s [] accepted none_true).verdicts x is)
-    ∙ ap (with_every a (named s)) (answer_is a s [])
+-- With true old records the answer is the one from scratch,
+pub scratch_is : AnswersAreFromScratch → (a : Allowed) (s : Suite) (old : List RunRecord) → IsAccepted s → AreTrue profile old → named_answer a (named s) old ≡ scratch_answer a (named s)
+scratch_is law a s old accepted true_ones =
+    let all = law a s old accepted true_ones in
+    sym (answer_is a s old) ∙ all.answer ∙ anew_is a s
+
+-- and as many of its records are known.
+pub counted_is : AnswersAreFromScratch → (a : Allowed) (s : Suite) (old : List RunRecord) → IsAccepted s → AreTrue profile old → (x : JobAnswer) → named_answer a (named s) old ≡ Ok x → named_reused a (named s) old ≡ scratch_reused a (named s) old
+counted_is law a s old accepted true_ones x e =
+    let all = law a s old accepted true_ones in
+    sym (reused_is a s old) ∙ all.reused x (answer_is a s old ∙ e) ∙ ap (λ (j : Job). reused old (asked_need j)) (asked_is a s)
+
+-- It costs what it does from scratch.
+pub cost_scratch : AnswersAreFromScratch → (a : Allowed) (s : Suite) (old : List RunRecord) → IsAccepted s → AreTrue profile old → named_cost a (named s) old ≡ scratch_cost a (named s) old
+cost_scratch law a s old accepted true_ones =
+    let all = law a s old accepted true_ones in
+    sym (cost_is a s old) ∙ all.cost ∙ (λ i. asked_cost old (asked_is a s i) (anew_is a s i))

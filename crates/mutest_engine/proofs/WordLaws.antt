@@ -3,10 +3,10 @@ use Rattle.std.proofs.Common.{◌≡◌, ℕ, List, Option, None, Some, Result, 
 use Rattle.mt_edge.specs.Files.{Files}
 use Rattle.mutest_words.specs.Words.{AsmOptions, Command, RunOptions, assemble_class, list_class, run_suite}
 use Rattle.mutest_engine.specs.Answers.{Answered, answered}
-use Rattle.mutest_engine.specs.Decided.{HasTrueRecords, answer_of, answer_to, asm_answer, bounds_to, list_answer, scratch_to}
+use Rattle.mutest_engine.specs.Decided.{HasTrueRecords, answer_of, answer_to, asm_answer, bounds_to, list_answer, scratch_bounds_to, scratch_to}
 use Rattle.mutest_engine.specs.Ends.{AnswerMeters, AnswersHeld, MetersRun, MetersWords}
 use Rattle.mutest_engine.specs.Known.{AnswersTrue}
-use Rattle.mutest_engine.specs.Promises.{AnswersTruly}
+use Rattle.mutest_engine.specs.Promises.{AnswersTruly, MetersTrue, MetersTruly}
 use Rattle.mutest_engine.specs.Steps.{and_then, IsHaltOf, ReadsBy, Refuses}
 use Rattle.mutest_engine.specs.Words.{words_of}
 use Rattle.mutest_engine.specs.declared.answer.Answer.{Answer}
@@ -73,4 +73,28 @@ module _ (words : List (List ℕ)) where
     where
       by_words : (said : Result Command Refusal) → ((r : Refusal) → h ≡ halt.Refused r → said ≡ Err r) → AnswerMeters before before (bounds_to said files) (Err h)
       by_words (Ok command) refuse = early_meters (Ok command) (λ c. bounds_to (Ok c) files) before h refuse
+      by_words (Err r) refuse = none_meters before (Err h)
+
+  -- ---- the meter from scratch
+
+  pub list_meters_truly : (held : Option Files) (path : List ℕ) (before : ℕ) (r : Result Answer Halt) → words_of words ≡ Ok (list_class path) → MetersTruly held before before words r
+  list_meters_truly None path before r is = tt
+  list_meters_truly (Some files) path before r is = λ true_ones. subst (λ (x : Result Command Refusal). AnswerMeters before before (scratch_bounds_to x files) r) (sym is) (none_meters before r)
+
+  pub asm_meters_truly : (held : Option Files) (options : AsmOptions) (before : ℕ) (r : Result Answer Halt) → words_of words ≡ Ok (assemble_class options) → MetersTruly held before before words r
+  asm_meters_truly None options before r is = tt
+  asm_meters_truly (Some files) options before r is = λ true_ones. subst (λ (x : Result Command Refusal). AnswerMeters before before (scratch_bounds_to x files) r) (sym is) (none_meters before r)
+
+  pub run_meters_truly : (held : Option Files) (options : RunOptions) (before after : ℕ) (r : Result Answer Halt) → words_of words ≡ Ok (run_suite options) → MetersTrue held before after options r → MetersTruly held before after words r
+  run_meters_truly None options before after r is meters = tt
+  run_meters_truly (Some files) options before after r is meters = λ true_ones.
+      subst (λ (x : Result Command Refusal). AnswerMeters before after (scratch_bounds_to x files) r) (sym is)
+      (meters (subst (λ (x : Result Command Refusal). HasTrueRecords x files) is true_ones))
+
+  pub refused_meters_truly : (held : Option Files) (before : ℕ) (s : Stop) (h : Halt) → Refuses (λ r. words_of words ≡ Err r) s → IsHaltOf s h → MetersTruly held before before words (Err h)
+  refused_meters_truly None before s h refuses is = tt
+  refused_meters_truly (Some files) before s h refuses is = λ true_ones. by_words (words_of words) (λ r e. refuses r (is.0 r e))
+    where
+      by_words : (said : Result Command Refusal) → ((r : Refusal) → h ≡ halt.Refused r → said ≡ Err r) → AnswerMeters before before (scratch_bounds_to said files) (Err h)
+      by_words (Ok command) refuse = early_meters (Ok command) (λ c. scratch_bounds_to (Ok c) files) before h refuse
       by_words (Err r) refuse = none_meters before (Err h)

@@ -22,7 +22,7 @@ use Rattle.mutest_engine.specs.Refusals.{MayRefuse}
 use Rattle.mutest_engine.specs.Steps.{and_then}
 use Rattle.mutest_engine.specs.SuiteFiles.{suite_of}
 use Rattle.mutest_engine.specs.Made.{made_suite}
-use Rattle.mutest_engine.specs.NamedJobs.{NamedSuite, named_cost}
+use Rattle.mutest_engine.specs.NamedJobs.{NamedSuite, named_cost, scratch_cost}
 use Rattle.mutest_engine.specs.Old.{old_records, records_in}
 use Rattle.mutest_engine.specs.Jobs.{Bounds, no_steps, job_bounds}
 use Rattle.mutest_engine.specs.Reported.{known_reported, every_reported}
@@ -209,3 +209,20 @@ bounds_to (Err refusal) files = no_steps
 
 abbrev pub bounds_of : List (List ℕ) → Files → Bounds
 bounds_of words files = bounds_to (words_of words) files
+
+-- The same from scratch: those of the runs that the history lacks, by the mutants' own runs.
+abbrev pub scratch_bounds_in : RunOptions → NamedSuite → List RunRecord → Bounds
+scratch_bounds_in o s old = job_bounds o.workers (scratch_cost (allowed_by o) s old)
+
+abbrev pub scratch_run_bounds : RunOptions → Files → Bounds
+scratch_run_bounds o files =
+    bounds_behind (before_runs o files) (λ known. scratch_bounds_in o known.0 known.1)
+
+abbrev pub scratch_bounds_to : Result Command Refusal → Files → Bounds
+scratch_bounds_to (Ok (list_class path)) files = no_steps
+scratch_bounds_to (Ok (run_suite options)) files = scratch_run_bounds options files
+scratch_bounds_to (Ok (assemble_class options)) files = no_steps
+scratch_bounds_to (Err refusal) files = no_steps
+
+abbrev pub scratch_bounds : List (List ℕ) → Files → Bounds
+scratch_bounds words files = scratch_bounds_to (words_of words) files

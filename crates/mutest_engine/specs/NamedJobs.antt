@@ -2,9 +2,9 @@
 -- mutants, each with what old records have of it; and what is known of all of them says. It is the
 -- job of `suite_jobs` and its answer of `job_answers`, which speak of classes by number (this
 -- project's own).
-use Rattle.std.specs.Prelude.{◌≡◌, ℕ, false, List, [], map, filter, Option, Some, None}
-use Rattle.std.specs.Prelude.{is_some, if◌then◌else◌, option_and_then, Result, Ok, Err}
-use Rattle.std.specs.List.{enumerate_from}
+use Rattle.std.specs.Prelude.{ℕ, false, List, [], ◌∷◌, map, filter, Option, Some, None}
+use Rattle.std.specs.Prelude.{is_some, if◌then◌else◌, option_and_then, Result, Ok}
+use Rattle.std.specs.List.{enumerate_from, flat_map}
 use Rattle.std.specs.Option.{option_map_or}
 use Rattle.class_model.specs.declared.class.Class.{Class}
 use Rattle.program_rules.specs.Programs.{Look}
@@ -17,16 +17,18 @@ use Rattle.mutator_ops.specs.declared.mutant.Mutant.{Mutant}
 use Rattle.mutator_ops.specs.declared.mutant.Verdict.{Verdict}
 use Rattle.mutant_apply.specs.Edited.{applied}
 use Rattle.mutant_runs.specs.Programs.{ClassFiles, files_of, with_class}
-use Rattle.mutant_runs.specs.Runs.{timed}
+use Rattle.mutant_runs.specs.Runs.{timed, reaches, detected}
 use Rattle.mutant_runs.specs.Verdicts.{not_viable, verdict_of}
 use Rattle.record_rules.specs.Profiles.{Held}
 use Rattle.record_rules.specs.declared.record.RunRecord.{RunRecord}
-use Rattle.record_rules.specs.Histories.{same_record}
+use Rattle.record_rules.specs.Histories.{same_record, new_records, reused}
+use Rattle.record_rules.specs.Jobs.{Job, Trial, need as asked_need}
+use Rattle.record_rules.specs.Records.{Asked}
 use Rattle.suite_records.specs.Suites.{asked_on, bytes_of, put_file}
 use Rattle.job_rules.specs.Tried.{Tried, JobRuns, known, need, records_once, reused_among}
 use Rattle.suite_jobs.specs.Jobs.{Allowed, Suite, tried_on, says, has_reached}
 use Rattle.job_answers.specs.Answers.{JobAnswer, JobCost, verdict_of_runs, failed_tests, cell_total}
-use Rattle.job_answers.specs.Answers.{unless_failed, unless_many, cost_by}
+use Rattle.job_answers.specs.Answers.{unless_failed, unless_many, cost_by, asked_cells, asked_cost}
 use Rattle.job_answers.specs.declared.refusal.JobRefusal.{JobRefusal}
 
 -- ---- a suite
@@ -120,20 +122,63 @@ module _ (a : Allowed) (s : NamedSuite) (old : List RunRecord) where
   unfoldable pub named_cost : JobCost
   named_cost = cost_by false (named_runs a s old) named_answer
 
+-- ---- the job by the runs themselves
+
+module _ (a : Allowed) (s : NamedSuite) where
+  -- The steps of a test's run on the program as it is.
+  abbrev pub original_steps : Test → ℕ
+  original_steps t = (run_of s.look (test_of t) a.limits a.steps).steps
+
+  -- What a mutant asks of all tests: their runs on it, each under the limit that the test's run on
+  -- the program gives.
+  abbrev pub mutant_asked : Class × List ℕ → Test → Asked
+  mutant_asked made t =
+      asked_on (with_class made.0 s.look) (put_file made s.held) t a.limits
+      (limit_of (original_steps t))
+
+  abbrev pub trial_of : Mutant → Class × List ℕ → Trial
+  trial_of m made = record {
+    runs = map (mutant_asked made) s.tests;
+    reaches = reaches m;
+    detects = λ ran. is_some (detected ran.ending);
+  }
+
+  -- One that isn't viable asks nothing.
+  abbrev pub trials_of : Mutant → List Trial
+  trials_of m = option_map_or (λ made. trial_of m made ∷ []) (viable_file s m) []
+
+  unfoldable pub named_asked : Job
+  named_asked = record {
+    originals = map (λ t. asked_on s.look s.held t a.limits a.steps) s.tests;
+    trials = flat_map trials_of s.mutants;
+  }
+
 -- ---- from scratch
 
 -- The verdict on each mutant by a run of every test on it.
 abbrev pub every_verdict : Allowed → NamedSuite → List Verdict
 every_verdict a s =
-    map
-    (verdict_of a.limits s.files s.look
-    (timed s.tests (map (λ t. (run_of s.look (test_of t) a.limits a.steps).steps) s.tests)))
+    map (verdict_of a.limits s.files s.look (timed s.tests (map (original_steps a s) s.tests)))
     s.mutants
 
-abbrev pub with_every : Allowed → NamedSuite → Result JobAnswer JobRefusal → Result JobAnswer JobRefusal
-with_every a s (Ok x) = Ok (record x { verdicts = every_verdict a s })
-with_every a s (Err refusal) = Err refusal
+-- Those, and the records of the runs that are needed: of all tests on the program, and then for
+-- each viable mutant of those whose runs on it reach its line, up to the first that detects it.
+abbrev pub every_answer : Allowed → NamedSuite → JobAnswer
+every_answer a s = record {
+  verdicts = every_verdict a s;
+  records = new_records (asked_need (named_asked a s));
+}
 
--- The answer without old records, with the verdicts by every test on every mutant.
 abbrev pub scratch_answer : Allowed → NamedSuite → Result JobAnswer JobRefusal
-scratch_answer a s = with_every a s (named_answer a s [])
+scratch_answer a s =
+    unless_failed (failed_tests (named_runs a s []))
+    (unless_many (asked_cells (named_asked a s)) (Ok (every_answer a s)))
+
+-- How many of these records old ones stand for.
+abbrev pub scratch_reused : Allowed → NamedSuite → List RunRecord → ℕ
+scratch_reused a s old = reused old (asked_need (named_asked a s))
+
+-- The steps of the runs that old records lack; where the job is refused, of those on the program
+-- as it is.
+abbrev pub scratch_cost : Allowed → NamedSuite → List RunRecord → JobCost
+scratch_cost a s old = asked_cost old (named_asked a s) (scratch_answer a s)

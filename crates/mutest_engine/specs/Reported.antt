@@ -12,7 +12,8 @@ use Rattle.suite_jobs.specs.Jobs.{Allowed}
 use Rattle.job_answers.specs.Answers.{JobAnswer}
 use Rattle.job_answers.specs.declared.refusal.JobRefusal.{JobRefusal}
 use Rattle.mutest_engine.specs.Jobs.{job_made}
-use Rattle.mutest_engine.specs.NamedJobs.{NamedSuite, named_answer, named_reused, scratch_answer}
+use Rattle.mutest_engine.specs.NamedJobs.{NamedSuite, named_answer, named_reused}
+use Rattle.mutest_engine.specs.NamedJobs.{scratch_answer, scratch_reused}
 use Rattle.mutest_engine.specs.Steps.{and_then}
 use Rattle.mutest_engine.specs.declared.job.JobMade.{JobMade}
 use Rattle.mutest_engine.specs.declared.refusal.Refusal.{Refusal}
@@ -57,4 +58,4 @@ known_reported a s old = reported_with s (named_reused a s old) (named_answer a 
 -- By running every test on every mutant from scratch. Old records have only to do with how many of
 -- the new ones they stand for.
 abbrev pub every_reported : Allowed → NamedSuite → List RunRecord → Result Reported Refusal
-every_reported a s old = reported_with s (named_reused a s old) (scratch_answer a s)
+every_reported a s old = reported_with s (scratch_reused a s old) (scratch_answer a s)

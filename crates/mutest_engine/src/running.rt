@@ -9,6 +9,7 @@ ghost use Rattle.mutest_engine.specs.Decided.{report_answer, results, run_answer
 ghost use Rattle.mutest_engine.specs.Ends.{AnswersHeld, HaltStays, Makes, MayAnswer, MayReport, MetersRun};
 ghost use Rattle.mutest_engine.specs.Known.{AnswersTrue, HaltsBefore, IsKnownOf, MetersOfKnown, RefusesKnown, ReportsKnown, ReportsTrueKnown};
 ghost use Rattle.mutest_engine.specs.Made.{IsMade};
+ghost use Rattle.mutest_engine.specs.Promises.{MetersTrue};
 ghost use Rattle.mutest_engine.specs.Refusals.{IsOfRun};
 ghost use Rattle.mutest_engine.specs.Reported.{AreFilesOf, input_of};
 ghost use Rattle.mutest_engine.specs.Steps.{Asks, OnlyReads, Refuses};
@@ -24,7 +25,7 @@ use crate::stop::{Halt, Stop};
 use crate::suite::load_suite;
 use class_model::{Bytes, Memory, Seq};
 use class_table::Test;
-use job_answers::{answers_are_of_all_tests, true_records_change_nothing};
+use job_answers::answers_are_from_scratch;
 use machine_rules::Limits;
 use mt_edge::{Gate, Meter, Tree};
 use mutator_ops::Mutant;
@@ -107,8 +108,7 @@ fn known_reported<W: Threads + Wait + Sync, G: Gate + Sync>(
     ensures later { meter.old ≤ meter.new }
     ensures refusal { IfErr result (Refuses (RefusesKnown known meter.old meter.new)) }
 {
-    true_records_change_nothing();
-    answers_are_of_all_tests();
+    answers_are_from_scratch();
     let KnownJob { suite, history } = known;
     let MadeSuite {
         program,
@@ -222,10 +222,13 @@ pub fn run_answer<'a, W: Threads + Wait + Sync, T: Tree, G: Gate + Sync>(
     ensures answer { MayAnswer (as_run_command options.entry) result }
     ensures meter { MetersRun (T.holds tree.old) meter.old meter.new
         (as_run_options options.entry) result }
+    ensures scratch_meter { MetersTrue (T.holds tree.old) meter.old meter.new
+        (as_run_options options.entry) result }
     ensures stays { IfErr result (HaltStays meter.old meter.new) }
     ensures later { meter.old ≤ meter.new }
     ensures tree { OnlyReads T.holds T.writing T.reading tree.old tree.new result }
 {
+    answers_are_from_scratch();
     let known = read_job(alloc, tree, options)?;
     let reported = known_reported(rt, alloc, options, known, gate, meter)?;
     sourced_answer(alloc, tree, options, reported)

@@ -9,7 +9,7 @@ ghost use Rattle.mutest_engine.specs.Decided.{listing, list_answer, written_clas
 ghost use Rattle.mutest_engine.specs.Answers.{answered, one_write, writes_of, made, one};
 ghost use Rattle.mutest_engine.specs.SuiteFiles.{texts};
 ghost use Rattle.mutest_engine.specs.Steps.{OnlyReads};
-ghost use Rattle.mutest_engine.specs.Promises.{Tells, PrintsMade, PrintsOf, Puts, PutsUntold, AgreesHeld, LeavesOf, LeavesHeld, LeavesScratch, WritesLast, MeterHeld, AnswersTruly};
+ghost use Rattle.mutest_engine.specs.Promises.{Tells, PrintsMade, PrintsOf, Puts, PutsUntold, AgreesHeld, LeavesOf, LeavesHeld, LeavesScratch, WritesLast, MeterHeld, MetersTruly, AnswersTruly};
 
 use crate::answer::{Answer, Product, Write};
 use crate::assembling::class_file_of;
@@ -111,6 +111,8 @@ fn answer_to<'a, W: Threads + Wait + Sync, T: Tree, G: Gate + Sync>(
     ensures scratch { AnswersTruly (T.holds tree.old) (texts words.now) result }
     ensures untold { AnswersUntold (words_of (texts words.now)) result }
     ensures meter { MetersWords (T.holds tree.old) meter.old meter.new (texts words.now) result }
+    ensures scratch_meter { MetersTruly (T.holds tree.old) meter.old meter.new (texts words.now)
+        result }
     ensures stays { IfErr result (HaltStays meter.old meter.new) }
     ensures later { meter.old ≤ meter.new }
     ensures tree { OnlyReads T.holds T.writing T.reading tree.old tree.new result }
@@ -285,9 +287,10 @@ pub fn run<W: Threads + Wait + Sync, T: Tree, S: Sink, G: Gate + Sync, K: Keeper
     // for faults and want of memory.
     ensures status { AgreesHeld (T.holds tree.old) words.now result.0 }
     // Where all records of the history are true, status, text and files are those of running every
-    // test on every mutant from scratch, however many workers there are.
+    // test on every mutant from scratch, however many workers there are; and the meter rises by the
+    // steps of the runs that the history lacks.
     ensures scratch { LeavesScratch S.faults S.written out.old out.new (T.holds tree.old)
-        (T.holds tree.new) words.now result.0 }
+        (T.holds tree.new) words.now meter.old meter.new result.0 }
     // Whatever the tree tells: what the words alone decide.
     ensures status_untold { AgreesUntold (words_of (texts words.now)) result.0 }
     // A fault comes only where the object's faults rose.

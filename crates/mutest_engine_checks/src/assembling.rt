@@ -5,7 +5,9 @@ use class_model::Bytes;
 use mt_edge::MemTree;
 use sample_classes::A;
 use std::alloc::Global;
+use std::sync::Wait;
 use std::test::Fail;
+use std::thread::Threads;
 
 // The text of the class `A`.
 const TEXT: &str = "class A super java/lang/Object flags 33 major 52
@@ -36,7 +38,7 @@ fn held(alloc: Global, text: &[u8], fails: &[u64]) -> Result<MemTree, Fail> {
 
 // The status number and the output of a call, and whether something stands at A.class behind it.
 fn called(
-    rt: &HostRuntime,
+    rt: &(impl Threads + Wait + Sync + AllocGlobal),
     words: &[&str],
     text: &[u8],
     fails: &[u64],

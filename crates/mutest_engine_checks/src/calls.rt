@@ -5,11 +5,13 @@ use mt_edge::{MemKeeper, MemSink, MemTree, Meter, OpenGate};
 use mutest_engine::run;
 use sample_classes::A;
 use std::alloc::Global;
+use std::sync::Wait;
 use std::test::Fail;
+use std::thread::Threads;
 
 /// The status number, the output and the steps of a call.
 pub fn call(
-    rt: &HostRuntime,
+    rt: &(impl Threads + Wait + Sync + AllocGlobal),
     words: &[&str],
     tree: &mut MemTree,
     sink_fails: &[u64],

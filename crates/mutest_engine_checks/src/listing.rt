@@ -5,11 +5,13 @@ use class_model::Bytes;
 use mt_edge::MemTree;
 use sample_classes::{A, A_BARE, T};
 use std::alloc::Global;
+use std::sync::Wait;
 use std::test::Fail;
+use std::thread::Threads;
 
 // The status number and the output of a call, where the tree holds these bytes at A.class.
 fn called(
-    rt: &HostRuntime,
+    rt: &(impl Threads + Wait + Sync + AllocGlobal),
     words: &[&str],
     bytes: &[u8],
     tree_fails: &[u64],

@@ -5,7 +5,9 @@ use class_model::Bytes;
 use mt_edge::MemTree;
 use sample_classes::{A, T};
 use std::alloc::Global;
+use std::sync::Wait;
 use std::test::Fail;
+use std::thread::Threads;
 
 /// `static int g(int)`, which answers its argument negated.
 pub const B: [u8; 130] = [
@@ -74,7 +76,10 @@ const WORDS: [&str; 9] = [
 ];
 
 // What `run` tells of these files.
-fn run_of(rt: &HostRuntime, files: &[(&str, &[u8])]) -> Result<(i32, Bytes, u64), Fail> {
+fn run_of(
+    rt: &(impl Threads + Wait + Sync + AllocGlobal),
+    files: &[(&str, &[u8])],
+) -> Result<(i32, Bytes, u64), Fail> {
     let alloc = rt.alloc();
     let mut held = Vec::new(alloc);
     for (path, bytes) in files {

@@ -6,7 +6,9 @@ use mt_edge::MemTree;
 use mutest_engine::{Halt, Refusal, load_suite};
 use sample_classes::{A, T};
 use std::alloc::Global;
+use std::sync::Wait;
 use std::test::Fail;
+use std::thread::Threads;
 
 // The second byte of the index by which `neg` names assertTrue; that of assertFalse is 23.
 const NEG_ASSERTS: usize = 306;
@@ -79,7 +81,7 @@ fn suite(alloc: Global, class: &[u8], test: &[u8], fails: &[u64]) -> Result<MemT
 
 // What `run` tells of a class and a class of tests.
 fn run_of(
-    rt: &HostRuntime,
+    rt: &(impl Threads + Wait + Sync + AllocGlobal),
     class: &[u8],
     test: &[u8],
     fails: &[u64],

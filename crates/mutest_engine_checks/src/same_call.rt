@@ -29,9 +29,10 @@ pub fn called<W: Threads + Wait + Sync, T: Tree, S: Sink, G: Gate + Sync, K: Kee
     // for faults and want of memory.
     ensures status { AgreesHeld (T.holds tree.old) words.now result.0 }
     // Where all records of the history are true, status, text and files are those of running every
-    // test on every mutant from scratch, however many workers there are.
+    // test on every mutant from scratch, however many workers there are; and the meter rises by the
+    // steps of the runs that the history lacks.
     ensures scratch { LeavesScratch S.faults S.written out.old out.new (T.holds tree.old)
-        (T.holds tree.new) words.now result.0 }
+        (T.holds tree.new) words.now meter.old meter.new result.0 }
     // Whatever the tree tells: what the words alone decide.
     ensures status_untold { AgreesUntold (words_of (texts words.now)) result.0 }
     // A fault comes only where the object's faults rose.

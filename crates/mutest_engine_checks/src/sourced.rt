@@ -113,6 +113,7 @@ fn an_archive_of_sources_is_refused(rt: HostRuntime) -> Result<(), Fail> {
         "t",
         "--report",
         "r.json",
+        "--new-history=new.mth",
         "--sources=src.zip/",
     ];
     let told = call(&rt, &words, &mut tree, &[])?;

@@ -185,7 +185,8 @@ fn each_state_has_its_status_and_its_count(rt: HostRuntime) -> Result<(), Fail> 
         assert!(rt; text.as_slice().starts_with(wanted.as_bytes()));
     }
     let text = summary_text(alloc, &verdicts, 3)?;
-    let wanted = "mutants 8 killed 2 survived 1 no_coverage 1 timed_out 1 non_viable 1 errors 2 reused 3\n";
+    let wanted =
+        "mutants 8 killed 2 survived 1 no_coverage 1 timed_out 1 non_viable 1 errors 2 reused 3\n";
     assert!(rt; text.as_slice() == wanted.as_bytes());
     Ok(())
 }

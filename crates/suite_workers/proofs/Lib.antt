@@ -13,5 +13,8 @@ mod Prefixes
 mod LookedUp
 mod Bounds
 mod Walked
+mod Rings
+mod ProgramParts
+mod TableParts
 mod Crosses
 mod RunAll

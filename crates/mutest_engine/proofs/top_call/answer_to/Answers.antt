@@ -5,7 +5,7 @@ use Rattle.mutest_words.specs.Words.{as_asm_command, as_asm_options, as_command,
 use Rattle.mutest_words.specs.declared.command.Command.{Command as Found}
 use Rattle.mutest_engine.specs.Words.{IsLimited, words_of}
 use Rattle.mutest_engine.proofs.Ends.{untold_answer, untold_halt}
-use Rattle.mutest_engine.proofs.WordLaws.{asm_meters, asm_truly, command_held, list_meters, list_truly, refused_held, refused_meters, refused_truly, run_meters, run_truly}
+use Rattle.mutest_engine.proofs.WordLaws.{asm_meters, asm_meters_truly, asm_truly, command_held, list_meters, list_meters_truly, list_truly, refused_held, refused_meters, refused_meters_truly, refused_truly, run_meters, run_meters_truly, run_truly}
 use Rattle.mutest_engine.proofs.top_call.answer_to.Goals as goal
 
 -- ---- the words are refused
@@ -29,6 +29,11 @@ pub returns-in_err-file-clause-meter : goal.returns-in_err-file-clause-meter
 returns-in_err-file-clause-meter g c =
     let p = err_from_is_err_and c.from_residual.result c.from_residual.ensures.1 in
     rw p.1 (refused_meters (map string_bytes c.args.words.now.items) (g.T.Tree.holds c.args.tree.now) c.args.meter.now c.in_err-file.field-0.0 p.0 c.in_err-file.ensures.value p.2)
+
+pub returns-in_err-file-clause-scratch_meter : goal.returns-in_err-file-clause-scratch_meter
+returns-in_err-file-clause-scratch_meter g c =
+    let p = err_from_is_err_and c.from_residual.result c.from_residual.ensures.1 in
+    rw p.1 (refused_meters_truly (map string_bytes c.args.words.now.items) (g.T.Tree.holds c.args.tree.now) c.args.meter.now c.in_err-file.field-0.0 p.0 c.in_err-file.ensures.value p.2)
 
 -- ---- `list`
 
@@ -55,6 +60,12 @@ returns-in-List-clause-meter g c =
     let words = map string_bytes c.args.words.now.items in
     let is = subst (λ (x : Found). words_of words ≡ Ok (as_command x)) c.in-List.is c.in_ok-file.ensures.value in
     list_meters words (g.T.Tree.holds c.args.tree.now) c.in-List.file.now c.args.meter.now c.list_answer.result is
+
+pub returns-in-List-clause-scratch_meter : goal.returns-in-List-clause-scratch_meter
+returns-in-List-clause-scratch_meter g c =
+    let words = map string_bytes c.args.words.now.items in
+    let is = subst (λ (x : Found). words_of words ≡ Ok (as_command x)) c.in-List.is c.in_ok-file.ensures.value in
+    list_meters_truly words (g.T.Tree.holds c.args.tree.now) c.in-List.file.now c.args.meter.now c.list_answer.result is
 
 -- ---- `run`
 
@@ -88,6 +99,12 @@ returns-in-Run-clause-meter g c =
     let is = subst (λ (x : Found). words_of words ≡ Ok (as_command x)) c.in-Run.is c.in_ok-file.ensures.value in
     run_meters words (g.T.Tree.holds c.args.tree.now) (as_run_options c.in-Run.options) c.args.meter.now c.run_answer.new.meter c.run_answer.result is c.run_answer.ensures.meter
 
+pub returns-in-Run-clause-scratch_meter : goal.returns-in-Run-clause-scratch_meter
+returns-in-Run-clause-scratch_meter g c =
+    let words = map string_bytes c.args.words.now.items in
+    let is = subst (λ (x : Found). words_of words ≡ Ok (as_command x)) c.in-Run.is c.in_ok-file.ensures.value in
+    run_meters_truly words (g.T.Tree.holds c.args.tree.now) (as_run_options c.in-Run.options) c.args.meter.now c.run_answer.new.meter c.run_answer.result is c.run_answer.ensures.scratch_meter
+
 -- ---- `asm`
 
 pub returns-in-Assemble-clause-value : goal.returns-in-Assemble-clause-value
@@ -113,3 +130,9 @@ returns-in-Assemble-clause-meter g c =
     let words = map string_bytes c.args.words.now.items in
     let is = subst (λ (x : Found). words_of words ≡ Ok (as_command x)) c.in-Assemble.is c.in_ok-file.ensures.value in
     asm_meters words (g.T.Tree.holds c.args.tree.now) (as_asm_options c.in-Assemble.options) c.args.meter.now c.asm_answer.result is
+
+pub returns-in-Assemble-clause-scratch_meter : goal.returns-in-Assemble-clause-scratch_meter
+returns-in-Assemble-clause-scratch_meter g c =
+    let words = map string_bytes c.args.words.now.items in
+    let is = subst (λ (x : Found). words_of words ≡ Ok (as_command x)) c.in-Assemble.is c.in_ok-file.ensures.value in
+    asm_meters_truly words (g.T.Tree.holds c.args.tree.now) (as_asm_options c.in-Assemble.options) c.args.meter.now c.asm_answer.result is

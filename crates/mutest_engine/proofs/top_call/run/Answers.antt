@@ -57,8 +57,8 @@ returns-clause-scratch g c =
     let f = g.S.Sink.faults in
     let words = map string_bytes c.args.words.now.items in
     let left = left_of (h c.args.tree.now) (h c.finish-status.new.tree) c.answer_to-answer.result c.finish-status.result (subst (λ (old : Option Files). LeavesOf old (h c.finish-status.new.tree) c.answer_to-answer.result c.finish-status.result) c.answer_to-answer.ensures.tree.0.0 c.finish-status.ensures.files) in
-    leaves_scratch f w c.args.out.now c.finish-status.new.out words c.answer_to-answer.result c.finish-status.result (h c.args.tree.now) (h c.finish-status.new.tree)
-    c.answer_to-answer.ensures.scratch c.finish-status.ensures.status c.finish-status.ensures.printed left
+    leaves_scratch f w c.args.out.now c.finish-status.new.out words c.answer_to-answer.result c.finish-status.result (h c.args.tree.now) (h c.finish-status.new.tree) c.args.meter.now c.answer_to-answer.new.meter
+    c.answer_to-answer.ensures.scratch c.answer_to-answer.ensures.scratch_meter c.finish-status.ensures.status c.finish-status.ensures.printed left
 
 pub returns-clause-last : goal.returns-clause-last
 returns-clause-last g c =
