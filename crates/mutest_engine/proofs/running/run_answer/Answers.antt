@@ -11,12 +11,8 @@ use Rattle.mutest_engine.proofs.running.run_answer.Goals as goal
 
 -- ---- before the first run
 
-pub known_reported-requires-after_bounds : goal.known_reported-requires-after_bounds
-known_reported-requires-after_bounds g c κs within = record {
-  limited = c.requires.limited;
-  made = (c.in_ok-known.ensures.known.loaded, c.in_ok-known.ensures.known.made);
-  room = c.requires.room;
-}
+pub known_reported-requires-clause-made : goal.known_reported-requires-clause-made
+known_reported-requires-clause-made g c κs within = (c.in_ok-known.ensures.known.loaded, c.in_ok-known.ensures.known.made)
 
 pub returns-in_err-known-clause-value : goal.returns-in_err-known-clause-value
 returns-in_err-known-clause-value g c =

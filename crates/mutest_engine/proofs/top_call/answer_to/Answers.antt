@@ -69,11 +69,8 @@ returns-in-List-clause-scratch_meter g c =
 
 -- ---- `run`
 
-pub run_answer-requires-after_bounds : goal.run_answer-requires-after_bounds
-run_answer-requires-after_bounds g c κs within = record {
-  limited = subst (λ (x : Found). IsLimited x) c.in-Run.is c.in_ok-file.ensures.limits;
-  room = c.requires;
-}
+pub run_answer-requires-clause-limited : goal.run_answer-requires-clause-limited
+run_answer-requires-clause-limited g c κs within = subst (λ (x : Found). IsLimited x) c.in-Run.is c.in_ok-file.ensures.limits
 
 pub returns-in-Run-clause-value : goal.returns-in-Run-clause-value
 returns-in-Run-clause-value g c =
