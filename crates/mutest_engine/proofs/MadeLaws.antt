@@ -1,6 +1,6 @@
 -- What a command answers whose last step makes this answer, unless memory runs out; and the meter
 -- before all runs and behind them.
-use Rattle.std.proofs.Common.{◌≡◌, ◌∙◌, ℕ, ◌+◌, ◌≤◌, List, refl, sym, ap, subst, arith}
+use Rattle.std.proofs.Common.{◌≡◌, ◌∙◌, ℕ, ◌≤◌, List, refl, sym, ap, subst, arith}
 use Rattle.std.specs.Prelude.{Option, None, Some, IfSome, IfErr, Result, Ok, Err}
 use Rattle.mt_edge.specs.Files.{Files}
 use Rattle.mutest_words.specs.Words.{Command, RunOptions}

@@ -1,5 +1,5 @@
 -- What a call leaves where all records of the history are true.
-use Rattle.std.proofs.Common.{◌≡◌, ℕ, List, Option, None, Some, Result, Ok}
+use Rattle.std.proofs.Common.{ℕ, List, Option, None, Some, Result, Ok}
 use Rattle.std.specs.Prelude.{IfSome, MatchResult}
 use Rattle.mt_edge.specs.Files.{Files}
 use Rattle.mutest_engine.specs.Answers.{Answered, answered}

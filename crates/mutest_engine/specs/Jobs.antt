@@ -1,5 +1,5 @@
 -- What the job of a suite gives, how it is refused, and what it costs (this project's own).
-use Rattle.std.specs.Prelude.{◌≡◌, ℕ, ◌+◌, ◌*◌, ◌≤◌, List, [], ◌++◌, codes, map, nat_eq, slice_get, if◌then◌else◌}
+use Rattle.std.specs.Prelude.{ℕ, ◌+◌, ◌*◌, ◌≤◌, List, [], ◌++◌, codes, map, nat_eq, slice_get, if◌then◌else◌}
 use Rattle.std.specs.Prelude.{Option, None, Some, Result, Ok, Err, MatchResult}
 use Rattle.class_model.specs.declared.outcome.Outcome.{Outcome}
 use Rattle.class_link.specs.Info.{Info}
