@@ -7,6 +7,7 @@ mod Finding
 mod Running
 mod Suites
 mod Sayings
+mod Sharing
 mod Standings
 mod Works
 mod Prefixes
