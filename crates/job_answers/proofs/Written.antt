@@ -1,6 +1,6 @@
 -- The records of an answer have the form of a history where they fit its fields, and they differ.
 use Rattle.std.proofs.Common.{◌≡◌, ◌∙◌, ℕ, ◌+◌, ◌<◌, ◌^◌, Bool, true, false, cond, not, nat_eq, List, [], ◌∷◌, ◌++◌, map, Option, Some, None, refl, sym, ap, subst}
-use Rattle.std.specs.Prelude.{All, ◌&&◌, nat_le, is_some, if◌then◌else◌}
+use Rattle.std.specs.Prelude.{All, ◌&&◌, nat_le, if◌then◌else◌}
 use Rattle.std.specs.List.{AllByRecursion, enumerate_from, filter}
 use Rattle.std.specs.Option.{option_map, option_map_or, unwrap_or}
 use Rattle.std.proofs.lemmas.Bool.{eqb-true}
@@ -22,7 +22,7 @@ use Rattle.class_records.specs.Profile.{profile}
 use Rattle.record_writing.specs.Writing.{FittingAreFormed}
 use Rattle.suite_records.specs.Suites.{original_asked, mutant_asked}
 use Rattle.job_rules.specs.Tried.{Tried, known, knowns, detects, needed, needed_of_all, need, is_among, firsts_after, records_once}
-use Rattle.suite_jobs.specs.Jobs.{Allowed, Suite, IsAccepted, IsOfFile, says, made_by, tried_on, numbered, original_tried, covering, has_reached, viable_file, mutant_tried, mutant_runs, job_runs}
+use Rattle.suite_jobs.specs.Jobs.{Allowed, Suite, IsAccepted, IsOfFile, says, made_by, tried_on, original_tried, covering, has_reached, viable_file, mutant_tried, mutant_runs, job_runs}
 use Rattle.job_answers.specs.Laws.{AnswersCanBeWritten}
 use Rattle.job_answers.proofs.Answered.{answered}
 use Rattle.job_answers.proofs.TriedOnce.{among}
