@@ -1,4 +1,4 @@
-use denote.Param.Send.{arg_send, param_send}
+use denote.Param.Send.{sendable}
 use Rattle.suite_workers.proofs.Sharing.{worker_send}
 use Rattle.suite_workers.proofs.RunAll.{all_said, may_share, no_ends}
 use Rattle.suite_workers.proofs.run.run_cells.Goals as goal
@@ -13,4 +13,4 @@ pub returns-in-Err : goal.returns-in-Err
 returns-in-Err g c = no_ends c.runs_keep_limits.ensures c.args.program.now c.args.setup.now c.args.workers c.args.meter.now c.requires c.in_ok-hands.hands.items c.in_ok-cells.cells c.in_ok-hands.ensures.count c.in_ok-hands.ensures.each c.in_ok-cells.ensures c.share_cells.new.meter _ c.in-Err.ensures
 
 pub share_cells-requires-send-C : goal.share_cells-requires-send-C
-share_cells-requires-send-C g c κs within = param_send 1 _ (arg_send _ _ _ (worker_send _ _ _))
+share_cells-requires-send-C g c κs within = search (worker_send, sendable) depth 60 fits 60000
