@@ -27,9 +27,7 @@ use Rattle.mutator_ops.specs.declared.change.Change.{Change}
 use Rattle.mutator_ops.specs.declared.mutant.Mutant.{Mutant}
 use Rattle.mutant_apply.specs.Fitting.{Fits}
 use Rattle.mutant_apply.specs.Laws.{MutantsFit}
-use Rattle.mutant_runs.specs.Programs.{ClassFiles, files_of, IsMutantOf}
-use Rattle.suite_laws.specs.Tested.{IsListed}
-use Rattle.suite_jobs.specs.Jobs.{IsOfFile}
+use Rattle.suite_runs.specs.Below.{IsOfFile, IsListed, ClassFiles, files_of, IsMutantOf}
 use Rattle.suite_program.specs.Duplicates.{again, least, duplicate_in}
 use Rattle.suite_program.specs.Faults.{first_fault}
 use Rattle.suite_program.specs.Programs.{classes_in, class_file, names_in, AreSpelled}

@@ -11,14 +11,12 @@ use Rattle.history_rules.specs.Laws.{AreWritable}
 use Rattle.job_answers.specs.Answers.{JobAnswer, JobCost, job_answer, job_cost, job_reused}
 use Rattle.job_answers.specs.declared.refusal.JobRefusal.{JobRefusal}
 use Rattle.job_rules.specs.Tried.{need}
-use Rattle.suite_jobs.specs.Jobs.{job_runs, says}
+use Rattle.suite_runs.specs.Below.{records_in, OldRecords, job_runs, says}
 use Rattle.suite_runs.specs.Ending.{CannotBeKept, EndsAs, EndsOf, IsDone, MeterBy, MeterRose, allowed_in, suite_of}
 use Rattle.suite_runs.specs.declared.fault.JobFault.{JobFault}
 use Rattle.suite_runs.specs.declared.fault.JobFault.TheVariants as fault
 use Rattle.suite_runs.specs.declared.job.JobDone.{JobDone}
 use Rattle.suite_runs.specs.declared.job.SuiteJob.{SuiteJob}
-use Rattle.suite_workers.specs.Old.{records_in}
-use Rattle.suite_workers.specs.declared.old_records.OldRecords.{OldRecords}
 use Rattle.mutator_ops.specs.declared.mutant.Verdict.{Verdict}
 use Rattle.new_history.specs.Left.{Left}
 use Rattle.mutest_engine.specs.Jobs.{RoseWithin, RoseInAll, Meters, job_bounds, job_made, new_history, refusal_of, with_history, with_left}

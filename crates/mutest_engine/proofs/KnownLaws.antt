@@ -16,11 +16,9 @@ use Rattle.reuse_laws.specs.Jobs.{AreTrue}
 use Rattle.job_answers.specs.Answers.{JobAnswer, job_answer, job_cost, job_reused}
 use Rattle.job_answers.specs.Laws.{AnswersAreFromScratch}
 use Rattle.job_answers.specs.declared.refusal.JobRefusal.{JobRefusal}
-use Rattle.suite_jobs.specs.Jobs.{Allowed, IsAccepted}
+use Rattle.suite_runs.specs.Below.{records_in as records_among, OldRecords, Allowed, IsAccepted}
 use Rattle.suite_runs.specs.Ending.{IsSuiteOf, MayRunJob, allowed_in, suite_of}
 use Rattle.suite_runs.specs.declared.job.SuiteJob.{SuiteJob}
-use Rattle.suite_workers.specs.Old.{records_in as records_among}
-use Rattle.suite_workers.specs.declared.old_records.OldRecords.{OldRecords}
 use Rattle.mutest_engine.specs.Answers.{Answered, answered}
 use Rattle.mutest_engine.specs.Decided.{AreTrueIn, CanReport, IsRunAnswer, allowed_by, before_runs, bounds_behind, known_bounds, run_answer, run_bounds, scratch_bounds_in, scratch_run_bounds, sourced_answer}
 use Rattle.mutest_engine.specs.Ends.{AnswerMeters, AnswersHeld, HaltStays, MayAnswer, MayReport, MetersRun, Stays}

@@ -5,7 +5,7 @@ use Rattle.record_rules.specs.Histories.{reused}
 use Rattle.record_rules.specs.Jobs.{Job, need as asked_need}
 use Rattle.record_rules.specs.declared.record.RunRecord.{RunRecord}
 use Rattle.reuse_laws.specs.Jobs.{AreTrue}
-use Rattle.suite_jobs.specs.Jobs.{Allowed, Suite, IsAccepted, job_runs, asked_job}
+use Rattle.suite_runs.specs.Below.{Allowed, Suite, IsAccepted, job_runs, asked_job}
 use Rattle.job_answers.specs.Answers.{JobAnswer, asked_cost, job_answer, job_cost, job_reused, job_scratch}
 use Rattle.job_answers.specs.Laws.{AnswersAreFromScratch}
 use Rattle.mutest_engine.specs.NamedJobs.{named, named_runs, named_answer, named_reused, named_cost, named_asked, scratch_answer, scratch_cost, scratch_reused}

@@ -9,16 +9,13 @@ use Rattle.class_table.specs.Table.{IsProgram, look, name_at, names}
 use Rattle.class_table.specs.declared.scripted.Test.{Test}
 use Rattle.mutator_ops.specs.declared.mutant.Mutant.{Mutant}
 use Rattle.mutant_apply.specs.Laws.{MutantsFit}
-use Rattle.mutant_runs.specs.Programs.{files_of}
-use Rattle.mutant_runs.specs.Ready.{IsReady}
-use Rattle.suite_laws.specs.Tested.{IsListed}
+use Rattle.suite_runs.specs.Below.{bytes_of, IsListed, files_of, IsReady}
 use Rattle.suite_program.specs.Faults.{first_fault, RefusesFirst}
 use Rattle.suite_program.specs.Programs.{classes_in, class_file, program_of, names_in, HaveFirstNumbers, IsMadeOf}
 use Rattle.suite_program.specs.declared.fault.ProgramEnd.{ProgramEnd}
 use Rattle.suite_program.specs.declared.fault.ProgramEnd.TheVariants as end
 use Rattle.test_discovery.specs.Discovery.{Tests}
 use Rattle.test_discovery.specs.declared.fault.TestFault.{TestFault}
-use Rattle.suite_records.specs.Suites.{bytes_of}
 use Rattle.mutest_engine.specs.SuiteFiles.{IsFormed}
 use Rattle.mutest_engine.specs.Steps.{and_then, Refuses}
 use Rattle.mutest_engine.specs.Linked.{all_classes, unless_fault, accepted, linked, suite_files, program, IsStopOfProgram}

@@ -14,7 +14,7 @@ use Rattle.report_schema.specs.Summary.{Summary}
 use Rattle.class_records.specs.Profile.{profile}
 use Rattle.record_rules.specs.declared.record.RunRecord.{RunRecord}
 use Rattle.reuse_laws.specs.Jobs.{AreTrue}
-use Rattle.suite_jobs.specs.Jobs.{Allowed}
+use Rattle.suite_runs.specs.Below.{Allowed}
 use Rattle.mutest_words.specs.Words.{Command, list_class, run_suite, assemble_class, AsmOptions, RunOptions}
 use Rattle.mutest_engine.specs.Words.{words_of}
 use Rattle.mutest_engine.specs.Answers.{Answered, Write, file_of, spelled_class}

@@ -18,8 +18,7 @@ use Rattle.job_answers.specs.declared.refusal.JobRefusal.{JobRefusal}
 use Rattle.job_answers.specs.declared.refusal.JobRefusal.TheVariants as job
 use Rattle.suite_runs.specs.Ending.{IsSuiteOf, allowed_in, suite_of}
 use Rattle.suite_runs.specs.declared.job.SuiteJob.{SuiteJob}
-use Rattle.suite_workers.specs.Old.{records_in}
-use Rattle.suite_workers.specs.declared.old_records.OldRecords.{OldRecords}
+use Rattle.suite_runs.specs.Below.{records_in, OldRecords}
 use Rattle.mutest_engine.specs.Old.{profile_number}
 use Rattle.mutest_engine.specs.Steps.{and_then, Gives, Refuses}
 use Rattle.mutest_engine.specs.declared.job.JobMade.{JobMade}

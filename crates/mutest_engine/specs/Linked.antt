@@ -3,7 +3,7 @@ use Rattle.std.specs.Prelude.{◌≡◌, List, ◌++◌, Option, Some, None, Res
 use Rattle.class_model.specs.declared.class.Class.{Class}
 use Rattle.program_rules.specs.Programs.{Look}
 use Rattle.class_link.specs.declared.loaded.Loaded.{Loaded}
-use Rattle.mutant_runs.specs.Programs.{ClassFiles}
+use Rattle.suite_runs.specs.Below.{ClassFiles}
 use Rattle.suite_program.specs.Faults.{first_fault}
 use Rattle.suite_program.specs.Programs.{classes_in, class_file, program_of}
 use Rattle.suite_program.specs.declared.fault.ProgramEnd.{ProgramEnd}

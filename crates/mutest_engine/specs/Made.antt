@@ -6,11 +6,8 @@ use Rattle.class_link.specs.Info.{Info}
 use Rattle.class_table.specs.declared.scripted.Test.{Test}
 use Rattle.mutator_ops.specs.Programs.{mutants_among, mutants}
 use Rattle.mutator_ops.specs.declared.mutant.Mutant.{Mutant}
-use Rattle.mutant_runs.specs.Ready.{IsReady}
+use Rattle.suite_runs.specs.Below.{HoldsFiles, Suite, IsAccepted, bytes_of, IsReady}
 use Rattle.suite_program.specs.Programs.{classes_in}
-use Rattle.suite_records.specs.Suites.{bytes_of}
-use Rattle.suite_jobs.specs.Jobs.{Suite, IsAccepted}
-use Rattle.suite_workers.specs.Jobs.{HoldsFiles}
 use Rattle.mutest_engine.specs.Steps.{and_then}
 use Rattle.mutest_engine.specs.Numbers.{numbers_from, numbers_of}
 use Rattle.mutest_engine.specs.Linked.{all_classes, linked, suite_files, program}

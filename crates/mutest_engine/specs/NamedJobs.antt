@@ -16,17 +16,13 @@ use Rattle.type_rules.specs.Faults.{class_fault}
 use Rattle.mutator_ops.specs.declared.mutant.Mutant.{Mutant}
 use Rattle.mutator_ops.specs.declared.mutant.Verdict.{Verdict}
 use Rattle.mutant_apply.specs.Edited.{applied}
-use Rattle.mutant_runs.specs.Programs.{ClassFiles, files_of, with_class}
-use Rattle.mutant_runs.specs.Runs.{timed, reaches, detected}
-use Rattle.mutant_runs.specs.Verdicts.{not_viable, verdict_of}
+use Rattle.suite_runs.specs.Below.{Allowed, Suite, tried_on, says, has_reached, asked_on, bytes_of, put_file, ClassFiles, files_of, with_class, timed, reaches, detected, not_viable, verdict_of}
 use Rattle.record_rules.specs.Profiles.{Held}
 use Rattle.record_rules.specs.declared.record.RunRecord.{RunRecord}
 use Rattle.record_rules.specs.Histories.{same_record, new_records, reused}
 use Rattle.record_rules.specs.Jobs.{Job, Trial, need as asked_need}
 use Rattle.record_rules.specs.Records.{Asked}
-use Rattle.suite_records.specs.Suites.{asked_on, bytes_of, put_file}
 use Rattle.job_rules.specs.Tried.{Tried, JobRuns, known, need, records_once, reused_among}
-use Rattle.suite_jobs.specs.Jobs.{Allowed, Suite, tried_on, says, has_reached}
 use Rattle.job_answers.specs.Answers.{JobAnswer, JobCost, verdict_of_runs, failed_tests, cell_total}
 use Rattle.job_answers.specs.Answers.{unless_failed, unless_many, cost_by, asked_cells, asked_cost}
 use Rattle.job_answers.specs.declared.refusal.JobRefusal.{JobRefusal}

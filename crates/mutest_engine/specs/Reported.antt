@@ -3,12 +3,11 @@ use Rattle.std.specs.Prelude.{◌≡◌, ℕ, List, [], Result, Ok}
 use Rattle.class_table.specs.declared.scripted.Test.{Test}
 use Rattle.mutator_ops.specs.declared.mutant.Mutant.{Mutant}
 use Rattle.mutator_ops.specs.declared.mutant.Verdict.{Verdict}
-use Rattle.mutant_runs.specs.Programs.{ClassFiles}
+use Rattle.suite_runs.specs.Below.{Allowed, ClassFiles}
 use Rattle.report_pieces.specs.FileKey.{mutant_keys, test_keys}
 use Rattle.report_pieces.specs.Groups.{groups_of}
 use Rattle.report_pieces.specs.declared.input.ReportInput.{ReportInput}
 use Rattle.record_rules.specs.declared.record.RunRecord.{RunRecord}
-use Rattle.suite_jobs.specs.Jobs.{Allowed}
 use Rattle.job_answers.specs.Answers.{JobAnswer}
 use Rattle.job_answers.specs.declared.refusal.JobRefusal.{JobRefusal}
 use Rattle.mutest_engine.specs.Jobs.{job_made}

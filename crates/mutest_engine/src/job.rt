@@ -25,8 +25,7 @@ use record_rules::PROFILE_NUMBER;
 use std::alloc::Global;
 use std::sync::Wait;
 use std::thread::Threads;
-use suite_runs::{JobDone, JobFault, SuiteJob, run_job};
-use suite_workers::OldRecords;
+use suite_runs::{JobDone, JobFault, OldRecords, SuiteJob, run_job};
 
 const CELLS_LIMIT: u64 = 4_194_304;
 

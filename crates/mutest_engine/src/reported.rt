@@ -1,7 +1,7 @@
 //! What the report is made of.
 
 ghost use Rattle.std.specs.Prelude.{◌≡◌, IfOk};
-ghost use Rattle.mutant_runs.specs.Programs.{ClassFiles, files_of};
+ghost use Rattle.suite_runs.specs.Below.{ClassFiles, files_of};
 ghost use Rattle.mutest_engine.specs.Reported.{AreFilesOf, input_of};
 
 use class_model::{Bytes, Memory, Seq};

@@ -1,7 +1,7 @@
 //! A run: what is known before the first run, the job, the report and the new history.
 
 ghost use Rattle.std.specs.Prelude.{◌≡◌, ◌<◌, ◌≤◌, ◌^◌, IfOk, IfErr};
-ghost use Rattle.mutant_runs.specs.Programs.{ClassFiles};
+ghost use Rattle.suite_runs.specs.Below.{ClassFiles};
 ghost use Rattle.mutest_words.specs.Laws.{AreLimited};
 ghost use Rattle.mutest_words.specs.Words.{as_run_options, as_run_command};
 ghost use Rattle.mutest_engine.specs.Answers.{writes_of};
@@ -35,8 +35,7 @@ use report_schema::summary_text;
 use std::alloc::Global;
 use std::sync::Wait;
 use std::thread::Threads;
-use suite_runs::SuiteJob;
-use suite_workers::OldRecords;
+use suite_runs::{OldRecords, SuiteJob};
 
 // ---- before the first run
 

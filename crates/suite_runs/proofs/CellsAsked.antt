@@ -24,7 +24,7 @@ use Rattle.suite_workers.specs.declared.look_ups.LookUps.{LookUps}
 use Rattle.suite_workers.specs.declared.old_records.OldRecords.{OldRecords}
 use Rattle.suite_workers.specs.declared.said.KnownRun.{KnownRun}
 use Rattle.suite_workers.specs.declared.setup.JobSetup.{JobSetup}
-use Rattle.suite_jobs.specs.Jobs.{job_runs}
+use Rattle.suite_workers.specs.Below.{job_runs}
 use Rattle.job_answers.specs.Answers.{most_cells}
 use Rattle.suite_runs.specs.declared.job.SuiteJob.{SuiteJob}
 use Rattle.suite_runs.specs.declared.prepared.Prepared.{Prepared}

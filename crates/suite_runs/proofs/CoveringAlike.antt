@@ -15,7 +15,7 @@ use Rattle.mutator_ops.specs.declared.mutant.Mutant.{Mutant}
 use Rattle.mutant_runs.specs.Promises.{covering_at}
 use Rattle.record_rules.specs.declared.record.RunRecord.{RunRecord}
 use Rattle.job_rules.specs.Tried.{Tried, known}
-use Rattle.suite_jobs.specs.Jobs.{Allowed, Suite, numbered, original_tried, covering, has_reached, viable_file, mutant_tried, mutant_runs}
+use Rattle.suite_workers.specs.Below.{Allowed, Suite, numbered, original_tried, covering, has_reached, viable_file, mutant_tried, mutant_runs}
 use Rattle.suite_workers.specs.Jobs.{covering_numbers}
 use Rattle.suite_workers.specs.Said.{known_record}
 use Rattle.suite_workers.specs.declared.said.KnownRun.{KnownRun}

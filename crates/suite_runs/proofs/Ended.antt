@@ -17,8 +17,7 @@ use Rattle.history_rules.specs.Laws.{IsFormed}
 use Rattle.history_file.specs.Rows.{Numbered}
 use Rattle.new_history.specs.Left.{Left}
 use Rattle.job_rules.specs.Tried.{JobRuns, Tried, known, knowns, cost_of, cost_of_all, detections, firsts_after, is_among, most_cost, need, need_cost, needed_of_all, records_once, reused_among}
-use Rattle.suite_jobs.specs.Jobs.{Allowed, Suite, job_runs, mutant_runs, says, viable_file}
-use Rattle.suite_jobs.specs.Laws.{steps_of}
+use Rattle.suite_workers.specs.Below.{Allowed, Suite, job_runs, mutant_runs, says, viable_file, steps_of}
 use Rattle.suite_workers.specs.Jobs.{covering_numbers}
 use Rattle.suite_workers.specs.Old.{history_in, records_in}
 use Rattle.suite_workers.specs.Said.{CostsOf, IsSaidOf, is_found, known_record}

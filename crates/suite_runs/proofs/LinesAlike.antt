@@ -16,7 +16,7 @@ use Rattle.line_coverage.specs.Lines.{is_listed, same_line}
 use Rattle.mutator_ops.specs.declared.mutant.Mutant.{Mutant}
 use Rattle.mutant_runs.specs.Runs.{is_at}
 use Rattle.record_rules.specs.declared.record.RunRecord.{RunRecord}
-use Rattle.suite_jobs.specs.Jobs.{has_reached, name_at}
+use Rattle.suite_workers.specs.Below.{has_reached, name_at}
 use Rattle.suite_runs.specs.Reaching.{class_id, class_named, line_in, lines_in}
 
 or_none : (b : Bool) → (b || false) ≡ b

@@ -16,7 +16,7 @@ use Rattle.history_rules.specs.Entries as history
 use Rattle.history_file.specs.declared.row.Entry.{Entry}
 use Rattle.history_file.specs.declared.row.Row.{Row}
 use Rattle.history_file.specs.Rows.{entry_of, name_of, name_or_empty, record_of}
-use Rattle.suite_jobs.specs.Jobs.{name_at}
+use Rattle.suite_workers.specs.Below.{name_at}
 use Rattle.suite_workers.specs.Old.{found_record, no_record}
 use Rattle.suite_workers.specs.Said.{known_record}
 use Rattle.suite_workers.specs.declared.old_records.FoundRun.{FoundRun}

@@ -14,8 +14,7 @@ use Rattle.mutator_ops.specs.Mutants.{class_mutants}
 use Rattle.mutator_ops.specs.declared.mutant.Mutant.{Mutant}
 use Rattle.mutant_runs.specs.Laws.{MutantsAreOf}
 use Rattle.mutant_runs.specs.Programs.{files_of, IsMutantOf}
-use Rattle.suite_program.specs.Programs.{classes_in, class_file}
-use Rattle.suite_jobs.specs.Jobs.{IsOfFile, Suite, IsAccepted}
+use Rattle.suite_workers.specs.Below.{IsOfFile, Suite, IsAccepted, classes_in, class_file}
 
 -- A class file of this name has a spelling.
 record IsFileOf (n : Name) (c : Class) : Type 0 where

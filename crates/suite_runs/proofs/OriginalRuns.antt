@@ -12,8 +12,7 @@ use Rattle.mutant_runs.specs.Runs.{most_steps}
 use Rattle.record_rules.specs.declared.record.RunRecord.{RunRecord}
 use Rattle.job_rules.specs.Tried.{Tried, known, knowns, cost_of_run, cost_of}
 use Rattle.run_records.specs.Asking.{asked}
-use Rattle.suite_jobs.specs.Jobs.{made_by}
-use Rattle.suite_jobs.specs.Laws.{steps_of}
+use Rattle.suite_workers.specs.Below.{made_by, steps_of}
 use Rattle.suite_workers.specs.Said.{IsKnownIn, known_record, is_found}
 use Rattle.suite_workers.specs.Old.{AreLookUps, FindsOriginal, found_in, found_record, old_of, test_at}
 use Rattle.suite_workers.specs.declared.look_ups.LookUps.{LookUps}

@@ -31,9 +31,8 @@ use Rattle.record_rules.specs.Matching.{first_match, is_timed_out, matches}
 use Rattle.record_rules.specs.Records.{Asked}
 use Rattle.history_rules.specs.Laws.{IsFormed}
 use Rattle.history_file.specs.Rows.{Numbered}
-use Rattle.suite_records.specs.Suites.{asked_on}
+use Rattle.suite_workers.specs.Below.{made_by, tried_on, asked_on}
 use Rattle.job_rules.specs.Tried.{known, knowns}
-use Rattle.suite_jobs.specs.Jobs.{made_by, tried_on}
 use Rattle.suite_workers.specs.Jobs.{CellJob, covering_numbers}
 use Rattle.suite_workers.specs.Laws.{BoundsAreByName}
 use Rattle.suite_workers.specs.Old.{AreByName, AreLookUps, history_in, history_of, no_test, old_of, records_in, test_at}

@@ -17,9 +17,8 @@ use Rattle.mutant_apply.specs.Edited.{applied}
 use Rattle.mutant_runs.specs.Programs.{files_of, viable, with_accepted, with_class}
 use Rattle.mutant_runs.specs.Promises.{AreViable}
 use Rattle.record_rules.specs.declared.record.RunRecord.{RunRecord}
-use Rattle.suite_records.specs.Suites.{asked_on, bytes_of}
+use Rattle.suite_workers.specs.Below.{Allowed, Suite, job_runs, mutant_runs, numbered, original_tried, tried_on, unless_refused, viable_file, asked_on, bytes_of}
 use Rattle.job_rules.specs.Tried.{Tried, known, knowns}
-use Rattle.suite_jobs.specs.Jobs.{Allowed, Suite, job_runs, mutant_runs, numbered, original_tried, tried_on, unless_refused, viable_file}
 use Rattle.suite_workers.specs.Jobs.{CellJob, IsSetupOf, bound_of, covering_numbers}
 use Rattle.suite_workers.specs.Old.{no_test, records_in, test_at}
 use Rattle.suite_workers.specs.Said.{known_record}

@@ -12,7 +12,7 @@ use Rattle.mutator_ops.specs.declared.mutant.Verdict.{Verdict}
 use Rattle.mutant_runs.specs.Verdicts.{not_viable}
 use Rattle.record_rules.specs.declared.record.RunRecord.{RunRecord}
 use Rattle.job_rules.specs.Tried.{Tried, known, detections}
-use Rattle.suite_jobs.specs.Jobs.{Allowed, Suite, says, covering, original_tried, viable_file, mutant_tried, mutant_runs}
+use Rattle.suite_workers.specs.Below.{Allowed, Suite, says, covering, original_tried, viable_file, mutant_tried, mutant_runs}
 use Rattle.suite_workers.specs.Jobs.{covering_numbers}
 use Rattle.job_answers.specs.declared.refusal.FailedTest.{FailedTest}
 use Rattle.job_answers.specs.Answers.{failed_by, unless_passed, verdict_in, verdict_of_runs, verdict_with}

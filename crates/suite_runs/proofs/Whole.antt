@@ -8,8 +8,7 @@ use Rattle.mutator_ops.specs.declared.mutant.Mutant.{Mutant}
 use Rattle.record_rules.specs.declared.record.RunRecord.{RunRecord}
 use Rattle.history_file.specs.Rows.{Numbered}
 use Rattle.job_rules.specs.Tried.{Tried, cost_of, detections}
-use Rattle.suite_jobs.specs.Jobs.{Allowed, Suite, job_runs, mutant_runs, says, viable_file}
-use Rattle.suite_jobs.specs.Laws.{steps_of}
+use Rattle.suite_workers.specs.Below.{Allowed, Suite, job_runs, mutant_runs, says, viable_file, steps_of}
 use Rattle.suite_workers.specs.Jobs.{cell_runs, covering_numbers, job_in}
 use Rattle.suite_workers.specs.Laws.{CellsAreOfSuite}
 use Rattle.suite_workers.specs.Old.{history_in, history_of, records_in}

@@ -10,7 +10,7 @@ use Rattle.job_rules.specs.Tried.{Tried, knowns, need}
 use Rattle.history_rules.specs.Fitting.{FitsFields}
 use Rattle.history_rules.specs.Laws.{IsFormed, AreWritable}
 use Rattle.history_file.specs.Rows.{Numbered}
-use Rattle.suite_jobs.specs.Jobs.{Allowed, Suite, IsAccepted, says, job_runs}
+use Rattle.suite_workers.specs.Below.{Allowed, Suite, IsAccepted, says, job_runs}
 use Rattle.suite_workers.specs.Jobs.{HoldsFiles}
 use Rattle.suite_workers.specs.Old.{records_in}
 use Rattle.suite_workers.specs.declared.old_records.OldRecords.{OldRecords}

@@ -7,3 +7,4 @@ pub mod Originals
 pub mod Ending
 pub mod Preparing
 pub mod Keeping
+pub mod Below

@@ -9,8 +9,7 @@ use Rattle.record_rules.specs.declared.record.RunRecord.{RunRecord}
 use Rattle.record_rules.specs.Records.{Asked}
 use Rattle.run_records.specs.Asking.{asked}
 use Rattle.job_rules.specs.Tried.{Tried, known, knowns, cost_of_run, cost_of}
-use Rattle.suite_jobs.specs.Jobs.{tried_on}
-use Rattle.suite_jobs.specs.Laws.{steps_of}
+use Rattle.suite_workers.specs.Below.{tried_on, steps_of}
 use Rattle.suite_workers.specs.Old.{AreLookUps, test_at}
 use Rattle.suite_workers.specs.Said.{known_record, is_found}
 use Rattle.suite_workers.specs.declared.look_ups.LookUps.{LookUps}

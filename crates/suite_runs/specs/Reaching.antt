@@ -13,7 +13,7 @@ use Rattle.history_rules.specs.Entries as history
 use Rattle.history_file.specs.declared.row.Entry.{Entry}
 use Rattle.history_file.specs.Rows.{name_of, name_or_empty}
 use Rattle.line_coverage.specs.Coverage.{Covered, Covers}
-use Rattle.suite_jobs.specs.Jobs.{name_at}
+use Rattle.suite_workers.specs.Below.{name_at}
 use Rattle.suite_workers.specs.Said.{known_record}
 use Rattle.suite_workers.specs.declared.said.KnownRun.{KnownRun}
 

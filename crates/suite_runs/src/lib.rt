@@ -17,3 +17,4 @@ mod verdicts;
 pub use fault::JobFault;
 pub use job::{JobDone, SuiteJob};
 pub use run::run_job;
+pub use suite_workers::OldRecords;

@@ -6,7 +6,7 @@ ghost use Rattle.class_table.specs.Table.{look};
 ghost use Rattle.jvm_step.specs.Programs.{IsRunnable};
 ghost use Rattle.jvm_step.specs.Tables.{AreTablesOf};
 ghost use Rattle.run_records.specs.Asking.{asked};
-ghost use Rattle.suite_jobs.specs.Jobs.{made_by};
+ghost use Rattle.suite_workers.specs.Below.{made_by};
 ghost use Rattle.suite_workers.specs.Old.{history_of, old_of};
 ghost use Rattle.suite_workers.specs.Said.{IsKnownIn};
 ghost use Rattle.job_answers.specs.Laws.{HasRecord};

@@ -26,7 +26,7 @@ use Rattle.mutant_runs.proofs.ProgramLaws.{edited_by, file_found}
 use Rattle.record_rules.specs.Profiles.{Held}
 use Rattle.record_rules.specs.Records.{Asked}
 use Rattle.run_records.specs.Asking.{asked, bytes_of, held_by}
-use Rattle.suite_records.specs.Suites.{asked_on, put_file}
+use Rattle.suite_jobs.specs.Below.{asked_on, put_file}
 use Rattle.suite_jobs.specs.Jobs.{unless_refused, viable_file}
 
 -- ---- one class among others

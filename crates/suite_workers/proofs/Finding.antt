@@ -22,7 +22,7 @@ use Rattle.record_rules.specs.Matching.{first_match}
 use Rattle.record_rules.specs.Profiles.{Held}
 use Rattle.record_rules.specs.Records.{Asked}
 use Rattle.run_records.specs.Asking.{bytes_of, held_by}
-use Rattle.suite_records.specs.Suites.{put_file}
+use Rattle.suite_jobs.specs.Below.{put_file}
 use Rattle.suite_jobs.specs.Jobs.{viable_file}
 use Rattle.job_rules.specs.Tried.{Tried}
 use Rattle.worker_gate.specs.Hands.{Finds, IsRunOf}

@@ -19,7 +19,7 @@ use Rattle.record_rules.specs.Records.{Asked, run}
 use Rattle.job_rules.specs.Gathered.{flat}
 use Rattle.job_rules.specs.Tried.{Tried, known}
 use Rattle.run_records.specs.Asking.{held_by}
-use Rattle.suite_records.specs.Suites.{asked_on, bytes_of, put_file}
+use Rattle.suite_jobs.specs.Below.{asked_on, bytes_of, put_file}
 use Rattle.suite_jobs.specs.Jobs.{Allowed, Suite, covering, numbered, original_tried, tried_on, viable_file}
 use Rattle.suite_workers.specs.Old.{old_of, test_at}
 use Rattle.suite_workers.specs.declared.setup.JobSetup.{JobSetup}

@@ -2,7 +2,7 @@ use Rattle.std.proofs.Common.{inl, inr, List, Ok, Err, refl, subst}
 use Rattle.std.proofs.lemmas.Result.{err_from_is_err_and}
 use Rattle.class_table.specs.declared.scripted.Test.{Test}
 use Rattle.mutator_ops.specs.declared.mutant.Mutant.{Mutant}
-use Rattle.mutant_runs.specs.Programs.{files_of}
+use Rattle.suite_runs.specs.Below.{files_of}
 use Rattle.mutest_words.specs.Words.{as_run_options}
 use Rattle.mutest_engine.specs.Decided.{allowed_by, known_bounds}
 use Rattle.mutest_engine.specs.Made.{suite_in}

@@ -2,7 +2,7 @@ use Rattle.std.proofs.Common.{◌≡◌}
 use Rattle.std.specs.Prelude.{All}
 use Rattle.jvm_step.specs.Tables.{AreTablesOf}
 use Rattle.job_rules.specs.Tried.{cost_of}
-use Rattle.suite_jobs.specs.Laws.{steps_of}
+use Rattle.suite_workers.specs.Below.{steps_of}
 use Rattle.suite_workers.specs.Old.{history_of, old_of}
 use Rattle.suite_workers.specs.Said.{IsKnownIn}
 use Rattle.suite_runs.specs.Originals.{AreKnown, tried_from}

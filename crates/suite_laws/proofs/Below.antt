@@ -1,0 +1,2 @@
+-- What is passed on of crates below.
+pub use Rattle.suite_program.proofs.ReadyLaws.{are_apart}
