@@ -1,0 +1,16 @@
+use Rattle.job_answers.proofs.Written.{can_be_written}
+use Rattle.job_answers.proofs.laws.answers_can_be_written.Goals as goal
+
+pub returns : goal.returns
+returns c =
+    can_be_written (record {
+      sound = c.accepted_code_is_never_stuck.ensures;
+      order = c.ordered_is_built.ensures;
+      safe = c.suites_are_safe.ensures;
+      fit = c.found_tests_fit.ensures;
+      viable = c.viable_mutants_are_never_stuck.ensures;
+      tests = c.found_are_own_tests.ensures;
+      originals = c.originals_are_reusable.ensures;
+      mutants = c.mutants_are_reusable.ensures.reusable;
+    })
+    c.class_files_are_a_profile.ensures c.fitting_records_are_formed.ensures

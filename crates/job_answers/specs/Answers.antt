@@ -1,0 +1,135 @@
+-- What the job of a suite answers, by what is known of its runs, and what it costs (this project's
+-- own).
+use Rattle.std.specs.Prelude.{ℕ, Bool, List, [], ◌∷◌, map, sum_by, length, nat_lt, Result, Ok, Err}
+use Rattle.std.specs.Prelude.{if◌then◌else◌}
+use Rattle.std.specs.List.{flat_map}
+use Rattle.std.specs.Option.{option_map_or}
+use Rattle.class_model.specs.declared.outcome.Outcome.{Outcome}
+use Rattle.class_model.specs.declared.outcome.Outcome.TheVariants.{Passed}
+use Rattle.mutator_ops.specs.declared.mutant.Mutant.{Mutant}
+use Rattle.mutator_ops.specs.declared.mutant.State.{State}
+use Rattle.mutator_ops.specs.declared.mutant.Verdict.{Verdict}
+use Rattle.mutant_runs.specs.Verdicts.{verdict_by, not_viable}
+use Rattle.suite_laws.specs.Tested.{all_verdicts}
+use Rattle.record_rules.specs.declared.record.RunRecord.{RunRecord}
+use Rattle.record_rules.specs.Histories.{same_record, new_records}
+use Rattle.record_rules.specs.Jobs.{Job, covering_runs, need as asked_need, cost, NeedCost, Cost}
+use Rattle.job_rules.specs.Tried.{Tried, JobRuns, known, detections, need, cost_of, least_cost}
+use Rattle.job_rules.specs.Tried.{most_cost, records_once, reused_among}
+use Rattle.suite_jobs.specs.Jobs.{Allowed, Suite, says, first_of, viable_file, mutant_runs}
+use Rattle.suite_jobs.specs.Jobs.{job_runs, asked_job}
+use Rattle.suite_jobs.specs.Laws.{steps_of}
+use Rattle.job_answers.specs.declared.refusal.FailedTest.{FailedTest}
+use Rattle.job_answers.specs.declared.refusal.JobRefusal.{JobRefusal}
+use Rattle.job_answers.specs.declared.refusal.JobRefusal.TheVariants.{NotGreen, TooManyCells}
+
+-- ---- verdicts
+
+-- The verdict by the tests that cover a mutant and those that detect it, each with the state that
+-- it gives: the first one's state, and all are its killers.
+abbrev pub verdict_with : List ℕ → List (ℕ × State) → Verdict
+verdict_with covering found =
+    record (verdict_by covering (first_of found)) { killers = map (λ d. d.0) found }
+
+abbrev pub verdict_of_runs : Bool → List (Tried RunRecord) → Verdict
+verdict_of_runs all ts = verdict_with (map (λ t. t.test) ts) (detections says all ts)
+
+-- The verdict on a mutant, where `all` says whether all detecting tests are asked for.
+abbrev pub verdict_in : Allowed → Suite → List RunRecord → Bool → Mutant → Verdict
+verdict_in a s old all m =
+    option_map_or (λ made. verdict_of_runs all (mutant_runs a s old m)) (viable_file s.program m)
+    not_viable
+
+-- ---- refusals
+
+-- A test of which what is known isn't that it passes.
+abbrev pub unless_passed : ℕ → Outcome → List FailedTest
+unless_passed test Passed = []
+unless_passed test outcome = record { test = test; outcome = outcome } ∷ []
+
+abbrev pub failed_by : Tried RunRecord → List FailedTest
+failed_by t = unless_passed t.test (known t).outcome
+
+abbrev pub failed_tests : JobRuns RunRecord → List FailedTest
+failed_tests j = flat_map failed_by j.originals
+
+-- How many tests cover mutants, each counted for each mutant that it covers.
+abbrev pub cell_total : JobRuns RunRecord → ℕ
+cell_total j = sum_by length j.mutants
+
+abbrev pub most_cells : ℕ
+most_cells = 4194304
+
+-- The first refusal, if there is one; else this.
+abbrev pub unless_failed :
+    {X : Type 0} → List FailedTest → Result X JobRefusal → Result X JobRefusal
+unless_failed [] next = next
+unless_failed (t ∷ ts) next = Err (NotGreen (t ∷ ts))
+
+abbrev pub unless_many : {X : Type 0} → ℕ → Result X JobRefusal → Result X JobRefusal
+unless_many cells next = if nat_lt most_cells cells then Err TooManyCells else next
+
+-- ---- the answer
+
+-- The verdict on each mutant, and the records of the runs that are needed, equal ones once.
+pub record JobAnswer : Type 0 where
+  pub verdicts : List Verdict
+  pub records : List RunRecord
+
+abbrev pub answer_by : Allowed → Suite → List RunRecord → Bool → JobAnswer
+answer_by a s old all = record {
+  verdicts = map (verdict_in a s old all) s.mutants;
+  records = records_once same_record (need says all (job_runs a s old));
+}
+
+unfoldable pub job_answer : Allowed → Suite → List RunRecord → Bool → Result JobAnswer JobRefusal
+job_answer a s old all =
+    unless_failed (failed_tests (job_runs a s old))
+    (unless_many (cell_total (job_runs a s old)) (Ok (answer_by a s old all)))
+
+-- How many of the records old ones stand for.
+abbrev pub job_reused : Allowed → Suite → List RunRecord → Bool → ℕ
+job_reused a s old all = reused_among same_record (need says all (job_runs a s old))
+
+-- ---- what it costs
+
+-- The steps at least and at most, and those of all runs that old records lack.
+pub record JobCost : Type 0 where
+  pub least : ℕ
+  pub most : ℕ
+
+abbrev pub exactly : ℕ → JobCost
+exactly n = record { least = n; most = n }
+
+abbrev pub cost_by : {X : Type 0} → Bool → JobRuns RunRecord → Result X JobRefusal → JobCost
+cost_by all j (Ok x) =
+    record { least = least_cost says steps_of all j; most = most_cost steps_of j }
+cost_by all j (Err refusal) = exactly (cost_of steps_of j.originals)
+
+abbrev pub job_cost : Allowed → Suite → List RunRecord → Bool → JobCost
+job_cost a s old all = cost_by all (job_runs a s old) (job_answer a s old all)
+
+-- ---- from scratch
+
+-- How many runs of tests on mutants reach the mutants' lines.
+abbrev pub asked_cells : Job → ℕ
+asked_cells j = sum_by (λ t. length (covering_runs t)) j.trials
+
+-- Where each run is made anew: the verdict on each mutant by the runs of every test on it, and the
+-- records of the runs that are needed, by the mutants' own runs.
+abbrev pub answer_anew : Allowed → Suite → JobAnswer
+answer_anew a s = record {
+  verdicts = all_verdicts s.program a.limits a.steps s.tests s.mutants;
+  records = new_records (asked_need (asked_job a s));
+}
+
+abbrev pub job_scratch : Allowed → Suite → Result JobAnswer JobRefusal
+job_scratch a s =
+    unless_failed (failed_tests (job_runs a s []))
+    (unless_many (asked_cells (asked_job a s)) (Ok (answer_anew a s)))
+
+-- The steps of the runs that old records lack; where it is refused, of those on the program as it
+-- is.
+abbrev pub asked_cost : {X : Type 0} → List RunRecord → Job → Result X JobRefusal → JobCost
+asked_cost old j (Ok x) = record { least = NeedCost old j; most = Cost old j }
+asked_cost old j (Err refusal) = exactly (cost old j.originals)

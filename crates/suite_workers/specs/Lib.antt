@@ -1,0 +1,10 @@
+pub mod Old
+pub mod Standing
+pub mod Jobs
+pub mod Cells
+pub mod Marks
+pub mod Working
+pub mod Workers
+pub mod Laws
+pub mod Said
+pub mod Saying
