@@ -10,7 +10,7 @@ use Rattle.class_link.specs.declared.loaded.ClassBody.{ClassBody}
 use Rattle.class_link.specs.declared.loaded.ClassBody.TheVariants as body
 use Rattle.class_link.specs.Info.{Info, IsInfo, body_name, own_name}
 use Rattle.class_table.specs.Table.{place_from, names, bodies_of}
-use Rattle.suite_runs.specs.Below.{HoldsFiles, bytes_of, bytes_in, bytes_of as info_bytes, held_by}
+use Rattle.suite_runs.specs.Below.{HoldsFiles, bytes_of, bytes_in, info_bytes, held_by}
 use Rattle.suite_program.specs.Programs.{IsMadeOf}
 
 abbrev Named : Type 0
