@@ -1,6 +1,6 @@
 -- What is told of each refusal, its number and its line, and which command it may refuse (this
 -- project's own).
-use Rattle.std.specs.Prelude.{◌≡◌, ◌⊎◌, ℕ, ◌<◌, List, [], ◌++◌, codes, decimal, Option, Some, Err}
+use Rattle.std.specs.Prelude.{◌≡◌, ◌≢◌, ◌⊎◌, ℕ, ◌<◌, List, [], ◌++◌, codes, decimal, Option, Some, Err}
 use Rattle.program_rules.specs.Names.{Name}
 use Rattle.mutator_ops.specs.Printing.{printed}
 use Rattle.class_model.specs.Fault.{number_of}
@@ -138,7 +138,7 @@ IsOfSuite (Archive path) = ⊥
 IsOfSuite (BadClass path fault) = IsClassFault fault
 IsOfSuite (BadProgram fault) = Unit {0}
 IsOfSuite (BadTest fault) = IsTestFault fault
-IsOfSuite (NotGreen tests) = Unit {0}
+IsOfSuite (NotGreen tests) = tests ≢ []
 IsOfSuite (HistoryBad at) = ⊥
 IsOfSuite (TooMany what number) = IsPassed what number
 IsOfSuite (AsmRefused line) = ⊥
