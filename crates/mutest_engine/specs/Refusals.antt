@@ -1,6 +1,6 @@
 -- What is told of each refusal, its number and its line, and which command it may refuse (this
 -- project's own).
-use Rattle.std.specs.Prelude.{◌≡◌, ◌≢◌, ◌⊎◌, ℕ, ◌<◌, List, [], ◌++◌, codes, decimal, Option, None, Some, Err}
+use Rattle.std.specs.Prelude.{◌≡◌, ◌≢◌, ◌⊎◌, ℕ, ◌<◌, ◌≤◌, List, [], ◌++◌, codes, decimal, Option, None, Some, Err}
 use Rattle.program_rules.specs.Names.{Name}
 use Rattle.mutator_ops.specs.Printing.{printed}
 use Rattle.class_model.specs.Fault.{number_of}
@@ -144,9 +144,9 @@ IsOfSuite (TooMany limit.Sources number) = ⊥
 IsOfSuite (TooMany what number) = IsPassed what number
 IsOfSuite (AsmRefused line) = ⊥
 
--- by what a history holds, where there is one
+-- by what a history holds, where there is one: the place is at most the most bytes that one has
 abbrev pub IsOfHistory : Option (List ℕ) → Refusal → Type 0
-IsOfHistory (Some path) (HistoryBad at) = Unit {0}
+IsOfHistory (Some path) (HistoryBad at) = at ≤ 536870912
 IsOfHistory path r = ⊥
 
 -- by what a folder of sources holds, where one is named
