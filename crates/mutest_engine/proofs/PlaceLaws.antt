@@ -1,5 +1,5 @@
 -- The place at which bytes are told to be no history is one of them, or the one behind them.
-use Rattle.std.proofs.Common.{◌≡◌, ℕ, zero, suc, ◌+◌, ◌-◌, ◌<◌, ◌≤◌, Bool, true, false, List, [], ◌∷◌, ◌++◌, length, drop, take, Option, Some, None, Result, Ok, Err, refl, sym, ap, subst, arith}
+use Rattle.std.proofs.Common.{◌≡◌, ℕ, zero, suc, ◌+◌, ◌≤◌, Bool, true, false, List, [], ◌∷◌, length, take, Option, Some, None, Result, Ok, Err, refl, ap, subst, arith}
 use Rattle.std.specs.Prelude.{if◌then◌else◌, nat_le, nat_lt, ◌==◌}
 use Rattle.std.specs.Int.{Width, w8, w16, w32, w64, byte_len, from_be_bytes}
 use Rattle.std.proofs.lemmas.Bool.{ltb-false}
@@ -8,17 +8,13 @@ use Rattle.codec_rules.specs.Input.{Input, behind}
 use Rattle.codec_rules.specs.Reading.{number_at}
 use Rattle.codec_rules.specs.Sequence.{◌>>=◌, or_fault}
 use Rattle.class_model.specs.Text.{units_of}
-use Rattle.class_model.specs.declared.outcome.Cause.{Cause}
-use Rattle.class_model.specs.declared.outcome.Cause.TheVariants.{Returned, Thrown}
-use Rattle.class_model.specs.declared.outcome.Outcome.{Outcome}
-use Rattle.class_model.specs.declared.outcome.Outcome.TheVariants.{Passed, Failed, TimedOut, MemoryOut}
 use Rattle.program_rules.specs.Names.{Name}
 use Rattle.record_rules.specs.declared.record.RunRecord.{RunRecord}
 use Rattle.history_rules.specs.Items.{FileReader, u1_at, u2_at, u4_at, u8_at, take_at, where_at, name_or, text_at, text_where, many_by, counted_by}
 use Rattle.history_rules.specs.Classes.{class_at, is_other_class, place_behind, with_class}
 use Rattle.history_rules.specs.Entries.{Entry, Used, entry_at, is_line_behind, is_new, is_number, is_place, pair_at, with_entry, with_pair}
-use Rattle.history_rules.specs.Reading.{are_steps, cause_at, entries_at, failed_at, is_paired, outcome_at, outcome_behind, pairs_at, record_at, told_cause_at}
-use Rattle.history_rules.specs.Histories.{Contents, at_front, contents_at, contents_of, if_used_up, is_other, is_used_up, is_version, magic, most, next_record_at, no_past, read_as, records_under, used_in, whole_of, with_record}
+use Rattle.history_rules.specs.Reading.{are_steps, cause_at, entries_at, failed_at, is_paired, outcome_at, pairs_at, record_at, told_cause_at}
+use Rattle.history_rules.specs.Histories.{Contents, at_front, contents_at, contents_of, is_other, is_used_up, is_version, magic, most, next_record_at, no_past, read_as, records_under, used_in, whole_of, with_record}
 use Rattle.history_rules.specs.declared.fault.HistoryFault.{HistoryFault}
 use Rattle.history_rules.specs.declared.fault.HistoryFault.TheVariants.{HistoryBad, TooLong, Memory}
 
