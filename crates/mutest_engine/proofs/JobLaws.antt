@@ -1,6 +1,6 @@
 -- What the job of a suite gives, in the words of the definitions.
 use Rattle.std.proofs.Common.{◌≡◌, ◌∙◌, ℕ, zero, suc, ◌+◌, ◌*◌, ◌<◌, ◌≤◌, Bool, true, false, eqb, List, [], ◌∷◌, ◌++◌, map, Result, Ok, Err, refl, sym, ap, subst, append_assoc, arith}
-use Rattle.std.specs.Prelude.{if◌then◌else◌}
+use Rattle.std.specs.Prelude.{◌≢◌, if◌then◌else◌, nat_lt}
 use Rattle.std.proofs.Math.Nat.{suc-mul}
 use Rattle.std.proofs.lemmas.Bool.{eqb-true}
 use Rattle.std.proofs.lemmas.List.{append-nil}
@@ -8,10 +8,13 @@ use Rattle.class_link.specs.Info.{Info}
 use Rattle.class_link.specs.declared.loaded.Loaded.{Loaded}
 use Rattle.class_table.specs.declared.scripted.Test.{Test}
 use Rattle.history_rules.specs.Laws.{AreWritable}
-use Rattle.job_answers.specs.Answers.{JobAnswer, JobCost, job_answer, job_cost, job_reused}
+use Rattle.job_answers.specs.Answers.{JobAnswer, JobCost, answer_by, cell_total, failed_tests, job_answer, job_cost, job_reused, most_cells, unless_failed, unless_many}
+use Rattle.job_answers.specs.declared.refusal.FailedTest.{FailedTest}
 use Rattle.job_answers.specs.declared.refusal.JobRefusal.{JobRefusal}
+use Rattle.job_answers.specs.declared.refusal.JobRefusal.TheVariants as job
 use Rattle.job_rules.specs.Tried.{need}
-use Rattle.suite_runs.specs.Below.{records_in, OldRecords, job_runs, says}
+use Rattle.record_rules.specs.declared.record.RunRecord.{RunRecord}
+use Rattle.suite_runs.specs.Below.{records_in, Allowed, OldRecords, Suite, job_runs, says}
 use Rattle.suite_runs.specs.Ending.{CannotBeKept, EndsAs, EndsOf, IsDone, MeterBy, MeterRose, allowed_in, suite_of}
 use Rattle.suite_runs.specs.declared.fault.JobFault.{JobFault}
 use Rattle.suite_runs.specs.declared.fault.JobFault.TheVariants as fault
@@ -19,7 +22,7 @@ use Rattle.suite_runs.specs.declared.job.JobDone.{JobDone}
 use Rattle.suite_runs.specs.declared.job.SuiteJob.{SuiteJob}
 use Rattle.mutator_ops.specs.declared.mutant.Verdict.{Verdict}
 use Rattle.new_history.specs.Left.{Left}
-use Rattle.mutest_engine.specs.Jobs.{RoseWithin, RoseInAll, Meters, job_bounds, job_made, new_history, refusal_of, with_history, with_left}
+use Rattle.mutest_engine.specs.Jobs.{RoseWithin, RoseInAll, Meters, failure_of, job_bounds, job_made, new_history, refusal_of, with_history, with_left}
 use Rattle.mutest_engine.specs.Refusals.{IsOfRuns}
 use Rattle.mutest_engine.specs.Steps.{and_then, Gives, Refuses}
 use Rattle.mutest_engine.specs.declared.job.JobMade.{JobMade}
@@ -67,26 +70,57 @@ left_refused verdicts left r is = ap (λ x. and_then x (λ h. Ok (record { verdi
 
 -- What is said of the stop by the fault.
 pub record IsStopOf (ts : List Test) (f : JobFault) (s : Stop) : Type 0 where
-  pub refused : (refusal : JobRefusal) → f ≡ fault.Refused refusal → Refuses (λ r. (r ≡ refusal_of ts refusal) × IsOfRuns r) s
+  pub refused : (refusal : JobRefusal) → f ≡ fault.Refused refusal → Refuses (λ r. r ≡ refusal_of ts refusal) s
   pub lost : ((refusal : JobRefusal) → f ≡ fault.Refused refusal → ⊥) → s ≡ stop.WantOfMemory
 
 pub no_refusal : (P : Refusal → Type 0) (s : Stop) → s ≡ stop.WantOfMemory → Refuses P s
 no_refusal P s want = λ r is. let e : stop.WantOfMemory ≡ stop.Refused r = sym want ∙ is in absurd cc
 
 -- A job's refusal is told so.
-pub refused_by : (ts : List Test) (q : JobRefusal) (told : Refusal) → told ≡ refusal_of ts q → IsOfRuns told → Refuses (λ r. (r ≡ refusal_of ts q) × IsOfRuns r) (stop.Refused told)
-refused_by ts q told is of = λ r e. let same : told ≡ r = cc in (sym same ∙ is, subst IsOfRuns same of)
-
-pub stop_refuses : (ts : List Test) (f : JobFault) (s : Stop) → IsStopOf ts f s → Refuses IsOfRuns s
-stop_refuses ts (fault.Refused refusal) s is = λ r e. (is.refused refusal refl r e).1
-stop_refuses ts fault.Unwritable s is = no_refusal IsOfRuns s (is.lost (λ q e. absurd cc))
-stop_refuses ts fault.Memory s is = no_refusal IsOfRuns s (is.lost (λ q e. absurd cc))
+pub refused_by : (ts : List Test) (q : JobRefusal) (told : Refusal) → told ≡ refusal_of ts q → Refuses (λ r. r ≡ refusal_of ts q) (stop.Refused told)
+refused_by ts q told is = λ r e. let same : told ≡ r = cc in sym same ∙ is
 
 stop_gives : (ts : List Test) (answer : Result JobAnswer JobRefusal) (reused : ℕ) (unkept : Type 0) (f : JobFault) (s : Stop) → EndsAs answer reused unkept (Err f) → IsStopOf ts f s → Refuses (λ r. job_made ts reused answer ≡ Err r) s
 stop_gives ts (Ok x) reused unkept (fault.Refused refusal) s ends is = absurd ends
-stop_gives ts (Err q) reused unkept (fault.Refused refusal) s ends is = λ r e. ap (λ (z : JobRefusal). job_made ts reused (Err z)) (sym ends) ∙ ap (λ z. Err z) (sym (is.refused refusal refl r e).0)
+stop_gives ts (Err q) reused unkept (fault.Refused refusal) s ends is = λ r e. ap (λ (z : JobRefusal). job_made ts reused (Err z)) (sym ends) ∙ ap (λ z. Err z) (sym (is.refused refusal refl r e))
 stop_gives ts answer reused unkept fault.Unwritable s ends is = no_refusal (λ r. job_made ts reused answer ≡ Err r) s (is.lost (λ q e. absurd cc))
 stop_gives ts answer reused unkept fault.Memory s ends is = no_refusal (λ r. job_made ts reused answer ≡ Err r) s (is.lost (λ q e. absurd cc))
+
+-- ---- with which refusals
+
+-- One that is not green names tests.
+abbrev NamesTests : JobRefusal → Type 0
+NamesTests (job.NotGreen failed) = failed ≢ []
+NamesTests job.TooManyCells = Unit {0}
+
+many_names : {X : Type 0} (b : Bool) (x : X) (q : JobRefusal) → (if b then Err job.TooManyCells else Ok x) ≡ Err q → NamesTests q
+many_names true x q h = let e : job.TooManyCells ≡ q = cc in subst NamesTests e tt
+many_names false x q h = absurd cc
+
+failed_names : {X : Type 0} (failed : List FailedTest) (next : Result X JobRefusal) (q : JobRefusal) → (next ≡ Err q → NamesTests q) → unless_failed failed next ≡ Err q → NamesTests q
+failed_names [] next q other h = other h
+failed_names (t ∷ ts) next q other h = let e : job.NotGreen (t ∷ ts) ≡ q = cc in subst NamesTests e (λ none. absurd cc)
+
+answer_names : (a : Allowed) (s : Suite) (old : List RunRecord) (all : Bool) (q : JobRefusal) → job_answer a s old all ≡ Err q → NamesTests q
+unfolding job_answer
+answer_names a s old all q h =
+    failed_names (failed_tests (job_runs a s old)) (unless_many (cell_total (job_runs a s old)) (Ok (answer_by a s old all))) q
+    (many_names (nat_lt most_cells (cell_total (job_runs a s old))) (answer_by a s old all) q) h
+
+some_told : (ts : List Test) (failed : List FailedTest) → failed ≢ [] → map (failure_of ts) failed ≢ []
+some_told ts [] some = λ none. some refl
+some_told ts (t ∷ failed) some = λ none. absurd cc
+
+of_named : (ts : List Test) (q : JobRefusal) → NamesTests q → IsOfRuns (refusal_of ts q)
+of_named ts (job.NotGreen failed) names = (some_told ts failed names, λ early. early)
+of_named ts job.TooManyCells names = (refl, λ early. early)
+
+stop_refuses : (ts : List Test) (answer : Result JobAnswer JobRefusal) (reused : ℕ) (unkept : Type 0) (f : JobFault) (s : Stop) → ((q : JobRefusal) → answer ≡ Err q → NamesTests q) → EndsAs answer reused unkept (Err f) → IsStopOf ts f s → Refuses IsOfRuns s
+stop_refuses ts (Ok x) reused unkept (fault.Refused refusal) s names ends is = absurd ends
+stop_refuses ts (Err q) reused unkept (fault.Refused refusal) s names ends is = λ r e.
+    subst IsOfRuns (sym (is.refused refusal refl r e)) (of_named ts refusal (subst NamesTests (sym ends) (names q refl)))
+stop_refuses ts answer reused unkept fault.Unwritable s names ends is = no_refusal IsOfRuns s (is.lost (λ q e. absurd cc))
+stop_refuses ts answer reused unkept fault.Memory s names ends is = no_refusal IsOfRuns s (is.lost (λ q e. absurd cc))
 
 -- ---- what it costs
 
@@ -161,6 +195,9 @@ module _ (p : List Info) (j : SuiteJob) (old : OldRecords) (files : List Loaded)
 
   pub job_stops : (f : JobFault) (s : Stop) → EndsOf (allowed_in j) (suite_of files p j) old j.all (Err f) → IsStopOf j.tests.now f s → Refuses (λ r. job_made j.tests.now reused answer ≡ Err r) s
   job_stops f s ends is = stop_gives j.tests.now answer reused unkept f s ends is
+
+  pub job_refuses : (f : JobFault) (s : Stop) → EndsOf (allowed_in j) (suite_of files p j) old j.all (Err f) → IsStopOf j.tests.now f s → Refuses IsOfRuns s
+  job_refuses f s ends is = stop_refuses j.tests.now answer reused unkept f s (answer_names (allowed_in j) (suite_of files p j) (records_in old) j.all) ends is
 
   pub job_meters : {X : Type 0} (before after : ℕ) (done : JobDone) (result : Result X Stop) → 0 < j.workers → MeterBy cost j.workers before after (Ok done) → Meters (job_bounds j.workers cost) before after result
   job_meters before after done result some rose = done_meters j.workers before after cost done result some rose

@@ -333,11 +333,11 @@ module _ (held : Option Files) (o : RunOptions) (k : KnownJob) (known : IsKnownO
 
   pub may_answer : (rep : Reported) (r : Result Answer Halt) → stated (known_reported (allowed_by o)) ≡ Ok rep → MayReport o rep r → MayAnswer (run_suite o) r
   may_answer rep (Ok a) is may = can_answer rep (answered a) is may
-  may_answer rep (Err h) is may = λ r e. inl (may r e).0
+  may_answer rep (Err h) is may = λ r e. inr (inr (may r e))
 
   pub may_refuse : (before after : ℕ) (s : Stop) (h : Halt) → IsHaltOf s h → Refuses (RefusesKnown k before after) s → MayAnswer (run_suite o) (Err h)
   may_refuse before after s h is refuses = λ r e.
-      ⊎_elim (λ (runs : IsOfRuns r). inl runs.0) (λ (read : (records_in k.history ≡ Err r) × (after ≡ before)). inr (of_records o.history k.history r known.path read.0)) (refuses r (is.0 r e))
+      ⊎_elim (λ (runs : IsOfRuns r). inl runs.0) (λ (read : (records_in k.history ≡ Err r) × (after ≡ before)). inr (inl (of_records o.history k.history r known.path read.0))) (refuses r (is.0 r e))
 
   -- The meter.
   abbrev own_bounds : Bounds

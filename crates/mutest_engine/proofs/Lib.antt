@@ -9,6 +9,7 @@ mod KnownLaws
 mod MadeLaws
 mod NamedLaws
 mod NumberLaws
+mod PlaceLaws
 mod ReadLaws
 mod RefusalLaws
 mod ScratchLaws

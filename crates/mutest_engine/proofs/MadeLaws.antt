@@ -15,6 +15,7 @@ use Rattle.mutest_engine.specs.declared.refusal.Refusal.{Refusal}
 use Rattle.mutest_engine.specs.declared.reported.Reported.{Reported}
 use Rattle.mutest_engine.specs.declared.stop.Halt.{Halt}
 use Rattle.mutest_engine.specs.declared.stop.Halt.TheVariants as halt
+use Rattle.mutest_engine.proofs.SourceLaws.{late_sources}
 
 abbrev some_answer : Answered → Result Answered Refusal
 some_answer a = Ok a
@@ -83,4 +84,4 @@ late_meters b before after (Err h) all within = (all, (λ r e. within, λ faults
 
 pub late_stays : (before after : ℕ) (options : RunOptions) (reported : Reported) (r : Result Answer Halt) → before ≤ after → MayReport options reported r → IfErr r (HaltStays before after)
 late_stays before after options reported (Ok x) le may = tt
-late_stays before after options reported (Err h) le may = (le, λ r is. (le, λ early. no_case _ ((may r is).1 early)))
+late_stays before after options reported (Err h) le may = (le, λ r is. (le, λ early. no_case _ (late_sources options.sources r (may r is) early)))

@@ -68,7 +68,7 @@ pub of_old : (o : RunOptions) (h0 h1 h2 : Option Files) (w0 w1 w2 r0 r1 r2 : ℕ
     → IsRead h0 h2 w0 w2 r0 r2 × Halts (IsOfRun o) r0 r2 h
 of_old o h0 h1 h2 w0 w1 w2 r0 r1 r2 h one other =
     let all = halts_on (IsOfHistory o.history) h0 h1 h2 w0 w1 w2 r0 r1 r2 h one other in
-    (all.0, (λ r e. inr (all.1.0 r e), all.1.1))
+    (all.0, (λ r e. inr (inl (all.1.0 r e)), all.1.1))
 
 -- ---- what is known
 

@@ -34,6 +34,7 @@ use Rattle.mutest_engine.specs.declared.refusal.Limit.TheVariants as limit
 use Rattle.mutest_engine.specs.declared.refusal.Refusal.{Refusal}
 use Rattle.mutest_engine.specs.declared.refusal.Refusal.TheVariants.{BadProgram, BadTest, TooMany}
 use Rattle.mutest_engine.specs.declared.suite.LoadedSuite.{LoadedSuite}
+use Rattle.mutest_engine.proofs.PlaceLaws.{IsPlaced, told_place}
 
 -- one of two steps refuses
 and_err : {X Y : Type 0} (a : Result X Refusal) (f : X → Result Y Refusal) (r : Refusal) (P : Refusal → Type 0) → (a ≡ Err r → P r) → ((x : X) → f x ≡ Err r → P r) → and_then a f ≡ Err r → P r
@@ -103,21 +104,21 @@ of_made s r h =
 
 -- ---- of a history
 
-bad_is : (path : List ℕ) (f : HistoryFault) (r : Refusal) → bad_history f ≡ r → IsOfHistory (Some path) r
-bad_is path (history.HistoryBad at) r h = subst (IsOfHistory (Some path)) h tt
-bad_is path (history.TooLong len) r h = subst (IsOfHistory (Some path)) h tt
-bad_is path history.Memory r h = subst (IsOfHistory (Some path)) h tt
+bad_is : (path : List ℕ) (f : HistoryFault) (r : Refusal) → IsPlaced most f → bad_history f ≡ r → IsOfHistory (Some path) r
+bad_is path (history.HistoryBad at) r placed h = subst (IsOfHistory (Some path)) h placed
+bad_is path (history.TooLong len) r placed h = absurd placed
+bad_is path history.Memory r placed h = absurd placed
 
-or_bad_is : (path : List ℕ) (read : Result (List RunRecord) HistoryFault) (r : Refusal) → or_bad_history read ≡ Err r → IsOfHistory (Some path) r
-or_bad_is path (Ok records) r h = absurd cc
-or_bad_is path (Err f) r h = let e : bad_history f ≡ r = cc in bad_is path f r e
+or_bad_is : (path : List ℕ) (read : Result (List RunRecord) HistoryFault) (r : Refusal) → ((f : HistoryFault) → read ≡ Err f → IsPlaced most f) → or_bad_history read ≡ Err r → IsOfHistory (Some path) r
+or_bad_is path (Ok records) r placed h = absurd cc
+or_bad_is path (Err f) r placed h = let e : bad_history f ≡ r = cc in bad_is path f r (placed f refl) e
 
 -- The bytes that are at a path are refused.
 pub of_records : (path bytes : Option (List ℕ)) (r : Refusal) → IsOfPath path bytes → records_in bytes ≡ Err r → IsOfHistory path r
 of_records None None r at h = absurd cc
 of_records None (Some bytes) r at h = absurd cc
 of_records (Some path) None r at h = absurd cc
-of_records (Some path) (Some bytes) r at h = or_bad_is path (read_as profile_number bytes) r h
+of_records (Some path) (Some bytes) r at h = or_bad_is path (read_as profile_number bytes) r (told_place profile_number bytes) h
 
 -- ---- of a new history
 

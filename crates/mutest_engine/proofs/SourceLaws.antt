@@ -1,15 +1,16 @@
 -- What is read of sources, in the words of the call.
-use Rattle.std.proofs.Common.{◌≡◌, ◌∙◌, ℕ, List, Option, None, Some, Result, Ok, Err, refl, ap, subst, arith}
+use Rattle.std.proofs.Common.{◌≡◌, ◌∙◌, ℕ, List, Option, None, Some, Result, Ok, Err, refl, sym, ap, subst, arith}
 use Rattle.std.specs.Prelude.{IfOk, IfSome}
 use Rattle.mt_edge.specs.Files.{Files}
 use Rattle.report_pieces.specs.declared.input.Group.{Group}
 use Rattle.report_sources.specs.Sources.{sources_of, IsCaused, IsRead as IsReadOfSources, Refuses as RefusesSources}
 use Rattle.report_sources.specs.declared.fault.SourceFault.{SourceFault}
 use Rattle.report_sources.specs.declared.fault.SourceFault.TheVariants as fault
-use Rattle.mutest_engine.specs.Refusals.{IsOfRuns}
+use Rattle.mutest_engine.specs.Refusals.{IsBeforeRuns, IsOfSources}
 use Rattle.mutest_engine.specs.Sources.{AreNamed, or_too_many, sources_below, halt_of}
 use Rattle.mutest_engine.specs.Steps.{Failed, Halts, IsRead, RefusesReading}
 use Rattle.mutest_engine.specs.declared.refusal.Limit.TheVariants as limit
+use Rattle.mutest_engine.specs.declared.refusal.Refusal.{Refusal}
 use Rattle.mutest_engine.specs.declared.refusal.Refusal.TheVariants.{TooMany}
 use Rattle.mutest_engine.specs.declared.stop.Halt.{Halt}
 
@@ -31,12 +32,17 @@ refused_so (Some files) folder groups fault.Memory is = λ r told. absurd cc
 pub only_read : (h0 h1 : Option Files) (w0 w1 r0 r1 : ℕ) → IsReadOfSources h0 h1 w0 w1 r0 r1 → IsRead h0 h1 w0 w1 r0 r1
 only_read h0 h1 w0 w1 r0 r1 is = (is.same, is.unwritten, is.later)
 
-pub halts_so : (before now : ℕ) (f : SourceFault) → IsCaused before now f → Halts IsOfRuns before now (halt_of f)
-halts_so before now (fault.TooMany bytes) caused =
-    (λ r told. let e : TooMany limit.Sources bytes ≡ r = cc in subst IsOfRuns e (caused.past bytes refl, λ early. early), λ faults told. absurd cc)
-halts_so before now fault.Failed caused =
+pub halts_so : (folder : List ℕ) (before now : ℕ) (f : SourceFault) → IsCaused before now f → Halts (IsOfSources (Some folder)) before now (halt_of f)
+halts_so folder before now (fault.TooMany bytes) caused =
+    (λ r told. let e : TooMany limit.Sources bytes ≡ r = cc in (bytes, sym e, caused.past bytes refl), λ faults told. absurd cc)
+halts_so folder before now fault.Failed caused =
     (λ r told. absurd cc, λ faults told. let e : 1 ≡ faults = cc in subst (λ (n : ℕ). Failed before now n) e (omega arith, caused.failed refl))
-halts_so before now fault.Memory caused = (λ r told. absurd cc, λ faults told. absurd cc)
+halts_so folder before now fault.Memory caused = (λ r told. absurd cc, λ faults told. absurd cc)
+
+-- Their refusal comes behind the runs.
+pub late_sources : (folder : Option (List ℕ)) (r : Refusal) → IsOfSources folder r → IsBeforeRuns r → ⊥
+late_sources None r of early = of
+late_sources (Some folder) r of early = subst IsBeforeRuns of.1 early
 
 -- Where a folder is named, there may be sources.
 pub some_folder : (folder : List ℕ) (r : Result (List (List ℕ)) Halt) → IfOk r (AreNamed (Some folder))

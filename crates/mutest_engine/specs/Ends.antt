@@ -3,7 +3,7 @@
 use Rattle.std.specs.Prelude.{◌≡◌, ◌⊎◌, ℕ, ◌+◌, ◌≤◌, List, [], ◌∷◌, Option, IfSome, Result, Ok, Err, MatchResult, ◌++◌, map, option_map, codes}
 use Rattle.mutest_words.specs.Words.{Command, RunOptions}
 use Rattle.mutest_engine.specs.Answers.{Answered, Write, answered, write_of}
-use Rattle.mutest_engine.specs.Refusals.{MayRefuse, IsBeforeRuns, IsOfRuns, refusal_line, refusal_number}
+use Rattle.mutest_engine.specs.Refusals.{MayRefuse, IsBeforeRuns, IsOfSources, refusal_line, refusal_number}
 use Rattle.mutest_engine.specs.Decided.{CanAnswer, CanReport, bounds_of, run_bounds}
 use Rattle.mutest_engine.specs.Jobs.{Bounds, RoseAtMost, RoseWithin, RoseInAll}
 use Rattle.mutest_engine.specs.Steps.{Failed, ReadsBy, RefusesReading}
@@ -142,10 +142,11 @@ abbrev pub MayAnswer : Command → Result Answer Halt → Type 0
 MayAnswer command result =
     MatchResult result (λ a. CanAnswer command (answered a)) (RefusesReading (MayRefuse command))
 
--- The answer reports this, with some sources, or the refusal is one that comes behind the runs.
+-- The answer reports this, with some sources, or the refusal is one of sources.
 abbrev pub MayReport : RunOptions → Reported → Result Answer Halt → Type 0
 MayReport options reported result =
-    MatchResult result (λ a. CanReport options reported (answered a)) (RefusesReading IsOfRuns)
+    MatchResult result (λ a. CanReport options reported (answered a))
+    (RefusesReading (IsOfSources options.sources))
 
 abbrev pub AnswersUntold : Result Command Refusal → Result Answer Halt → Type 0
 AnswersUntold words result =

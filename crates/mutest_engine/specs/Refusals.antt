@@ -1,6 +1,6 @@
 -- What is told of each refusal, its number and its line, and which command it may refuse (this
 -- project's own).
-use Rattle.std.specs.Prelude.{◌≡◌, ◌⊎◌, ℕ, ◌<◌, List, [], ◌++◌, codes, decimal, Option, Some, Err}
+use Rattle.std.specs.Prelude.{◌≡◌, ◌≢◌, ◌⊎◌, ℕ, ◌<◌, ◌≤◌, List, [], ◌++◌, codes, decimal, Option, None, Some, Err}
 use Rattle.program_rules.specs.Names.{Name}
 use Rattle.mutator_ops.specs.Printing.{printed}
 use Rattle.class_model.specs.Fault.{number_of}
@@ -138,19 +138,27 @@ IsOfSuite (Archive path) = ⊥
 IsOfSuite (BadClass path fault) = IsClassFault fault
 IsOfSuite (BadProgram fault) = Unit {0}
 IsOfSuite (BadTest fault) = IsTestFault fault
-IsOfSuite (NotGreen tests) = Unit {0}
+IsOfSuite (NotGreen tests) = tests ≢ []
 IsOfSuite (HistoryBad at) = ⊥
+IsOfSuite (TooMany limit.Sources number) = ⊥
 IsOfSuite (TooMany what number) = IsPassed what number
 IsOfSuite (AsmRefused line) = ⊥
 
--- by what a history holds, where there is one
+-- by what a history holds, where there is one: the place is at most the most bytes that one has
 abbrev pub IsOfHistory : Option (List ℕ) → Refusal → Type 0
-IsOfHistory (Some path) (HistoryBad at) = Unit {0}
+IsOfHistory (Some path) (HistoryBad at) = at ≤ 536870912
 IsOfHistory path r = ⊥
+
+-- by what a folder of sources holds, where one is named
+abbrev pub IsOfSources : Option (List ℕ) → Refusal → Type 0
+IsOfSources None r = ⊥
+IsOfSources (Some folder) r =
+    (number : ℕ) × (r ≡ TooMany limit.Sources number) × IsPassed limit.Sources number
 
 -- by all that a run reads
 abbrev pub IsOfRun : RunOptions → Refusal → Type 0
-IsOfRun options r = IsOfSuite r ⊎ IsOfHistory options.history r
+IsOfRun options r =
+    IsOfSuite r ⊎ (IsOfHistory options.history r ⊎ IsOfSources options.sources r)
 
 -- by a file at this path that isn't held or is too large, whichever command reads it
 abbrev pub IsUnheld : List ℕ → Refusal → Type 0

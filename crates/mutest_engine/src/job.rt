@@ -79,7 +79,7 @@ fn failures_of(
 
 // Why a job is refused.
 fn refusal_of(alloc: Global, tests: &[Test], refusal: JobRefusal) -> Stop
-    ensures { Refuses (λ r. (r ≡ refusal_of tests.now refusal) × IsOfRuns r) result }
+    ensures { Refuses (λ r. r ≡ refusal_of tests.now refusal) result }
 {
     match refusal {
         JobRefusal::NotGreen { failed } => match failures_of(alloc, tests, failed) {
@@ -96,7 +96,7 @@ fn refusal_of(alloc: Global, tests: &[Test], refusal: JobRefusal) -> Stop
 // Why a job has no answer. A record that no history can hold counts as want of memory.
 fn stop_of(alloc: Global, tests: &[Test], fault: JobFault) -> Stop
     ensures refused { (refusal : Refused) → fault ≡ job_fault.Refused refusal →
-        Refuses (λ r. (r ≡ refusal_of tests.now refusal) × IsOfRuns r) result }
+        Refuses (λ r. r ≡ refusal_of tests.now refusal) result }
     ensures lost { ((refusal : Refused) → fault ≡ job_fault.Refused refusal → ⊥) →
         result ≡ stop.WantOfMemory }
 {

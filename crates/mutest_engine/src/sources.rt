@@ -1,8 +1,8 @@
 //! The sources of a report, where a folder of sources is named.
 
-ghost use Rattle.std.specs.Prelude.{◌≡◌, IfOk};
+ghost use Rattle.std.specs.Prelude.{◌≡◌, IfOk, Some};
 ghost use Rattle.mutest_words.specs.Words.{lent_text};
-ghost use Rattle.mutest_engine.specs.Refusals.{IsOfRuns};
+ghost use Rattle.mutest_engine.specs.Refusals.{IsOfSources};
 ghost use Rattle.mutest_engine.specs.Sources.{sources_below, sources_in, with_sources, AreNamed, halt_of};
 ghost use Rattle.mutest_engine.specs.Steps.{Asks, ReadsHeld};
 
@@ -35,7 +35,8 @@ fn sources_below<T: Tree>(
     groups: &[Group],
 ) -> Result<Seq<Bytes>, Halt>
     ensures value { ReadsHeld (T.holds tree.old) (sources_below folder.now groups.now) result }
-    ensures tree { Asks T.holds T.writing T.reading IsOfRuns tree.old tree.new result }
+    ensures tree { Asks T.holds T.writing T.reading (IsOfSources (Some folder.now)) tree.old tree.new
+        result }
 {
     match read_sources(alloc, tree, folder, groups) {
         Ok(sources) => Ok(sources),
@@ -53,7 +54,8 @@ pub fn sources_in<T: Tree>(
     ensures value { ReadsHeld (T.holds tree.old)
         (sources_in (lent_text folder.entry) groups.now) result }
     ensures named { IfOk result (AreNamed (lent_text folder.entry)) }
-    ensures tree { Asks T.holds T.writing T.reading IsOfRuns tree.old tree.new result }
+    ensures tree { Asks T.holds T.writing T.reading (IsOfSources (lent_text folder.entry)) tree.old
+        tree.new result }
 {
     match folder {
         Some(folder) => sources_below(alloc, tree, folder, groups),

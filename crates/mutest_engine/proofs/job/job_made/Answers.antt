@@ -1,4 +1,4 @@
-use Rattle.mutest_engine.proofs.JobLaws.{job_gives, job_lost, job_meters, job_stops, job_writable, stop_refuses}
+use Rattle.mutest_engine.proofs.JobLaws.{job_gives, job_lost, job_meters, job_refuses, job_stops, job_writable}
 use Rattle.mutest_engine.proofs.job.job_made.Goals as goal
 
 pub made_of-requires : goal.made_of-requires
@@ -21,4 +21,5 @@ returns-in-Err-clause-meter g c = λ files suite.
     job_lost c.args.program.now c.args.job.now c.args.old files c.args.meter.now c.run_job.new.meter c.in-Err.fault c.stop_of.result c.requires.some_workers (c.in-Err.ensures.meter files suite) (record { refused = c.stop_of.ensures.refused; lost = c.stop_of.ensures.lost })
 
 pub returns-in-Err-clause-refusal : goal.returns-in-Err-clause-refusal
-returns-in-Err-clause-refusal g c = stop_refuses c.args.job.now.tests.now c.in-Err.fault c.stop_of.result (record { refused = c.stop_of.ensures.refused; lost = c.stop_of.ensures.lost })
+returns-in-Err-clause-refusal g c =
+    job_refuses c.args.program.now c.args.job.now c.args.old c.requires.files c.in-Err.fault c.stop_of.result (c.in-Err.ensures.ends c.requires.files c.requires.suite) (record { refused = c.stop_of.ensures.refused; lost = c.stop_of.ensures.lost })

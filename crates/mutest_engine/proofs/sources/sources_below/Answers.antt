@@ -1,6 +1,6 @@
 use Rattle.std.proofs.Common.{◌≡◌, sym, subst}
-use Rattle.std.specs.Prelude.{IfSome, Err}
-use Rattle.mutest_engine.specs.Refusals.{IsOfRuns}
+use Rattle.std.specs.Prelude.{IfSome, Some, Err}
+use Rattle.mutest_engine.specs.Refusals.{IsOfSources}
 use Rattle.mutest_engine.specs.Sources.{sources_below}
 use Rattle.mutest_engine.specs.Steps.{Halts, RefusesReading}
 use Rattle.mutest_engine.specs.declared.stop.Halt.{Halt}
@@ -34,4 +34,4 @@ returns-in-Err-clause-tree g c =
     let r = g.T.Tree.reading in
     let t = c.args.tree.now in
     let u = c.read_sources.new.tree in
-    (only_read (h t) (h u) (w t) (w u) (r t) (r u) c.in-Err.ensures.tree.0, subst (λ (x : Halt). Halts IsOfRuns (r t) (r u) x) (sym c.halt_of.ensures) (halts_so (r t) (r u) c.in-Err.fault c.in-Err.ensures.tree.1))
+    (only_read (h t) (h u) (w t) (w u) (r t) (r u) c.in-Err.ensures.tree.0, subst (λ (x : Halt). Halts (IsOfSources (Some c.args.folder.now)) (r t) (r u) x) (sym c.halt_of.ensures) (halts_so c.args.folder.now (r t) (r u) c.in-Err.fault c.in-Err.ensures.tree.1))
