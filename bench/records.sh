@@ -5,6 +5,7 @@
 # asked, by `ratio`. What reading and building takes is taken off. The class files are those below FOLDER, with their tests;
 # without it the made suite of 150 classes and 150 classes of tests. It needs `rt`; PROGRAM and SUITES name a built
 # record_checks and made_suites, without which `rt run` makes them. TIMES: how often all runs are made.
+# The status is 1 where a run with its record takes a tenth more or worse.
 set -eu -o pipefail
 here=$(cd "$(dirname "$0")" && pwd)
 crates=$here/../crates
@@ -43,4 +44,5 @@ echo "$classes classes, $said"
 awk -v n="$times" -v z="$(least "$work/0")" -v e="$(least "$work/end")" -v r="$(least "$work/run")" -v k="$(least "$work/record")" '
     function each(t) { return (t - z) / (n * $1) }
     { printf "end    %.3f us a run\nrun    %.3f us a run\nrecord %.3f us a run, %d records a second\nratio  %.3f, by end %.3f\n",
-        each(e), each(r), each(k), 1e6 / each(k), each(k) / each(r), each(k) / each(e) }' <<< "$said"
+        each(e), each(r), each(k), 1e6 / each(k), each(k) / each(r), each(k) / each(e)
+      exit each(k) > each(r) * 1.1 }' <<< "$said"
