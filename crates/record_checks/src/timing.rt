@@ -37,8 +37,63 @@ pub fn way_of(word: &str) -> Option<Way> {
     }
 }
 
-// Makes a run, and lets go what it gave.
+// ---- a run, of which nothing is kept
+
+fn make_with_record(
+    alloc: Global,
+    program: &Program,
+    tables: &mut Tables,
+    test: &Test,
+    case: &Case,
+    part: &mut MeterPart,
+) -> Result<(), Memory>
+    requires tables { AreTablesOf program.now tables.old }
+    requires runnable { IsRunnable (look program.now) }
+    requires small { case.now.limits.heap < 2 ^ 31 }
+    requires start { part.old ≡ 0 }
+    ensures tables { AreTablesOf program.now tables.new }
+{
+    let _record = make_record(alloc, program, tables, test, case.limits, case.limit, part)?;
+    Ok(())
+}
+
 fn make(
+    alloc: Global,
+    program: &Program,
+    tables: &mut Tables,
+    test: &Test,
+    case: &Case,
+    part: &mut MeterPart,
+) -> Result<(), Memory>
+    requires tables { AreTablesOf program.now tables.old }
+    requires runnable { IsRunnable (look program.now) }
+    requires small { case.now.limits.heap < 2 ^ 31 }
+    requires start { part.old ≡ 0 }
+    ensures tables { AreTablesOf program.now tables.new }
+{
+    let _ran = execute(alloc, program, tables, test, case.limits, case.limit, part)?;
+    Ok(())
+}
+
+fn make_to_end(
+    alloc: Global,
+    program: &Program,
+    tables: &mut Tables,
+    test: &Test,
+    case: &Case,
+    part: &mut MeterPart,
+) -> Result<(), Memory>
+    requires tables { AreTablesOf program.now tables.old }
+    requires runnable { IsRunnable (look program.now) }
+    requires small { case.now.limits.heap < 2 ^ 31 }
+    requires start { part.old ≡ 0 }
+    ensures tables { AreTablesOf program.now tables.new }
+{
+    let _end = execute_to_end(alloc, program, tables, test, case.limits, case.limit, part)?;
+    Ok(())
+}
+
+fn make_by(
     alloc: Global,
     program: &Program,
     tables: &mut Tables,
@@ -54,18 +109,13 @@ fn make(
     ensures tables { AreTablesOf program.now tables.new }
 {
     match way {
-        Way::Record => {
-            let _record = make_record(alloc, program, tables, test, case.limits, case.limit, part)?;
-        }
-        Way::Run => {
-            let _ran = execute(alloc, program, tables, test, case.limits, case.limit, part)?;
-        }
-        Way::End => {
-            let _end = execute_to_end(alloc, program, tables, test, case.limits, case.limit, part)?;
-        }
+        Way::Record => make_with_record(alloc, program, tables, test, case, part),
+        Way::Run => make(alloc, program, tables, test, case, part),
+        Way::End => make_to_end(alloc, program, tables, test, case, part),
     }
-    Ok(())
 }
+
+// ---- all of them
 
 // The steps of a run that is made.
 fn steps_of(
@@ -83,7 +133,7 @@ fn steps_of(
 {
     let mut meter = Meter::new();
     let mut part = meter.split();
-    let made = make(alloc, program, tables, test, case, way, &mut part);
+    let made = make_by(alloc, program, tables, test, case, way, &mut part);
     let steps = part.count();
     meter.join(part);
     made?;
