@@ -1,6 +1,6 @@
 //! The runs of all tests, so many times over, in one of three ways.
 
-ghost use Rattle.std.specs.Prelude.{◌≡◌, ◌<◌, ◌^◌};
+ghost use Rattle.std.specs.Prelude.{◌<◌, ◌^◌};
 ghost use Rattle.class_table.specs.Table.{look};
 ghost use Rattle.jvm_step.specs.Programs.{IsRunnable};
 ghost use Rattle.jvm_step.specs.Tables.{AreTablesOf};
@@ -10,9 +10,10 @@ use crate::cases::Case;
 use crate::suite::Suite;
 use class_model::Memory;
 use class_table::{Program, Test};
-use jvm_run::{execute, execute_to_end};
+use jvm_run::{End, RunResult, execute, execute_to_end};
 use jvm_step::Tables;
-use mt_edge::{Meter, MeterPart};
+use mt_edge::Meter;
+use record_rules::RunRecord;
 use run_records::make_record;
 use std::alloc::Global;
 
@@ -37,95 +38,15 @@ pub fn way_of(word: &str) -> Option<Way> {
     }
 }
 
-// ---- a run, of which nothing is kept
+// ---- a run
 
-fn make_with_record(
+fn recorded(
     alloc: Global,
     program: &Program,
     tables: &mut Tables,
     test: &Test,
     case: &Case,
-    part: &mut MeterPart,
-) -> Result<(), Memory>
-    requires tables { AreTablesOf program.now tables.old }
-    requires runnable { IsRunnable (look program.now) }
-    requires small { case.now.limits.heap < 2 ^ 31 }
-    requires start { part.old ≡ 0 }
-    ensures tables { AreTablesOf program.now tables.new }
-{
-    let _record = make_record(alloc, program, tables, test, case.limits, case.limit, part)?;
-    Ok(())
-}
-
-fn make(
-    alloc: Global,
-    program: &Program,
-    tables: &mut Tables,
-    test: &Test,
-    case: &Case,
-    part: &mut MeterPart,
-) -> Result<(), Memory>
-    requires tables { AreTablesOf program.now tables.old }
-    requires runnable { IsRunnable (look program.now) }
-    requires small { case.now.limits.heap < 2 ^ 31 }
-    requires start { part.old ≡ 0 }
-    ensures tables { AreTablesOf program.now tables.new }
-{
-    let _ran = execute(alloc, program, tables, test, case.limits, case.limit, part)?;
-    Ok(())
-}
-
-fn make_to_end(
-    alloc: Global,
-    program: &Program,
-    tables: &mut Tables,
-    test: &Test,
-    case: &Case,
-    part: &mut MeterPart,
-) -> Result<(), Memory>
-    requires tables { AreTablesOf program.now tables.old }
-    requires runnable { IsRunnable (look program.now) }
-    requires small { case.now.limits.heap < 2 ^ 31 }
-    requires start { part.old ≡ 0 }
-    ensures tables { AreTablesOf program.now tables.new }
-{
-    let _end = execute_to_end(alloc, program, tables, test, case.limits, case.limit, part)?;
-    Ok(())
-}
-
-fn make_by(
-    alloc: Global,
-    program: &Program,
-    tables: &mut Tables,
-    test: &Test,
-    case: &Case,
-    way: Way,
-    part: &mut MeterPart,
-) -> Result<(), Memory>
-    requires tables { AreTablesOf program.now tables.old }
-    requires runnable { IsRunnable (look program.now) }
-    requires small { case.now.limits.heap < 2 ^ 31 }
-    requires start { part.old ≡ 0 }
-    ensures tables { AreTablesOf program.now tables.new }
-{
-    match way {
-        Way::Record => make_with_record(alloc, program, tables, test, case, part),
-        Way::Run => make(alloc, program, tables, test, case, part),
-        Way::End => make_to_end(alloc, program, tables, test, case, part),
-    }
-}
-
-// ---- all of them
-
-// The steps of a run that is made.
-fn steps_of(
-    alloc: Global,
-    program: &Program,
-    tables: &mut Tables,
-    test: &Test,
-    case: &Case,
-    way: Way,
-) -> Result<u64, Memory>
+) -> Result<Option<RunRecord>, Memory>
     requires tables { AreTablesOf program.now tables.old }
     requires runnable { IsRunnable (look program.now) }
     requires small { case.now.limits.heap < 2 ^ 31 }
@@ -133,36 +54,126 @@ fn steps_of(
 {
     let mut meter = Meter::new();
     let mut part = meter.split();
-    let made = make_by(alloc, program, tables, test, case, way, &mut part);
-    let steps = part.count();
+    let made = make_record(
+        alloc,
+        program,
+        tables,
+        test,
+        case.limits,
+        case.limit,
+        &mut part,
+    );
+    let _counted = part.count();
     meter.join(part);
-    made?;
-    Ok(steps)
+    made
 }
 
-// The steps of the runs of these tests.
-fn all_steps(
+fn ran(
+    alloc: Global,
+    program: &Program,
+    tables: &mut Tables,
+    test: &Test,
+    case: &Case,
+) -> Result<RunResult, Memory>
+    requires tables { AreTablesOf program.now tables.old }
+    requires runnable { IsRunnable (look program.now) }
+    requires small { case.now.limits.heap < 2 ^ 31 }
+    ensures tables { AreTablesOf program.now tables.new }
+{
+    let mut meter = Meter::new();
+    let mut part = meter.split();
+    let made = execute(
+        alloc,
+        program,
+        tables,
+        test,
+        case.limits,
+        case.limit,
+        &mut part,
+    );
+    let _counted = part.count();
+    meter.join(part);
+    made
+}
+
+fn ended(
+    alloc: Global,
+    program: &Program,
+    tables: &mut Tables,
+    test: &Test,
+    case: &Case,
+) -> Result<End, Memory>
+    requires tables { AreTablesOf program.now tables.old }
+    requires runnable { IsRunnable (look program.now) }
+    requires small { case.now.limits.heap < 2 ^ 31 }
+    ensures tables { AreTablesOf program.now tables.new }
+{
+    let mut meter = Meter::new();
+    let mut part = meter.split();
+    let made = execute_to_end(
+        alloc,
+        program,
+        tables,
+        test,
+        case.limits,
+        case.limit,
+        &mut part,
+    );
+    let _counted = part.count();
+    meter.join(part);
+    made
+}
+
+// Makes a run, and lets go what it gave.
+fn make(
+    alloc: Global,
+    program: &Program,
+    tables: &mut Tables,
+    test: &Test,
+    case: &Case,
+    way: Way,
+) -> Result<(), Memory>
+    requires tables { AreTablesOf program.now tables.old }
+    requires runnable { IsRunnable (look program.now) }
+    requires small { case.now.limits.heap < 2 ^ 31 }
+    ensures tables { AreTablesOf program.now tables.new }
+{
+    match way {
+        Way::Record => {
+            let _record = recorded(alloc, program, tables, test, case)?;
+        }
+        Way::Run => {
+            let _ran = ran(alloc, program, tables, test, case)?;
+        }
+        Way::End => {
+            let _end = ended(alloc, program, tables, test, case)?;
+        }
+    }
+    Ok(())
+}
+
+// ---- all of them
+
+fn make_all(
     alloc: Global,
     program: &Program,
     tables: &mut Tables,
     tests: &[Test],
     case: &Case,
     way: Way,
-) -> Result<u64, Memory>
+) -> Result<(), Memory>
     requires tables { AreTablesOf program.now tables.old }
     requires runnable { IsRunnable (look program.now) }
     requires small { case.now.limits.heap < 2 ^ 31 }
     ensures tables { AreTablesOf program.now tables.new }
 {
-    let mut steps: u64 = 0;
     for test in tests {
-        let more = steps_of(alloc, program, tables, test, case, way)?;
-        steps = steps.saturating_add(more);
+        make(alloc, program, tables, test, case, way)?;
     }
-    Ok(steps)
+    Ok(())
 }
 
-/// Makes the runs, and adds how many tests there are, and how many steps they take.
+/// Makes the runs, and adds how many tests there are.
 pub fn push_timed(suite: &Suite, case: &Case, way: Way, out: &mut String) -> anyhow::Result<()>
     requires suite { IsRecordable suite.now }
     requires small { case.now.limits.heap < 2 ^ 31 }
@@ -173,11 +184,10 @@ pub fn push_timed(suite: &Suite, case: &Case, way: Way, out: &mut String) -> any
         anyhow::bail!("the library lacks a class");
     };
     let tests = suite.tests.as_slice();
-    let mut steps: u64 = 0;
     for _ in 0..times {
-        steps = all_steps(alloc, &suite.program, &mut tables, tests, case, way)?;
+        make_all(alloc, &suite.program, &mut tables, tests, case, way)?;
     }
     let count = tests.len();
-    write!(out, "{count} tests, {steps} steps")?;
+    write!(out, "{count} tests")?;
     Ok(())
 }

@@ -1,5 +1,5 @@
 use Rattle.jvm_step.specs.Tables.{AreTablesOf}
-use Rattle.record_checks.proofs.timing.all_steps.Given as goal
+use Rattle.record_checks.proofs.timing.make_all.Given as goal
 
 abbrev pub invariant-loop-test : goal.invariant-loop-test
 invariant-loop-test l = AreTablesOf l.program l.tables
