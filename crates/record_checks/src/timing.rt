@@ -50,7 +50,7 @@ fn recorded(
     requires tables { AreTablesOf program.now tables.old }
     requires runnable { IsRunnable (look program.now) }
     requires small { case.now.limits.heap < 2 ^ 31 }
-    ensures tables { AreTablesOf program.now tables.new }
+    ensures { AreTablesOf program.now tables.new }
 {
     let mut meter = Meter::new();
     let mut part = meter.split();
@@ -78,7 +78,7 @@ fn ran(
     requires tables { AreTablesOf program.now tables.old }
     requires runnable { IsRunnable (look program.now) }
     requires small { case.now.limits.heap < 2 ^ 31 }
-    ensures tables { AreTablesOf program.now tables.new }
+    ensures { AreTablesOf program.now tables.new }
 {
     let mut meter = Meter::new();
     let mut part = meter.split();
@@ -106,7 +106,7 @@ fn ended(
     requires tables { AreTablesOf program.now tables.old }
     requires runnable { IsRunnable (look program.now) }
     requires small { case.now.limits.heap < 2 ^ 31 }
-    ensures tables { AreTablesOf program.now tables.new }
+    ensures { AreTablesOf program.now tables.new }
 {
     let mut meter = Meter::new();
     let mut part = meter.split();
