@@ -173,6 +173,26 @@ fn make_all(
     Ok(())
 }
 
+// The same so many times over.
+fn make_times(
+    alloc: Global,
+    program: &Program,
+    tables: &mut Tables,
+    tests: &[Test],
+    case: &Case,
+    way: Way,
+    times: u64,
+) -> Result<(), Memory>
+    requires tables { AreTablesOf program.now tables.old }
+    requires runnable { IsRunnable (look program.now) }
+    requires small { case.now.limits.heap < 2 ^ 31 }
+{
+    for _ in 0..times {
+        make_all(alloc, program, tables, tests, case, way)?;
+    }
+    Ok(())
+}
+
 /// Makes the runs, and adds how many tests there are.
 pub fn push_timed(suite: &Suite, case: &Case, way: Way, out: &mut String) -> anyhow::Result<()>
     requires suite { IsRecordable suite.now }
@@ -184,9 +204,7 @@ pub fn push_timed(suite: &Suite, case: &Case, way: Way, out: &mut String) -> any
         anyhow::bail!("the library lacks a class");
     };
     let tests = suite.tests.as_slice();
-    for _ in 0..times {
-        make_all(alloc, &suite.program, &mut tables, tests, case, way)?;
-    }
+    make_times(alloc, &suite.program, &mut tables, tests, case, way, times)?;
     let count = tests.len();
     write!(out, "{count} tests")?;
     Ok(())
