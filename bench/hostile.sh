@@ -16,7 +16,7 @@ measure() { # NAME, WORDS..
     local got
     got=$( (ulimit -v 524288; /usr/bin/time -o "$folder/time" -f '%U %M' timeout 2 "$program" "$@" > "$folder/said" 2> "$folder/told"; echo $?) 2> /dev/null)
     printf '%-4s %-24s status %-4s %6s s %8s KB  %s\n' "$1" "$name" "$got" $(tail -1 "$folder/time") "$(tail -q -n 1 "$folder/said" "$folder/told" | tail -1 | cut -c1-60)"
-    case $got in 0 | 1 | 2 | 3 | 4 | 5 | 6 | 7 | 8 | 9 | 10 | 11 | 12 | 13 | 15) ;; *) worst=1 ;; esac
+    case $got in 0 | 1 | 2 | 3 | 4 | 5 | 6 | 7 | 8 | 9 | 10 | 11 | 12 | 15) ;; *) worst=1 ;; esac
 }
 list_all() { # FOLDER
     for class in "$1"/*/A.class "$1"/*/?/A.class; do
@@ -30,7 +30,7 @@ assemble_all() { # FOLDER
 }
 run_all() { # FOLDER
     for one in "$1"/*; do
-        [ -d "$one/c" ] && [ -d "$one/t" ] && measure "${one#"$1"/}" run --classes "$one/c" --tests "$one/t" --report "$folder/report.json"
+        [ -d "$one/c" ] && [ -d "$one/t" ] && measure "${one#"$1"/}" run --classes "$one/c" --tests "$one/t" --report "$folder/report.json" --new-history "$folder/history"
     done
 }
 read_histories() {

@@ -51,7 +51,7 @@ while [ $bit -ge 64 ]; do
             }
             END { print "end" }' "$work/rounds" > "$work/text"
         "$program" asm "$work/text" --out "$work/$which/Rounds.class"
-        "$program" run --classes "$here/../library/nothing" --tests "$work/$which" --report "$work/report.json" | sed "s/^/$which /"
+        "$program" run --classes "$here/../library/nothing" --tests "$work/$which" --report "$work/report.json" --new-history "$work/history" | sed "s/^/$which /"
     done > "$work/ends"
     if grep -v ' Rounds\..* TimedOut$\| mutants 0 ' "$work/ends"; then exit 1; fi
     awk -v bit=$bit '

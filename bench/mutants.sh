@@ -87,7 +87,7 @@ time_of() {
 theirs=$(time_of java -cp "$work/runner" MutantRuns "$work/classes" "$work/tests")
 echo "JVM, with its start: $theirs ms"
 for program in "$@"; do
-    ours=$(time_of "$program" run --classes "$work/classes" --tests "$work/tests" --report "$work/report.json")
+    ours=$(time_of "$program" run --classes "$work/classes" --tests "$work/tests" --report "$work/report.json" --new-history "$work/history")
     echo "$program: $ours ms, $(cat "$work/told")"
     awk -v a="$ours" -v b="$theirs" 'BEGIN { printf "ratio %.3f\n", b / a }'
 done

@@ -10,7 +10,7 @@ worst=0
 measure() { # NAME FOLDER
     local got memory=${MEMORY:-524288} seconds=${SECONDS_EACH:-2}
     [ "$1" = mutants ] && memory=$((2 * memory)) seconds=$((2 * seconds))
-    got=$( (ulimit -v "$memory"; ulimit -t "$seconds"; /usr/bin/time -o "$folder/time" -f '%e %U %M' "$program" run --classes "$2/c" --tests "$2/t" --report "$folder/report.json" > "$folder/said" 2> "$folder/told"; echo $?) 2> /dev/null)
+    got=$( (ulimit -v "$memory"; ulimit -t "$seconds"; /usr/bin/time -o "$folder/time" -f '%e %U %M' "$program" run --classes "$2/c" --tests "$2/t" --report "$folder/report.json" --new-history "$folder/history" > "$folder/said" 2> "$folder/told"; echo $?) 2> /dev/null)
     printf '%-16s status %-4s %6s s %6s s %8s KB  %s\n' "$1" "$got" $(tail -1 "$folder/time") "$(tail -q -n 1 "$folder/said" "$folder/told" | tail -1 | cut -c1-60)"
     [ "$got" -lt 124 ] && [ "$got" -ne 14 ] || worst=1
 }

@@ -355,8 +355,6 @@ class Preparation:
         for word, *rest in answer.lines:
             if word == 'NotGreen':
                 self.leave_out_test(rest[0], ' '.join(rest[1:]))
-            elif word == 'MachineCheck':
-                self.leave_out_test(rest[0], f'comes to an instruction that no rule fits: {".".join(rest[1:])}')
             elif word == 'BadProgram' and rest[0].startswith('V'):
                 self.leave_out_method(rest[1], trial.method_key(rest[2]), f'is refused by the type checker: {rest[0]} at instruction {rest[3]}')
             elif word == 'BadProgram':

@@ -15,9 +15,10 @@ class Answer:
 def ask(program, nothing, out):
     """All class files below `out` count as tests, so that no mutant is made."""
     report = os.path.join(out, 'prepared.report')
-    done = subprocess.run([program, '--quiet', 'run', '--classes', nothing, '--tests', out, '--report', report], capture_output=True, check=False)
-    if os.path.exists(report):
-        os.remove(report)
+    done = subprocess.run([program, '--quiet', 'run', '--classes', nothing, '--tests', out, '--report', report, '--new-history', report + '.history'], capture_output=True, check=False)
+    for written in (report, report + '.history'):
+        if os.path.exists(written):
+            os.remove(written)
     return Answer(done.returncode, done.stdout.decode('utf-8', 'backslashreplace'))
 
 

@@ -99,13 +99,14 @@ unread() {
     if [ -n "$path" ]; then
         echo "'$path' can't be read, or is no file"
     else
-        echo "a class file or a folder can't be read: closed to you, or its name isn't UTF-8"
+        echo "a class file, a folder, the history or a source can't be read: closed to you, or its name isn't UTF-8"
     fi
 }
 
 unwritten() {
     case $1 in
-        report | history | journal) echo "the $1 couldn't be written to '${given[--$1]-}'" ;;
+        report) echo "the report couldn't be written to '${given[--report]}'" ;;
+        history) echo "the report is written; the new history couldn't be, to '${given[--new-history]}'" ;;
         assembled) echo "the class file couldn't be written to '${given[--out]}'" ;;
         output) echo "standard output failed; what was to be written is written" ;;
     esac
@@ -118,27 +119,36 @@ past_limit() {
         classes) echo "there are $2 class files; 20,000 are the most" ;;
         tests) echo "there are $2 tests; 65,535 are the most" ;;
         mutants) echo "there are $2 mutants; 262,144 are the most" ;;
+        sources) echo "the sources have $2 bytes; 67,108,864 are the most" ;;
+        history) echo "the new history has $2 bytes; 536,870,912 are the most" ;;
         cells) echo "mutants have $2 tests that cover them; 4,194,304 are the most" ;;
     esac
 }
 
-# Of tests that don't pass as it is; and of the first that fail, what each may come to that isn't
-# there or does something else than on a JVM, where python3 is there to tell.
+# Of tests that don't pass as it is; and of the first that fail, where python3 is there to tell, by
+# what each fails, and what it may come to that isn't there or does something else than on a JVM.
 not_green() {
     local all failed
     all=$(grep -c '^mutest: NotGreen' "$answer")
     failed=$(grep -c '^mutest: NotGreen .* Failed' "$answer")
     echo "tests don't pass on the classes as they are: $failed failed," \
         "$((all - failed)) ran into a limit of steps or memory"
-    [ "$failed" -eq 0 ] || lacking
+    [ "$failed" -eq 0 ] || why_failed
 }
 
-lacking() {
+why_failed() {
     command -v python3 >/dev/null || return
-    local tests
+    local tests from folders=("${given[--classes]}" "${given[--tests]}")
     mapfile -t tests < <(sed -n 's/^mutest: NotGreen \([^ ]*\) Failed.*/\1/p' "$answer" | head -n 5)
-    mapfile -t tests < <(printf -- '--from\n%s\n' "${tests[@]}")
-    "$here/tools/lacks" "${tests[@]}" "${given[--classes]}" "${given[--tests]}" 2>/dev/null
+    mapfile -t from < <(printf -- '--from\n%s\n' "${tests[@]}")
+    "$here/tools/why-failed" "${folders[@]}" "${tests[@]}" 2>/dev/null
+    "$here/tools/lacks" "${from[@]}" "${folders[@]}" 2>/dev/null
+}
+
+bad_history() {
+    local what="is damaged at byte $1"
+    [ "$1" != 536870912 ] || what="has more than 536,870,912 bytes"
+    echo "the history '${given[--history]}' $what: without it all runs are made again"
 }
 
 explained() {
@@ -156,11 +166,10 @@ explained() {
             echo "$first.$second can't be called as a test: $(test_rule "$third")"
         fi ;;
         8) not_green ;;
+        9) bad_history "$first" ;;
         10) unread ;;
         11) unwritten "$first" ;;
         12) past_limit "$first" "$second" ;;
-        13) echo "no rule of the interpreter applies to instruction $fourth of $second.$third," \
-            "which $first comes to" ;;
         14) echo "memory ran out; what was to be written is the old or the new one" ;;
         15) echo "line $first of '${plain[0]}' is wrong: $(sed -n "${first}p" "${plain[0]}")" ;;
         126 | 127) echo "this machine can't run $program; that of dist/ is for x86-64 Linux" ;;

@@ -62,12 +62,40 @@ warn_of_folders() {
     say "warning: $odd"
 }
 
+# Whether one of the packages of the classes has a file in a folder of sources.
+has_sources() {
+    local classes=$1 sources=$2 package
+    while IFS= read -r package; do
+        [ -z "$(find "$sources/$package" -maxdepth 1 -type f -print -quit 2>/dev/null)" ] || return 0
+    done < <(find "$classes/" -name '*.class' -type f -printf '%P\n' | sed 's:[^/]*$::' | sort -u | head -n 200)
+    return 1
+}
+
+# What would be wrong with the lines and the sources of a report.
+warn_of_lines() {
+    local classes=$1 sources=${given[--sources]-}
+    if has_file "$classes" '*.class' && ! has_text "$classes" LineNumberTable; then
+        say "warning: no class file in '$classes' has line numbers, so each mutant gets line 1:" \
+            "compile with -g:lines"
+    fi
+    if [ -z "$sources" ] || is_archive "${sources%/}"; then
+        return
+    elif [ ! -d "$sources" ]; then
+        say "warning: the folder '$sources' of --sources isn't there: the report gets no sources"
+    elif ! has_sources "$classes" "$sources"; then
+        say "warning: no package of '$classes' has a file in '$sources', so the report gets no sources:" \
+            "name the folder in which the packages begin"
+    fi
+}
+
 # Says why a file can't be written at this path, if that is plain.
 unwritable() {
     local path=$1 folder
     [[ $path != /dev/* && ! -L $path ]] || return
     folder=$(dirname -- "$path")
-    if [ ! -d "$folder" ]; then
+    if [ "${path%/}" != "$path" ]; then
+        echo "'$path' is a folder"
+    elif [ ! -d "$folder" ]; then
         echo "the folder '$folder' isn't there"
     elif [ -d "$path" ]; then
         echo "'$path' is a folder"
@@ -90,5 +118,8 @@ look_before() {
             exit 11
         fi
     done
-    [ -n "$quiet" ] || warn_of_folders "$classes" "$tests"
+    if [ -z "$quiet" ]; then
+        warn_of_folders "$classes" "$tests"
+        warn_of_lines "$classes"
+    fi
 }

@@ -2,9 +2,15 @@
 # The words of a command line as the program reads them, for what is said beside its answer.
 # A further command or option: its line here and in help.txt.
 
-# The options that a command needs, and how many plain words.
-declare -A NEEDED=([run]='--classes --tests --report' [list]='' [asm]='--out')
-declare -A PLAIN=([run]=0 [list]=1 [asm]=1)
+# The options that a command needs, those that it may have, and how many plain words.
+declare -A NEEDED=([run]='--classes --tests --report --new-history' [list]='' [asm]='--out' [generate]='')
+declare -A ALLOWED=([run]='--sources --history --workers --steps --heap --depth' [generate]='--workers')
+# Those that have no value.
+declare -A FLAGS=([run]='--matrix' [generate]='--matrix')
+declare -A PLAIN=([run]=0 [list]=1 [asm]=1 [generate]=1)
+declare -A PLAIN_IS=([list]=file [asm]=file [generate]=number)
+# The options that state a number, with the least and the most.
+declare -A BOUNDS=([--workers]='1 64' [--steps]='1 1000000000' [--heap]='1024 4194304' [--depth]='16 65536')
 # The options that name a file to be written, with what the program calls it.
 declare -A WRITTEN=([--report]=report [--new-history]=history)
 
@@ -15,9 +21,9 @@ fault=
 # Reads the words into `given` and `plain`; `fault` is what is wrong with them, if something is.
 read_words() {
     local command=$1 option word
-    [ $# -gt 0 ] || { fault="no command is named: run, list or asm"; return; }
+    [ $# -gt 0 ] || { fault="no command is named: run, list, asm or generate"; return; }
     if [ -z "${PLAIN[$command]+known}" ]; then
-        fault="'$command' is no command: run, list or asm"
+        fault="'$command' is no command: run, list, asm or generate"
         return
     fi
     shift
@@ -32,10 +38,14 @@ read_words() {
         elif [[ $word != -?* ]]; then
             plain+=("$word")
             continue
-        elif [[ " ${NEEDED[$command]} " != *" $option "* ]]; then
+        elif [[ " ${NEEDED[$command]} ${ALLOWED[$command]-} ${FLAGS[$command]-} " != *" $option "* ]]; then
             fault="$command has no option '$option'"
         elif [ -n "${given[$option]+twice}" ]; then
             fault="$option stands twice"
+        elif [[ " ${FLAGS[$command]-} " == *" $option "* ]]; then
+            [ "$word" = "$option" ] || { fault="$option takes none: it is a flag"; return; }
+            given[$option]=set
+            continue
         elif [[ $word == *= ]]; then
             fault="$option has no value"
         elif [[ $word == *=* ]]; then
@@ -56,8 +66,37 @@ read_words() {
     if [ "${#plain[@]}" -gt "${PLAIN[$command]}" ]; then
         fault="'${plain[${PLAIN[$command]}]}' is a word too many for $command"
     elif [ "${#plain[@]}" -lt "${PLAIN[$command]}" ] || [ "${plain[0]-named}" = '' ]; then
-        fault="$command needs a file"
+        fault="$command needs a ${PLAIN_IS[$command]}"
+    elif [ "$command" = run ]; then
+        check_paths
+        [ -n "$fault" ] || check_numbers
+    elif [ "$command" = generate ]; then
+        check_numbers
+        is_between "${plain[0]}" 1 200 || fault="generate takes a number of classes from 1 to 200"
     fi
+}
+
+# What a run writes, and what it reads of earlier runs, stands at paths of its own.
+check_paths() {
+    if [ "${given[--report]}" = "${given[--new-history]}" ]; then
+        fault="--report and --new-history name one file"
+    elif [ "${given[--report]}" = "${given[--history]-}" ]; then
+        fault="--report and --history name one file"
+    fi
+}
+
+# is_between NUMBER LEAST MOST: it has at most ten digits, and no zero before them.
+is_between() {
+    [[ $1 =~ ^[1-9][0-9]{0,9}$ ]] && [ "$1" -ge "$2" ] && [ "$1" -le "$3" ]
+}
+
+check_numbers() {
+    local option least most
+    for option in "${!BOUNDS[@]}"; do
+        read -r least most <<<"${BOUNDS[$option]}"
+        is_between "${given[$option]-$least}" "$least" "$most" ||
+            fault="$option is a number from $least to $most"
+    done
 }
 
 # Text with its control characters written out, those behind ASCII and those of direction too, so

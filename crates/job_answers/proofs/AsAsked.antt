@@ -18,9 +18,7 @@ use Rattle.type_laws.specs.Soundness.{IsStuck}
 use Rattle.class_table.specs.declared.scripted.Test.{Test}
 use Rattle.class_table.specs.Table.{look}
 use Rattle.mutator_ops.specs.declared.mutant.Mutant.{Mutant}
-use Rattle.mutant_runs.specs.Programs.{with_class}
-use Rattle.mutant_runs.specs.Runs.{mutant_run, reaches, detected}
-use Rattle.suite_laws.specs.Covered.{original_run, edited_run, AllPass, NotStuckThere, ReachingIsAlike}
+use Rattle.suite_jobs.specs.Below.{ReuseChangesNothing, original_asked, mutant_asked, original_run, edited_run, AllPass, NotStuckThere, ReachingIsAlike, with_class, mutant_run, reaches, detected}
 use Rattle.record_rules.specs.declared.record.RunRecord.{RunRecord}
 use Rattle.record_rules.specs.Histories.{Kept, kept_with, kept_of, once_behind, all_kept, new_records, reused}
 use Rattle.record_rules.specs.Records.{Asked, run, record_of}
@@ -28,8 +26,6 @@ use Rattle.record_rules.specs.Matching.{first_match}
 use Rattle.record_rules.specs.Jobs.{with_limit, end_of, Trial, steps_of as asked_steps, covering_runs, up_to, needed_runs, need as asked_need}
 use Rattle.reuse_laws.specs.Jobs.{AreTrue, OldHaveNoPart}
 use Rattle.class_records.specs.Profile.{profile}
-use Rattle.suite_records.specs.Laws.{ReuseChangesNothing}
-use Rattle.suite_records.specs.Suites.{original_asked, mutant_asked}
 use Rattle.job_rules.specs.Tried.{Tried, known, detects, needed, needed_of_all, need, cost_of_run, cost_of}
 use Rattle.suite_jobs.specs.Jobs.{Suite, Allowed, IsOfFile, IsAccepted, made_by, tried_on, says, has_reached, numbered, original_tried, covering, viable_file, mutant_tried, mutant_runs, job_runs, trial_of, trials_of, asked_job}
 use Rattle.suite_jobs.specs.Laws.{steps_of, SaysRun, RecordsSayRuns}

@@ -14,8 +14,7 @@ use Rattle.class_table.specs.declared.scripted.Test.{Test}
 use Rattle.mutator_ops.specs.declared.mutant.Mutant.{Mutant}
 use Rattle.mutator_ops.specs.declared.mutant.State.{State}
 use Rattle.mutator_ops.specs.declared.mutant.Verdict.{Verdict}
-use Rattle.mutant_runs.specs.Verdicts.{verdict_by, not_viable}
-use Rattle.suite_laws.specs.Covered.{original_run}
+use Rattle.suite_jobs.specs.Below.{original_run, verdict_by, not_viable}
 use Rattle.record_rules.specs.declared.record.RunRecord.{RunRecord}
 use Rattle.record_rules.specs.Outcomes.{outcome_at}
 use Rattle.job_rules.specs.Tried.{Tried, known, saying, detections, detections_in}

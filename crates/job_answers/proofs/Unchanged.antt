@@ -10,7 +10,7 @@ use Rattle.class_model.specs.declared.class.Class.{Class}
 use Rattle.class_table.specs.declared.scripted.Test.{Test}
 use Rattle.mutator_ops.specs.declared.mutant.Mutant.{Mutant}
 use Rattle.mutator_ops.specs.declared.mutant.Verdict.{Verdict}
-use Rattle.mutant_runs.specs.Verdicts.{not_viable}
+use Rattle.suite_jobs.specs.Below.{not_viable}
 use Rattle.record_rules.specs.declared.record.RunRecord.{RunRecord}
 use Rattle.job_rules.specs.Tried.{Tried, known, detections}
 use Rattle.suite_jobs.specs.Jobs.{Allowed, Suite, says, numbered, original_tried, viable_file, mutant_runs, job_runs}

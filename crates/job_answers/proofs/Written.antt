@@ -20,7 +20,7 @@ use Rattle.history_rules.specs.Fitting.{FitsFields}
 use Rattle.history_rules.specs.Laws.{AreWritable, IsFormed, IsOther, before_next}
 use Rattle.class_records.specs.Profile.{profile}
 use Rattle.record_writing.specs.Writing.{FittingAreFormed}
-use Rattle.suite_records.specs.Suites.{original_asked, mutant_asked}
+use Rattle.suite_jobs.specs.Below.{original_asked, mutant_asked}
 use Rattle.job_rules.specs.Tried.{Tried, known, knowns, detects, needed, needed_of_all, need, is_among, firsts_after, records_once}
 use Rattle.suite_jobs.specs.Jobs.{Allowed, Suite, IsAccepted, IsOfFile, says, made_by, tried_on, original_tried, covering, has_reached, viable_file, mutant_tried, mutant_runs, job_runs}
 use Rattle.job_answers.specs.Laws.{AnswersCanBeWritten}

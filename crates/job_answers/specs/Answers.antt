@@ -9,8 +9,7 @@ use Rattle.class_model.specs.declared.outcome.Outcome.TheVariants.{Passed}
 use Rattle.mutator_ops.specs.declared.mutant.Mutant.{Mutant}
 use Rattle.mutator_ops.specs.declared.mutant.State.{State}
 use Rattle.mutator_ops.specs.declared.mutant.Verdict.{Verdict}
-use Rattle.mutant_runs.specs.Verdicts.{verdict_by, not_viable}
-use Rattle.suite_laws.specs.Tested.{all_verdicts}
+use Rattle.suite_jobs.specs.Below.{all_verdicts, verdict_by, not_viable}
 use Rattle.record_rules.specs.declared.record.RunRecord.{RunRecord}
 use Rattle.record_rules.specs.Histories.{same_record, new_records}
 use Rattle.record_rules.specs.Jobs.{Job, covering_runs, need as asked_need, cost, NeedCost, Cost}

@@ -2,8 +2,7 @@
 use Rattle.std.specs.Prelude.{◌≡◌, ℕ, Bool, false, List, [], All, length, slice_get, Some, Ok, Err}
 use Rattle.std.specs.Prelude.{option_map}
 use Rattle.class_records.specs.Profile.{profile}
-use Rattle.suite_laws.specs.Covered.{AllPass}
-use Rattle.suite_laws.specs.Tested.{all_verdicts}
+use Rattle.suite_jobs.specs.Below.{original_asked, AllPass, all_verdicts}
 use Rattle.record_rules.specs.declared.record.RunRecord.{RunRecord}
 use Rattle.record_rules.specs.Records.{Asked, record_of}
 use Rattle.record_rules.specs.Histories.{new_records, reused}
@@ -11,7 +10,6 @@ use Rattle.record_rules.specs.Jobs.{need, cost, NeedCost, Cost}
 use Rattle.reuse_laws.specs.Jobs.{AreTrue}
 use Rattle.history_rules.specs.Fitting.{FitsFields}
 use Rattle.history_rules.specs.Laws.{AreWritable, IsFormed}
-use Rattle.suite_records.specs.Suites.{original_asked}
 use Rattle.suite_jobs.specs.Jobs.{Allowed, Suite, IsAccepted, asked_job, job_runs, made_by}
 use Rattle.job_answers.specs.Answers.{JobAnswer, asked_cells, asked_cost, cell_total, exactly}
 use Rattle.job_answers.specs.Answers.{failed_tests, job_answer, job_cost, job_reused, job_scratch}

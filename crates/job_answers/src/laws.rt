@@ -14,13 +14,10 @@ use program_laws::ordered_is_built;
 use record_writing::fitting_records_are_formed;
 use reuse_laws::new_records_go_by_runs;
 use suite_jobs::{
-    jobs_cost_as_asked, records_say_runs, reuse_changes_no_answer, runs_are_own,
-    verdicts_are_of_all_tests,
+    found_are_own_tests, found_tests_fit, jobs_cost_as_asked, mutants_are_reached_alike,
+    mutants_are_reusable, originals_are_reusable, records_say_runs, reuse_changes_no_answer,
+    runs_are_own, suites_are_safe, verdicts_are_of_all_tests, viable_mutants_are_never_stuck,
 };
-use suite_laws::{
-    found_tests_fit, mutants_are_reached_alike, suites_are_safe, viable_mutants_are_never_stuck,
-};
-use suite_records::{found_are_own_tests, mutants_are_reusable, originals_are_reusable};
 use type_laws::accepted_code_is_never_stuck;
 
 /// Where all old records are true, a job answers what it answers without any: the same refusal, or
@@ -55,7 +52,7 @@ pub fn answers_are_as_asked()
     found_are_own_tests();
     originals_are_reusable();
     mutants_are_reusable();
-    suite_records::true_records_change_nothing();
+    suite_jobs::true_records_change_nothing();
     records_say_runs();
     mutants_are_reached_alike();
     new_records_go_by_runs();

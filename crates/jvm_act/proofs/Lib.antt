@@ -11,3 +11,4 @@ mod Held
 mod Handled
 mod Asked
 mod Further
+pub mod Below

@@ -7,3 +7,4 @@ pub mod Asking
 pub mod Acts
 pub mod Laws
 pub mod Calls
+pub mod Below

@@ -1,2 +1,3 @@
 pub mod Reached
 mod Marked
+pub mod Below

@@ -13,24 +13,24 @@ use Rattle.jvm_state.specs.declared.op.Op.{Op}
 use Rattle.jvm_code.specs.Decoded.{named_by}
 use Rattle.jvm_frames.specs.Frames.{NumberedFrame, NumberedFrames, IsAt}
 use Rattle.jvm_frames.specs.Staying.{Stays, StayOn}
-use Rattle.jvm_rows.proofs.Ends.{some_and}
+use Rattle.jvm_step.proofs.Below.{some_and}
 use Rattle.jvm_world.specs.declared.world.World.{World}
 use Rattle.jvm_world.specs.View.{IsKept, IsWorldOf, Means}
-use Rattle.jvm_unwind.specs.declared.turn.Turn.{Turn}
-use Rattle.jvm_unwind.specs.declared.turn.Turn.TheVariants as turn
-use Rattle.jvm_unwind.specs.Turns.{frames_of}
-use Rattle.jvm_unwind.proofs.Left.{with_some}
-use Rattle.jvm_invokes.specs.Invoked.{IsOfMethod}
-use Rattle.jvm_act.specs.declared.methods.MethodCode.{MethodCode}
-use Rattle.jvm_act.specs.Acts.{RunsCode, StandsAtOp, acting}
-use Rattle.jvm_act.specs.Methods.{IsCodeOf}
-use Rattle.jvm_act.specs.Standing.{AreFramesOf, Waits}
-use Rattle.jvm_initialization.specs.Begins.{AreWhole}
-use Rattle.jvm_act.specs.Turned.{Turned}
-use Rattle.jvm_act.proofs.Executed as executed
-use Rattle.jvm_lines.specs.Lines.{IsLineReached, ReachesLine, lines_of}
-use Rattle.jvm_lines.specs.Marking.{AreMarkedRight, AreReached, Marked}
-use Rattle.jvm_lines.proofs.Reached.{reached_same}
+use Rattle.jvm_step.specs.Below.{Turn}
+use Rattle.jvm_step.specs.Below.jvm_unwind_declared_turn_Turn_TheVariants as turn
+use Rattle.jvm_step.specs.Below.{frames_of}
+use Rattle.jvm_step.proofs.Below.{with_some}
+use Rattle.jvm_step.specs.Below.{IsOfMethod}
+use Rattle.jvm_step.specs.Below.{MethodCode}
+use Rattle.jvm_step.specs.Below.{RunsCode, StandsAtOp, acting}
+use Rattle.jvm_step.specs.Below.{IsCodeOf}
+use Rattle.jvm_step.specs.Below.{AreFramesOf, Waits}
+use Rattle.jvm_step.specs.Below.{AreWhole}
+use Rattle.jvm_step.specs.Below.{Turned}
+use Rattle.jvm_step.proofs.Below.jvm_act_Executed as executed
+use Rattle.jvm_step.specs.Below.{IsLineReached, ReachesLine, lines_of}
+use Rattle.jvm_step.specs.Below.{AreMarkedRight, AreReached, Marked}
+use Rattle.jvm_step.proofs.Below.{reached_same}
 use Rattle.jvm_run.specs.declared.advancing.Went.TheVariants as went
 use Rattle.jvm_run.specs.Advancing.{IsWithin, StaysMachine, StaysMarked, WentTo, went_by}
 use Rattle.jvm_step.specs.declared.machine.Machine.{Machine}

@@ -12,9 +12,9 @@ use Rattle.class_table.specs.Table.{look, name_at}
 use Rattle.jvm_frames.specs.Frames.{IsAt}
 use Rattle.jvm_world.specs.declared.world.World.{World}
 use Rattle.jvm_world.specs.View.{History, call_of, world_of}
-use Rattle.jvm_unwind.specs.Turns.{frames_on, frames_of}
-use Rattle.jvm_unwind.proofs.Left.{with_some}
-use Rattle.jvm_invokes.specs.Invoked.{IsOfMethod}
+use Rattle.jvm_step.specs.Below.{frames_on, frames_of}
+use Rattle.jvm_step.proofs.Below.{with_some}
+use Rattle.jvm_step.specs.Below.{IsOfMethod}
 use Rattle.jvm_step.specs.declared.machine.Machine.{Machine}
 use Rattle.jvm_run.specs.declared.ending.Ending.{Ending}
 use Rattle.jvm_run.specs.Ending.{ending_in}

@@ -21,17 +21,17 @@ use Rattle.jvm_frames.specs.Frames.{NumberedFrame, NumberedFrames, IsAt, framed}
 use Rattle.jvm_frames.specs.Staying.{Stays, StepsAlone, StayOn}
 use Rattle.jvm_world.specs.declared.world.World.{World}
 use Rattle.jvm_world.specs.View.{Means}
-use Rattle.jvm_unwind.specs.Turns.{frame_of, frames_of, row_at}
-use Rattle.jvm_unwind.proofs.Left.{with_some}
-use Rattle.jvm_invokes.specs.Invoked.{IsOfMethod}
-use Rattle.jvm_act.specs.declared.methods.MethodCode.{MethodCode}
-use Rattle.jvm_act.specs.Acts.{acting}
-use Rattle.jvm_act.specs.Methods.{IsCodeOf}
-use Rattle.jvm_act.specs.Standing.{AreFramesOf}
-use Rattle.jvm_act.proofs.Executed.{acts_on}
-use Rattle.jvm_lines.specs.Lines.{IsReachedIf, lines_of}
-use Rattle.jvm_lines.specs.Marking.{AreMarkedRight, AreReached, Marked}
-use Rattle.jvm_lines.proofs.Reached.{lines_are, reached_same}
+use Rattle.jvm_step.specs.Below.{frame_of, frames_of, row_at}
+use Rattle.jvm_step.proofs.Below.{with_some}
+use Rattle.jvm_step.specs.Below.{IsOfMethod}
+use Rattle.jvm_step.specs.Below.{MethodCode}
+use Rattle.jvm_step.specs.Below.{acting}
+use Rattle.jvm_step.specs.Below.{IsCodeOf}
+use Rattle.jvm_step.specs.Below.{AreFramesOf}
+use Rattle.jvm_step.proofs.Below.{acts_on}
+use Rattle.jvm_step.specs.Below.{IsReachedIf, lines_of}
+use Rattle.jvm_step.specs.Below.{AreMarkedRight, AreReached, Marked}
+use Rattle.jvm_step.proofs.Below.{lines_are, reached_same}
 use Rattle.jvm_step.specs.declared.machine.Machine.{Machine}
 use Rattle.jvm_step.specs.declared.machine.Step.TheVariants as step
 use Rattle.jvm_run.specs.declared.advancing.Went.TheVariants as went

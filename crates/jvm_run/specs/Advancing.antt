@@ -3,8 +3,8 @@ use Rattle.std.specs.Prelude.{◌≤◌, ◌<◌, ℕ, ◌+◌, List}
 use Rattle.machine_rules.specs.declared.machine.Limits.{Limits}
 use Rattle.machine_rules.specs.State.{MachineState}
 use Rattle.class_link.specs.Info.{Info}
-use Rattle.jvm_lines.specs.Lines.{lines_of}
-use Rattle.jvm_lines.specs.Marking.{AreMarkedRight, Marked}
+use Rattle.jvm_step.specs.Below.{lines_of}
+use Rattle.jvm_step.specs.Below.{AreMarkedRight, Marked}
 use Rattle.jvm_step.specs.declared.machine.Machine.{Machine}
 use Rattle.jvm_step.specs.declared.machine.Step.{Step}
 use Rattle.jvm_step.specs.declared.machine.Step.TheVariants as step

@@ -3,3 +3,4 @@ pub mod Result
 pub mod Running
 pub mod Advancing
 pub mod Passing
+pub mod Below

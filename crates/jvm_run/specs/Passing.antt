@@ -5,10 +5,10 @@ use Rattle.program_rules.specs.Names.{Name}
 use Rattle.machine_laws.specs.Lines.{KeepsLines}
 use Rattle.class_link.specs.Info.{Info}
 use Rattle.jvm_frames.specs.Frames.{NumberedFrame}
-use Rattle.jvm_act.specs.declared.methods.MethodCode.{MethodCode}
-use Rattle.jvm_act.specs.Methods.{IsCodeOf}
-use Rattle.jvm_lines.specs.Lines.{lines_of}
-use Rattle.jvm_lines.specs.Marking.{AreReached}
+use Rattle.jvm_step.specs.Below.{MethodCode}
+use Rattle.jvm_step.specs.Below.{IsCodeOf}
+use Rattle.jvm_step.specs.Below.{lines_of}
+use Rattle.jvm_step.specs.Below.{AreReached}
 use Rattle.jvm_run.specs.Advancing.{WentTo}
 use Rattle.jvm_run.specs.declared.advancing.Went.{Went}
 use Rattle.jvm_run.specs.declared.advancing.Went.TheVariants as went

@@ -2,8 +2,8 @@
 
 ghost use Rattle.std.specs.Prelude.{◌≡◌, ◌<◌, IfOk};
 ghost use Rattle.class_table.specs.Table.{look};
-ghost use Rattle.jvm_lines.specs.Lines.{lines_of};
-ghost use Rattle.jvm_lines.specs.Marking.{AreMarkedRight};
+ghost use Rattle.jvm_step.specs.Below.{lines_of};
+ghost use Rattle.jvm_step.specs.Below.{AreMarkedRight};
 ghost use Rattle.jvm_run.specs.Advancing.{IsWithin, StaysMachine, StaysMarked, WentTo, went_by};
 ghost use Rattle.jvm_step.specs.Machines.{HasFewMonitors, HasMeaning, IsMachineOf};
 ghost use Rattle.jvm_step.specs.Programs.{IsRunnable};
@@ -13,8 +13,7 @@ use crate::passing::pass_on;
 use crate::taking::Taken;
 use class_model::Memory;
 use class_table::Program;
-use jvm_lines::MethodMarks;
-use jvm_step::{Machine, StateEnd, Step, Tables, step};
+use jvm_step::{Machine, MethodMarks, StateEnd, Step, Tables, step};
 use std::alloc::Global;
 
 /// What a machine came to that was to go on.

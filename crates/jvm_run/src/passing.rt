@@ -3,30 +3,27 @@
 ghost use Rattle.std.specs.Prelude.{◌≡◌, true, IfOk, OnOk};
 ghost use Rattle.class_table.specs.Faults.{HasRightKinds};
 ghost use Rattle.class_table.specs.Table.{look};
-ghost use Rattle.jvm_act.specs.Methods.{IsCodeOf};
-ghost use Rattle.jvm_members.specs.Layouts.{AreLayouts};
-ghost use Rattle.jvm_members.specs.Slots.{AreSlots};
-ghost use Rattle.jvm_lines.specs.Lines.{lines_of};
-ghost use Rattle.jvm_lines.specs.Marking.{AreMarkedRight, AreReached};
+ghost use Rattle.jvm_step.specs.Below.{IsCodeOf};
+ghost use Rattle.jvm_step.specs.Below.{AreLayouts};
+ghost use Rattle.jvm_step.specs.Below.{AreSlots};
+ghost use Rattle.jvm_step.specs.Below.{lines_of};
+ghost use Rattle.jvm_step.specs.Below.{AreMarkedRight, AreReached};
 ghost use Rattle.jvm_run.specs.Advancing.{StaysMarked};
 ghost use Rattle.jvm_step.specs.Machines.{HasMeaning, IsMachineOf};
 ghost use Rattle.jvm_run.specs.Passing.{Took, went_of};
 ghost use Rattle.jvm_step.specs.Programs.{IsRunnable};
 ghost use Rattle.jvm_step.specs.Tables.{AreTablesOf};
-ghost use Rattle.jvm_natives.specs.Natives.{AreNatives};
-ghost use Rattle.jvm_receivers.specs.Objects.{AreLookups};
+ghost use Rattle.jvm_step.specs.Below.{AreNatives};
+ghost use Rattle.jvm_step.specs.Below.{AreLookups};
 
 use crate::taking::{Taken, is_calm, take_steps};
 use class_family::Walker;
 use class_model::{ClassId, Memory};
 use class_table::Program;
-use jvm_act::MethodCode;
 use jvm_frames::Place;
-use jvm_lines::{MethodMarks, marks_of, note_line};
-use jvm_members::{Layouts, Slots};
-use jvm_natives::Natives;
-use jvm_receivers::Lookups;
-use jvm_step::{Machine, Tables};
+use jvm_step::{
+    Layouts, Lookups, Machine, MethodCode, MethodMarks, Natives, Slots, Tables, marks_of, note_line,
+};
 use std::alloc::Global;
 
 // Whether a frame is of a method.

@@ -3,30 +3,26 @@
 ghost use Rattle.std.specs.Prelude.{◌≡◌, ◌+◌, ◌≤◌, ◌<◌, ◌^◌, true, Some, IfOk, IfSome, IfNone, OnOk, IsSomeAnd};
 ghost use Rattle.class_table.specs.Faults.{HasRightKinds};
 ghost use Rattle.class_table.specs.Table.{look};
-ghost use Rattle.jvm_act.specs.Acts.{RunsCode, acting};
-ghost use Rattle.jvm_act.specs.Standing.{AreFramesOf};
-ghost use Rattle.jvm_act.specs.Turned.{Turned};
-ghost use Rattle.jvm_members.specs.Layouts.{AreLayouts};
-ghost use Rattle.jvm_members.specs.Slots.{AreSlots};
+ghost use Rattle.jvm_step.specs.Below.{RunsCode, acting};
+ghost use Rattle.jvm_step.specs.Below.{AreFramesOf};
+ghost use Rattle.jvm_step.specs.Below.{Turned};
+ghost use Rattle.jvm_step.specs.Below.{AreLayouts};
+ghost use Rattle.jvm_step.specs.Below.{AreSlots};
 ghost use Rattle.jvm_frames.specs.Staying.{StayOn};
 ghost use Rattle.jvm_step.specs.Machines.{HasMeaning, IsMachineOf};
 ghost use Rattle.jvm_run.specs.Passing.{Fits, HasMark, IsCalm, RunsReached, Took, plus};
-ghost use Rattle.jvm_natives.specs.Natives.{AreNatives};
-ghost use Rattle.jvm_receivers.specs.Objects.{AreLookups};
+ghost use Rattle.jvm_step.specs.Below.{AreNatives};
+ghost use Rattle.jvm_step.specs.Below.{AreLookups};
 ghost use Rattle.jvm_world.specs.View.{IsWorldOf, IsKept};
 
 use class_family::Walker;
 use class_model::Memory;
 use class_table::Program;
-use jvm_act::{MethodCode, act_beyond, op_at};
 use jvm_frames::Frames;
-use jvm_lines::is_marked;
-use jvm_members::{Layouts, Slots};
-use jvm_natives::Natives;
-use jvm_receivers::Lookups;
 use jvm_state::Op;
-use jvm_step::Machine;
-use jvm_unwind::Turn;
+use jvm_step::{
+    Layouts, Lookups, Machine, MethodCode, Natives, Slots, Turn, act_beyond, is_marked, op_at,
+};
 use jvm_world::World;
 use std::alloc::Global;
 

@@ -10,7 +10,7 @@ use Rattle.class_table.specs.declared.scripted.Call.{Call}
 use Rattle.jvm_frames.specs.Frames.{NumberedFrame}
 use Rattle.jvm_world.specs.declared.world.World.{World}
 use Rattle.jvm_world.specs.View.{History, call_of, world_of}
-use Rattle.jvm_unwind.specs.Turns.{frames_on, frames_of}
+use Rattle.jvm_lines.specs.Below.{frames_on, frames_of}
 use Rattle.jvm_step.specs.declared.machine.Machine.{Machine}
 use Rattle.jvm_step.specs.declared.machine.StateEnd.{StateEnd}
 use Rattle.jvm_step.specs.Machines.{StandsFor, TellsEnd, ended_with, end_of, outcome_by, over_or}

@@ -19,19 +19,19 @@ use Rattle.class_table.specs.Table.{look, name_at}
 use Rattle.jvm_frames.specs.Frames.{NumberedFrame, NumberedFrames, begun, depth_of, first_frame, instance_args, instance_words}
 use Rattle.jvm_world.specs.declared.world.World.{World}
 use Rattle.jvm_world.specs.View.{Means, Takes, Throws, call_of}
-use Rattle.jvm_unwind.specs.declared.turn.Turn.{Turn}
-use Rattle.jvm_unwind.specs.declared.turn.Turn.TheVariants as turn
-use Rattle.jvm_unwind.specs.Turns.{frame_of, frames_of}
-use Rattle.jvm_calls.specs.declared.calling.Callee.{Callee}
-use Rattle.jvm_initialization.specs.Begins.{AreWhole, HasBegun, IsOfMethod, StaysOrBegins, all_on}
+use Rattle.jvm_lines.specs.Below.{Turn}
+use Rattle.jvm_lines.specs.Below.jvm_unwind_declared_turn_Turn_TheVariants as turn
+use Rattle.jvm_lines.specs.Below.{frame_of, frames_of}
+use Rattle.jvm_lines.specs.Below.{Callee}
+use Rattle.jvm_lines.specs.Below.{AreWhole, HasBegun, IsOfMethod, StaysOrBegins, all_on}
 use Rattle.jvm_link.specs.declared.site.Site.{Site}
 use Rattle.jvm_link.specs.Sites.{IsMethod}
-use Rattle.jvm_invokes.specs.declared.heads.Body.TheVariants as body
-use Rattle.jvm_invokes.specs.declared.heads.Head.{Head}
-use Rattle.jvm_invokes.specs.Calls.{IsSite}
-use Rattle.jvm_invokes.specs.Heads.{StandsAt, IsHead, IsBody}
-use Rattle.jvm_invokes.proofs.Standing.{found_at, stands}
-use Rattle.jvm_act.specs.Turned.{TurnedTo}
+use Rattle.jvm_lines.specs.Below.jvm_invokes_declared_heads_Body_TheVariants as body
+use Rattle.jvm_lines.specs.Below.{Head}
+use Rattle.jvm_lines.specs.Below.{IsSite}
+use Rattle.jvm_lines.specs.Below.{StandsAt, IsHead, IsBody}
+use Rattle.jvm_lines.proofs.Below.{found_at, stands}
+use Rattle.jvm_lines.specs.Below.{TurnedTo}
 use Rattle.jvm_step.specs.Steps.{Step, on_next, enters_code, enters_as, enters_method, StepsTo, StepsAt, StaysOrFirst}
 use Rattle.jvm_step.proofs.Worlds.{no_frames, next_of, script_is, turned}
 

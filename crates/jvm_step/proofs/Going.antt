@@ -18,19 +18,19 @@ use Rattle.jvm_frames.specs.Frames.{NumberedFrame, NumberedFrames, IsAt}
 use Rattle.jvm_world.specs.declared.world.World.{World}
 use Rattle.jvm_world.specs.Holding.{opened}
 use Rattle.jvm_world.specs.View.{History, Means, Moves, IsKept, world_of}
-use Rattle.jvm_unwind.specs.declared.turn.Turn.{Turn}
-use Rattle.jvm_unwind.specs.declared.turn.Turn.TheVariants as turn
-use Rattle.jvm_unwind.specs.Turns.{frame_of, frames_on, row_at}
-use Rattle.jvm_unwind.proofs.Left.{with_some}
-use Rattle.jvm_invokes.specs.Invoked.{IsOfMethod}
-use Rattle.jvm_act.specs.declared.methods.MethodCode.{MethodCode}
-use Rattle.jvm_act.specs.Acts.{RunsCode, acting, throwing_row}
-use Rattle.jvm_act.specs.Codes.{held, IsHeld}
-use Rattle.jvm_act.specs.Laws as laws
-use Rattle.jvm_act.specs.Methods.{IsCodeOf, HasNoCode}
-use Rattle.jvm_act.specs.Standing.{AreFramesOf}
-use Rattle.jvm_act.specs.Turned.{TurnedTo, Turned}
-use Rattle.jvm_initialization.specs.Begins.{AreWhole}
+use Rattle.jvm_lines.specs.Below.{Turn}
+use Rattle.jvm_lines.specs.Below.jvm_unwind_declared_turn_Turn_TheVariants as turn
+use Rattle.jvm_lines.specs.Below.{frame_of, frames_on, row_at}
+use Rattle.jvm_lines.proofs.Below.{with_some}
+use Rattle.jvm_lines.specs.Below.{jvm_invokes_IsOfMethod as IsOfMethod}
+use Rattle.jvm_lines.specs.Below.{MethodCode}
+use Rattle.jvm_lines.specs.Below.{RunsCode, acting, throwing_row}
+use Rattle.jvm_lines.specs.Below.{held, IsHeld}
+use Rattle.jvm_lines.specs.Below.jvm_act_Laws as laws
+use Rattle.jvm_lines.specs.Below.{IsCodeOf, HasNoCode}
+use Rattle.jvm_lines.specs.Below.{AreFramesOf}
+use Rattle.jvm_lines.specs.Below.{TurnedTo, Turned}
+use Rattle.jvm_lines.specs.Below.{AreWhole}
 use Rattle.jvm_step.specs.Steps.{calling}
 use Rattle.jvm_lines.specs.Lines.{ReachesLine}
 use Rattle.jvm_step.specs.Going.{GoesTo}

@@ -9,15 +9,15 @@ use Rattle.class_link.specs.Symbols.{kind_of}
 use Rattle.jvm_frames.specs.Frames.{NumberedFrames}
 use Rattle.jvm_world.specs.declared.world.World.{World}
 use Rattle.jvm_world.specs.View.{IsKept}
-use Rattle.jvm_act.specs.Calls.{StandsIn}
-use Rattle.jvm_rows.specs.Plain.{means_row}
-use Rattle.jvm_unwind.specs.declared.turn.Turn.{Turn}
-use Rattle.jvm_unwind.specs.declared.turn.Turn.TheVariants as turn
-use Rattle.jvm_unwind.specs.Turns.{row_at}
-use Rattle.jvm_unwind.proofs.Left.{with_some}
-use Rattle.jvm_act.specs.declared.methods.MethodCode.{MethodCode}
-use Rattle.jvm_act.specs.Acts.{IsLeft, Leaves, TurnsAs, acting}
-use Rattle.jvm_act.specs.Turned.{TurnedTo, Turned}
+use Rattle.jvm_lines.specs.Below.{StandsIn}
+use Rattle.jvm_lines.specs.Below.{means_row}
+use Rattle.jvm_lines.specs.Below.{Turn}
+use Rattle.jvm_lines.specs.Below.jvm_unwind_declared_turn_Turn_TheVariants as turn
+use Rattle.jvm_lines.specs.Below.{row_at}
+use Rattle.jvm_lines.proofs.Below.{with_some}
+use Rattle.jvm_lines.specs.Below.{MethodCode}
+use Rattle.jvm_lines.specs.Below.{IsLeft, Leaves, TurnsAs, acting}
+use Rattle.jvm_lines.specs.Below.{TurnedTo, Turned}
 
 -- Two rows that do the same at the running frame come to the same.
 turned_along : (p : List Info) (go other : rules.World → Effect) (t : Turn) (new : NumberedFrames) (w u : World) → ((v : rules.World) → go v ≡ other v) → TurnedTo p other t new w u → TurnedTo p go t new w u

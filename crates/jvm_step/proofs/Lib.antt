@@ -8,3 +8,4 @@ pub mod Ends
 pub mod Kept
 pub mod Going
 pub mod Stepped
+pub mod Below

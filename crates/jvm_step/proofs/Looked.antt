@@ -11,10 +11,10 @@ use Rattle.class_link.specs.Info.{Info}
 use Rattle.class_table.specs.Table.{names, name_or_none}
 use Rattle.lib_core.specs.declared.known.Known.{Known}
 use Rattle.lib_core.specs.Known.{IsKnown}
-use Rattle.jvm_receivers.specs.Objects.{FindsClass, text_name}
+use Rattle.jvm_lines.specs.Below.{FindsClass, text_name}
 use Rattle.jvm_world.specs.Classes.{machine_names}
 use Rattle.jvm_world.specs.Finding.{lacks}
-use Rattle.jvm_natives.specs.Natives.{made_names}
+use Rattle.jvm_lines.specs.Below.{made_names}
 use Rattle.jvm_step.specs.Tables.{looked_up}
 
 lacks_either : (p : Look) (ns ms : List Name) → lacks p (ns ++ ms) ≡ (lacks p ns || lacks p ms)

@@ -24,21 +24,21 @@ use Rattle.jvm_values.specs.declared.object.Object.{Object}
 use Rattle.jvm_frames.specs.Frames.{NumberedFrames, instance_args}
 use Rattle.jvm_world.specs.declared.world.World.{World}
 use Rattle.jvm_world.specs.View.{Means, Moves, Allocates, object_of}
-use Rattle.jvm_unwind.specs.declared.turn.Turn.{Turn}
-use Rattle.jvm_unwind.specs.declared.turn.Turn.TheVariants as turn
-use Rattle.jvm_unwind.specs.Turns.{frames_of}
-use Rattle.jvm_initialization.specs.declared.ready.Readied.{Readied}
-use Rattle.jvm_initialization.specs.declared.ready.Readied.TheVariants as readied
-use Rattle.jvm_initialization.specs.Begins.{AreWhole, StaysOrBegins}
-use Rattle.jvm_initialization.specs.Needs.{Use, using, ReadiesTo}
+use Rattle.jvm_lines.specs.Below.{Turn}
+use Rattle.jvm_lines.specs.Below.jvm_unwind_declared_turn_Turn_TheVariants as turn
+use Rattle.jvm_lines.specs.Below.{frames_of}
+use Rattle.jvm_lines.specs.Below.{Readied}
+use Rattle.jvm_lines.specs.Below.jvm_initialization_declared_ready_Readied_TheVariants as readied
+use Rattle.jvm_lines.specs.Below.{AreWhole, StaysOrBegins}
+use Rattle.jvm_lines.specs.Below.{Use, using, ReadiesTo}
 use Rattle.jvm_layout.specs.declared.layout.Layout.{Layout}
 use Rattle.jvm_layout.specs.Layouts.{IsLayoutOf}
 use Rattle.jvm_link.specs.declared.site.Site.{Site}
 use Rattle.jvm_link.specs.Sites.{IsMethod}
-use Rattle.jvm_invokes.specs.declared.heads.Head.{Head}
-use Rattle.jvm_invokes.specs.Heads.{StandsAt, IsHead}
-use Rattle.jvm_invokes.proofs.Standing.{stands}
-use Rattle.jvm_act.specs.Turned.{TurnedTo}
+use Rattle.jvm_lines.specs.Below.{Head}
+use Rattle.jvm_lines.specs.Below.{StandsAt, IsHead}
+use Rattle.jvm_lines.proofs.Below.{stands}
+use Rattle.jvm_lines.specs.Below.{TurnedTo}
 use Rattle.jvm_step.specs.Steps.{enters_method, calls_on, with_made, makes, readies, calls_by, calls_fit, StepsTo, StepsAt}
 use Rattle.jvm_step.proofs.Worlds.{no_frames, instance_is, after, along, turns}
 

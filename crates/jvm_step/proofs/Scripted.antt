@@ -31,17 +31,17 @@ use Rattle.class_family.proofs.Levels.{rising_step}
 use Rattle.jvm_frames.specs.Frames.{NumberedFrame, NumberedFrames}
 use Rattle.jvm_world.specs.declared.world.World.{World}
 use Rattle.jvm_world.specs.View.{Means, Moves, IsWorldOf, call_of}
-use Rattle.jvm_unwind.specs.declared.turn.Turn.{Turn}
-use Rattle.jvm_unwind.specs.declared.turn.Turn.TheVariants as turn
-use Rattle.jvm_initialization.specs.Begins.{AreWhole, StaysOrBegins}
+use Rattle.jvm_lines.specs.Below.{Turn}
+use Rattle.jvm_lines.specs.Below.jvm_unwind_declared_turn_Turn_TheVariants as turn
+use Rattle.jvm_lines.specs.Below.{AreWhole, StaysOrBegins}
 use Rattle.jvm_link.specs.declared.site.Site.{Site}
 use Rattle.jvm_link.specs.Sites.{IsMethod, OwnDeclared}
-use Rattle.jvm_invokes.specs.Calls.{IsSite}
-use Rattle.jvm_invokes.specs.Invoked as invoked
-use Rattle.jvm_invokes.proofs.Standing.{stands}
-use Rattle.jvm_act.specs.Turned.{TurnedTo}
-use Rattle.jvm_act.specs.Standing.{HasNext, Waits, AreFramesOf}
-use Rattle.jvm_act.proofs.Framed.{begins_keep_frames}
+use Rattle.jvm_lines.specs.Below.{IsSite}
+use Rattle.jvm_lines.specs.Below.jvm_invokes_Invoked as invoked
+use Rattle.jvm_lines.proofs.Below.{stands}
+use Rattle.jvm_lines.specs.Below.{TurnedTo}
+use Rattle.jvm_lines.specs.Below.{HasNext, Waits, AreFramesOf}
+use Rattle.jvm_lines.proofs.Below.{begins_keep_frames}
 use Rattle.jvm_step.specs.Steps.{on_next, enters_as, enters_method, calls_on, calls_static, with_made, makes, calls_by, calls_fit, calls_named, calling, CallsOwn, StepsTo, StepsAt}
 use Rattle.jvm_step.proofs.Worlds.{script_is, after, along}
 use Rattle.jvm_step.proofs.Entered.{no_callers}

@@ -9,10 +9,10 @@ use Rattle.class_table.specs.declared.scripted.Call as code
 use Rattle.jvm_frames.specs.Frames.{NumberedFrame, NumberedFrames}
 use Rattle.jvm_world.specs.declared.world.World.{World}
 use Rattle.jvm_world.specs.View.{Means, call_of, world_of}
-use Rattle.jvm_unwind.specs.declared.turn.Turn.{Turn}
-use Rattle.jvm_unwind.specs.declared.turn.Turn.TheVariants as turn
-use Rattle.jvm_unwind.specs.Turns.{frames_on, frames_of, ComesAt, TurnsTo}
-use Rattle.jvm_act.specs.Turned.{TurnedTo}
+use Rattle.jvm_lines.specs.Below.{Turn}
+use Rattle.jvm_lines.specs.Below.jvm_unwind_declared_turn_Turn_TheVariants as turn
+use Rattle.jvm_lines.specs.Below.{frames_on, frames_of, ComesAt, TurnsTo}
+use Rattle.jvm_lines.specs.Below.{TurnedTo}
 
 -- ---- what a world means
 

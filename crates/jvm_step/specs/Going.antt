@@ -8,9 +8,9 @@ use Rattle.class_link.specs.Info.{Info}
 use Rattle.class_table.specs.Table.{look}
 use Rattle.jvm_frames.specs.Frames.{NumberedFrames}
 use Rattle.jvm_world.specs.declared.world.World.{World}
-use Rattle.jvm_unwind.specs.declared.turn.Turn.{Turn}
-use Rattle.jvm_unwind.specs.Turns.{frames_of}
-use Rattle.jvm_act.specs.Turned.{TurnedTo}
+use Rattle.jvm_lines.specs.Below.{Turn}
+use Rattle.jvm_lines.specs.Below.{frames_of}
+use Rattle.jvm_lines.specs.Below.{TurnedTo}
 
 -- In each world of the definitions, over these frames.
 abbrev pub going : List Info → Limits → Option ℕ → NumberedFrames → def.World → Effect

@@ -3,3 +3,4 @@ pub mod Tables
 pub mod Programs
 pub mod Machines
 pub mod Going
+pub mod Below

@@ -15,8 +15,8 @@ use Rattle.jvm_frames.specs.Frames.{NumberedFrame}
 use Rattle.jvm_world.specs.declared.world.World.{World}
 use Rattle.jvm_world.specs.Holding.{opened}
 use Rattle.jvm_world.specs.View.{Means, IsWorldOf}
-use Rattle.jvm_unwind.specs.Turns.{frames_of}
-use Rattle.jvm_act.specs.Standing.{AreFramesOf}
+use Rattle.jvm_lines.specs.Below.{frames_of}
+use Rattle.jvm_lines.specs.Below.{AreFramesOf}
 use Rattle.jvm_step.specs.declared.machine.Machine.{Machine}
 use Rattle.jvm_step.specs.declared.machine.StateEnd.{StateEnd}
 use Rattle.jvm_step.specs.declared.machine.StateEnd.TheVariants as end

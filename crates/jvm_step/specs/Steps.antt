@@ -23,12 +23,12 @@ use Rattle.class_table.specs.Table.{look, name_at}
 use Rattle.class_family.specs.Families.{rising_at}
 use Rattle.jvm_frames.specs.Frames.{NumberedFrames, first_frame}
 use Rattle.jvm_world.specs.declared.world.World.{World}
-use Rattle.jvm_unwind.specs.declared.turn.Turn.{Turn}
-use Rattle.jvm_calls.specs.declared.calling.Callee.{Callee}
-use Rattle.jvm_initialization.specs.Needs.{Use}
+use Rattle.jvm_lines.specs.Below.{Turn}
+use Rattle.jvm_lines.specs.Below.{Callee}
+use Rattle.jvm_lines.specs.Below.{Use}
 use Rattle.jvm_link.specs.declared.site.Site.{Site}
 use Rattle.jvm_link.specs.Sites.{IsMethod, OwnDeclared}
-use Rattle.jvm_act.specs.Turned.{TurnedTo}
+use Rattle.jvm_lines.specs.Below.{TurnedTo}
 use Rattle.jvm_step.specs.declared.calling.ClassUse.{ClassUse}
 use Rattle.jvm_step.specs.declared.calling.ClassUse.TheVariants as how
 

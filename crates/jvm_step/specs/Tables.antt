@@ -2,12 +2,12 @@
 use Rattle.std.specs.Prelude.{List, ◌++◌}
 use Rattle.program_rules.specs.Names.{Name}
 use Rattle.class_link.specs.Info.{Info}
-use Rattle.jvm_receivers.specs.Objects.{AreLookups}
-use Rattle.jvm_members.specs.Slots.{AreSlots}
-use Rattle.jvm_members.specs.Layouts.{AreLayouts}
+use Rattle.jvm_lines.specs.Below.{AreLookups}
+use Rattle.jvm_lines.specs.Below.{AreSlots}
+use Rattle.jvm_lines.specs.Below.{AreLayouts}
 use Rattle.jvm_world.specs.Classes.{machine_names, AreMachineClasses}
-use Rattle.jvm_natives.specs.Natives.{made_names, AreNatives}
-use Rattle.jvm_act.specs.Codes.{AreCodes}
+use Rattle.jvm_lines.specs.Below.{made_names, AreNatives}
+use Rattle.jvm_lines.specs.Below.{AreCodes}
 use Rattle.jvm_step.specs.declared.tables.Tables.{Tables}
 
 -- The names of the classes that are looked up: those of which the machine makes objects by itself,

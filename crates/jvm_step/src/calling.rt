@@ -6,8 +6,8 @@ ghost use Rattle.program_rules.specs.Resolution.{same_bool};
 ghost use Rattle.machine_rules.specs.Script.{needs_static};
 ghost use Rattle.class_table.specs.Faults.{HasRightKinds};
 ghost use Rattle.class_table.specs.Table.{look};
-ghost use Rattle.jvm_initialization.specs.Begins.{AreWhole, StaysOrBegins};
-ghost use Rattle.jvm_invokes.specs.Calls.{IsSite};
+ghost use Rattle.jvm_lines.specs.Below.{AreWhole, StaysOrBegins};
+ghost use Rattle.jvm_lines.specs.Below.{IsSite};
 ghost use Rattle.jvm_world.specs.View.{IsWorldOf, IsKept};
 ghost use Rattle.jvm_step.specs.Steps.{StepsAt, calls_by, calls_fit, calls_on, readies, uses, uses_ready};
 
@@ -18,10 +18,8 @@ use class_model::Memory;
 use class_model::flags::is_static;
 use class_table::{CallKind, Program};
 use jvm_frames::Frames;
-use jvm_initialization::{Readied, make_ready};
-use jvm_invokes::head_at;
+use jvm_lines::{Readied, Turn, head_at, make_ready};
 use jvm_link::Site;
-use jvm_unwind::Turn;
 use jvm_world::World;
 use std::alloc::Global;
 

@@ -2,19 +2,17 @@
 
 ghost use Rattle.std.specs.Prelude.{◌≡◌, None, [], true, false, nat_le, slice_get, IfOk, OnOk, IsSome};
 ghost use Rattle.class_table.specs.Table.{name_at};
-ghost use Rattle.jvm_initialization.specs.Begins.{AreWhole, StaysOrBegins};
+ghost use Rattle.jvm_lines.specs.Below.{AreWhole, StaysOrBegins};
 ghost use Rattle.jvm_frames.specs.Frames.{instance_args, instance_words};
-ghost use Rattle.jvm_invokes.specs.Calls.{IsSite};
+ghost use Rattle.jvm_lines.specs.Below.{IsSite};
 ghost use Rattle.jvm_world.specs.View.{IsWorldOf, IsKept};
 ghost use Rattle.jvm_step.specs.Steps.{StaysOrFirst, StepsAt, StepsTo, enters_code, enters_method};
 
 use class_model::Memory;
 use class_table::Program;
-use jvm_calls::Callee;
 use jvm_frames::Frames;
-use jvm_invokes::{Body, head_at};
+use jvm_lines::{Body, Callee, Turn, head_at};
 use jvm_link::Site;
-use jvm_unwind::Turn;
 use jvm_world::World;
 use program_rules::Fault;
 use std::alloc::Global;

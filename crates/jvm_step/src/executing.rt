@@ -3,25 +3,21 @@
 ghost use Rattle.std.specs.Prelude.{IfOk, OnOk};
 ghost use Rattle.class_table.specs.Faults.{HasRightKinds};
 ghost use Rattle.class_table.specs.Table.{look};
-ghost use Rattle.jvm_members.specs.Layouts.{AreLayouts};
-ghost use Rattle.jvm_members.specs.Slots.{AreSlots};
-ghost use Rattle.jvm_natives.specs.Natives.{AreNatives};
-ghost use Rattle.jvm_receivers.specs.Objects.{AreLookups};
+ghost use Rattle.jvm_lines.specs.Below.{AreLayouts};
+ghost use Rattle.jvm_lines.specs.Below.{AreSlots};
+ghost use Rattle.jvm_lines.specs.Below.{AreNatives};
+ghost use Rattle.jvm_lines.specs.Below.{AreLookups};
 ghost use Rattle.jvm_world.specs.View.{IsWorldOf, IsKept};
-ghost use Rattle.jvm_act.specs.Acts.{RunsCode, acting};
-ghost use Rattle.jvm_act.specs.Standing.{AreFramesOf};
-ghost use Rattle.jvm_act.specs.Turned.{Turned};
+ghost use Rattle.jvm_lines.specs.Below.{RunsCode, acting};
+ghost use Rattle.jvm_lines.specs.Below.{AreFramesOf};
+ghost use Rattle.jvm_lines.specs.Below.{Turned};
 ghost use Rattle.jvm_step.specs.Machines.{HasFewMonitors};
 
 use class_family::Walker;
 use class_model::Memory;
 use class_table::Program;
-use jvm_act::{Acted, MethodCode, act, take_call};
 use jvm_frames::Frames;
-use jvm_members::{Layouts, Slots};
-use jvm_natives::Natives;
-use jvm_receivers::Lookups;
-use jvm_unwind::Turn;
+use jvm_lines::{Acted, Layouts, Lookups, MethodCode, Natives, Slots, Turn, act, take_call};
 use jvm_world::World;
 use std::alloc::Global;
 

@@ -11,6 +11,11 @@ mod script;
 mod stepping;
 mod tables;
 
+pub use jvm_lines::{
+    CatchRow, Effect, Layouts, Lookups, MethodCode, MethodMarks, Natives, Need, Slots, Turn,
+    act_beyond, find_handler, is_marked, marks_of, name_at, need_for, note_line, op_at,
+    store_reference,
+};
 pub use machine::{Machine, StateEnd, Step};
 pub use script::call_next;
 pub use stepping::step;

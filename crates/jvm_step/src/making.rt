@@ -3,8 +3,8 @@
 ghost use Rattle.std.specs.Prelude.{◌≡◌, ◌<◌, None, [], length, IfOk, OnOk};
 ghost use Rattle.program_rules.specs.Programs.{family};
 ghost use Rattle.class_table.specs.Table.{look, name_at};
-ghost use Rattle.jvm_initialization.specs.Begins.{AreWhole, StaysOrBegins};
-ghost use Rattle.jvm_invokes.specs.Calls.{IsSite};
+ghost use Rattle.jvm_lines.specs.Below.{AreWhole, StaysOrBegins};
+ghost use Rattle.jvm_lines.specs.Below.{IsSite};
 ghost use Rattle.jvm_world.specs.View.{IsWorldOf, IsKept};
 ghost use Rattle.jvm_step.specs.Steps.{StepsAt, makes};
 
@@ -13,8 +13,8 @@ use class_model::{ClassId, Memory, Seq};
 use class_table::Program;
 use jvm_frames::Frames;
 use jvm_layout::{Layout, layout_of};
+use jvm_lines::Turn;
 use jvm_link::Site;
-use jvm_unwind::Turn;
 use jvm_values::{ObjKind, Object};
 use jvm_world::World;
 use std::alloc::Global;

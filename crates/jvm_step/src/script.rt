@@ -4,10 +4,10 @@ ghost use Rattle.std.specs.Prelude.{◌≡◌, ◌<◌, None, length, IfOk, IfSo
 ghost use Rattle.program_rules.specs.Names.{plain_descriptor};
 ghost use Rattle.class_table.specs.Faults.{HasRightKinds};
 ghost use Rattle.class_table.specs.Table.{look};
-ghost use Rattle.jvm_act.specs.Standing.{AreFramesOf};
-ghost use Rattle.jvm_act.specs.Turned.{TurnedTo};
-ghost use Rattle.jvm_initialization.specs.Begins.{AreWhole, StaysOrBegins};
-ghost use Rattle.jvm_invokes.specs.Calls.{IsSite};
+ghost use Rattle.jvm_lines.specs.Below.{AreFramesOf};
+ghost use Rattle.jvm_lines.specs.Below.{TurnedTo};
+ghost use Rattle.jvm_lines.specs.Below.{AreWhole, StaysOrBegins};
+ghost use Rattle.jvm_lines.specs.Below.{IsSite};
 ghost use Rattle.jvm_link.specs.Sites.{OwnDeclared};
 ghost use Rattle.jvm_world.specs.View.{IsWorldOf, IsKept};
 ghost use Rattle.jvm_step.specs.Steps.{CallsOwn, calling};
@@ -17,8 +17,8 @@ use class_family::Walker;
 use class_model::{ClassId, Memory, Name};
 use class_table::{CallKind, Program};
 use jvm_frames::Frames;
+use jvm_lines::Turn;
 use jvm_link::{Site, own_method};
-use jvm_unwind::Turn;
 use jvm_world::World;
 use std::alloc::Global;
 

@@ -4,17 +4,14 @@ ghost use Rattle.std.specs.Prelude.{IfOk};
 ghost use Rattle.class_table.specs.Table.{look};
 ghost use Rattle.jvm_world.specs.Classes.{AreMachineClasses};
 ghost use Rattle.jvm_world.specs.Finding.{Finds};
-ghost use Rattle.jvm_natives.specs.Natives.{AreNatives};
+ghost use Rattle.jvm_lines.specs.Below.{AreNatives};
 ghost use Rattle.jvm_step.specs.Tables.{AreNamedOf, AreTablesOf, looked_up};
 
 use class_family::Walker;
 use class_model::Memory;
 use class_table::Program;
-use jvm_act::Codes;
+use jvm_lines::{Codes, Layouts, Lookups, Natives, Owned, Slots};
 use jvm_link::{References, Selections};
-use jvm_members::{Layouts, Slots};
-use jvm_natives::Natives;
-use jvm_receivers::{Lookups, Owned};
 use jvm_world::MachineClasses;
 use std::alloc::Global;
 

@@ -13,7 +13,7 @@ use Rattle.class_link.specs.Info.{Info, class_of}
 use Rattle.class_link.specs.View.{linked_of, method_of, code_of, body_of, row_of}
 use Rattle.class_table.specs.Table.{look, class_at, number_of}
 use Rattle.class_table.specs.Faults.{HasRightKinds}
-use Rattle.jvm_step.specs.Programs.{HasRoomToLand, HaveRoomToLand, IsRunnable}
+use Rattle.jvm_run.specs.Below.{HasRoomToLand, HaveRoomToLand, IsRunnable}
 use Rattle.machine_answers.specs.Landing.{HasRoomBody, HasRoom, HaveRoom}
 
 -- ---- one more of those before a place

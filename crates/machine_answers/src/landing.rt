@@ -2,7 +2,7 @@
 
 ghost use Rattle.std.specs.Prelude.{◌≡◌, true};
 ghost use Rattle.class_table.specs.Table.{look};
-ghost use Rattle.jvm_step.specs.Programs.{HaveRoomToLand};
+ghost use Rattle.jvm_run.specs.Below.{HaveRoomToLand};
 ghost use Rattle.machine_answers.specs.Landing.{HasRoom, HaveRoom};
 
 use class_link::{LinkedBody, LinkedMethod};

@@ -2,14 +2,13 @@
 
 ghost use Rattle.std.specs.Prelude.{◌<◌, ◌^◌};
 ghost use Rattle.class_table.specs.Table.{look};
-ghost use Rattle.jvm_step.specs.Programs.{IsRunnable};
-ghost use Rattle.jvm_step.specs.Tables.{AreTablesOf};
+ghost use Rattle.jvm_run.specs.Below.{IsRunnable};
+ghost use Rattle.jvm_run.specs.Below.{AreTablesOf};
 
 use crate::case::{Case, case_of};
 use class_model::{Cause, Memory, Name, Outcome};
 use class_table::{Program, Test};
-use jvm_run::{Ending, RunResult, execute};
-use jvm_step::Tables;
+use jvm_run::{Ending, RunResult, Tables, execute};
 use mt_edge::Meter;
 use std::alloc::Global;
 

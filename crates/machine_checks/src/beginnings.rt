@@ -4,12 +4,12 @@ ghost use Rattle.std.specs.Prelude.{◌<◌, length, IfOk};
 ghost use Rattle.class_table.specs.Faults.{HasRightKinds};
 ghost use Rattle.class_table.specs.Table.{look};
 ghost use Rattle.jvm_world.specs.View.{IsWorldOf};
-ghost use Rattle.jvm_initialization.specs.Needs.{IsWithin, TellsNeed};
+ghost use Rattle.jvm_run.specs.Below.{IsWithin, TellsNeed};
 
 use class_family::Walker;
 use class_model::{ClassId, Memory};
 use class_table::Program;
-use jvm_initialization::Need;
+use jvm_run::Need;
 use jvm_world::World;
 
 /// `need_for` of `jvm_initialization`.
@@ -25,6 +25,6 @@ pub fn need_for(
     ensures need { IfOk result (TellsNeed p.now world.now class.0) }
     ensures within { IfOk result (IsWithin p.now) }
 {
-    let need = jvm_initialization::need_for(world, p, walker, class)?;
+    let need = jvm_run::need_for(world, p, walker, class)?;
     Ok(need)
 }

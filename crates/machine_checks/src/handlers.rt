@@ -2,12 +2,12 @@
 
 ghost use Rattle.std.specs.Prelude.{All, IfOk, OnOk};
 ghost use Rattle.class_table.specs.Seen.{IsConsultedOf};
-ghost use Rattle.jvm_unwind.specs.Rows.{IsCatchRow};
-ghost use Rattle.jvm_unwind.specs.Searches.{IsThrown, Finds};
+ghost use Rattle.jvm_run.specs.Below.{IsCatchRow};
+ghost use Rattle.jvm_run.specs.Below.{IsThrown, Finds};
 
 use class_model::{ClassId, Memory};
 use class_table::{Consulted, Program};
-use jvm_unwind::CatchRow;
+use jvm_run::CatchRow;
 
 /// `find_handler` of `jvm_unwind`.
 pub fn find_handler(
@@ -24,6 +24,6 @@ pub fn find_handler(
     ensures kept { OnOk result (IsConsultedOf program.now seen.new) }
 {
     let place = at;
-    let to = jvm_unwind::find_handler(program, seen, rows, place, thrown)?;
+    let to = jvm_run::find_handler(program, seen, rows, place, thrown)?;
     Ok(to)
 }

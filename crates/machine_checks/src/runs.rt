@@ -4,14 +4,13 @@ ghost use Rattle.std.specs.Prelude.{◌≡◌, ◌+◌, ◌≤◌, ◌<◌, ◌^
 ghost use Rattle.machine_rules.specs.Runs.{run_of};
 ghost use Rattle.class_table.specs.Table.{look};
 ghost use Rattle.jvm_world.specs.View.{test_of};
-ghost use Rattle.jvm_step.specs.Programs.{IsRunnable};
+ghost use Rattle.jvm_run.specs.Below.{IsRunnable};
 ghost use Rattle.jvm_run.specs.Result.{IsResultOf};
-ghost use Rattle.jvm_step.specs.Tables.{AreTablesOf};
+ghost use Rattle.jvm_run.specs.Below.{AreTablesOf};
 
 use class_model::Memory;
 use class_table::{Program, Test};
-use jvm_run::RunResult;
-use jvm_step::Tables;
+use jvm_run::{RunResult, Tables};
 use machine_rules::Limits;
 use mt_edge::MeterPart;
 use std::alloc::Global;

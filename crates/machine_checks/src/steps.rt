@@ -5,13 +5,13 @@ ghost use Rattle.machine_rules.specs.State.{start};
 ghost use Rattle.class_table.specs.Table.{look};
 ghost use Rattle.jvm_world.specs.View.{test_of};
 ghost use Rattle.jvm_world.specs.Classes.{AreMachineClasses};
-ghost use Rattle.jvm_step.specs.Machines.{Answers, HasFewMonitors, HasMeaning, IsMachineOf, IsMachineStill, StandsFor};
-ghost use Rattle.jvm_step.specs.Programs.{IsRunnable};
-ghost use Rattle.jvm_step.specs.Tables.{AreTablesOf};
+ghost use Rattle.jvm_run.specs.Below.{Answers, HasFewMonitors, HasMeaning, IsMachineOf, IsMachineStill, StandsFor};
+ghost use Rattle.jvm_run.specs.Below.{IsRunnable};
+ghost use Rattle.jvm_run.specs.Below.{AreTablesOf};
 
 use class_model::Memory;
 use class_table::{Program, Test};
-use jvm_step::{Machine, Step, Tables};
+use jvm_run::{Machine, Step, Tables};
 use jvm_world::MachineClasses;
 use machine_rules::Limits;
 use std::alloc::Global;
@@ -51,6 +51,6 @@ pub fn step(
     ensures still { OnOk result (IsMachineStill p.now m.old m.new) }
     ensures tables { AreTablesOf p.now tables.new }
 {
-    let done = jvm_step::step(m, alloc, p, tables)?;
+    let done = jvm_run::step(m, alloc, p, tables)?;
     Ok(done)
 }

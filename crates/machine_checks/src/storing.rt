@@ -4,13 +4,13 @@ ghost use Rattle.std.specs.Prelude.{◌+◌, ◌<◌, ◌^◌, IfOk, IfSome, OnO
 ghost use Rattle.program_rules.specs.declared.operation.Element.TheVariants.{ReferenceElement};
 ghost use Rattle.class_table.specs.Table.{look};
 ghost use Rattle.jvm_world.specs.View.{IsWorldOf, IsKept};
-ghost use Rattle.jvm_rows.specs.Effects.{Runs};
-ghost use Rattle.jvm_rows.specs.Storing.{storing_element};
+ghost use Rattle.jvm_run.specs.Below.{Runs};
+ghost use Rattle.jvm_run.specs.Below.{storing_element};
 
 use class_model::Memory;
 use class_table::Program;
 use jvm_frames::Frames;
-use jvm_rows::Effect;
+use jvm_run::Effect;
 use jvm_world::World;
 use std::alloc::Global;
 
@@ -27,6 +27,6 @@ pub fn store_reference(
         frames.old frames.new world.old world.new) }
     ensures kept { OnOk result (IsKept p.now world.old world.new) }
 {
-    let done = jvm_type_rows::store_reference(frames, world, alloc, p)?;
+    let done = jvm_run::store_reference(frames, world, alloc, p)?;
     Ok(done)
 }

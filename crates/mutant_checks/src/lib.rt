@@ -1,5 +1,4 @@
-//! What the wrong bodies of mutants, their runs, claims, coverage and report are tried on, and tests of
-//! these.
+//! What the wrong bodies of mutants, their runs, claims and coverage are tried on, and tests of these.
 //!
 //! Each function outside the tests is a call of a crate below with the same contract. A wrong body in
 //! its place that is refused would be refused there too.
@@ -12,9 +11,6 @@ mod claims_tests;
 mod list_calls;
 #[cfg(test)]
 mod list_tests;
-mod report_calls;
-#[cfg(test)]
-mod report_tests;
 mod run_calls;
 #[cfg(test)]
 mod samples;
@@ -31,7 +27,6 @@ mod tests;
 pub use calls::{apply, edited_parts};
 pub use claims::step;
 pub use list_calls::{class_mutants, row};
-pub use report_calls::{report_text, summary_text};
 pub use run_calls::{verdicts, viable};
 pub use selected::{cells, reaches};
 pub use steps::{index_of, long_enough, places};

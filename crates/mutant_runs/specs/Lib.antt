@@ -10,3 +10,4 @@ pub mod Laws
 pub mod Put
 pub mod Kept
 pub mod Codes
+pub mod Below

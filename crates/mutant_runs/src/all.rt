@@ -1,7 +1,7 @@
 //! Which mutants are viable, and the verdicts on all.
 
 ghost use Rattle.std.specs.Prelude.{◌≡◌, ◌+◌, ◌≤◌, ◌<◌, ◌^◌, All, length, IfOk, OnOk};
-ghost use Rattle.jvm_step.specs.Tables.{AreNamedOf};
+ghost use Rattle.jvm_run.specs.Below.{AreNamedOf};
 ghost use Rattle.mutant_runs.specs.Programs.{files_of, IsMutantOf};
 ghost use Rattle.mutant_runs.specs.Ready.{IsReady};
 ghost use Rattle.mutant_runs.specs.Promises.{AreViable, AreVerdicts, steps_for_all};
@@ -11,7 +11,7 @@ use crate::on_mutant::is_viable;
 use crate::test_set::TestSet;
 use class_model::{Memory, Seq};
 use class_table::Program;
-use jvm_step::Tables;
+use jvm_run::Tables;
 use mt_edge::MeterPart;
 use mutator_ops::{Mutant, Verdict};
 use std::alloc::Global;

@@ -1,7 +1,7 @@
 //! The verdict on one mutant, by the tests that reach its class and line.
 
 ghost use Rattle.std.specs.Prelude.{◌≡◌, ◌+◌, ◌≤◌, ◌<◌, ◌^◌, true, IfOk, OnOk};
-ghost use Rattle.jvm_step.specs.Tables.{AreNamedOf};
+ghost use Rattle.jvm_run.specs.Below.{AreNamedOf};
 ghost use Rattle.mutant_runs.specs.Files.{IsKept};
 ghost use Rattle.mutant_runs.specs.Programs.{files_of, IsMutantOf};
 ghost use Rattle.mutant_runs.specs.Promises.{AreCovering, IsVerdictBy, steps_of, TellsViable};
@@ -13,7 +13,7 @@ use crate::test_set::TestSet;
 use crate::verdict::{not_covered, not_viable};
 use class_model::{Memory, Seq};
 use class_table::Program;
-use jvm_step::Tables;
+use jvm_run::Tables;
 use line_coverage::Coverage;
 use mt_edge::MeterPart;
 use mutator_ops::{Mutant, Verdict};

@@ -3,7 +3,7 @@
 ghost use Rattle.std.specs.Prelude.{◌≡◌, ◌+◌, ◌≤◌, ◌<◌, ◌^◌, true, All, length, IfOk, OnOk};
 ghost use Rattle.class_link.specs.Info.{IsInfo};
 ghost use Rattle.class_table.specs.Table.{look, IsProgram};
-ghost use Rattle.jvm_step.specs.Tables.{AreNamedOf, AreTablesOf};
+ghost use Rattle.jvm_run.specs.Below.{AreNamedOf, AreTablesOf};
 ghost use Rattle.type_verifier.specs.Programs.{AreNumbered, IsLibraryAccepted};
 ghost use Rattle.mutant_runs.specs.Edited.{IsEditOfMutant, TellsAccepted};
 ghost use Rattle.mutant_runs.specs.Files.{IsKept};
@@ -21,7 +21,7 @@ use crate::tests_run::run_tests;
 use crate::verdict::verdict_by;
 use class_model::{ClassId, Memory, Seq};
 use class_table::{ClassBody, ClassInfo, Program, Test};
-use jvm_step::Tables;
+use jvm_run::Tables;
 use machine_rules::Limits;
 use mt_edge::MeterPart;
 use mutant_apply::parts_are_of_applied;

@@ -3,15 +3,14 @@
 ghost use Rattle.std.specs.Prelude.{◌≡◌, ◌+◌, ◌≤◌, ◌<◌, ◌^◌, IfOk, OnOk};
 ghost use Rattle.machine_rules.specs.Runs.{limit_of};
 ghost use Rattle.class_table.specs.Table.{look};
-ghost use Rattle.jvm_step.specs.Programs.{IsRunnable};
-ghost use Rattle.jvm_step.specs.Tables.{AreTablesOf};
+ghost use Rattle.jvm_run.specs.Below.{IsRunnable};
+ghost use Rattle.jvm_run.specs.Below.{AreTablesOf};
 ghost use Rattle.mutant_runs.specs.Promises.{run_in};
 ghost use Rattle.mutant_runs.specs.Runs.{detected, detected_at, detected_by, most_steps, most_limit};
 
 use class_model::{Memory, Outcome};
 use class_table::{Program, Test};
-use jvm_run::{End, execute_to_end};
-use jvm_step::Tables;
+use jvm_run::{End, Tables, execute_to_end};
 use machine_rules::Limits;
 use mt_edge::MeterPart;
 use mutator_ops::State;

@@ -2,15 +2,15 @@
 
 ghost use Rattle.std.specs.Prelude.{◌≡◌, ◌+◌, ◌≤◌, ◌<◌, ◌^◌, All, length, IfOk, OnOk};
 ghost use Rattle.class_table.specs.Table.{look};
-ghost use Rattle.jvm_step.specs.Programs.{IsRunnable};
-ghost use Rattle.jvm_step.specs.Tables.{AreTablesOf};
+ghost use Rattle.jvm_run.specs.Below.{IsRunnable};
+ghost use Rattle.jvm_run.specs.Below.{AreTablesOf};
 ghost use Rattle.mutant_runs.specs.Promises.{IsKiller, steps_run};
 ghost use Rattle.mutant_runs.specs.Runs.{most_steps};
 
 use crate::one_run::run_test;
 use class_model::Memory;
 use class_table::{Program, Test};
-use jvm_step::Tables;
+use jvm_run::Tables;
 use machine_rules::Limits;
 use mt_edge::MeterPart;
 use mutator_ops::State;

@@ -7,7 +7,7 @@ use Rattle.mutator_ops.specs.Programs.{mutants}
 use Rattle.class_link.specs.Info.{Info}
 use Rattle.class_model.specs.declared.class.ClassId.{ClassId}
 use Rattle.mutest_engine.specs.Numbers.{numbers_from, numbers_of}
-use Rattle.mutest_engine.specs.Mutation.{refuse_many_mutants, refuse_many_cells, HasTooMany}
+use Rattle.mutest_engine.specs.Made.{refuse_many_mutants, HasTooMany}
 use Rattle.mutest_engine.specs.Discovered.{refuse_many_tests}
 use Rattle.mutest_engine.specs.declared.refusal.Limit.TheVariants as limit
 use Rattle.mutest_engine.specs.declared.refusal.Refusal.{Refusal}
@@ -27,10 +27,6 @@ same_tests n m is =
 pub same_mutants : (n m : ℕ) → n ≡ u64_saturate m → refuse_many_mutants n ≡ refuse_many_mutants m
 same_mutants n m is =
     ap (λ t. if t then Err (TooMany limit.Mutants 262145) else Ok tt) (by_test 262144 n m (ltb 262144 m) refl (λ lt. omega (arith, is, lt)) (λ le. omega (arith, is, le)))
-
-pub same_cells : (n m : ℕ) → n ≡ u64_saturate m → refuse_many_cells n ≡ refuse_many_cells m
-same_cells n m is =
-    ap (λ t. if t then Err (TooMany limit.Cells 4194305) else Ok tt) (by_test 4194304 n m (ltb 4194304 m) refl (λ lt. omega (arith, is, lt)) (λ le. omega (arith, is, le)))
 
 pub too_many : (p : List Info) (count number : ℕ) (ids : List ClassId) (r told : Refusal) → numbers_of ids ≡ numbers_from 0 count → number ≡ u64_saturate (length (mutants p ids)) → Err r ≡ refuse_many_mutants number
     → stop.Refused r ≡ stop.Refused told → HasTooMany p count told

@@ -1,5 +1,5 @@
 -- What a call leaves in the sink and in the tree at its end, and how it ends.
-use Rattle.std.proofs.Common.{◌≡◌, ◌⊎◌, ℕ, suc, ◌+◌, ◌<◌, ◌≤◌, map, length, drop, get_or, List, [], ◌∷◌, ◌++◌, refl, sym, ap, ◌∙◌, inl, inr, subst, ⊎_elim, append_assoc, arith}
+use Rattle.std.proofs.Common.{◌≡◌, ◌⊎◌, ℕ, zero, suc, ◌+◌, ◌<◌, ◌≤◌, map, length, drop, get_or, List, [], ◌∷◌, ◌++◌, refl, sym, ap, ◌∙◌, inl, inr, subst, ⊎_elim, append_assoc, arith}
 use Rattle.std.specs.Prelude.{Option, None, Some, option_map, Result, Ok, Err, IfSome, IfErr, MatchResult}
 use Rattle.std.proofs.lemmas.List.{append-nil}
 use mathlib.Core.List.{IsPrefix}
@@ -22,10 +22,10 @@ use Rattle.mutest_engine.specs.Refusals.{refusal_line, MayRefuse}
 use Rattle.mutest_engine.specs.Ends.{line_of, status_of, unwritten_status, IsToldAs, IsReplaced, IsSome, CarriedOut, TextEnds, Agrees, MayEnd, AgreesUntold, MayAnswer, HaltsUntold, AnswersUntold, Finished, ReadsFailed, WritesFailed, PutsFailed, MeterRose, MeterStays, HaltRose, HaltStays, AnswerMeters, Got, Broken, BrokenOff, HalfTold, Interrupted, Prints, Allows, written, all_written, Stopped, Partly, LeavesWrites, FailsWriting, FilesAfter, writes_in}
 use Rattle.mutest_engine.specs.declared.stop.Stop.{Stop}
 use Rattle.mutest_engine.specs.Steps.{FailsReading, ReadsBy, Refuses, IsHaltOf}
-use Rattle.mutest_words.specs.Words.{Command, list_class, run_suite, assemble_class}
+use Rattle.mutest_words.specs.Words.{Command, list_class, run_suite, assemble_class, generate_suite}
 use Rattle.mutest_engine.specs.Answers.{Answered, Write, write_of, answered}
 use Rattle.mutest_engine.specs.Decided.{CanAnswer, CanState}
-use Rattle.mutest_engine.proofs.OriginalLaws.{drop_at}
+use Rattle.mutest_engine.specs.Jobs.{Bounds, RoseWithin, RoseInAll}
 
 two_pieces : (before : Option (List ℕ)) (p q : List ℕ) → option_map (λ bytes. bytes ++ q) (option_map (λ bytes. bytes ++ p) before) ≡ option_map (λ bytes. bytes ++ (p ++ q)) before
 two_pieces None p q = refl
@@ -157,6 +157,12 @@ one_left : (w : Write) (ws : List Write) (old new : Option Files) (u : Unwritten
 one_left w ws old new (unwritten.Failed product) left =
     ⊎_elim (λ (here : (product ≡ w.product) × ((new ≡ old) ⊎ (new ≡ written w old))). inl here) (λ (none : ⊥). absurd none) left
 one_left w ws old new unwritten.Memory left = ⊎_elim (λ (is : new ≡ old). inl is) (λ (is : new ≡ written w old). inr (none_stands ws (written w old) new is)) left
+
+-- what stands from a place on
+drop_at : {X : Type 0} (ts : List X) (i : ℕ) (t : X) → i < length ts → t ≡ get_or ts i t → drop i ts ≡ t ∷ drop (suc i) ts
+drop_at [] i t lt e = absurd (omega (arith, lt))
+drop_at (x ∷ ts) zero t lt e = ap (λ z. z ∷ ts) (sym e)
+drop_at (x ∷ ts) (suc i) t lt e = drop_at ts i t (omega (arith, lt)) e
 
 -- a file that wasn't replaced, at its place among several
 pub left_at : (ws : List Written) (i : ℕ) (w : Written) (old new : Option Files) (u : Unwritten) → i < length ws → w ≡ get_or ws i w → LeavesWrites (write_of w ∷ []) old new u → LeavesWrites (map write_of (drop i ws)) old new u
@@ -345,8 +351,9 @@ halt_states command halt.WantOfMemory P may some can said = (some, can, said som
 -- each command may be refused, as where it finds nothing
 pub some_stated : (command : Command) → (x : Result Answered Refusal) × CanState (Ok command) x
 some_stated (list_class path) = (Err (NotFound path), refl)
-some_stated (run_suite options) = (Err (NotFound []), tt)
+some_stated (run_suite options) = (Err (NotFound []), inl tt)
 some_stated (assemble_class options) = (Err (NotFound options.text), refl)
+some_stated (generate_suite options) = (Err (NotFound []), tt)
 
 pub states_by : (words : Result Command Refusal) (answer : Result Answer Halt) (P : Result Answered Refusal → Type 0) → AnswersUntold words answer
     → MatchResult answer (λ a. P (Ok (answered a))) (λ h. (x : Result Answered Refusal) → Allows h x → P x) → Stateable words P
@@ -381,31 +388,31 @@ files_by None new stated answer end told ended left = tt
 files_by (Some files) new stated (Ok a) end told ended left = subst (λ (x : Result Answered Refusal). FilesAfter (writes_in x) (Some files) new end) (sym told) left
 files_by (Some files) new stated (Err h) end told ended left = halt_files (writes_in (stated files)) (Some files) new h end left ended
 
-pub last_by : (held new : Option Files) (before after : ℕ) (steps : Files → ℕ) (answer : Result Answer Halt) (end : Status) → IfSome held (λ files. AnswerMeters before after (steps files) answer) → Left held new answer end
-    → IfSome held (λ files. (new ≡ Some files) ⊎ (after ≡ before + steps files))
-last_by None new before after steps answer end meter left = tt
-last_by (Some files) new before after steps (Ok a) end meter left = inr meter
-last_by (Some files) new before after steps (Err h) end meter left = inl left
+pub last_by : (held new : Option Files) (before after : ℕ) (bounds : Files → Bounds) (answer : Result Answer Halt) (end : Status) → IfSome held (λ files. AnswerMeters before after (bounds files) answer) → Left held new answer end
+    → IfSome held (λ files. (new ≡ Some files) ⊎ (before + (bounds files).least ≤ after))
+last_by None new before after bounds answer end meter left = tt
+last_by (Some files) new before after bounds (Ok a) end meter left = inr meter.1.least
+last_by (Some files) new before after bounds (Err h) end meter left = inl left
 
 -- ---- the meter
 
-ok_rose : (before after steps : ℕ) (a : Answered) (end : Status) → CarriedOut a end → after ≡ before + steps → MeterRose before after steps end
-ok_rose before after steps a Done q is = is
-ok_rose before after steps a (Refused r) q is = is
-ok_rose before after steps a (ReadFault faults) q is = absurd q
-ok_rose before after steps a (WriteFault which faults) q is = is
-ok_rose before after steps a WantOfMemory q is = (omega (arith, is), omega (arith, is))
+ok_rose : (before after : ℕ) (b : Bounds) (a : Answered) (end : Status) → CarriedOut a end → RoseInAll b before after → RoseWithin b before after → MeterRose before after b end
+ok_rose before after b a Done q all is = is
+ok_rose before after b a (Refused r) q all is = is
+ok_rose before after b a (ReadFault faults) q all is = absurd q
+ok_rose before after b a (WriteFault which faults) q all is = is
+ok_rose before after b a WantOfMemory q all is = all
 
-halt_rose : (before after steps : ℕ) (h : Halt) (end : Status) → HaltRose before after steps h → IsToldAs h end → MeterRose before after steps end
-halt_rose before after steps (halt.Refused r) end rose same = by_status (Refused r) end (MeterRose before after steps) same (rose.2 r refl) (rose.0, rose.1)
-halt_rose before after steps (halt.ReadFault faults) end rose same = by_status (ReadFault faults) end (MeterRose before after steps) same (rose.3 faults refl) (rose.0, rose.1)
-halt_rose before after steps halt.WantOfMemory end rose same = by_status WantOfMemory end (MeterRose before after steps) same (rose.0, rose.1) (rose.0, rose.1)
+halt_rose : (before after : ℕ) (b : Bounds) (h : Halt) (end : Status) → RoseInAll b before after → HaltRose before after b h → IsToldAs h end → MeterRose before after b end
+halt_rose before after b (halt.Refused r) end all rose same = by_status (Refused r) end (MeterRose before after b) same (rose.0 r refl) all
+halt_rose before after b (halt.ReadFault faults) end all rose same = by_status (ReadFault faults) end (MeterRose before after b) same (rose.1 faults refl) all
+halt_rose before after b halt.WantOfMemory end all rose same = by_status WantOfMemory end (MeterRose before after b) same all all
 
-pub rose_by : (held : Option Files) (before after : ℕ) (steps : Files → ℕ) (answer : Result Answer Halt) (end : Status) → IfSome held (λ files. AnswerMeters before after (steps files) answer) → Finished answer end
-    → IfSome held (λ files. MeterRose before after (steps files) end)
-rose_by None before after steps answer end meter ended = tt
-rose_by (Some files) before after steps (Ok a) end meter ended = ok_rose before after (steps files) (answered a) end ended meter
-rose_by (Some files) before after steps (Err h) end meter ended = halt_rose before after (steps files) h end meter ended
+pub rose_by : (held : Option Files) (before after : ℕ) (bounds : Files → Bounds) (answer : Result Answer Halt) (end : Status) → IfSome held (λ files. AnswerMeters before after (bounds files) answer) → Finished answer end
+    → IfSome held (λ files. MeterRose before after (bounds files) end)
+rose_by None before after bounds answer end meter ended = tt
+rose_by (Some files) before after bounds (Ok a) end meter ended = ok_rose before after (bounds files) (answered a) end ended meter.0 meter.1
+rose_by (Some files) before after bounds (Err h) end meter ended = halt_rose before after (bounds files) h end meter.0 meter.1 ended
 
 ok_stays : (before after : ℕ) (a : Answered) (end : Status) → CarriedOut a end → before ≤ after → MeterStays before after end
 ok_stays before after a Done q le = le
@@ -416,7 +423,7 @@ ok_stays before after a WantOfMemory q le = le
 
 halt_stays : (before after : ℕ) (h : Halt) (end : Status) → HaltStays before after h → IsToldAs h end → MeterStays before after end
 halt_stays before after (halt.Refused r) end stays same = by_status (Refused r) end (MeterStays before after) same (stays.1 r refl) stays.0
-halt_stays before after (halt.ReadFault faults) end stays same = by_status (ReadFault faults) end (MeterStays before after) same (stays.2 faults refl) stays.0
+halt_stays before after (halt.ReadFault faults) end stays same = by_status (ReadFault faults) end (MeterStays before after) same stays.0 stays.0
 halt_stays before after halt.WantOfMemory end stays same = by_status WantOfMemory end (MeterStays before after) same stays.0 stays.0
 
 pub stays_by : (before after : ℕ) (answer : Result Answer Halt) (end : Status) → IfErr answer (HaltStays before after) → before ≤ after → Finished answer end → MeterStays before after end

@@ -15,7 +15,7 @@ use Rattle.class_model.specs.declared.class.Member.{Member}
 use Rattle.class_model.specs.declared.attribute.Code.{Code, out-Code}
 use Rattle.class_model.specs.declared.instruction.Insn.{Insn}
 use Rattle.class_model.specs.declared.mutator.Mutator.{Mutator}
-use Rattle.class_reader.specs.Spells.{IsClass}
+use Rattle.class_reader.specs.Spells.{IsClass, Spells}
 use Rattle.class_writer.specs.Writing.{HasClassForm}
 use Rattle.program_rules.specs.Names.{Name, same}
 use Rattle.class_link.specs.declared.loaded.Loaded.{Loaded}
@@ -27,16 +27,15 @@ use Rattle.mutator_ops.specs.declared.change.Change.{Change}
 use Rattle.mutator_ops.specs.declared.mutant.Mutant.{Mutant}
 use Rattle.mutant_apply.specs.Fitting.{Fits}
 use Rattle.mutant_apply.specs.Laws.{MutantsFit}
-use Rattle.mutant_runs.specs.Programs.{ClassFiles, files_of, IsMutantOf}
-use Rattle.suite_laws.specs.Tested.{IsListed}
-use Rattle.suite_program.specs.Duplicates.{again, least, duplicate_in}
-use Rattle.suite_program.specs.Faults.{first_fault}
-use Rattle.suite_program.specs.Programs.{classes_in, class_file, names_in, AreSpelled}
-use Rattle.suite_program.specs.declared.fault.ProgramFault.{ProgramFault}
-use Rattle.suite_program.specs.declared.fault.ProgramFault.TheVariants.{Duplicate}
-use Rattle.mutest_engine.specs.SuiteFiles.{IsSpelled, IsFormed}
-use Rattle.mutest_engine.specs.Originals.{all_classes, unless_fault, accepted}
-use Rattle.mutest_engine.specs.Mutation.{mutants_of, suite_files, linked}
+use Rattle.suite_runs.specs.Below.{IsOfFile, IsListed, ClassFiles, files_of, IsMutantOf}
+use Rattle.suite_runs.specs.Below.{again, least, duplicate_in}
+use Rattle.suite_runs.specs.Below.{first_fault}
+use Rattle.suite_runs.specs.Below.{classes_in, class_file, names_in, AreSpelled}
+use Rattle.suite_runs.specs.Below.{ProgramFault}
+use Rattle.suite_runs.specs.Below.{Duplicate}
+use Rattle.mutest_engine.specs.SuiteFiles.{IsSpelled, IsRead, AreFormed, IsFormed}
+use Rattle.mutest_engine.specs.Linked.{all_classes, unless_fault, accepted, suite_files, linked}
+use Rattle.mutest_engine.specs.Made.{mutants_of}
 use Rattle.mutest_engine.specs.declared.suite.LoadedSuite.{LoadedSuite}
 
 -- ---- lists
@@ -197,6 +196,14 @@ class_listed fit files c form is =
     both (λ (m : Mutant). Names (own_name c) m × Contains ms m) (λ (m : Mutant). Fits c m.edit) (IsListedIn files) ms (λ m found fits. one_listed files c m form is found fits)
     here (recursion_from_All (λ (m : Mutant). Fits c m.edit) ms (fit c form.form))
 
+-- the classes of what was read
+classes_read : (xs : List Loaded) → AllByRecursion IsRead xs → AllByRecursion (λ (l : Loaded). IsSpelled l.class) xs
+classes_read [] p = tt
+classes_read (x ∷ xs) p = (p.0.class_is, classes_read xs p.1)
+
+spelled_in : (xs : List Loaded) → AreFormed xs → AllByRecursion (λ (l : Loaded). IsSpelled l.class) xs
+spelled_in xs h = classes_read xs (recursion_from_All IsRead xs h)
+
 formed : (xs : List Loaded) → AllByRecursion (λ (l : Loaded). IsSpelled l.class) xs → AllByRecursion IsSpelled (classes_in xs)
 formed [] p = tt
 formed (x ∷ xs) p = (p.0, formed xs p.1)
@@ -218,7 +225,7 @@ all_listed fit s p forms ok same_files =
     let all = all_classes s in
     let cs = classes_in all in
     let files = class_file cs in
-    let formed_all = appended (λ (l : Loaded). IsSpelled l.class) s.classes s.tests (recursion_from_All (λ (l : Loaded). IsSpelled l.class) s.classes forms.0) (recursion_from_All (λ (l : Loaded). IsSpelled l.class) s.tests forms.1) in
+    let formed_all = appended (λ (l : Loaded). IsSpelled l.class) s.classes s.tests (spelled_in s.classes forms.0) (spelled_in s.tests forms.1) in
     let each : AllByRecursion (λ (c : Class). IsSpelled c × (files (own_name c) ≡ Some c)) cs =
     both IsSpelled (IsFound cs) (λ (c : Class). IsSpelled c × (files (own_name c) ≡ Some c)) cs (λ c form is. (form, is))
     (formed all formed_all) (found cs _ (none_again cs ok)) in
@@ -245,5 +252,23 @@ all_classes_spelled all h = All-from_recursion IsClass (classes_in all) (spelled
 -- Each class of a suite that was read has a spelling.
 pub all_spelled : (s : LoadedSuite) (all : List Loaded) → IsFormed s → all ≡ all_classes s → AreSpelled all
 all_spelled s all forms is =
-    let formed_all = appended (λ (l : Loaded). IsSpelled l.class) s.classes s.tests (recursion_from_All (λ (l : Loaded). IsSpelled l.class) s.classes forms.0) (recursion_from_All (λ (l : Loaded). IsSpelled l.class) s.tests forms.1) in
+    let formed_all = appended (λ (l : Loaded). IsSpelled l.class) s.classes s.tests (spelled_in s.classes forms.0) (spelled_in s.tests forms.1) in
     subst AreSpelled (sym is) (All-from_recursion (λ (l : Loaded). IsClass l.class) (all_classes s) (spelled (all_classes s) formed_all))
+
+-- Their bytes spell them.
+texts_read : (xs : List Loaded) → AllByRecursion IsRead xs → AllByRecursion (λ (l : Loaded). Spells l.bytes l.class) xs
+texts_read [] p = tt
+texts_read (x ∷ xs) p = (p.0.text, texts_read xs p.1)
+
+pub all_read : (s : LoadedSuite) → IsFormed s → All (λ l. Spells l.bytes l.class) (all_classes s)
+all_read s forms =
+    All-from_recursion (λ (l : Loaded). Spells l.bytes l.class) (all_classes s)
+    (texts_read (all_classes s) (appended IsRead s.classes s.tests (recursion_from_All IsRead s.classes forms.0) (recursion_from_All IsRead s.tests forms.1)))
+
+-- The mutants are of the class files of the program.
+of_file : (p : List Info) (ms : List Mutant) → AllByRecursion (IsListed p) ms → AllByRecursion (IsOfFile p) ms
+of_file p [] h = tt
+of_file p (m ∷ ms) h = (record { file = h.0.file; found = h.0.found; listed = h.0.listed }, of_file p ms h.1)
+
+pub all_of_files : (p : List Info) (ms : List Mutant) → All (IsListed p) ms → All (IsOfFile p) ms
+all_of_files p ms h = All-from_recursion (IsOfFile p) ms (of_file p ms (recursion_from_All (IsListed p) ms h))

@@ -6,7 +6,7 @@ use Rattle.class_model.specs.declared.class.Class.{Class}
 use Rattle.class_model.specs.declared.class.ClassId.{ClassId}
 use Rattle.class_link.specs.Info.{Info, file_in}
 use Rattle.mutator_ops.specs.Programs.{file_at, files_among, mutants_among, mutants}
-use Rattle.suite_program.specs.Programs.{HaveFirstNumbers}
+use Rattle.suite_runs.specs.Below.{HaveFirstNumbers}
 use Rattle.mutest_engine.specs.Numbers.{numbers_from, numbers_of}
 
 -- ---- numbers

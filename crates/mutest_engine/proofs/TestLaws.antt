@@ -16,8 +16,8 @@ use Rattle.test_discovery.specs.declared.fault.TestFault.{TestFault}
 use Rattle.test_discovery.specs.declared.fault.TestFault.TheVariants as fault
 use Rattle.mutest_engine.specs.Steps.{and_then, Refuses}
 use Rattle.mutest_engine.specs.Numbers.{numbers_from, numbers_of}
-use Rattle.suite_program.specs.Programs.{classes_in, class_file, names_in}
-use Rattle.mutest_engine.specs.Originals.{all_classes}
+use Rattle.suite_runs.specs.Below.{classes_in, class_file, names_in}
+use Rattle.mutest_engine.specs.Linked.{all_classes}
 use Rattle.mutest_engine.specs.Discovered.{IsStopOfTest, refuse_many_tests, few_found, tests_named, tests_of, tests_from}
 use Rattle.mutest_engine.specs.declared.suite.LoadedSuite.{LoadedSuite}
 use Rattle.mutest_engine.specs.declared.refusal.Limit.TheVariants as limit

@@ -12,8 +12,8 @@ use Rattle.test_discovery.specs.declared.fault.TestFault.{TestFault}
 use Rattle.test_discovery.specs.declared.fault.TestFault.TheVariants as fault
 use Rattle.mutest_engine.specs.Steps.{and_then}
 use Rattle.mutest_engine.specs.Numbers.{numbers_from}
-use Rattle.suite_program.specs.Programs.{classes_in, class_file, names_in}
-use Rattle.mutest_engine.specs.Originals.{all_classes}
+use Rattle.suite_runs.specs.Below.{classes_in, class_file, names_in}
+use Rattle.mutest_engine.specs.Linked.{all_classes}
 use Rattle.mutest_engine.specs.declared.suite.LoadedSuite.{LoadedSuite}
 use Rattle.mutest_engine.specs.declared.stop.Stop.{Stop}
 use Rattle.mutest_engine.specs.declared.stop.Stop.TheVariants as stop

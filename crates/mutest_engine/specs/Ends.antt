@@ -1,15 +1,15 @@
 -- How a call may end: each status with its number and its line, when it comes, what it leaves in
 -- the sink and in the tree, and the meter (this project's own).
 use Rattle.std.specs.Prelude.{◌≡◌, ◌⊎◌, ℕ, ◌+◌, ◌≤◌, List, [], ◌∷◌, Option, IfSome, Result, Ok, Err, MatchResult, ◌++◌, map, option_map, codes}
-use Rattle.mutest_words.specs.Words.{Command}
+use Rattle.mutest_words.specs.Words.{Command, RunOptions}
 use Rattle.mutest_engine.specs.Answers.{Answered, Write, answered, write_of}
-use Rattle.mutest_engine.specs.Refusals.{MayRefuse, refusal_line, refusal_number}
-use Rattle.mutest_engine.specs.Decided.{CanAnswer, steps_of_options, steps_of}
-use Rattle.mutest_engine.specs.Mutation.{Stays}
+use Rattle.mutest_engine.specs.Refusals.{MayRefuse, IsBeforeRuns, IsOfSources, refusal_line, refusal_number}
+use Rattle.mutest_engine.specs.Decided.{CanAnswer, CanReport, bounds_of, run_bounds}
+use Rattle.mutest_engine.specs.Jobs.{Bounds, RoseAtMost, RoseWithin, RoseInAll}
 use Rattle.mutest_engine.specs.Steps.{Failed, ReadsBy, RefusesReading}
 use Rattle.mt_edge.specs.Files.{Files}
+use Rattle.mutest_engine.specs.declared.reported.Reported.{Reported}
 use Rattle.mutest_engine.specs.declared.answer.Answer.{Answer}
-use Rattle.mutest_words.specs.declared.command.RunOptions.{RunOptions as FoundRun}
 use Rattle.mutest_engine.specs.declared.answer.Product.{Product}
 use Rattle.mutest_engine.specs.declared.refusal.Refusal.{Refusal}
 use Rattle.mutest_engine.specs.declared.status.Output.{Output}
@@ -39,6 +39,7 @@ status_number WantOfMemory = 14
 
 abbrev pub product_name : Product → List ℕ
 product_name kind.Report = codes "report"
+product_name kind.History = codes "history"
 product_name kind.Assembled = codes "assembled"
 
 abbrev pub output_name : Output → List ℕ
@@ -141,6 +142,12 @@ abbrev pub MayAnswer : Command → Result Answer Halt → Type 0
 MayAnswer command result =
     MatchResult result (λ a. CanAnswer command (answered a)) (RefusesReading (MayRefuse command))
 
+-- The answer reports this, with some sources, or the refusal is one of sources.
+abbrev pub MayReport : RunOptions → Reported → Result Answer Halt → Type 0
+MayReport options reported result =
+    MatchResult result (λ a. CanReport options reported (answered a))
+    (RefusesReading (IsOfSources options.sources))
+
 abbrev pub AnswersUntold : Result Command Refusal → Result Answer Halt → Type 0
 AnswersUntold words result =
     MatchResult result
@@ -167,52 +174,54 @@ PutsFailed before after s = Unit {0}
 
 -- ---- the meter
 
--- The meter rose by exactly these steps. A fault of reading comes before all runs, and memory may
--- run out before or among them.
-abbrev pub MeterRose : ℕ → ℕ → ℕ → Status → Type 0
-MeterRose before after steps (ReadFault faults) = after ≡ before
-MeterRose before after steps WantOfMemory = (before ≤ after) × (after ≤ before + steps)
-MeterRose before after steps s = after ≡ before + steps
+-- The meter rose within these bounds. A fault of reading comes before all runs or, of sources,
+-- behind them, and memory may run out before, among or behind them.
+abbrev pub MeterRose : ℕ → ℕ → Bounds → Status → Type 0
+MeterRose before after b (ReadFault faults) = RoseAtMost b before after
+MeterRose before after b WantOfMemory = RoseInAll b before after
+MeterRose before after b s = RoseWithin b before after
+
+-- A refusal that comes before the first run leaves the meter as it is, and none lets it fall.
+abbrev pub Stays : ℕ → ℕ → Refusal → Type 0
+Stays before after refusal = (before ≤ after) × (IsBeforeRuns refusal → after ≡ before)
 
 -- A refusal that comes before all runs leaves the meter as it is, and none lets it fall.
 abbrev pub MeterStays : ℕ → ℕ → Status → Type 0
 MeterStays before after (Refused refusal) = Stays before after refusal
-MeterStays before after (ReadFault faults) = after ≡ before
 MeterStays before after s = before ≤ after
 
 -- the same before anything is written
-abbrev pub HaltRose : ℕ → ℕ → ℕ → Halt → Type 0
-HaltRose before after steps h =
-    (before ≤ after) × (after ≤ before + steps)
-    × ((refusal : Refusal) → h ≡ halt.Refused refusal → after ≡ before + steps)
-    × ((faults : ℕ) → h ≡ halt.ReadFault faults → after ≡ before)
+abbrev pub HaltRose : ℕ → ℕ → Bounds → Halt → Type 0
+HaltRose before after b h =
+    ((refusal : Refusal) → h ≡ halt.Refused refusal → RoseWithin b before after)
+    × ((faults : ℕ) → h ≡ halt.ReadFault faults → RoseAtMost b before after)
 
 abbrev pub HaltStays : ℕ → ℕ → Halt → Type 0
 HaltStays before after h =
     (before ≤ after)
     × ((refusal : Refusal) → h ≡ halt.Refused refusal → Stays before after refusal)
-    × ((faults : ℕ) → h ≡ halt.ReadFault faults → after ≡ before)
 
 -- What a step answers, where these are the files that the tree tells.
 abbrev pub AnswersHeld :
     Option Files → (Files → Result Answered Refusal) → Result Answer Halt → Type 0
 AnswersHeld held stated result = IfSome held (λ files. ReadsBy answered (stated files) result)
 
-abbrev pub AnswerMeters : ℕ → ℕ → ℕ → Result Answer Halt → Type 0
-AnswerMeters before after steps result =
-    MatchResult result (λ a. after ≡ before + steps) (HaltRose before after steps)
+abbrev pub AnswerMeters : ℕ → ℕ → Bounds → Result Answer Halt → Type 0
+AnswerMeters before after b result =
+    RoseInAll b before after
+    × MatchResult result (λ a. RoseWithin b before after) (HaltRose before after b)
 
-abbrev pub MetersHeld : Option Files → ℕ → ℕ → (Files → ℕ) → Result Answer Halt → Type 0
-MetersHeld held before after steps result =
-    IfSome held (λ files. AnswerMeters before after (steps files) result)
+abbrev pub MetersHeld : Option Files → ℕ → ℕ → (Files → Bounds) → Result Answer Halt → Type 0
+MetersHeld held before after bounds result =
+    IfSome held (λ files. AnswerMeters before after (bounds files) result)
 
 -- the same of a suite, and of what the words ask for
-abbrev pub MetersRun : Option Files → ℕ → ℕ → FoundRun → Result Answer Halt → Type 0
+abbrev pub MetersRun : Option Files → ℕ → ℕ → RunOptions → Result Answer Halt → Type 0
 MetersRun held before after options result =
-    MetersHeld held before after (steps_of_options options) result
+    MetersHeld held before after (run_bounds options) result
 
 abbrev pub MetersWords : Option Files → ℕ → ℕ → List (List ℕ) → Result Answer Halt → Type 0
-MetersWords held before after words result = MetersHeld held before after (steps_of words) result
+MetersWords held before after words result = MetersHeld held before after (bounds_of words) result
 
 -- This answer is made, unless memory runs out.
 abbrev pub Makes : Answered → Result Answer Halt → Type 0

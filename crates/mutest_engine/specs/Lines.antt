@@ -1,12 +1,10 @@
 -- The parts of the lines that tell refusals and faults (this project's own).
 use Rattle.std.specs.Prelude.{ℕ, List, [], ◌++◌, codes, decimal, Option, Some, None}
 use Rattle.std.specs.List.{flat_map}
-use Rattle.mutator_ops.specs.Printing.{printed}
 use Rattle.class_model.specs.Fault.{value_of}
 use Rattle.class_model.specs.declared.outcome.Outcome.{Outcome}
 use Rattle.class_model.specs.declared.outcome.Outcome.TheVariants as outcome
 use Rattle.class_model.specs.declared.fault.ClassFault.{ClassFault}
-use Rattle.program_rules.specs.Names.{Name}
 
 abbrev pub outcome_name : Outcome → List ℕ
 outcome_name outcome.Passed = codes "Passed"
@@ -26,11 +24,6 @@ count_text name number = name ++ codes " " ++ decimal number
 abbrev pub fault_text : ClassFault → Option ℕ → List ℕ
 fault_text fault None = []
 fault_text fault (Some number) = codes " " ++ decimal number ++ codes " " ++ decimal (value_of fault)
-
--- a test, and the class, the method and the instruction at which its run is stuck
-abbrev pub place_text : List ℕ → Name → Name → ℕ → List ℕ
-place_text test class method at =
-    test ++ codes " " ++ printed class ++ codes " " ++ printed method ++ codes " " ++ decimal at
 
 -- the line of a test whose original run didn't pass
 unfoldable pub not_green_line : List ℕ × Outcome → List ℕ

@@ -1,13 +1,18 @@
 -- What is promised of a tree and of a sink, by what is told of them before and after (this
 -- project's own).
-use Rattle.std.specs.Prelude.{◌≡◌, ◌⊎◌, ℕ, ◌+◌, List, Option, Some, IfSome, Result, Ok, MatchResult}
+use Rattle.std.specs.Prelude.{◌≡◌, ◌⊎◌, ℕ, ◌+◌, ◌≤◌, List, Option, Some, IfSome, Result, Ok, MatchResult}
 use Rattle.std.specs.Global.{Vec, Global}
 use Rattle.std.specs.declared.string.String.{String}
 use Rattle.mt_edge.specs.Files.{Files}
 use Rattle.mt_edge.specs.Pieces.{GrowsBy}
 use Rattle.mutest_engine.specs.Answers.{Answered, answered}
-use Rattle.mutest_engine.specs.Decided.{CanState, answer_of, steps_of}
-use Rattle.mutest_engine.specs.Ends.{Agrees, MeterRose, Got, Prints, Allows, FilesAfter, writes_in}
+use Rattle.mutest_words.specs.Words.{RunOptions}
+use Rattle.mutest_engine.specs.Decided.{AreTrueIn, CanState, HasTrueRecords, answer_of, bounds_of}
+use Rattle.mutest_engine.specs.Decided.{scratch_bounds, scratch_of, scratch_run_bounds}
+use Rattle.mutest_engine.specs.Jobs.{Bounds}
+use Rattle.mutest_engine.specs.Old.{old_records}
+use Rattle.mutest_engine.specs.Ends.{Agrees, AnswerMeters, MeterRose, Got, Prints, Allows, FilesAfter, writes_in}
+use Rattle.mutest_engine.specs.Steps.{ReadsBy}
 use Rattle.mutest_engine.specs.SuiteFiles.{texts}
 use Rattle.mutest_engine.specs.Words.{words_of}
 use Rattle.mutest_engine.specs.declared.answer.Answer.{Answer}
@@ -69,14 +74,56 @@ LeavesOf old new answer end =
 -- and by what words and files decide.
 abbrev pub LeavesHeld : Option Files → Option Files → WordList → Status → Type 0
 LeavesHeld old new words end =
-    IfSome old (λ files. FilesAfter (writes_in (answer_of (texts words) files)) (Some files) new end)
+    IfSome old (λ files.
+    FilesAfter (writes_in (answer_of (texts words) files)) (Some files) new end)
 
--- Nothing is written before the last run.
+-- Nothing is written before the last run that is needed.
 abbrev pub WritesLast : Option Files → Option Files → WordList → ℕ → ℕ → Type 0
 WritesLast old new words before after =
-    IfSome old (λ files. (new ≡ Some files) ⊎ (after ≡ before + steps_of (texts words) files))
+    IfSome old (λ files.
+    (new ≡ Some files) ⊎ (before + (bounds_of (texts words) files).least ≤ after))
 
 -- The steps of the runs that were made.
 abbrev pub MeterHeld : Option Files → WordList → ℕ → ℕ → Status → Type 0
 MeterHeld held words before after end =
-    IfSome held (λ files. MeterRose before after (steps_of (texts words) files) end)
+    IfSome held (λ files. MeterRose before after (bounds_of (texts words) files) end)
+
+-- ---- from scratch
+
+-- Where all records of the history are true, that is what is answered.
+abbrev pub AnswersTruly : Option Files → List (List ℕ) → Result Answer Halt → Type 0
+AnswersTruly held words result =
+    IfSome held (λ files. HasTrueRecords (words_of words) files →
+    ReadsBy answered (scratch_of words files) result)
+
+-- The steps of the runs are then those of the runs that the history lacks, of a suite
+abbrev pub MetersTrue : Option Files → ℕ → ℕ → RunOptions → Result Answer Halt → Type 0
+MetersTrue held before after options result =
+    IfSome held (λ files. AreTrueIn (old_records options.history files) →
+    AnswerMeters before after (scratch_run_bounds options files) result)
+
+-- and of what the words ask for.
+abbrev pub MetersTruly : Option Files → ℕ → ℕ → List (List ℕ) → Result Answer Halt → Type 0
+MetersTruly held before after words result =
+    IfSome held (λ files. HasTrueRecords (words_of words) files →
+    AnswerMeters before after (scratch_bounds words files) result)
+
+-- What a call leaves where this is stated: its status, what the sink got, what the tree holds
+-- then, and the steps of its runs.
+pub record Leaves {O : Type 0} (faults : O → ℕ) (written : O → Option (List ℕ))
+    (stated : Result Answered Refusal) (bounds : Bounds) (old new : O) (before after : Option Files)
+    (meter0 meter1 : ℕ) (end : Status) : Type 0 where
+  pub status : Agrees stated end
+  pub printed : Prints (faults old) (faults new) (written old) (written new) stated end
+  pub files : FilesAfter (writes_in stated) before after end
+  pub meter : MeterRose meter0 meter1 bounds end
+
+module _ {O : Type 0} (faults : O → ℕ) (written : O → Option (List ℕ)) where
+  -- Where all records of the history are true, that is what running every test on every mutant from
+  -- scratch gives.
+  abbrev pub LeavesScratch :
+      O → O → Option Files → Option Files → WordList → ℕ → ℕ → Status → Type 0
+  LeavesScratch old new before after words meter0 meter1 end =
+      IfSome before (λ files. HasTrueRecords (words_of (texts words)) files →
+      Leaves faults written (scratch_of (texts words) files) (scratch_bounds (texts words) files)
+      old new (Some files) after meter0 meter1 end)

@@ -1,6 +1,6 @@
 -- What is told of each refusal, its number and its line, and which command it may refuse (this
 -- project's own).
-use Rattle.std.specs.Prelude.{◌≡◌, ℕ, ◌<◌, List, [], ◌++◌, codes, decimal, Err}
+use Rattle.std.specs.Prelude.{◌≡◌, ◌≢◌, ◌⊎◌, ℕ, ◌<◌, ◌≤◌, List, [], ◌++◌, codes, decimal, Option, None, Some, Err}
 use Rattle.program_rules.specs.Names.{Name}
 use Rattle.mutator_ops.specs.Printing.{printed}
 use Rattle.class_model.specs.Fault.{number_of}
@@ -12,14 +12,14 @@ use Rattle.test_discovery.specs.declared.fault.Rule.{Rule}
 use Rattle.test_discovery.specs.declared.fault.Rule.TheVariants as rule
 use Rattle.test_discovery.specs.declared.fault.TestFault.{TestFault}
 use Rattle.test_discovery.specs.declared.fault.TestFault.TheVariants as test_fault
-use Rattle.mutest_engine.specs.Lines.{named_line, count_text, fault_text, place_text, not_green_lines}
-use Rattle.mutest_words.specs.Words.{Command, list_class, run_suite, assemble_class}
+use Rattle.mutest_engine.specs.Lines.{named_line, count_text, fault_text, not_green_lines}
+use Rattle.mutest_words.specs.Words.{Command, RunOptions, list_class, run_suite, assemble_class, generate_suite}
 use Rattle.mutest_engine.specs.declared.refusal.Limit.{Limit}
 use Rattle.mutest_engine.specs.declared.refusal.Limit.TheVariants as limit
-use Rattle.suite_program.specs.declared.fault.ProgramFault.{ProgramFault}
-use Rattle.suite_program.specs.declared.fault.ProgramFault.TheVariants.{Duplicate, SuperMissing, SuperCycle, SuperKind, Code}
+use Rattle.suite_runs.specs.Below.{ProgramFault}
+use Rattle.suite_runs.specs.Below.{Duplicate, SuperMissing, SuperCycle, SuperKind, Code}
 use Rattle.mutest_engine.specs.declared.refusal.Refusal.{Refusal}
-use Rattle.mutest_engine.specs.declared.refusal.Refusal.TheVariants.{Usage, NotFound, Archive, BadClass, BadProgram, BadTest, NotGreen, TooMany, MachineCheck, AsmRefused}
+use Rattle.mutest_engine.specs.declared.refusal.Refusal.TheVariants.{Usage, NotFound, Archive, BadClass, BadProgram, BadTest, NotGreen, HistoryBad, TooMany, AsmRefused}
 
 -- ---- the exit status
 
@@ -31,8 +31,8 @@ refusal_number (BadClass path fault) = 5
 refusal_number (BadProgram fault) = 6
 refusal_number (BadTest fault) = 7
 refusal_number (NotGreen tests) = 8
+refusal_number (HistoryBad at) = 9
 refusal_number (TooMany what number) = 12
-refusal_number (MachineCheck test class method at) = 13
 refusal_number (AsmRefused line) = 15
 
 -- ---- the line
@@ -44,6 +44,8 @@ limit_name limit.Bytes = codes "bytes"
 limit_name limit.Tests = codes "tests"
 limit_name limit.Mutants = codes "mutants"
 limit_name limit.Cells = codes "cells"
+limit_name limit.History = codes "history"
+limit_name limit.Sources = codes "sources"
 
 -- an instruction's class, its method and its number
 abbrev pub code_place : Name → Name → ℕ → List ℕ
@@ -87,10 +89,9 @@ refusal_line (BadClass path fault) =
 refusal_line (BadProgram fault) = named_line (codes "mutest: BadProgram") (program_text fault)
 refusal_line (BadTest fault) = test_line fault
 refusal_line (NotGreen tests) = not_green_lines tests
+refusal_line (HistoryBad at) = named_line (codes "mutest: HistoryBad ") (decimal at)
 refusal_line (TooMany what number) =
     named_line (codes "mutest: TooMany ") (count_text (limit_name what) number)
-refusal_line (MachineCheck test class method at) =
-    named_line (codes "mutest: MachineCheck ") (place_text test class method at)
 refusal_line (AsmRefused line) = named_line (codes "mutest: AsmRefused ") (decimal line)
 
 -- ---- how a command may be refused, whatever the tree holds
@@ -113,6 +114,8 @@ IsPassed limit.Bytes number = 67108864 < number
 IsPassed limit.Tests number = number ≡ 65536
 IsPassed limit.Mutants number = number ≡ 262145
 IsPassed limit.Cells number = number ≡ 4194305
+IsPassed limit.History number = 536870912 < number
+IsPassed limit.Sources number = 67108864 < number
 
 -- by the class file at this path
 abbrev pub IsOfFile : List ℕ → Refusal → Type 0
@@ -135,10 +138,27 @@ IsOfSuite (Archive path) = ⊥
 IsOfSuite (BadClass path fault) = IsClassFault fault
 IsOfSuite (BadProgram fault) = Unit {0}
 IsOfSuite (BadTest fault) = IsTestFault fault
-IsOfSuite (NotGreen tests) = Unit {0}
+IsOfSuite (NotGreen tests) = tests ≢ []
+IsOfSuite (HistoryBad at) = ⊥
+IsOfSuite (TooMany limit.Sources number) = ⊥
 IsOfSuite (TooMany what number) = IsPassed what number
-IsOfSuite (MachineCheck test class method at) = Unit {0}
 IsOfSuite (AsmRefused line) = ⊥
+
+-- by what a history holds, where there is one: the place is at most the most bytes that one has
+abbrev pub IsOfHistory : Option (List ℕ) → Refusal → Type 0
+IsOfHistory (Some path) (HistoryBad at) = at ≤ 536870912
+IsOfHistory path r = ⊥
+
+-- by what a folder of sources holds, where one is named
+abbrev pub IsOfSources : Option (List ℕ) → Refusal → Type 0
+IsOfSources None r = ⊥
+IsOfSources (Some folder) r =
+    (number : ℕ) × (r ≡ TooMany limit.Sources number) × IsPassed limit.Sources number
+
+-- by all that a run reads
+abbrev pub IsOfRun : RunOptions → Refusal → Type 0
+IsOfRun options r =
+    IsOfSuite r ⊎ (IsOfHistory options.history r ⊎ IsOfSources options.sources r)
 
 -- by a file at this path that isn't held or is too large, whichever command reads it
 abbrev pub IsUnheld : List ℕ → Refusal → Type 0
@@ -147,14 +167,20 @@ IsUnheld path r = IsOfFile path r × IsOfText path r × IsOfSuite r
 -- A command isn't refused for its words.
 abbrev pub MayRefuse : Command → Refusal → Type 0
 MayRefuse (list_class path) r = IsOfFile path r
-MayRefuse (run_suite suite) r = IsOfSuite r
+MayRefuse (run_suite options) r = IsOfRun options r
 MayRefuse (assemble_class assembly) r = IsOfText assembly.text r
+MayRefuse (generate_suite options) r = IsOfSuite r
 
 -- ---- when
 
 -- Refusals that come before the first run.
 abbrev pub IsBeforeRuns : Refusal → Type 0
 IsBeforeRuns (NotGreen tests) = ⊥
-IsBeforeRuns (MachineCheck test class method at) = ⊥
 IsBeforeRuns (TooMany limit.Cells number) = ⊥
+IsBeforeRuns (TooMany limit.Sources number) = ⊥
+IsBeforeRuns (TooMany limit.History number) = ⊥
 IsBeforeRuns refusal = Unit {0}
+
+-- Such a refusal comes with the runs or behind them.
+abbrev pub IsOfRuns : Refusal → Type 0
+IsOfRuns r = IsOfSuite r × (IsBeforeRuns r → ⊥)

@@ -4,7 +4,7 @@ use Rattle.std.specs.Prelude.{ℕ, ◌+◌, List, [], ◌∷◌, Bool, nat_lt, �
 use Rattle.std.specs.Global.{Vec, Global}
 use Rattle.std.specs.declared.string.String.{String}
 use Rattle.class_model.specs.declared.class.Class.{Class}
-use Rattle.class_reader.specs.Spells.{IsClass}
+use Rattle.class_reader.specs.Spells.{IsClass, Spells}
 use Rattle.class_writer.specs.Writing.{HasClassForm}
 use Rattle.class_link.specs.declared.loaded.Loaded.{Loaded}
 use Rattle.mt_edge.specs.Files.{Files, listed}
@@ -142,8 +142,13 @@ pub record IsSpelled (class : Class) : Type 0 where
   pub spelled : IsClass class
   pub form : HasClassForm class
 
+-- Its bytes spell it.
+pub record IsRead (l : Loaded) : Type 0 where
+  pub text : Spells l.bytes l.class
+  pub class_is : IsSpelled l.class
+
 abbrev pub AreFormed : List Loaded → Type 0
-AreFormed classes = All (λ l. IsSpelled l.class) classes
+AreFormed classes = All IsRead classes
 
 abbrev pub IsFormed : LoadedSuite → Type 0
 IsFormed s = AreFormed s.classes × AreFormed s.tests

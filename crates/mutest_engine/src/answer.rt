@@ -9,6 +9,8 @@ use class_model::Bytes;
 #[derive(Clone, Copy)]
 pub enum Product {
     Report,
+    /// The records of a run.
+    History,
     /// A class file that was assembled.
     Assembled,
 }
@@ -20,6 +22,7 @@ impl Product {
     {
         match self {
             Product::Report => "report",
+            Product::History => "history",
             Product::Assembled => "assembled",
         }
     }

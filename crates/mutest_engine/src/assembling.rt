@@ -1,8 +1,9 @@
 //! The class file that a text states.
 
 ghost use Rattle.std.specs.Prelude.{◌≡◌, ℕ, List, IfOk, IfErr, Err};
-ghost use Rattle.mutest_engine.specs.Decided.{IsAssembledTo, stated_class};
+ghost use Rattle.mutest_engine.specs.Decided.{IsAssembledTo};
 ghost use Rattle.mutest_engine.specs.Refusals.{IsOfText};
+ghost use Rattle.mutest_engine.specs.Stated.{stated_class};
 ghost use Rattle.mutest_engine.specs.Steps.{Refuses};
 
 use crate::refusal::Refusal;

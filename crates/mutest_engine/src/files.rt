@@ -1,6 +1,7 @@
 //! A class file that is held: its bytes within the limit, and the class that they spell.
 
 ghost use Rattle.std.specs.Prelude.{◌≡◌, ℕ, List, IfOk, IfErr};
+ghost use Rattle.class_reader.specs.Spells.{Spells};
 ghost use Rattle.mutest_engine.specs.Answers.{refuse_long_file, within_limit as within, file_of, spelled_class};
 ghost use Rattle.mutest_engine.specs.Refusals.{IsClassFault, IsOfFile, IsOfSuite, IsUnheld};
 ghost use Rattle.mutest_engine.specs.SuiteFiles.{IsSpelled};
@@ -108,6 +109,7 @@ fn bad_class(alloc: Global, path: &[u8], fault: ClassFault) -> Stop
 /// The class of a file.
 pub fn spelled_class(alloc: Global, path: &[u8], bytes: &[u8]) -> Result<Class, Stop>
     ensures value { Gives (spelled_class path.now bytes.now) result }
+    ensures text { IfOk result (Spells bytes.now) }
     ensures form { IfOk result IsSpelled }
     ensures refusal { IfErr result (Refuses (λ r. IsOfFile path.now r × IsOfSuite r)) }
 {

@@ -3,7 +3,7 @@
 ghost use Rattle.std.specs.Prelude.{◌≡◌, ◌++◌, IfOk, OnOk, decimal};
 ghost use Rattle.class_model.specs.Fault.{number_of};
 ghost use Rattle.mutator_ops.specs.Printing.{printed};
-ghost use Rattle.mutest_engine.specs.Lines.{fault_text, outcome_name, named_line, count_text, place_text, not_green_line, not_green_lines};
+ghost use Rattle.mutest_engine.specs.Lines.{fault_text, outcome_name, named_line, count_text, not_green_line, not_green_lines};
 
 use class_model::{Bytes, ClassFault, Memory, Name, Outcome};
 use std::alloc::Global;
@@ -81,25 +81,6 @@ pub fn class_text(alloc: Global, path: &[u8], fault: ClassFault) -> Result<Bytes
     let fault = fault_text(alloc, fault)?;
     let mut text = Bytes::from_slice(alloc, path)?;
     text.extend_from_slice(fault.as_slice())?;
-    Ok(text)
-}
-
-/// A test, and where its run is stuck.
-pub fn place_text(
-    alloc: Global,
-    test: &[u8],
-    class: &Name,
-    method: &Name,
-    at: u64,
-) -> Result<Bytes, Memory>
-    ensures { IfOk result (λ text. text ≡ place_text test.now class.now method.now at) }
-{
-    let mut text = Bytes::from_slice(alloc, test)?;
-    put_str(&mut text, " ")?;
-    put_name(alloc, &mut text, class)?;
-    put_str(&mut text, " ")?;
-    put_name(alloc, &mut text, method)?;
-    put_count(alloc, &mut text, "", at)?;
     Ok(text)
 }
 

@@ -2,7 +2,7 @@
 //! They are counted before one is made.
 
 ghost use Rattle.std.specs.Prelude.{◌≡◌, ◌≤◌, length, Ok, IfOk, IfErr};
-ghost use Rattle.mutest_engine.specs.Mutation.{AreFirstMutants, refuse_many_mutants, HasTooMany};
+ghost use Rattle.mutest_engine.specs.Made.{AreFirstMutants, refuse_many_mutants, HasTooMany};
 ghost use Rattle.mutest_engine.specs.Steps.{Refuses};
 
 use crate::numbers::numbers_from;

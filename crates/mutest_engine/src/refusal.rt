@@ -7,11 +7,11 @@ ghost use Rattle.mutest_engine.specs.Refusals.{limit_name, code_place, program_t
 ghost use Rattle.mutest_engine.specs.Refusals.{test_line, refusal_number, refusal_line};
 
 use crate::line::{
-    class_text, not_green_lines, place_text, put_count, put_name, put_named, put_number, put_str,
+    class_text, not_green_lines, put_count, put_name, put_named, put_number, put_str,
 };
 use class_model::{Bytes, ClassFault, Memory, Name, Outcome, Seq};
 use std::alloc::Global;
-use suite_program::ProgramFault;
+use suite_runs::ProgramFault;
 use test_discovery::{Rule, TestFault};
 
 /// What a count has a limit for.
@@ -27,6 +27,10 @@ pub enum Limit {
     Mutants,
     /// Viable mutants with the tests that cover them.
     Cells,
+    /// Bytes of all sources of a report.
+    Sources,
+    /// Bytes of the new history.
+    History,
 }
 
 impl Limit {
@@ -40,6 +44,8 @@ impl Limit {
             Limit::Tests => "tests",
             Limit::Mutants => "mutants",
             Limit::Cells => "cells",
+            Limit::Sources => "sources",
+            Limit::History => "history",
         }
     }
 }
@@ -50,46 +56,23 @@ pub enum Refusal {
     /// The words are no command.
     Usage,
     /// Nothing is held at the path.
-    NotFound {
-        path: Bytes,
-    },
+    NotFound { path: Bytes },
     /// The folder is an archive.
-    Archive {
-        path: Bytes,
-    },
+    Archive { path: Bytes },
     /// The file at the path is no class file.
-    BadClass {
-        path: Bytes,
-        fault: ClassFault,
-    },
+    BadClass { path: Bytes, fault: ClassFault },
     /// The classes are no program.
-    BadProgram {
-        fault: ProgramFault,
-    },
+    BadProgram { fault: ProgramFault },
     /// A class of the tests folder is refused for its tests.
-    BadTest {
-        fault: TestFault,
-    },
+    BadTest { fault: TestFault },
     /// Original runs didn't pass: those of these tests.
-    NotGreen {
-        tests: Seq<(Bytes, Outcome)>,
-    },
+    NotGreen { tests: Seq<(Bytes, Outcome)> },
+    /// The history is none: the place of its first fault.
+    HistoryBad { at: u64 },
     /// A count passes its limit.
-    TooMany {
-        limit: Limit,
-        number: u64,
-    },
-    /// No rule of the machine applies at an instruction, by its number, in a test's original run.
-    MachineCheck {
-        test: Bytes,
-        class: Name,
-        method: Name,
-        at: u64,
-    },
+    TooMany { limit: Limit, number: u64 },
     /// The text is none of a class: its first line at fault, counted from 1.
-    AsmRefused {
-        line: u64,
-    },
+    AsmRefused { line: u64 },
 }
 
 // Puts a number and the class that has it.
@@ -205,8 +188,8 @@ impl Refusal {
             Refusal::BadProgram { .. } => 6,
             Refusal::BadTest { .. } => 7,
             Refusal::NotGreen { .. } => 8,
+            Refusal::HistoryBad { .. } => 9,
             Refusal::TooMany { .. } => 12,
-            Refusal::MachineCheck { .. } => 13,
             Refusal::AsmRefused { .. } => 15,
         }
     }
@@ -233,19 +216,15 @@ impl Refusal {
                 let lines = not_green_lines(alloc, tests.as_slice())?;
                 line.extend_from_slice(lines.as_slice())
             }
+            Refusal::HistoryBad { at } => {
+                let mut text = Bytes::new(alloc);
+                put_number(alloc, &mut text, *at)?;
+                put_named(line, "mutest: HistoryBad ", text.as_slice())
+            }
             Refusal::TooMany { limit, number } => {
                 let mut text = Bytes::new(alloc);
                 put_count(alloc, &mut text, limit.name(), *number)?;
                 put_named(line, "mutest: TooMany ", text.as_slice())
-            }
-            Refusal::MachineCheck {
-                test,
-                class,
-                method,
-                at,
-            } => {
-                let text = place_text(alloc, test.as_slice(), class, method, *at)?;
-                put_named(line, "mutest: MachineCheck ", text.as_slice())
             }
             Refusal::AsmRefused { line: number } => {
                 let mut text = Bytes::new(alloc);

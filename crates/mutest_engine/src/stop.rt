@@ -3,13 +3,13 @@
 ghost use Rattle.std.specs.Prelude.{◌≡◌};
 ghost use Rattle.mutest_engine.specs.Steps.{IsHaltOf};
 ghost use Rattle.mutest_engine.specs.Discovered.{IsStopOfTest};
-ghost use Rattle.mutest_engine.specs.Originals.{IsStopOfProgram};
+ghost use Rattle.mutest_engine.specs.Linked.{IsStopOfProgram};
 ghost use Rattle.mutest_engine.specs.declared.stop.Stop.TheVariants as stop;
 ghost use Rattle.mutest_engine.specs.declared.stop.Halt.TheVariants as halt;
 
 use crate::refusal::Refusal;
 use class_model::Memory;
-use suite_program::ProgramEnd;
+use suite_runs::ProgramEnd;
 use test_discovery::TestFault;
 
 /// Of a step that reads nothing: it refuses, or memory runs out.

@@ -3,7 +3,7 @@
 ghost use Rattle.std.specs.Prelude.{◌≡◌, ◌+◌, ◌≤◌, length, map, string_bytes, All, IfSome, IfOk, IfErr};
 ghost use Rattle.mutest_engine.specs.Refusals.{IsOfSuite};
 ghost use Rattle.mutest_engine.specs.Steps.{Asks, Gives, ReadsBy, ReadsHeld, IsNoFault, Refuses, RefusesReading};
-ghost use Rattle.mutest_engine.specs.SuiteFiles.{texts, both_texts, some_of, both_of, Lists, ListsBoth, is_class_path, class_paths, refuse_many_classes, within_sum, read_one, FilesHeld, bytes_in, loaded, all_loaded, both_loaded, ReadsBoth, LoadsHeld, IsSpelled, IsFormed};
+ghost use Rattle.mutest_engine.specs.SuiteFiles.{texts, both_texts, some_of, both_of, Lists, ListsBoth, is_class_path, class_paths, refuse_many_classes, within_sum, read_one, FilesHeld, bytes_in, loaded, all_loaded, both_loaded, ReadsBoth, LoadsHeld, IsRead, IsFormed};
 
 use crate::files::{not_found, read_file, spelled_class};
 use crate::refusal::{Limit, Refusal};
@@ -176,7 +176,7 @@ fn read_files<T: Tree>(
 
 fn load(alloc: Global, file: ClassFile) -> Result<Loaded, Stop>
     ensures value { Gives (loaded file) result }
-    ensures form { IfOk result (λ l. IsSpelled l.class) }
+    ensures form { IfOk result IsRead }
     ensures refusal { IfErr result (Refuses IsOfSuite) }
 {
     let bytes = SharedBytes::new(alloc, file.bytes)?;
@@ -186,7 +186,7 @@ fn load(alloc: Global, file: ClassFile) -> Result<Loaded, Stop>
 
 fn load_all(alloc: Global, files: Seq<ClassFile>) -> Result<Seq<Loaded>, Stop>
     ensures value { Gives (all_loaded files) result }
-    ensures form { IfOk result (All (λ l. IsSpelled l.class)) }
+    ensures form { IfOk result (All IsRead) }
     ensures refusal { IfErr result (Refuses IsOfSuite) }
 {
     let mut all = Seq::new(alloc);
@@ -197,8 +197,8 @@ fn load_all(alloc: Global, files: Seq<ClassFile>) -> Result<Seq<Loaded>, Stop>
     Ok(all)
 }
 
-// The files of both folders, as they are read.
-fn load_both(
+/// The files of both folders, as they are read.
+pub fn load_both(
     alloc: Global,
     classes: Seq<ClassFile>,
     tests: Seq<ClassFile>,

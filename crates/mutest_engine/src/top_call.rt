@@ -2,29 +2,30 @@
 
 ghost use Rattle.std.specs.Prelude.{◌≡◌, ◌⊎◌, ◌<◌, ◌≤◌, ◌^◌, IfOk, IfErr, OnOk, Ok};
 ghost use Rattle.mutest_engine.specs.declared.status.Status.TheVariants.{WantOfMemory};
-ghost use Rattle.mutest_engine.specs.Ends.{line_of, status_of, unwritten_status, CarriedOut, TextEnds, AgreesUntold, MayAnswer, AnswersUntold, AnswersHeld, MetersRun, MetersWords, Makes, Finished, ReadsFailed, WritesFailed, PutsFailed, MeterStays, HaltStays, Wrote, WroteAll, LeavesOne, LeavesAll, FailsWriting, FilesAfter};
-ghost use Rattle.mutest_words.specs.Words.{list_class, as_run_options, as_asm_options, as_run_command, as_asm_command};
+ghost use Rattle.mutest_engine.specs.Ends.{line_of, status_of, unwritten_status, CarriedOut, TextEnds, AgreesUntold, MayAnswer, AnswersUntold, AnswersHeld, MetersWords, Makes, Finished, ReadsFailed, WritesFailed, PutsFailed, MeterStays, HaltStays, Wrote, WroteAll, LeavesOne, LeavesAll, FailsWriting, FilesAfter};
+ghost use Rattle.mutest_words.specs.Words.{list_class, as_asm_options, as_asm_command};
 ghost use Rattle.mutest_engine.specs.Words.{words_of};
-ghost use Rattle.mutest_engine.specs.Decided.{listing, list_answer, report_answer, run_answer, written_class, asm_answer, answer_of};
+ghost use Rattle.mutest_engine.specs.Decided.{listing, list_answer, written_class, asm_answer, answer_of};
 ghost use Rattle.mutest_engine.specs.Answers.{answered, one_write, writes_of, made, one};
 ghost use Rattle.mutest_engine.specs.SuiteFiles.{texts};
 ghost use Rattle.mutest_engine.specs.Steps.{OnlyReads};
-ghost use Rattle.mutest_engine.specs.Promises.{Tells, PrintsMade, PrintsOf, Puts, PutsUntold, AgreesHeld, LeavesOf, LeavesHeld, WritesLast, MeterHeld};
+ghost use Rattle.mutest_engine.specs.Promises.{Tells, PrintsMade, PrintsOf, Puts, PutsUntold, AgreesHeld, LeavesOf, LeavesHeld, LeavesScratch, WritesLast, MeterHeld, MetersTruly, AnswersTruly};
 
 use crate::answer::{Answer, Product, Write};
 use crate::assembling::class_file_of;
 use crate::files::{read_file, spelled_class};
-use crate::mutation::report_input;
+use crate::generated::generate_answer;
+use crate::running::run_answer;
 use crate::status::{Output, Status};
 use crate::stop::Halt;
-use crate::suite::load_suite;
 use crate::words::read_words;
 use class_model::{Bytes, Class, Memory};
-use mt_edge::{EdgeFault, Meter, Sink, Tree};
+use mt_edge::{EdgeFault, Gate, Keeper, Meter, Sink, Tree};
 use mutator_ops::{class_mutants, id_lines};
-use mutest_words::{AsmOptions, Command, RunOptions};
-use report_schema::{ReportInput, report_text, summary_text};
+use mutest_words::{AsmOptions, Command};
 use std::alloc::Global;
+use std::sync::Wait;
+use std::thread::Threads;
 
 // ---- answers
 
@@ -69,38 +70,6 @@ fn one_write<'a>(
     Ok(writes)
 }
 
-// The report at its path, and the summary.
-fn report_answer<'a>(alloc: Global, path: &'a str, input: &ReportInput) -> Result<Answer<'a>, Halt>
-    ensures { Makes (report_answer path.now input.now) result }
-{
-    let text = summary_text(alloc, &input.verdicts)?;
-    let bytes = report_text(alloc, input)?;
-    let writes = one_write(alloc, Product::Report, path, bytes)?;
-    Ok(Answer { writes, text })
-}
-
-// The report on a suite and its summary. The meter rises by the steps of all runs.
-#[tactic(auto, using(crate::proofs::RefusalLaws::of_report_input))]
-fn run_answer<'a, T: Tree>(
-    alloc: Global,
-    tree: &mut T,
-    options: RunOptions<'a>,
-    meter: &mut Meter,
-) -> Result<Answer<'a>, Halt>
-    requires { meter.old < 2 ^ 63 }
-    ensures value { AnswersHeld (T.holds tree.old)
-        (run_answer (as_run_options options.entry)) result }
-    ensures answer { MayAnswer (as_run_command options.entry) result }
-    ensures meter { MetersRun (T.holds tree.old) meter.old meter.new options.entry result }
-    ensures stays { IfErr result (HaltStays meter.old meter.new) }
-    ensures later { meter.old ≤ meter.new }
-    ensures tree { OnlyReads T.holds T.writing T.reading tree.old tree.new result }
-{
-    let loaded = load_suite(alloc, tree, options.classes, options.tests)?;
-    let input = report_input(alloc, loaded, meter)?;
-    report_answer(alloc, options.report, &input)
-}
-
 // A class file at its path, and no text.
 fn written_class<'a>(alloc: Global, path: &'a str, bytes: Bytes) -> Result<Answer<'a>, Halt>
     ensures { Makes (written_class path.now bytes) result }
@@ -130,24 +99,30 @@ fn asm_answer<'a, T: Tree>(
 
 // What the words ask for.
 #[tactic(auto, using(crate::proofs::Ends::untold_answer))]
-fn answer_to<'a, T: Tree>(
+fn answer_to<'a, W: Threads + Wait + Sync, T: Tree, G: Gate + Sync>(
+    rt: &W,
     alloc: Global,
     words: &'a Vec<String>,
     tree: &mut T,
+    gate: &G,
     meter: &mut Meter,
 ) -> Result<Answer<'a>, Halt>
-    requires { meter.old < 2 ^ 63 }
+    requires { meter.old < 2 ^ 62 }
     ensures value { AnswersHeld (T.holds tree.old) (answer_of (texts words.now)) result }
+    ensures scratch { AnswersTruly (T.holds tree.old) (texts words.now) result }
     ensures untold { AnswersUntold (words_of (texts words.now)) result }
     ensures meter { MetersWords (T.holds tree.old) meter.old meter.new (texts words.now) result }
+    ensures scratch_meter { MetersTruly (T.holds tree.old) meter.old meter.new (texts words.now)
+        result }
     ensures stays { IfErr result (HaltStays meter.old meter.new) }
     ensures later { meter.old ≤ meter.new }
     ensures tree { OnlyReads T.holds T.writing T.reading tree.old tree.new result }
 {
     match read_words(alloc, words)? {
         Command::List(file) => list_answer(alloc, tree, file),
-        Command::Run(options) => run_answer(alloc, tree, options, meter),
+        Command::Run(options) => run_answer(rt, alloc, tree, options, gate, meter),
         Command::Assemble(options) => asm_answer(alloc, tree, options),
+        Command::Generate(options) => generate_answer(rt, alloc, options, gate, meter),
     }
 }
 
@@ -293,39 +268,56 @@ fn finish<T: Tree, S: Sink>(
 }
 
 /// Does what the words behind the program's name say. `list FILE` puts the identifiers of the
-/// mutants of the class file FILE, one per line. `run --classes DIR --tests DIR --report FILE` runs
-/// each test of a suite on each of its mutants, replaces the report and puts the summary.
-/// `asm FILE --out FILE` replaces the second file by the class file that the text of the first
-/// states. Options stand in any order.
-pub fn run<T: Tree, S: Sink>(
+/// mutants of the class file FILE, one per line. `run --classes DIR --tests DIR --report FILE
+/// --new-history FILE` runs the tests of a suite on each of its mutants that they cover, but for the
+/// runs that the history of `--history FILE` has; it replaces the report and the new history, and
+/// puts the summary. The runs are shared by the workers of `--workers N`, and each may take the words
+/// of `--heap N` and the frames of `--depth N`. `asm FILE --out FILE` replaces the second file by the
+/// class file that the text of the first states. `generate N` runs the tests of a suite of N classes
+/// that is made, and puts the summary alone; it has workers, too. Options stand in any order. The
+/// gate is told what workers do. The keeper is handed back untouched.
+pub fn run<W: Threads + Wait + Sync, T: Tree, S: Sink, G: Gate + Sync, K: Keeper + Send>(
+    rt: &W,
     alloc: Global,
     words: &Vec<String>,
     tree: &mut T,
     out: &mut S,
+    gate: &G,
+    keeper: K,
     meter: &mut Meter,
-) -> Status
-    requires { meter.old < 2 ^ 63 }
+) -> (Status, K)
+    requires { meter.old < 2 ^ 62 }
     // Where the tree tells its files, each status comes exactly where words and files say so, but
     // for faults and want of memory.
-    ensures status { AgreesHeld (T.holds tree.old) words.now result }
+    ensures status { AgreesHeld (T.holds tree.old) words.now result.0 }
+    // Where all records of the history are true, status, text and files are those of running every
+    // test on every mutant from scratch, however many workers there are; and the meter rises by the
+    // steps of the runs that the history lacks.
+    ensures scratch { LeavesScratch S.faults S.written out.old out.new (T.holds tree.old)
+        (T.holds tree.new) words.now meter.old meter.new result.0 }
     // Whatever the tree tells: what the words alone decide.
-    ensures status_untold { AgreesUntold (words_of (texts words.now)) result }
+    ensures status_untold { AgreesUntold (words_of (texts words.now)) result.0 }
     // A fault comes only where the object's faults rose.
-    ensures read_faults { ReadsFailed (T.reading tree.old) (T.reading tree.new) result }
-    ensures write_faults { WritesFailed (T.writing tree.old) (T.writing tree.new) result }
-    ensures put_faults { PutsFailed (S.faults out.old) (S.faults out.new) result }
+    ensures read_faults { ReadsFailed (T.reading tree.old) (T.reading tree.new) result.0 }
+    ensures write_faults { WritesFailed (T.writing tree.old) (T.writing tree.new) result.0 }
+    ensures put_faults { PutsFailed (S.faults out.old) (S.faults out.new) result.0 }
     // What the sink got.
-    ensures printed { Puts S.faults S.written out.old out.new (T.holds tree.old) words.now result }
-    ensures printed_untold { PutsUntold S.faults S.written out.old out.new words.now result }
+    ensures printed { Puts S.faults S.written out.old out.new (T.holds tree.old) words.now
+        result.0 }
+    ensures printed_untold { PutsUntold S.faults S.written out.old out.new words.now result.0 }
     // What the tree holds then.
-    ensures files { LeavesHeld (T.holds tree.old) (T.holds tree.new) words.now result }
-    // Nothing is written before the last run.
+    ensures files { LeavesHeld (T.holds tree.old) (T.holds tree.new) words.now result.0 }
+    // Nothing is written before the last run that is needed.
     ensures last { WritesLast (T.holds tree.old) (T.holds tree.new) words.now meter.old meter.new }
-    // The steps of the runs that were made.
-    ensures meter { MeterHeld (T.holds tree.old) words.now meter.old meter.new result }
+    // The steps of the runs that were made: with one worker exactly those of the needed runs that
+    // the history lacks.
+    ensures meter { MeterHeld (T.holds tree.old) words.now meter.old meter.new result.0 }
     // Whatever the tree tells: none before the first run.
-    ensures meter_untold { MeterStays meter.old meter.new result }
+    ensures meter_untold { MeterStays meter.old meter.new result.0 }
+    // No call is made on the keeper.
+    ensures keeper { result.1 ≡ keeper }
 {
-    let answer = answer_to(alloc, words, tree, meter);
-    finish(alloc, tree, out, answer)
+    let answer = answer_to(rt, alloc, words, tree, gate, meter);
+    let status = finish(alloc, tree, out, answer);
+    (status, keeper)
 }

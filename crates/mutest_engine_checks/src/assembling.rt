@@ -5,7 +5,9 @@ use class_model::Bytes;
 use mt_edge::MemTree;
 use sample_classes::A;
 use std::alloc::Global;
+use std::sync::Wait;
 use std::test::Fail;
+use std::thread::Threads;
 
 // The text of the class `A`.
 const TEXT: &str = "class A super java/lang/Object flags 33 major 52
@@ -36,20 +38,21 @@ fn held(alloc: Global, text: &[u8], fails: &[u64]) -> Result<MemTree, Fail> {
 
 // The status number and the output of a call, and whether something stands at A.class behind it.
 fn called(
-    alloc: Global,
+    rt: &(impl Threads + Wait + Sync + AllocGlobal),
     words: &[&str],
     text: &[u8],
     fails: &[u64],
 ) -> Result<(i32, Bytes, bool), Fail> {
+    let alloc = rt.alloc();
     let mut tree = held(alloc, text, fails)?;
-    let told = call(alloc, words, &mut tree, &[])?;
+    let told = call(rt, words, &mut tree, &[])?;
     Ok((told.0, told.1, tree.held("A.class").is_some()))
 }
 
 #[test]
 fn a_text_is_assembled(rt: HostRuntime) -> Result<(), Fail> {
     let mut tree = held(rt.alloc(), TEXT.as_bytes(), &[])?;
-    let told = call(rt.alloc(), &WORDS, &mut tree, &[])?;
+    let told = call(&rt, &WORDS, &mut tree, &[])?;
     assert_eq!(rt; told.0, 0);
     assert_eq!(rt; told.1.as_slice(), b"".as_slice());
     assert_eq!(rt; told.2, 0);
@@ -73,7 +76,7 @@ iload_0
 ireturn
 end
 ";
-    let told = called(rt.alloc(), &WORDS, text.as_bytes(), &[])?;
+    let told = called(&rt, &WORDS, text.as_bytes(), &[])?;
     assert_eq!(rt; told.0, 15);
     assert!(rt; !told.2);
     assert_eq!(rt; told.1.as_slice(), b"mutest: AsmRefused 3\n".as_slice());
@@ -83,7 +86,7 @@ end
 #[test]
 fn the_option_may_stand_before_the_text(rt: HostRuntime) -> Result<(), Fail> {
     let words = ["asm", "--out", "A.class", "A.txt"];
-    let told = called(rt.alloc(), &words, TEXT.as_bytes(), &[])?;
+    let told = called(&rt, &words, TEXT.as_bytes(), &[])?;
     assert_eq!(rt; told.0, 0);
     assert!(rt; told.2);
     Ok(())
@@ -101,7 +104,7 @@ fn other_words_for_a_text_are_refused(rt: HostRuntime) -> Result<(), Fail> {
         &["asm", "A.txt", "--out=A.class", "x"],
     ];
     for words in calls {
-        let told = called(rt.alloc(), words, TEXT.as_bytes(), &[])?;
+        let told = called(&rt, words, TEXT.as_bytes(), &[])?;
         assert_eq!(rt; told.0, 2);
         assert!(rt; !told.2);
         assert_eq!(rt; told.1.as_slice(), b"mutest: Usage\n".as_slice());
@@ -112,7 +115,7 @@ fn other_words_for_a_text_are_refused(rt: HostRuntime) -> Result<(), Fail> {
 #[test]
 fn what_else_may_fail_is_told(rt: HostRuntime) -> Result<(), Fail> {
     let absent = called(
-        rt.alloc(),
+        &rt,
         &["asm", "B.txt", "--out", "A.class"],
         TEXT.as_bytes(),
         &[],
@@ -120,11 +123,11 @@ fn what_else_may_fail_is_told(rt: HostRuntime) -> Result<(), Fail> {
     assert_eq!(rt; absent.0, 3);
     assert!(rt; !absent.2);
     assert_eq!(rt; absent.1.as_slice(), b"mutest: NotFound B.txt\n".as_slice());
-    let unread = called(rt.alloc(), &WORDS, TEXT.as_bytes(), &[0])?;
+    let unread = called(&rt, &WORDS, TEXT.as_bytes(), &[0])?;
     assert_eq!(rt; unread.0, 10);
     assert!(rt; !unread.2);
     assert_eq!(rt; unread.1.as_slice(), b"mutest: ReadFault\n".as_slice());
-    let unwritten = called(rt.alloc(), &WORDS, TEXT.as_bytes(), &[1])?;
+    let unwritten = called(&rt, &WORDS, TEXT.as_bytes(), &[1])?;
     assert_eq!(rt; unwritten.0, 11);
     assert!(rt; !unwritten.2);
     assert_eq!(rt;
@@ -132,7 +135,7 @@ fn what_else_may_fail_is_told(rt: HostRuntime) -> Result<(), Fail> {
         b"mutest: WriteFault assembled\n".as_slice()
     );
     let blanks = vec![in rt.alloc(); b'\n'; 4_194_305]?;
-    let long = called(rt.alloc(), &WORDS, blanks.as_slice(), &[])?;
+    let long = called(&rt, &WORDS, blanks.as_slice(), &[])?;
     assert_eq!(rt; long.0, 12);
     assert!(rt; !long.2);
     assert_eq!(rt;

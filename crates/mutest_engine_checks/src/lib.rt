@@ -7,11 +7,21 @@ mod assembling;
 #[cfg(test)]
 mod calls;
 #[cfg(test)]
+mod generated;
+#[cfg(test)]
+mod history;
+#[cfg(test)]
+mod limits;
+#[cfg(test)]
 mod listing;
+#[cfg(test)]
+mod matrix;
 #[cfg(test)]
 mod needed;
 #[cfg(test)]
 mod running;
 mod same_call;
+#[cfg(test)]
+mod sourced;
 
 pub use same_call::called;

@@ -5,23 +5,26 @@ use class_model::Bytes;
 use mt_edge::MemTree;
 use sample_classes::{A, A_BARE, T};
 use std::alloc::Global;
+use std::sync::Wait;
 use std::test::Fail;
+use std::thread::Threads;
 
 // The status number and the output of a call, where the tree holds these bytes at A.class.
 fn called(
-    alloc: Global,
+    rt: &(impl Threads + Wait + Sync + AllocGlobal),
     words: &[&str],
     bytes: &[u8],
     tree_fails: &[u64],
     sink_fails: &[u64],
 ) -> Result<(i32, Bytes), Fail> {
+    let alloc = rt.alloc();
     let mut files = Vec::new(alloc);
     files.push((
         String::from_str(alloc, "A.class")?,
         Bytes::from_slice(alloc, bytes)?,
     ))?;
     let mut tree = MemTree::new(alloc, files, tree_fails.to_vec(alloc)?)?;
-    let told = call(alloc, words, &mut tree, sink_fails)?;
+    let told = call(rt, words, &mut tree, sink_fails)?;
     Ok((told.0, told.1))
 }
 
@@ -29,15 +32,15 @@ fn called(
 fn the_mutants_of_a_class_are_listed(rt: HostRuntime) -> Result<(), Fail> {
     let lines =
         b"A.f(I)Z@1:CONDITIONALS_BOUNDARY\nA.f(I)Z@1:NEGATE_CONDITIONALS\nA.f(I)Z@3:FALSE_RETURNS\nA.f(I)Z@3:TRUE_RETURNS\nA.f(I)Z@5:FALSE_RETURNS\nA.f(I)Z@5:TRUE_RETURNS\n".as_slice();
-    let bare = called(rt.alloc(), &["list", "A.class"], &A_BARE, &[], &[])?;
+    let bare = called(&rt, &["list", "A.class"], &A_BARE, &[], &[])?;
     assert_eq!(rt; bare.0, 0);
     assert_eq!(rt; bare.1.as_slice(), lines);
-    let whole = called(rt.alloc(), &["list", "A.class"], &A, &[], &[])?;
+    let whole = called(&rt, &["list", "A.class"], &A, &[], &[])?;
     assert_eq!(rt; whole.0, 0);
     assert_eq!(rt; whole.1.as_slice(), lines);
     // A jump that compares for equality has no boundary.
     let equal = damaged(rt.alloc(), 126, 0x99)?;
-    let others = called(rt.alloc(), &["list", "A.class"], equal.as_slice(), &[], &[])?;
+    let others = called(&rt, &["list", "A.class"], equal.as_slice(), &[], &[])?;
     assert_eq!(rt;
         others.1.as_slice(),
         b"A.f(I)Z@1:NEGATE_CONDITIONALS\nA.f(I)Z@3:FALSE_RETURNS\nA.f(I)Z@3:TRUE_RETURNS\nA.f(I)Z@5:FALSE_RETURNS\nA.f(I)Z@5:TRUE_RETURNS\n".as_slice()
@@ -47,7 +50,7 @@ fn the_mutants_of_a_class_are_listed(rt: HostRuntime) -> Result<(), Fail> {
 
 #[test]
 fn a_class_of_tests_is_read(rt: HostRuntime) -> Result<(), Fail> {
-    let read = called(rt.alloc(), &["list", "A.class"], &T, &[], &[])?;
+    let read = called(&rt, &["list", "A.class"], &T, &[], &[])?;
     assert_eq!(rt; read.0, 0);
     // The constructor's call of another constructor is no call that may go.
     assert_eq!(rt;
@@ -69,7 +72,7 @@ fn other_words_are_refused(rt: HostRuntime) -> Result<(), Fail> {
         &["list", "A.class", "A.class"],
     ];
     for words in calls {
-        let told = called(rt.alloc(), words, &A, &[], &[])?;
+        let told = called(&rt, words, &A, &[], &[])?;
         assert_eq!(rt; told.0, 2);
         assert_eq!(rt; told.1.as_slice(), b"mutest: Usage\n".as_slice());
     }
@@ -78,16 +81,16 @@ fn other_words_are_refused(rt: HostRuntime) -> Result<(), Fail> {
 
 #[test]
 fn faults_of_the_outside_are_told(rt: HostRuntime) -> Result<(), Fail> {
-    let absent = called(rt.alloc(), &["list", "B.class"], &A, &[], &[])?;
+    let absent = called(&rt, &["list", "B.class"], &A, &[], &[])?;
     assert_eq!(rt; absent.0, 3);
     assert_eq!(rt;
         absent.1.as_slice(),
         b"mutest: NotFound B.class\n".as_slice()
     );
-    let unread = called(rt.alloc(), &["list", "A.class"], &A, &[0], &[])?;
+    let unread = called(&rt, &["list", "A.class"], &A, &[0], &[])?;
     assert_eq!(rt; unread.0, 10);
     assert_eq!(rt; unread.1.as_slice(), b"mutest: ReadFault\n".as_slice());
-    let unwritten = called(rt.alloc(), &["list", "A.class"], &A, &[], &[0])?;
+    let unwritten = called(&rt, &["list", "A.class"], &A, &[], &[0])?;
     assert_eq!(rt; unwritten.0, 11);
     assert_eq!(rt;
         unwritten.1.as_slice(),
@@ -105,13 +108,7 @@ fn damaged_files_are_refused_at_their_place(rt: HostRuntime) -> Result<(), Fail>
         (159, "mutest: BadClass A.class 3 158\n"),
     ];
     for (length, text) in cuts {
-        let told = called(
-            rt.alloc(),
-            &["list", "A.class"],
-            &A[..length.min(160)],
-            &[],
-            &[],
-        )?;
+        let told = called(&rt, &["list", "A.class"], &A[..length.min(160)], &[], &[])?;
         assert_eq!(rt; told.0, 5);
         assert_eq!(rt; told.1.as_slice(), text.as_bytes());
     }
@@ -125,19 +122,13 @@ fn damaged_files_are_refused_at_their_place(rt: HostRuntime) -> Result<(), Fail>
     ];
     for (at, byte, status, text) in puts {
         let bytes = damaged(rt.alloc(), at, byte)?;
-        let told = called(rt.alloc(), &["list", "A.class"], bytes.as_slice(), &[], &[])?;
+        let told = called(&rt, &["list", "A.class"], bytes.as_slice(), &[], &[])?;
         assert_eq!(rt; told.0, status);
         assert_eq!(rt; told.1.as_slice(), text.as_bytes());
     }
     let mut longer = A.to_vec(rt.alloc())?;
     longer.push(0)?;
-    let told = called(
-        rt.alloc(),
-        &["list", "A.class"],
-        longer.as_slice(),
-        &[],
-        &[],
-    )?;
+    let told = called(&rt, &["list", "A.class"], longer.as_slice(), &[], &[])?;
     assert_eq!(rt; told.0, 5);
     assert_eq!(rt;
         told.1.as_slice(),
@@ -150,20 +141,14 @@ fn damaged_files_are_refused_at_their_place(rt: HostRuntime) -> Result<(), Fail>
 fn a_file_past_the_limit_is_refused_unread(rt: HostRuntime) -> Result<(), Fail> {
     // Reading it would fail.
     let bytes = vec![in rt.alloc(); 0u8; 4_194_305]?;
-    let told = called(
-        rt.alloc(),
-        &["list", "A.class"],
-        bytes.as_slice(),
-        &[0],
-        &[],
-    )?;
+    let told = called(&rt, &["list", "A.class"], bytes.as_slice(), &[0], &[])?;
     assert_eq!(rt; told.0, 12);
     assert_eq!(rt;
         told.1.as_slice(),
         b"mutest: TooMany class 4194305\n".as_slice()
     );
     let most = vec![in rt.alloc(); 0u8; 4_194_304]?;
-    let last = called(rt.alloc(), &["list", "A.class"], most.as_slice(), &[], &[])?;
+    let last = called(&rt, &["list", "A.class"], most.as_slice(), &[], &[])?;
     assert_eq!(rt; last.0, 5);
     Ok(())
 }

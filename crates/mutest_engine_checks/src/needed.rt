@@ -5,10 +5,12 @@ use class_model::Bytes;
 use mt_edge::MemTree;
 use sample_classes::{A, T};
 use std::alloc::Global;
+use std::sync::Wait;
 use std::test::Fail;
+use std::thread::Threads;
 
-// `static int g(int)`, which answers its argument negated.
-const B: [u8; 130] = [
+/// `static int g(int)`, which answers its argument negated.
+pub const B: [u8; 130] = [
     0xca, 0xfe, 0xba, 0xbe, 0x00, 0x00, 0x00, 0x34, 0x00, 0x09, 0x01, 0x00, 0x01, 0x42, 0x07, 0x00,
     0x01, 0x01, 0x00, 0x10, 0x6a, 0x61, 0x76, 0x61, 0x2f, 0x6c, 0x61, 0x6e, 0x67, 0x2f, 0x4f, 0x62,
     0x6a, 0x65, 0x63, 0x74, 0x07, 0x00, 0x03, 0x01, 0x00, 0x01, 0x67, 0x01, 0x00, 0x04, 0x28, 0x49,
@@ -61,7 +63,7 @@ const W_TEST: [u8; 334] = [
     0x00, 0x17, 0x00, 0x00, 0x00, 0x06, 0x00, 0x01, 0x00, 0x18, 0x00, 0x00, 0x00, 0x00,
 ];
 
-const WORDS: [&str; 7] = [
+const WORDS: [&str; 9] = [
     "run",
     "--classes",
     "c",
@@ -69,10 +71,16 @@ const WORDS: [&str; 7] = [
     "t",
     "--report",
     "r.json",
+    "--new-history",
+    "new.mth",
 ];
 
 // What `run` tells of these files.
-fn run_of(alloc: Global, files: &[(&str, &[u8])]) -> Result<(i32, Bytes, u64), Fail> {
+fn run_of(
+    rt: &(impl Threads + Wait + Sync + AllocGlobal),
+    files: &[(&str, &[u8])],
+) -> Result<(i32, Bytes, u64), Fail> {
+    let alloc = rt.alloc();
     let mut held = Vec::new(alloc);
     for (path, bytes) in files {
         held.push((
@@ -81,7 +89,7 @@ fn run_of(alloc: Global, files: &[(&str, &[u8])]) -> Result<(i32, Bytes, u64), F
         ))?;
     }
     let mut tree = MemTree::new(alloc, held, Vec::new(alloc))?;
-    call(alloc, &WORDS, &mut tree, &[])
+    call(rt, &WORDS, &mut tree, &[])
 }
 
 #[test]
@@ -91,11 +99,11 @@ fn mutants_that_no_test_reaches_take_no_step(rt: HostRuntime) -> Result<(), Fail
         ("c/B.class", B.as_slice()),
         ("t/T.class", T.as_slice()),
     ];
-    let told = run_of(rt.alloc(), &files)?;
+    let told = run_of(&rt, &files)?;
     assert_eq!(rt; told.0, 0);
     assert_eq!(rt;
         told.1.as_slice(),
-        b"mutants 8 killed 4 survived 2 no_coverage 2 timed_out 0 non_viable 0 errors 0\n".as_slice()
+        b"mutants 8 killed 4 survived 2 no_coverage 2 timed_out 0 non_viable 0 errors 0 reused 0\n".as_slice()
     );
     assert_eq!(rt; told.2, 188);
     Ok(())
@@ -107,11 +115,11 @@ fn a_mutant_without_end_takes_its_limit(rt: HostRuntime) -> Result<(), Fail> {
         ("c/W.class", W.as_slice()),
         ("t/WTest.class", W_TEST.as_slice()),
     ];
-    let told = run_of(rt.alloc(), &files)?;
+    let told = run_of(&rt, &files)?;
     assert_eq!(rt; told.0, 0);
     assert_eq!(rt;
         told.1.as_slice(),
-        b"mutants 4 killed 3 survived 0 no_coverage 0 timed_out 1 non_viable 0 errors 0\n".as_slice()
+        b"mutants 4 killed 3 survived 0 no_coverage 0 timed_out 1 non_viable 0 errors 0 reused 0\n".as_slice()
     );
     // The original takes 29 steps, so the limit is 100,036; the three that are killed take 34, 19
     // and 31.

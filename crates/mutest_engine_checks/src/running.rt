@@ -6,12 +6,14 @@ use mt_edge::MemTree;
 use mutest_engine::{Halt, Refusal, load_suite};
 use sample_classes::{A, T};
 use std::alloc::Global;
+use std::sync::Wait;
 use std::test::Fail;
+use std::thread::Threads;
 
 // The second byte of the index by which `neg` names assertTrue; that of assertFalse is 23.
 const NEG_ASSERTS: usize = 306;
 
-const WORDS: [&str; 7] = [
+const WORDS: [&str; 9] = [
     "run",
     "--classes",
     "c/",
@@ -19,6 +21,8 @@ const WORDS: [&str; 7] = [
     "t",
     "--report",
     "r.json",
+    "--new-history",
+    "new.mth",
 ];
 
 // A tree of some files, each with the bytes of A or T.
@@ -77,29 +81,30 @@ fn suite(alloc: Global, class: &[u8], test: &[u8], fails: &[u64]) -> Result<MemT
 
 // What `run` tells of a class and a class of tests.
 fn run_of(
-    alloc: Global,
+    rt: &(impl Threads + Wait + Sync + AllocGlobal),
     class: &[u8],
     test: &[u8],
     fails: &[u64],
 ) -> Result<(i32, Bytes, u64), Fail> {
+    let alloc = rt.alloc();
     let mut tree = suite(alloc, class, test, fails)?;
-    call(alloc, &WORDS, &mut tree, &[])
+    call(rt, &WORDS, &mut tree, &[])
 }
 
 #[test]
 fn tests_run_until_one_detects_the_mutant(rt: HostRuntime) -> Result<(), Fail> {
     let mut tree = suite(rt.alloc(), &A, &T, &[])?;
-    let told = call(rt.alloc(), &WORDS, &mut tree, &[])?;
+    let told = call(&rt, &WORDS, &mut tree, &[])?;
     assert_eq!(rt; told.0, 0);
     assert_eq!(rt;
         told.1.as_slice(),
-        b"mutants 6 killed 4 survived 2 no_coverage 0 timed_out 0 non_viable 0 errors 0\n".as_slice()
+        b"mutants 6 killed 4 survived 2 no_coverage 0 timed_out 0 non_viable 0 errors 0 reused 0\n".as_slice()
     );
     // Of fourteen runs two aren't needed, behind one that detects its mutant. Each takes 15 steps,
     // and 2 more where another value is returned.
     assert_eq!(rt; told.2, 188);
     let report =
-        br#"{"files":{"A.java":{"language":"java","mutants":[{"coveredBy":["T.neg","T.zero"],"id":"A.f(I)Z@1:CONDITIONALS_BOUNDARY","killedBy":["T.zero"],"location":{"end":{"column":2,"line":3},"start":{"column":1,"line":3}},"mutatorName":"CONDITIONALS_BOUNDARY","status":"Killed","statusReason":"java.lang.AssertionError"},{"coveredBy":["T.neg","T.zero"],"id":"A.f(I)Z@1:NEGATE_CONDITIONALS","killedBy":["T.neg"],"location":{"end":{"column":2,"line":3},"start":{"column":1,"line":3}},"mutatorName":"NEGATE_CONDITIONALS","status":"Killed","statusReason":"java.lang.AssertionError"},{"coveredBy":["T.neg","T.zero"],"id":"A.f(I)Z@3:FALSE_RETURNS","killedBy":["T.neg"],"location":{"end":{"column":2,"line":3},"start":{"column":1,"line":3}},"mutatorName":"FALSE_RETURNS","status":"Killed","statusReason":"java.lang.AssertionError"},{"coveredBy":["T.neg","T.zero"],"id":"A.f(I)Z@3:TRUE_RETURNS","location":{"end":{"column":2,"line":3},"start":{"column":1,"line":3}},"mutatorName":"TRUE_RETURNS","status":"Survived"},{"coveredBy":["T.neg","T.zero"],"id":"A.f(I)Z@5:FALSE_RETURNS","location":{"end":{"column":2,"line":3},"start":{"column":1,"line":3}},"mutatorName":"FALSE_RETURNS","status":"Survived"},{"coveredBy":["T.neg","T.zero"],"id":"A.f(I)Z@5:TRUE_RETURNS","killedBy":["T.zero"],"location":{"end":{"column":2,"line":3},"start":{"column":1,"line":3}},"mutatorName":"TRUE_RETURNS","status":"Killed","statusReason":"java.lang.AssertionError"}],"source":""}},"schemaVersion":"1","testFiles":{},"thresholds":{"high":80,"low":60}}"#.as_slice();
+        br#"{"files":{"A.java":{"language":"java","mutants":[{"coveredBy":["T.neg","T.zero"],"id":"A.f(I)Z@1:CONDITIONALS_BOUNDARY","killedBy":["T.zero"],"location":{"end":{"column":2,"line":3},"start":{"column":1,"line":3}},"mutatorName":"CONDITIONALS_BOUNDARY","status":"Killed","statusReason":"java.lang.AssertionError"},{"coveredBy":["T.neg","T.zero"],"id":"A.f(I)Z@1:NEGATE_CONDITIONALS","killedBy":["T.neg"],"location":{"end":{"column":2,"line":3},"start":{"column":1,"line":3}},"mutatorName":"NEGATE_CONDITIONALS","status":"Killed","statusReason":"java.lang.AssertionError"},{"coveredBy":["T.neg","T.zero"],"id":"A.f(I)Z@3:FALSE_RETURNS","killedBy":["T.neg"],"location":{"end":{"column":2,"line":3},"start":{"column":1,"line":3}},"mutatorName":"FALSE_RETURNS","status":"Killed","statusReason":"java.lang.AssertionError"},{"coveredBy":["T.neg","T.zero"],"id":"A.f(I)Z@3:TRUE_RETURNS","location":{"end":{"column":2,"line":3},"start":{"column":1,"line":3}},"mutatorName":"TRUE_RETURNS","status":"Survived"},{"coveredBy":["T.neg","T.zero"],"id":"A.f(I)Z@5:FALSE_RETURNS","location":{"end":{"column":2,"line":3},"start":{"column":1,"line":3}},"mutatorName":"FALSE_RETURNS","status":"Survived"},{"coveredBy":["T.neg","T.zero"],"id":"A.f(I)Z@5:TRUE_RETURNS","killedBy":["T.zero"],"location":{"end":{"column":2,"line":3},"start":{"column":1,"line":3}},"mutatorName":"TRUE_RETURNS","status":"Killed","statusReason":"java.lang.AssertionError"}],"source":""}},"schemaVersion":"1","testFiles":{"T.java":{"tests":[{"id":"T.neg","name":"neg"},{"id":"T.zero","name":"zero"}]}},"thresholds":{"high":80,"low":60}}"#.as_slice();
     match tree.held("r.json") {
         Some(written) => assert_eq!(rt; written, report),
         None => assert!(rt; false, "the report is written"),
@@ -110,7 +115,7 @@ fn tests_run_until_one_detects_the_mutant(rt: HostRuntime) -> Result<(), Fail> {
 #[test]
 fn a_report_that_cannot_be_replaced_is_told(rt: HostRuntime) -> Result<(), Fail> {
     // Two folders are listed before, and two files are read.
-    let told = run_of(rt.alloc(), &A, &T, &[4])?;
+    let told = run_of(&rt, &A, &T, &[4])?;
     assert_eq!(rt; told.0, 11);
     assert_eq!(rt;
         told.1.as_slice(),
@@ -127,61 +132,49 @@ fn options_stand_in_any_order(rt: HostRuntime) -> Result<(), Fail> {
         "run",
         "--report",
         "r.json",
+        "--new-history=new.mth",
         "--tests",
         "t",
         "--classes",
         "c",
     ];
-    let told = call(rt.alloc(), &words, &mut tree, &[])?;
+    let told = call(&rt, &words, &mut tree, &[])?;
     assert_eq!(rt; told.0, 0);
     assert_eq!(rt; told.2, 188);
     assert!(rt; tree.held("r.json").is_some());
     Ok(())
 }
 
+// The words of `run` on two folders, with these options.
+fn words_with<'a>(alloc: Global, options: &[&'a str]) -> Result<Vec<&'a str>, Fail> {
+    let mut words = Vec::new(alloc);
+    for word in ["run", "--classes", "c", "--tests", "t"] {
+        words.push(word)?;
+    }
+    for word in options {
+        words.push(*word)?;
+    }
+    Ok(words)
+}
+
 #[test]
 fn other_options_are_refused(rt: HostRuntime) -> Result<(), Fail> {
-    let calls: [&[&str]; 6] = [
-        &["run"],
-        // One is missing, stands twice, isn't known, or has no value; a word is none.
-        &["run", "--classes", "c", "--tests", "t"],
-        &[
-            "run",
-            "--classes",
-            "c",
-            "--tests",
-            "t",
-            "--report",
-            "r",
-            "--classes",
-            "c",
-        ],
-        &[
-            "run",
-            "--classes",
-            "c",
-            "--tests",
-            "t",
-            "--report",
-            "r",
-            "--class",
-            "c",
-        ],
-        &["run", "--classes", "c", "--tests", "t", "--report"],
-        &[
-            "run",
-            "c",
-            "--classes",
-            "c",
-            "--tests",
-            "t",
-            "--report",
-            "r",
-        ],
+    // The new history is missing, one has no value, a path is written twice, a history is where the
+    // report goes, workers are too many.
+    let calls: [&[&str]; 8] = [
+        &[],
+        &["--report", "r"],
+        &["--report", "r", "--new-history"],
+        &["--report", "r", "--new-history", "r"],
+        &["--report", "r", "--new-history", "h", "--history", "r"],
+        &["--report", "r", "--new-history", "h", "--workers", "65"],
+        &["--report", "r", "--new-history", "h", "--workers", "0"],
+        &["--report", "r", "--new-history", "h", "--class", "c"],
     ];
-    for words in calls {
+    for options in calls {
+        let words = words_with(rt.alloc(), options)?;
         let mut tree = suite(rt.alloc(), &A, &T, &[])?;
-        let told = call(rt.alloc(), words, &mut tree, &[])?;
+        let told = call(&rt, words.as_slice(), &mut tree, &[])?;
         assert_eq!(rt; told.0, 2);
         assert_eq!(rt; told.1.as_slice(), b"mutest: Usage\n".as_slice());
     }
@@ -199,8 +192,10 @@ fn archives_are_refused(rt: HostRuntime) -> Result<(), Fail> {
         "t",
         "--report",
         "r.json",
+        "--new-history",
+        "new.mth",
     ];
-    let told = call(rt.alloc(), &words, &mut tree, &[])?;
+    let told = call(&rt, &words, &mut tree, &[])?;
     assert_eq!(rt; told.0, 4);
     assert_eq!(rt; told.1.as_slice(), b"mutest: Archive app.jar\n".as_slice());
     Ok(())
@@ -213,7 +208,7 @@ fn a_test_that_fails_is_told(rt: HostRuntime) -> Result<(), Fail> {
     if test.len() > NEG_ASSERTS {
         test[NEG_ASSERTS] = 23;
     }
-    let told = run_of(rt.alloc(), &A, test.as_slice(), &[])?;
+    let told = run_of(&rt, &A, test.as_slice(), &[])?;
     assert_eq!(rt; told.0, 8);
     assert_eq!(rt;
         told.1.as_slice(),
@@ -225,7 +220,7 @@ fn a_test_that_fails_is_told(rt: HostRuntime) -> Result<(), Fail> {
 #[test]
 fn refused_code_is_no_program(rt: HostRuntime) -> Result<(), Fail> {
     let refused = damaged(rt.alloc(), 132, 0xb1)?;
-    let told = run_of(rt.alloc(), refused.as_slice(), &T, &[])?;
+    let told = run_of(&rt, refused.as_slice(), &T, &[])?;
     assert_eq!(rt; told.0, 6);
     assert_eq!(rt;
         told.1.as_slice(),
@@ -236,7 +231,7 @@ fn refused_code_is_no_program(rt: HostRuntime) -> Result<(), Fail> {
 
 #[test]
 fn two_classes_of_one_name_are_no_program(rt: HostRuntime) -> Result<(), Fail> {
-    let told = run_of(rt.alloc(), &T, &T, &[])?;
+    let told = run_of(&rt, &T, &T, &[])?;
     assert_eq!(rt; told.0, 6);
     assert_eq!(rt; told.1.as_slice(), b"mutest: BadProgram 13 T\n".as_slice());
     assert_eq!(rt; told.2, 0);
@@ -263,7 +258,7 @@ fn what_is_wrong_with_a_test_is_told(rt: HostRuntime) -> Result<(), Fail> {
                 test[*at] = *byte;
             }
         }
-        let told = run_of(rt.alloc(), &A, test.as_slice(), &[])?;
+        let told = run_of(&rt, &A, test.as_slice(), &[])?;
         assert_eq!(rt; told.0, 7);
         assert_eq!(rt; told.1.as_slice(), text.as_bytes());
         assert_eq!(rt; told.2, 0);
@@ -289,7 +284,7 @@ fn wrong_supers_are_no_program(rt: HostRuntime) -> Result<(), Fail> {
         if test.len() > in_test {
             test[in_test] = test_byte;
         }
-        let told = run_of(rt.alloc(), class.as_slice(), test.as_slice(), &[])?;
+        let told = run_of(&rt, class.as_slice(), test.as_slice(), &[])?;
         assert_eq!(rt; told.0, 6);
         assert_eq!(rt; told.1.as_slice(), text.as_bytes());
         assert_eq!(rt; told.2, 0);
@@ -311,7 +306,7 @@ fn too_many_classes_are_told(rt: HostRuntime) -> Result<(), Fail> {
         Bytes::new(rt.alloc()),
     ))?;
     let mut tree = MemTree::new(rt.alloc(), files, Vec::new(rt.alloc()))?;
-    let told = call(rt.alloc(), &WORDS, &mut tree, &[])?;
+    let told = call(&rt, &WORDS, &mut tree, &[])?;
     assert_eq!(rt; told.0, 12);
     assert_eq!(rt;
         told.1.as_slice(),

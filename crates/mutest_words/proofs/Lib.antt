@@ -1,3 +1,4 @@
 mod Parsed
 mod Apps
 mod WordLaws
+mod Limits

@@ -5,7 +5,7 @@ use Rattle.std.specs.Borrow.{Bor}
 use Rattle.std.specs.List.{ends_with, list_any}
 use Rattle.std.specs.Io.BufRead.{strip_last}
 use Rattle.clap.specs.Words.{App, Row, Text, first_of}
-use Rattle.mutest_words.specs.Given.{app_with, given, is_word, lacks}
+use Rattle.mutest_words.specs.Given.{app_with, given, is_set, is_word, lacks}
 use Rattle.mutest_words.specs.Numbers.{number_between}
 use Rattle.mutest_words.specs.declared.command.AsmOptions.{AsmOptions as FoundAsm}
 use Rattle.mutest_words.specs.declared.command.GenerateOptions.{GenerateOptions as FoundGenerate}
@@ -14,7 +14,8 @@ use Rattle.mutest_words.specs.declared.command.Command.{Command as Found}
 use Rattle.mutest_words.specs.declared.command.Command.TheVariants as found
 
 -- the folders of classes, of tests and of sources, the paths of what is written and of what earlier
--- runs left, and how many workers, steps of a run, words of a heap and frames there may be
+-- runs left, how many workers, steps of a run, words of a heap and frames there may be, and whether
+-- all tests that detect a mutant are asked for
 pub record RunOptions : Type 0 where
   pub classes : Text
   pub tests : Text
@@ -27,27 +28,29 @@ pub record RunOptions : Type 0 where
   pub steps : ℕ
   pub heap : ℕ
   pub depth : ℕ
+  pub matrix : Bool
 
 -- the path of a text of the assembler's language, and that of the class file that it states
 pub record AsmOptions : Type 0 where
   pub text : Text
   pub out : Text
 
--- how many classes are made, each with its test, and how many workers run them
+-- how many classes are made, each with its test, how many workers run them, and whether all tests
+-- that detect a mutant are asked for
 pub record GenerateOptions : Type 0 where
   pub classes : ℕ
   pub workers : ℕ
+  pub matrix : Bool
 
 pub data Command : Type 0 where
   list_class : Text → Command
   run_suite : RunOptions → Command
   assemble_class : AsmOptions → Command
+  generate_suite : GenerateOptions → Command
 
 -- The one place of options that aren't built: they are refused, and none of them has to stand.
 abbrev pub unbuilt : List Text
-unbuilt =
-    codes "new-history" ∷ codes "sources" ∷ codes "history" ∷ codes "journal"
-    ∷ codes "workers" ∷ codes "steps" ∷ codes "heap" ∷ codes "depth" ∷ []
+unbuilt = codes "journal" ∷ []
 
 -- ---- values
 
@@ -67,14 +70,14 @@ count_of name least most usual rows = number_or least most usual (first_of name 
 
 -- `list`: FILE
 unfoldable pub list_app : App
-list_app = app_with (codes "file" ∷ []) []
+list_app = app_with (codes "file" ∷ []) [] []
 
 abbrev pub list_of : List Row → Option Command
 list_of rows = option_map list_class (first_of (codes "file") rows)
 
 -- `asm`: FILE --out FILE
 unfoldable pub asm_app : App
-asm_app = app_with (codes "file" ∷ []) (codes "out" ∷ [])
+asm_app = app_with (codes "file" ∷ []) (codes "out" ∷ []) []
 
 abbrev pub asm_options : List Row → Option AsmOptions
 asm_options rows =
@@ -85,25 +88,32 @@ asm_options rows =
 abbrev pub asm_of : List Row → Option Command
 asm_of rows = option_map assemble_class (asm_options rows)
 
--- `generate`: N [--workers N]
+-- `generate`: N [--workers N] [--matrix]
 unfoldable pub generate_app : App
-generate_app = app_with (codes "number" ∷ []) (codes "workers" ∷ [])
+generate_app = app_with (codes "number" ∷ []) (codes "workers" ∷ []) (codes "matrix" ∷ [])
 
-abbrev pub generate_of : List Row → Option GenerateOptions
-generate_of rows =
+abbrev pub generate_options : List Row → Option GenerateOptions
+generate_options rows =
     option_and_then (λ word.
     option_and_then (λ classes.
-    option_map (λ workers. record { classes = classes; workers = workers })
-    (count_of (codes "workers") 1 64 1 rows))
+    option_map (λ workers. record {
+      classes = classes;
+      workers = workers;
+      matrix = is_set (codes "matrix") rows;
+    }) (count_of (codes "workers") 1 64 1 rows))
     (number_between 1 200 word)) (first_of (codes "number") rows)
 
+abbrev pub generate_of : List Row → Option Command
+generate_of rows = option_map generate_suite (generate_options rows)
+
 -- `run`: --classes DIR --tests DIR --report FILE --new-history FILE [--sources DIR]
--- [--history FILE] [--journal FILE] [--workers N] [--steps N] [--heap N] [--depth N]
+-- [--history FILE] [--journal FILE] [--workers N] [--steps N] [--heap N] [--depth N] [--matrix]
 unfoldable pub run_app : App
 run_app = app_with []
     (codes "classes" ∷ codes "tests" ∷ codes "report" ∷ codes "new-history" ∷ codes "sources"
     ∷ codes "history" ∷ codes "journal" ∷ codes "workers" ∷ codes "steps" ∷ codes "heap"
     ∷ codes "depth" ∷ [])
+    (codes "matrix" ∷ [])
 
 abbrev pub run_options : List Row → Option RunOptions
 run_options rows =
@@ -125,6 +135,7 @@ run_options rows =
       steps = steps;
       heap = heap;
       depth = depth;
+      matrix = is_set (codes "matrix") rows;
     }) (count_of (codes "depth") 16 65_536 1_024 rows))
     (count_of (codes "heap") 1_024 4_194_304 4_194_304 rows))
     (count_of (codes "steps") 1 1_000_000_000 10_000_000 rows))
@@ -164,6 +175,8 @@ named_command lacking name words =
     else if is_word name (codes "run")
     then option_and_then (run_of lacking) (given run_app words)
     else if is_word name (codes "asm") then option_and_then asm_of (given asm_app words)
+    else if is_word name (codes "generate")
+    then option_and_then generate_of (given generate_app words)
     else None
 
 -- The command's name stands first. These options aren't built.
@@ -173,10 +186,6 @@ command_by lacking (name ∷ words) = named_command lacking name words
 
 abbrev pub command_of : List Text → Option Command
 command_of words = command_by unbuilt words
-
--- What the words behind `generate` ask for.
-abbrev pub generate_by : List Text → Option GenerateOptions
-generate_by words = option_and_then generate_of (given generate_app words)
 
 -- ---- archives, which aren't read
 
@@ -207,13 +216,14 @@ as_run_options o = record {
   steps = o.steps;
   heap = o.heap;
   depth = o.depth;
+  matrix = o.matrix;
 }
 
 abbrev pub as_asm_options : FoundAsm → AsmOptions
 as_asm_options o = record { text = o.text.now; out = o.out.now }
 
 abbrev pub as_generate_options : FoundGenerate → GenerateOptions
-as_generate_options o = record { classes = o.classes; workers = o.workers }
+as_generate_options o = record { classes = o.classes; workers = o.workers; matrix = o.matrix }
 
 abbrev pub as_run_command : FoundRun → Command
 as_run_command o = run_suite (as_run_options o)
@@ -221,10 +231,14 @@ as_run_command o = run_suite (as_run_options o)
 abbrev pub as_asm_command : FoundAsm → Command
 as_asm_command o = assemble_class (as_asm_options o)
 
+abbrev pub as_generate_command : FoundGenerate → Command
+as_generate_command o = generate_suite (as_generate_options o)
+
 abbrev pub as_command : Found → Command
 as_command (found.List file) = list_class file.now
 as_command (found.Run options) = as_run_command options
 as_command (found.Assemble options) = as_asm_command options
+as_command (found.Generate options) = as_generate_command options
 
 -- The code finds the stated command, if there is one.
 abbrev pub Finds : Option Command → Option Found → Type 0

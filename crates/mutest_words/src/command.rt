@@ -4,9 +4,9 @@ ghost use Rattle.std.specs.Prelude.{◌≡◌, map, option_and_then, option_map,
 ghost use Rattle.std.specs.List.{list_any};
 ghost use Rattle.clap.specs.Words.{app_of, found_of, rows_of};
 ghost use Rattle.mutest_words.specs.Given.{given, is_word, texts};
-ghost use Rattle.mutest_words.specs.Words.{folder_of, is_archive, count_of, differ, paths_differ, is_whole, list_of, list_app, asm_of, asm_app, run_app, generate_app, run_options, run_of, generate_of, generate_by, named_command, command_by, command_of, as_run_options, as_generate_options, lent_text, Finds};
+ghost use Rattle.mutest_words.specs.Words.{folder_of, is_archive, count_of, differ, paths_differ, is_whole, list_of, list_app, asm_of, asm_app, run_app, generate_app, run_options, run_of, generate_options, generate_of, named_command, command_by, command_of, as_run_options, as_generate_options, lent_text, Finds};
 
-use crate::given::{given, lacks, value_of};
+use crate::given::{given, is_set, lacks, value_of};
 use crate::number::number_between;
 use clap::ArgMatches;
 use class_model::Memory;
@@ -31,6 +31,8 @@ pub struct RunOptions<'a> {
     pub steps: u32,
     pub heap: u32,
     pub depth: u32,
+    /// All tests that detect a mutant are asked for, and not the first alone.
+    pub matrix: bool,
 }
 
 /// What `asm` is given: the path of a text of the assembler's language, and that of the class file
@@ -41,12 +43,13 @@ pub struct AsmOptions<'a> {
     pub out: &'a str,
 }
 
-/// What `generate` is given: how many classes are made, each with its test, and how many workers
-/// run them.
+/// What `generate` is given: how many classes are made, each with its test, how many workers run
+/// them, and whether all tests that detect a mutant are asked for.
 #[derive(Clone, Copy)]
 pub struct GenerateOptions {
     pub classes: u32,
     pub workers: u32,
+    pub matrix: bool,
 }
 
 /// What the words ask for.
@@ -58,19 +61,12 @@ pub enum Command<'a> {
     Run(RunOptions<'a>),
     /// The class file of a text.
     Assemble(AsmOptions<'a>),
+    /// The main job on a suite that is made.
+    Generate(GenerateOptions),
 }
 
 /// The options that aren't built: they are refused, and none of them has to stand.
-const UNBUILT: [&str; 8] = [
-    "new-history",
-    "sources",
-    "history",
-    "journal",
-    "workers",
-    "steps",
-    "heap",
-    "depth",
-];
+const UNBUILT: [&str; 1] = ["journal"];
 
 const RUN_OPTIONS: [&str; 11] = [
     "classes",
@@ -145,6 +141,7 @@ fn run_options<'a>(matches: &ArgMatches<'a>) -> Option<RunOptions<'a>>
         steps: count_of(matches, "steps", 1, 1_000_000_000, 10_000_000)?,
         heap: count_of(matches, "heap", 1_024, 4_194_304, 4_194_304)?,
         depth: count_of(matches, "depth", 16, 65_536, 1_024)?,
+        matrix: is_set(matches, "matrix"),
     })
 }
 
@@ -171,13 +168,14 @@ pub fn paths_differ(options: &RunOptions<'_>) -> bool
         && differ(options.history, options.journal)
 }
 
-fn generate_given(matches: &ArgMatches<'_>) -> Option<GenerateOptions>
+fn generate_options(matches: &ArgMatches<'_>) -> Option<GenerateOptions>
     ensures { option_map as_generate_options result
-        ≡ generate_of (rows_of (found_of matches.now)) }
+        ≡ generate_options (rows_of (found_of matches.now)) }
 {
     Some(GenerateOptions {
         classes: number_between(1, 200, value_of(matches, "number")?)?,
         workers: count_of(matches, "workers", 1, 64, 1)?,
+        matrix: is_set(matches, "matrix"),
     })
 }
 
@@ -196,6 +194,12 @@ fn asm_given<'a>(matches: &ArgMatches<'a>) -> Option<Command<'a>>
         text: value_of(matches, "file")?,
         out: value_of(matches, "out")?,
     }))
+}
+
+fn generate_given<'a>(matches: &ArgMatches<'a>) -> Option<Command<'a>>
+    ensures { Finds (generate_of (rows_of (found_of matches.now))) result }
+{
+    Some(Command::Generate(generate_options(matches)?))
 }
 
 // `run`, where its paths differ and a new history stands there, where it can.
@@ -220,7 +224,7 @@ fn list_command<'a>(alloc: Global, words: &'a [String]) -> Result<Option<Command
     ensures { IfOk result (Finds (option_and_then list_of
         (given list_app (map string_bytes words.entry.now)))) }
 {
-    match given(alloc, &["file"], &[], words)? {
+    match given(alloc, &["file"], &[], &[], words)? {
         Some(matches) => Ok(list_given(&matches)),
         None => Ok(None),
     }
@@ -231,7 +235,7 @@ fn asm_command<'a>(alloc: Global, words: &'a [String]) -> Result<Option<Command<
     ensures { IfOk result (Finds (option_and_then asm_of
         (given asm_app (map string_bytes words.entry.now)))) }
 {
-    match given(alloc, &["file"], &["out"], words)? {
+    match given(alloc, &["file"], &["out"], &[], words)? {
         Some(matches) => Ok(asm_given(&matches)),
         None => Ok(None),
     }
@@ -246,18 +250,18 @@ fn run_command<'a>(
     ensures { IfOk result (Finds (option_and_then (run_of (texts unbuilt.now))
         (given run_app (map string_bytes words.entry.now)))) }
 {
-    match given(alloc, &[], &RUN_OPTIONS, words)? {
+    match given(alloc, &[], &RUN_OPTIONS, &["matrix"], words)? {
         Some(matches) => Ok(run_given(&matches, unbuilt)),
         None => Ok(None),
     }
 }
 
-/// What the words behind `generate` ask for: N, and how many workers.
-pub fn generate_options(alloc: Global, words: &[String]) -> Result<Option<GenerateOptions>, Memory>
-    ensures { IfOk result (λ o. option_map as_generate_options o
-        ≡ generate_by (map string_bytes words.entry.now)) }
+// `generate`: N, with its options.
+fn generate_command<'a>(alloc: Global, words: &'a [String]) -> Result<Option<Command<'a>>, Memory>
+    ensures { IfOk result (Finds (option_and_then generate_of
+        (given generate_app (map string_bytes words.entry.now)))) }
 {
-    match given(alloc, &["number"], &["workers"], words)? {
+    match given(alloc, &["number"], &["workers"], &["matrix"], words)? {
         Some(matches) => Ok(generate_given(&matches)),
         None => Ok(None),
     }
@@ -285,6 +289,9 @@ pub fn command_by<'a>(
     }
     if name.as_str() == "asm" {
         return asm_command(alloc, words);
+    }
+    if name.as_str() == "generate" {
+        return generate_command(alloc, words);
     }
     Ok(None)
 }

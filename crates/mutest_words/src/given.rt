@@ -3,7 +3,7 @@
 ghost use Rattle.std.specs.Prelude.{◌≡◌, IfOk, true, map, option_map, string_bytes};
 ghost use Rattle.std.specs.List.{list_any};
 ghost use Rattle.clap.specs.Words.{app_of, first_of, found_of, is_simple_and_free, rows_of};
-ghost use Rattle.mutest_words.specs.Given.{GivesRows, app_with, bare_app, given, is_refused, lacks, option_rule, plain_rule, read, texts, with_all};
+ghost use Rattle.mutest_words.specs.Given.{GivesRows, app_with, bare_app, flag_rule, given, is_refused, is_set, lacks, option_rule, plain_rule, read, texts, with_all};
 
 use clap::error::ErrorKind;
 use clap::{Arg, ArgAction, ArgMatches, Command};
@@ -54,17 +54,39 @@ fn with_options<'a>(
     Ok(command)
 }
 
-// A command with these plain words and options.
+// The command with flags of these names.
+fn with_flags<'a>(
+    alloc: Global,
+    command: Command<'a>,
+    names: &[&'a str],
+) -> Result<Command<'a>, Memory>
+    ensures { IfOk result (λ c.
+        app_of c ≡ with_all (app_of command.entry) (map flag_rule (texts names.now))) }
+{
+    let mut command = command;
+    for name in names {
+        let flag = Arg::new(alloc, *name)
+            .long(*name)
+            .action(ArgAction::SetTrue);
+        command = command.arg(flag)?;
+    }
+    Ok(command)
+}
+
+// A command with these plain words, options and flags.
 fn command_with<'a>(
     alloc: Global,
     plain: &[&'a str],
     options: &[&'a str],
+    flags: &[&'a str],
 ) -> Result<Command<'a>, Memory>
-    ensures { IfOk result (λ c. app_of c ≡ app_with (texts plain.now) (texts options.now)) }
+    ensures { IfOk result (λ c.
+        app_of c ≡ app_with (texts plain.now) (texts options.now) (texts flags.now)) }
 {
     let command = bare_command(alloc);
     let command = with_plain(alloc, command, plain)?;
     let command = with_options(alloc, command, options)?;
+    let command = with_flags(alloc, command, flags)?;
     Ok(command)
 }
 
@@ -94,6 +116,16 @@ pub fn value_of<'a>(matches: &ArgMatches<'a>, name: &str) -> Option<&'a str>
     matches.get_str(name)
 }
 
+/// The flag of this name stands there.
+pub fn is_set(matches: &ArgMatches<'_>, name: &str) -> bool
+    ensures { result ≡ is_set name.now (rows_of (found_of matches.now)) }
+{
+    match value_of(matches, name) {
+        Some(value) => value == "true",
+        None => false,
+    }
+}
+
 /// None of these options stands there.
 pub fn lacks(matches: &ArgMatches<'_>, names: &[&str]) -> bool
     ensures { result ≡ lacks (texts names.now) (rows_of (found_of matches.now)) }
@@ -121,21 +153,24 @@ fn read<'a>(command: Command<'a>, words: &'a [String]) -> Result<Option<ArgMatch
     }
 }
 
-/// What words give, where they are plain words and options of these names, each once at most.
+/// What words give, where they are plain words, options and flags of these names, each once at most.
 pub fn given<'a>(
     alloc: Global,
     plain: &[&'a str],
     options: &[&'a str],
+    flags: &[&'a str],
     words: &'a [String],
 ) -> Result<Option<ArgMatches<'a>>, Memory>
-    requires { is_simple_and_free (app_with (texts plain.now) (texts options.now)) ≡ true }
-    ensures { IfOk result (GivesRows (given (app_with (texts plain.now) (texts options.now))
+    requires { is_simple_and_free (app_with (texts plain.now) (texts options.now) (texts flags.now))
+        ≡ true }
+    ensures { IfOk result (GivesRows
+        (given (app_with (texts plain.now) (texts options.now) (texts flags.now))
         (map string_bytes words.entry.now))) }
 {
     if has_refused(words) {
         return Ok(None);
     }
-    let command = command_with(alloc, plain, options)?;
+    let command = command_with(alloc, plain, options, flags)?;
     let matches = read(command, words)?;
     Ok(matches)
 }

@@ -4,9 +4,11 @@
 
 mod command;
 mod given;
+mod laws;
 mod number;
 
 pub use command::{
-    AsmOptions, Command, GenerateOptions, RunOptions, command_by, command_of, generate_options,
-    is_archive, paths_differ,
+    AsmOptions, Command, GenerateOptions, RunOptions, command_by, command_of, is_archive,
+    paths_differ,
 };
+pub use laws::options_are_limited;

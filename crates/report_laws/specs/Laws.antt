@@ -1,5 +1,5 @@
 -- What is said of the report and of the summary, over their definitions alone.
-use Rattle.std.specs.Prelude.{◌≡◌, ℕ, ◌+◌, ◌<◌, ◌==◌, true, false, not, List, [], ◌∷◌, ◌++◌, map, codes, length, Option, option_and_then}
+use Rattle.std.specs.Prelude.{◌≡◌, ℕ, ◌+◌, ◌<◌, ◌==◌, true, false, not, List, [], ◌∷◌, ◌++◌, map, codes, length, option_and_then}
 use Rattle.std.specs.Char.Utf16.{has_unpaired_surrogate}
 use Rattle.std.specs.Cmp.Lexicographic.{slice_cmp}
 use Rattle.std.specs.List.{AllByRecursion, filter, list_all, list_any, zip}

@@ -1,16 +1,13 @@
 //! The key of a class file: the path of its source, as far as the class file states it.
 
-ghost use Rattle.std.specs.Prelude.{◌≡◌, ◌≤◌, length, Some, None, IfOk, option_map, string_bytes};
+ghost use Rattle.std.specs.Prelude.{◌≡◌, Some, None, IfOk, option_map, string_bytes};
 ghost use Rattle.std.specs.Option.{option_copied};
-ghost use Rattle.report_schema.specs.FileKey.{package_len};
 ghost use Rattle.report_pieces.specs.FileKey.{stated_at, stated_among, stated_file, stated_text, key_by, key_with};
 
 use class_model::{Attr, Body, Class, Const, Memory, Name};
 use mt_pool::text_of;
-use report_schema::file_key;
+use report_schema::{file_key, package_len};
 use std::alloc::Global;
-
-const SLASH: u16 = b'/' as u16;
 
 // ---- the file that a class file states
 
@@ -59,18 +56,6 @@ fn stated_text(alloc: Global, stated: Option<&Name>) -> Result<Option<String>, M
 }
 
 // ---- the key
-
-// How long the package is, with the `/` behind it.
-fn package_len(name: &[u16]) -> usize
-    ensures len { result ≡ package_len name.now }
-    ensures within { result ≤ length name.now }
-{
-    let mut end = name.len();
-    while end > 0 && name[end - 1] != SLASH {
-        end -= 1;
-    }
-    end
-}
 
 // The package, with `/`, and a file of it.
 fn file_in_package(alloc: Global, name: &[u16], file: &str) -> Result<String, Memory>

@@ -1,6 +1,2 @@
 pub mod Positions
-pub mod FromTheLast
-pub mod Zipped
 pub mod Different
-pub mod Grouping
-pub mod Plain

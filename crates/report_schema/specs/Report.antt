@@ -1,12 +1,12 @@
--- The report of a run: a JSON text in the mutation testing report schema, version 1
--- (stryker-mutator/mutation-testing-elements); which members stand in it is this project's own.
-use Rattle.std.specs.Prelude.{ℕ, ◌==◌, if◌then◌else◌, length, List, [], ◌∷◌, ◌++◌, map, codes, Option, None, Some, option_map, slice_get}
-use Rattle.std.specs.List.{zip, flat_map}
+-- What stands in the report of a run of a mutant and of a test, in the mutation testing report
+-- schema, version 1 (stryker-mutator/mutation-testing-elements); which members is this project's
+-- own.
+use Rattle.std.specs.Prelude.{ℕ, ◌==◌, if◌then◌else◌, length, List, [], ◌∷◌, ◌++◌, codes, Option, None, Some, option_map, slice_get}
+use Rattle.std.specs.List.{flat_map}
 use Rattle.std.specs.Option.{option_to_list, option_map_or}
 use Rattle.std.specs.Str.Lossy.{utf8_valid_len}
-use Rattle.serde_json.specs.Data.{Data, number, unsigned, string, array, object, Members, no_members, member, put}
+use Rattle.serde_json.specs.Data.{Data, number, unsigned, string, array, object, Members, no_members, member}
 use Rattle.serde_json.specs.View.{items_of}
-use Rattle.serde_json.specs.Written.{compact_text}
 use Rattle.class_model.specs.MutatorName.{mutator_name}
 use Rattle.class_model.specs.declared.outcome.Cause.{Cause}
 use Rattle.class_model.specs.declared.outcome.Cause.TheVariants as cause
@@ -17,8 +17,6 @@ use Rattle.mutator_ops.specs.declared.mutant.Mutant.{Mutant}
 use Rattle.mutator_ops.specs.declared.mutant.Verdict.{Verdict}
 use Rattle.mutator_ops.specs.declared.mutant.State.{State}
 use Rattle.mutator_ops.specs.declared.mutant.State.TheVariants as state
-use Rattle.report_schema.specs.Keyed.{Entry, by_key, members_by}
-use Rattle.report_schema.specs.declared.input.ReportInput.{ReportInput}
 
 -- ---- tests
 
@@ -98,11 +96,6 @@ mutant_entry tests mutant verdict = object (
     (member_if (codes "statusReason") (option_map string (status_reason verdict.state))
     no_members)))))))
 
--- each mutant under its key, as far as it has a verdict and a key
-abbrev pub mutant_entries : List Test → List Mutant → List Verdict → List (List ℕ) → List Entry
-mutant_entries tests mutants verdicts keys =
-    map (λ m. (printed m.1.1, mutant_entry tests m.0 m.1.0)) (zip mutants (zip verdicts keys))
-
 -- ---- files
 
 abbrev pub text_or_empty : List ℕ → List ℕ
@@ -112,25 +105,11 @@ text_or_empty bytes = if utf8_valid_len bytes == length bytes then bytes else []
 abbrev pub source_of : List (List ℕ) → ℕ → List ℕ
 source_of sources index = option_map_or text_or_empty (slice_get sources index) []
 
--- a file of mutants, by the number of its key
-abbrev pub file : List (List ℕ) → ℕ → List Data → Data
-file sources index mutants = object (
-    member (codes "language") (string (codes "java"))
-    (member (codes "mutants") (array (items_of mutants))
-    (member (codes "source") (string (source_of sources index)) no_members)))
-
 abbrev pub test_entry : Test → Data
 test_entry test =
     object
     (member (codes "id") (string (test_id test))
     (member (codes "name") (string (printed test.method)) no_members))
-
--- each test under its key, as far as it has one
-abbrev pub test_entries : List Test → List (List ℕ) → List Entry
-test_entries tests keys = map (λ t. (printed t.1, test_entry t.0)) (zip tests keys)
-
-abbrev pub test_file : ℕ → List Data → Data
-test_file index tests = object (member (codes "tests") (array (items_of tests)) no_members)
 
 -- ---- the report
 
@@ -146,23 +125,3 @@ tree files test_files = object (
     (member (codes "schemaVersion") (string (codes "1"))
     (member (codes "testFiles") test_files
     (member (codes "thresholds") thresholds no_members))))
-
--- For each mutant's key a file with the mutants of that key, in their order, and for each test's
--- key a file with the tests of that key.
-abbrev pub report : ReportInput → Data
-report input = tree
-    (object
-    (members_by (file input.sources) 0
-    (by_key (mutant_entries input.tests input.mutants input.verdicts input.keys))))
-    (object (members_by test_file 0 (by_key (test_entries input.tests input.test_keys))))
-
--- The text of the report, with no space in it.
-abbrev pub ReportText : ReportInput → List ℕ
-ReportText input = compact_text (report input)
-
--- ---- for private clauses
-
--- `member_if` as a change of the members: the new one at its place in byte order
-abbrev pub put_if : List ℕ → Option Data → Members → Members
-put_if name None members = members
-put_if name (Some value) members = put name value members

@@ -33,9 +33,9 @@ is_error other = false
 abbrev pub counted : (State → Bool) → List Verdict → ℕ
 counted test verdicts = count_by (λ verdict. test verdict.state) verdicts
 
--- mutants N killed N survived N no_coverage N timed_out N non_viable N errors N
-abbrev pub Summary : List Verdict → List ℕ
-Summary verdicts =
+-- mutants N killed N survived N no_coverage N timed_out N non_viable N errors N reused N
+abbrev pub Summary : List Verdict → ℕ → List ℕ
+Summary verdicts reused =
     codes "mutants " ++ decimal (length verdicts)
     ++ codes " killed " ++ decimal (counted is_killed verdicts)
     ++ codes " survived " ++ decimal (counted is_survived verdicts)
@@ -43,4 +43,5 @@ Summary verdicts =
     ++ codes " timed_out " ++ decimal (counted is_timed_out verdicts)
     ++ codes " non_viable " ++ decimal (counted is_not_viable verdicts)
     ++ codes " errors " ++ decimal (counted is_error verdicts)
+    ++ codes " reused " ++ decimal reused
     ++ codes "\n"

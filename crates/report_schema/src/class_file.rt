@@ -13,8 +13,8 @@ const DOLLAR: u16 = b'$' as u16;
 
 const JAVA: [u16; 5] = [46, 106, 97, 118, 97];
 
-// How long the package is, with the `/` behind it.
-fn package_len(name: &[u16]) -> usize
+/// How long the package is, with the `/` behind it.
+pub fn package_len(name: &[u16]) -> usize
     ensures len { result ≡ package_len name.now }
     ensures within { result ≤ length name.now }
 {

@@ -1,18 +1,9 @@
-//! What a run says: the report in the mutation testing report schema, and the summary line. Its
-//! tests and wrong bodies stand in `mutant_checks`.
+//! What the report is made of, in the words of its definitions; the file of a class, and the summary
+//! line. Its text is `report_pieces`, the tests and wrong bodies are `report_checks`.
 #![tactic(auto)]
 
 mod class_file;
-mod entries;
-mod files;
-mod groups;
-mod input;
-mod report;
 mod summary;
-mod text;
-mod values;
 
-pub use class_file::file_key;
-pub use input::ReportInput;
-pub use report::report_text;
+pub use class_file::{file_key, package_len};
 pub use summary::summary_text;

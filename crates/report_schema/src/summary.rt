@@ -76,7 +76,7 @@ fn counts_of(verdicts: &[Verdict]) -> Counts
 }
 
 // A word and a count.
-fn put_count(alloc: Global, line: &mut Bytes, word: &str, count: usize) -> Result<(), Memory>
+fn put_count(alloc: Global, line: &mut Bytes, word: &str, count: u64) -> Result<(), Memory>
     ensures { OnOk result (line.new ≡ line.old ++ word.now ++ decimal count) }
 {
     let digits = format!(in alloc; "{count}")?;
@@ -84,20 +84,21 @@ fn put_count(alloc: Global, line: &mut Bytes, word: &str, count: usize) -> Resul
     line.extend_from_slice(digits.as_bytes())
 }
 
-/// The line that a run puts out: how many mutants there are, and how many are in which state.
-/// MEMORY_ERROR and RUN_ERROR count as errors.
-pub fn summary_text(alloc: Global, verdicts: &Seq<Verdict>) -> Result<Bytes, Memory>
-    ensures { IfOk result (λ text. text ≡ Summary verdicts.now) }
+/// The line that a run puts out: how many mutants there are, how many are in which state, and how
+/// many new records old ones stand for. MEMORY_ERROR and RUN_ERROR count as errors.
+pub fn summary_text(alloc: Global, verdicts: &Seq<Verdict>, reused: u64) -> Result<Bytes, Memory>
+    ensures { IfOk result (λ text. text ≡ Summary verdicts.now reused) }
 {
     let counts = counts_of(verdicts.as_slice());
     let mut line = Bytes::new(alloc);
-    put_count(alloc, &mut line, "mutants ", counts.mutants)?;
-    put_count(alloc, &mut line, " killed ", counts.killed)?;
-    put_count(alloc, &mut line, " survived ", counts.survived)?;
-    put_count(alloc, &mut line, " no_coverage ", counts.no_coverage)?;
-    put_count(alloc, &mut line, " timed_out ", counts.timed_out)?;
-    put_count(alloc, &mut line, " non_viable ", counts.non_viable)?;
-    put_count(alloc, &mut line, " errors ", counts.errors)?;
+    put_count(alloc, &mut line, "mutants ", counts.mutants as u64)?;
+    put_count(alloc, &mut line, " killed ", counts.killed as u64)?;
+    put_count(alloc, &mut line, " survived ", counts.survived as u64)?;
+    put_count(alloc, &mut line, " no_coverage ", counts.no_coverage as u64)?;
+    put_count(alloc, &mut line, " timed_out ", counts.timed_out as u64)?;
+    put_count(alloc, &mut line, " non_viable ", counts.non_viable as u64)?;
+    put_count(alloc, &mut line, " errors ", counts.errors as u64)?;
+    put_count(alloc, &mut line, " reused ", reused)?;
     line.extend_from_slice("\n".as_bytes())?;
     Ok(line)
 }

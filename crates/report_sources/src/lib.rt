@@ -1,5 +1,5 @@
-//! The sources of a report: which of its keys a folder holds, and what they hold. No command calls
-//! it yet, and no test or wrong body stands over it.
+//! The sources of a report: which of its keys a folder holds, and what they hold. Its tests and
+//! wrong bodies stand in `report_checks`.
 #![tactic(auto)]
 
 mod fault;

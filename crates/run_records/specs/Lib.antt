@@ -1,3 +1,4 @@
 pub mod Asking
 pub mod Recorded
 pub mod Places
+pub mod Below

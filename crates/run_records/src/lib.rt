@@ -11,6 +11,7 @@ mod recorded;
 mod recording;
 
 pub use fitting::fits_fields;
+pub use jvm_run::Tables;
 pub use looked_up::Lookup;
 pub use matching::{holds_all, matches};
 pub use recorded::Recorded;

@@ -6,3 +6,4 @@ mod Costs
 mod Saying
 mod Verdicts
 mod Spent
+pub mod Below

@@ -22,12 +22,8 @@ use Rattle.class_table.specs.Table.{look}
 use Rattle.jvm_world.specs.View.{test_of}
 use Rattle.mutator_ops.specs.declared.mutant.Mutant.{Mutant}
 use Rattle.mutant_apply.specs.Edited.{applied}
-use Rattle.mutant_runs.specs.Programs.{files_of, with_class, edited, with_accepted, viable}
+use Rattle.suite_records.specs.Below.{IsSafe, IsSafeMutant, FitsProgram, ViableAreNeverStuck, IsMutated, SuitesAreSafe, FoundTestsFit, classes_in, class_file, files_of, with_class, edited, with_accepted, viable}
 use Rattle.library_laws.specs.Linked.{descriptors}
-use Rattle.suite_program.specs.Programs.{classes_in, class_file}
-use Rattle.suite_laws.specs.Accepted.{IsSafe, IsSafeMutant, FitsProgram, ViableAreNeverStuck}
-use Rattle.suite_laws.specs.Edited.{IsMutated}
-use Rattle.suite_laws.specs.Suites.{SuitesAreSafe, FoundTestsFit}
 use Rattle.record_rules.specs.declared.record.RunRecord.{RunRecord}
 use Rattle.record_rules.specs.Outcomes.{outcome_at}
 use Rattle.record_rules.specs.Records.{Asked, run, record_with, record_of}

@@ -16,10 +16,7 @@ use Rattle.type_laws.specs.Soundness.{IsStuck}
 use Rattle.class_table.specs.declared.scripted.Test.{Test}
 use Rattle.class_table.specs.Table.{look}
 use Rattle.mutator_ops.specs.declared.mutant.Mutant.{Mutant}
-use Rattle.mutant_runs.specs.Programs.{with_class}
-use Rattle.mutant_runs.specs.Runs.{mutant_run, reaches, detected}
-use Rattle.suite_laws.specs.Accepted.{SelectedAlwaysSuffice}
-use Rattle.suite_laws.specs.Covered.{original_run, edited_run, AllPass, NotStuckThere, ReachingIsAlike}
+use Rattle.suite_records.specs.Below.{SelectedAlwaysSuffice, original_run, edited_run, AllPass, NotStuckThere, ReachingIsAlike, with_class, mutant_run, reaches, detected}
 use Rattle.record_rules.specs.declared.record.RunRecord.{RunRecord}
 use Rattle.record_rules.specs.Records.{Asked, run}
 use Rattle.record_rules.specs.Matching.{first_match}

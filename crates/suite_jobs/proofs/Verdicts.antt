@@ -13,12 +13,7 @@ use Rattle.type_rules.specs.Faults.{Placed, class_fault}
 use Rattle.mutator_ops.specs.declared.mutant.Mutant.{Mutant}
 use Rattle.mutator_ops.specs.declared.mutant.State.{State}
 use Rattle.mutant_apply.specs.Edited.{applied}
-use Rattle.mutant_runs.specs.Programs.{files_of, with_class, with_accepted, viable}
-use Rattle.mutant_runs.specs.Runs.{mutant_run, runs_on, reaches, detected}
-use Rattle.mutant_runs.specs.Verdicts.{verdict_by, not_viable, killer, verdict_of_runs, verdict_of}
-use Rattle.suite_laws.specs.Accepted.{SelectedAlwaysSuffice}
-use Rattle.suite_laws.specs.Covered.{original_run, edited_run, AllPass, selected, runs_of}
-use Rattle.suite_laws.specs.Tested.{timed_of}
+use Rattle.suite_records.specs.Below.{SelectedAlwaysSuffice, original_run, edited_run, AllPass, selected, runs_of, timed_of, files_of, with_class, with_accepted, viable, mutant_run, runs_on, reaches, detected, verdict_by, not_viable, killer, verdict_of_runs, verdict_of}
 use Rattle.record_rules.specs.declared.record.RunRecord.{RunRecord}
 use Rattle.record_rules.specs.Records.{run}
 use Rattle.reuse_laws.specs.Jobs.{AreTrue}

@@ -21,10 +21,7 @@ use Rattle.mutator_ops.specs.declared.mutant.Mutant.{Mutant}
 use Rattle.mutator_ops.specs.declared.mutant.State.{State}
 use Rattle.mutator_ops.specs.declared.mutant.Verdict.{Verdict}
 use Rattle.mutant_apply.specs.Edited.{applied}
-use Rattle.mutant_runs.specs.Programs.{files_of, with_class}
-use Rattle.mutant_runs.specs.Runs.{is_at, reaches, detected_by, detected}
-use Rattle.mutant_runs.specs.Verdicts.{verdict_by, not_viable}
-use Rattle.suite_laws.specs.Covered.{original_run}
+use Rattle.suite_records.specs.Below.{original_run, files_of, with_class, is_at, reaches, detected_by, detected, verdict_by, not_viable}
 use Rattle.record_rules.specs.declared.record.RunRecord.{RunRecord}
 use Rattle.record_rules.specs.Outcomes.{outcome_of}
 use Rattle.record_rules.specs.Records.{Asked, run, record_with}

@@ -2,9 +2,7 @@
 use Rattle.std.specs.Prelude.{◌≡◌, ◌≤◌, ℕ, Bool, false, List, [], All, map, Some, None}
 use Rattle.machine_rules.specs.Runs.{Ran}
 use Rattle.mutator_ops.specs.declared.mutant.Mutant.{Mutant}
-use Rattle.mutant_runs.specs.Runs.{reaches, detected}
-use Rattle.suite_laws.specs.Covered.{AllPass}
-use Rattle.suite_laws.specs.Tested.{all_verdicts}
+use Rattle.suite_records.specs.Below.{AllPass, all_verdicts, reaches, detected}
 use Rattle.record_rules.specs.declared.record.RunRecord.{RunRecord}
 use Rattle.record_rules.specs.Records.{Asked, run, record_of}
 use Rattle.record_rules.specs.Truth.{IsTrueRecord}

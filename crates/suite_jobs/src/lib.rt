@@ -11,12 +11,12 @@ ghost use Rattle.suite_jobs.specs.Laws.{VerdictsAreOfAllTests, JobsCostAsAsked};
 use class_records::class_files_are_a_profile;
 use machine_laws::runs_list_lines;
 use program_laws::ordered_is_built;
-use suite_laws::{
-    found_tests_fit, mutants_are_reached_alike, selected_tests_always_suffice, suites_are_safe,
-    viable_mutants_are_never_stuck,
-};
-use suite_records::{
-    found_are_own_tests, mutants_are_reusable, originals_are_reusable, true_records_change_nothing,
+use suite_records::selected_tests_always_suffice;
+pub use suite_records::{
+    ClassBytes, ProgramEnd, ProgramFault, covering_tests, edited_are_ready, edited_class,
+    found_are_own_tests, found_tests_fit, mutants_are_of, mutants_are_reached_alike,
+    mutants_are_reusable, not_viable, originals_are_reusable, program_of, ready_may_run,
+    suites_are_safe, true_records_change_nothing, viable, viable_mutants_are_never_stuck,
 };
 use type_laws::accepted_code_is_never_stuck;
 

@@ -18,8 +18,8 @@ use Rattle.class_table.specs.declared.scripted.Test.{Test}
 use Rattle.class_table.specs.Table.{look}
 use Rattle.jvm_world.specs.View.{test_of}
 use Rattle.mutator_ops.specs.declared.mutant.Mutant.{Mutant}
-use Rattle.mutant_runs.specs.Programs.{with_accepted}
-use Rattle.mutant_runs.specs.Runs.{mutant_run}
+use Rattle.suite_program.specs.Below.{with_accepted}
+use Rattle.suite_program.specs.Below.{mutant_run}
 use Rattle.library_laws.specs.Linked.{descriptors}
 use Rattle.suite_laws.specs.Edited.{MutantsAreEdits}
 use Rattle.suite_laws.specs.Covered.{edited_run, NotStuckThere, SelectedSuffice}

@@ -58,7 +58,7 @@ use Rattle.mutant_apply.proofs.CodeForms.{new_length}
 use Rattle.mutant_apply.proofs.Keeping.{edited_is, code_of_form}
 use Rattle.mutant_apply.proofs.Lists.{all_at}
 use Rattle.mutant_apply.proofs.NamesKept.{same_names}
-use Rattle.mutant_runs.specs.Programs.{files_of, with_class, edited}
+use Rattle.suite_program.specs.Below.{files_of, with_class, edited}
 use Rattle.suite_laws.specs.Edited.{AreMeant, puts_int_jump, IsEditOf, IsSmoothEditOf, MutantsAreEdits, IntJumpsGoOn}
 use Rattle.suite_laws.proofs.Recoded.{IsRecoded, code_by, linked_edit, class_edited}
 use Rattle.suite_laws.proofs.Jumps.{is_alike, with_op, goes_on_alike}

@@ -17,7 +17,7 @@ use Rattle.machine_laws.proofs.Places.{map_id}
 use Rattle.class_link.specs.Linking.{content_of, frames_of, frame_in, shape_in, vtype_in}
 use Rattle.mt_attrs.specs.CodeParts.{attr_of, name_of, body_of}
 use Rattle.mt_attrs.specs.Frames.{next_behind, delta_of}
-use Rattle.mutant_runs.proofs.Longer.{linked_frames}
+use Rattle.suite_program.proofs.Below.{linked_frames}
 use Rattle.mutant_apply.specs.Moved.{moved_item, with_items_moved, long_enough, placed_frame, moved_frames, moved_line, moved_table, moved_tables}
 
 item_id : (t : VItem) → moved_item (λ to. to) t ≡ t

@@ -31,3 +31,4 @@ mod Picked
 mod Needed
 mod Natives
 mod Safe
+pub mod Below

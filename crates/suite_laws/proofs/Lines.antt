@@ -9,7 +9,7 @@ use Rattle.class_link.specs.Linking.{content_of, line_in, lines_of}
 use Rattle.mt_attrs.specs.CodeParts.{name_of, body_of}
 use Rattle.mutant_apply.specs.Moved.{moved_frames, moved_line, moved_table, moved_tables}
 use Rattle.suite_laws.proofs.Frames.{lines_out, frames_out}
-use Rattle.mutant_runs.proofs.Longer.{linked_lines}
+use Rattle.suite_program.proofs.Below.{linked_lines}
 
 module _ (starts : List ℕ) where
   table_lines : (name : ℕ) (b : Body-F Body Attr Code) (rest : List Attr) → linked_lines (moved_table (λ to. to) starts name b ++ rest) ≡ lines_of b ++ linked_lines rest

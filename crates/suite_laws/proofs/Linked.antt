@@ -36,7 +36,7 @@ use Rattle.mutant_apply.specs.declared.parts.Parts.{Parts}
 use Rattle.suite_laws.proofs.Lists.{map_changed, map_spliced}
 use Rattle.suite_laws.proofs.Frames.{frames_kept}
 use Rattle.suite_laws.proofs.Lines.{lines_kept}
-use Rattle.mutant_runs.proofs.Longer.{linked_lines, linked_frames}
+use Rattle.suite_program.proofs.Below.{linked_lines, linked_frames}
 
 -- ---- the map that moves nothing, over stated frames
 

@@ -32,11 +32,11 @@ use Rattle.mutator_ops.specs.Laws.{IsMutant, ListedExactly}
 use Rattle.mutator_ops.specs.declared.mutant.Mutant.{Mutant}
 use Rattle.mutator_ops.specs.declared.mutant.State.{State}
 use Rattle.mutator_ops.specs.declared.mutant.Verdict.{Verdict}
-use Rattle.mutant_runs.specs.Needed.{up_to_detecting, needed_runs, needed_on, needed_of_all, runs_picked, steps_picked, verdict_picked, steps_by}
-use Rattle.mutant_runs.specs.Programs.{files_of, edited, with_accepted, viable}
-use Rattle.mutant_runs.specs.Promises.{covering_at}
-use Rattle.mutant_runs.specs.Runs.{Timed, timed, mutant_run, runs_on, steps_in, is_at, reaches}
-use Rattle.mutant_runs.specs.Verdicts.{killer, verdict_by, verdict_of_runs, not_viable, verdict_of}
+use Rattle.suite_program.specs.Below.{up_to_detecting, needed_runs, needed_on, needed_of_all, runs_picked, steps_picked, verdict_picked, steps_by}
+use Rattle.suite_program.specs.Below.{files_of, edited, with_accepted, viable}
+use Rattle.suite_program.specs.Below.{covering_at}
+use Rattle.suite_program.specs.Below.{Timed, timed, mutant_run, runs_on, steps_in, is_at, reaches}
+use Rattle.suite_program.specs.Below.{killer, verdict_by, verdict_of_runs, not_viable, verdict_of}
 use Rattle.suite_laws.specs.Accepted.{IsSafe, IsSafeMutant, FitsProgram, ViableAreNeverStuck, SelectedAlwaysSuffice}
 use Rattle.suite_laws.specs.Covered.{original_run, edited_run, NotStuckThere, ReachingIsAlike, runs_of}
 use Rattle.suite_laws.specs.Edited.{IsMutated, ListedAreMutated}

@@ -6,8 +6,8 @@ use Rattle.std.specs.Option.{option_map_or}
 use Rattle.machine_rules.specs.Runs.{Ran}
 use Rattle.class_table.specs.declared.scripted.Test.{Test}
 use Rattle.mutator_ops.specs.declared.mutant.Mutant.{Mutant}
-use Rattle.mutant_runs.specs.Needed.{timed_at, picked}
-use Rattle.mutant_runs.specs.Runs.{Timed, timed, reaches}
+use Rattle.suite_program.specs.Below.{timed_at, picked}
+use Rattle.suite_program.specs.Below.{Timed, timed, reaches}
 
 module _ (reached : Test → Bool) (steps : Test → ℕ) where
   abbrev pub with_steps : ℕ × Test → ℕ × Timed

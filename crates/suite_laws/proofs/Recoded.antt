@@ -47,8 +47,8 @@ use Rattle.mutant_apply.proofs.NamesKept.{same_names}
 use Rattle.suite_laws.proofs.Lists.{map_changed}
 use Rattle.suite_laws.proofs.Frames.{lines_out, frames_out}
 use Rattle.suite_laws.proofs.Linked.{with_first}
-use Rattle.mutant_runs.proofs.Longer.{linked_lines, linked_frames, each_same, code_same, name_same, desc_same}
-use Rattle.mutant_runs.proofs.Adding.{parent_case, fields_same, methods_same}
+use Rattle.suite_program.proofs.Below.{linked_lines, linked_frames, each_same, code_same, name_same, desc_same}
+use Rattle.suite_program.proofs.Below.{parent_case, fields_same, methods_same}
 use Rattle.suite_laws.proofs.Relocated.{insn_moves}
 
 -- ---- lists

@@ -16,7 +16,7 @@ use Rattle.class_table.specs.declared.scripted.Test.{Test}
 use Rattle.class_table.specs.Table.{look}
 use Rattle.jvm_world.specs.View.{test_of}
 use Rattle.mutator_ops.specs.declared.mutant.Mutant.{Mutant}
-use Rattle.mutant_runs.specs.Runs.{is_at, reaches, mutant_run}
+use Rattle.suite_program.specs.Below.{is_at, reaches, mutant_run}
 use Rattle.suite_laws.specs.Edited.{IsEditOf, MutantsAreEdits, IntJumpsGoOn}
 use Rattle.suite_laws.specs.Covered.{original_run, edited_run, UnreachedIsAlike, ReachAlike, ReachingIsAlike, CoveringIsAlike}
 use Rattle.suite_laws.proofs.Edits.{same_itself}

@@ -14,8 +14,8 @@ use Rattle.class_table.specs.declared.scripted.Test.{Test}
 use Rattle.class_link.specs.Info.{Info}
 use Rattle.mutator_ops.specs.declared.mutant.Mutant.{Mutant}
 use Rattle.mutator_ops.specs.declared.mutant.State.{State}
-use Rattle.mutant_runs.specs.Runs.{timed, runs_on, reaches, detected}
-use Rattle.mutant_runs.specs.Verdicts.{covering, killer, verdict_by, verdict_of_runs, not_viable, verdict_of}
+use Rattle.suite_program.specs.Below.{timed, runs_on, reaches, detected}
+use Rattle.suite_program.specs.Below.{covering, killer, verdict_by, verdict_of_runs, not_viable, verdict_of}
 use Rattle.suite_laws.specs.Covered.{original_run, edited_run, UnreachedIsAlike, NotStuckThere, ReachingIsAlike, CoveringIsAlike, runs_of, SelectedSuffice}
 
 -- ---- lists of runs

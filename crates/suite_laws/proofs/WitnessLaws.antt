@@ -52,8 +52,8 @@ use Rattle.mutator_ops.specs.declared.mutant.Mutant.{Mutant}
 use Rattle.mutant_apply.specs.Fitting.{Fits}
 use Rattle.mutant_apply.specs.Laws.{MutantsFit}
 use Rattle.mutant_apply.specs.Witness.{sample_file}
-use Rattle.mutant_runs.specs.Programs.{files_of, edited, viable, with_accepted, IsMutantOf}
-use Rattle.mutant_runs.specs.Runs.{reaches}
+use Rattle.suite_program.specs.Below.{files_of, edited, viable, with_accepted, IsMutantOf}
+use Rattle.suite_program.specs.Below.{reaches}
 use Rattle.suite_laws.specs.Edited.{IsMutated, is_int_jump}
 use Rattle.suite_laws.specs.Covered.{original_run}
 use Rattle.suite_laws.specs.Witness.{a_jumping, t_class, t_file, sample_program, sample_mutant, sample_mutated, neg_test, idle_test, IsSpelled, PremisesAreMet}

@@ -14,7 +14,7 @@ use Rattle.class_table.specs.Faults.{HasRightKinds}
 use Rattle.class_table.specs.Table.{IsProgram, look}
 use Rattle.jvm_world.specs.View.{test_of}
 use Rattle.mutator_ops.specs.declared.mutant.Mutant.{Mutant}
-use Rattle.mutant_runs.specs.Programs.{files_of, viable}
+use Rattle.suite_program.specs.Below.{files_of, viable}
 use Rattle.library_laws.specs.Linked.{descriptors}
 use Rattle.suite_laws.specs.Edited.{IsMutated}
 use Rattle.suite_laws.specs.Covered.{AllPass, SelectedGive}

@@ -13,9 +13,9 @@ use Rattle.class_table.specs.Table.{look}
 use Rattle.jvm_world.specs.View.{test_of}
 use Rattle.mutator_ops.specs.declared.mutant.Mutant.{Mutant}
 use Rattle.mutator_ops.specs.declared.mutant.Verdict.{Verdict}
-use Rattle.mutant_runs.specs.Programs.{files_of, viable}
-use Rattle.mutant_runs.specs.Runs.{timed, mutant_run, reaches}
-use Rattle.mutant_runs.specs.Verdicts.{verdict_by, killer, verdict_of}
+use Rattle.suite_program.specs.Below.{files_of, viable}
+use Rattle.suite_program.specs.Below.{timed, mutant_run, reaches}
+use Rattle.suite_program.specs.Below.{verdict_by, killer, verdict_of}
 use Rattle.suite_laws.specs.Edited.{IsMutated, mutant_place, puts_int_jump}
 
 -- The run of a test on a program.

@@ -18,7 +18,7 @@ use Rattle.library_laws.specs.Linked.{descriptors}
 use Rattle.mutator_ops.specs.Laws.{IsMutant}
 use Rattle.mutator_ops.specs.Mutants.{class_mutants}
 use Rattle.mutator_ops.specs.declared.mutant.Mutant.{Mutant}
-use Rattle.mutant_runs.specs.Programs.{files_of, edited, IsMutantOf}
+use Rattle.suite_program.specs.Below.{files_of, edited, IsMutantOf}
 
 -- The place of a mutant's instruction.
 abbrev pub mutant_place : Mutant → Place

@@ -5,3 +5,4 @@ pub mod Accepted
 pub mod Witness
 pub mod Tested
 pub mod Suites
+pub mod Below

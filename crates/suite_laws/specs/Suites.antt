@@ -9,8 +9,8 @@ use Rattle.class_link.specs.Info.{Info}
 use Rattle.class_table.specs.declared.scripted.Test.{Test}
 use Rattle.class_table.specs.Table.{look, names, IsProgram}
 use Rattle.test_discovery.specs.Discovery.{Tests}
-use Rattle.mutant_runs.specs.Programs.{files_of}
-use Rattle.mutant_runs.specs.Ready.{IsReady}
+use Rattle.suite_program.specs.Below.{files_of}
+use Rattle.suite_program.specs.Below.{IsReady}
 use Rattle.suite_laws.specs.Accepted.{IsSafe, FitsProgram}
 use Rattle.library_laws.specs.Beside.{program_of}
 use Rattle.suite_program.specs.Programs.{class_file, names_in}

@@ -16,11 +16,11 @@ use Rattle.test_select.specs.declared.mutant.MutantPlace.{MutantPlace}
 use Rattle.mutator_ops.specs.Mutants.{class_mutants}
 use Rattle.mutator_ops.specs.declared.mutant.Mutant.{Mutant}
 use Rattle.mutator_ops.specs.declared.mutant.Verdict.{Verdict}
-use Rattle.mutant_runs.specs.Needed.{needed_of_all}
-use Rattle.mutant_runs.specs.Programs.{files_of, IsMutantOf}
-use Rattle.mutant_runs.specs.Promises.{AreViable, AreVerdicts, steps_for_all}
-use Rattle.mutant_runs.specs.Runs.{Timed, timed}
-use Rattle.mutant_runs.specs.Verdicts.{verdict_of}
+use Rattle.suite_program.specs.Below.{needed_of_all}
+use Rattle.suite_program.specs.Below.{files_of, IsMutantOf}
+use Rattle.suite_program.specs.Below.{AreViable, AreVerdicts, steps_for_all}
+use Rattle.suite_program.specs.Below.{Timed, timed}
+use Rattle.suite_program.specs.Below.{verdict_of}
 use Rattle.suite_laws.specs.Accepted.{IsSafe, FitsProgram}
 use Rattle.suite_laws.specs.Covered.{original_run, AllPass}
 

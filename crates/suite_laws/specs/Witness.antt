@@ -50,8 +50,8 @@ use Rattle.mutator_ops.specs.Laws.{IsMutant}
 use Rattle.mutator_ops.specs.Mutants.{class_mutants}
 use Rattle.mutator_ops.specs.declared.mutant.Mutant.{Mutant}
 use Rattle.mutant_apply.specs.Witness.{sample_file}
-use Rattle.mutant_runs.specs.Programs.{files_of, with_class, edited, viable, IsMutantOf}
-use Rattle.mutant_runs.specs.Runs.{reaches}
+use Rattle.suite_program.specs.Below.{files_of, with_class, edited, viable, IsMutantOf}
+use Rattle.suite_program.specs.Below.{reaches}
 use Rattle.suite_laws.specs.Edited.{IsMutated, is_int_jump, puts_int_jump}
 use Rattle.suite_laws.specs.Covered.{original_run, AllPass}
 use Rattle.suite_laws.specs.Accepted.{FitsProgram, IsSafeMutant}

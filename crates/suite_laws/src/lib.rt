@@ -14,3 +14,7 @@ pub use mutants::{
 };
 pub use needed_tests::{covering_tests_are_needed, found_tests_fit, suites_are_safe};
 pub use script_laws::{found_in_programs_fit, found_scripts_fit, programs_have_files};
+pub use suite_program::{
+    ClassBytes, ProgramEnd, ProgramFault, covering_tests, edited_are_ready, edited_class,
+    edits_make, mutants_are_of, not_viable, program_of, ready_may_run, viable,
+};

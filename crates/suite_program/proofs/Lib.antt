@@ -9,3 +9,4 @@ mod ProgramLaws
 pub mod ReadyLaws
 mod SuperLaws
 mod WholeLaws
+pub mod Below

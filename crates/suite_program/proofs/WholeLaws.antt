@@ -14,7 +14,7 @@ use Rattle.lib_table.specs.LangClasses.{objects, texts, numbers}
 use Rattle.lib_table.specs.Exceptions.{throwables, errors, machine_exceptions, library_exceptions}
 use Rattle.lib_table.specs.Collected.{collections, list_classes, hash_classes, utility_classes, assertions}
 use Rattle.lib_table.specs.Library.{library_meant}
-use Rattle.jvm_step.specs.Tables.{looked_up}
+use Rattle.mutant_runs.specs.Below.{looked_up}
 use Rattle.library_laws.specs.Beside.{named, program_of}
 
 -- Whether a program lacks one of these.

@@ -3,3 +3,4 @@ pub mod Supers
 pub mod Programs
 pub mod Faults
 pub mod Building
+pub mod Below

@@ -8,3 +8,7 @@ mod fault;
 
 pub use building::program_of;
 pub use fault::{ProgramEnd, ProgramFault};
+pub use mutant_runs::{
+    ClassBytes, covering_tests, edited_are_ready, edited_class, edits_make, mutants_are_of,
+    not_viable, ready_may_run, viable,
+};

@@ -21,12 +21,7 @@ use Rattle.lib_table.specs.Library as table
 use Rattle.lib_table.specs.Whole.{are_distinct, signature}
 use Rattle.lib_table.proofs.Tested.{distinct}
 use Rattle.library_laws.specs.Beside.{named, program_of}
-use Rattle.suite_program.specs.Duplicates.{again, least, duplicate_in}
-use Rattle.suite_program.specs.Supers.{is_above, is_own_super, least_with}
-use Rattle.suite_program.specs.Faults.{duplicate_of, super_fault}
-use Rattle.suite_program.specs.Programs.{classes_in, names_in}
-use Rattle.suite_program.specs.declared.fault.ProgramFault.{ProgramFault}
-use Rattle.suite_program.specs.declared.fault.ProgramFault.TheVariants.{Duplicate, SuperMissing, SuperCycle, SuperKind}
+use Rattle.suite_laws.specs.Below.{again, least, duplicate_in, is_above, is_own_super, least_with, duplicate_of, super_fault, classes_in, names_in, ProgramFault, Duplicate, SuperMissing, SuperCycle, SuperKind}
 use Rattle.record_forms.specs.Building as building
 use Rattle.class_records.specs.Profile.{class_meant, are_different, are_apart, held_files, look_held, names_with, are_right_supers, is_program}
 use Rattle.suite_records.specs.Suites.{bytes_of}

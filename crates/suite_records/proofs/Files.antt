@@ -18,8 +18,8 @@ use Rattle.class_link.specs.Linking.{link}
 use Rattle.class_table.specs.Table.{AreDistinct, look}
 use Rattle.lib_table.specs.Library.{library_meant}
 use Rattle.library_laws.specs.Beside.{named, program_of}
-use Rattle.suite_program.specs.Programs.{classes_in, class_file, names_in}
-use Rattle.suite_program.proofs.ReadyLaws.{are_apart}
+use Rattle.suite_laws.specs.Below.{classes_in, class_file, names_in}
+use Rattle.suite_laws.proofs.Below.{are_apart}
 use Rattle.record_rules.specs.Profiles.{class_by}
 use Rattle.reuse_laws.specs.Asking.{AreApart, AreSpelled}
 use Rattle.class_records.specs.Profile.{with_name, file_of, class_meant, files_held, profile}

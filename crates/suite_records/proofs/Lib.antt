@@ -4,3 +4,4 @@ mod Tests
 mod Ordered
 mod Mutants
 mod Faultless
+pub mod Below

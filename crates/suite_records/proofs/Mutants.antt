@@ -26,8 +26,7 @@ use Rattle.mutator_ops.specs.Mutants.{class_mutants}
 use Rattle.mutator_ops.specs.declared.mutant.Mutant.{Mutant}
 use Rattle.mutant_apply.specs.Edited.{applied}
 use Rattle.mutant_apply.specs.Spelled.{MutantsAreSpelled}
-use Rattle.mutant_runs.specs.Programs.{with_class}
-use Rattle.suite_program.specs.Programs.{classes_in, class_file}
+use Rattle.suite_laws.specs.Below.{classes_in, class_file, with_class}
 use Rattle.suite_laws.specs.Edited.{IsMutated, MutantsAreEdits}
 use Rattle.record_rules.specs.Profiles.{class_by}
 use Rattle.reuse_laws.specs.Asking.{AreApart, AreSpelled}

@@ -14,11 +14,8 @@ use Rattle.test_discovery.specs.Discovery.{Tests}
 use Rattle.mutator_ops.specs.Mutants.{class_mutants}
 use Rattle.mutator_ops.specs.declared.mutant.Mutant.{Mutant}
 use Rattle.mutant_apply.specs.Edited.{applied}
-use Rattle.mutant_runs.specs.Programs.{files_of, with_class, edited}
+use Rattle.suite_laws.specs.Below.{ProgramFault, duplicate_of, super_fault, classes_in, names_in, files_of, with_class, edited}
 use Rattle.library_laws.specs.Beside.{program_of}
-use Rattle.suite_program.specs.declared.fault.ProgramFault.{ProgramFault}
-use Rattle.suite_program.specs.Faults.{duplicate_of, super_fault}
-use Rattle.suite_program.specs.Programs.{classes_in, names_in}
 use Rattle.record_rules.specs.declared.record.RunRecord.{RunRecord}
 use Rattle.record_rules.specs.Records.{Asked, record_of}
 use Rattle.record_rules.specs.Truth.{files_in, IsTrueRecord}

@@ -11,8 +11,7 @@ use Rattle.class_link.specs.Info.{Info, own_name}
 use Rattle.class_table.specs.declared.scripted.Test.{Test}
 use Rattle.class_table.specs.Table.{look}
 use Rattle.jvm_world.specs.View.{test_of}
-use Rattle.mutant_runs.specs.Programs.{with_class}
-use Rattle.suite_program.specs.Programs.{classes_in}
+use Rattle.suite_laws.specs.Below.{classes_in, with_class}
 use Rattle.suite_laws.specs.Suites.{IsOfSuite}
 use Rattle.record_rules.specs.Profiles.{Held}
 use Rattle.record_rules.specs.Records.{Asked}

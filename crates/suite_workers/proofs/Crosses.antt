@@ -7,8 +7,8 @@ use Rattle.suite_workers.proofs.ProgramParts.{class_info_send, class_info_sync, 
 use Rattle.suite_workers.proofs.TableParts.{class_id_fields_send, class_id_send, places_fields_send, places_send, machine_classes_send, natives_fields_send, natives_send, lookups_fields_send, lookups_send, slots_send, layouts_send, codes_send, walker_send}
 use Rattle.history_index.specs.contracts.standings.Swap as Swap
 use Rattle.suite_workers.specs.contracts.standing.Standing as Standing
-use Rattle.mutant_runs.specs.contracts.class_bytes.ClassBytes as ClassBytes
-use Rattle.jvm_step.specs.contracts.tables.Tables as Tables
+use Rattle.suite_jobs.specs.Below.mutant_runs_contracts_class_bytes_ClassBytes as ClassBytes
+use Rattle.run_records.specs.Below.jvm_step_contracts_tables_Tables as Tables
 use Rattle.suite_workers.specs.contracts.standing.Stand as Stand
 
 pub swap_fields_send : IsSend (Swap.the_field).row

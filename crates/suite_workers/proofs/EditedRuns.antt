@@ -18,15 +18,15 @@ use Rattle.class_table.proofs.Places.{name_at_place, name_of_class, names_kept, 
 use Rattle.mutator_ops.specs.declared.mutant.Mutant.{Mutant}
 use Rattle.mutant_apply.specs.BytesLaws.{PartsAreOfApplied}
 use Rattle.mutant_apply.specs.Edited.{applied}
-use Rattle.mutant_runs.specs.Edited.{IsEditBy}
-use Rattle.mutant_runs.specs.Programs.{files_of, with_accepted, with_class, edited, viable, Makes}
-use Rattle.mutant_runs.specs.Promises.{TellsViable}
-use Rattle.mutant_runs.proofs.EditLaws.{is_edit}
-use Rattle.mutant_runs.proofs.ProgramLaws.{edited_by, file_found}
+use Rattle.suite_jobs.specs.Below.{IsEditBy}
+use Rattle.suite_jobs.specs.Below.{mutant_runs_files_of as files_of, mutant_runs_with_accepted as with_accepted, mutant_runs_with_class as with_class, mutant_runs_edited as edited, mutant_runs_viable as viable, Makes}
+use Rattle.suite_jobs.specs.Below.{TellsViable}
+use Rattle.suite_jobs.proofs.Below.{is_edit}
+use Rattle.suite_jobs.proofs.Below.{edited_by, file_found}
 use Rattle.record_rules.specs.Profiles.{Held}
 use Rattle.record_rules.specs.Records.{Asked}
 use Rattle.run_records.specs.Asking.{asked, bytes_of, held_by}
-use Rattle.suite_records.specs.Suites.{asked_on, put_file}
+use Rattle.suite_jobs.specs.Below.{asked_on, put_file}
 use Rattle.suite_jobs.specs.Jobs.{unless_refused, viable_file}
 
 -- ---- one class among others

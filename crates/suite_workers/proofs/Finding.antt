@@ -12,7 +12,7 @@ use Rattle.class_link.specs.Linking.{link}
 use Rattle.class_table.specs.Table.{look}
 use Rattle.mutator_ops.specs.declared.mutant.Mutant.{Mutant}
 use Rattle.mutant_apply.specs.BytesLaws.{PartsAreOfApplied}
-use Rattle.mutant_runs.specs.Programs.{with_class}
+use Rattle.suite_jobs.specs.Below.{mutant_runs_with_class as with_class}
 use Rattle.history_file.specs.Rows.{Numbered}
 use Rattle.history_index.specs.declared.standings.Swap.{Swap}
 use Rattle.history_index.specs.Standings.{AreAlike, AreStandings, IsPut, IsSwap, listed, standing_in, swapped}
@@ -22,7 +22,7 @@ use Rattle.record_rules.specs.Matching.{first_match}
 use Rattle.record_rules.specs.Profiles.{Held}
 use Rattle.record_rules.specs.Records.{Asked}
 use Rattle.run_records.specs.Asking.{bytes_of, held_by}
-use Rattle.suite_records.specs.Suites.{put_file}
+use Rattle.suite_jobs.specs.Below.{put_file}
 use Rattle.suite_jobs.specs.Jobs.{viable_file}
 use Rattle.job_rules.specs.Tried.{Tried}
 use Rattle.worker_gate.specs.Hands.{Finds, IsRunOf}

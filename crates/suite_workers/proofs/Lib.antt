@@ -19,3 +19,4 @@ mod ProgramParts
 mod TableParts
 mod Crosses
 mod RunAll
+pub mod Below

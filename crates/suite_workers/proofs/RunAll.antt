@@ -6,7 +6,6 @@ use Rattle.std.proofs.Math.Nat.{suc-mul}
 use Rattle.class_model.specs.declared.memory.Memory.{Memory}
 use Rattle.machine_laws.specs.Walks.{RunsKeepLimits}
 use Rattle.class_link.specs.Info.{Info}
-use Rattle.mutant_runs.specs.Runs.{most_limit}
 use Rattle.job_rules.specs.Gathered.{flat}
 use Rattle.job_rules.specs.Tried.{cost_of_all}
 use Rattle.suite_jobs.specs.Laws.{steps_of}
@@ -14,7 +13,7 @@ use Rattle.worker_gate.specs.Hands.{Runs}
 use Rattle.worker_gate.specs.Sharing.{AreCellsOf, AreEndsOf, MayShare, Shared, SharedSo}
 use Rattle.worker_gate.specs.declared.ends.JobCells.{JobCells}
 use Rattle.suite_workers.specs.Cells.{AreListed}
-use Rattle.suite_workers.specs.Jobs.{cell_runs, job_in}
+use Rattle.suite_workers.specs.Jobs.{cell_runs, job_in, most_limit}
 use Rattle.suite_workers.specs.Said.{CostsAtMost, MayRunCells, RunsCells}
 use Rattle.suite_workers.specs.Saying.{RunEnd, SaysAll}
 use Rattle.suite_workers.specs.Marks.{Marked, run_reading}
@@ -41,14 +40,14 @@ once_most : (n c : ℕ) → 0 < n → c ≤ n * c
 once_most zero c some = absurd (omega (arith, some))
 once_most (suc n) c some = let one = suc-mul n c in omega (arith, one)
 
-cost_case : (cells cost : ℕ) → cells ≤ 4194304 → cost ≤ cells * most_limit → cost ≤ 52848230400000
+cost_case : (cells cost : ℕ) → cells ≤ 4194304 → cost ≤ cells * most_limit → cost ≤ 5243299430400000
 cost_case cells cost few le = omega (arith, few, le)
 
-room_case : (meter n cost : ℕ) → meter < 2 ^ 63 → n < 2 ^ 16 → cost ≤ 52848230400000 → meter + n * cost < 2 ^ 64
-room_case meter n cost low few le = let all = times_most n cost 52848230400000 le in omega (arith, low, few, all)
+room_case : (meter n cost : ℕ) → meter < 2 ^ 63 → n ≤ 64 → cost ≤ 5243299430400000 → meter + n * cost < 2 ^ 64
+room_case meter n cost low few le = let all = times_most n cost 5243299430400000 le in omega (arith, low, few, all)
 
 module _ (law : RunsKeepLimits) (p : List Info) (x : JobSetup) (workers meter : ℕ) (may : MayRunCells p x workers meter) where
-  cost_low : cost_of_all steps_of (cell_runs p (job_in x)) ≤ 52848230400000
+  cost_low : cost_of_all steps_of (cell_runs p (job_in x)) ≤ 5243299430400000
   cost_low = cost_case (length (flat x.covering.now)) (cost_of_all steps_of (cell_runs p (job_in x))) may.fits.cells (cost_most law p (job_in x) may.fits may.can)
 
   -- What all cost is the same of marked runs.
@@ -58,14 +57,14 @@ module _ (law : RunsKeepLimits) (p : List Info) (x : JobSetup) (workers meter : 
   pub may_share : (hands : List (Runs Marked)) (cells : JobCells) → length hands ≡ workers → All (λ w. w ≡ runs_from p x) hands → AreListed x.covering.now x.all cells → MayShare run_reading (λ w. w) cells hands meter
   may_share hands cells long each listed =
       let some = may.some in
-      let few : length hands < 2 ^ 16 = subst (λ n. n < 2 ^ 16) (sym long) may.few in
+      let few : length hands ≤ 64 = subst (λ n. n ≤ 64) (sym long) may.few in
       record {
         some = omega (arith, some, long);
-        few = few;
+        few = omega (arith, few);
         job = runs_from p x;
         each = each;
         of = cells_for law p (job_in x) may.fits may.can (history_of x.look_ups.now) x.all cells listed;
-        room = room_case meter (length hands) (cost_of_all run_reading.steps (runs_from p x)) may.meter_is few (subst (λ n. n ≤ 52848230400000) (sym cost_is) cost_low);
+        room = room_case meter (length hands) (cost_of_all run_reading.steps (runs_from p x)) may.meter_is few (subst (λ n. n ≤ 5243299430400000) (sym cost_is) cost_low);
       }
 
   -- ---- what is answered

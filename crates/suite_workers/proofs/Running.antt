@@ -11,12 +11,11 @@ use Rattle.type_laws.specs.Soundness.{IsStuck}
 use Rattle.class_link.specs.Info.{Info}
 use Rattle.class_table.specs.declared.scripted.Test.{Test}
 use Rattle.class_table.specs.Table.{look, IsProgram}
-use Rattle.jvm_step.specs.Programs.{IsRunnable}
+use Rattle.run_records.specs.Below.{IsRunnable}
 use Rattle.mutant_apply.specs.BytesLaws.{PartsAreOfApplied}
-use Rattle.mutant_runs.specs.Edited.{EditedAreReady, ReadyMayRun}
-use Rattle.mutant_runs.specs.Ready.{IsReady}
-use Rattle.mutant_runs.specs.Runs.{most_limit}
-use Rattle.mutant_runs.proofs.MutantLaws.{ready_with}
+use Rattle.suite_jobs.specs.Below.{EditedAreReady, ReadyMayRun}
+use Rattle.suite_jobs.specs.Below.{IsReady}
+use Rattle.suite_jobs.proofs.Below.{ready_with}
 use Rattle.record_rules.specs.declared.record.RunRecord.{RunRecord}
 use Rattle.record_rules.specs.Outcomes.{outcome_at}
 use Rattle.record_rules.specs.Records.{Asked, record_of, record_with, run}
@@ -26,7 +25,7 @@ use Rattle.job_rules.specs.Tried.{Tried}
 use Rattle.worker_gate.specs.Hands.{Counts, CountsAtMost, IsCellOf, IsRunOf, Makes, Runs}
 use Rattle.suite_workers.specs.Marks.{Marked, mark_made, run_reading}
 use Rattle.suite_workers.specs.Old.{history_of, test_at}
-use Rattle.suite_workers.specs.Jobs.{asked_of, cell_runs, job_in}
+use Rattle.suite_workers.specs.Jobs.{asked_of, cell_runs, job_in, most_limit}
 use Rattle.suite_workers.specs.Standing.{HasEdit, HasEditAt, StandsAt}
 use Rattle.suite_workers.specs.Working.{StartsFrom, runs_from}
 use Rattle.suite_workers.specs.declared.setup.JobSetup.{JobSetup}

@@ -10,7 +10,6 @@ use Rattle.machine_rules.specs.Runs.{run_of}
 use Rattle.machine_laws.specs.Walks.{RunsKeepLimits}
 use Rattle.class_link.specs.Info.{Info}
 use Rattle.mutator_ops.specs.declared.mutant.Mutant.{Mutant}
-use Rattle.mutant_runs.specs.Runs.{most_limit}
 use Rattle.history_file.specs.Rows.{Numbered}
 use Rattle.record_rules.specs.declared.record.RunRecord.{RunRecord}
 use Rattle.job_rules.specs.Gathered.{flat}
@@ -23,7 +22,7 @@ use Rattle.worker_gate.specs.Hands.{Runs}
 use Rattle.worker_gate.specs.Sharing.{AreCellsOf}
 use Rattle.worker_gate.specs.declared.ends.JobCells.{JobCells}
 use Rattle.suite_workers.specs.Cells.{AreListed}
-use Rattle.suite_workers.specs.Jobs.{CanRun, CellJob, FitsNumbers, IsCovered, asked_of, cell_run, cell_runs, runs_on}
+use Rattle.suite_workers.specs.Jobs.{CanRun, CellJob, FitsNumbers, IsCovered, asked_of, cell_run, cell_runs, runs_on, most_limit}
 use Rattle.suite_workers.specs.Marks.{mark, marked, run_reading}
 use Rattle.suite_workers.proofs.Lists.{all_joined, at_map, bound_at, long_map}
 use Rattle.suite_workers.proofs.Marking.{all_ascend_marked, cells_marked, costs_marked}

@@ -9,15 +9,15 @@ use Rattle.class_link.specs.Info.{Info}
 use Rattle.class_table.specs.Table.{CanSwap, look}
 use Rattle.history_index.specs.declared.standings.Swap.{Swap}
 use Rattle.history_index.specs.Standings.{IsSwap}
-use Rattle.jvm_step.specs.declared.tables.Tables.{Tables}
-use Rattle.jvm_step.specs.Tables.{AreNamedOf, AreTablesOf}
+use Rattle.run_records.specs.Below.{Tables}
+use Rattle.run_records.specs.Below.{AreNamedOf, AreTablesOf}
 use Rattle.mutator_ops.specs.declared.mutant.Mutant.{Mutant}
-use Rattle.mutant_runs.specs.declared.class_bytes.ClassBytes.{ClassBytes}
-use Rattle.mutant_runs.specs.Edited.{IsEditBy}
-use Rattle.mutant_runs.specs.Files.{IsKept}
-use Rattle.mutant_runs.specs.Programs.{IsMutantOf, Makes, edited, files_of}
-use Rattle.mutant_runs.proofs.NamedLaws.{named_back, named_made}
-use Rattle.mutant_runs.proofs.ProgramLaws.{makes_swap, makes_swap_back, set_back}
+use Rattle.suite_jobs.specs.Below.{ClassBytes}
+use Rattle.suite_jobs.specs.Below.{IsEditBy}
+use Rattle.suite_jobs.specs.Below.{IsKept}
+use Rattle.suite_jobs.specs.Below.{IsMutantOf, Makes, mutant_runs_edited as edited, mutant_runs_files_of as files_of}
+use Rattle.suite_jobs.proofs.Below.{named_back, named_made}
+use Rattle.suite_jobs.proofs.Below.{makes_swap, makes_swap_back, set_back}
 use Rattle.run_records.specs.Asking.{bytes_of}
 use Rattle.suite_workers.specs.Standing.{HasEdit, HasEditAt, HasStanding, HasStandingAt, IsBare, IsStand, IsSwapOf, StandsAt, StandsFor, base_in, base_of, is_standing, is_standing_for}
 use Rattle.suite_workers.specs.declared.look_ups.InHistory.{InHistory}

@@ -21,18 +21,13 @@ use Rattle.class_table.specs.Table.{look}
 use Rattle.jvm_world.specs.View.{test_of}
 use Rattle.mutator_ops.specs.declared.mutant.Mutant.{Mutant}
 use Rattle.mutant_apply.specs.Edited.{applied}
-use Rattle.mutant_runs.specs.Programs.{files_of, with_class, edited, with_accepted, viable, IsMutantOf}
-use Rattle.suite_program.specs.Programs.{classes_in, class_file}
-use Rattle.suite_laws.specs.Accepted.{FitsProgram, IsSafe, IsSafeMutant, ViableAreNeverStuck}
-use Rattle.suite_laws.specs.Edited.{IsMutated}
-use Rattle.suite_laws.specs.Suites.{FoundTestsFit, SuitesAreSafe}
+use Rattle.suite_jobs.specs.Below.{mutant_runs_files_of as files_of, mutant_runs_with_class as with_class, mutant_runs_edited as edited, mutant_runs_with_accepted as with_accepted, mutant_runs_viable as viable, IsMutantOf}
+use Rattle.suite_jobs.specs.Below.{IsOwnTest, asked_on, bytes_of, put_file, FoundAreOwnTests, FitsProgram, IsSafe, IsSafeMutant, ViableAreNeverStuck, IsMutated, FoundTestsFit, SuitesAreSafe, classes_in, class_file}
 use Rattle.record_rules.specs.declared.record.RunRecord.{RunRecord}
 use Rattle.record_rules.specs.Profiles.{Held}
 use Rattle.record_rules.specs.Records.{Asked, run}
 use Rattle.run_records.specs.Asking.{held_by}
 use Rattle.class_records.specs.Profile.{profile}
-use Rattle.suite_records.specs.Suites.{IsOwnTest, asked_on, bytes_of, put_file}
-use Rattle.suite_records.specs.Laws.{FoundAreOwnTests}
 use Rattle.job_rules.specs.Tried.{Tried, known}
 use Rattle.suite_jobs.specs.Jobs.{Allowed, IsAccepted, IsOfFile, Suite, covering, has_reached, job_runs, mutant_runs, mutant_tried, numbered, original_tried, tried_on, viable_file}
 use Rattle.suite_workers.specs.Old.{AreByName, no_test, test_at}

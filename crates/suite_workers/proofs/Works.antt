@@ -1,9 +1,9 @@
 -- A worker stays one.
 use Rattle.std.proofs.Common.{◌≡◌, ◌∙◌, sym, subst, List, Option, None}
 use Rattle.class_link.specs.Info.{Info}
-use Rattle.jvm_step.specs.Tables.{AreTablesOf}
-use Rattle.mutant_runs.specs.Files.{IsKept}
-use Rattle.mutant_runs.proofs.NamedLaws.{named_of}
+use Rattle.run_records.specs.Below.{AreTablesOf}
+use Rattle.suite_jobs.specs.Below.{IsKept}
+use Rattle.suite_jobs.proofs.Below.{named_of}
 use Rattle.suite_workers.specs.Standing.{IsStand, base_of}
 use Rattle.suite_workers.specs.Working.{CanWork, StartsFrom}
 use Rattle.suite_workers.specs.declared.setup.JobSetup.{JobSetup}

@@ -10,16 +10,15 @@ use Rattle.class_table.specs.declared.scripted.Test.{Test}
 use Rattle.class_table.specs.Table.{look, IsProgram}
 use Rattle.type_laws.specs.Soundness.{IsStuck}
 use Rattle.mutator_ops.specs.declared.mutant.Mutant.{Mutant}
-use Rattle.mutant_runs.specs.Programs.{files_of, with_class, IsMutantOf}
-use Rattle.mutant_runs.specs.Ready.{IsReady}
-use Rattle.mutant_runs.specs.Runs.{most_limit}
+use Rattle.suite_jobs.specs.Below.{mutant_runs_files_of as files_of, mutant_runs_with_class as with_class, IsMutantOf}
+use Rattle.suite_jobs.specs.Below.{IsReady}
 use Rattle.test_select.specs.Cells.{most_cells}
 use Rattle.record_rules.specs.declared.record.RunRecord.{RunRecord}
 use Rattle.record_rules.specs.Records.{Asked, run}
 use Rattle.job_rules.specs.Gathered.{flat}
 use Rattle.job_rules.specs.Tried.{Tried, known}
 use Rattle.run_records.specs.Asking.{held_by}
-use Rattle.suite_records.specs.Suites.{asked_on, bytes_of, put_file}
+use Rattle.suite_jobs.specs.Below.{asked_on, bytes_of, put_file}
 use Rattle.suite_jobs.specs.Jobs.{Allowed, Suite, covering, numbered, original_tried, tried_on, viable_file}
 use Rattle.suite_workers.specs.Old.{old_of, test_at}
 use Rattle.suite_workers.specs.declared.setup.JobSetup.{JobSetup}
@@ -64,6 +63,14 @@ module _ (p : List Info) (j : CellJob) where
   cell_runs = map runs_on (zip j.mutants j.covering)
 
 -- ---- what is asked of a job
+
+-- What a run on the program as it is may take at most, by the words.
+abbrev pub most_steps : ℕ
+most_steps = 1000000000
+
+-- The limit of a run on a mutant of such a test.
+abbrev pub most_limit : ℕ
+most_limit = limit_of most_steps
 
 -- Its numbers are within the limits of a suite.
 pub record FitsNumbers (j : CellJob) : Type 0 where

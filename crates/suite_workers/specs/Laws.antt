@@ -1,6 +1,6 @@
 -- What is said of the cells of a suite.
 use Rattle.std.specs.Prelude.{◌≡◌, All, List}
-use Rattle.mutant_runs.specs.Programs.{files_of, IsMutantOf}
+use Rattle.suite_jobs.specs.Below.{mutant_runs_files_of as files_of, IsMutantOf}
 use Rattle.record_rules.specs.declared.record.RunRecord.{RunRecord}
 use Rattle.suite_jobs.specs.Jobs.{Allowed, Suite, IsAccepted, job_runs}
 use Rattle.suite_workers.specs.Old.{AreByName}

@@ -8,3 +8,4 @@ pub mod Workers
 pub mod Laws
 pub mod Said
 pub mod Saying
+pub mod Below

@@ -7,7 +7,7 @@ use Rattle.class_link.specs.Info.{Info}
 use Rattle.class_table.specs.declared.scripted.Test.{Test}
 use Rattle.class_table.specs.Table.{look}
 use Rattle.mutator_ops.specs.declared.mutant.State.{State}
-use Rattle.mutant_runs.specs.Runs.{detected_by}
+use Rattle.suite_jobs.specs.Below.{detected_by}
 use Rattle.record_rules.specs.declared.record.RunRecord.{RunRecord}
 use Rattle.record_rules.specs.Records.{Asked}
 use Rattle.record_rules.specs.Matching.{first_match}

@@ -34,7 +34,7 @@ pub record MayRunCells (p : List Info) (x : JobSetup) (workers meter : ℕ) : Ty
   pub fits : FitsNumbers (job_in x)
   pub look_ups : AreLookUps p x.tests.now x.limits x.bounds.now x.look_ups.now
   pub some : 0 < workers
-  pub few : workers < 2 ^ 16
+  pub few : workers ≤ 64
   pub meter_is : meter < 2 ^ 63
 
 -- ---- what is answered

@@ -4,11 +4,11 @@ use Rattle.std.specs.Arc.{arc_value}
 use Rattle.program_rules.specs.Names.{Name}
 use Rattle.class_link.specs.Info.{Info}
 use Rattle.class_table.specs.Table.{look}
-use Rattle.jvm_step.specs.Tables.{AreNamedOf, AreTablesOf}
+use Rattle.run_records.specs.Below.{AreNamedOf, AreTablesOf}
 use Rattle.mutator_ops.specs.declared.mutant.Mutant.{Mutant}
-use Rattle.mutant_runs.specs.Edited.{IsEditBy}
-use Rattle.mutant_runs.specs.Files.{IsKept}
-use Rattle.mutant_runs.specs.Programs.{files_of, edited, Makes}
+use Rattle.suite_jobs.specs.Below.{IsEditBy}
+use Rattle.suite_jobs.specs.Below.{IsKept}
+use Rattle.suite_jobs.specs.Below.{mutant_runs_files_of as files_of, mutant_runs_edited as edited, Makes}
 use Rattle.history_index.specs.declared.standings.Swap.{Swap}
 use Rattle.history_index.specs.Standings.{IsSwap}
 use Rattle.run_records.specs.Asking.{bytes_of}

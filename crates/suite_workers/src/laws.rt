@@ -2,8 +2,9 @@
 
 ghost use Rattle.suite_workers.specs.Laws.{AcceptedMayRun, BoundsAreByName, CellsAreOfSuite};
 
-use suite_laws::{found_tests_fit, suites_are_safe, viable_mutants_are_never_stuck};
-use suite_records::found_are_own_tests;
+use suite_jobs::{
+    found_are_own_tests, found_tests_fit, suites_are_safe, viable_mutants_are_never_stuck,
+};
 
 /// The runs of the cells of a suite are those of its job on mutants.
 pub fn cells_are_of_suite()

@@ -16,5 +16,10 @@ pub use laws::{accepted_may_run, bounds_are_by_name, cells_are_of_suite};
 pub use look_ups::LookUps;
 pub use old_records::{FoundRun, OldRecords};
 pub use run::run_cells;
+pub use run_records::{Tables, fits_fields, make_record};
 pub use said::{CellsSaid, KnownRun};
 pub use setup::JobSetup;
+pub use suite_jobs::{
+    ProgramEnd, ProgramFault, covering_tests, mutants_are_of, not_viable, program_of,
+    ready_may_run, viable,
+};

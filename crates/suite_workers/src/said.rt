@@ -1,7 +1,7 @@
 //! What the cells of a job say.
 
 ghost use Rattle.std.specs.Prelude.{◌≡◌, ◌++◌, IfOk, OnOk, option_to_list};
-ghost use Rattle.mutant_runs.specs.Runs.{detected_by};
+ghost use Rattle.suite_jobs.specs.Below.{detected_by};
 ghost use Rattle.suite_workers.specs.Saying.{AddsNext, SaysAll, SaysOne, known_end, open_with, state_end, told_with};
 
 use crate::old_records::FoundRun;

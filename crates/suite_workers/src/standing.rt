@@ -1,18 +1,18 @@
 //! A program in which the class of a mutant may stand edited.
 
 ghost use Rattle.std.specs.Prelude.{◌≡◌, ◌<◌, Some, None, All, IfOk, OnOk, OnErr, length};
-ghost use Rattle.mutant_runs.specs.Programs.{files_of, IsMutantOf};
+ghost use Rattle.suite_jobs.specs.Below.{mutant_runs_files_of as files_of, IsMutantOf};
 ghost use Rattle.suite_workers.specs.Standing.{HasEdit, HasEditAt, IsBare, IsStand, IsSwapOf, StandsAt, StandsFor, base_of, is_standing, swap_in};
 
 use crate::look_ups::{InHistory, bytes_of};
 use class_model::{ClassId, Memory, Name};
 use class_table::{ClassInfo, Program};
 use history_index::Swap;
-use jvm_step::Tables;
-use mutant_runs::{ClassBytes, edited_class};
 use mutator_ops::Mutant;
+use run_records::Tables;
 use std::alloc::Global;
 use std::sync::Arc;
+use suite_jobs::{ClassBytes, edited_class};
 
 /// Which mutant's class stands edited, by its number; the class by number, and what stood there
 /// before; and what of the class files is another one, to a history.

@@ -2,7 +2,7 @@
 
 ghost use Rattle.std.specs.Prelude.{◌≡◌, ◌+◌, ◌≤◌, ◌<◌, ◌^◌, IfOk, OnOk, is_some, length, slice_index};
 ghost use Rattle.class_table.specs.Table.{IsProgram};
-ghost use Rattle.mutant_runs.specs.Runs.{detected_by};
+ghost use Rattle.suite_jobs.specs.Below.{detected_by};
 ghost use Rattle.worker_gate.specs.Hands.{Counts, CountsAtMost, Finds, IsCellOf, Makes, detects_made};
 ghost use Rattle.suite_workers.specs.Marks.{run_reading};
 ghost use Rattle.suite_workers.specs.Old.{test_at};
@@ -15,15 +15,14 @@ use crate::standing::{Stand, place, swap_in};
 use class_model::{Memory, Outcome};
 use class_table::{Program, Test};
 use history_file::History;
-use jvm_step::Tables;
 use mt_edge::MeterPart;
 use mutant_apply::parts_are_of_applied;
-use mutant_runs::{edited_are_ready, ready_may_run};
 use mutator_ops::State;
 use record_rules::RunRecord;
-use run_records::make_record;
+use run_records::{Tables, make_record};
 use std::alloc::Global;
 use std::marker::Model;
+use suite_jobs::{edited_are_ready, ready_may_run};
 use type_laws::first_faults_are_found;
 use worker_gate::Hands;
 
@@ -55,7 +54,7 @@ pub type MarkedRecord<'h> = (RunRecord, Option<(Option<History<'h>>, bool)>);
 
 impl<'a, 'r, 'h> Worker<'a, 'r, 'h> {
     /// Hands for the cells of a job on a program. The program's classes are shared.
-    #[tactic(auto, using(mutant_runs::proofs::ReadyLaws::not_lacking, mutant_runs::proofs::NamedLaws::named_of))]
+    #[tactic(auto, using(suite_jobs::proofs::Below::not_lacking, suite_jobs::proofs::Below::named_of))]
     pub fn new(
         alloc: Global,
         program: &Program,

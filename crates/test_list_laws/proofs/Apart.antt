@@ -1,9 +1,9 @@
 -- No two places of the list of tests have one class and one method.
-use Rattle.std.proofs.Common.{◌≡◌, ◌∙◌, ℕ, zero, suc, Bool, true, false, not, ◌&&◌, ◌||◌, List, [], ◌∷◌, ◌++◌, map, reverse, fold, Option, Some, None, Ordering, Less, Equal, Greater, refl, sym, ap, subst, ◌⊎◌, inl, inr, ⊎_elim, append-nil}
+use Rattle.std.proofs.Common.{◌≡◌, ◌∙◌, ℕ, zero, suc, Bool, true, false, not, ◌&&◌, ◌||◌, List, [], ◌∷◌, ◌++◌, reverse, fold, Option, Some, None, Ordering, Less, Equal, Greater, refl, sym, ap, subst, inl, inr, ⊎_elim, append-nil}
 use Rattle.std.specs.Prelude.{if◌then◌else◌, slice_get, option_and_then, Ok}
 use Rattle.std.specs.BTreeMap.{insert_entry}
 use Rattle.std.specs.Cmp.Lexicographic.{slice_cmp, same_text, bytes_decides}
-use Rattle.std.specs.List.{flat_map, list_any, AllByRecursion}
+use Rattle.std.specs.List.{flat_map, AllByRecursion}
 use Rattle.std.specs.Ordering.{nat_cmp, match_ordering, ordering_reverse}
 use Rattle.std.proofs.lemmas.Cmp.{nat_list_cmp_total}
 use Rattle.std.proofs.lemmas.Grind.{reverse_onto, flat_map-append}
@@ -22,13 +22,13 @@ use Rattle.test_discovery.specs.declared.fault.TestFault.TheVariants.{RunnerUsed
 use Rattle.test_discovery.specs.declared.listed.Listed.{Listed}
 use Rattle.test_discovery.specs.declared.script.Fixture.{Fixture}
 use Rattle.test_discovery.specs.Annotations.{marks_of, is_marked}
-use Rattle.test_discovery.specs.Discovery.{Tests, in_order, put_name, risings, unless_refused}
+use Rattle.test_discovery.specs.Discovery.{in_order, put_name, risings, unless_refused}
 use Rattle.test_discovery.specs.Listed.{Files, superclass_of, file_above, rising_from, rising, head_of, same_head, declares, declares_any, listed_as, is_listed, listed_at, listed_in, listed_above, listed_of, downwards}
 use Rattle.test_discovery.specs.Rules.{breaks, rules, first_broken, told, method_fault, makes_instances, or_else, first_fault, methods_fault, listed_fault, is_test_class, uses_runner, class_fault}
 use Rattle.test_discovery.specs.Scripts.{fixture_of, test_in, test_at, tests_listed, tests_of}
 use Rattle.test_laws.specs.Laws.{AreNamed, DeclaresOnce, DeclareOnce}
 use Rattle.test_list_laws.specs.Laws.{Among, TestsStandOnce}
-use Rattle.test_list_laws.proofs.Listing.{among_both, among_front, among_flat, flat_among, among_map, map_among, among_reversed, any_among, and_right, no_longer, listed_case, all_of, class_listed, IsTestOf, is_test_of, in_class, taken, lowest_of}
+use Rattle.test_list_laws.proofs.Listing.{among_both, among_front, among_flat, flat_among, among_map, map_among, among_reversed, any_among, and_right, no_longer, listed_case, all_of, class_listed, is_test_of, in_class, taken, lowest_of}
 
 -- ---- lists of which no two items are related
 

@@ -1,6 +1,6 @@
 -- A test is listed exactly where its class is a test class and its method one of its test methods.
 use Rattle.std.proofs.Common.{◌≡◌, ◌∙◌, ℕ, zero, suc, Bool, true, false, not, ◌&&◌, ◌||◌, List, [], ◌∷◌, ◌++◌, map, reverse, Option, Some, None, refl, sym, ap, subst, ◌⊎◌, inl, inr, ⊎_elim, append_assoc, append-nil}
-use Rattle.std.specs.Prelude.{if◌then◌else◌, Result, Ok, Err}
+use Rattle.std.specs.Prelude.{if◌then◌else◌, Ok}
 use Rattle.std.specs.List.{flat_map, list_any}
 use Rattle.std.proofs.lemmas.Grind.{reverse_onto}
 use Rattle.class_model.specs.declared.class.Class.{Class}
@@ -10,11 +10,10 @@ use Rattle.class_link.specs.Info.{own_name}
 use Rattle.class_table.specs.declared.scripted.Test.{Test}
 use Rattle.test_discovery.specs.declared.fault.TestFault.{TestFault}
 use Rattle.test_discovery.specs.declared.listed.Listed.{Listed}
-use Rattle.test_discovery.specs.declared.marks.Marks.{Marks}
 use Rattle.test_discovery.specs.declared.script.Fixture.{Fixture}
 use Rattle.test_discovery.specs.Annotations.{marks_of, is_marked}
-use Rattle.test_discovery.specs.Discovery.{Tests, in_order, risings, unless_refused}
-use Rattle.test_discovery.specs.Listed.{Files, file_above, rising_from, rising, head_of, declares_any, listed_as, is_listed, listed_at, listed_in, listed_above, listed_of, downwards}
+use Rattle.test_discovery.specs.Discovery.{in_order, risings, unless_refused}
+use Rattle.test_discovery.specs.Listed.{Files, rising_from, rising, head_of, declares_any, listed_as, is_listed, listed_at, listed_in, listed_above, listed_of, downwards}
 use Rattle.test_discovery.specs.Rules.{may_test, is_test_class, first_fault, class_fault}
 use Rattle.test_discovery.specs.Scripts.{fixture_of, test_in, test_at, tests_listed, tests_of}
 use Rattle.test_laws.specs.Laws.{AreNamed}

@@ -15,10 +15,10 @@ use Rattle.class_table.proofs.Places.{name_of_class, names_kept, number_at, numb
 use Rattle.mutator_ops.specs.Mutants.{class_mutants}
 use Rattle.mutator_ops.specs.declared.mutant.Mutant.{Mutant}
 use Rattle.mutant_apply.specs.BytesLaws.{PartsAreOfApplied}
-use Rattle.mutant_runs.specs.Edited.{EditsMake, IsEditBy}
-use Rattle.mutant_runs.specs.Programs.{Makes, files_of, with_class}
-use Rattle.mutant_runs.proofs.EditLaws.{IsEdit, is_edit}
-use Rattle.mutant_runs.proofs.ProgramLaws.{edited_by, file_found}
+use Rattle.suite_records.specs.Below.{EditsMake, IsEditBy}
+use Rattle.suite_records.specs.Below.{Makes, mutant_runs_files_of as files_of, mutant_runs_with_class as with_class}
+use Rattle.suite_records.proofs.Below.{IsEdit, is_edit}
+use Rattle.suite_records.proofs.Below.{edited_by, file_found}
 use Rattle.record_rules.specs.Profiles.{Held}
 use Rattle.suite_records.specs.Laws.{IsMade, MutantsAreReusable}
 use Rattle.suite_records.specs.Suites.{asked_on, put_file, IsReusable, bytes_of as first_bytes}

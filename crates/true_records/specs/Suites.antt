@@ -9,9 +9,9 @@ use Rattle.class_table.specs.declared.scripted.Test.{Test}
 use Rattle.test_discovery.specs.Discovery.{Tests}
 use Rattle.mutator_ops.specs.Mutants.{class_mutants}
 use Rattle.mutator_ops.specs.declared.mutant.Mutant.{Mutant}
-use Rattle.mutant_runs.specs.Edited.{IsEditBy}
-use Rattle.mutant_runs.specs.Programs.{IsMutantOf, files_of}
-use Rattle.suite_program.specs.Programs.{IsMadeOf}
+use Rattle.suite_records.specs.Below.{IsEditBy}
+use Rattle.suite_records.specs.Below.{IsMutantOf, mutant_runs_files_of as files_of}
+use Rattle.suite_records.specs.Below.{IsMadeOf}
 use Rattle.suite_records.specs.Suites.{IsOwnTest, IsReusable, IsSuite}
 use Rattle.suite_records.specs.Suites.{bytes_of as first_bytes}
 use Rattle.run_records.specs.Asking.{asked, held_by}

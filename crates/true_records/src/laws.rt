@@ -4,8 +4,9 @@ ghost use Rattle.true_records.specs.Suites.{MutantsMayBeRecorded, OriginalsMayBe
 ghost use Rattle.true_records.specs.Suites.{ProgramsHoldTheirFiles};
 
 use mutant_apply::parts_are_of_applied;
-use mutant_runs::edits_make;
-use suite_records::{found_are_own_tests, mutants_are_reusable, originals_are_reusable};
+use suite_records::{
+    edits_make, found_are_own_tests, mutants_are_reusable, originals_are_reusable,
+};
 
 /// A program that was made of class files holds them by their names, with their bytes.
 pub fn programs_hold_their_files()

@@ -3,8 +3,8 @@
 ghost use Rattle.std.specs.Prelude.{◌≡◌, ◌+◌, ◌≤◌, ◌<◌, ◌^◌, IfOk, OnOk};
 ghost use Rattle.record_rules.specs.Records.{run};
 ghost use Rattle.class_table.specs.Table.{look};
-ghost use Rattle.jvm_step.specs.Programs.{IsRunnable};
-ghost use Rattle.jvm_step.specs.Tables.{AreTablesOf};
+ghost use Rattle.run_records.specs.Below.{IsRunnable};
+ghost use Rattle.run_records.specs.Below.{AreTablesOf};
 ghost use Rattle.suite_records.specs.Suites.{IsReusable};
 ghost use Rattle.run_records.specs.Asking.{asked};
 ghost use Rattle.true_records.specs.Recorded.{AreKept, IsTrueRecordedOf, recorded_in};
@@ -14,11 +14,10 @@ use crate::true_record::TrueRecord;
 use class_model::Memory;
 use class_records::class_files_are_a_profile;
 use class_table::{Program, Test};
-use jvm_step::Tables;
 use machine_rules::Limits;
 use mt_edge::MeterPart;
 use record_writing::fitting_records_are_formed;
-use run_records::Recorded;
+use run_records::{Recorded, Tables};
 use std::alloc::Global;
 use suite_records::true_records_change_nothing;
 

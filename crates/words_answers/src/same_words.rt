@@ -1,12 +1,12 @@
 //! Calls of `mutest_words` once more, for the wrong bodies in `must-fail/`: each puts another body
 //! in the place of one of these, which the same contract refuses.
 
-ghost use Rattle.std.specs.Prelude.{◌≡◌, map, option_map, string_bytes, IfOk};
+ghost use Rattle.std.specs.Prelude.{◌≡◌, map, string_bytes, IfOk};
 ghost use Rattle.mutest_words.specs.Given.{texts};
-ghost use Rattle.mutest_words.specs.Words.{command_by, generate_by, paths_differ, as_run_options, as_generate_options, Finds};
+ghost use Rattle.mutest_words.specs.Words.{command_by, paths_differ, as_run_options, Finds};
 
 use class_model::Memory;
-use mutest_words::{Command, GenerateOptions, RunOptions};
+use mutest_words::{Command, RunOptions};
 use std::alloc::Global;
 
 /// `command_by`, with its contract.
@@ -20,15 +20,6 @@ pub fn command_by<'a>(
 {
     let command = mutest_words::command_by(alloc, unbuilt, words)?;
     Ok(command)
-}
-
-/// `generate_options`, with its contract.
-pub fn generate_options(alloc: Global, words: &[String]) -> Result<Option<GenerateOptions>, Memory>
-    ensures { IfOk result (λ o. option_map as_generate_options o
-        ≡ generate_by (map string_bytes words.entry.now)) }
-{
-    let options = mutest_words::generate_options(alloc, words)?;
-    Ok(options)
 }
 
 /// `paths_differ`, with its contract.

@@ -33,6 +33,14 @@ fn push_number(out: &mut String, name: &str, number: u32, usual: u32) -> Result<
     push(out, text.as_str())
 }
 
+// A flag, where it stands there.
+fn push_flag(out: &mut String, name: &str, is_set: bool) -> Result<(), Memory> {
+    if is_set {
+        push_word(out, name)?;
+    }
+    Ok(())
+}
+
 fn push_run(out: &mut String, options: &RunOptions<'_>) -> Result<(), Memory> {
     push(out, "run")?;
     push_word(out, options.classes)?;
@@ -45,13 +53,22 @@ fn push_run(out: &mut String, options: &RunOptions<'_>) -> Result<(), Memory> {
     push_number(out, "workers", options.workers, 1)?;
     push_number(out, "steps", options.steps, 10_000_000)?;
     push_number(out, "heap", options.heap, 4_194_304)?;
-    push_number(out, "depth", options.depth, 1_024)
+    push_number(out, "depth", options.depth, 1_024)?;
+    push_flag(out, "matrix", options.matrix)
 }
 
 fn push_asm(out: &mut String, options: AsmOptions<'_>) -> Result<(), Memory> {
     push(out, "asm")?;
     push_word(out, options.text)?;
     push_option(out, "out", Some(options.out))
+}
+
+fn push_generate(out: &mut String, options: GenerateOptions) -> Result<(), Memory> {
+    let classes = options.classes;
+    let text = format!(in *out.allocator(); "generate {classes}")?;
+    push(out, text.as_str())?;
+    push_number(out, "workers", options.workers, 1)?;
+    push_flag(out, "matrix", options.matrix)
 }
 
 /// Adds a command, or that there is none.
@@ -63,17 +80,7 @@ pub fn push_command(out: &mut String, command: &Option<Command<'_>>) -> Result<(
         }
         Some(Command::Assemble(options)) => push_asm(out, *options),
         Some(Command::Run(options)) => push_run(out, options),
+        Some(Command::Generate(options)) => push_generate(out, *options),
         None => push(out, "Usage"),
     }
-}
-
-/// Adds what `generate` is given, or that it is no command.
-pub fn push_generate(out: &mut String, options: Option<GenerateOptions>) -> Result<(), Memory> {
-    let Some(options) = options else {
-        return push(out, "Usage");
-    };
-    let classes = options.classes;
-    let text = format!(in *out.allocator(); "generate {classes}")?;
-    push(out, text.as_str())?;
-    push_number(out, "workers", options.workers, 1)
 }

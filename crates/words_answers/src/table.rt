@@ -1,8 +1,8 @@
 //! A table: a list of words a line, each word behind a `|`, then ` => ` and the command that they
 //! are. A line that is empty or begins with `#` is passed over.
 
-use crate::same_words::{command_by, generate_options};
-use crate::shown::{push, push_command, push_generate};
+use crate::same_words::command_by;
+use crate::shown::{push, push_command};
 use class_model::Memory;
 use mutest_words::command_of;
 use std::alloc::Global;
@@ -18,12 +18,6 @@ fn words_of(alloc: Global, text: &str) -> Result<Vec<String>, Memory> {
 
 // What words are in the whole language.
 fn push_whole(words: &[String], out: &mut String) -> Result<(), Memory> {
-    if let [name, behind @ ..] = words {
-        if name.as_str() == "generate" {
-            let options = generate_options(*out.allocator(), behind)?;
-            return push_generate(out, options);
-        }
-    }
     let command = command_by(*out.allocator(), &[], words)?;
     push_command(out, &command)
 }

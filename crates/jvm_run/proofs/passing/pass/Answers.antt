@@ -1,6 +1,6 @@
 use Rattle.std.proofs.Common.{subst, sym}
-use Rattle.jvm_lines.specs.Lines.{lines_of}
-use Rattle.jvm_lines.specs.Marking.{AreMarkedRight}
+use Rattle.jvm_step.specs.Below.{lines_of}
+use Rattle.jvm_step.specs.Below.{AreMarkedRight}
 use Rattle.jvm_run.proofs.passing.pass.Goals as goal
 
 pub stay_in_method-requires-clause-reached : goal.stay_in_method-requires-clause-reached

@@ -1,6 +1,6 @@
 use Rattle.std.proofs.Common.{◌≤◌, ◌+◌, ◌-◌, arith, subst}
 use Rattle.jvm_run.specs.declared.taking.Taken.TheVariants as taken
-use Rattle.jvm_lines.specs.Lines.{lines_of}
+use Rattle.jvm_step.specs.Below.{lines_of}
 use Rattle.jvm_run.specs.Passing.{Took}
 use Rattle.jvm_run.proofs.Passes.{took_both, took_none}
 use Rattle.jvm_run.proofs.Stays.{marked_on}

@@ -1,7 +1,7 @@
 use Rattle.std.proofs.Common.{◌-◌, ◌≤◌}
 use Rattle.jvm_run.specs.declared.taking.Taken.TheVariants as taken
-use Rattle.jvm_lines.specs.Lines.{lines_of}
-use Rattle.jvm_lines.specs.Marking.{AreMarkedRight}
+use Rattle.jvm_step.specs.Below.{lines_of}
+use Rattle.jvm_step.specs.Below.{AreMarkedRight}
 use Rattle.jvm_run.specs.Passing.{Took}
 use Rattle.jvm_step.specs.Tables.{AreTablesOf}
 use Rattle.jvm_run.proofs.passing.pass_on.Given as goal

@@ -1,9 +1,9 @@
 use Rattle.std.proofs.Common.{◌-◌, ◌≤◌}
 use Rattle.jvm_run.specs.declared.taking.Taken.TheVariants as taken
 use Rattle.jvm_run.specs.Passing.{Took}
-use Rattle.jvm_members.specs.Layouts.{AreLayouts}
-use Rattle.jvm_members.specs.Slots.{AreSlots}
-use Rattle.jvm_receivers.specs.Objects.{AreLookups}
+use Rattle.jvm_step.specs.Below.{AreLayouts}
+use Rattle.jvm_step.specs.Below.{AreSlots}
+use Rattle.jvm_step.specs.Below.{AreLookups}
 use Rattle.jvm_run.proofs.passing.stay_in_method.Given as goal
 
 abbrev pub invariant-loop-done : goal.invariant-loop-done

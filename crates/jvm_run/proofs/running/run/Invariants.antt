@@ -1,6 +1,6 @@
 use Rattle.std.proofs.Common.{◌≡◌, ◌+◌, ◌-◌, ◌≤◌}
-use Rattle.jvm_lines.specs.Lines.{lines_of}
-use Rattle.jvm_lines.specs.Marking.{AreMarkedRight}
+use Rattle.jvm_step.specs.Below.{lines_of}
+use Rattle.jvm_step.specs.Below.{AreMarkedRight}
 use Rattle.jvm_run.specs.Running.{HasRun, start_of}
 use Rattle.jvm_step.specs.Tables.{AreTablesOf}
 use Rattle.jvm_run.proofs.running.run.Given as goal

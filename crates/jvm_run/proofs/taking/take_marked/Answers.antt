@@ -1,7 +1,7 @@
 use Rattle.std.proofs.Common.{◌≡◌, subst, IsSomeAnd}
 use Rattle.std.specs.Prelude.{IfNone}
-use Rattle.jvm_act.specs.Acts.{acting}
-use Rattle.jvm_act.specs.Turned.{Turned}
+use Rattle.jvm_step.specs.Below.{acting}
+use Rattle.jvm_step.specs.Below.{Turned}
 use Rattle.jvm_run.specs.Passing.{HasMark}
 use Rattle.jvm_run.proofs.Passes.{of_some, took_goes, took_no_row, took_same, took_throws}
 use Rattle.jvm_run.proofs.taking.take_marked.Goals as goal

@@ -1,4 +1,4 @@
-use Rattle.jvm_step.specs.Tables.{AreTablesOf}
+use Rattle.jvm_run.specs.Below.{AreTablesOf}
 use Rattle.machine_answers.proofs.runs.push_lines.Given as goal
 
 abbrev pub invariant-loop-line : goal.invariant-loop-line

@@ -1,6 +1,6 @@
 use Rattle.std.proofs.Common.{◌≡◌, ◌+◌, map, take}
 use Rattle.class_table.specs.Table.{look}
-use Rattle.jvm_step.specs.Tables.{AreNamedOf}
+use Rattle.jvm_run.specs.Below.{AreNamedOf}
 use Rattle.mutant_runs.specs.Files.{IsKept}
 use Rattle.mutant_runs.specs.Needed.{verdict_picked}
 use Rattle.mutant_runs.specs.Programs.{files_of}

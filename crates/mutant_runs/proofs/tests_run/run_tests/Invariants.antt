@@ -1,5 +1,5 @@
 use Rattle.std.proofs.Common.{drop}
-use Rattle.jvm_step.specs.Tables.{AreTablesOf}
+use Rattle.jvm_run.specs.Below.{AreTablesOf}
 use Rattle.mutant_runs.specs.Promises.{runs_in}
 use Rattle.mutant_runs.proofs.VerdictLaws.{SoFar}
 use Rattle.mutant_runs.proofs.tests_run.run_tests.Given as goal

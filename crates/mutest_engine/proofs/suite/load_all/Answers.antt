@@ -1,11 +1,10 @@
 use Rattle.std.proofs.Common.{◌≡◌, ◌∙◌, List, ap, sym, subst}
 use Rattle.std.specs.Prelude.{All}
 use Rattle.std.proofs.lemmas.List.Elements.{All-push}
-use Rattle.class_link.specs.declared.loaded.Loaded.{Loaded}
 use Rattle.std.specs.Vec.Iter.{into_iter_items}
 use Rattle.std.proofs.lemmas.Result.{err_from_is_err_and}
 use Rattle.codec_rules.specs.Reading.{with_values}
-use Rattle.mutest_engine.specs.SuiteFiles.{all_loaded, IsSpelled}
+use Rattle.mutest_engine.specs.SuiteFiles.{all_loaded, IsRead}
 use Rattle.mutest_engine.specs.declared.suite.ClassFile.{ClassFile}
 use Rattle.mutest_engine.proofs.SuiteLaws.{loads_end, loads_on}
 use Rattle.mutest_engine.proofs.suite.load_all.Goals as goal
@@ -23,5 +22,5 @@ loop-file-preserved c =
     let told = loads_on c.loop-file.all c.in-Some.file (into_iter_items c.next.new.self) c.in_ok-one.one (all_loaded c.args.files) c.in_ok-one.ensures.value so_far in
     record {
       told = ap (λ l. with_values l (all_loaded (into_iter_items c.next.new.self))) pushed ∙ told;
-      form = subst (All (λ (one : Loaded). IsSpelled one.class)) (sym pushed) (All-push (λ (one : Loaded). IsSpelled one.class) c.loop-file.all c.in_ok-one.one c.loop-file.invariant.form c.in_ok-one.ensures.form);
+      form = subst (All IsRead) (sym pushed) (All-push IsRead c.loop-file.all c.in_ok-one.one c.loop-file.invariant.form c.in_ok-one.ensures.form);
     }

@@ -4,7 +4,8 @@ use Rattle.class_model.specs.declared.class.Class.{Class}
 use Rattle.mt_edge.specs.Files.{Files}
 use Rattle.mutest_words.specs.Words.{as_asm_options, as_asm_command}
 use Rattle.mutest_engine.specs.Answers.{Answered, file_of}
-use Rattle.mutest_engine.specs.Decided.{IsAssembledTo, or_refused, stated_class, written_class, assembly, asm_answer}
+use Rattle.mutest_engine.specs.Decided.{IsAssembledTo, written_class, assembly, asm_answer}
+use Rattle.mutest_engine.specs.Stated.{or_refused, stated_class}
 use Rattle.mutest_engine.specs.Steps.{and_then}
 use Rattle.mutest_engine.specs.declared.refusal.Refusal.{Refusal}
 use Rattle.mutest_engine.proofs.MadeLaws.{made_held, made_may, made_reads}

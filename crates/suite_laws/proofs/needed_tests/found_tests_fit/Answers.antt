@@ -1,5 +1,5 @@
 use Rattle.std.proofs.Common.{refl}
-use Rattle.mutant_runs.specs.Programs.{files_of}
+use Rattle.suite_program.specs.Below.{files_of}
 use Rattle.suite_laws.proofs.needed_tests.found_tests_fit.Goals as goal
 
 pub returns : goal.returns

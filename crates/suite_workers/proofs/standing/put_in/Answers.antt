@@ -1,11 +1,11 @@
 use Rattle.std.proofs.Common.{◌≡◌, refl, subst, rules}
 use Rattle.std.specs.Arc.{arc_value}
-use Rattle.mutant_runs.specs.Edited.{IsEditBy}
-use Rattle.mutant_runs.specs.Files.{IsKept}
-use Rattle.mutant_runs.specs.Programs.{Makes}
+use Rattle.suite_jobs.specs.Below.{IsEditBy}
+use Rattle.suite_jobs.specs.Below.{IsKept}
+use Rattle.suite_jobs.specs.Below.{Makes}
 use Rattle.suite_workers.specs.Standing.{IsSwapOf}
-use Rattle.mutant_runs.proofs.NamedLaws.{named_made}
-use Rattle.mutant_runs.proofs.ProgramLaws.{makes_swap}
+use Rattle.suite_jobs.proofs.Below.{named_made}
+use Rattle.suite_jobs.proofs.Below.{makes_swap}
 use Rattle.suite_workers.proofs.Standings.{bare_without, on_err, stands_for}
 use Rattle.suite_workers.proofs.standing.put_in.Goals as goal
 

@@ -1,0 +1,16 @@
+pub mod FailedOnes
+pub mod Judged
+pub mod OriginalRuns
+pub mod LinesReached
+pub mod CoveringAll
+pub mod KeptAs
+pub mod LinesAlike
+pub mod CoveringAlike
+pub mod VerdictsAlike
+pub mod MutantsFit
+pub mod Suited
+pub mod CellsAsked
+pub mod Ended
+pub mod Readying
+pub mod Keeps
+pub mod Whole

@@ -1,0 +1,10 @@
+pub mod Failing
+pub mod Covering
+pub mod Judging
+pub mod Reaching
+pub mod Placing
+pub mod Originals
+pub mod Ending
+pub mod Preparing
+pub mod Keeping
+pub mod Below

@@ -1,0 +1,222 @@
+//! What a job needs before its cells are run.
+
+ghost use Rattle.std.specs.Prelude.{◌≡◌, ◌+◌, ◌≤◌, ◌<◌, ◌^◌, length, zip, All, IfOk, OnOk};
+ghost use Rattle.suite_workers.specs.Old.{AreByName, AreLookUps, history_in, history_of, old_of};
+ghost use Rattle.suite_workers.specs.Old.{records_in};
+ghost use Rattle.suite_workers.specs.Said.{IsKnownIn};
+ghost use Rattle.suite_runs.specs.Covering.{CoversFew};
+ghost use Rattle.suite_runs.specs.Ending.{MayRunJob};
+ghost use Rattle.suite_runs.specs.Originals.{MayMakeOriginals, original_cost, same_steps};
+ghost use Rattle.suite_runs.specs.Preparing.{AreBoundsBy, AreGreen, AreOriginals, GreenEnds};
+ghost use Rattle.suite_runs.specs.Preparing.{MayBeRun, Prepares, ReadyEnds, RisesBy};
+ghost use Rattle.suite_runs.specs.Reaching.{CoversKnown};
+
+use crate::bounds::bounds_of;
+use crate::covering::{cell_count, covering_all, refuse_many};
+use crate::failed::{failed_of, refuse_failed};
+use crate::fault::JobFault;
+use crate::job::SuiteJob;
+use crate::originals::originals_of;
+use crate::reached::{NamedClasses, coverage_of};
+use class_model::{Memory, Seq};
+use class_table::Program;
+use class_writer::what_is_spelled_is_written;
+use job_answers::originals_have_records;
+use line_coverage::Coverage;
+use machine_laws::runs_keep_limits;
+use mt_edge::Meter;
+use mutator_ops::Mutant;
+use std::alloc::Global;
+use suite_workers::{
+    KnownRun, LookUps, OldRecords, Tables, bounds_are_by_name, mutants_are_of, ready_may_run,
+    viable,
+};
+
+/// What is known of the original runs; which mutants are viable, and which tests cover each; what
+/// runs on mutants may take, and what look-ups of them go by.
+#[derive(Drop)]
+pub struct Prepared<'a, 'h> {
+    pub runs: Seq<KnownRun<'a, 'h>>,
+    pub viable: Seq<bool>,
+    pub covering: Seq<Seq<u32>>,
+    pub bounds: Seq<u64>,
+    pub look_ups: LookUps<'a, 'h>,
+}
+
+// What look-ups of original runs go by.
+fn original_look_ups<'a, 'h>(
+    alloc: Global,
+    program: &Program,
+    job: &SuiteJob,
+    old: OldRecords<'a, 'h>,
+) -> Result<LookUps<'a, 'h>, Memory>
+    ensures of { IfOk result
+        (AreLookUps program.now job.now.tests.now job.now.limits (same_steps job.now)) }
+    ensures old { IfOk result (λ l. old_of l ≡ records_in old.entry) }
+    ensures history { IfOk result (λ l. history_of l ≡ history_in old.entry) }
+{
+    let steps = vec![in alloc; job.steps; job.tests.len()]?;
+    LookUps::new(alloc, old, program, job.tests, job.limits, steps.as_slice())
+}
+
+// The runs of tests may be made. Only the prover reads this.
+fn may_make(program: &Program, job: &SuiteJob, old: OldRecords)
+    requires { MayBeRun program.now job.now old }
+    ensures { MayMakeOriginals program.now job.now }
+{
+    ready_may_run();
+    originals_have_records();
+}
+
+// What is known of the original runs. The steps of those that are made are counted in the meter.
+#[tactic(auto, using(suite_workers::proofs::Below::not_lacking))]
+fn original_runs<'a, 'h>(
+    alloc: Global,
+    program: &Program,
+    job: &SuiteJob,
+    old: OldRecords<'a, 'h>,
+    meter: &mut Meter,
+) -> Result<Seq<KnownRun<'a, 'h>>, Memory>
+    requires { MayRunJob program.now job.now old meter.old }
+    ensures are { IfOk result (AreOriginals program.now job.now old.entry) }
+    ensures steps { OnOk result
+        (meter.new ≡ meter.old + original_cost program.now job.now (records_in old.entry)) }
+    ensures from { meter.old ≤ meter.new }
+    ensures most { meter.new
+        ≤ meter.old + original_cost program.now job.now (records_in old.entry) }
+{
+    runs_keep_limits();
+    may_make(program, job, old);
+    let look_ups = original_look_ups(alloc, program, job, old)?;
+    let Some(mut tables) = Tables::find(alloc, program)? else {
+        unreachable!()
+    };
+    let mut part = meter.split();
+    let runs = originals_of(alloc, program, &mut tables, &look_ups, job, &mut part);
+    meter.join(part);
+    runs
+}
+
+// What is known of them where all tests pass.
+fn green_runs<'a, 'h>(
+    alloc: Global,
+    program: &Program,
+    job: &SuiteJob,
+    old: OldRecords<'a, 'h>,
+    meter: &mut Meter,
+) -> Result<Seq<KnownRun<'a, 'h>>, JobFault>
+    requires { MayRunJob program.now job.now old meter.old }
+    ensures ends { GreenEnds program.now job.now old.entry result }
+    ensures meter { RisesBy (original_cost program.now job.now (records_in old.entry))
+        meter.old meter.new result }
+{
+    let runs = original_runs(alloc, program, job, old, meter)?;
+    let failed = failed_of(alloc, runs.as_slice())?;
+    refuse_failed(failed)?;
+    Ok(runs)
+}
+
+// Which tests reach a line.
+fn coverage<'a, 'h>(
+    alloc: Global,
+    program: &Program,
+    old: OldRecords<'a, 'h>,
+    runs: &[KnownRun<'a, 'h>],
+) -> Result<Coverage, Memory>
+    requires few { length runs.now < 2 ^ 32 }
+    requires of { All (IsKnownIn (history_in old)) runs.now }
+    ensures { IfOk result (CoversKnown program.now runs.entry.now) }
+{
+    let named = NamedClasses::of(alloc, program, old)?;
+    let cover = coverage_of(alloc, program, &named, runs)?;
+    Ok(cover)
+}
+
+// For each mutant the tests that cover it, unless that makes too many cells.
+fn few_covering(
+    alloc: Global,
+    program: &Program,
+    cover: &Coverage,
+    mutants: &[Mutant],
+    viable: &[bool],
+) -> Result<Seq<Seq<u32>>, JobFault>
+    requires tests { cover.now.tests < 2 ^ 32 }
+    requires viable { length viable.now ≡ length mutants.now }
+    ensures { CoversFew program.now cover.now (zip mutants.now viable.now) result }
+{
+    refuse_many(cell_count(program, cover, mutants, viable))?;
+    let covering = covering_all(alloc, program, cover, mutants, viable)?;
+    Ok(covering)
+}
+
+// Tests of one class and method have one bound. Only the prover reads this.
+fn bounds_by_name(
+    program: &Program,
+    job: &SuiteJob,
+    old: OldRecords,
+    runs: &[KnownRun],
+    bounds: &[u64],
+)
+    requires may { MayBeRun program.now job.now old }
+    requires are { AreOriginals program.now job.now old runs.now }
+    requires by { AreBoundsBy runs.now bounds.now }
+    ensures long { length bounds.now ≡ length job.now.tests.now }
+    ensures named { AreByName job.now.tests.now bounds.now }
+{
+    bounds_are_by_name();
+}
+
+// The rest of what cells need, by what is known of the original runs.
+fn readied<'a, 'h>(
+    alloc: Global,
+    program: &mut Program,
+    job: &SuiteJob<'a>,
+    old: OldRecords<'a, 'h>,
+    runs: Seq<KnownRun<'a, 'h>>,
+) -> Result<Prepared<'a, 'h>, JobFault>
+    requires may { MayBeRun program.old job.now old }
+    requires green { AreGreen program.old job.now old runs }
+    ensures ends { ReadyEnds program.old job.now old.entry result }
+    ensures same { program.new ≡ program.old }
+{
+    what_is_spelled_is_written();
+    mutants_are_of();
+    let viable = viable(alloc, program, job.mutants)?;
+    let cover = coverage(alloc, program, old, runs.as_slice())?;
+    let covering = few_covering(alloc, program, &cover, job.mutants, viable.as_slice())?;
+    let bounds = bounds_of(alloc, runs.as_slice())?;
+    bounds_by_name(program, job, old, runs.as_slice(), bounds.as_slice());
+    let look_ups = LookUps::new(
+        alloc,
+        old,
+        program,
+        job.tests,
+        job.limits,
+        bounds.as_slice(),
+    )?;
+    Ok(Prepared {
+        runs,
+        viable,
+        covering,
+        bounds,
+        look_ups,
+    })
+}
+
+/// What the cells of a job need, or why it is refused.
+pub fn prepare<'a, 'h>(
+    alloc: Global,
+    program: &mut Program,
+    job: &SuiteJob<'a>,
+    old: OldRecords<'a, 'h>,
+    meter: &mut Meter,
+) -> Result<Prepared<'a, 'h>, JobFault>
+    requires { MayRunJob program.old job.now old meter.old }
+    ensures ends { Prepares program.old job.now old.entry result }
+    ensures meter { RisesBy (original_cost program.old job.now (records_in old.entry))
+        meter.old meter.new result }
+    ensures same { program.new ≡ program.old }
+{
+    let runs = green_runs(alloc, program, job, old, meter)?;
+    readied(alloc, program, job, old, runs)
+}
