@@ -6,7 +6,9 @@ use Rattle.std.proofs.lemmas.Option.{slice_get-map}
 use Rattle.class_model.specs.declared.class.Class.{Class}
 use Rattle.class_model.specs.declared.edit.Edit.{Edit}
 use Rattle.program_rules.specs.Linked.{Linked}
+use Rattle.program_rules.specs.Linked as rules
 use Rattle.program_rules.specs.Programs.{Look}
+use Rattle.type_laws.specs.Alike.{HeadsAlike}
 use Rattle.type_rules.specs.Faults.{Placed, class_fault}
 use Rattle.type_rules.specs.References.{classes_of}
 use Rattle.type_rules.specs.Rules.{MethodFault, method_fault}
@@ -66,6 +68,8 @@ module _ (law : EditsAreJudgedByMethod) (first : MethodsStayFirst) (alike : PutS
 
       is_put : IsPut p id by.old new
       is_put = put p id by.file by.old new ok is
+
+      heads : HeadsAlike (look p) (look (slice_set p id new))
       heads = (alike p id by.old new is_put).heads
 
       here : look p m.class ≡ Some (class_of by.old)
@@ -91,7 +95,7 @@ some_by : (o : Option Placed) (p : Look) → is_some (if is_some o then None els
 some_by None p = refl
 some_by (Some f) p = refl
 
-none_placed : (k : ℕ) (o : Option MethodFault) → is_none (option_map (λ f. (k, f)) o) ≡ is_none o
+none_placed : (k : ℕ) (o : Option MethodFault) → (let placed : Option Placed = option_map (λ f. (k, f)) o in is_none placed) ≡ is_none o
 none_placed k None = refl
 none_placed k (Some f) = refl
 
@@ -112,19 +116,19 @@ module _ (p : List Info) (m : Mutant) (id : ℕ) (new : Info) (made : Makes p m 
 
   viable_by : is_some (viable (files_of p) (look p) m) ≡ is_none fault
   viable_by =
-      ap (λ o. is_some (option_and_then (with_accepted m.class) o)) made.program
+      ap (λ (o : Option Look). is_some (option_and_then (with_accepted m.class) o)) made.program
       ∙ some_by (class_fault (look (slice_set p id new)) m.class) (look (slice_set p id new))
-      ∙ ap (λ o. is_none o) is.fault ∙ none_placed m.edit.method fault
+      ∙ ap (λ (o : Option Placed). is_none o) is.fault ∙ none_placed m.edit.method fault
 
   fault_by : (o : Option LinkedMethod) (r : Option Fault) → slice_get new.linked.methods m.edit.method ≡ o → FaultIfFirst p new.name new.linked m.edit.method o r → is_none fault ≡ is_none r
   fault_by None r at h =
-      ap (λ o. is_none (option_and_then (method_fault (classes_of (look p)) m.class (class_of new) m.edit.method) o)) (none_seen new.linked m.edit.method at)
-      ∙ sym (ap (λ o. is_none o) h)
+      ap (λ (o : Option rules.LinkedMethod). is_none (option_and_then (method_fault (classes_of (look p)) m.class (class_of new) m.edit.method) o)) (none_seen new.linked m.edit.method at)
+      ∙ sym (ap (λ (o : Option Fault). is_none o) h)
   fault_by (Some x) r at h =
       let seen = method_seen new.linked m.edit.method x at in
-      ap (λ o. is_none (option_and_then (method_fault (classes_of (look p)) m.class (class_of new) m.edit.method) o)) seen
+      ap (λ (o : Option rules.LinkedMethod). is_none (option_and_then (method_fault (classes_of (look p)) m.class (class_of new) m.edit.method) o)) seen
       ∙ ap (λ n. is_none (method_fault (classes_of (look p)) n (class_of new) m.edit.method (method_of new.linked.entries x))) (sym named)
-      ∙ ap (λ o. is_none o) (h (is.first (method_of new.linked.entries x) seen)) ∙ none_found r
+      ∙ ap (λ (o : Option MethodFault). is_none o) (h (is.first (method_of new.linked.entries x) seen)) ∙ none_found r
 
   pub viable_told : (r : Option Fault) → MethodFaultIs p new m.edit.method r → TellsViable p m (is_none r)
   viable_told r h = sym (viable_by ∙ fault_by (slice_get new.linked.methods m.edit.method) r refl h)
