@@ -1,6 +1,6 @@
-use Rattle.std.proofs.Common.{◌∙◌, ap, subst}
+use Rattle.std.proofs.Common.{◌∙◌, sym, ap, subst}
 use Rattle.class_table.specs.Table.{number_of}
-use Rattle.type_verifier.specs.OneMethod.{MethodFaultIs}
+use Rattle.mutant_runs.specs.Promises.{TellsViable}
 use Rattle.mutant_runs.proofs.Codes.{methods_short}
 use Rattle.mutant_runs.proofs.Judging.{named, viable_told}
 use Rattle.mutant_runs.proofs.on_mutant.is_accepted.Goals as goal
@@ -20,4 +20,4 @@ returns c =
     let p = c.args.program.now in
     let m = c.args.mutant.now in
     let is = c.edits_are_judged_by_their_method.ensures p m c.args.id.0 c.args.edited.now c.is_program.ensures c.requires.ready c.requires.fit c.requires.edit in
-    viable_told p m c.args.id.0 c.args.edited.now c.requires.made is c.in_ok-fault.fault c.in_ok-fault.ensures
+    subst (TellsViable p m) (sym c.is_none.ensures) (viable_told p m c.args.id.0 c.args.edited.now c.requires.made is c.in_ok-fault.fault c.in_ok-fault.ensures)
