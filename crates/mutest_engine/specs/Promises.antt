@@ -1,6 +1,6 @@
 -- What is promised of a tree and of a sink, by what is told of them before and after (this
 -- project's own).
-use Rattle.std.specs.Prelude.{◌≡◌, ◌⊎◌, ℕ, ◌+◌, ◌≤◌, List, Option, Some, IfSome, Result, Ok, MatchResult}
+use Rattle.std.specs.Prelude.{◌≡◌, ◌⊎◌, ℕ, ◌+◌, ◌≤◌, List, Option, Some, IfSome, IfErr, Result, Ok, MatchResult}
 use Rattle.std.specs.Global.{Vec, Global}
 use Rattle.std.specs.declared.string.String.{String}
 use Rattle.mt_edge.specs.Files.{Files}
@@ -14,6 +14,7 @@ use Rattle.mutest_engine.specs.Decided.{scratch_bounds, scratch_of, scratch_run_
 use Rattle.mutest_engine.specs.Jobs.{Bounds}
 use Rattle.mutest_engine.specs.Old.{old_records}
 use Rattle.mutest_engine.specs.Ends.{Agrees, AnswerMeters, MeterRose, Got, Prints, Allows, FilesAfter, writes_in}
+use Rattle.mutest_engine.specs.Refusals.{IsUnheld}
 use Rattle.mutest_engine.specs.Seen.{AnswersStated, MayBeStated, MaySee, Seen, Stated, stated_seen}
 use Rattle.mutest_engine.specs.Steps.{ReadsBy}
 use Rattle.mutest_engine.specs.SuiteFiles.{texts}
@@ -133,7 +134,14 @@ module _ {O : Type 0} (faults : O → ℕ) (written : O → Option (List ℕ)) w
 
 -- ---- whatever a tree tells
 
--- A step of a run answers and counts by one suite, one history and one folder of sources,
+-- A step that reads one file answers by its bytes, or by why these are refused;
+abbrev pub GoesByFile :
+    List ℕ → (Result (List ℕ) Refusal → Result Answered Refusal) → Result Answer Halt → Type 0
+GoesByFile path stated result =
+    (file : Result (List ℕ) Refusal) × IfErr file (IsUnheld path)
+    × ReadsBy answered (stated file) result
+
+-- a step of a run answers and counts by one suite, one history and one folder of sources,
 abbrev pub GoesByRun : RunOptions → ℕ → ℕ → Result Answer Halt → Type 0
 GoesByRun o before after result =
     (seen : Seen) × MaySee o seen × AnswersStated (stated_seen o seen) before after result

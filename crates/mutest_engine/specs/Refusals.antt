@@ -172,7 +172,7 @@ IsOfRun options r =
 
 -- by a file at this path that isn't held or is too large, whichever command reads it
 abbrev pub IsUnheld : List ℕ → Refusal → Type 0
-IsUnheld path r = IsOfFile path r × IsOfText path r × IsOfSuite r
+IsUnheld path r = IsOfFile path r × IsOfText path r × IsLoading r
 
 -- A command isn't refused for its words.
 abbrev pub MayRefuse : Command → Refusal → Type 0

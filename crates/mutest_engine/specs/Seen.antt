@@ -8,7 +8,7 @@ use Rattle.record_rules.specs.declared.record.RunRecord.{RunRecord}
 use Rattle.reuse_laws.specs.Jobs.{AreTrue}
 use Rattle.report_pieces.specs.declared.input.Group.{Group}
 use Rattle.mutest_engine.specs.Answers.{Answered, answered, spelled_class}
-use Rattle.mutest_engine.specs.Decided.{allowed_by, assembly, bounds_behind, generate_answer, generate_bounds, generate_scratch, generate_scratch_bounds, known_bounds, listing, report_answer, scratch_bounds_in}
+use Rattle.mutest_engine.specs.Decided.{allowed_by, assembly, bounds_behind, generate_answer, generate_bounds, generate_scratch, generate_scratch_bounds, known_bounds, listing, report_answer, run_answer, run_bounds, run_scratch, scratch_bounds_in, scratch_run_bounds}
 use Rattle.mutest_engine.specs.Ends.{AnswerMeters}
 use Rattle.mutest_engine.specs.Jobs.{Bounds, no_steps}
 use Rattle.mutest_engine.specs.Made.{made_suite}
@@ -18,8 +18,8 @@ use Rattle.mutest_engine.specs.Refusals.{IsLoading, IsOfHistory, IsOfSources, Is
 use Rattle.mutest_engine.specs.Reported.{every_reported, known_reported}
 use Rattle.mutest_engine.specs.Sources.{AreNamed, sources_in}
 use Rattle.mutest_engine.specs.Stated.{stated_class}
-use Rattle.mutest_engine.specs.Steps.{and_then, ReadsBy}
-use Rattle.mutest_engine.specs.SuiteFiles.{suite_of}
+use Rattle.mutest_engine.specs.Steps.{and_then, ReadsBy, RefusesReading}
+use Rattle.mutest_engine.specs.SuiteFiles.{IsFormed, suite_of}
 use Rattle.mutest_engine.specs.declared.answer.Answer.{Answer}
 use Rattle.mutest_engine.specs.declared.refusal.Refusal.{Refusal}
 use Rattle.mutest_engine.specs.declared.reported.Reported.{Reported}
@@ -43,22 +43,29 @@ seen_in o files = record {
   sources = λ groups. sources_in o.sources groups files;
 }
 
--- A tree may tell this. It is refused by no more than what is read: that a path isn't there, that a
--- class file isn't spelled, or that there is too much.
+-- A tree may tell this: class files with the classes that they spell. It is refused by no more than
+-- what is read: that a path isn't there, that a class file isn't spelled, or that there is too much.
 pub record MaySee (o : RunOptions) (s : Seen) : Type 0 where
   pub suite : IfErr s.suite IsLoading
+  pub formed : IfOk s.suite IsFormed
   pub history : IfErr s.history (IsOfHistory o.history)
   pub path : IfOk s.history (IsOfPath o.history)
   pub sources : (groups : List Group) → IfErr (s.sources groups) (IsOfSources o.sources)
   pub named : (groups : List Group) → IfOk (s.sources groups) (AreNamed o.sources)
+
+abbrev pub records_seen : Seen → Result (List RunRecord) Refusal
+records_seen s = and_then s.history records_in
 
 -- The suite and the records of the history.
 abbrev pub known_seen : Seen → Result (NamedSuite × List RunRecord) Refusal
 known_seen s =
     and_then s.suite (λ loaded.
     and_then (made_suite loaded) (λ suite.
-    and_then s.history (λ history.
-    and_then (records_in history) (λ old. Ok (suite, old)))))
+    and_then (records_seen s) (λ old. Ok (suite, old))))
+
+-- A step before the first run halts with no other refusal than that of what is seen so.
+abbrev pub HaltsSeen : RunOptions → Halt → Type 0
+HaltsSeen o h = (s : Seen) × MaySee o s × RefusesReading (λ r. known_seen s ≡ Err r) h
 
 module _ (o : RunOptions) (s : Seen) where
   abbrev pub report_seen : Reported → Result Answered Refusal
@@ -90,7 +97,15 @@ records_or_none (Ok old) = old
 records_or_none (Err refusal) = []
 
 abbrev pub old_seen : Seen → List RunRecord
-old_seen s = records_or_none (and_then s.history records_in)
+old_seen s = records_or_none (records_seen s)
+
+-- What is decided by what a tree tells is what its files decide.
+abbrev pub SeesHeld : Type 0
+SeesHeld =
+    (o : RunOptions) (files : Files) → (run_seen o (seen_in o files) ≡ run_answer o files)
+    × (scratch_seen o (seen_in o files) ≡ run_scratch o files)
+    × (bounds_seen o (seen_in o files) ≡ run_bounds o files)
+    × (scratch_bounds_seen o (seen_in o files) ≡ scratch_run_bounds o files)
 
 -- ---- what is stated
 
