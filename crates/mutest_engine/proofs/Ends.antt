@@ -251,11 +251,14 @@ halt_agrees stated (halt.Refused r) end allowed same =
 halt_agrees stated (halt.ReadFault faults) end allowed same = by_status (ReadFault faults) end (Agrees stated) same (read_agrees stated faults) (lost_agrees stated)
 halt_agrees stated halt.WantOfMemory end allowed same = by_status WantOfMemory end (Agrees stated) same (lost_agrees stated) (lost_agrees stated)
 
+pub agrees_so : (stated : Result Answered Refusal) (answer : Result Answer Halt) (end : Status) → ReadsBy answered stated answer → Finished answer end → Agrees stated end
+agrees_so stated (Ok a) end told ended = subst (λ (x : Result Answered Refusal). Agrees x end) (sym told) (ok_agrees (answered a) end ended)
+agrees_so stated (Err h) end told ended = halt_agrees stated h end told ended
+
 pub agrees_by : (held : Option Files) (stated : Files → Result Answered Refusal) (answer : Result Answer Halt) (end : Status) → IfSome held (λ files. ReadsBy answered (stated files) answer) → Finished answer end
     → IfSome held (λ files. Agrees (stated files) end)
 agrees_by None stated answer end told ended = tt
-agrees_by (Some files) stated (Ok a) end told ended = subst (λ (x : Result Answered Refusal). Agrees x end) (sym told) (ok_agrees (answered a) end ended)
-agrees_by (Some files) stated (Err h) end told ended = halt_agrees (stated files) h end told ended
+agrees_by (Some files) stated answer end told ended = agrees_so (stated files) answer end told ended
 
 -- ---- what the words alone decide
 
@@ -332,12 +335,16 @@ halt_puts before after halt.WantOfMemory end same = by_status WantOfMemory end (
 
 -- ---- the sink
 
--- what the end of a call prints of its answer, said of what the files decide
+-- what the end of a call prints of its answer, said of what is stated,
+pub prints_so : (stated : Result Answered Refusal) (answer : Result Answer Halt) (P : Result Answered Refusal → Type 0) → ReadsBy answered stated answer → MatchResult answer (λ a. P (Ok (answered a))) (λ h. (x : Result Answered Refusal) → Allows h x → P x) → P stated
+prints_so stated (Ok a) P told said = subst P (sym told) said
+prints_so stated (Err h) P told said = said stated told
+
+-- and of what the files decide
 pub prints_by : (held : Option Files) (stated : Files → Result Answered Refusal) (answer : Result Answer Halt) (P : Result Answered Refusal → Type 0) → IfSome held (λ files. ReadsBy answered (stated files) answer)
     → MatchResult answer (λ a. P (Ok (answered a))) (λ h. (x : Result Answered Refusal) → Allows h x → P x) → IfSome held (λ files. P (stated files))
 prints_by None stated answer P told said = tt
-prints_by (Some files) stated (Ok a) P told said = subst P (sym told) said
-prints_by (Some files) stated (Err h) P told said = said (stated files) told
+prints_by (Some files) stated answer P told said = prints_so (stated files) answer P told said
 
 abbrev Stateable : Result Command Refusal → (Result Answered Refusal → Type 0) → Type 0
 Stateable words P = (x : Result Answered Refusal) × CanState words x × P x
@@ -382,11 +389,14 @@ pub left_of : (old new : Option Files) (answer : Result Answer Halt) (end : Stat
 left_of old new (Ok a) end is = is
 left_of old new (Err h) end is = is
 
+pub files_so : (stated : Result Answered Refusal) (held new : Option Files) (answer : Result Answer Halt) (end : Status) → ReadsBy answered stated answer → Finished answer end → Left held new answer end → FilesAfter (writes_in stated) held new end
+files_so stated held new (Ok a) end told ended left = subst (λ (x : Result Answered Refusal). FilesAfter (writes_in x) held new end) (sym told) left
+files_so stated held new (Err h) end told ended left = halt_files (writes_in stated) held new h end left ended
+
 pub files_by : (held new : Option Files) (stated : Files → Result Answered Refusal) (answer : Result Answer Halt) (end : Status) → IfSome held (λ files. ReadsBy answered (stated files) answer) → Finished answer end → Left held new answer end
     → IfSome held (λ files. FilesAfter (writes_in (stated files)) (Some files) new end)
 files_by None new stated answer end told ended left = tt
-files_by (Some files) new stated (Ok a) end told ended left = subst (λ (x : Result Answered Refusal). FilesAfter (writes_in x) (Some files) new end) (sym told) left
-files_by (Some files) new stated (Err h) end told ended left = halt_files (writes_in (stated files)) (Some files) new h end left ended
+files_by (Some files) new stated answer end told ended left = files_so (stated files) (Some files) new answer end told ended left
 
 pub last_by : (held new : Option Files) (before after : ℕ) (bounds : Files → Bounds) (answer : Result Answer Halt) (end : Status) → IfSome held (λ files. AnswerMeters before after (bounds files) answer) → Left held new answer end
     → IfSome held (λ files. (new ≡ Some files) ⊎ (before + (bounds files).least ≤ after))
@@ -408,11 +418,14 @@ halt_rose before after b (halt.Refused r) end all rose same = by_status (Refused
 halt_rose before after b (halt.ReadFault faults) end all rose same = by_status (ReadFault faults) end (MeterRose before after b) same (rose.1 faults refl) all
 halt_rose before after b halt.WantOfMemory end all rose same = by_status WantOfMemory end (MeterRose before after b) same all all
 
+pub rose_so : (before after : ℕ) (b : Bounds) (answer : Result Answer Halt) (end : Status) → AnswerMeters before after b answer → Finished answer end → MeterRose before after b end
+rose_so before after b (Ok a) end meter ended = ok_rose before after b (answered a) end ended meter.0 meter.1
+rose_so before after b (Err h) end meter ended = halt_rose before after b h end meter.0 meter.1 ended
+
 pub rose_by : (held : Option Files) (before after : ℕ) (bounds : Files → Bounds) (answer : Result Answer Halt) (end : Status) → IfSome held (λ files. AnswerMeters before after (bounds files) answer) → Finished answer end
     → IfSome held (λ files. MeterRose before after (bounds files) end)
 rose_by None before after bounds answer end meter ended = tt
-rose_by (Some files) before after bounds (Ok a) end meter ended = ok_rose before after (bounds files) (answered a) end ended meter.0 meter.1
-rose_by (Some files) before after bounds (Err h) end meter ended = halt_rose before after (bounds files) h end meter.0 meter.1 ended
+rose_by (Some files) before after bounds answer end meter ended = rose_so before after (bounds files) answer end meter ended
 
 ok_stays : (before after : ℕ) (a : Answered) (end : Status) → CarriedOut a end → before ≤ after → MeterStays before after end
 ok_stays before after a Done q le = le

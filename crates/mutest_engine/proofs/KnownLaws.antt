@@ -224,7 +224,7 @@ meters_none bounds read before s refused = record {
 -- ---- a run
 
 -- A suite and the records of a history.
-abbrev Found : Type 0
+abbrev pub Found : Type 0
 Found = NamedSuite × List RunRecord
 
 -- All that is known, where a tree tells its files.
@@ -235,11 +235,11 @@ known_so o k loaded files made read held =
     ∙ ap (λ x. and_then x (λ suite. and_then (old_records o.history files) (λ old. Ok (suite, old)))) made.stated
     ∙ ap (λ x. and_then (and_then x records_in) (λ old. Ok (named (suite_in loaded k.suite), old))) held
 
-nested : {X Y Z W : Type 0} (a : Result X Refusal) (f : X → Y) (g : Y → Result Z Refusal) (tail : Z → Result W Refusal) → and_then (and_then a (λ x. Ok (f x))) (λ y. and_then (g y) tail) ≡ and_then (and_then a (λ x. g (f x))) tail
+pub nested : {X Y Z W : Type 0} (a : Result X Refusal) (f : X → Y) (g : Y → Result Z Refusal) (tail : Z → Result W Refusal) → and_then (and_then a (λ x. Ok (f x))) (λ y. and_then (g y) tail) ≡ and_then (and_then a (λ x. g (f x))) tail
 nested (Ok x) f g tail = refl
 nested (Err r) f g tail = refl
 
-nested_bounds : {X Y : Type 0} (a : Result X Refusal) (f : X → Y) (g : Y → Bounds) → bounds_behind (and_then a (λ x. Ok (f x))) g ≡ bounds_behind a (λ x. g (f x))
+pub nested_bounds : {X Y : Type 0} (a : Result X Refusal) (f : X → Y) (g : Y → Bounds) → bounds_behind (and_then a (λ x. Ok (f x))) g ≡ bounds_behind a (λ x. g (f x))
 nested_bounds (Ok x) f g = refl
 nested_bounds (Err r) f g = refl
 
@@ -247,17 +247,17 @@ true_of : (o : RunOptions) (k : KnownJob) (files : Files) → history_bytes o.hi
 true_of o k files held true_ones = subst AreTrueIn (ap (λ x. and_then x records_in) held) true_ones
 
 -- What a run does by what is known.
-abbrev Next : Type 0
+abbrev pub Next : Type 0
 Next = NamedSuite → List RunRecord → Result Reported Refusal
 
 abbrev run_by : RunOptions → Next → Files → Result Answered Refusal
 run_by o next files = and_then (before_runs o files) (λ x. and_then (next x.0 x.1) (λ r. sourced_answer o r files))
 
 module _ (held : Option Files) (o : RunOptions) (k : KnownJob) (known : IsKnownOf held o k) where
-  abbrev suite : NamedSuite
+  abbrev pub suite : NamedSuite
   suite = named (suite_in known.loaded k.suite)
 
-  abbrev stated : Next → Result Reported Refusal
+  abbrev pub stated : Next → Result Reported Refusal
   stated next = and_then (records_in k.history) (next suite)
 
   abbrev IsRead : Files → Type 0
@@ -340,7 +340,7 @@ module _ (held : Option Files) (o : RunOptions) (k : KnownJob) (known : IsKnownO
       ⊎_elim (λ (runs : IsOfRuns r). inl runs.0) (λ (read : (records_in k.history ≡ Err r) × (after ≡ before)). inr (inl (of_records o.history k.history r known.path read.0))) (refuses r (is.0 r e))
 
   -- The meter.
-  abbrev own_bounds : Bounds
+  abbrev pub own_bounds : Bounds
   own_bounds = bounds_behind (records_in k.history) (known_bounds o suite)
 
   bounds_is : (files : Files) → IsRead files → run_bounds o files ≡ own_bounds
@@ -362,7 +362,7 @@ module _ (held : Option Files) (o : RunOptions) (k : KnownJob) (known : IsKnownO
   meters_halt before after s h is m = meters_by before after (Err h) (m.in_all, (λ r e. m.ended r (is.0 r e), λ faults e. absurd (is.1 faults e)))
 
   -- The meter from scratch.
-  abbrev scratch_own : Bounds
+  abbrev pub scratch_own : Bounds
   scratch_own = bounds_behind (records_in k.history) (scratch_bounds_in o suite)
 
   scratch_own_is : (files : Files) → IsRead files → scratch_run_bounds o files ≡ scratch_own
@@ -370,7 +370,7 @@ module _ (held : Option Files) (o : RunOptions) (k : KnownJob) (known : IsKnownO
       ap (λ r. bounds_behind r (λ x. scratch_bounds_in o x.0 x.1)) (known_so o k known.loaded files known.made read.0 read.1)
       ∙ nested_bounds (records_in k.history) (λ old. (suite, old)) (λ x. scratch_bounds_in o x.0 x.1)
 
-  own_scratch : AnswersAreFromScratch → AreTrueIn (records_in k.history) → own_bounds ≡ scratch_own
+  pub own_scratch : AnswersAreFromScratch → AreTrueIn (records_in k.history) → own_bounds ≡ scratch_own
   own_scratch law true_ones = by_read (records_in k.history) true_ones
     where
       by_read : (read : Result (List RunRecord) Refusal) → AreTrueIn read → bounds_behind read (known_bounds o suite) ≡ bounds_behind read (scratch_bounds_in o suite)

@@ -14,6 +14,7 @@ mod PlaceLaws
 mod ReadLaws
 mod RefusalLaws
 mod ScratchLaws
+mod SeenLaws
 mod SourceLaws
 mod SuiteLaws
 mod SuiteMade

@@ -4,12 +4,12 @@ use Rattle.std.proofs.Common.{◌≡◌, ◌∙◌, ℕ, ◌≤◌, List, refl, 
 use Rattle.std.specs.Prelude.{Option, None, Some, IfSome, IfErr, Result, Ok, Err}
 use Rattle.mt_edge.specs.Files.{Files}
 use Rattle.mutest_words.specs.Words.{Command, RunOptions}
-use Rattle.mutest_engine.specs.Answers.{Answered}
+use Rattle.mutest_engine.specs.Answers.{Answered, answered}
 use Rattle.mutest_engine.specs.Decided.{CanAnswer, bounds_behind, report_answer}
 use Rattle.mutest_engine.specs.Ends.{AnswerMeters, AnswersHeld, HaltStays, Makes, MayAnswer, MayReport}
 use Rattle.mutest_engine.specs.Jobs.{Bounds, RoseAtMost, RoseInAll, RoseWithin, no_steps}
 use Rattle.mutest_engine.specs.Sources.{AreNamed}
-use Rattle.mutest_engine.specs.Steps.{FailsReading}
+use Rattle.mutest_engine.specs.Steps.{FailsReading, ReadsBy}
 use Rattle.mutest_engine.specs.declared.answer.Answer.{Answer}
 use Rattle.mutest_engine.specs.declared.refusal.Refusal.{Refusal}
 use Rattle.mutest_engine.specs.declared.reported.Reported.{Reported}
@@ -30,10 +30,13 @@ no_fault h faults P want is = let e : halt.WantOfMemory ≡ halt.ReadFault fault
 no_case : (P : Type 0) → ⊥ → P
 no_case P q = absurd q
 
+pub made_so : (stated : Result Answered Refusal) (a : Answered) (r : Result Answer Halt) → stated ≡ Ok a → Makes a r → ReadsBy answered stated r
+made_so stated a (Ok x) is made = is ∙ ap some_answer (sym made)
+made_so stated a (Err h) is made = λ r refused. no_refusal h r (stated ≡ Err r) made refused
+
 pub made_held : (held : Option Files) (stated : Files → Result Answered Refusal) (a : Answered) (r : Result Answer Halt) → IfSome held (λ files. stated files ≡ Ok a) → Makes a r → AnswersHeld held stated r
 made_held None stated a r is made = tt
-made_held (Some files) stated a (Ok x) is made = is ∙ ap some_answer (sym made)
-made_held (Some files) stated a (Err h) is made = λ r refused. no_refusal h r (stated files ≡ Err r) made refused
+made_held (Some files) stated a r is made = made_so (stated files) a r is made
 
 pub made_may : (command : Command) (a : Answered) (r : Result Answer Halt) → CanAnswer command a → Makes a r → MayAnswer command r
 made_may command a (Ok x) can made = subst (λ (b : Answered). CanAnswer command b) (sym made) can
@@ -55,7 +58,7 @@ none_within before = record { least = omega arith; most = omega arith }
 pub none_in_all : (b : Bounds) (before : ℕ) → RoseInAll b before before
 none_in_all b before = record { least = omega arith; most = omega arith }
 
-none_at_most : (b : Bounds) (before : ℕ) → RoseAtMost b before before
+pub none_at_most : (b : Bounds) (before : ℕ) → RoseAtMost b before before
 none_at_most b before = record { least = omega arith; most = omega arith }
 
 pub none_rose : {X : Type 0} (stated : Result X Refusal) (r : Refusal) (bounds : X → Bounds) (before : ℕ) → stated ≡ Err r → RoseWithin (bounds_behind stated bounds) before before

@@ -4,7 +4,7 @@ use Rattle.std.specs.Prelude.{All, IfOk, IfSome}
 use Rattle.std.specs.List.{AllByRecursion}
 use Rattle.std.proofs.lemmas.List.Elements.{All-from_recursion}
 use Rattle.history_rules.specs.Items.{AllBy}
-use Rattle.history_rules.specs.Laws.{AreWritable, IsFormed, IsOther, before_next}
+use Rattle.history_rules.specs.Laws.{AreWritable, IsFormed as IsFormedRecord, IsOther, before_next}
 use Rattle.mt_edge.specs.Files.{Files}
 use Rattle.mutest_words.specs.Words.{RunOptions}
 use Rattle.record_rules.specs.declared.record.RunRecord.{RunRecord}
@@ -13,16 +13,16 @@ use Rattle.mutest_engine.specs.Known.{HaltsBefore, IsKnownOf}
 use Rattle.mutest_engine.specs.Made.{IsMade, made_suite, suite_in}
 use Rattle.mutest_engine.specs.NamedJobs.{NamedSuite, named}
 use Rattle.mutest_engine.specs.Old.{IsOfPath, history_bytes, old_records, records_in}
-use Rattle.mutest_engine.specs.Refusals.{IsOfHistory, IsOfRun, IsOfSuite}
+use Rattle.mutest_engine.specs.Refusals.{IsLoading, IsOfHistory, IsOfRun}
 use Rattle.mutest_engine.specs.Steps.{and_then, Halts, IsHaltOf, IsRead, Refuses, RefusesReading}
-use Rattle.mutest_engine.specs.SuiteFiles.{suite_of}
+use Rattle.mutest_engine.specs.SuiteFiles.{IsFormed, suite_of}
 use Rattle.mutest_engine.specs.declared.made.MadeSuite.{MadeSuite}
 use Rattle.mutest_engine.specs.declared.suite.LoadedSuite.{LoadedSuite}
 use Rattle.mutest_engine.specs.declared.refusal.Refusal.{Refusal}
 use Rattle.mutest_engine.specs.declared.stop.Halt.{Halt}
 use Rattle.mutest_engine.specs.declared.stop.Stop.{Stop}
 use Rattle.mutest_engine.proofs.FaultLaws.{halts_on}
-use Rattle.mutest_engine.proofs.RefusalLaws.{of_made}
+use Rattle.mutest_engine.proofs.RefusalLaws.{loading_is_of_suite, of_made}
 
 abbrev behind_suite : RunOptions → Files → NamedSuite → Result (NamedSuite × List RunRecord) Refusal
 behind_suite o files suite = and_then (old_records o.history files) (λ old. Ok (suite, old))
@@ -58,8 +58,8 @@ old_halts held left o loaded x h same read made halts = by_held held read (subst
 
 -- ---- with which refusals
 
-pub of_suite : (o : RunOptions) (h : Halt) (before now : ℕ) → Halts IsOfSuite before now h → Halts (IsOfRun o) before now h
-of_suite o h before now halts = (λ r e. inl (halts.0 r e), halts.1)
+pub of_suite : (o : RunOptions) (h : Halt) (before now : ℕ) → Halts IsLoading before now h → Halts (IsOfRun o) before now h
+of_suite o h before now halts = (λ r e. inl (loading_is_of_suite r (halts.0 r e)), halts.1)
 
 pub of_made_stop : (o : RunOptions) (loaded : LoadedSuite) (s : Stop) (h : Halt) (before now : ℕ) → Refuses (λ r. made_suite loaded ≡ Err r) s → IsHaltOf s h → Halts (IsOfRun o) before now h
 of_made_stop o loaded s h before now refuses is = (λ r e. inl (of_made loaded r (refuses r (is.0 r e))), λ faults e. absurd (is.1 faults e))
@@ -72,10 +72,11 @@ of_old o h0 h1 h2 w0 w1 w2 r0 r1 r2 h one other =
 
 -- ---- what is known
 
-pub known_is : (held left : Option Files) (o : RunOptions) (loaded : LoadedSuite) (x : MadeSuite) (history : Option (List ℕ)) → left ≡ held → IfSome held (λ files. suite_of o.classes o.tests files ≡ Ok loaded) → IsMade loaded x
+pub known_is : (held left : Option Files) (o : RunOptions) (loaded : LoadedSuite) (x : MadeSuite) (history : Option (List ℕ)) → left ≡ held → IfSome held (λ files. suite_of o.classes o.tests files ≡ Ok loaded) → IsFormed loaded → IsMade loaded x
     → IfSome left (λ files. history_bytes o.history files ≡ Ok history) → IsOfPath o.history history → IsKnownOf held o (record { suite = x; history = history })
-known_is held left o loaded x history same read made old path = record {
+known_is held left o loaded x history same read formed made old path = record {
   loaded = loaded;
+  formed = formed;
   made = made;
   read = read;
   old = subst (λ (t : Option Files). IfSome t (λ files. history_bytes o.history files ≡ Ok history)) same old;
@@ -84,13 +85,13 @@ known_is held left o loaded x history same read made old path = record {
 
 -- ---- records of a history
 
-formed_behind : (before rs : List RunRecord) → AllBy IsOther before_next before rs → AllByRecursion IsFormed rs
+formed_behind : (before rs : List RunRecord) → AllBy IsOther before_next before rs → AllByRecursion IsFormedRecord rs
 formed_behind before [] others = tt
 formed_behind before (r ∷ rs) others = (others.0.0, formed_behind (before_next before r) rs others.1)
 
 -- Records that a history spells are formed.
-pub writable_formed : (rs : List RunRecord) → AreWritable rs → All IsFormed rs
-writable_formed rs others = All-from_recursion IsFormed rs (formed_behind [] rs others)
+pub writable_formed : (rs : List RunRecord) → AreWritable rs → All IsFormedRecord rs
+writable_formed rs others = All-from_recursion IsFormedRecord rs (formed_behind [] rs others)
 
 -- Where there is a path, there may be bytes.
 pub some_path : (path : List ℕ) (r : Result (Option (List ℕ)) Halt) → IfOk r (IsOfPath (Some path))

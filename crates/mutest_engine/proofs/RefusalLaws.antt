@@ -1,6 +1,6 @@
 -- How a run is refused, whatever the tree holds.
 use Rattle.std.proofs.Common.{◌≡◌, ℕ, ◌<◌, Bool, true, false, List, [], ◌∷◌, length, Option, None, Some, Result, Ok, Err, refl, subst, arith}
-use Rattle.std.specs.Prelude.{IfSome, map, nat_lt, if◌then◌else◌}
+use Rattle.std.specs.Prelude.{IfErr, IfSome, map, nat_lt, if◌then◌else◌}
 use Rattle.std.specs.List.{flat_map}
 use Rattle.std.proofs.lemmas.Bool.{ltb-true}
 use Rattle.program_rules.specs.Names.{Name}
@@ -22,8 +22,8 @@ use Rattle.test_discovery.specs.Discovery.{in_order, risings, unless_refused, te
 use Rattle.suite_runs.specs.Below.suite_program_Faults as program_faults
 use Rattle.suite_runs.specs.Below.{classes_in, class_file, names_in}
 use Rattle.suite_runs.specs.Below.{ProgramFault}
-use Rattle.mutest_engine.specs.Refusals.{IsOfHistory, IsOfRuns, IsOfSuite, IsTestFault}
-use Rattle.mutest_engine.specs.Steps.{and_then}
+use Rattle.mutest_engine.specs.Refusals.{IsLoading, IsOfHistory, IsOfRuns, IsOfSuite, IsTestFault}
+use Rattle.mutest_engine.specs.Steps.{and_then, Refuses}
 use Rattle.mutest_engine.specs.Linked.{all_classes, unless_fault, accepted, linked}
 use Rattle.mutest_engine.specs.Discovered.{or_bad_test, few_of, refuse_many_tests, few_found, tests_named, tests_of}
 use Rattle.mutest_engine.specs.Jobs.{long_history}
@@ -32,9 +32,38 @@ use Rattle.mutest_engine.specs.Old.{IsOfPath, bad_history, or_bad_history, profi
 use Rattle.mutest_engine.specs.declared.refusal.Limit.{Limit}
 use Rattle.mutest_engine.specs.declared.refusal.Limit.TheVariants as limit
 use Rattle.mutest_engine.specs.declared.refusal.Refusal.{Refusal}
-use Rattle.mutest_engine.specs.declared.refusal.Refusal.TheVariants.{BadProgram, BadTest, TooMany}
+use Rattle.mutest_engine.specs.declared.refusal.Refusal.TheVariants.{Usage, NotFound, Archive, BadClass, BadProgram, BadTest, NotGreen, HistoryBad, TooMany, AsmRefused}
+use Rattle.mutest_engine.specs.declared.stop.Stop.{Stop}
 use Rattle.mutest_engine.specs.declared.suite.LoadedSuite.{LoadedSuite}
 use Rattle.mutest_engine.proofs.PlaceLaws.{IsPlaced, told_place}
+
+-- ---- of class files
+
+-- Class files that can't be loaded are a suite's.
+pub loading_is_of_suite : (r : Refusal) → IsLoading r → IsOfSuite r
+loading_is_of_suite Usage is = is
+loading_is_of_suite (NotFound path) is = tt
+loading_is_of_suite (Archive path) is = is
+loading_is_of_suite (BadClass path fault) is = is
+loading_is_of_suite (BadProgram fault) is = absurd is
+loading_is_of_suite (BadTest fault) is = absurd is
+loading_is_of_suite (NotGreen tests) is = absurd is
+loading_is_of_suite (HistoryBad at) is = is
+loading_is_of_suite (TooMany limit.Classes number) is = is
+loading_is_of_suite (TooMany limit.Class number) is = is
+loading_is_of_suite (TooMany limit.Bytes number) is = is
+loading_is_of_suite (TooMany limit.Tests number) is = absurd is
+loading_is_of_suite (TooMany limit.Mutants number) is = absurd is
+loading_is_of_suite (TooMany limit.Cells number) is = absurd is
+loading_is_of_suite (TooMany limit.History number) is = absurd is
+loading_is_of_suite (TooMany limit.Sources number) is = absurd is
+loading_is_of_suite (AsmRefused line) is = is
+
+pub of_loaded : {X : Type 0} (result : Result X Stop) → IfErr result (Refuses IsLoading) → IfErr result (Refuses IsOfSuite)
+of_loaded (Ok x) refuses = tt
+of_loaded (Err s) refuses = λ r e. loading_is_of_suite r (refuses r e)
+
+-- ---- of a suite that is made
 
 -- one of two steps refuses
 and_err : {X Y : Type 0} (a : Result X Refusal) (f : X → Result Y Refusal) (r : Refusal) (P : Refusal → Type 0) → (a ≡ Err r → P r) → ((x : X) → f x ≡ Err r → P r) → and_then a f ≡ Err r → P r

@@ -11,7 +11,7 @@ use Rattle.mutest_engine.specs.Old.{IsOfPath, history_bytes, old_records, record
 use Rattle.mutest_engine.specs.Refusals.{IsOfRuns}
 use Rattle.mutest_engine.specs.Reported.{every_reported, known_reported}
 use Rattle.mutest_engine.specs.Steps.{and_then, Gives, HaltsHeld, ReadsBy}
-use Rattle.mutest_engine.specs.SuiteFiles.{suite_of}
+use Rattle.mutest_engine.specs.SuiteFiles.{IsFormed, suite_of}
 use Rattle.mutest_engine.specs.declared.answer.Answer.{Answer}
 use Rattle.mutest_engine.specs.declared.reported.Reported.{Reported}
 use Rattle.mutest_engine.specs.declared.running.KnownJob.{KnownJob}
@@ -26,6 +26,7 @@ use Rattle.mutest_engine.specs.declared.stop.Stop.{Stop}
 -- files, they are those of its files.
 pub record IsKnownOf (held : Option Files) (o : RunOptions) (k : KnownJob) : Type 0 where
   pub loaded : LoadedSuite
+  pub formed : IsFormed loaded
   pub made : IsMade loaded k.suite
   pub read : IfSome held (λ files. suite_of o.classes o.tests files ≡ Ok loaded)
   pub old : IfSome held (λ files. history_bytes o.history files ≡ Ok k.history)

@@ -130,6 +130,16 @@ IsOfText path (AsmRefused line) = (text : List ℕ) × (AssembledClass text ≡ 
 IsOfText path (BadClass p fault) = ⊥
 IsOfText path r = IsOfFile path r
 
+-- by what two folders hold of class files: a path that isn't there, one that spells no class, or too
+-- much
+abbrev pub IsLoading : Refusal → Type 0
+IsLoading (NotFound path) = Unit {0}
+IsLoading (BadClass path fault) = IsClassFault fault
+IsLoading (TooMany limit.Classes number) = number ≡ 20001
+IsLoading (TooMany limit.Class number) = 4194304 < number
+IsLoading (TooMany limit.Bytes number) = 67108864 < number
+IsLoading r = ⊥
+
 -- by the files of a suite, and by their runs
 abbrev pub IsOfSuite : Refusal → Type 0
 IsOfSuite Usage = ⊥
@@ -162,7 +172,7 @@ IsOfRun options r =
 
 -- by a file at this path that isn't held or is too large, whichever command reads it
 abbrev pub IsUnheld : List ℕ → Refusal → Type 0
-IsUnheld path r = IsOfFile path r × IsOfText path r × IsOfSuite r
+IsUnheld path r = IsOfFile path r × IsOfText path r × IsLoading r
 
 -- A command isn't refused for its words.
 abbrev pub MayRefuse : Command → Refusal → Type 0

@@ -3,7 +3,7 @@
 ghost use Rattle.std.specs.Prelude.{◌≡◌, ℕ, List, IfOk, IfErr};
 ghost use Rattle.class_reader.specs.Spells.{Spells};
 ghost use Rattle.mutest_engine.specs.Answers.{refuse_long_file, within_limit as within, file_of, spelled_class};
-ghost use Rattle.mutest_engine.specs.Refusals.{IsClassFault, IsOfFile, IsOfSuite, IsUnheld};
+ghost use Rattle.mutest_engine.specs.Refusals.{IsClassFault, IsLoading, IsOfFile, IsUnheld};
 ghost use Rattle.mutest_engine.specs.SuiteFiles.{IsSpelled};
 ghost use Rattle.mutest_engine.specs.Steps.{Asks, Gives, ReadsHeld, HaltsHeld, Refuses, RefusesReading};
 ghost use Rattle.mutest_engine.specs.declared.refusal.Refusal.TheVariants.{NotFound, BadClass};
@@ -111,7 +111,7 @@ pub fn spelled_class(alloc: Global, path: &[u8], bytes: &[u8]) -> Result<Class, 
     ensures value { Gives (spelled_class path.now bytes.now) result }
     ensures text { IfOk result (Spells bytes.now) }
     ensures form { IfOk result IsSpelled }
-    ensures refusal { IfErr result (Refuses (λ r. IsOfFile path.now r × IsOfSuite r)) }
+    ensures refusal { IfErr result (Refuses (λ r. IsOfFile path.now r × IsLoading r)) }
 {
     what_is_spelled_is_written();
     match read_class(alloc, bytes) {

@@ -26,6 +26,7 @@ mod words;
 pub use answer::Product;
 pub use class_table::Loaded;
 pub use refusal::{Limit, Refusal};
+pub use running::what_is_held_is_seen;
 pub use status::{Output, Status};
 pub use stop::Halt;
 pub use suite::{ClassFile, LoadedSuite, load_suite};

@@ -9,9 +9,10 @@ ghost use Rattle.mutest_engine.specs.Decided.{report_answer, results, run_answer
 ghost use Rattle.mutest_engine.specs.Ends.{AnswersHeld, HaltStays, Makes, MayAnswer, MayReport, MetersRun};
 ghost use Rattle.mutest_engine.specs.Known.{AnswersTrue, HaltsBefore, IsKnownOf, MetersOfKnown, RefusesKnown, ReportsKnown, ReportsTrueKnown};
 ghost use Rattle.mutest_engine.specs.Made.{IsMade};
-ghost use Rattle.mutest_engine.specs.Promises.{MetersTrue};
+ghost use Rattle.mutest_engine.specs.Promises.{GoesByRun, MetersTrue};
 ghost use Rattle.mutest_engine.specs.Refusals.{IsOfRun};
 ghost use Rattle.mutest_engine.specs.Reported.{AreFilesOf, input_of};
+ghost use Rattle.mutest_engine.specs.Seen.{HaltsSeen, SeesHeld};
 ghost use Rattle.mutest_engine.specs.Steps.{Asks, OnlyReads, Refuses};
 ghost use Rattle.mutest_engine.specs.declared.suite.LoadedSuite.{LoadedSuite};
 
@@ -49,6 +50,7 @@ pub struct KnownJob {
 fn read_job<T: Tree>(alloc: Global, tree: &mut T, options: RunOptions<'_>) -> Result<KnownJob, Halt>
     ensures known { IfOk result (IsKnownOf (T.holds tree.old) (as_run_options options.entry)) }
     ensures refused { IfErr result (HaltsBefore (T.holds tree.old) (as_run_options options.entry)) }
+    ensures seen { IfErr result (HaltsSeen (as_run_options options.entry)) }
     ensures tree { Asks T.holds T.writing T.reading (IsOfRun (as_run_options options.entry))
         tree.old tree.new result }
 {
@@ -222,6 +224,7 @@ pub fn run_answer<'a, W: Threads + Wait + Sync, T: Tree, G: Gate + Sync>(
         (as_run_options options.entry) result }
     ensures scratch_meter { MetersTrue (T.holds tree.old) meter.old meter.new
         (as_run_options options.entry) result }
+    ensures seen { GoesByRun (as_run_options options.entry) meter.old meter.new result }
     ensures stays { IfErr result (HaltStays meter.old meter.new) }
     ensures later { meter.old ≤ meter.new }
     ensures tree { OnlyReads T.holds T.writing T.reading tree.old tree.new result }
@@ -231,3 +234,11 @@ pub fn run_answer<'a, W: Threads + Wait + Sync, T: Tree, G: Gate + Sync>(
     let reported = known_reported(rt, alloc, options, known, gate, meter)?;
     sourced_answer(alloc, tree, options, reported)
 }
+
+// ---- what a tree tells
+
+/// What a run answers and counts by what a tree tells is what it does by the files that the tree
+/// holds, where these are told.
+pub fn what_is_held_is_seen()
+    ensures { SeesHeld }
+{}

@@ -1,7 +1,7 @@
 //! The classes of a suite: two folders are listed, their files are read, and then each is spelled.
 
 ghost use Rattle.std.specs.Prelude.{◌≡◌, ◌+◌, ◌≤◌, length, map, string_bytes, All, IfSome, IfOk, IfErr};
-ghost use Rattle.mutest_engine.specs.Refusals.{IsOfSuite};
+ghost use Rattle.mutest_engine.specs.Refusals.{IsLoading};
 ghost use Rattle.mutest_engine.specs.Steps.{Asks, Gives, ReadsBy, ReadsHeld, IsNoFault, Refuses, RefusesReading};
 ghost use Rattle.mutest_engine.specs.SuiteFiles.{texts, both_texts, some_of, both_of, Lists, ListsBoth, is_class_path, class_paths, refuse_many_classes, within_sum, read_one, FilesHeld, bytes_in, loaded, all_loaded, both_loaded, ReadsBoth, LoadsHeld, IsRead, IsFormed};
 
@@ -36,7 +36,7 @@ pub struct LoadedSuite {
 // Paths below a folder, of which there have to be some.
 fn some_paths(alloc: Global, folder: &str, paths: Vec<String>) -> Result<Vec<String>, Halt>
     ensures value { ReadsBy texts (some_of folder.now (texts paths)) result }
-    ensures refusal { IfErr result (RefusesReading IsOfSuite) }
+    ensures refusal { IfErr result (RefusesReading IsLoading) }
     ensures unread { IfErr result IsNoFault }
 {
     if paths.is_empty() {
@@ -49,7 +49,7 @@ fn some_paths(alloc: Global, folder: &str, paths: Vec<String>) -> Result<Vec<Str
 // The paths below a folder, which holds some.
 fn list_folder<T: Tree>(alloc: Global, tree: &mut T, folder: &str) -> Result<Vec<String>, Halt>
     ensures value { IfSome (T.holds tree.old) (Lists folder.now result) }
-    ensures tree { Asks T.holds T.writing T.reading IsOfSuite tree.old tree.new result }
+    ensures tree { Asks T.holds T.writing T.reading IsLoading tree.old tree.new result }
 {
     match tree.list(folder) {
         Ok(paths) => some_paths(alloc, folder, paths),
@@ -75,7 +75,7 @@ fn class_paths(mut paths: Vec<String>) -> Vec<String>
 // Refuses so many classes where they are past the limit.
 fn refuse_many_classes(count: usize) -> Result<(), Refusal>
     ensures value { result ≡ refuse_many_classes count }
-    ensures refusal { IfErr result IsOfSuite }
+    ensures refusal { IfErr result IsLoading }
 {
     if count > CLASSES_LIMIT {
         return Err(Refusal::TooMany {
@@ -89,7 +89,7 @@ fn refuse_many_classes(count: usize) -> Result<(), Refusal>
 // The class files among the paths of both folders.
 fn both_paths(classes: Vec<String>, tests: Vec<String>) -> Result<(Vec<String>, Vec<String>), Halt>
     ensures value { ReadsBy both_texts (both_of (texts classes) (texts tests)) result }
-    ensures refusal { IfErr result (RefusesReading IsOfSuite) }
+    ensures refusal { IfErr result (RefusesReading IsLoading) }
     ensures unread { IfErr result IsNoFault }
 {
     let classes = class_paths(classes);
@@ -108,7 +108,7 @@ fn list_both<T: Tree>(
     tests_folder: &str,
 ) -> Result<(Vec<String>, Vec<String>), Halt>
     ensures value { ListsBoth (T.holds tree.old) classes_folder.now tests_folder.now result }
-    ensures tree { Asks T.holds T.writing T.reading IsOfSuite tree.old tree.new result }
+    ensures tree { Asks T.holds T.writing T.reading IsLoading tree.old tree.new result }
 {
     let classes = list_folder(alloc, tree, classes_folder)?;
     let tests = list_folder(alloc, tree, tests_folder)?;
@@ -120,7 +120,7 @@ fn list_both<T: Tree>(
 fn within_sum(sum: u64) -> Result<u64, Refusal>
     ensures value { result ≡ within_sum sum }
     ensures few { IfOk result (λ total. total ≤ 67108864) }
-    ensures refusal { IfErr result IsOfSuite }
+    ensures refusal { IfErr result IsLoading }
 {
     if sum > BYTES_LIMIT {
         return Err(Refusal::TooMany {
@@ -142,7 +142,7 @@ fn read_one<T: Tree>(
     ensures value { ReadsHeld (T.holds tree.old) (read_one sum.old path.now) result }
     ensures sum { IfOk result (λ file. sum.new ≡ sum.old + length file.bytes) }
     ensures few { sum.new ≤ 67108864 }
-    ensures tree { Asks T.holds T.writing T.reading IsOfSuite tree.old tree.new result }
+    ensures tree { Asks T.holds T.writing T.reading IsLoading tree.old tree.new result }
 {
     let bytes = read_file(alloc, tree, path)?;
     let total = within_sum(*sum + bytes.len() as u64)?;
@@ -162,7 +162,7 @@ fn read_files<T: Tree>(
     ensures value { FilesHeld (T.holds tree.old) sum.old (map string_bytes paths.now) result }
     ensures sum { IfOk result (λ read. sum.new ≡ sum.old + bytes_in read) }
     ensures few { sum.new ≤ 67108864 }
-    ensures tree { Asks T.holds T.writing T.reading IsOfSuite tree.old tree.new result }
+    ensures tree { Asks T.holds T.writing T.reading IsLoading tree.old tree.new result }
 {
     let mut files = Seq::new(alloc);
     for path in paths {
@@ -177,7 +177,7 @@ fn read_files<T: Tree>(
 fn load(alloc: Global, file: ClassFile) -> Result<Loaded, Stop>
     ensures value { Gives (loaded file) result }
     ensures form { IfOk result IsRead }
-    ensures refusal { IfErr result (Refuses IsOfSuite) }
+    ensures refusal { IfErr result (Refuses IsLoading) }
 {
     let bytes = SharedBytes::new(alloc, file.bytes)?;
     let class = spelled_class(alloc, file.path.as_slice(), bytes.as_slice())?;
@@ -187,7 +187,7 @@ fn load(alloc: Global, file: ClassFile) -> Result<Loaded, Stop>
 fn load_all(alloc: Global, files: Seq<ClassFile>) -> Result<Seq<Loaded>, Stop>
     ensures value { Gives (all_loaded files) result }
     ensures form { IfOk result (All IsRead) }
-    ensures refusal { IfErr result (Refuses IsOfSuite) }
+    ensures refusal { IfErr result (Refuses IsLoading) }
 {
     let mut all = Seq::new(alloc);
     for file in files.into_vec() {
@@ -205,7 +205,7 @@ pub fn load_both(
 ) -> Result<LoadedSuite, Stop>
     ensures value { Gives (both_loaded classes tests) result }
     ensures form { IfOk result IsFormed }
-    ensures refusal { IfErr result (Refuses IsOfSuite) }
+    ensures refusal { IfErr result (Refuses IsLoading) }
 {
     let classes = load_all(alloc, classes)?;
     let tests = load_all(alloc, tests)?;
@@ -221,7 +221,7 @@ fn read_suite<T: Tree>(
 ) -> Result<LoadedSuite, Halt>
     ensures value { ReadsBoth (T.holds tree.old) classes.now tests.now result }
     ensures form { IfOk result IsFormed }
-    ensures tree { Asks T.holds T.writing T.reading IsOfSuite tree.old tree.new result }
+    ensures tree { Asks T.holds T.writing T.reading IsLoading tree.old tree.new result }
 {
     let mut sum = 0u64;
     let classes = read_files(alloc, tree, &mut sum, classes)?;
@@ -238,7 +238,7 @@ pub fn load_suite<T: Tree>(
 ) -> Result<LoadedSuite, Halt>
     ensures value { LoadsHeld (T.holds tree.old) classes_folder.now tests_folder.now result }
     ensures form { IfOk result IsFormed }
-    ensures tree { Asks T.holds T.writing T.reading IsOfSuite tree.old tree.new result }
+    ensures tree { Asks T.holds T.writing T.reading IsLoading tree.old tree.new result }
 {
     match list_both(alloc, tree, classes_folder, tests_folder) {
         Ok(paths) => read_suite(alloc, tree, paths.0.as_slice(), paths.1.as_slice()),

@@ -9,7 +9,8 @@ ghost use Rattle.mutest_engine.specs.Decided.{listing, list_answer, written_clas
 ghost use Rattle.mutest_engine.specs.Answers.{answered, one_write, writes_of, made, one};
 ghost use Rattle.mutest_engine.specs.SuiteFiles.{texts};
 ghost use Rattle.mutest_engine.specs.Steps.{OnlyReads};
-ghost use Rattle.mutest_engine.specs.Promises.{Tells, PrintsMade, PrintsOf, Puts, PutsUntold, AgreesHeld, LeavesOf, LeavesHeld, LeavesScratch, WritesLast, MeterHeld, MetersTruly, AnswersTruly};
+ghost use Rattle.mutest_engine.specs.Promises.{Tells, PrintsMade, PrintsOf, Puts, PutsUntold, AgreesHeld, LeavesOf, LeavesHeld, LeavesScratch, LeavesSeen, WritesLast, MeterHeld, MetersTruly, AnswersTruly, GoesByFile, GoesByWords};
+ghost use Rattle.mutest_engine.specs.Seen.{asm_seen, list_seen};
 
 use crate::answer::{Answer, Product, Write};
 use crate::assembling::class_file_of;
@@ -45,6 +46,7 @@ fn listing<'a>(alloc: Global, class: &Class) -> Result<Answer<'a>, Halt>
 fn list_answer<'a, T: Tree>(alloc: Global, tree: &mut T, path: &'a str) -> Result<Answer<'a>, Halt>
     ensures value { AnswersHeld (T.holds tree.old) (list_answer path.now) result }
     ensures answer { MayAnswer (list_class path.now) result }
+    ensures seen { GoesByFile path.now (list_seen path.now) result }
     ensures tree { OnlyReads T.holds T.writing T.reading tree.old tree.new result }
 {
     let bytes = read_file(alloc, tree, path)?;
@@ -90,6 +92,8 @@ fn asm_answer<'a, T: Tree>(
     ensures value { AnswersHeld (T.holds tree.old)
         (asm_answer (as_asm_options options.entry)) result }
     ensures answer { MayAnswer (as_asm_command options.entry) result }
+    ensures seen { GoesByFile options.entry.text.now (asm_seen (as_asm_options options.entry))
+        result }
     ensures tree { OnlyReads T.holds T.writing T.reading tree.old tree.new result }
 {
     let text = read_file(alloc, tree, options.text)?;
@@ -114,6 +118,7 @@ fn answer_to<'a, W: Threads + Wait + Sync, T: Tree, G: Gate + Sync>(
     ensures meter { MetersWords (T.holds tree.old) meter.old meter.new (texts words.now) result }
     ensures scratch_meter { MetersTruly (T.holds tree.old) meter.old meter.new (texts words.now)
         result }
+    ensures seen { GoesByWords (words_of (texts words.now)) meter.old meter.new result }
     ensures stays { IfErr result (HaltStays meter.old meter.new) }
     ensures later { meter.old ≤ meter.new }
     ensures tree { OnlyReads T.holds T.writing T.reading tree.old tree.new result }
@@ -294,6 +299,10 @@ pub fn run<W: Threads + Wait + Sync, T: Tree, S: Sink, G: Gate + Sync, K: Keeper
     // test on every mutant from scratch, however many workers there are; and the meter rises by the
     // steps of the runs that the history lacks.
     ensures scratch { LeavesScratch S.faults S.written out.old out.new (T.holds tree.old)
+        (T.holds tree.new) words.now meter.old meter.new result.0 }
+    // Whatever the tree tells: all goes by one suite, one history and one folder of sources; and
+    // where the history's records are true, by running every test on every mutant.
+    ensures seen { LeavesSeen S.faults S.written out.old out.new (T.holds tree.old)
         (T.holds tree.new) words.now meter.old meter.new result.0 }
     // Whatever the tree tells: what the words alone decide.
     ensures status_untold { AgreesUntold (words_of (texts words.now)) result.0 }

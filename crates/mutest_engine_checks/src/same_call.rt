@@ -5,7 +5,7 @@ ghost use Rattle.std.specs.Prelude.{◌≡◌, ◌<◌, ◌^◌};
 ghost use Rattle.mutest_engine.specs.Words.{words_of};
 ghost use Rattle.mutest_engine.specs.SuiteFiles.{texts};
 ghost use Rattle.mutest_engine.specs.Ends.{AgreesUntold, ReadsFailed, WritesFailed, PutsFailed, MeterStays};
-ghost use Rattle.mutest_engine.specs.Promises.{Puts, PutsUntold, AgreesHeld, LeavesHeld, LeavesScratch, WritesLast, MeterHeld};
+ghost use Rattle.mutest_engine.specs.Promises.{Puts, PutsUntold, AgreesHeld, LeavesHeld, LeavesScratch, LeavesSeen, WritesLast, MeterHeld};
 
 use mt_edge::{Gate, Keeper, Meter, Sink, Tree};
 use mutest_engine::{Status, run};
@@ -32,6 +32,10 @@ pub fn called<W: Threads + Wait + Sync, T: Tree, S: Sink, G: Gate + Sync, K: Kee
     // test on every mutant from scratch, however many workers there are; and the meter rises by the
     // steps of the runs that the history lacks.
     ensures scratch { LeavesScratch S.faults S.written out.old out.new (T.holds tree.old)
+        (T.holds tree.new) words.now meter.old meter.new result.0 }
+    // Whatever the tree tells: all goes by one suite, one history and one folder of sources; and
+    // where the history's records are true, by running every test on every mutant.
+    ensures seen { LeavesSeen S.faults S.written out.old out.new (T.holds tree.old)
         (T.holds tree.new) words.now meter.old meter.new result.0 }
     // Whatever the tree tells: what the words alone decide.
     ensures status_untold { AgreesUntold (words_of (texts words.now)) result.0 }

@@ -7,6 +7,7 @@ use Rattle.mutest_engine.specs.Ends.{AnswersHeld}
 use Rattle.mutest_engine.proofs.FaultLaws.{only_on}
 use Rattle.mutest_engine.proofs.KnownLaws.{answers_held, answers_true, before_held, before_may, before_meters, before_meters_true, before_true, halt_stays, halts_held, halts_true, may_answer, may_refuse, meters_halt, meters_halt_true, meters_held, meters_held_true}
 use Rattle.mutest_engine.proofs.MadeLaws.{early_stays, late_stays}
+use Rattle.mutest_engine.proofs.SeenLaws.{before_seen, reported_seen, runs_seen}
 use Rattle.mutest_engine.proofs.running.run_answer.Goals as goal
 
 -- ---- before the first run
@@ -38,6 +39,11 @@ pub returns-in_err-known-clause-scratch_meter : goal.returns-in_err-known-clause
 returns-in_err-known-clause-scratch_meter g c =
     let p = err_from_is_err_and c.from_residual.result c.from_residual.ensures.1 in
     rw (p.1, p.2) (before_meters_true (g.T.Tree.holds c.args.tree.now) (as_run_options c.args.options) c.args.meter.now c.in_err-known.field-0.0 c.in_err-known.ensures.refused)
+
+pub returns-in_err-known-clause-seen : goal.returns-in_err-known-clause-seen
+returns-in_err-known-clause-seen g c =
+    let p = err_from_is_err_and c.from_residual.result c.from_residual.ensures.1 in
+    rw (p.1, p.2) (before_seen (as_run_options c.args.options) c.args.meter.now c.in_err-known.field-0.0 c.in_err-known.ensures.seen)
 
 pub returns-in_err-known-clause-stays : goal.returns-in_err-known-clause-stays
 returns-in_err-known-clause-stays g c =
@@ -81,6 +87,12 @@ returns-in_err-reported-clause-scratch_meter g c =
     let p = err_from_is_err_and c.from_residual-in_err-reported.result c.from_residual-in_err-reported.ensures.1 in
     rw p.1 (meters_halt_true (g.T.Tree.holds c.args.tree.now) (as_run_options c.args.options) c.in_ok-known.known known c.answers_are_from_scratch.ensures c.args.meter.now c.known_reported.new.meter c.in_err-reported.field-0.0 p.0 p.2 (c.in_err-reported.ensures.meter known.loaded known.made))
 
+pub returns-in_err-reported-clause-seen : goal.returns-in_err-reported-clause-seen
+returns-in_err-reported-clause-seen g c =
+    let known = c.in_ok-known.ensures.known in
+    let p = err_from_is_err_and c.from_residual-in_err-reported.result c.from_residual-in_err-reported.ensures.1 in
+    rw p.1 (runs_seen (g.T.Tree.holds c.args.tree.now) (as_run_options c.args.options) c.in_ok-known.known known c.answers_are_from_scratch.ensures c.args.meter.now c.known_reported.new.meter c.in_err-reported.field-0.0 p.0 p.2 (c.in_err-reported.ensures.value known.loaded known.made) (c.in_err-reported.ensures.scratch known.loaded known.made) (c.in_err-reported.ensures.meter known.loaded known.made))
+
 pub returns-in_err-reported-clause-stays : goal.returns-in_err-reported-clause-stays
 returns-in_err-reported-clause-stays g c =
     let p = err_from_is_err_and c.from_residual-in_err-reported.result c.from_residual-in_err-reported.ensures.1 in
@@ -121,6 +133,11 @@ pub returns-clause-scratch_meter : goal.returns-clause-scratch_meter
 returns-clause-scratch_meter g c =
     let known = c.in_ok-known.ensures.known in
     meters_held_true (g.T.Tree.holds c.args.tree.now) (as_run_options c.args.options) c.in_ok-known.known known c.answers_are_from_scratch.ensures c.args.meter.now c.known_reported.new.meter c.in_ok-reported.reported c.sourced_answer.result (c.in_ok-reported.ensures.meter known.loaded known.made)
+
+pub returns-clause-seen : goal.returns-clause-seen
+returns-clause-seen g c =
+    let known = c.in_ok-known.ensures.known in
+    reported_seen (g.T.Tree.holds c.args.tree.now) (as_run_options c.args.options) c.in_ok-known.known known c.answers_are_from_scratch.ensures c.args.meter.now c.known_reported.new.meter c.in_ok-reported.reported c.sourced_answer.result (c.in_ok-reported.ensures.value known.loaded known.made) (c.in_ok-reported.ensures.scratch known.loaded known.made) (c.in_ok-reported.ensures.meter known.loaded known.made) c.sourced_answer.ensures.answer
 
 pub returns-clause-stays : goal.returns-clause-stays
 returns-clause-stays g c = late_stays c.args.meter.now c.known_reported.new.meter (as_run_options c.args.options) c.in_ok-reported.reported c.sourced_answer.result c.in_ok-reported.ensures.later c.sourced_answer.ensures.answer

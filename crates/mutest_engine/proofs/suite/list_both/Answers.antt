@@ -1,6 +1,6 @@
 use Rattle.std.proofs.lemmas.Result.{err_from_is_err_and}
 use Rattle.mutest_engine.proofs.FaultLaws.{halts_on}
-use Rattle.mutest_engine.specs.Refusals.{IsOfSuite}
+use Rattle.mutest_engine.specs.Refusals.{IsLoading}
 use Rattle.mutest_engine.proofs.suite.list_both.Goals as goal
 
 pub returns-in_err-tests-clause-tree : goal.returns-in_err-tests-clause-tree
@@ -12,4 +12,4 @@ returns-in_err-tests-clause-tree g c =
     let t = c.args.tree.now in
     let u = c.list_folder.new.tree in
     let v = c.list_folder-2.new.tree in
-    rw (p.1, p.2) (halts_on IsOfSuite (h t) (h u) (h v) (w t) (w u) (w v) (r t) (r u) (r v) c.in_err-tests.field-0.0 c.in_ok-classes.ensures.tree.0 c.in_err-tests.ensures.tree)
+    rw (p.1, p.2) (halts_on IsLoading (h t) (h u) (h v) (w t) (w u) (w v) (r t) (r u) (r v) c.in_err-tests.field-0.0 c.in_ok-classes.ensures.tree.0 c.in_err-tests.ensures.tree)

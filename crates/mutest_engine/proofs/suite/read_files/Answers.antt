@@ -1,6 +1,6 @@
 use Rattle.std.proofs.lemmas.Result.{err_from_is_err_and}
 use Rattle.mutest_engine.proofs.FaultLaws.{halts_on}
-use Rattle.mutest_engine.specs.Refusals.{IsOfSuite}
+use Rattle.mutest_engine.specs.Refusals.{IsLoading}
 use Rattle.mutest_engine.proofs.suite.read_files.Goals as goal
 
 pub returns-in_err-file-clause-tree : goal.returns-in_err-file-clause-tree
@@ -12,4 +12,4 @@ returns-in_err-file-clause-tree g c =
     let t = c.args.tree.now in
     let u = c.loop-path.tree in
     let v = c.read_one.new.tree in
-    rw (p.1, p.2) (halts_on IsOfSuite (h t) (h u) (h v) (w t) (w u) (w v) (r t) (r u) (r v) c.in_err-file.field-0.0 c.loop-path.invariant.tree c.in_err-file.ensures.tree)
+    rw (p.1, p.2) (halts_on IsLoading (h t) (h u) (h v) (w t) (w u) (w v) (r t) (r u) (r v) c.in_err-file.field-0.0 c.loop-path.invariant.tree c.in_err-file.ensures.tree)

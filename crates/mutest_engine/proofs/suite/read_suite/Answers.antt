@@ -1,4 +1,4 @@
-use Rattle.mutest_engine.specs.Refusals.{IsOfSuite}
+use Rattle.mutest_engine.specs.Refusals.{IsLoading}
 use Rattle.std.proofs.Common.{map}
 use Rattle.std.specs.Prelude.{string_bytes}
 use Rattle.std.proofs.lemmas.Result.{err_from_is_err_and}
@@ -21,4 +21,4 @@ returns-in_err-tests-clause-tree g c =
     let t = c.args.tree.now in
     let u = c.read_files.new.tree in
     let v = c.read_files-2.new.tree in
-    rw (p.1, p.2) (halts_on IsOfSuite (h t) (h u) (h v) (w t) (w u) (w v) (r t) (r u) (r v) c.in_err-tests.field-0.0 c.in_ok-classes.ensures.tree.0 c.in_err-tests.ensures.tree)
+    rw (p.1, p.2) (halts_on IsLoading (h t) (h u) (h v) (w t) (w u) (w v) (r t) (r u) (r v) c.in_err-tests.field-0.0 c.in_ok-classes.ensures.tree.0 c.in_err-tests.ensures.tree)

@@ -5,6 +5,7 @@ use Rattle.mutest_words.specs.Words.{as_asm_command, as_asm_options, as_command,
 use Rattle.mutest_words.specs.declared.command.Command.{Command as Found}
 use Rattle.mutest_engine.specs.Words.{IsLimited, words_of}
 use Rattle.mutest_engine.proofs.Ends.{untold_answer, untold_halt}
+use Rattle.mutest_engine.proofs.SeenLaws.{asm_words, generate_words, list_words, refused_seen, run_words}
 use Rattle.mutest_engine.proofs.WordLaws.{asm_meters, asm_meters_truly, asm_truly, command_held, generate_held, generate_meters, generate_meters_truly, generate_truly, list_meters, list_meters_truly, list_truly, nothing_read, refused_held, refused_meters, refused_meters_truly, refused_truly, run_meters, run_meters_truly, run_truly}
 use Rattle.mutest_engine.proofs.top_call.answer_to.Goals as goal
 
@@ -34,6 +35,11 @@ pub returns-in_err-file-clause-scratch_meter : goal.returns-in_err-file-clause-s
 returns-in_err-file-clause-scratch_meter g c =
     let p = err_from_is_err_and c.from_residual.result c.from_residual.ensures.1 in
     rw p.1 (refused_meters_truly (map string_bytes c.args.words.now.items) (g.T.Tree.holds c.args.tree.now) c.args.meter.now c.in_err-file.field-0.0 p.0 c.in_err-file.ensures.value p.2)
+
+pub returns-in_err-file-clause-seen : goal.returns-in_err-file-clause-seen
+returns-in_err-file-clause-seen g c =
+    let p = err_from_is_err_and c.from_residual.result c.from_residual.ensures.1 in
+    rw p.1 (refused_seen (words_of (map string_bytes c.args.words.now.items)) c.args.meter.now c.in_err-file.field-0.0 p.0 c.in_err-file.ensures.value p.2)
 
 -- ---- `list`
 
@@ -66,6 +72,12 @@ returns-in-List-clause-scratch_meter g c =
     let words = map string_bytes c.args.words.now.items in
     let is = subst (λ (x : Found). words_of words ≡ Ok (as_command x)) c.in-List.is c.in_ok-file.ensures.value in
     list_meters_truly words (g.T.Tree.holds c.args.tree.now) c.in-List.file.now c.args.meter.now c.list_answer.result is
+
+pub returns-in-List-clause-seen : goal.returns-in-List-clause-seen
+returns-in-List-clause-seen g c =
+    let words = map string_bytes c.args.words.now.items in
+    let is = subst (λ (x : Found). words_of words ≡ Ok (as_command x)) c.in-List.is c.in_ok-file.ensures.value in
+    list_words (words_of words) c.in-List.file.now c.args.meter.now c.list_answer.result is c.list_answer.ensures.seen
 
 -- ---- `run`
 
@@ -102,6 +114,12 @@ returns-in-Run-clause-scratch_meter g c =
     let is = subst (λ (x : Found). words_of words ≡ Ok (as_command x)) c.in-Run.is c.in_ok-file.ensures.value in
     run_meters_truly words (g.T.Tree.holds c.args.tree.now) (as_run_options c.in-Run.options) c.args.meter.now c.run_answer.new.meter c.run_answer.result is c.run_answer.ensures.scratch_meter
 
+pub returns-in-Run-clause-seen : goal.returns-in-Run-clause-seen
+returns-in-Run-clause-seen g c =
+    let words = map string_bytes c.args.words.now.items in
+    let is = subst (λ (x : Found). words_of words ≡ Ok (as_command x)) c.in-Run.is c.in_ok-file.ensures.value in
+    run_words (words_of words) (as_run_options c.in-Run.options) c.args.meter.now c.run_answer.new.meter c.run_answer.result is c.run_answer.ensures.seen
+
 -- ---- `asm`
 
 pub returns-in-Assemble-clause-value : goal.returns-in-Assemble-clause-value
@@ -133,6 +151,12 @@ returns-in-Assemble-clause-scratch_meter g c =
     let words = map string_bytes c.args.words.now.items in
     let is = subst (λ (x : Found). words_of words ≡ Ok (as_command x)) c.in-Assemble.is c.in_ok-file.ensures.value in
     asm_meters_truly words (g.T.Tree.holds c.args.tree.now) (as_asm_options c.in-Assemble.options) c.args.meter.now c.asm_answer.result is
+
+pub returns-in-Assemble-clause-seen : goal.returns-in-Assemble-clause-seen
+returns-in-Assemble-clause-seen g c =
+    let words = map string_bytes c.args.words.now.items in
+    let is = subst (λ (x : Found). words_of words ≡ Ok (as_command x)) c.in-Assemble.is c.in_ok-file.ensures.value in
+    asm_words (words_of words) (as_asm_options c.in-Assemble.options) c.args.meter.now c.asm_answer.result is c.asm_answer.ensures.seen
 
 -- ---- `generate`
 
@@ -168,6 +192,12 @@ returns-in-Generate-clause-scratch_meter g c =
     let words = map string_bytes c.args.words.now.items in
     let is = subst (λ (x : Found). words_of words ≡ Ok (as_command x)) c.in-Generate.is c.in_ok-file.ensures.value in
     generate_meters_truly words (g.T.Tree.holds c.args.tree.now) (as_generate_options c.in-Generate.options) c.args.meter.now c.generate_answer.new.meter c.generate_answer.result is c.generate_answer.ensures.scratch_meter
+
+pub returns-in-Generate-clause-seen : goal.returns-in-Generate-clause-seen
+returns-in-Generate-clause-seen g c =
+    let words = map string_bytes c.args.words.now.items in
+    let is = subst (λ (x : Found). words_of words ≡ Ok (as_command x)) c.in-Generate.is c.in_ok-file.ensures.value in
+    generate_words (words_of words) (as_generate_options c.in-Generate.options) c.args.meter.now c.generate_answer.new.meter c.generate_answer.result is c.generate_answer.ensures.value c.generate_answer.ensures.meter c.generate_answer.ensures.scratch c.generate_answer.ensures.scratch_meter
 
 pub returns-in-Generate-clause-tree : goal.returns-in-Generate-clause-tree
 returns-in-Generate-clause-tree g c = nothing_read (g.T.Tree.holds c.args.tree.now) (g.T.Tree.writing c.args.tree.now) (g.T.Tree.reading c.args.tree.now) c.generate_answer.result c.generate_answer.ensures.unread

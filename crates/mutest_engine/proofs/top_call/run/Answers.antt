@@ -9,7 +9,7 @@ use Rattle.std.specs.Prelude.{string_bytes, Result}
 use Rattle.mt_edge.specs.Files.{Files}
 use Rattle.mutest_engine.specs.declared.refusal.Refusal.{Refusal}
 use Rattle.mutest_engine.proofs.Ends.{agrees_by, untold_by, reads_by, prints_by, states_by, rose_by, stays_by, files_by, last_by, left_of}
-use Rattle.mutest_engine.proofs.ScratchLaws.{leaves_scratch}
+use Rattle.mutest_engine.proofs.ScratchLaws.{leaves_scratch, leaves_seen}
 use Rattle.mutest_engine.proofs.top_call.run.Goals as goal
 
 pub returns-clause-status : goal.returns-clause-status
@@ -57,8 +57,17 @@ returns-clause-scratch g c =
     let f = g.S.Sink.faults in
     let words = map string_bytes c.args.words.now.items in
     let left = left_of (h c.args.tree.now) (h c.finish-status.new.tree) c.answer_to-answer.result c.finish-status.result (subst (λ (old : Option Files). LeavesOf old (h c.finish-status.new.tree) c.answer_to-answer.result c.finish-status.result) c.answer_to-answer.ensures.tree.0.0 c.finish-status.ensures.files) in
-    leaves_scratch f w c.args.out.now c.finish-status.new.out words c.answer_to-answer.result c.finish-status.result (h c.args.tree.now) (h c.finish-status.new.tree) c.args.meter.now c.answer_to-answer.new.meter
+    leaves_scratch f w c.args.out.now c.finish-status.new.out c.answer_to-answer.result c.finish-status.result words (h c.args.tree.now) (h c.finish-status.new.tree) c.args.meter.now c.answer_to-answer.new.meter
     c.answer_to-answer.ensures.scratch c.answer_to-answer.ensures.scratch_meter c.finish-status.ensures.status c.finish-status.ensures.printed left
+
+pub returns-clause-seen : goal.returns-clause-seen
+returns-clause-seen g c =
+    let h = g.T.Tree.holds in
+    let w = g.S.Sink.written in
+    let f = g.S.Sink.faults in
+    let left = left_of (h c.args.tree.now) (h c.finish-status.new.tree) c.answer_to-answer.result c.finish-status.result (subst (λ (old : Option Files). LeavesOf old (h c.finish-status.new.tree) c.answer_to-answer.result c.finish-status.result) c.answer_to-answer.ensures.tree.0.0 c.finish-status.ensures.files) in
+    leaves_seen f w c.args.out.now c.finish-status.new.out c.answer_to-answer.result c.finish-status.result (words_of (map string_bytes c.args.words.now.items)) (h c.args.tree.now) (h c.finish-status.new.tree) c.args.meter.now c.answer_to-answer.new.meter
+    c.answer_to-answer.ensures.seen c.finish-status.ensures.status c.finish-status.ensures.printed left
 
 pub returns-clause-last : goal.returns-clause-last
 returns-clause-last g c =
