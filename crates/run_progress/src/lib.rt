@@ -86,14 +86,14 @@ impl<'a, R: Clock + Eprint> Progress<'a, R> {
         let detected = self.detected.load(Ordering::SeqCst);
         if ended >= cells {
             let _shown = eprint!(self.rt;
-                "\rmutest: {ended} of {cells} runs on mutants, {detected} detected, \
+                "\rmutest: {ended} of {cells} runs, {detected} detected, \
                  {minutes}:{seconds:02}, writing the report\x1b[K"
             );
             return;
         }
         if ended == 0 {
             let _shown = eprint!(self.rt;
-                "\rmutest: 0 of {cells} runs on mutants, {minutes}:{seconds:02}\x1b[K"
+                "\rmutest: 0 of {cells} runs, {minutes}:{seconds:02}\x1b[K"
             );
             return;
         }
@@ -101,7 +101,7 @@ impl<'a, R: Clock + Eprint> Progress<'a, R> {
         let more = seconds_left(millis.saturating_sub(opened), ended, cells - ended);
         let (more_minutes, more) = (more / 60, more % 60);
         let _shown = eprint!(self.rt;
-            "\rmutest: {ended} of {cells} runs on mutants, {detected} detected, \
+            "\rmutest: {ended} of {cells} runs, {detected} detected, \
              {minutes}:{seconds:02}, about {more_minutes}:{more:02} left\x1b[K"
         );
     }
