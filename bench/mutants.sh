@@ -2,7 +2,9 @@
 # Wall time of `run` on a made suite of 50 classes and 50 classes of tests, beside a Java program that runs the same tests by
 # reflection once for each of the same mutants, in one run: of each the least of three. `ratio` is their time by ours. Words:
 # how many classes, 50 where none is given, and behind it programs, as `mutest` or one that the gate has built; `mutest` of
-# this repository where none is given. So an older one can be measured in the same run. It needs `java` and `javac`.
+# this repository where none is given. So an older one can be measured in the same run. Then, of each, the time of 400 methods
+# with 2,400 mutants in classes of 1, of 20 and of 400, and of a class of 800 methods, with one test. It needs `java`, `javac`
+# and `python3`.
 set -eu
 here=$(cd "$(dirname "$0")" && pwd)
 count=${1:-50}
@@ -90,4 +92,11 @@ for program in "$@"; do
     ours=$(time_of "$program" run --classes "$work/classes" --tests "$work/tests" --report "$work/report.json" --new-history "$work/history")
     echo "$program: $ours ms, $(cat "$work/told")"
     awk -v a="$ours" -v b="$theirs" 'BEGIN { printf "ratio %.3f\n", b / a }'
+done
+for methods in 1 20 400 800; do
+    python3 "$here/one_class.py" "$work/of$methods" "$methods" $((methods < 400 ? 400 / methods : 1))
+    for program in "$@"; do
+        ours=$(time_of "$program" run --classes "$work/of$methods/c" --tests "$work/of$methods/t" --report "$work/report.json" --new-history "$work/history")
+        echo "$program: classes of $methods methods: $ours ms"
+    done
 done

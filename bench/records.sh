@@ -1,40 +1,48 @@
 #!/bin/bash
-# records.sh [FOLDER..]: what records cost: the runs of all tests with their records (`record`) beside the same runs without
-# (`run`), and how many records are made in a second; processor time, in one run, the least of five each. What reading the class
-# files and building their program takes is taken off. `ratio` is what a run with its record takes by what one without takes.
-# The class files are those below the folders; without one a made suite's, 300 classes and as many of tests (suite.sh), for which
-# it needs `javac`. It needs `rt`; PROGRAM names a built record_checks, without which `rt run` makes one. TIMES: how often all
-# runs are made (20). The status is 1 where a run with its record takes more than a tenth more.
+# records.sh [PROGRAM]: what records cost, on the tests of a made suite of 300 classes (suite.sh): instructions of the
+# processor, by callgrind, of a run with its record (`record` before a test's line) and of the same run without, and `ratio`,
+# what the first takes by what the second takes; then how many records are made in a second of processor time, the least of
+# three. Each test is run twice, and the second runs count: the first ones resolve and decode for both. Reading a test's line
+# and telling how it ended counts in both, too. PROGRAM is a built machine_answers, as `rt ci` or `rt run` leaves it
+# (crates/machine_answers/out/machine_answers). The status is 1 where the ratio is above 1.1. It needs `javac`, `valgrind`.
 set -eu -o pipefail
 here=$(cd "$(dirname "$0")" && pwd)
-crate=$here/../crates/record_checks
+program=${1:-$here/../crates/machine_answers/out/machine_answers}
 work=$(mktemp -d)
 trap 'rm -rf "$work"' EXIT
-program=${PROGRAM:-$crate/out/record_checks}
-if [ -z "${PROGRAM:-}" ]; then
-    # `rt run` builds the program and runs it in the crate's folder
-    (cd "$crate" && rt run > "$work/log" 2>&1 < /dev/null) || { cat "$work/log"; exit 1; }
-fi
-if [ $# -eq 0 ]; then
-    "$here/suite.sh" "$work" 300
-    set -- "$work/classes" "$work/tests"
-fi
-files=$(find "$@" -name '*.class' | sort | sed 's/\.class$//' | paste -sd+)
-times=${TIMES:-20}
-TIMEFORMAT='%3U %3S'
-once() { # WAY TIMES: processor time in seconds; what was printed stands in $work/said
-    echo "$1 $files $2 4194304 1024 10000000" > "$work/line"
-    { time "$program" < "$work/line" > "$work/said" 2> "$work/told"; } 2>&1 || { cat "$work/told" >&2; exit 1; }
+"$here/suite.sh" "$work" 300
+mkdir "$work/job"
+mv "$work/classes" "$work/tests" "$work/job"
+
+lines() { # BEFORE: the lines of all tests, with this before each
+    for number in $(seq 0 299); do
+        printf "$1gen/T$number %s 10000000 4194304 1024\n" all inside first
+    done
 }
-least() { awk '{ t = ($1 + $2) * 1e6; if (NR == 1 || t < m) m = t } END { print m }' "$work/$1"; }
-for _ in 1 2 3 4 5; do
-    once run 0 >> "$work/none"
-    once run "$times" >> "$work/run"
-    once record "$times" >> "$work/record"
+for way in run record; do
+    before=; [ "$way" = run ] || before='record '
+    lines "$before" > "$work/$way.1"
+    cat "$work/$way.1" "$work/$way.1" > "$work/$way.2"
+    for _ in $(seq 20); do cat "$work/$way.1"; done > "$work/$way.20"
 done
-said=$(sed 's/.* -> //' "$work/said")
-echo "$(tr + '\n' <<< "$files" | wc -l) class files, $said"
-awk -v n="$times" -v z="$(least none)" -v r="$(least run)" -v k="$(least record)" '
-    function each(t) { return (t - z) / (n * $1) }
-    { printf "run    %.3f us\nrecord %.3f us, %d a second\nratio  %.3f\n", each(r), each(k), 1e6 / each(k), each(k) / each(r)
-      exit each(k) > each(r) * 1.1 }' <<< "$said"
+
+instructions() { # FILE
+    valgrind --tool=callgrind --callgrind-out-file=/dev/null "$program" "$work/job" "$work/$1" 2>&1 > "$work/said" |
+        awk '/Collected/ { print $NF }'
+}
+TIMEFORMAT='%3U %3S'
+seconds() { # FILE: the least of three
+    for _ in 1 2 3; do
+        { time "$program" "$work/job" "$work/$1" > "$work/said"; } 2>&1
+    done | awk '{ t = $1 + $2; if (NR == 1 || t < m) m = t } END { print m }'
+}
+
+run=$(($(instructions run.2) - $(instructions run.1)))
+record=$(($(instructions record.2) - $(instructions record.1)))
+echo "$(grep -c ' Passed ' "$work/said") of $(wc -l < "$work/record.1") tests pass"
+once=$(seconds record.1)
+often=$(seconds record.20)
+awk -v r="$run" -v k="$record" -v t="$once" -v u="$often" 'BEGIN {
+    printf "a run             %d instructions\na run and record  %d instructions\nratio             %.3f\n", r / 900, k / 900, k / r
+    printf "records           %d a second, with their runs\n", 19 * 900 / (u - t)
+    exit k > r * 1.1 }'

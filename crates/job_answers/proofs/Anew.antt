@@ -31,57 +31,57 @@ is_answer ts b x e f = λ i. unless_failed (e i) (if f i then Err TooManyCells e
 none_true : AreTrue profile []
 none_true = All-nil (IsTrueRecord profile)
 
-module _ (same : TrueRecordsChangeNothing) (of : AnswersAreOfAllTests) (asked : AnswersAreAsAsked) (a : Allowed) (s : Suite) (h : IsAccepted s) where
+module _ (same : TrueRecordsChangeNothing) (of : AnswersAreOfAllTests) (asked : AnswersAreAsAsked) (all : Bool) (a : Allowed) (s : Suite) (h : IsAccepted s) where
   abbrev own : JobAnswer
-  own = answer_by a s [] false
+  own = answer_by a s [] all
 
-  own_is : failed_tests (job_runs a s []) ≡ [] → nat_lt most_cells (cell_total (job_runs a s [])) ≡ false → job_answer a s [] false ≡ Ok own
+  own_is : failed_tests (job_runs a s []) ≡ [] → nat_lt most_cells (cell_total (job_runs a s [])) ≡ false → job_answer a s [] all ≡ Ok own
   unfolding job_answer
   own_is none few = is_answer (failed_tests (job_runs a s [])) (nat_lt most_cells (cell_total (job_runs a s []))) own none few
 
-  own_anew : failed_tests (job_runs a s []) ≡ [] → nat_lt most_cells (cell_total (job_runs a s [])) ≡ false → own ≡ answer_anew a s
+  own_anew : failed_tests (job_runs a s []) ≡ [] → nat_lt most_cells (cell_total (job_runs a s [])) ≡ false → own ≡ answer_anew all a s
   own_anew none few =
       let e = own_is none few in
-      let all = of a s [] h none_true in
+      let tests = of a s [] h none_true in
       let runs = asked a s [] h none_true none in
-      let verdicts = all.verdicts own e in
-      let records = runs.records own e in
+      let verdicts = tests.verdicts all own e in
+      let records = runs.records all own e in
       λ i. record { verdicts = verdicts i; records = records i }
 
-  green_anew : failed_tests (job_runs a s []) ≡ [] → unless_many (cell_total (job_runs a s [])) (as_answer own) ≡ unless_many (asked_cells (asked_job a s)) (as_answer (answer_anew a s))
+  green_anew : failed_tests (job_runs a s []) ≡ [] → unless_many (cell_total (job_runs a s [])) (as_answer own) ≡ unless_many (asked_cells (asked_job a s)) (as_answer (answer_anew all a s))
   green_anew none =
       let runs = asked a s [] h none_true none in
-      many_case (nat_lt most_cells (cell_total (job_runs a s []))) own (answer_anew a s) (own_anew none)
-      ∙ (λ i. unless_many (runs.cells i) (as_answer (answer_anew a s)))
+      many_case (nat_lt most_cells (cell_total (job_runs a s []))) own (answer_anew all a s) (own_anew none)
+      ∙ (λ i. unless_many (runs.cells i) (as_answer (answer_anew all a s)))
 
-  own_scratch : job_answer a s [] false ≡ job_scratch a s
+  own_scratch : job_answer a s [] all ≡ job_scratch all a s
   unfolding job_answer
   own_scratch =
       failed_case (failed_tests (job_runs a s [])) (unless_many (cell_total (job_runs a s [])) (as_answer own))
-      (unless_many (asked_cells (asked_job a s)) (as_answer (answer_anew a s))) green_anew
+      (unless_many (asked_cells (asked_job a s)) (as_answer (answer_anew all a s))) green_anew
 
-  pub answer_scratch : (old : List RunRecord) → AreTrue profile old → job_answer a s old false ≡ job_scratch a s
-  answer_scratch old true_old = same a s old false h true_old ∙ own_scratch
+  pub answer_scratch : (old : List RunRecord) → AreTrue profile old → job_answer a s old all ≡ job_scratch all a s
+  answer_scratch old true_old = same a s old all h true_old ∙ own_scratch
 
-cost_case : CostsAreAsAsked → RefusalsCostOriginals → (a : Allowed) (s : Suite) (old : List RunRecord) → IsAccepted s → AreTrue profile old → (r : Result JobAnswer JobRefusal) → job_answer a s old false ≡ r
-    → job_cost a s old false ≡ asked_cost old (asked_job a s) r
-cost_case costs refused a s old h true_old (Ok x) e =
-    let c = costs a s old x h true_old e in
+cost_case : CostsAreAsAsked → RefusalsCostOriginals → (all : Bool) (a : Allowed) (s : Suite) (old : List RunRecord) → IsAccepted s → AreTrue profile old → (r : Result JobAnswer JobRefusal) → job_answer a s old all ≡ r
+    → job_cost a s old all ≡ asked_cost all old (asked_job a s) r
+cost_case costs refused all a s old h true_old (Ok x) e =
+    let c = costs a s old all x h true_old e in
     let least = c.least in
     let most = c.most in
     λ i. record { least = least i; most = most i }
-cost_case costs refused a s old h true_old (Err refusal) e = refused a s old refusal e
+cost_case costs refused all a s old h true_old (Err refusal) e = refused a s old all refusal e
 
 pub from_scratch : TrueRecordsChangeNothing → AnswersAreOfAllTests → AnswersAreAsAsked → CostsAreAsAsked → RefusalsCostOriginals → AnswersAreFromScratch
-from_scratch same of asked costs refused a s old h true_old =
-    let is = answer_scratch same of asked a s h old true_old in
+from_scratch same of asked costs refused a s old all h true_old =
+    let is = answer_scratch same of asked all a s h old true_old in
     record {
       answer = is;
       reused = λ x e.
-          let told = answered a s old false x e in
+          let told = answered a s old all x e in
           let runs = asked a s old h true_old told.green in
-          runs.reused;
+          runs.reused all;
       cost =
-          cost_case costs refused a s old h true_old (job_answer a s old false) refl
-          ∙ ap (λ (r : Result JobAnswer JobRefusal). asked_cost old (asked_job a s) r) is;
+          cost_case costs refused all a s old h true_old (job_answer a s old all) refl
+          ∙ ap (λ (r : Result JobAnswer JobRefusal). asked_cost all old (asked_job a s) r) is;
     }

@@ -23,17 +23,18 @@ use Rattle.record_rules.specs.declared.record.RunRecord.{RunRecord}
 use Rattle.record_rules.specs.Histories.{Kept, kept_with, kept_of, once_behind, all_kept, new_records, reused}
 use Rattle.record_rules.specs.Records.{Asked, run, record_of}
 use Rattle.record_rules.specs.Matching.{first_match}
-use Rattle.record_rules.specs.Jobs.{with_limit, end_of, Trial, steps_of as asked_steps, covering_runs, up_to, needed_runs, need as asked_need}
+use Rattle.record_rules.specs.Jobs.{with_limit, end_of, Trial, steps_of as asked_steps, covering_runs, up_to, needed_runs, need as asked_need, all_runs}
 use Rattle.reuse_laws.specs.Jobs.{AreTrue, OldHaveNoPart}
 use Rattle.class_records.specs.Profile.{profile}
 use Rattle.job_rules.specs.Tried.{Tried, known, detects, needed, needed_of_all, need, cost_of_run, cost_of}
 use Rattle.suite_jobs.specs.Jobs.{Suite, Allowed, IsOfFile, IsAccepted, made_by, tried_on, says, has_reached, numbered, original_tried, covering, viable_file, mutant_tried, mutant_runs, job_runs, trial_of, trials_of, asked_job}
 use Rattle.suite_jobs.specs.Laws.{steps_of, SaysRun, RecordsSayRuns}
 use Rattle.job_answers.specs.declared.refusal.JobRefusal.{JobRefusal}
-use Rattle.job_answers.specs.Answers.{JobAnswer, asked_cells, cell_total, cost_by, exactly}
+use Rattle.job_answers.specs.Answers.{JobAnswer, asked_cells, cell_total, cost_by, exactly, need_of}
 use Rattle.job_answers.specs.Laws.{AnswersAreAsAsked, AnswersAreOfAllTests, RefusalsCostOriginals}
 use Rattle.job_answers.proofs.Answered.{answered}
 use Rattle.job_answers.proofs.Recorded.{Given, IsGood, IsRecordable, good_tests, is_safe_mutant, mutant, original, whole}
+use Rattle.job_answers.proofs.Scratch.{all_needed}
 use Rattle.job_answers.proofs.TriedOnce.{kept, records_are, reused_are}
 
 abbrev Runs : Type 0
@@ -112,6 +113,15 @@ needed_are old (x ∷ xs) (t ∷ ts) q =
       subst (λ (b : Bool). AreRunsOf old (if b then [] else ups) (if detects says t then [] else needs)) one.state
           (stop_case old ups needs (detects says t) (needed_are old xs ts q.1)),
     )
+
+-- The runs of a mutant that are needed.
+abbrev wanted : Bool → Trial → List Asked
+wanted false t = needed_runs t
+wanted true t = covering_runs t
+
+wanted_are : (old : List RunRecord) (all : Bool) (t : Trial) (ts : Runs) → AreRunsOf old (covering_runs t) ts → AreRunsOf old (needed_runs t) (needed says false ts) → AreRunsOf old (wanted all t) (needed says all ts)
+wanted_are old false t ts q p = p
+wanted_are old true t ts q p = subst (AreRunsOf old (covering_runs t)) (sym (all_needed ts)) q
 
 chosen_case : (old : List RunRecord) (x : Asked) (xs : List Asked) (tried : ℕ × Test → Tried RunRecord) (t : ℕ × Test) (ts : List (ℕ × Test)) (b : Bool) → IsRunOf old x (tried t) → AreRunsOf old xs (map tried ts)
     → AreRunsOf old (cond b (x ∷ xs) xs) (map tried (cond b (t ∷ ts) ts))
@@ -215,27 +225,28 @@ module _ (g : Given) (same : ReuseChangesNothing) (say : RecordsSayRuns) (alike 
     covering_are : AreRunsOf old (covering_runs (trial_of a s m made)) (map (mutant_tried a s old made) (covering a s old m))
     covering_are = chosen_are old mutant_at (λ x. reaches m (run x)) (mutant_tried a s old made) has Both (λ k t q. (reached_alike k t q, mutant_run_of k t q)) 0 s.tests both
 
-    needed_kept : flat_map (kept_of old) (needed_runs (trial_of a s m made)) ≡ map kept (needed says false (map (mutant_tried a s old made) (covering a s old m)))
-    needed_kept =
-        kept_are old (needed_runs (trial_of a s m made)) (needed says false (map (mutant_tried a s old made) (covering a s old m)))
-        (needed_are old (covering_runs (trial_of a s m made)) (map (mutant_tried a s old made) (covering a s old m)) covering_are)
+    needed_kept : (all : Bool) → flat_map (kept_of old) (wanted all (trial_of a s m made)) ≡ map kept (needed says all (map (mutant_tried a s old made) (covering a s old m)))
+    needed_kept all =
+        let tried = map (mutant_tried a s old made) (covering a s old m) in
+        kept_are old (wanted all (trial_of a s m made)) (needed says all tried)
+        (wanted_are old all (trial_of a s m made) tried covering_are (needed_are old (covering_runs (trial_of a s m made)) tried covering_are))
 
   -- ---- all mutants
 
-  one_kept : (m : Mutant) → IsOfFile s.program m → (o : Option (Class × List ℕ)) → viable_file s.program m ≡ o
-      → flat_map (kept_of old) (flat_map needed_runs (option_map_or (λ made. trial_of a s m made ∷ []) o []))
-      ≡ map kept (needed says false (option_map_or (λ made. map (mutant_tried a s old made) (covering a s old m)) o []))
-  one_kept m of None e = refl
-  one_kept m of (Some made) e = ap (flat_map (kept_of old)) (append-nil (needed_runs (trial_of a s m made))) ∙ needed_kept m of made e
+  one_kept : (all : Bool) (m : Mutant) → IsOfFile s.program m → (o : Option (Class × List ℕ)) → viable_file s.program m ≡ o
+      → flat_map (kept_of old) (flat_map (wanted all) (option_map_or (λ made. trial_of a s m made ∷ []) o []))
+      ≡ map kept (needed says all (option_map_or (λ made. map (mutant_tried a s old made) (covering a s old m)) o []))
+  one_kept all m of None e = refl
+  one_kept all m of (Some made) e = ap (flat_map (kept_of old)) (append-nil (wanted all (trial_of a s m made))) ∙ needed_kept m of made e all
 
-  mutants_kept : (ms : List Mutant) → AllByRecursion (IsOfFile s.program) ms
-      → flat_map (kept_of old) (flat_map needed_runs (flat_map (trials_of a s) ms)) ≡ map kept (needed_of_all says false (map (mutant_runs a s old) ms))
-  mutants_kept [] q = refl
-  mutants_kept (m ∷ ms) q =
-      ap (flat_map (kept_of old)) (flat_map-append needed_runs (trials_of a s m) (flat_map (trials_of a s) ms))
-      ∙ flat_map-append (kept_of old) (flat_map needed_runs (trials_of a s m)) (flat_map needed_runs (flat_map (trials_of a s) ms))
-      ∙ (λ i. one_kept m q.0 (viable_file s.program m) refl i ++ mutants_kept ms q.1 i)
-      ∙ sym (kept_joined (needed says false (mutant_runs a s old m)) (needed_of_all says false (map (mutant_runs a s old) ms)))
+  mutants_kept : (all : Bool) (ms : List Mutant) → AllByRecursion (IsOfFile s.program) ms
+      → flat_map (kept_of old) (flat_map (wanted all) (flat_map (trials_of a s) ms)) ≡ map kept (needed_of_all says all (map (mutant_runs a s old) ms))
+  mutants_kept all [] q = refl
+  mutants_kept all (m ∷ ms) q =
+      ap (flat_map (kept_of old)) (flat_map-append (wanted all) (trials_of a s m) (flat_map (trials_of a s) ms))
+      ∙ flat_map-append (kept_of old) (flat_map (wanted all) (trials_of a s m)) (flat_map (wanted all) (flat_map (trials_of a s) ms))
+      ∙ (λ i. one_kept all m q.0 (viable_file s.program m) refl i ++ mutants_kept all ms q.1 i)
+      ∙ sym (kept_joined (needed says all (mutant_runs a s old m)) (needed_of_all says all (map (mutant_runs a s old) ms)))
 
   one_cells : (m : Mutant) → IsOfFile s.program m → (o : Option (Class × List ℕ)) → viable_file s.program m ≡ o
       → length (option_map_or (λ made. map (mutant_tried a s old made) (covering a s old m)) o []) ≡ sum_by reach (option_map_or (λ made. trial_of a s m made ∷ []) o [])
@@ -258,34 +269,41 @@ module _ (g : Given) (same : ReuseChangesNothing) (say : RecordsSayRuns) (alike 
   unfolding job_runs asked_job
   cells_are = mutants_cells s.mutants of_files
 
-  pub need_kept : flat_map (kept_of old) (asked_need (asked_job a s)) ≡ map kept (need says false (job_runs a s old))
-  unfolding job_runs asked_job asked_need
-  need_kept =
-      flat_map-append (kept_of old) (map original_at s.tests) (flat_map needed_runs (flat_map (trials_of a s) s.mutants))
-      ∙ (λ i. originals_from 0 s.tests both i ++ mutants_kept s.mutants of_files i)
-      ∙ sym (kept_joined (map (original_tried a s old) (numbered s)) (needed_of_all says false (map (mutant_runs a s old) s.mutants)))
+  wanted_kept : (all : Bool) → flat_map (kept_of old) (map original_at s.tests ++ flat_map (wanted all) (flat_map (trials_of a s) s.mutants)) ≡ map kept (need says all (job_runs a s old))
+  unfolding job_runs
+  wanted_kept all =
+      flat_map-append (kept_of old) (map original_at s.tests) (flat_map (wanted all) (flat_map (trials_of a s) s.mutants))
+      ∙ (λ i. originals_from 0 s.tests both i ++ mutants_kept all s.mutants of_files i)
+      ∙ sym (kept_joined (map (original_tried a s old) (numbered s)) (needed_of_all says all (map (mutant_runs a s old) s.mutants)))
 
-  all_are : all_kept old (asked_need (asked_job a s)) ≡ once_behind [] (map kept (need says false (job_runs a s old)))
+  need_is : (all : Bool) → need_of all (asked_job a s) ≡ map original_at s.tests ++ flat_map (wanted all) (flat_map (trials_of a s) s.mutants)
+  unfolding asked_job asked_need all_runs
+  need_is false = refl
+  need_is true = refl
+
+  pub need_kept : (all : Bool) → flat_map (kept_of old) (need_of all (asked_job a s)) ≡ map kept (need says all (job_runs a s old))
+  need_kept all = ap (flat_map (kept_of old)) (need_is all) ∙ wanted_kept all
+
+  all_are : (all : Bool) → all_kept old (need_of all (asked_job a s)) ≡ once_behind [] (map kept (need says all (job_runs a s old)))
   unfolding all_kept
-  all_are = ap (once_behind []) need_kept
+  all_are all = ap (once_behind []) (need_kept all)
 
-  pub records_as_asked : OldHaveNoPart → map (λ (k : Kept). k.entry) (once_behind [] (map kept (need says false (job_runs a s old)))) ≡ new_records (asked_need (asked_job a s))
-  records_as_asked apart = sym (ap (map (λ (k : Kept). k.entry)) all_are) ∙ apart old (asked_need (asked_job a s))
+  pub records_as_asked : OldHaveNoPart → (all : Bool) → map (λ (k : Kept). k.entry) (once_behind [] (map kept (need says all (job_runs a s old)))) ≡ new_records (need_of all (asked_job a s))
+  records_as_asked apart all = sym (ap (map (λ (k : Kept). k.entry)) (all_are all)) ∙ apart old (need_of all (asked_job a s))
 
-  pub reused_as_asked : length (filter (λ (k : Kept). k.is_old) (once_behind [] (map kept (need says false (job_runs a s old))))) ≡ reused old (asked_need (asked_job a s))
-  reused_as_asked = sym (ap (λ (ks : List Kept). length (filter (λ (k : Kept). k.is_old) ks)) all_are)
+  pub reused_as_asked : (all : Bool) → length (filter (λ (k : Kept). k.is_old) (once_behind [] (map kept (need says all (job_runs a s old))))) ≡ reused old (need_of all (asked_job a s))
+  reused_as_asked all = sym (ap (λ (ks : List Kept). length (filter (λ (k : Kept). k.is_old) ks)) (all_are all))
 
 pub answers_as_asked : AnswersAreOfAllTests → Given → ReuseChangesNothing → RecordsSayRuns → ReachingIsAlike → OldHaveNoPart → AnswersAreAsAsked
 answers_as_asked tests g same say alike apart a s old h true_old none =
     let t = tests a s old h true_old in
     let pass = t.green none in
-    let runs = need says false (job_runs a s old) in
     record {
       cells = cells_are g same say alike a s old h true_old pass;
-      records = λ x e.
-          let told = answered a s old false x e in
-          ap (λ y. y.records) told.is ∙ sym (records_are runs) ∙ records_as_asked g same say alike a s old h true_old pass apart;
-      reused = sym (reused_are runs) ∙ reused_as_asked g same say alike a s old h true_old pass;
+      records = λ all x e.
+          let told = answered a s old all x e in
+          ap (λ y. y.records) told.is ∙ sym (records_are (need says all (job_runs a s old))) ∙ records_as_asked g same say alike a s old h true_old pass apart all;
+      reused = λ all. sym (reused_are (need says all (job_runs a s old))) ∙ reused_as_asked g same say alike a s old h true_old pass all;
     }
 
 -- ---- what a refusal costs
@@ -308,6 +326,6 @@ originals_cost a s old n (t ∷ ts) =
 
 pub refusals_cost : RefusalsCostOriginals
 unfolding job_runs asked_job
-refusals_cost a s old refusal e =
-    ap (λ (r : Result JobAnswer JobRefusal). cost_by false (job_runs a s old) r) e
+refusals_cost a s old all refusal e =
+    ap (λ (r : Result JobAnswer JobRefusal). cost_by all (job_runs a s old) r) e
     ∙ ap exactly (originals_cost a s old 0 s.tests)

@@ -1,10 +1,10 @@
 -- Where all old records are true, a job answers what the runs of all tests say.
-use Rattle.std.proofs.Common.{◌≡◌, ◌∙◌, ◌⊎◌, inl, inr, ℕ, ◌+◌, false, List, [], ◌∷◌, ◌++◌, map, Option, Some, None, refl, sym, ap, ap₂, subst}
+use Rattle.std.proofs.Common.{◌≡◌, ◌∙◌, ◌⊎◌, inl, inr, ℕ, ◌+◌, Bool, true, false, List, [], ◌∷◌, ◌++◌, map, Option, Some, None, refl, sym, ap, ap₂, subst}
 use Rattle.std.specs.Prelude.{All}
-use Rattle.std.specs.List.{flat_map, enumerate_from}
+use Rattle.std.specs.List.{AllByRecursion, flat_map, enumerate_from}
 use Rattle.std.specs.Option.{option_map_or, unwrap_or}
 use Rattle.std.proofs.lemmas.List.Concat.{flat_map-cons}
-use Rattle.std.proofs.lemmas.List.Elements.{All-nil, All-cons, All-head, All-tail}
+use Rattle.std.proofs.lemmas.List.Elements.{All-nil, All-cons, All-head, All-tail, recursion_from_All}
 use Rattle.class_model.specs.declared.class.Class.{Class}
 use Rattle.class_model.specs.declared.outcome.Outcome.{Outcome}
 use Rattle.class_model.specs.declared.outcome.Outcome.TheVariants.{Passed, Failed, TimedOut, MemoryOut}
@@ -14,14 +14,17 @@ use Rattle.class_table.specs.declared.scripted.Test.{Test}
 use Rattle.mutator_ops.specs.declared.mutant.Mutant.{Mutant}
 use Rattle.mutator_ops.specs.declared.mutant.State.{State}
 use Rattle.mutator_ops.specs.declared.mutant.Verdict.{Verdict}
-use Rattle.suite_jobs.specs.Below.{original_run, verdict_by, not_viable}
+use Rattle.suite_jobs.specs.Below.{AllPass, original_run, verdict_by, not_viable}
+use Rattle.class_records.specs.Profile.{profile}
+use Rattle.reuse_laws.specs.Jobs.{AreTrue}
+use Rattle.record_rules.specs.Jobs.{cost}
 use Rattle.record_rules.specs.declared.record.RunRecord.{RunRecord}
 use Rattle.record_rules.specs.Outcomes.{outcome_at}
-use Rattle.job_rules.specs.Tried.{Tried, known, saying, detections, detections_in}
-use Rattle.suite_jobs.specs.Jobs.{Allowed, Suite, says, first_of, original_tried, viable_file, mutant_runs, job_runs, verdict_on, job_verdict}
-use Rattle.suite_jobs.specs.Laws.{IsOwn, RunsAreOwn, VerdictsAreOfAllTests, JobsCostAsAsked}
+use Rattle.job_rules.specs.Tried.{Tried, known, saying, detections, detections_in, needed, need_cost, cost_of, cost_of_all, least_cost}
+use Rattle.suite_jobs.specs.Jobs.{Allowed, Suite, IsAccepted, IsOfFile, asked_job, every_run, says, first_of, original_tried, viable_file, mutant_runs, job_runs, verdict_on, job_verdict}
+use Rattle.suite_jobs.specs.Laws.{IsOwn, RunsAreOwn, VerdictsAreOfAllTests, DetectionsAreOfAllTests, JobsCostAsAsked, CostsAsAsked as JobCosts, steps_of}
 use Rattle.job_answers.specs.declared.refusal.FailedTest.{FailedTest}
-use Rattle.job_answers.specs.Answers.{verdict_with, verdict_of_runs, verdict_in, unless_passed, failed_by, cost_by}
+use Rattle.job_answers.specs.Answers.{verdict_with, verdict_of_runs, verdict_in, verdict_by_every, verdict_of_every, verdicts_anew, need_of, unless_passed, failed_by, cost_by}
 use Rattle.job_answers.specs.Laws.{AnswersAreOfAllTests, CostsAreAsAsked}
 use Rattle.job_answers.proofs.Answered.{answered}
 
@@ -108,25 +111,60 @@ module _ (a : Allowed) (s : Suite) (old : List RunRecord) where
       flat_map-cons failed_by tried others
       ∙ ap₂ (λ (xs ys : List FailedTest). xs ++ ys) (ap (unless_passed n) passed) (passing_from (n + 1) ts (All-tail IsOwn tried others own) (All-tail Passes t ts pass))
 
-pub of_all_tests : RunsAreOwn → VerdictsAreOfAllTests → AnswersAreOfAllTests
+-- ---- verdicts by all detections
+
+module _ (law : DetectionsAreOfAllTests) (a : Allowed) (s : Suite) (old : List RunRecord) (h : IsAccepted s) (true_old : AreTrue profile old) (pass : AllPass s.program a.limits a.steps s.tests) where
+  every_case : (m : Mutant) → IsOfFile s.program m → (o : Option (Class × List ℕ)) → viable_file s.program m ≡ o
+      → option_map_or (λ made. verdict_of_runs true (mutant_runs a s old m)) o not_viable ≡ option_map_or (λ made. verdict_by_every m (every_run a s made)) o not_viable
+  every_case m of None e = refl
+  every_case m of (Some made) e =
+      let said = law a s old h true_old pass m of made e in
+      let covering = said.covering in
+      let detections = said.detections in
+      (λ i. verdict_with (covering i) (detections i))
+
+  verdicts_every : (ms : List Mutant) → AllByRecursion (IsOfFile s.program) ms → map (verdict_in a s old true) ms ≡ map (verdict_of_every a s) ms
+  verdicts_every [] q = refl
+  verdicts_every (m ∷ ms) q = λ i. every_case m q.0 (viable_file s.program m) refl i ∷ verdicts_every ms q.1 i
+
+verdicts_are : VerdictsAreOfAllTests → DetectionsAreOfAllTests → (a : Allowed) (s : Suite) (old : List RunRecord) → IsAccepted s → AreTrue profile old → AllPass s.program a.limits a.steps s.tests → (all : Bool) → map (verdict_in a s old all) s.mutants ≡ verdicts_anew all a s
+verdicts_are law every a s old h true_old pass false = verdicts_one a s old s.mutants ∙ law a s old h true_old pass
+verdicts_are law every a s old h true_old pass true = verdicts_every every a s old h true_old pass s.mutants (recursion_from_All (IsOfFile s.program) s.mutants h.mutants)
+
+pub of_all_tests : RunsAreOwn → VerdictsAreOfAllTests → DetectionsAreOfAllTests → AnswersAreOfAllTests
 unfolding job_runs
-of_all_tests own law a s old h true_old =
+of_all_tests own law every a s old h true_old =
     let mine = own a s old h true_old in
     let green = green_from a s old 0 s.tests mine.originals in
     record {
       green = green;
       passing = passing_from a s old 0 s.tests mine.originals;
-      verdicts = λ x e.
-          let told = answered a s old false x e in
-          ap (λ y. y.verdicts) told.is ∙ verdicts_one a s old s.mutants ∙ law a s old h true_old (green told.green);
+      verdicts = λ all x e.
+          let told = answered a s old all x e in
+          ap (λ y. y.verdicts) told.is ∙ verdicts_are law every a s old h true_old (green told.green) all;
     }
 
+-- ---- what it costs
+
+-- Where all killers are asked for, all runs are needed.
+pub all_needed : (ts : List (Tried RunRecord)) → needed says true ts ≡ ts
+all_needed [] = refl
+all_needed (t ∷ ts) = ap (λ (us : List (Tried RunRecord)). t ∷ us) (all_needed ts)
+
+all_cost : (mutants : List (List (Tried RunRecord))) → need_cost says steps_of true mutants ≡ cost_of_all steps_of mutants
+all_cost [] = refl
+all_cost (ts ∷ mutants) = λ i. cost_of steps_of (all_needed ts i) + all_cost mutants i
+
+least_is : (all : Bool) (a : Allowed) (s : Suite) (old : List RunRecord) → JobCosts a s old → least_cost says steps_of all (job_runs a s old) ≡ cost old (need_of all (asked_job a s))
+least_is false a s old c = c.least
+least_is true a s old c = let j = job_runs a s old in ap (λ (n : ℕ). cost_of steps_of j.originals + n) (all_cost j.mutants) ∙ c.most
+
 pub cost_as_asked : AnswersAreOfAllTests → JobsCostAsAsked → CostsAreAsAsked
-cost_as_asked tests law a s old x h true_old e =
+cost_as_asked tests law a s old all x h true_old e =
     let t = tests a s old h true_old in
-    let told = answered a s old false x e in
+    let told = answered a s old all x e in
     let c = law a s old h true_old (t.green told.green) in
     record {
-      least = ap (λ r. (cost_by false (job_runs a s old) r).least) e ∙ c.least;
-      most = ap (λ r. (cost_by false (job_runs a s old) r).most) e ∙ c.most;
+      least = ap (λ r. (cost_by all (job_runs a s old) r).least) e ∙ least_is all a s old c;
+      most = ap (λ r. (cost_by all (job_runs a s old) r).most) e ∙ c.most;
     }

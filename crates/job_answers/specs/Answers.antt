@@ -1,22 +1,25 @@
 -- What the job of a suite answers, by what is known of its runs, and what it costs (this project's
 -- own).
-use Rattle.std.specs.Prelude.{ℕ, Bool, List, [], ◌∷◌, map, sum_by, length, nat_lt, Result, Ok, Err}
+use Rattle.std.specs.Prelude.{ℕ, Bool, true, false, List, [], ◌∷◌, map, sum_by, length, nat_lt, Result}
+use Rattle.std.specs.Prelude.{Ok, Err}
 use Rattle.std.specs.Prelude.{if◌then◌else◌}
 use Rattle.std.specs.List.{flat_map}
 use Rattle.std.specs.Option.{option_map_or}
 use Rattle.class_model.specs.declared.outcome.Outcome.{Outcome}
 use Rattle.class_model.specs.declared.outcome.Outcome.TheVariants.{Passed}
+use Rattle.machine_rules.specs.Runs.{Ran}
 use Rattle.mutator_ops.specs.declared.mutant.Mutant.{Mutant}
 use Rattle.mutator_ops.specs.declared.mutant.State.{State}
 use Rattle.mutator_ops.specs.declared.mutant.Verdict.{Verdict}
 use Rattle.suite_jobs.specs.Below.{all_verdicts, verdict_by, not_viable}
 use Rattle.record_rules.specs.declared.record.RunRecord.{RunRecord}
 use Rattle.record_rules.specs.Histories.{same_record, new_records}
-use Rattle.record_rules.specs.Jobs.{Job, covering_runs, need as asked_need, cost, NeedCost, Cost}
+use Rattle.record_rules.specs.Records.{Asked}
+use Rattle.record_rules.specs.Jobs.{Job, covering_runs, need as asked_need, all_runs, cost, Cost}
 use Rattle.job_rules.specs.Tried.{Tried, JobRuns, known, detections, need, cost_of, least_cost}
 use Rattle.job_rules.specs.Tried.{most_cost, records_once, reused_among}
 use Rattle.suite_jobs.specs.Jobs.{Allowed, Suite, says, first_of, viable_file, mutant_runs}
-use Rattle.suite_jobs.specs.Jobs.{job_runs, asked_job}
+use Rattle.suite_jobs.specs.Jobs.{job_runs, asked_job, every_run, reaching, detecting}
 use Rattle.suite_jobs.specs.Laws.{steps_of}
 use Rattle.job_answers.specs.declared.refusal.FailedTest.{FailedTest}
 use Rattle.job_answers.specs.declared.refusal.JobRefusal.{JobRefusal}
@@ -114,21 +117,41 @@ job_cost a s old all = cost_by all (job_runs a s old) (job_answer a s old all)
 abbrev pub asked_cells : Job → ℕ
 asked_cells j = sum_by (λ t. length (covering_runs t)) j.trials
 
--- Where each run is made anew: the verdict on each mutant by the runs of every test on it, and the
--- records of the runs that are needed, by the mutants' own runs.
-abbrev pub answer_anew : Allowed → Suite → JobAnswer
-answer_anew a s = record {
-  verdicts = all_verdicts s.program a.limits a.steps s.tests s.mutants;
-  records = new_records (asked_need (asked_job a s));
+-- The verdict on a mutant by a run of every test on it: each that detects it is a killer.
+abbrev pub verdict_by_every : Mutant → List (ℕ × Ran) → Verdict
+verdict_by_every m runs = verdict_with (reaching m runs) (detecting runs)
+
+abbrev pub verdict_of_every : Allowed → Suite → Mutant → Verdict
+verdict_of_every a s m =
+    option_map_or (λ made. verdict_by_every m (every_run a s made)) (viable_file s.program m)
+    not_viable
+
+-- The verdicts by the runs of every test on every mutant, where all killers are asked for, or the
+-- first.
+abbrev pub verdicts_anew : Bool → Allowed → Suite → List Verdict
+verdicts_anew false a s = all_verdicts s.program a.limits a.steps s.tests s.mutants
+verdicts_anew true a s = map (verdict_of_every a s) s.mutants
+
+-- The runs that are needed: those of covering tests up to the first that detects, or of all.
+abbrev pub need_of : Bool → Job → List Asked
+need_of false j = asked_need j
+need_of true j = all_runs j
+
+-- Where each run is made anew: these verdicts, and the records of the runs that are needed, by the
+-- mutants' own runs.
+abbrev pub answer_anew : Bool → Allowed → Suite → JobAnswer
+answer_anew all a s = record {
+  verdicts = verdicts_anew all a s;
+  records = new_records (need_of all (asked_job a s));
 }
 
-abbrev pub job_scratch : Allowed → Suite → Result JobAnswer JobRefusal
-job_scratch a s =
+abbrev pub job_scratch : Bool → Allowed → Suite → Result JobAnswer JobRefusal
+job_scratch all a s =
     unless_failed (failed_tests (job_runs a s []))
-    (unless_many (asked_cells (asked_job a s)) (Ok (answer_anew a s)))
+    (unless_many (asked_cells (asked_job a s)) (Ok (answer_anew all a s)))
 
 -- The steps of the runs that old records lack; where it is refused, of those on the program as it
 -- is.
-abbrev pub asked_cost : {X : Type 0} → List RunRecord → Job → Result X JobRefusal → JobCost
-asked_cost old j (Ok x) = record { least = NeedCost old j; most = Cost old j }
-asked_cost old j (Err refusal) = exactly (cost old j.originals)
+abbrev pub asked_cost : {X : Type 0} → Bool → List RunRecord → Job → Result X JobRefusal → JobCost
+asked_cost all old j (Ok x) = record { least = cost old (need_of all j); most = Cost old j }
+asked_cost all old j (Err refusal) = exactly (cost old j.originals)

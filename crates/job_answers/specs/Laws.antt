@@ -1,19 +1,19 @@
 -- What is said of the answer of a suite's job.
-use Rattle.std.specs.Prelude.{◌≡◌, ℕ, Bool, false, List, [], All, length, slice_get, Some, Ok, Err}
+use Rattle.std.specs.Prelude.{◌≡◌, ℕ, Bool, List, [], All, length, slice_get, Some, Ok, Err}
 use Rattle.std.specs.Prelude.{option_map}
 use Rattle.class_records.specs.Profile.{profile}
-use Rattle.suite_jobs.specs.Below.{original_asked, AllPass, all_verdicts}
+use Rattle.suite_jobs.specs.Below.{original_asked, AllPass}
 use Rattle.record_rules.specs.declared.record.RunRecord.{RunRecord}
 use Rattle.record_rules.specs.Records.{Asked, record_of}
 use Rattle.record_rules.specs.Histories.{new_records, reused}
-use Rattle.record_rules.specs.Jobs.{need, cost, NeedCost, Cost}
+use Rattle.record_rules.specs.Jobs.{cost, Cost}
 use Rattle.reuse_laws.specs.Jobs.{AreTrue}
 use Rattle.history_rules.specs.Fitting.{FitsFields}
 use Rattle.history_rules.specs.Laws.{AreWritable, IsFormed}
 use Rattle.suite_jobs.specs.Jobs.{Allowed, Suite, IsAccepted, asked_job, job_runs, made_by}
 use Rattle.job_answers.specs.Answers.{JobAnswer, asked_cells, asked_cost, cell_total, exactly}
 use Rattle.job_answers.specs.Answers.{failed_tests, job_answer, job_cost, job_reused, job_scratch}
-use Rattle.job_answers.specs.Answers.{verdict_in}
+use Rattle.job_answers.specs.Answers.{need_of, verdict_in, verdicts_anew}
 use Rattle.job_answers.specs.declared.refusal.JobRefusal.{JobRefusal}
 
 -- Where all old records are true, they change nothing of the answer.
@@ -28,8 +28,8 @@ pub record IsOfAllTests (a : Allowed) (s : Suite) (old : List RunRecord) : Type 
   pub green : failed_tests (job_runs a s old) ≡ [] → AllPass s.program a.limits a.steps s.tests
   pub passing : AllPass s.program a.limits a.steps s.tests → failed_tests (job_runs a s old) ≡ []
   pub verdicts :
-      (x : JobAnswer) → job_answer a s old false ≡ Ok x →
-      x.verdicts ≡ all_verdicts s.program a.limits a.steps s.tests s.mutants
+      (all : Bool) (x : JobAnswer) → job_answer a s old all ≡ Ok x →
+      x.verdicts ≡ verdicts_anew all a s
 
 abbrev pub AnswersAreOfAllTests : Type 0
 AnswersAreOfAllTests =
@@ -60,9 +60,9 @@ AnswersAreTrue =
 pub record IsAsAsked (a : Allowed) (s : Suite) (old : List RunRecord) : Type 0 where
   pub cells : cell_total (job_runs a s old) ≡ asked_cells (asked_job a s)
   pub records :
-      (x : JobAnswer) → job_answer a s old false ≡ Ok x →
-      x.records ≡ new_records (need (asked_job a s))
-  pub reused : job_reused a s old false ≡ reused old (need (asked_job a s))
+      (all : Bool) (x : JobAnswer) → job_answer a s old all ≡ Ok x →
+      x.records ≡ new_records (need_of all (asked_job a s))
+  pub reused : (all : Bool) → job_reused a s old all ≡ reused old (need_of all (asked_job a s))
 
 abbrev pub AnswersAreAsAsked : Type 0
 AnswersAreAsAsked =
@@ -72,36 +72,36 @@ AnswersAreAsAsked =
 -- Where all tests pass and the answer isn't refused, it costs the steps of the runs that old
 -- records lack: at least of those that are needed, at most of those of all tests that cover a
 -- mutant.
-pub record CostsAsAsked (a : Allowed) (s : Suite) (old : List RunRecord) (x : JobAnswer) : Type 0
-  where
-    pub least : (job_cost a s old false).least ≡ NeedCost old (asked_job a s)
-    pub most : (job_cost a s old false).most ≡ Cost old (asked_job a s)
+pub record CostsAsAsked (a : Allowed) (s : Suite) (old : List RunRecord) (all : Bool) : Type 0 where
+  pub least : (job_cost a s old all).least ≡ cost old (need_of all (asked_job a s))
+  pub most : (job_cost a s old all).most ≡ Cost old (asked_job a s)
 
 abbrev pub CostsAreAsAsked : Type 0
 CostsAreAsAsked =
-    (a : Allowed) (s : Suite) (old : List RunRecord) (x : JobAnswer) → IsAccepted s →
-    AreTrue profile old → job_answer a s old false ≡ Ok x → CostsAsAsked a s old x
+    (a : Allowed) (s : Suite) (old : List RunRecord) (all : Bool) (x : JobAnswer) → IsAccepted s →
+    AreTrue profile old → job_answer a s old all ≡ Ok x → CostsAsAsked a s old all
 
 -- A refusal costs the steps of the runs on the program as it is that old records lack.
 abbrev pub RefusalsCostOriginals : Type 0
 RefusalsCostOriginals =
-    (a : Allowed) (s : Suite) (old : List RunRecord) (refusal : JobRefusal) →
-    job_answer a s old false ≡ Err refusal →
-    job_cost a s old false ≡ exactly (cost old (asked_job a s).originals)
+    (a : Allowed) (s : Suite) (old : List RunRecord) (all : Bool) (refusal : JobRefusal) →
+    job_answer a s old all ≡ Err refusal →
+    job_cost a s old all ≡ exactly (cost old (asked_job a s).originals)
 
 -- All in one: with true old records a job answers and costs what it does where each run is made
 -- anew, but that old records save their runs' steps.
-pub record IsFromScratch (a : Allowed) (s : Suite) (old : List RunRecord) : Type 0 where
-  pub answer : job_answer a s old false ≡ job_scratch a s
-  pub reused :
-      (x : JobAnswer) → job_answer a s old false ≡ Ok x →
-      job_reused a s old false ≡ reused old (need (asked_job a s))
-  pub cost : job_cost a s old false ≡ asked_cost old (asked_job a s) (job_scratch a s)
+pub record IsFromScratch (a : Allowed) (s : Suite) (old : List RunRecord) (all : Bool) : Type 0
+  where
+    pub answer : job_answer a s old all ≡ job_scratch all a s
+    pub reused :
+        (x : JobAnswer) → job_answer a s old all ≡ Ok x →
+        job_reused a s old all ≡ reused old (need_of all (asked_job a s))
+    pub cost : job_cost a s old all ≡ asked_cost all old (asked_job a s) (job_scratch all a s)
 
 abbrev pub AnswersAreFromScratch : Type 0
 AnswersAreFromScratch =
-    (a : Allowed) (s : Suite) (old : List RunRecord) → IsAccepted s → AreTrue profile old →
-    IsFromScratch a s old
+    (a : Allowed) (s : Suite) (old : List RunRecord) (all : Bool) → IsAccepted s →
+    AreTrue profile old → IsFromScratch a s old all
 
 -- The record that a run makes is its own: it isn't stuck.
 abbrev pub HasRecord : Asked → Type 0

@@ -14,7 +14,7 @@ use program_laws::ordered_is_built;
 use record_writing::fitting_records_are_formed;
 use reuse_laws::new_records_go_by_runs;
 use suite_jobs::{
-    found_are_own_tests, found_tests_fit, jobs_cost_as_asked, mutants_are_reached_alike,
+    detections_are_of_all_tests, found_are_own_tests, found_tests_fit, jobs_cost_as_asked, mutants_are_reached_alike,
     mutants_are_reusable, originals_are_reusable, records_say_runs, reuse_changes_no_answer,
     runs_are_own, suites_are_safe, verdicts_are_of_all_tests, viable_mutants_are_never_stuck,
 };
@@ -35,6 +35,7 @@ pub fn answers_are_of_all_tests()
 {
     runs_are_own();
     verdicts_are_of_all_tests();
+    detections_are_of_all_tests();
 }
 
 /// Where no test fails, its new records are those of the runs that are needed, by the runs on the

@@ -7,12 +7,13 @@ use class_table::{Call, CallKind, Test};
 use machine_rules::Limits;
 use std::alloc::Global;
 
-/// A test, its limits, and the steps that it may take at most.
+/// A test, its limits, the steps that it may take at most, and whether its record is to tell of it.
 #[derive(Drop)]
 pub struct Case {
     pub test: Test,
     pub limits: Limits,
     pub steps: u64,
+    pub by_record: bool,
 }
 
 // The kind of a call, by its name.
@@ -92,6 +93,14 @@ fn limits_of(heap: &str, depth: &str) -> anyhow::Result<Limits>
     Ok(Limits { heap, depth })
 }
 
+// Whether a line begins with `record`, and what stands behind that.
+fn kept_of(line: &str) -> (bool, &str) {
+    match line.strip_prefix("record ") {
+        Some(words) => (true, words),
+        None => (false, line),
+    }
+}
+
 // The words of a line, and those of its script, if it has one.
 fn parts_of(line: &str) -> (&str, Option<&str>) {
     match line.split_once(" by ") {
@@ -100,12 +109,13 @@ fn parts_of(line: &str) -> (&str, Option<&str>) {
     }
 }
 
-/// The test of a line: its class, its method, its steps at most, its words of the heap, its frames,
-/// the class of what is to leave it, if anything is, and behind `by` the calls of its script, if
-/// they aren't the usual two.
+/// The test of a line: `record`, if its record is to tell of it, its class, its method, its steps at
+/// most, its words of the heap, its frames, the class of what is to leave it, if anything is, and
+/// behind `by` the calls of its script, if they aren't the usual two.
 pub fn case_of(alloc: Global, line: &str) -> anyhow::Result<Case>
     ensures { IfOk result (λ case. case.limits.heap < 2 ^ 31) }
 {
+    let (by_record, line) = kept_of(line);
     let (line, script) = parts_of(line);
     let mut words = line.split(' ');
     let (Some(class), Some(method), Some(steps), Some(heap), Some(depth)) = (
@@ -124,5 +134,6 @@ pub fn case_of(alloc: Global, line: &str) -> anyhow::Result<Case>
         test,
         limits,
         steps,
+        by_record,
     })
 }

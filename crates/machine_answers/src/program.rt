@@ -17,21 +17,47 @@ fn loaded(alloc: Global, bytes: Bytes) -> anyhow::Result<Loaded> {
     Ok(Loaded { bytes, class })
 }
 
-fn classes_below<T: Tree>(
+// Reads one class file more.
+fn read_one<T: Tree>(
+    alloc: Global,
+    tree: &mut T,
+    path: &str,
+    files: &mut Seq<Loaded>,
+) -> anyhow::Result<()> {
+    let Some(bytes) = tree.read(path)? else {
+        anyhow::bail!("no class file");
+    };
+    files.push(loaded(alloc, bytes)?)?;
+    Ok(())
+}
+
+fn files_below<T: Tree>(
     alloc: Global,
     tree: &mut T,
     folder: &str,
-) -> anyhow::Result<Seq<Loaded>> {
-    let mut classes = Seq::new(alloc);
+    files: &mut Seq<Loaded>,
+) -> anyhow::Result<()> {
     for path in tree.list(folder)? {
-        if !path.as_str().ends_with(".class") {
-            continue;
-        }
-        if let Some(bytes) = tree.read(path.as_str())? {
-            classes.push(loaded(alloc, bytes)?)?;
+        if path.as_str().ends_with(".class") {
+            read_one(alloc, tree, path.as_str(), files)?;
         }
     }
-    Ok(classes)
+    Ok(())
+}
+
+// The class files of these names in a folder, which a `+` parts.
+fn files_named<T: Tree>(
+    alloc: Global,
+    tree: &mut T,
+    folder: &str,
+    names: &str,
+    files: &mut Seq<Loaded>,
+) -> anyhow::Result<()> {
+    for name in names.split('+') {
+        let path = format!(in alloc; "{folder}/{name}.class")?;
+        read_one(alloc, tree, path.as_str(), files)?;
+    }
+    Ok(())
 }
 
 // The program of these classes.
@@ -46,7 +72,20 @@ pub fn program_of(rt: &HostRuntime, folder: &str) -> anyhow::Result<Program>
     ensures { IfOk result (λ p. HasRightKinds (look p)) }
 {
     let alloc = rt.alloc();
-    let files = classes_below(alloc, &mut HostTree::new(rt), folder)?;
+    let mut files = Seq::new(alloc);
+    files_below(alloc, &mut HostTree::new(rt), folder, &mut files)?;
+    let library = classes(alloc)?;
+    let program = built(alloc, files, library)?;
+    Ok(program)
+}
+
+/// The same of the class files of these names in a folder, which a `+` parts.
+pub fn program_with(rt: &HostRuntime, folder: &str, names: &str) -> anyhow::Result<Program>
+    ensures { IfOk result (λ p. HasRightKinds (look p)) }
+{
+    let alloc = rt.alloc();
+    let mut files = Seq::new(alloc);
+    files_named(alloc, &mut HostTree::new(rt), folder, names, &mut files)?;
     let library = classes(alloc)?;
     let program = built(alloc, files, library)?;
     Ok(program)

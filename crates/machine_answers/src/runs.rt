@@ -6,74 +6,14 @@ ghost use Rattle.jvm_run.specs.Below.{IsRunnable};
 ghost use Rattle.jvm_run.specs.Below.{AreTablesOf};
 
 use crate::case::{Case, case_of};
-use class_model::{Cause, Memory, Name, Outcome};
-use class_table::{Program, Test};
-use jvm_run::{Ending, RunResult, Tables, execute};
+use crate::words::{push_ran, push_recorded, push_test};
+use class_model::Memory;
+use class_table::Program;
+use jvm_run::{RunResult, Tables, execute};
 use mt_edge::Meter;
+use record_rules::RunRecord;
+use run_records::make_record;
 use std::alloc::Global;
-
-fn push(out: &mut String, text: &str) -> Result<(), Memory> {
-    out.push_str(text)?;
-    Ok(())
-}
-
-fn push_name(out: &mut String, name: &Name) -> Result<(), Memory> {
-    let text = String::from_utf16_lossy(*out.allocator(), name.as_slice())?;
-    push(out, text.as_str())
-}
-
-fn push_number(out: &mut String, number: u64, unit: &str) -> Result<(), Memory> {
-    let text = format!(in *out.allocator(); " {number} {unit}")?;
-    push(out, text.as_str())
-}
-
-fn push_cause(out: &mut String, cause: &Cause) -> Result<(), Memory> {
-    match cause {
-        Cause::Returned => push(out, "Returned"),
-        Cause::Thrown(class) => push_name(out, class),
-    }
-}
-
-fn push_outcome(out: &mut String, outcome: &Outcome) -> Result<(), Memory> {
-    match outcome {
-        Outcome::Passed => push(out, "Passed"),
-        Outcome::Failed(cause) => {
-            push(out, "Failed ")?;
-            push_cause(out, cause)
-        }
-        Outcome::TimedOut => push(out, "TimedOut"),
-        Outcome::MemoryOut => push(out, "MemoryOut"),
-    }
-}
-
-fn push_ending(out: &mut String, ending: &Ending) -> Result<(), Memory> {
-    match ending {
-        Ending::With(outcome) => push_outcome(out, outcome),
-        Ending::Stuck { class, method, at } => {
-            push(out, "Stuck at ")?;
-            push_name(out, class)?;
-            push(out, ".")?;
-            push_name(out, method)?;
-            push_number(out, *at as u64, "and")
-        }
-    }
-}
-
-fn push_ran(out: &mut String, ran: &RunResult) -> Result<(), Memory> {
-    push_ending(out, &ran.ending)?;
-    push_number(out, ran.steps, "steps")?;
-    push_number(out, ran.consulted.len() as u64, "names")?;
-    push_number(out, ran.reached.len() as u64, "lines\n")
-}
-
-// Adds the line of a test that ran.
-fn push_line(out: &mut String, test: &Test, ran: &RunResult) -> Result<(), Memory> {
-    push_name(out, &test.class)?;
-    push(out, ".")?;
-    push_name(out, &test.method)?;
-    push(out, " ")?;
-    push_ran(out, ran)
-}
 
 // The run of a test.
 fn run(
@@ -103,7 +43,37 @@ fn run(
     ran
 }
 
-// Runs a test, and adds its line.
+// Its record, if it isn't stuck.
+fn record(
+    program: &Program,
+    tables: &mut Tables,
+    case: &Case,
+    alloc: Global,
+) -> Result<Option<RunRecord>, Memory>
+    requires tables { AreTablesOf program.now tables.old }
+    requires runnable { IsRunnable (look program.now) }
+    requires small { case.now.limits.heap < 2 ^ 31 }
+    ensures tables { AreTablesOf program.now tables.new }
+{
+    let mut meter = Meter::new();
+    let mut part = meter.split();
+    let made = make_record(
+        alloc,
+        program,
+        tables,
+        &case.test,
+        case.limits,
+        case.steps,
+        &mut part,
+    );
+    let _counted = part.count();
+    meter.join(part);
+    made
+}
+
+// ---- lines of tests
+
+// Runs a test, and tells how it ended.
 fn push_case(
     program: &Program,
     tables: &mut Tables,
@@ -116,10 +86,30 @@ fn push_case(
     ensures tables { AreTablesOf program.now tables.new }
 {
     let ran = run(program, tables, case, *out.allocator())?;
-    push_line(out, &case.test, &ran)?;
+    push_ran(out, &ran)?;
     Ok(())
 }
 
+// The same by its record.
+fn push_case_by_record(
+    program: &Program,
+    tables: &mut Tables,
+    case: &Case,
+    out: &mut String,
+) -> anyhow::Result<()>
+    requires tables { AreTablesOf program.now tables.old }
+    requires runnable { IsRunnable (look program.now) }
+    requires small { case.now.limits.heap < 2 ^ 31 }
+    ensures tables { AreTablesOf program.now tables.new }
+{
+    match record(program, tables, case, *out.allocator())? {
+        Some(record) => push_recorded(out, &record)?,
+        None => out.push_str("no record\n")?,
+    }
+    Ok(())
+}
+
+// Runs the test of a line, and adds its line.
 fn push_run(
     program: &Program,
     tables: &mut Tables,
@@ -131,7 +121,12 @@ fn push_run(
     ensures tables { AreTablesOf program.now tables.new }
 {
     let case = case_of(*out.allocator(), line)?;
-    push_case(program, tables, &case, out)
+    push_test(out, &case.test)?;
+    if case.by_record {
+        push_case_by_record(program, tables, &case, out)
+    } else {
+        push_case(program, tables, &case, out)
+    }
 }
 
 // Runs the test of each line with these tables, and adds a line for each.
@@ -158,4 +153,18 @@ pub fn push_runs(program: &Program, tests: &str, out: &mut String) -> anyhow::Re
         anyhow::bail!("the library lacks a class");
     };
     push_lines(program, &mut tables, tests, out)
+}
+
+/// The record of the run of a test.
+pub fn record_of(program: &Program, case: &Case, alloc: Global) -> anyhow::Result<RunRecord>
+    requires runnable { IsRunnable (look program.now) }
+    requires small { case.now.limits.heap < 2 ^ 31 }
+{
+    let Some(mut tables) = Tables::find(alloc, program)? else {
+        anyhow::bail!("the library lacks a class");
+    };
+    match record(program, &mut tables, case, alloc)? {
+        Some(record) => Ok(record),
+        None => anyhow::bail!("no record"),
+    }
 }

@@ -13,11 +13,10 @@ use mutator_ops::{Mutant, Verdict};
 use std::alloc::Global;
 
 /// `mutant_runs::viable`
-pub fn viable(alloc: Global, program: &mut Program, mutants: &[Mutant]) -> Result<Seq<bool>, Memory>
-    requires ready { IsReady program.old }
-    requires fit { All (IsMutantOf (files_of program.old)) mutants.now }
-    ensures told { IfOk result (AreViable program.old mutants.now) }
-    ensures same { program.new ≡ program.old }
+pub fn viable(alloc: Global, program: &Program, mutants: &[Mutant]) -> Result<Seq<bool>, Memory>
+    requires ready { IsReady program.now }
+    requires fit { All (IsMutantOf (files_of program.now)) mutants.now }
+    ensures { IfOk result (AreViable program.now mutants.now) }
 {
     let flags = mutant_runs::viable(alloc, program, mutants)?;
     Ok(flags)

@@ -34,7 +34,7 @@ spelled_bounded (from.Library c) h = h
 -- ---- one method
 
 -- What a method of a linked class is to the rules.
-method_seen : (c : LinkedClass) (k : ℕ) (m : LinkedMethod) → slice_get c.methods k ≡ Some m → slice_get (linked_of c).methods k ≡ Some (method_of c.entries m)
+pub method_seen : (c : LinkedClass) (k : ℕ) (m : LinkedMethod) → slice_get c.methods k ≡ Some m → slice_get (linked_of c).methods k ≡ Some (method_of c.entries m)
 unfolding linked_of
 method_seen c k m at = slice_get-map (method_of c.entries) c.methods k ∙ ap (option_map (method_of c.entries)) at
 

@@ -11,3 +11,5 @@ pub mod NamedLaws
 mod Putting
 mod Keeping
 mod Codes
+mod Differing
+mod Judging

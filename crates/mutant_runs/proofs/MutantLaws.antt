@@ -1,6 +1,6 @@
 -- The verdict on a mutant by the runs on the program with its edit, and the steps of these runs.
 use Rattle.std.proofs.Common.{◌≡◌, ◌∙◌, sym, refl, ap, subst, Result, IfOk, OnOk, ℕ, zero, suc, ◌+◌, ◌^◌, ◌<◌, ◌≤◌, Bool, true, false, cond, List, [], ◌∷◌, filter, length, take, get_or, All, Option, None, Some, slice_set, arith}
-use Rattle.std.specs.Prelude.{if◌then◌else◌, is_none, is_some, IfSome, option_and_then}
+use Rattle.std.specs.Prelude.{if◌then◌else◌, is_some, IfSome, option_and_then}
 use Rattle.std.specs.List.{range_with_len}
 use Rattle.std.specs.Option.{option_map_or}
 use Rattle.std.proofs.lemmas.List.Elements.{All-nil, All-filter}
@@ -15,12 +15,12 @@ use Rattle.type_rules.specs.Faults.{Placed, class_fault}
 use Rattle.type_rules.specs.Rules.{ClassAccepted}
 use Rattle.class_table.specs.declared.scripted.Test.{Test}
 use Rattle.class_link.specs.Info.{Info}
-use Rattle.class_table.specs.Table.{number_of, look, name_at}
+use Rattle.class_table.specs.Table.{number_of, look}
 use Rattle.class_model.specs.declared.memory.Memory.{Memory}
 use Rattle.line_coverage.specs.Coverage.{Covered, reaches, tests_at}
 use Rattle.mutator_ops.specs.declared.mutant.Mutant.{Mutant}
 use Rattle.mutator_ops.specs.declared.mutant.Verdict.{Verdict}
-use Rattle.mutant_runs.specs.Edited.{IsReadyBut, TellsAccepted}
+use Rattle.mutant_runs.specs.Edited.{IsReadyBut}
 use Rattle.mutant_runs.specs.Needed.{runs_picked, steps_picked, verdict_picked, steps_by}
 use Rattle.mutant_runs.specs.Programs.{files_of, with_accepted, viable, Makes}
 use Rattle.mutant_runs.specs.Promises.{AreViable, TellsViable, covering_at, runs_in, steps_run, steps_for, steps_of, steps_for_all, IsByRuns, IsVerdict}
@@ -29,11 +29,7 @@ use Rattle.mutant_runs.specs.Runs.{timed, most_steps}
 use Rattle.mutant_runs.specs.Verdicts.{killer, verdict_by, not_viable}
 use Rattle.mutant_runs.proofs.RunLaws.{all_runs_most}
 
--- ---- whether a mutant is viable
-
-some_by : (o : Option Placed) (p : Look) → is_none o ≡ is_some (if is_some o then None else Some p)
-some_by None p = refl
-some_by (Some f) p = refl
+-- ---- a mutant that is viable
 
 no_fault : (o : Option Placed) (p : Look) → true ≡ is_some (if is_some o then None else Some p) → o ≡ None
 no_fault None p h = refl
@@ -47,14 +43,6 @@ module _ (p ran : List Info) (m : Mutant) (id : ℕ) (class : Info) (made : Make
   -- The program that it is run as is the one with its class, where that is accepted.
   viable_made : viable (files_of p) (look p) m ≡ with_accepted m.class (look ran)
   viable_made = ap (option_and_then (with_accepted m.class)) made.program ∙ ap (λ w. with_accepted m.class (look w)) (sym is)
-
-  fault_told : is_none (class_fault (look ran) (name_at ran id)) ≡ is_some (viable (files_of p) (look p) m)
-  fault_told =
-      ap (λ n. is_none (class_fault (look ran) n)) ready.named ∙ some_by (class_fault (look ran) m.class) (look ran)
-      ∙ ap (λ (o : Option Look). is_some o) (sym viable_made)
-
-  pub told_viable : (r : Result Bool Memory) → IfOk r (TellsAccepted ran id) → IfOk r (TellsViable p m)
-  told_viable r told = let P : Bool → Type 0 = λ x. IfOk r (λ b. b ≡ x) in subst P fault_told told
 
   module _ (told : TellsViable p m true) where
     faultless : class_fault (look ran) m.class ≡ None

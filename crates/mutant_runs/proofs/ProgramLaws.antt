@@ -10,27 +10,27 @@ use Rattle.class_writer.specs.Writing.{HasClassForm}
 use Rattle.program_rules.specs.Names.{Name, same}
 use Rattle.class_link.specs.declared.loaded.Loaded.{Loaded}
 use Rattle.class_link.specs.declared.loaded.ClassBody.TheVariants as body
-use Rattle.class_link.specs.Edits.{AddsAlone, class_edited}
+use Rattle.class_link.specs.Edits.{class_edited}
 use Rattle.class_link.specs.Info.{Info, own_name, body_name, link_body, class_of, file_in}
 use Rattle.class_link.specs.Linking.{link}
 use Rattle.class_table.specs.Table.{place_in, names, number_of, name_at, class_at, look, AreDistinct, IsAlike, CanSwap}
 use Rattle.class_table.proofs.Places.{name_at_place, name_of_class, number_named, names_kept}
 use Rattle.class_reader.specs.Spells.{IsClass, Spells, class_bytes}
 use Rattle.mutant_runs.specs.Codes.{IsSpelledBody, SpelledAreBounded}
-use Rattle.mutant_runs.specs.Put.{IsPut, EditsArePut}
+use Rattle.mutant_runs.specs.Put.{IsPut, IsEditOf, EditsArePut}
 use Rattle.mutant_apply.specs.Spelled.{EditsAreSpelled}
 use Rattle.mutant_apply.specs.BytesLaws.{PartsAreOfApplied}
 use Rattle.mutant_apply.specs.Edited.{applied}
 use Rattle.mutant_apply.specs.Fitting.{Fits}
 use Rattle.mutator_ops.specs.declared.mutant.Mutant.{Mutant}
-use Rattle.mutant_runs.specs.Edited.{EditsMake}
+use Rattle.mutant_runs.specs.Edited.{IsEditBy, EditsMake}
 use Rattle.mutant_runs.specs.Laws.{EntriesAddAlone}
 use Rattle.mutant_runs.specs.Programs.{files_of, with_class, edited, IsMutantOf, Makes}
 use Rattle.mutant_runs.proofs.EditLaws.{IsEdit, is_edit}
 
 -- ---- an item of a list, exchanged
 
-set_same : {A : Type 0} (xs : List A) (i : ℕ) (x y : A) → slice_get xs i ≡ Some x → slice_get (slice_set xs i y) i ≡ Some y
+pub set_same : {A : Type 0} (xs : List A) (i : ℕ) (x y : A) → slice_get xs i ≡ Some x → slice_get (slice_set xs i y) i ≡ Some y
 set_same [] i x y h = absurd cc
 set_same (z ∷ xs) zero x y h = refl
 set_same (z ∷ xs) (suc i) x y h = set_same xs i x y h
@@ -100,6 +100,23 @@ of_file p m c file h = let P : Option Class → Type 0 = λ o. IfSome o (λ c. H
 
 -- ---- the class that an edit makes
 
+-- Its class file is of an edit that adds entries alone.
+module _ (parts : PartsAreOfApplied) (alone : EntriesAddAlone) (p : List Info) (m : Mutant) (id : ℕ) (new : Info) (fit : IsMutantOf (files_of p) m) (by : IsEditBy p m id new) where
+  pub file_known : HasClassForm by.loaded.class × Fits by.loaded.class m.edit × IsClass by.loaded.class
+  file_known = of_file p m by.loaded.class (file_found p m.class id by.old by.loaded by.number by.there by.original) fit
+
+  pub edit_known : IsEdit by.loaded m.edit by.file
+  edit_known = is_edit parts by.loaded m.edit by.file by.made
+
+  pub edit_of : IsEditOf p id by.file by.old new
+  edit_of = record {
+    there = by.there;
+    file = by.original ∙ ap body.File (sym edit_known.original);
+    edited = by.edited;
+    alone = alone by.file (subst (λ (x : Loaded). HasClassForm x.class) (sym edit_known.original) file_known.0) (subst (λ (x : Loaded). IsClass x.class) (sym edit_known.original) file_known.2);
+    meant = by.meant;
+  }
+
 module _ (parts : PartsAreOfApplied) (alone : EntriesAddAlone) (put : EditsArePut) (spelled : EditsAreSpelled) (bounded : SpelledAreBounded) where
   pub made_by : EditsMake
   made_by p m id new ok fit by = record {
@@ -120,22 +137,13 @@ module _ (parts : PartsAreOfApplied) (alone : EntriesAddAlone) (put : EditsArePu
       file = file_found p m.class id by.old l by.number by.there by.original
 
       known : HasClassForm l.class × Fits l.class m.edit × IsClass l.class
-      known = of_file p m l.class file fit
+      known = file_known parts alone p m id new fit by
 
       edit : IsEdit l m.edit by.file
-      edit = is_edit parts l m.edit by.file by.made
-
-      is_alone : AddsAlone by.file
-      is_alone = alone by.file (subst (λ (x : Loaded). HasClassForm x.class) (sym edit.original) known.0) (subst (λ (x : Loaded). IsClass x.class) (sym edit.original) known.2)
+      edit = edit_known parts alone p m id new fit by
 
       is_put : IsPut p id by.old new
-      is_put = put p id by.file by.old new ok (record {
-        there = by.there;
-        file = by.original ∙ ap body.File (sym edit.original);
-        edited = by.edited;
-        alone = is_alone;
-        meant = by.meant;
-      })
+      is_put = put p id by.file by.old new ok (edit_of parts alone p m id new fit by)
 
       made_spelled : Spells by.file.bytes (class_edited by.file)
       made_spelled = spelled (class_bytes l.class) l.class m.edit made (record { form = known.2; text = refl }) known.1 edit.applied

@@ -12,17 +12,14 @@ use Rattle.class_table.specs.Table.{name_or_none, name_at, look}
 use Rattle.class_table.proofs.Places.{name_of_class, names_kept}
 use Rattle.type_laws.specs.Alike.{HeadsAlike, head_of}
 use Rattle.type_laws.specs.Bounds.{BoundedHaveRoom, HasBoundedCodes}
-use Rattle.type_laws.specs.Faults.{FirstAreFound}
 use Rattle.type_rules.specs.Rules.{ClassAccepted}
-use Rattle.type_verifier.specs.Programs.{IsRefused, place_of}
-use Rattle.type_verifier.specs.declared.end.VerifyFault.{VerifyFault}
 use Rattle.jvm_world.specs.Finding.{lacks}
 use Rattle.jvm_run.specs.Below.{HasRoomToLand}
 use Rattle.jvm_run.specs.Below.{looked_up}
 use Rattle.mutant_runs.specs.Codes.{IsBoundedBody, BoundedAreNumbered, PutStayNumbered, BoundedByName}
 use Rattle.mutant_runs.specs.Kept.{PutKeepKinds, PutKeepLibrary, PutStayAccepted}
 use Rattle.mutant_runs.specs.Put.{PutStayAlike}
-use Rattle.mutant_runs.specs.Edited.{EditedAreReady, ReadyMayRun, TellsAccepted}
+use Rattle.mutant_runs.specs.Edited.{EditedAreReady, ReadyMayRun}
 use Rattle.mutant_runs.specs.Ready.{IsReady}
 
 -- ---- what is looked up stays
@@ -78,11 +75,6 @@ ready_runs named room p ok ready = record {
   kinds = ready.kinds;
   room = λ class place code h. room_by room (look p) class (look p class) place code refl (ready.accepted class) (named p class ok.meant ready.bounded) h;
 }
-
--- ---- the edited class is accepted, or isn't
-
-pub told_refused : FirstAreFound → (p : List Info) (id : ℕ) (f : VerifyFault) → IsRefused p id f → TellsAccepted p id false
-told_refused first p id f refused = sym (ap (λ o. is_none o) (first (look p) (name_at p id) f.method (place_of f) refused.first))
 
 -- What is looked up is there.
 pub not_lacking : (p : List Info) → IsReady p → lacks (look p) looked_up ≡ true → ⊥

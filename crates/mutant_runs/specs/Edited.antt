@@ -1,10 +1,9 @@
 -- The class that a mutant's edit makes, and the program with it (this project's own).
-use Rattle.std.specs.Prelude.{◌≡◌, ◌<◌, ℕ, Bool, List, length, Option, Some, IfSome, is_none, slice_get, slice_set}
+use Rattle.std.specs.Prelude.{◌≡◌, ◌<◌, ℕ, List, length, Option, Some, IfSome, slice_get, slice_set}
 use Rattle.std.specs.Arc.{arc_value}
 use Rattle.std.specs.declared.sync.Arc.{Arc}
 use Rattle.class_model.specs.declared.class.ClassId.{ClassId}
 use Rattle.program_rules.specs.Names.{Name}
-use Rattle.type_rules.specs.Faults.{class_fault}
 use Rattle.type_rules.specs.Rules.{ClassAccepted}
 use Rattle.class_link.specs.declared.loaded.ClassBody.TheVariants as body
 use Rattle.class_link.specs.declared.loaded.EditedFile.{EditedFile}
@@ -57,10 +56,6 @@ abbrev pub EditedAreReady : Type 0
 EditedAreReady =
     (p : List Info) (m : Mutant) (id : ℕ) (class : Info) → IsProgram p → IsReady p →
     Makes p m id class → IsReadyBut (slice_set p id class) m.class id
-
--- Whether the class of this number has no fault.
-abbrev pub TellsAccepted : List Info → ℕ → Bool → Type 0
-TellsAccepted p id ok = ok ≡ is_none (class_fault (look p) (name_at p id))
 
 -- A ready program may be run.
 abbrev pub ReadyMayRun : Type 0

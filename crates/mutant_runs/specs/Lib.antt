@@ -5,6 +5,7 @@ pub mod Runs
 pub mod Verdicts
 pub mod Needed
 pub mod Edited
+pub mod Judged
 pub mod Promises
 pub mod Laws
 pub mod Put

@@ -1,5 +1,6 @@
 //! Laws of accepted programs, and of those with an edited class.
 
+ghost use Rattle.mutant_runs.specs.Judged.{EditsDifferInOne};
 ghost use Rattle.mutant_runs.specs.Put.{EditsArePut, PutStayAlike};
 ghost use Rattle.mutant_runs.specs.Kept.{KindsStayRight, PutKeepKinds, PutStayAccepted, PutKeepLibrary};
 ghost use Rattle.mutant_runs.specs.Codes.{SpelledAreBounded, BoundedAreNumbered, PutStayNumbered, AcceptedHaveRoom, BoundedByName, SeenHaveRoom};
@@ -8,6 +9,11 @@ ghost use Rattle.mutant_runs.specs.Codes.{SpelledAreBounded, BoundedAreNumbered,
 /// superclass and interfaces.
 pub fn edits_are_put()
     ensures { EditsArePut }
+{}
+
+/// Of the class that is edited it has all but the code of one method.
+pub fn edits_differ_in_one()
+    ensures { EditsDifferInOne }
 {}
 
 /// With such a class a program says the same of each class but its code, and the same of all

@@ -16,13 +16,11 @@ use mt_edge::MeterPart;
 use mutator_ops::{Mutant, Verdict};
 use std::alloc::Global;
 
-/// Whether each mutant is viable: its class has a layout and is accepted. The program is as before
-/// afterwards, also where memory runs out.
-pub fn viable(alloc: Global, program: &mut Program, mutants: &[Mutant]) -> Result<Seq<bool>, Memory>
-    requires ready { IsReady program.old }
-    requires fit { All (IsMutantOf (files_of program.old)) mutants.now }
-    ensures told { IfOk result (AreViable program.old mutants.now) }
-    ensures same { program.new ≡ program.old }
+/// Whether each mutant is viable: its class has a layout and is accepted.
+pub fn viable(alloc: Global, program: &Program, mutants: &[Mutant]) -> Result<Seq<bool>, Memory>
+    requires ready { IsReady program.now }
+    requires fit { All (IsMutantOf (files_of program.now)) mutants.now }
+    ensures { IfOk result (AreViable program.now mutants.now) }
 {
     let mut all = Seq::new(alloc);
     let mut kept = None;

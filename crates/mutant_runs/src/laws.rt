@@ -1,12 +1,14 @@
 //! Laws on the definitions.
 
 ghost use Rattle.mutant_runs.specs.Edited.{EditsMake, EditedAreReady, ReadyMayRun};
+ghost use Rattle.mutant_runs.specs.Judged.{EditsAreJudged};
 ghost use Rattle.mutant_runs.specs.Laws.{FilesAreFound, MutantsAreOf, EntriesAddAlone};
 
 use crate::{
-    accepted_classes_have_room, edited_programs_are_accepted, edits_are_put,
+    accepted_classes_have_room, edited_programs_are_accepted, edits_are_put, edits_differ_in_one,
     instructions_have_numbers, kinds_stay_right, put_classes_stay_alike,
 };
+use method_laws::{an_edit_is_judged_by_its_method, edited_methods_stay_first};
 use mutant_apply::{
     edits_are_spelled, mutants_fit, parts_are_of_applied, what_is_spelled_is_named,
 };
@@ -44,6 +46,20 @@ pub fn edits_make()
     edits_are_put();
     edits_are_spelled();
     instructions_have_numbers();
+}
+
+/// The class that is linked of a mutant's edit is accepted exactly where the edited method is,
+/// beside the classes of the program as they are.
+pub fn edits_are_judged_by_their_method()
+    ensures { EditsAreJudged }
+{
+    parts_are_of_applied();
+    entries_add_alone();
+    edits_are_put();
+    put_classes_stay_alike();
+    edits_differ_in_one();
+    an_edit_is_judged_by_its_method();
+    edited_methods_stay_first();
 }
 
 /// A program whose mutants may be run is such a one with an edited class, if that is accepted.

@@ -4,10 +4,9 @@ ghost use Rattle.std.specs.Prelude.{◌≡◌, ◌+◌, ◌≤◌, ◌<◌, ◌^
 ghost use Rattle.class_link.specs.Info.{IsInfo};
 ghost use Rattle.class_table.specs.Table.{look, IsProgram};
 ghost use Rattle.jvm_run.specs.Below.{AreNamedOf, AreTablesOf};
-ghost use Rattle.type_verifier.specs.Programs.{AreNumbered, IsLibraryAccepted};
-ghost use Rattle.mutant_runs.specs.Edited.{IsEditOfMutant, TellsAccepted};
+ghost use Rattle.mutant_runs.specs.Edited.{IsEditBy, IsEditOfMutant};
 ghost use Rattle.mutant_runs.specs.Files.{IsKept};
-ghost use Rattle.mutant_runs.specs.Programs.{files_of, IsMutantOf, ComesOf};
+ghost use Rattle.mutant_runs.specs.Programs.{files_of, IsMutantOf, ComesOf, Makes};
 ghost use Rattle.mutant_runs.specs.Promises.{TellsViable, IsByRuns, steps_run};
 ghost use Rattle.mutant_runs.specs.Promises.{IsVerdict, steps_for};
 ghost use Rattle.mutant_runs.specs.Ready.{IsReady};
@@ -15,7 +14,10 @@ ghost use Rattle.mutant_runs.specs.Runs.{most_steps};
 
 use crate::class_bytes::ClassBytes;
 use crate::edited_file::edited_file;
-use crate::laws::{edited_are_ready, edits_make, entries_add_alone, ready_may_run};
+use crate::laws::{
+    edited_are_ready, edits_are_judged_by_their_method, edits_make, entries_add_alone,
+    ready_may_run,
+};
 use crate::test_set::TestSet;
 use crate::tests_run::run_tests;
 use crate::verdict::verdict_by;
@@ -29,7 +31,7 @@ use mutator_ops::{Mutant, Verdict};
 use std::alloc::Global;
 use std::sync::Arc;
 use type_laws::first_faults_are_found;
-use type_verifier::{VerifyEnd, verify_class};
+use type_verifier::fault_of_method;
 
 // The form of a program is known. Only the prover reads this.
 fn is_program(program: &Program)
@@ -79,45 +81,45 @@ pub fn edited_class(
     Ok(Some((id, Arc::new(alloc, edited)?)))
 }
 
-// Whether the class of this number is accepted.
-fn is_accepted(alloc: Global, program: &Program, id: ClassId) -> Result<bool, Memory>
-    requires within { id.0 < length program.now }
-    requires numbered { AreNumbered program.now }
-    requires library { IsLibraryAccepted (look program.now) }
-    ensures { IfOk result (TellsAccepted program.now id.0) }
+// Whether a mutant is viable whose edit makes this class: the edited method is accepted.
+fn is_accepted(
+    alloc: Global,
+    program: &Program,
+    mutant: &Mutant,
+    id: ClassId,
+    edited: &ClassInfo,
+) -> Result<bool, Memory>
+    requires ready { IsReady program.now }
+    requires fit { IsMutantOf (files_of program.now) mutant.now }
+    requires made { Makes program.now mutant.now id.0 edited.now }
+    requires edit { IsEditBy program.now mutant.now id.0 edited.now }
+    ensures { IfOk result (TellsViable program.now mutant.now) }
 {
-    first_faults_are_found();
-    match verify_class(alloc, program, id) {
-        Ok(()) => Ok(true),
-        Err(VerifyEnd::Refused(_fault)) => Ok(false),
-        Err(VerifyEnd::Memory) => Err(Memory),
-    }
+    is_program(program);
+    edits_are_judged_by_their_method();
+    let place = mutant.edit.method as usize;
+    let fault = fault_of_method(alloc, program, id, edited, place)?;
+    Ok(fault.is_none())
 }
 
-/// Whether a mutant is viable: the class that its edit makes has a layout and is accepted. The
-/// program is as before afterwards.
+/// Whether a mutant is viable: the class that its edit makes has a layout and is accepted.
 pub fn is_viable(
     alloc: Global,
-    program: &mut Program,
+    program: &Program,
     mutant: &Mutant,
     kept: &mut Option<ClassBytes>,
 ) -> Result<bool, Memory>
-    requires ready { IsReady program.old }
-    requires fit { IsMutantOf (files_of program.old) mutant.now }
-    requires kept { IsKept program.old kept.old }
-    ensures told { IfOk result (TellsViable program.old mutant.now) }
-    ensures same { program.new ≡ program.old }
-    ensures kept { OnOk result (IsKept program.old kept.new) }
+    requires ready { IsReady program.now }
+    requires fit { IsMutantOf (files_of program.now) mutant.now }
+    requires kept { IsKept program.now kept.old }
+    ensures told { IfOk result (TellsViable program.now mutant.now) }
+    ensures kept { OnOk result (IsKept program.now kept.new) }
 {
-    is_program(program);
-    edited_are_ready();
     let Some((id, edited)) = edited_class(alloc, program, mutant, kept)? else {
         return Ok(false);
     };
-    let original = program.swap(id, edited);
-    let accepted = is_accepted(alloc, program, id);
-    let _edited = program.swap(id, original);
-    accepted
+    let viable = is_accepted(alloc, program, mutant, id, &edited)?;
+    Ok(viable)
 }
 
 // The verdict on a mutant by the tests of these numbers, which cover it, on this program, which it

@@ -14,7 +14,7 @@ use Rattle.mutest_words.specs.Words.{RunOptions, run_suite}
 use Rattle.record_rules.specs.declared.record.RunRecord.{RunRecord}
 use Rattle.reuse_laws.specs.Jobs.{AreTrue}
 use Rattle.suite_runs.specs.Below.{JobAnswer, job_answer, job_cost, job_reused}
-use Rattle.suite_runs.specs.Below.{AnswersAreFromScratch, TrueRecordsChangeNothing}
+use Rattle.suite_runs.specs.Below.{AnswersAreFromScratch}
 use Rattle.suite_runs.specs.Below.{JobRefusal}
 use Rattle.suite_runs.specs.Below.{records_in as records_among, OldRecords, Allowed, IsAccepted}
 use Rattle.suite_runs.specs.Ending.{IsSuiteOf, MayRunJob, allowed_in, suite_of}
@@ -191,15 +191,15 @@ counted_alike suite m n (Ok x) alike = ap (λ (k : ℕ). reported_with suite k (
 counted_alike suite m n (Err refusal) alike = refl
 
 -- With true old records it is what there is from scratch.
-every_is : AnswersAreFromScratch → TrueRecordsChangeNothing → (all : Bool) (a : Allowed) (s : LoadedSuite) (x : MadeSuite) (old : List RunRecord) → IsMade s x → AreTrue profile old → known_reported all a (named (suite_in s x)) old ≡ every_reported all a (named (suite_in s x)) old
-every_is law same all a s x old made true_ones =
+every_is : AnswersAreFromScratch → (all : Bool) (a : Allowed) (s : LoadedSuite) (x : MadeSuite) (old : List RunRecord) → IsMade s x → AreTrue profile old → known_reported all a (named (suite_in s x)) old ≡ every_reported all a (named (suite_in s x)) old
+every_is law all a s x old made true_ones =
     let suite = named (suite_in s x) in
     counted_alike suite (named_reused all a suite old) (scratch_reused all a suite old) (named_answer all a suite old) (counted_is law all a (suite_in s x) old made.accepted true_ones)
-    ∙ ap (reported_with suite (scratch_reused all a suite old)) (scratch_is law same all a (suite_in s x) old made.accepted true_ones)
+    ∙ ap (reported_with suite (scratch_reused all a suite old)) (scratch_is law all a (suite_in s x) old made.accepted true_ones)
 
-pub gives_every : AnswersAreFromScratch → TrueRecordsChangeNothing → (all : Bool) (a : Allowed) (s : LoadedSuite) (x : MadeSuite) (old : List RunRecord) (result : Result Reported Stop) → IsMade s x → AreTrue profile old
+pub gives_every : AnswersAreFromScratch → (all : Bool) (a : Allowed) (s : LoadedSuite) (x : MadeSuite) (old : List RunRecord) (result : Result Reported Stop) → IsMade s x → AreTrue profile old
     → Gives (known_reported all a (named (suite_in s x)) old) result → Gives (every_reported all a (named (suite_in s x)) old) result
-gives_every law same all a s x old result made true_ones gives = subst (λ (stated : Result Reported Refusal). Gives stated result) (every_is law same all a s x old made true_ones) gives
+gives_every law all a s x old result made true_ones gives = subst (λ (stated : Result Reported Refusal). Gives stated result) (every_is law all a s x old made true_ones) gives
 
 -- ---- behind the history's bytes
 

@@ -18,4 +18,5 @@ pub mod Reported
 pub mod Decided
 pub mod Known
 pub mod Ends
+pub mod Seen
 pub mod Promises

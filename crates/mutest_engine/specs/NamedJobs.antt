@@ -8,7 +8,7 @@ use Rattle.std.specs.List.{enumerate_from, flat_map}
 use Rattle.std.specs.Option.{option_map_or}
 use Rattle.class_model.specs.declared.class.Class.{Class}
 use Rattle.program_rules.specs.Programs.{Look}
-use Rattle.machine_rules.specs.Runs.{limit_of, run_of}
+use Rattle.machine_rules.specs.Runs.{Ran, limit_of, run_of}
 use Rattle.class_table.specs.Table.{look}
 use Rattle.class_table.specs.declared.scripted.Test.{Test}
 use Rattle.jvm_world.specs.View.{test_of}
@@ -20,11 +20,12 @@ use Rattle.suite_runs.specs.Below.{Allowed, Suite, tried_on, says, has_reached, 
 use Rattle.record_rules.specs.Profiles.{Held}
 use Rattle.record_rules.specs.declared.record.RunRecord.{RunRecord}
 use Rattle.record_rules.specs.Histories.{same_record, new_records, reused}
-use Rattle.record_rules.specs.Jobs.{Job, Trial, need as asked_need}
-use Rattle.record_rules.specs.Records.{Asked}
+use Rattle.record_rules.specs.Jobs.{Job, Trial}
+use Rattle.record_rules.specs.Records.{Asked, run}
 use Rattle.job_rules.specs.Tried.{Tried, JobRuns, known, need, records_once, reused_among}
 use Rattle.suite_runs.specs.Below.{JobAnswer, JobCost, verdict_of_runs, failed_tests, cell_total}
 use Rattle.suite_runs.specs.Below.{unless_failed, unless_many, cost_by, asked_cells, asked_cost}
+use Rattle.suite_runs.specs.Below.{need_of, verdict_by_every}
 use Rattle.suite_runs.specs.Below.{JobRefusal}
 
 -- ---- a suite
@@ -151,38 +152,42 @@ module _ (a : Allowed) (s : NamedSuite) where
 
 -- ---- from scratch
 
--- The verdict on each mutant by a run of every test on it.
-abbrev pub every_verdict : Allowed → NamedSuite → List Verdict
-every_verdict a s =
+-- The runs of every test on a mutant, by the tests' numbers.
+abbrev pub every_run : Allowed → NamedSuite → Class × List ℕ → List (ℕ × Ran)
+every_run a s made =
+    map (λ t. (t.0, run (mutant_asked a s made t.1))) (enumerate_from 0 s.tests)
+
+abbrev pub verdict_of_every : Allowed → NamedSuite → Mutant → Verdict
+verdict_of_every a s m =
+    option_map_or (λ made. verdict_by_every m (every_run a s made)) (viable_file s m) not_viable
+
+-- The verdict on each mutant by a run of every test on it, where all that detect it are asked for,
+-- or the first.
+abbrev pub every_verdict : Bool → Allowed → NamedSuite → List Verdict
+every_verdict false a s =
     map (verdict_of a.limits s.files s.look (timed s.tests (map (original_steps a s) s.tests)))
     s.mutants
+every_verdict true a s = map (verdict_of_every a s) s.mutants
 
 -- Those, and the records of the runs that are needed: of all tests on the program, and then for
--- each viable mutant of those whose runs on it reach its line, up to the first that detects it.
-abbrev pub every_answer : Allowed → NamedSuite → JobAnswer
-every_answer a s = record {
-  verdicts = every_verdict a s;
-  records = new_records (asked_need (named_asked a s));
+-- each viable mutant of those whose runs on it reach its line, all or up to the first that detects
+-- it.
+abbrev pub every_answer : Bool → Allowed → NamedSuite → JobAnswer
+every_answer all a s = record {
+  verdicts = every_verdict all a s;
+  records = new_records (need_of all (named_asked a s));
 }
 
-abbrev pub first_answer : Allowed → NamedSuite → Result JobAnswer JobRefusal
-first_answer a s =
-    unless_failed (failed_tests (named_runs a s []))
-    (unless_many (asked_cells (named_asked a s)) (Ok (every_answer a s)))
-
--- Where all tests that detect a mutant are asked for, each run of a test that covers it is made
--- anew.
 abbrev pub scratch_answer : Bool → Allowed → NamedSuite → Result JobAnswer JobRefusal
-scratch_answer false a s = first_answer a s
-scratch_answer true a s = named_answer true a s []
+scratch_answer all a s =
+    unless_failed (failed_tests (named_runs a s []))
+    (unless_many (asked_cells (named_asked a s)) (Ok (every_answer all a s)))
 
 -- How many of these records old ones stand for.
 abbrev pub scratch_reused : Bool → Allowed → NamedSuite → List RunRecord → ℕ
-scratch_reused false a s old = reused old (asked_need (named_asked a s))
-scratch_reused true a s old = named_reused true a s old
+scratch_reused all a s old = reused old (need_of all (named_asked a s))
 
 -- The steps of the runs that old records lack; where the job is refused, of those on the program
 -- as it is.
 abbrev pub scratch_cost : Bool → Allowed → NamedSuite → List RunRecord → JobCost
-scratch_cost false a s old = asked_cost old (named_asked a s) (first_answer a s)
-scratch_cost true a s old = named_cost true a s old
+scratch_cost all a s old = asked_cost all old (named_asked a s) (scratch_answer all a s)

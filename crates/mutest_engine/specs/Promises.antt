@@ -6,12 +6,15 @@ use Rattle.std.specs.declared.string.String.{String}
 use Rattle.mt_edge.specs.Files.{Files}
 use Rattle.mt_edge.specs.Pieces.{GrowsBy}
 use Rattle.mutest_engine.specs.Answers.{Answered, answered}
-use Rattle.mutest_words.specs.Words.{RunOptions}
+use Rattle.class_records.specs.Profile.{profile}
+use Rattle.reuse_laws.specs.Jobs.{AreTrue}
+use Rattle.mutest_words.specs.Words.{Command, RunOptions}
 use Rattle.mutest_engine.specs.Decided.{AreTrueIn, CanState, HasTrueRecords, answer_of, bounds_of}
 use Rattle.mutest_engine.specs.Decided.{scratch_bounds, scratch_of, scratch_run_bounds}
 use Rattle.mutest_engine.specs.Jobs.{Bounds}
 use Rattle.mutest_engine.specs.Old.{old_records}
 use Rattle.mutest_engine.specs.Ends.{Agrees, AnswerMeters, MeterRose, Got, Prints, Allows, FilesAfter, writes_in}
+use Rattle.mutest_engine.specs.Seen.{AnswersStated, MayBeStated, MaySee, Seen, Stated, stated_seen}
 use Rattle.mutest_engine.specs.Steps.{ReadsBy}
 use Rattle.mutest_engine.specs.SuiteFiles.{texts}
 use Rattle.mutest_engine.specs.Words.{words_of}
@@ -127,3 +130,31 @@ module _ {O : Type 0} (faults : O → ℕ) (written : O → Option (List ℕ)) w
       IfSome before (λ files. HasTrueRecords (words_of (texts words)) files →
       Leaves faults written (scratch_of (texts words) files) (scratch_bounds (texts words) files)
       old new (Some files) after meter0 meter1 end)
+
+-- ---- whatever a tree tells
+
+-- A step of a run answers and counts by one suite, one history and one folder of sources,
+abbrev pub GoesByRun : RunOptions → ℕ → ℕ → Result Answer Halt → Type 0
+GoesByRun o before after result =
+    (seen : Seen) × MaySee o seen × AnswersStated (stated_seen o seen) before after result
+
+-- a step of any words by what their command may state,
+abbrev pub GoesByWords : Result Command Refusal → ℕ → ℕ → Result Answer Halt → Type 0
+GoesByWords words before after result =
+    (stated : Stated) × MayBeStated words stated × AnswersStated stated before after result
+
+-- and so does a call, in all that it leaves.
+module _ {O : Type 0} (faults : O → ℕ) (written : O → Option (List ℕ)) where
+  abbrev pub LeavesStated :
+      O → O → Option Files → Option Files → Stated → ℕ → ℕ → Status → Type 0
+  LeavesStated old new before after stated meter0 meter1 end =
+      Leaves faults written stated.answer stated.bounds old new before after meter0 meter1 end
+      × (AreTrue profile stated.old →
+      Leaves faults written stated.scratch stated.scratch_bounds old new before after meter0 meter1
+      end)
+
+  abbrev pub LeavesSeen :
+      O → O → Option Files → Option Files → WordList → ℕ → ℕ → Status → Type 0
+  LeavesSeen old new before after words meter0 meter1 end =
+      (stated : Stated) × MayBeStated (words_of (texts words)) stated
+      × LeavesStated old new before after stated meter0 meter1 end

@@ -130,6 +130,16 @@ IsOfText path (AsmRefused line) = (text : List ℕ) × (AssembledClass text ≡ 
 IsOfText path (BadClass p fault) = ⊥
 IsOfText path r = IsOfFile path r
 
+-- by what two folders hold of class files: a path that isn't there, one that spells no class, or too
+-- much
+abbrev pub IsLoading : Refusal → Type 0
+IsLoading (NotFound path) = Unit {0}
+IsLoading (BadClass path fault) = IsClassFault fault
+IsLoading (TooMany limit.Classes number) = number ≡ 20001
+IsLoading (TooMany limit.Class number) = 4194304 < number
+IsLoading (TooMany limit.Bytes number) = 67108864 < number
+IsLoading r = ⊥
+
 -- by the files of a suite, and by their runs
 abbrev pub IsOfSuite : Refusal → Type 0
 IsOfSuite Usage = ⊥

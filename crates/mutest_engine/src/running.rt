@@ -34,7 +34,7 @@ use report_schema::summary_text;
 use std::alloc::Global;
 use std::sync::Wait;
 use std::thread::Threads;
-use suite_runs::{OldRecords, SuiteJob, answers_are_from_scratch, true_records_change_nothing};
+use suite_runs::{OldRecords, SuiteJob, answers_are_from_scratch};
 
 // ---- before the first run
 
@@ -107,7 +107,6 @@ pub fn known_reported<W: Threads + Wait + Sync, G: Gate + Sync>(
     ensures refusal { IfErr result (Refuses (RefusesKnown known meter.old meter.new)) }
 {
     answers_are_from_scratch();
-    true_records_change_nothing();
     let KnownJob { suite, history } = known;
     let MadeSuite {
         program,

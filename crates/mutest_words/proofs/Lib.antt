@@ -2,3 +2,4 @@ mod Parsed
 mod Apps
 mod WordLaws
 mod Limits
+mod Read

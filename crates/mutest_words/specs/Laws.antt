@@ -1,5 +1,5 @@
 -- What is said of the options of a command.
-use Rattle.std.specs.Prelude.{◌≡◌, ◌≤◌, ℕ, List, Some}
+use Rattle.std.specs.Prelude.{◌≡◌, ◌≤◌, ℕ, false, List, [], ◌∷◌, codes, Some, None}
 use Rattle.clap.specs.Words.{Text}
 use Rattle.mutest_words.specs.Words.{GenerateOptions, RunOptions, generate_suite, run_suite, command_of}
 
@@ -27,3 +27,37 @@ OptionsAreLimited =
 abbrev pub SuitesAreSmall : Type 0
 SuitesAreSmall =
     (words : List Text) (o : GenerateOptions) → command_of words ≡ Some (generate_suite o) → IsSmall o
+
+-- ---- commands of which this is said
+
+abbrev pub run_words : List Text
+run_words =
+    codes "run" ∷ codes "--tests=t/" ∷ codes "--classes" ∷ codes "c" ∷ codes "--new-history" ∷
+    codes "h" ∷ codes "--report" ∷ codes "r" ∷ codes "--workers=8" ∷ []
+
+abbrev pub run_read : RunOptions
+run_read = record {
+  classes = codes "c";
+  tests = codes "t";
+  report = codes "r";
+  new_history = Some (codes "h");
+  sources = None;
+  history = None;
+  journal = None;
+  workers = 8;
+  steps = 10_000_000;
+  heap = 4_194_304;
+  depth = 1_024;
+  matrix = false;
+}
+
+abbrev pub generate_words : List Text
+generate_words = codes "generate" ∷ codes "50" ∷ []
+
+abbrev pub generate_read : GenerateOptions
+generate_read = record { classes = 50; workers = 1; matrix = false }
+
+-- There are words of both commands.
+pub record AreRead : Type 0 where
+  pub run : command_of run_words ≡ Some (run_suite run_read)
+  pub generate : command_of generate_words ≡ Some (generate_suite generate_read)

@@ -11,4 +11,4 @@ pub use command::{
     AsmOptions, Command, GenerateOptions, RunOptions, command_by, command_of, is_archive,
     paths_differ,
 };
-pub use laws::options_are_limited;
+pub use laws::{commands_are_read, options_are_limited};

@@ -1,15 +1,19 @@
 //! Calls of `type_verifier` for programs, over which wrong bodies are tried, with their contracts.
 
-ghost use Rattle.std.specs.Prelude.{◌≡◌, true, Err, IfOk, OnOk};
+ghost use Rattle.std.specs.Prelude.{◌≡◌, true, All, Err, Some, IfOk, OnOk};
 ghost use Rattle.type_rules.specs.Rules.{Accepted};
-ghost use Rattle.class_table.specs.Table.{look};
+ghost use Rattle.class_table.specs.Table.{look, number_of};
+ghost use Rattle.type_verifier.specs.OneMethod.{MethodFaultIs};
+ghost use Rattle.type_verifier.specs.ProgramTables.{HasShortCode};
 ghost use Rattle.type_verifier.specs.Programs.{AreNumbered, IsFirstRefused, IsLibraryAccepted};
 ghost use Rattle.type_verifier.specs.declared.end.VerifyFault.{VerifyFault};
 ghost use Rattle.type_verifier.specs.declared.end.VerifyEnd.TheVariants.{Refused};
 
+use class_link::ClassInfo;
+use class_model::{ClassId, Memory};
 use class_table::Program;
 use std::alloc::Global;
-use type_verifier::VerifyEnd;
+use type_verifier::{Fault, VerifyEnd};
 
 /// `type_verifier::verify`
 pub fn verify(alloc: Global, program: &Program) -> Result<(), VerifyEnd>
@@ -20,6 +24,22 @@ pub fn verify(alloc: Global, program: &Program) -> Result<(), VerifyEnd>
 {
     let end = type_verifier::verify(alloc, program);
     end
+}
+
+/// `type_verifier::fault_of_method`
+pub fn fault_of_method(
+    alloc: Global,
+    program: &Program,
+    id: ClassId,
+    class: &ClassInfo,
+    place: usize,
+) -> Result<Option<Fault>, Memory>
+    requires number { number_of program.now class.now.name ≡ Some id.0 }
+    requires short { All HasShortCode class.now.linked.methods }
+    ensures { IfOk result (MethodFaultIs program.now class.now place) }
+{
+    let fault = type_verifier::fault_of_method(alloc, program, id, class, place)?;
+    Ok(fault)
 }
 
 /// Whether all code of a program is accepted, of which nothing is known: what `is_numbered` and

@@ -17,23 +17,23 @@ use Rattle.record_tries.specs.Tries.{profile, neg_on, original, further, passed,
 
 -- ---- what the runs give
 
-passed_run : record_of (own_run profile passed (plain_test (codes "T") (codes "neg"))) ≡ Some passed
+pub passed_run : record_of (own_run profile passed (plain_test (codes "T") (codes "neg"))) ≡ Some passed
 unfolding record_of supers nodes act step_of family resolve_field resolve_method select_virtual select_named need_of is_instance
 passed_run = refl
 
-failed_run : record_of (own_run profile failed (plain_test (codes "T") (codes "neg"))) ≡ Some failed
+pub failed_run : record_of (own_run profile failed (plain_test (codes "T") (codes "neg"))) ≡ Some failed
 unfolding record_of supers nodes act step_of family resolve_field resolve_method select_virtual select_named need_of is_instance
 failed_run = refl
 
-timed_out_run : record_of (own_run profile timed_out (plain_test (codes "T") (codes "neg"))) ≡ Some timed_out
+pub timed_out_run : record_of (own_run profile timed_out (plain_test (codes "T") (codes "neg"))) ≡ Some timed_out
 unfolding record_of supers nodes act step_of family resolve_field resolve_method select_virtual select_named need_of is_instance
 timed_out_run = refl
 
-absent_run : record_of (own_run profile absent (plain_test (codes "T") (codes "t"))) ≡ Some absent
+pub absent_run : record_of (own_run profile absent (plain_test (codes "T") (codes "t"))) ≡ Some absent
 unfolding record_of supers nodes act step_of family resolve_field resolve_method select_virtual select_named need_of is_instance
 absent_run = refl
 
-full_run : record_of (own_run profile full (plain_test (codes "T") (codes "t"))) ≡ Some full
+pub full_run : record_of (own_run profile full (plain_test (codes "T") (codes "t"))) ≡ Some full
 unfolding record_of supers nodes act step_of family resolve_field resolve_method select_virtual select_named need_of is_instance
 full_run = refl
 

@@ -1,7 +1,7 @@
 -- A profile of a few class files of one byte each, and records of their tests.
-use Rattle.std.specs.Prelude.{ℕ, pos, Bool, ◌&&◌, if◌then◌else◌, List, [], ◌∷◌, Option, Some, None}
-use Rattle.std.specs.Prelude.{codes, is_none}
-use Rattle.std.specs.List.{list_all}
+use Rattle.std.specs.Prelude.{ℕ, pos, Bool, true, false, ◌&&◌, if◌then◌else◌, nat_eq, List, [], ◌∷◌}
+use Rattle.std.specs.Prelude.{Option, Some, None, codes, is_none}
+use Rattle.std.specs.List.{list_all, list_any}
 use Rattle.std.specs.Option.{option_map}
 use Rattle.class_model.specs.declared.outcome.Cause.TheVariants.{Thrown}
 use Rattle.class_model.specs.declared.outcome.Outcome.TheVariants as outcome
@@ -14,12 +14,15 @@ use Rattle.program_rules.specs.Tests.{Test, plain_test}
 use Rattle.program_rules.specs.Library.{library_classes, class_among}
 use Rattle.program_rules.specs.Samples.{class_a, class_t, class_d, f_code, f_jumping}
 use Rattle.machine_rules.specs.declared.machine.Limits.{Limits}
+use Rattle.machine_rules.specs.Outcomes as machine
+use Rattle.machine_rules.specs.Runs.{Ending, With, Ran}
 use Rattle.machine_rules.specs.Worked.{roomy}
-use Rattle.machine_rules.specs.WorkedRows.{test_class, class_k, class_m, m_test}
+use Rattle.machine_rules.specs.WorkedRows.{tight, test_class, class_k, class_m, m_test}
 use Rattle.record_rules.specs.declared.record.RunRecord.{RunRecord}
 use Rattle.record_rules.specs.Profiles.{Held, Profile, class_by}
 use Rattle.record_rules.specs.Records.{Asked}
 use Rattle.record_rules.specs.Truth.{held_in}
+use Rattle.record_rules.specs.Jobs.{Job}
 
 -- ---- class files
 
@@ -126,6 +129,14 @@ neg_under q = asked original (codes "neg") q 15
 abbrev pub t_on : List (Name × Option (List ℕ)) → Asked
 t_on cs = asked cs (codes "t") roomy 1000000000
 
+-- The test at 0 on class files.
+abbrev pub zero_on : List (Name × Option (List ℕ)) → Asked
+zero_on cs = asked cs (codes "zero") roomy 1000000000
+
+-- The test that makes a long array, with a small heap, within so many steps.
+abbrev pub full_within : ℕ → Asked
+full_within limit = asked filling (codes "t") tight limit
+
 -- ---- records
 
 -- The test at -1 passes in 15 steps.
@@ -187,3 +198,28 @@ several = failed ∷ shorter ∷ passed ∷ []
 -- Two true ones.
 abbrev pub both : List RunRecord
 both = failed ∷ passed ∷ []
+
+-- ---- a job
+
+-- A run reaches line 3 of A, where the edit is.
+abbrev pub reaches_edit : Ran → Bool
+reaches_edit ran = list_any (λ x. same x.0 (codes "A") && nat_eq x.1 3) ran.reached
+
+abbrev pub is_no_pass : Ending → Bool
+is_no_pass (With machine.Passed) = false
+is_no_pass other = true
+
+-- Both tests on the original and on a mutant, which both detect.
+abbrev pub job : Job
+job = record {
+  originals = neg_on original 1000000000 ∷ zero_on original ∷ [];
+  trials = record {
+    runs = neg_on edited 1000000000 ∷ zero_on edited ∷ [];
+    reaches = reaches_edit;
+    detects = λ ran. is_no_pass ran.ending;
+  } ∷ [];
+}
+
+-- Three runs, of which two have one record.
+abbrev pub needed : List Asked
+needed = neg_on original 15 ∷ neg_on further 15 ∷ neg_on edited 15 ∷ []

@@ -5,13 +5,14 @@
 //! are worked examples of the machine.
 #![tactic(auto)]
 
-ghost use Rattle.std.specs.Prelude.{◌≡◌, true, false, Some, codes};
+ghost use Rattle.std.specs.Prelude.{◌≡◌, true, false, [], ◌∷◌, Some, codes};
 ghost use Rattle.machine_rules.specs.Worked.{roomy};
 ghost use Rattle.machine_rules.specs.WorkedRows.{tight};
 ghost use Rattle.record_rules.specs.Records.{record_of};
 ghost use Rattle.record_rules.specs.Matching.{matches, first_match};
 ghost use Rattle.record_rules.specs.Truth.{held_in, IsTrueRecord};
-ghost use Rattle.record_rules.specs.Jobs.{with_limit, end_of};
+ghost use Rattle.record_rules.specs.Histories.{known, new_records, reused};
+ghost use Rattle.record_rules.specs.Jobs.{with_limit, end_of, NeedCost, Cost};
 ghost use Rattle.reuse_laws.specs.Asking.{IsProfile, IsAsked, AreSpelled};
 ghost use Rattle.record_tries.specs.Tries as tries;
 ghost use Rattle.record_tries.specs.Tries.{profile, neg_on, t_on, passed, failed, timed_out};
@@ -34,12 +35,23 @@ pub fn records_are_true()
     ensures absent { IsTrueRecord profile tries.absent }
 {}
 
+/// They are the records of runs, each of its own program.
+pub fn records_are_of_runs()
+    ensures passed { record_of (neg_on tries.original 1000000000) ≡ Some passed }
+    ensures failed { record_of (neg_on tries.edited 1000000000) ≡ Some failed }
+    ensures timed_out { record_of (neg_on tries.original 14) ≡ Some timed_out }
+    ensures full { record_of (tries.full_within 1000000000) ≡ Some tries.full }
+    ensures absent { record_of (t_on tries.catching) ≡ Some tries.absent }
+{}
+
 /// A record matches where a further class is there, and not where bytes are others, though they
 /// spell the same class; nor where a class is there that was absent.
 pub fn bytes_decide()
     ensures further { matches passed (neg_on tries.further 1000000000) ≡ true }
     ensures rewritten { matches passed (neg_on tries.rewritten 1000000000) ≡ false }
     ensures edited { matches passed (neg_on tries.edited 1000000000) ≡ false }
+    ensures failed { matches failed (neg_on tries.edited 1000000000) ≡ true }
+    ensures original { matches failed (neg_on tries.original 1000000000) ≡ false }
     ensures absent { matches tries.absent (t_on tries.catching) ≡ true }
     ensures there { matches tries.absent (t_on tries.completed) ≡ false }
 {}
@@ -51,6 +63,8 @@ pub fn limits_decide()
     ensures short { matches passed (neg_on tries.original 14) ≡ false }
     ensures own { matches timed_out (neg_on tries.original 14) ≡ true }
     ensures longer { matches timed_out (neg_on tries.original 15) ≡ false }
+    ensures full { matches tries.full (tries.full_within 8) ≡ true }
+    ensures fewer { matches tries.full (tries.full_within 7) ≡ false }
     ensures test { matches passed (tries.asked tries.original (codes "zero") roomy 15) ≡ false }
     ensures heap { matches passed (tries.neg_under tight) ≡ false }
     ensures depth { matches passed (tries.neg_under tries.deep) ≡ false }
@@ -64,4 +78,17 @@ pub fn reuse_laws_are_of_use()
     ensures written { IsTrueRecord profile (with_limit 15 passed) }
     ensures same { end_of tries.both (neg_on tries.further 15)
         ≡ record_of (neg_on tries.further 15) }
+{}
+
+/// Of a run the first record that matches is known. Two runs with one record make one new record,
+/// which is reused where an old one matches them. A mutant that two tests detect needs the run of
+/// the first alone.
+pub fn job_laws_are_of_use()
+    ensures known { known tries.both (neg_on tries.further 15) ≡ Some passed }
+    ensures records { new_records tries.needed
+        ≡ with_limit 15 passed ∷ with_limit 15 failed ∷ [] }
+    ensures reused { reused (passed ∷ []) tries.needed ≡ 1 }
+    ensures anew { NeedCost [] tries.job ≡ 45 }
+    ensures needed { NeedCost (passed ∷ []) tries.job ≡ 30 }
+    ensures whole { Cost (passed ∷ []) tries.job ≡ 45 }
 {}

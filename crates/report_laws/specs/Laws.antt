@@ -84,24 +84,6 @@ TestsStandOnce =
     ListsOnce (codes "tests") keys (map test_entry input.tests)
     (object_at (codes "testFiles") (report input))
 
--- Three mutants in two files, and a test in a third, are so.
-abbrev pub TwoFilesAreMet : Type 0
-TwoFilesAreMet =
-    (input : ReportInput) × (keys : List Key) × (test_keys : List Key)
-    × AreTexts keys × AreTexts test_keys
-    × (input.files ≡ groups_of keys) × (input.test_files ≡ groups_of test_keys)
-    × (length input.files ≡ 2) × (length (mutant_entries input) ≡ 3) × (length input.tests ≡ 1)
-
--- ---- the summary
-
--- Each mutant is counted under exactly one word.
-abbrev pub StatesAddUp : Type 0
-StatesAddUp =
-    (verdicts : List Verdict) →
-    counted is_killed verdicts + counted is_survived verdicts + counted is_not_covered verdicts
-    + counted is_timed_out verdicts + counted is_not_viable verdicts + counted is_error verdicts
-    ≡ length verdicts
-
 -- ---- the identifiers of tests
 
 -- The names of a test have UTF-8, and that of its method has no `.`, as a class file declares them.
@@ -117,3 +99,24 @@ abbrev pub IdsDiffer : Type 0
 IdsDiffer =
     (t u : Test) → HasPlainNames t → HasPlainNames u → test_id t ≡ test_id u →
     (t.class ≡ u.class) × (t.method ≡ u.method)
+
+-- ---- a report of which all this is said
+
+-- Three mutants in two files, and a test in a third, are so.
+abbrev pub TwoFilesAreMet : Type 0
+TwoFilesAreMet =
+    (input : ReportInput) × (keys : List Key) × (test_keys : List Key)
+    × AreTexts keys × AreTexts test_keys
+    × (input.files ≡ groups_of keys) × (input.test_files ≡ groups_of test_keys)
+    × (length input.files ≡ 2) × (length (mutant_entries input) ≡ 3) × (length input.tests ≡ 1)
+    × AllByRecursion HasPlainNames input.tests
+
+-- ---- the summary
+
+-- Each mutant is counted under exactly one word.
+abbrev pub StatesAddUp : Type 0
+StatesAddUp =
+    (verdicts : List Verdict) →
+    counted is_killed verdicts + counted is_survived verdicts + counted is_not_covered verdicts
+    + counted is_timed_out verdicts + counted is_not_viable verdicts + counted is_error verdicts
+    ≡ length verdicts

@@ -6,4 +6,5 @@ mod Costs
 mod Saying
 mod Verdicts
 mod Spent
+mod Detected
 pub mod Below

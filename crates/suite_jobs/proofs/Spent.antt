@@ -104,16 +104,16 @@ all_are old asked tried n (t ∷ ts) q = (q.0, all_are old asked tried (n + 1) t
 -- ---- the runs of a job
 
 module _ (g : Given) (say : RecordsSayRuns) (suffice : SelectedAlwaysSuffice) (alike : ReachingIsAlike) (a : Allowed) (s : Suite) (old : List RunRecord) (h : IsAccepted s) (true_old : AreTrue profile old) (pass : AllPass s.program a.limits a.steps s.tests) where
-  abbrev Good : ℕ × Test → Type 0
+  abbrev pub Good : ℕ × Test → Type 0
   Good t = IsGoodOne g a s old h true_old t
 
-  abbrev Passes : ℕ × Test → Type 0
+  abbrev pub Passes : ℕ × Test → Type 0
   Passes t = (original_run s.program t.1 a.limits a.steps).ending ≡ With Passed
 
-  abbrev Both : ℕ × Test → Type 0
+  abbrev pub Both : ℕ × Test → Type 0
   Both t = Good t × Passes t
 
-  both : AllByRecursion Both (numbered s)
+  pub both : AllByRecursion Both (numbered s)
   both =
       all_zipped Good Passes Both (λ t p q. (p, q)) (numbered s) (good_ones g a s old h true_old)
       (all_numbered (λ t. (original_run s.program t a.limits a.steps).ending ≡ With Passed) 0 s.tests
@@ -149,7 +149,7 @@ module _ (g : Given) (say : RecordsSayRuns) (suffice : SelectedAlwaysSuffice) (a
         g.viable s.program m Looked t.1 a.limits (limit_of (original_run s.program t.1 a.limits a.steps).steps)
         (is_safe_mutant g a s old h true_old m of made at) q.1 (subst IsStuck (sym stuck) tt)
 
-    reached_alike : (t : ℕ × Test) → Both t → reaches m (run (mutant_at t.1)) ≡ has_reached m (known (original_tried a s old t))
+    pub reached_alike : (t : ℕ × Test) → Both t → reaches m (run (mutant_at t.1)) ≡ has_reached m (known (original_tried a s old t))
     unfolding mutant_run
     reached_alike t q =
         let safe = is_safe_mutant g a s old h true_old m of made at in

@@ -10,7 +10,7 @@ use Rattle.class_model.specs.declared.outcome.Outcome.TheVariants.{MemoryOut}
 use Rattle.program_rules.specs.Names.{Name}
 use Rattle.type_rules.specs.Faults.{class_fault}
 use Rattle.machine_rules.specs.declared.machine.Limits.{Limits}
-use Rattle.machine_rules.specs.Runs.{limit_of}
+use Rattle.machine_rules.specs.Runs.{Ran, limit_of}
 use Rattle.class_link.specs.declared.loaded.Loaded.{Loaded}
 use Rattle.class_link.specs.Info.{Info}
 use Rattle.class_table.specs.declared.scripted.Test.{Test}
@@ -173,6 +173,26 @@ trial_of a s m made = record {
 abbrev pub trials_of : Allowed → Suite → Mutant → List Trial
 trials_of a s m =
     option_map_or (λ made. trial_of a s m made ∷ []) (viable_file s.program m) []
+
+-- The runs of every test on such a mutant, by the tests' numbers.
+abbrev pub every_run : Allowed → Suite → Class × List ℕ → List (ℕ × Ran)
+every_run a s made =
+    map
+    (λ t. (t.0,
+    run
+    (mutant_asked s.files s.program made t.1 a.limits
+    (limit_of (original_run s.program t.1 a.limits a.steps).steps))))
+    (numbered s)
+
+-- The tests whose runs reach a mutant's line,
+abbrev pub reaching : Mutant → List (ℕ × Ran) → List ℕ
+reaching m runs = map (λ r. r.0) (filter (λ r. reaches m r.1) runs)
+
+-- and those whose runs detect it, each with the state that its run gives.
+abbrev pub detecting : List (ℕ × Ran) → List (ℕ × State)
+detecting [] = []
+detecting (r ∷ runs) =
+    option_map_or (λ state. (r.0, state) ∷ detecting runs) (detected r.1.ending) (detecting runs)
 
 unfoldable pub asked_job : Allowed → Suite → Job
 asked_job a s = record {

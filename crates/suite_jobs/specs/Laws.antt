@@ -1,5 +1,6 @@
 -- What old records change of a job, where all are true: nothing but what it costs.
-use Rattle.std.specs.Prelude.{◌≡◌, ◌≤◌, ℕ, Bool, false, List, [], All, map, Some, None}
+use Rattle.std.specs.Prelude.{◌≡◌, ◌≤◌, ℕ, Bool, true, false, List, [], All, map, Some, None}
+use Rattle.class_model.specs.declared.class.Class.{Class}
 use Rattle.machine_rules.specs.Runs.{Ran}
 use Rattle.mutator_ops.specs.declared.mutant.Mutant.{Mutant}
 use Rattle.suite_records.specs.Below.{AllPass, all_verdicts, reaches, detected}
@@ -13,8 +14,9 @@ use Rattle.class_records.specs.Profile.{profile}
 use Rattle.suite_records.specs.Suites.{IsReusable}
 use Rattle.job_rules.specs.Tried.{Tried, JobRuns, known, detections, need, least_cost, most_cost}
 use Rattle.job_rules.specs.Tried.{records_once}
-use Rattle.suite_jobs.specs.Jobs.{Allowed, Suite, IsAccepted, says, has_reached, job_runs}
-use Rattle.suite_jobs.specs.Jobs.{job_verdict, asked_job}
+use Rattle.suite_jobs.specs.Jobs.{Allowed, Suite, IsAccepted, IsOfFile, says, has_reached, job_runs}
+use Rattle.suite_jobs.specs.Jobs.{job_verdict, asked_job, viable_file, mutant_runs, every_run}
+use Rattle.suite_jobs.specs.Jobs.{reaching, detecting}
 
 -- ---- each run
 
@@ -118,6 +120,21 @@ VerdictsAreOfAllTests =
     AllPass s.program a.limits a.steps s.tests →
     map (job_verdict a s old) s.mutants
     ≡ all_verdicts s.program a.limits a.steps s.tests s.mutants
+
+-- Of the runs of a job on a mutant: their tests are all whose runs on it reach its line, and those
+-- that detect it are all that do.
+pub record SaysAllTests (a : Allowed) (s : Suite) (m : Mutant) (made : Class × List ℕ)
+    (ts : List (Tried RunRecord)) : Type 0 where
+  pub covering : map (λ t. t.test) ts ≡ reaching m (every_run a s made)
+  pub detections : detections says true ts ≡ detecting (every_run a s made)
+
+-- Where all tests pass, so it is of each mutant that is viable.
+abbrev pub DetectionsAreOfAllTests : Type 0
+DetectionsAreOfAllTests =
+    (a : Allowed) (s : Suite) (old : List RunRecord) → IsAccepted s → AreTrue profile old →
+    AllPass s.program a.limits a.steps s.tests → (m : Mutant) → IsOfFile s.program m →
+    (made : Class × List ℕ) → viable_file s.program m ≡ Some made →
+    SaysAllTests a s m made (mutant_runs a s old m)
 
 -- ---- the runs that old records lack
 

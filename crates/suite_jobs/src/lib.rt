@@ -6,12 +6,13 @@
 
 ghost use Rattle.suite_jobs.specs.Laws.{RunsAreOwn, RunsStayTheSame, ReuseChangesNoAnswer};
 ghost use Rattle.suite_jobs.specs.Laws.{NewRecordsAreTrue, ReuseCostsNoMore, RecordsSayRuns};
-ghost use Rattle.suite_jobs.specs.Laws.{VerdictsAreOfAllTests, JobsCostAsAsked};
+ghost use Rattle.suite_jobs.specs.Laws.{VerdictsAreOfAllTests, DetectionsAreOfAllTests};
+ghost use Rattle.suite_jobs.specs.Laws.{JobsCostAsAsked};
 
 use class_records::class_files_are_a_profile;
 use machine_laws::runs_list_lines;
 use program_laws::ordered_is_built;
-use suite_records::selected_tests_always_suffice;
+use suite_records::{selected_tests_always_suffice, unreached_mutants_run_alike};
 pub use suite_records::{
     ClassBytes, ProgramEnd, ProgramFault, covering_tests, edited_are_ready, edited_class,
     found_are_own_tests, found_tests_fit, mutants_are_of, mutants_are_reached_alike,
@@ -79,6 +80,25 @@ pub fn verdicts_are_of_all_tests()
     true_records_change_nothing();
     records_say_runs();
     selected_tests_always_suffice();
+}
+
+/// Then the tests that detect a mutant, where all are asked for, are all whose runs on it do.
+pub fn detections_are_of_all_tests()
+    ensures { DetectionsAreOfAllTests }
+{
+    accepted_code_is_never_stuck();
+    ordered_is_built();
+    suites_are_safe();
+    found_tests_fit();
+    viable_mutants_are_never_stuck();
+    found_are_own_tests();
+    originals_are_reusable();
+    mutants_are_reusable();
+    true_records_change_nothing();
+    records_say_runs();
+    selected_tests_always_suffice();
+    mutants_are_reached_alike();
+    unreached_mutants_run_alike();
 }
 
 /// Where all tests pass on the program as it is, the least and the most that the job may take are

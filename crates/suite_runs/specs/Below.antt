@@ -14,7 +14,7 @@ pub use Rattle.suite_workers.specs.declared.old_records.OldRecords.{OldRecords}
 pub use Rattle.job_answers.specs.Answers.{JobAnswer, JobCost, answer_by, asked_cells, asked_cost}
 pub use Rattle.job_answers.specs.Answers.{cell_total, cost_by, failed_tests, job_cost, job_reused}
 pub use Rattle.job_answers.specs.Answers.{job_scratch, most_cells, unless_failed, unless_many}
-pub use Rattle.job_answers.specs.Answers.{verdict_of_runs}
+pub use Rattle.job_answers.specs.Answers.{need_of, verdict_by_every, verdict_of_runs}
 unfoldable pub use Rattle.job_answers.specs.Answers.{job_answer}
 pub use Rattle.job_answers.specs.Laws.{AnswersAreFromScratch, TrueRecordsChangeNothing}
 pub use Rattle.job_answers.specs.declared.refusal.FailedTest.{FailedTest}

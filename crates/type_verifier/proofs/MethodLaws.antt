@@ -1,12 +1,14 @@
 -- The fault of a method: rule 1, then those of its code.
-use Rattle.std.proofs.Common.{◌≡◌, ◌+◌, ℕ, Bool, true, false, Option, Some, map, take, refl, sym, ap, ◌∙◌, arith}
+use Rattle.std.proofs.Common.{◌≡◌, ◌+◌, ℕ, Bool, true, false, List, Option, Some, map, take, refl, sym, ap, ◌∙◌, subst, arith}
 use Rattle.std.specs.Prelude.{◌&&◌, ◌||◌, is_some, not, if◌then◌else◌, slice_get}
 use Rattle.program_rules.specs.Linked.{is_abstract, method_place, code_in}
+use Rattle.program_rules.specs.Names.{Name}
 use Rattle.program_rules.specs.Resolution.{same_bool}
 use Rattle.type_rules.specs.References.{classes_of}
 use Rattle.type_rules.specs.Rules.{is_first, is_native, has_right_head, body_fault, method_fault}
 use Rattle.class_link.specs.declared.linked.LinkedClass.{LinkedClass}
 use Rattle.class_link.specs.declared.linked.LinkedMethod.{LinkedMethod}
+use Rattle.class_link.specs.Info.{Info}
 use Rattle.class_link.specs.View.{body_of, linked_of, method_of}
 use Rattle.class_table.specs.Table.{look}
 use Rattle.type_verifier.specs.declared.pass.Fault.{Fault}
@@ -14,6 +16,7 @@ use Rattle.type_verifier.specs.declared.own.Own.{Own}
 use Rattle.type_verifier.specs.declared.heads.Heads.{Heads}
 use Rattle.type_verifier.specs.ProgramHeads.{declares, IsMet}
 use Rattle.type_verifier.specs.Methods.{HeadIs, HeadBehind, BodyFaultIs, FaultAt}
+use Rattle.type_verifier.specs.OneMethod.{IsFirstAt, FaultIfFirst, MethodFaultIs}
 use Rattle.type_verifier.proofs.HeadLaws.{first_from}
 
 first_is : (c : LinkedClass) (k : ℕ) (m : LinkedMethod) (first : Bool) → slice_get c.methods k ≡ Some m → first ≡ not (declares m.name m.desc (take k c.methods)) → is_first (method_place m.name m.desc (map (method_of c.entries) c.methods)) k ≡ first
@@ -52,6 +55,13 @@ pub head_again : (old new : Heads) (m : LinkedMethod) (first : Bool) → IsMet o
 head_again old new m first met e c k are there =
     head_false m c k there (sym e ∙ (met (take k c.methods) are).first)
 
+-- it is known to be
+pub head_known : (c : LinkedClass) (k : ℕ) (m : LinkedMethod) (b : Bool) → IsFirstAt c k m → HeadIs m b → has_right_head (linked_of c) k (method_of c.entries m) ≡ b
+unfolding linked_of
+head_known c k m b first head =
+    ap (λ z. z && is_first (method_place m.name m.desc (map (method_of c.entries) c.methods)) k) (sym (head c.entries))
+    ∙ ap (λ z. b && z) first ∙ and_true b
+
 -- ---- the fault
 
 pub head_refused : (o : Own) (k : ℕ) (m : LinkedMethod) → has_right_head (linked_of o.linked.now) k (method_of o.linked.now.entries m) ≡ false → FaultAt o k m (Some (record { at = 0; rule = 1 }))
@@ -64,3 +74,8 @@ unfolding method_fault
 body_judged o k m r e is =
     ap (λ b. if b then body_fault (classes_of (look o.program.now)) o.name.now (linked_of o.linked.now) (method_of o.linked.now.entries m) (code_in (body_of o.linked.now.entries m.body)) else Some (record { at = 0; rule = 1 })) e
     ∙ is
+
+pub fault_of_info : (p : List Info) (i : Info) (n : Name) (c : LinkedClass) (k : ℕ) (r : Option Fault) → n ≡ i.name → c ≡ i.linked → FaultIfFirst p n c k (slice_get c.methods k) r → MethodFaultIs p i k r
+fault_of_info p i n c k r named linked h =
+    subst (λ (l : LinkedClass). FaultIfFirst p i.name l k (slice_get l.methods k) r) linked
+    (subst (λ (x : Name). FaultIfFirst p x c k (slice_get c.methods k) r) named h)

@@ -14,5 +14,6 @@ pub mod Pairs
 pub mod ProgramHeads
 pub mod ProgramTables
 pub mod Methods
+pub mod OneMethod
 pub mod Programs
 pub mod Libraries

@@ -23,8 +23,8 @@ fn has_code(body: &LinkedBody) -> bool
     }
 }
 
-// Whether a method isn't native, and has code exactly where it isn't abstract (rule 1).
-fn has_right_body(method: &LinkedMethod) -> bool
+/// Whether a method isn't native, and has code exactly where it isn't abstract (rule 1).
+pub fn has_right_body(method: &LinkedMethod) -> bool
     ensures { HeadIs method.now result }
 {
     if is_native(method.flags) {

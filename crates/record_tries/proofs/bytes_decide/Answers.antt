@@ -4,4 +4,4 @@ use Rattle.record_tries.proofs.bytes_decide.Goals as goal
 
 pub returns : goal.returns
 unfolding matches
-returns c = record { further = refl; rewritten = refl; edited = refl; absent = refl; there = refl }
+returns c = record { further = refl; rewritten = refl; edited = refl; failed = refl; original = refl; absent = refl; there = refl }

@@ -4,4 +4,4 @@ use Rattle.record_tries.proofs.limits_decide.Goals as goal
 
 pub returns : goal.returns
 unfolding matches
-returns c = record { kept = refl; short = refl; own = refl; longer = refl; test = refl; heap = refl; depth = refl }
+returns c = record { kept = refl; short = refl; own = refl; longer = refl; full = refl; fewer = refl; test = refl; heap = refl; depth = refl }

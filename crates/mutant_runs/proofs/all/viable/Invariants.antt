@@ -1,4 +1,4 @@
-use Rattle.std.proofs.Common.{◌≡◌, take}
+use Rattle.std.proofs.Common.{take}
 use Rattle.mutant_runs.specs.Files.{IsKept}
 use Rattle.mutant_runs.specs.Promises.{AreViable}
 use Rattle.mutant_runs.proofs.all.viable.Given as goal
@@ -6,6 +6,5 @@ use Rattle.mutant_runs.proofs.all.viable.Given as goal
 abbrev pub invariant-loop-mutant : goal.invariant-loop-mutant
 invariant-loop-mutant l = record {
   told : AreViable l.fn.program (take l.mutant-index l.mutants) l.all;
-  same : l.program ≡ l.fn.program;
   kept : IsKept l.fn.program l.kept;
 }
