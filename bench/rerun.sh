@@ -1,25 +1,22 @@
-#!/bin/sh
-# rerun.sh [PROGRAM] [CLASSES]: the time of a first run on a made suite (300 classes), of a run with its history where nothing
-# changed, and of one where a class of twenty changed: milliseconds, the least of three each, and their share of the first
-# run's. Reading and starting are counted. It needs `javac`.
+#!/bin/bash
+# rerun.sh [PROGRAM] [CLASSES] [ROUNDS]: what a first run on a made suite takes (300 classes; long tests of 100,000 rounds, so
+# that it takes some 10 s), a run with its history where nothing changed, and one where a class of twenty changed: milliseconds
+# of the processor, the least of three each, and their share of the first run's. Reading and starting are counted. It needs
+# `javac`.
 set -eu
 here=$(cd "$(dirname "$0")" && pwd)
 program=${1:-$here/../mutest}
 count=${2:-300}
 work=$(mktemp -d)
 trap 'rm -rf "$work"' EXIT
-"$here/suite.sh" "$work" "$count"
+"$here/suite.sh" "$work" "$count" "${3:-100000}"
+TIMEFORMAT='%U %S'
 
 # The least milliseconds of three runs with these words.
 time_with() {
-    least=
     for round in 1 2 3; do
-        start=$(date +%s%N)
-        "$program" run --classes "$work/classes" --tests "$work/tests" --report "$work/report.json" "$@" > "$work/told"
-        took=$((($(date +%s%N) - start) / 1000000))
-        [ -n "$least" ] && [ "$least" -le "$took" ] || least=$took
-    done
-    echo "$least"
+        { time "$program" run --classes "$work/classes" --tests "$work/tests" --report "$work/report.json" "$@" > "$work/told"; } 2>&1
+    done | awk '{ took = 1000 * ($1 + $2) } NR == 1 || took < least { least = took } END { printf "%d\n", least }'
 }
 
 tell() { # WHAT MILLISECONDS

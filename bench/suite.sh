@@ -1,10 +1,13 @@
 #!/bin/sh
-# suite.sh FOLDER CLASSES: makes a suite with tests of some 50,000 steps: CLASSES classes in FOLDER/classes, a test class for
-# each in FOLDER/tests. Of its three tests the first is long. It needs `javac`.
+# suite.sh FOLDER CLASSES [ROUNDS]: makes a suite with long tests: CLASSES classes in FOLDER/classes, a test class for each in
+# FOLDER/tests. Of its three tests the first is long, of ROUNDS rounds (4,000: some 50,000 steps). It needs `javac`.
 set -eu
 here=$(cd "$(dirname "$0")" && pwd)
 folder=$1
 count=$2
+rounds=${3:-4000}
+threes=$(((rounds + 2) / 3)) # of the numbers below `rounds`
+sum=$((3 * threes * (threes - 1) / 2))
 mkdir -p "$folder/src/gen" "$folder/test/gen"
 number=0
 while [ "$number" -lt "$count" ]; do
@@ -40,7 +43,7 @@ import org.junit.Test;
 public class T$number {
     @Test
     public void all() {
-        assertTrue(2667333 - 2666 * $number == C$number.sum(0, 4000));
+        assertTrue($sum - $((rounds - threes)) * $number == C$number.sum(0, $rounds));
     }
 
     @Test

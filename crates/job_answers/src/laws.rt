@@ -14,9 +14,10 @@ use program_laws::ordered_is_built;
 use record_writing::fitting_records_are_formed;
 use reuse_laws::new_records_go_by_runs;
 use suite_jobs::{
-    detections_are_of_all_tests, found_are_own_tests, found_tests_fit, jobs_cost_as_asked, mutants_are_reached_alike,
-    mutants_are_reusable, originals_are_reusable, records_say_runs, reuse_changes_no_answer,
-    runs_are_own, suites_are_safe, verdicts_are_of_all_tests, viable_mutants_are_never_stuck,
+    detections_are_of_all_tests, found_are_own_tests, found_tests_fit, jobs_cost_as_asked,
+    mutants_are_reached_alike, mutants_are_reusable, originals_are_reusable, records_say_runs,
+    reuse_changes_no_answer, runs_are_own, suites_are_safe, verdicts_are_of_all_tests,
+    viable_mutants_are_never_stuck,
 };
 use type_laws::accepted_code_is_never_stuck;
 

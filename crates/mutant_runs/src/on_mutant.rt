@@ -99,7 +99,10 @@ fn is_accepted(
     edits_are_judged_by_their_method();
     let place = mutant.edit.method as usize;
     let fault = fault_of_method(alloc, program, id, edited, place)?;
-    Ok(fault.is_none())
+    match fault {
+        Some(_fault) => Ok(false),
+        None => Ok(true),
+    }
 }
 
 /// Whether a mutant is viable: the class that its edit makes has a layout and is accepted.

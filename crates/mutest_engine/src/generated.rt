@@ -62,8 +62,7 @@ fn read_files(alloc: Global, suite: Suite) -> Result<LoadedSuite, Stop>
     load_both(alloc, classes, tests)
 }
 
-// So many classes, each with its test. That one of their texts states no class, which none is known
-// to do, counts as want of memory.
+// So many classes, each with its test.
 fn generated(alloc: Global, options: GenerateOptions) -> Result<LoadedSuite, Stop>
     requires { IsSmall (as_generate_options options) }
     ensures value { Gives (generated options.classes) result }
@@ -71,10 +70,8 @@ fn generated(alloc: Global, options: GenerateOptions) -> Result<LoadedSuite, Sto
     ensures refusal { IfErr result (Refuses IsOfSuite) }
 {
     what_is_assembled_is_spelled();
-    match suite_generator::made_suite(alloc, options.classes) {
-        Ok(suite) => read_files(alloc, suite),
-        Err(_) => Err(Stop::WantOfMemory),
-    }
+    let suite = suite_generator::made_suite(alloc, options.classes)?;
+    read_files(alloc, suite)
 }
 
 // ---- the job

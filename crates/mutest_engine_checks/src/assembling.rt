@@ -1,6 +1,6 @@
 //! Texts that are assembled.
 
-use crate::calls::call;
+use crate::calls::{Ended, call};
 use class_model::Bytes;
 use mt_edge::MemTree;
 use sample_classes::A;
@@ -36,26 +36,24 @@ fn held(alloc: Global, text: &[u8], fails: &[u64]) -> Result<MemTree, Fail> {
     Ok(MemTree::new(alloc, files, fails.to_vec(alloc)?)?)
 }
 
-// The status number and the output of a call, and whether something stands at A.class behind it.
+// How a call ends, and whether something stands at A.class behind it.
 fn called(
     rt: &(impl Threads + Wait + Sync + AllocGlobal),
     words: &[&str],
     text: &[u8],
     fails: &[u64],
-) -> Result<(i32, Bytes, bool), Fail> {
+) -> Result<(Ended, bool), Fail> {
     let alloc = rt.alloc();
     let mut tree = held(alloc, text, fails)?;
     let told = call(rt, words, &mut tree, &[])?;
-    Ok((told.0, told.1, tree.held("A.class").is_some()))
+    Ok((told, tree.held("A.class").is_some()))
 }
 
 #[test]
 fn a_text_is_assembled(rt: HostRuntime) -> Result<(), Fail> {
     let mut tree = held(rt.alloc(), TEXT.as_bytes(), &[])?;
     let told = call(&rt, &WORDS, &mut tree, &[])?;
-    assert_eq!(rt; told.0, 0);
-    assert_eq!(rt; told.1.as_slice(), b"".as_slice());
-    assert_eq!(rt; told.2, 0);
+    assert!(rt; told.is(0, "", 0));
     assert!(rt;
         tree.held("A.class")
             .is_some_and(|bytes| bytes == A.as_slice())
@@ -77,9 +75,7 @@ ireturn
 end
 ";
     let told = called(&rt, &WORDS, text.as_bytes(), &[])?;
-    assert_eq!(rt; told.0, 15);
-    assert!(rt; !told.2);
-    assert_eq!(rt; told.1.as_slice(), b"mutest: AsmRefused 3\n".as_slice());
+    assert!(rt; !told.1 && told.0.is(15, "mutest: AsmRefused 3\n", 0));
     Ok(())
 }
 
@@ -87,8 +83,7 @@ end
 fn the_option_may_stand_before_the_text(rt: HostRuntime) -> Result<(), Fail> {
     let words = ["asm", "--out", "A.class", "A.txt"];
     let told = called(&rt, &words, TEXT.as_bytes(), &[])?;
-    assert_eq!(rt; told.0, 0);
-    assert!(rt; told.2);
+    assert!(rt; told.1 && told.0.is(0, "", 0));
     Ok(())
 }
 
@@ -105,42 +100,22 @@ fn other_words_for_a_text_are_refused(rt: HostRuntime) -> Result<(), Fail> {
     ];
     for words in calls {
         let told = called(&rt, words, TEXT.as_bytes(), &[])?;
-        assert_eq!(rt; told.0, 2);
-        assert!(rt; !told.2);
-        assert_eq!(rt; told.1.as_slice(), b"mutest: Usage\n".as_slice());
+        assert!(rt; !told.1 && told.0.is(2, "mutest: Usage\n", 0));
     }
     Ok(())
 }
 
 #[test]
 fn what_else_may_fail_is_told(rt: HostRuntime) -> Result<(), Fail> {
-    let absent = called(
-        &rt,
-        &["asm", "B.txt", "--out", "A.class"],
-        TEXT.as_bytes(),
-        &[],
-    )?;
-    assert_eq!(rt; absent.0, 3);
-    assert!(rt; !absent.2);
-    assert_eq!(rt; absent.1.as_slice(), b"mutest: NotFound B.txt\n".as_slice());
+    let words = ["asm", "B.txt", "--out", "A.class"];
+    let absent = called(&rt, &words, TEXT.as_bytes(), &[])?;
+    assert!(rt; !absent.1 && absent.0.is(3, "mutest: NotFound B.txt\n", 0));
     let unread = called(&rt, &WORDS, TEXT.as_bytes(), &[0])?;
-    assert_eq!(rt; unread.0, 10);
-    assert!(rt; !unread.2);
-    assert_eq!(rt; unread.1.as_slice(), b"mutest: ReadFault\n".as_slice());
+    assert!(rt; !unread.1 && unread.0.is(10, "mutest: ReadFault\n", 0));
     let unwritten = called(&rt, &WORDS, TEXT.as_bytes(), &[1])?;
-    assert_eq!(rt; unwritten.0, 11);
-    assert!(rt; !unwritten.2);
-    assert_eq!(rt;
-        unwritten.1.as_slice(),
-        b"mutest: WriteFault assembled\n".as_slice()
-    );
+    assert!(rt; !unwritten.1 && unwritten.0.is(11, "mutest: WriteFault assembled\n", 0));
     let blanks = vec![in rt.alloc(); b'\n'; 4_194_305]?;
     let long = called(&rt, &WORDS, blanks.as_slice(), &[])?;
-    assert_eq!(rt; long.0, 12);
-    assert!(rt; !long.2);
-    assert_eq!(rt;
-        long.1.as_slice(),
-        b"mutest: TooMany class 4194305\n".as_slice()
-    );
+    assert!(rt; !long.1 && long.0.is(12, "mutest: TooMany class 4194305\n", 0));
     Ok(())
 }

@@ -9,13 +9,27 @@ use std::sync::Wait;
 use std::test::Fail;
 use std::thread::Threads;
 
-/// The status number, the output and the steps of a call.
+/// How a call ends: its exit status, what it puts, and how many steps it counts.
+#[derive(Drop)]
+pub struct Ended {
+    pub status: i32,
+    pub text: Bytes,
+    pub steps: u64,
+}
+
+impl Ended {
+    pub fn is(&self, status: i32, text: &str, steps: u64) -> bool {
+        self.status == status && self.text.as_slice() == text.as_bytes() && self.steps == steps
+    }
+}
+
+/// A call with these words, of whose puts some fail.
 pub fn call(
     rt: &(impl Threads + Wait + Sync + AllocGlobal),
     words: &[&str],
     tree: &mut MemTree,
     sink_fails: &[u64],
-) -> Result<(i32, Bytes, u64), Fail> {
+) -> Result<Ended, Fail> {
     let alloc = rt.alloc();
     let mut all = Vec::new(alloc);
     for word in words {
@@ -27,11 +41,11 @@ pub fn call(
     let (status, _keeper) = run(
         rt, alloc, &all, tree, &mut out, &OpenGate, keeper, &mut meter,
     );
-    Ok((
-        i32::from(status.code()),
-        Bytes::from_slice(alloc, out.bytes())?,
-        meter.count(),
-    ))
+    Ok(Ended {
+        status: i32::from(status.code()),
+        text: Bytes::from_slice(alloc, out.bytes())?,
+        steps: meter.count(),
+    })
 }
 
 /// A with one byte put in the place of another.

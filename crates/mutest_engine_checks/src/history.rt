@@ -1,6 +1,6 @@
 //! Runs with the history of an earlier run, and with several workers.
 
-use crate::calls::call;
+use crate::calls::{Ended, call};
 use crate::needed::B;
 use class_model::Bytes;
 use mt_edge::MemTree;
@@ -31,12 +31,10 @@ const PAST_THE_POOL: [u8; 64] = [
     0x0f, 0x00, 0x00, 0x00, 0x01, 0x00, 0x01, 0x54, 0x00, 0x00, 0x00, 0x01, 0x00, 0x00, 0x00, 0x00,
 ];
 
-/// What a run tells, and what it leaves at `r.json` and `new.mth`.
+/// How a run ends, and what it leaves at `r.json` and `new.mth`.
 #[derive(Drop)]
 pub struct Told {
-    pub status: i32,
-    pub text: Bytes,
-    pub steps: u64,
+    pub ended: Ended,
     pub report: Bytes,
     pub history: Bytes,
 }
@@ -74,11 +72,9 @@ pub fn run_with(
     for word in options {
         words.push(*word)?;
     }
-    let (status, text, steps) = call(rt, words.as_slice(), &mut tree, &[])?;
+    let ended = call(rt, words.as_slice(), &mut tree, &[])?;
     Ok(Told {
-        status,
-        text,
-        steps,
+        ended,
         report: held_at(alloc, &tree, "r.json")?,
         history: held_at(alloc, &tree, "new.mth")?,
     })
@@ -91,10 +87,10 @@ fn first(rt: &(impl Threads + Wait + Sync + AllocGlobal)) -> Result<Told, Fail> 
 }
 
 // A run of a class with the history of the first one.
-fn again(
+fn again<'a>(
     rt: &(impl Threads + Wait + Sync + AllocGlobal),
-    class: &[u8],
-    history: &[u8],
+    class: &'a [u8],
+    history: &'a [u8],
 ) -> Result<Told, Fail> {
     let files = [
         ("c/A.class", class),
@@ -107,13 +103,9 @@ fn again(
 #[test]
 fn a_run_again_makes_none(rt: HostRuntime) -> Result<(), Fail> {
     let old = first(&rt)?;
-    assert_eq!(rt; old.status, 0);
-    assert_eq!(rt; old.text.as_slice(), FIRST.as_bytes());
-    assert_eq!(rt; old.steps, 188);
+    assert!(rt; old.ended.is(0, FIRST, 188));
     let new = again(&rt, &A, old.history.as_slice())?;
-    assert_eq!(rt; new.status, 0);
-    assert_eq!(rt; new.text.as_slice(), AGAIN.as_bytes());
-    assert_eq!(rt; new.steps, 0);
+    assert!(rt; new.ended.is(0, AGAIN, 0));
     assert_eq!(rt; new.report.as_slice(), old.report.as_slice());
     assert_eq!(rt; new.history.as_slice(), old.history.as_slice());
     Ok(())
@@ -143,9 +135,7 @@ fn bytes_decide_what_is_reused(rt: HostRuntime) -> Result<(), Fail> {
     let old = first(&rt)?;
     let class = exchanged(rt.alloc())?;
     let new = again(&rt, class.as_slice(), old.history.as_slice())?;
-    assert_eq!(rt; new.status, 0);
-    assert_eq!(rt; new.text.as_slice(), FIRST.as_bytes());
-    assert_eq!(rt; new.steps, 188);
+    assert!(rt; new.ended.is(0, FIRST, 188));
     assert_eq!(rt; new.report.as_slice(), old.report.as_slice());
     Ok(())
 }
@@ -160,12 +150,13 @@ fn a_class_that_no_test_consults_changes_no_run(rt: HostRuntime) -> Result<(), F
         ("old.mth", old.history.as_slice()),
     ];
     let new = run_with(&rt, &files, &["--history", "old.mth"], &[])?;
-    assert_eq!(rt; new.status, 0);
-    assert_eq!(rt;
-        new.text.as_slice(),
-        b"mutants 8 killed 4 survived 2 no_coverage 2 timed_out 0 non_viable 0 errors 0 reused 12\n".as_slice()
+    assert!(rt;
+        new.ended.is(
+            0,
+            "mutants 8 killed 4 survived 2 no_coverage 2 timed_out 0 non_viable 0 errors 0 reused 12\n",
+            0
+        )
     );
-    assert_eq!(rt; new.steps, 0);
     assert_eq!(rt; new.history.as_slice(), old.history.as_slice());
     Ok(())
 }
@@ -255,12 +246,13 @@ fn a_class_that_appears_has_runs_made_again(rt: HostRuntime) -> Result<(), Fail>
     ];
     // The test takes 17 steps, also with 0 for 1, which isn't reached; with 0 for 2 it takes 20.
     let old = run_with(&rt, &files, &[], &[])?;
-    assert_eq!(rt; old.status, 0);
-    assert_eq!(rt;
-        old.text.as_slice(),
-        b"mutants 2 killed 1 survived 1 no_coverage 0 timed_out 0 non_viable 0 errors 0 reused 0\n".as_slice()
+    assert!(rt;
+        old.ended.is(
+            0,
+            "mutants 2 killed 1 survived 1 no_coverage 0 timed_out 0 non_viable 0 errors 0 reused 0\n",
+            54
+        )
     );
-    assert_eq!(rt; old.steps, 54);
     assert!(rt;
         old.history
             .as_slice()
@@ -275,12 +267,13 @@ fn a_class_that_appears_has_runs_made_again(rt: HostRuntime) -> Result<(), Fail>
     ];
     // With C the test takes 22 steps, and 25 with 0 for 1. The handler isn't reached.
     let new = run_with(&rt, &files, &["--history", "old.mth"], &[])?;
-    assert_eq!(rt; new.status, 0);
-    assert_eq!(rt;
-        new.text.as_slice(),
-        b"mutants 2 killed 1 survived 0 no_coverage 1 timed_out 0 non_viable 0 errors 0 reused 0\n".as_slice()
+    assert!(rt;
+        new.ended.is(
+            0,
+            "mutants 2 killed 1 survived 0 no_coverage 1 timed_out 0 non_viable 0 errors 0 reused 0\n",
+            47
+        )
     );
-    assert_eq!(rt; new.steps, 47);
     Ok(())
 }
 
@@ -288,10 +281,12 @@ fn a_class_that_appears_has_runs_made_again(rt: HostRuntime) -> Result<(), Fail>
 fn without_tests_there_are_no_records(rt: HostRuntime) -> Result<(), Fail> {
     let files = [("c/A.class", A.as_slice()), ("t/x.txt", b"x".as_slice())];
     let told = run_with(&rt, &files, &[], &[])?;
-    assert_eq!(rt; told.status, 0);
-    assert_eq!(rt;
-        told.text.as_slice(),
-        b"mutants 6 killed 0 survived 0 no_coverage 6 timed_out 0 non_viable 0 errors 0 reused 0\n".as_slice()
+    assert!(rt;
+        told.ended.is(
+            0,
+            "mutants 6 killed 0 survived 0 no_coverage 6 timed_out 0 non_viable 0 errors 0 reused 0\n",
+            0
+        )
     );
     assert_eq!(rt; told.history.as_slice(), NONE.as_slice());
     Ok(())
@@ -313,9 +308,7 @@ fn a_history_that_is_none_is_told_by_its_place(rt: HostRuntime) -> Result<(), Fa
     ];
     for (history, line) in histories {
         let told = again(&rt, &A, history)?;
-        assert_eq!(rt; told.status, 9);
-        assert_eq!(rt; told.text.as_slice(), line.as_bytes());
-        assert_eq!(rt; told.steps, 0);
+        assert!(rt; told.ended.is(9, line, 0));
         assert_eq!(rt; told.report.len(), 0);
     }
     Ok(())
@@ -325,9 +318,7 @@ fn a_history_that_is_none_is_told_by_its_place(rt: HostRuntime) -> Result<(), Fa
 fn a_history_that_is_not_held_is_none(rt: HostRuntime) -> Result<(), Fail> {
     let files = [("c/A.class", A.as_slice()), ("t/T.class", T.as_slice())];
     let told = run_with(&rt, &files, &["--history", "old.mth"], &[])?;
-    assert_eq!(rt; told.status, 0);
-    assert_eq!(rt; told.text.as_slice(), FIRST.as_bytes());
-    assert_eq!(rt; told.steps, 188);
+    assert!(rt; told.ended.is(0, FIRST, 188));
     Ok(())
 }
 
@@ -337,12 +328,7 @@ fn a_history_that_cannot_be_replaced_is_told(rt: HostRuntime) -> Result<(), Fail
     let files = [("c/A.class", A.as_slice()), ("t/T.class", T.as_slice())];
     // Two folders are listed before, two files are read, and the report is replaced.
     let told = run_with(&rt, &files, &[], &[5])?;
-    assert_eq!(rt; told.status, 11);
-    assert_eq!(rt;
-        told.text.as_slice(),
-        b"mutest: WriteFault history\n".as_slice()
-    );
-    assert_eq!(rt; told.steps, 188);
+    assert!(rt; told.ended.is(11, "mutest: WriteFault history\n", 188));
     assert_eq!(rt; told.report.as_slice(), old.report.as_slice());
     assert_eq!(rt; told.history.len(), 0);
     Ok(())
@@ -354,11 +340,10 @@ fn workers_write_the_same(rt: HostRuntime) -> Result<(), Fail> {
     let files = [("c/A.class", A.as_slice()), ("t/T.class", T.as_slice())];
     for workers in ["2", "8", "64"] {
         let told = run_with(&rt, &files, &["--workers", workers], &[])?;
-        assert_eq!(rt; told.status, 0);
-        assert_eq!(rt; told.text.as_slice(), FIRST.as_bytes());
+        assert!(rt; told.ended.is(0, FIRST, told.ended.steps));
         assert_eq!(rt; told.report.as_slice(), old.report.as_slice());
         assert_eq!(rt; told.history.as_slice(), old.history.as_slice());
-        assert!(rt; 188 <= told.steps && told.steps <= 218);
+        assert!(rt; 188 <= told.ended.steps && told.ended.steps <= 218);
     }
     Ok(())
 }

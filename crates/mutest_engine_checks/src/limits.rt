@@ -66,11 +66,10 @@ fn a_test_takes_no_more_than_it_may(rt: HostRuntime) -> Result<(), Fail> {
     ];
     for (options, lines) in calls {
         let told = run_with(&rt, &files, options, &[])?;
-        assert_eq!(rt; told.status, 8);
-        assert_eq!(rt; told.text.as_slice(), lines.as_bytes());
+        assert!(rt; told.ended.is(8, lines, told.ended.steps));
     }
     let told = run_with(&rt, &files, &["--heap", "2048", "--depth", "22"], &[])?;
-    assert_eq!(rt; told.status, 0);
+    assert_eq!(rt; told.ended.status, 0);
     Ok(())
 }
 
@@ -89,14 +88,10 @@ fn records_are_of_runs_with_their_own_limits(rt: HostRuntime) -> Result<(), Fail
     let files = [("c/A.class", A.as_slice()), ("t/T.class", T.as_slice())];
     let usual = run_with(&rt, &files, &[], &[])?;
     let other = again(&rt, usual.history.as_slice())?;
-    assert_eq!(rt; other.status, 0);
-    assert_eq!(rt; other.text.as_slice(), FIRST.as_bytes());
-    assert_eq!(rt; other.steps, 188);
+    assert!(rt; other.ended.is(0, FIRST, 188));
     assert_eq!(rt; other.report.as_slice(), usual.report.as_slice());
     let same = again(&rt, other.history.as_slice())?;
-    assert_eq!(rt; same.status, 0);
-    assert_eq!(rt; same.text.as_slice(), AGAIN.as_bytes());
-    assert_eq!(rt; same.steps, 0);
+    assert!(rt; same.ended.is(0, AGAIN, 0));
     Ok(())
 }
 
@@ -104,13 +99,9 @@ fn records_are_of_runs_with_their_own_limits(rt: HostRuntime) -> Result<(), Fail
 fn a_test_takes_no_more_steps_than_it_may(rt: HostRuntime) -> Result<(), Fail> {
     let files = [("c/A.class", A.as_slice()), ("t/T.class", T.as_slice())];
     let few = run_with(&rt, &files, &["--steps", "14"], &[])?;
-    assert_eq!(rt; few.status, 8);
     let lines = "mutest: NotGreen T.neg TimedOut\nmutest: NotGreen T.zero TimedOut\n";
-    assert_eq!(rt; few.text.as_slice(), lines.as_bytes());
-    assert_eq!(rt; few.steps, 28);
+    assert!(rt; few.ended.is(8, lines, 28));
     let enough = run_with(&rt, &files, &["--steps=15"], &[])?;
-    assert_eq!(rt; enough.status, 0);
-    assert_eq!(rt; enough.text.as_slice(), FIRST.as_bytes());
-    assert_eq!(rt; enough.steps, 188);
+    assert!(rt; enough.ended.is(0, FIRST, 188));
     Ok(())
 }

@@ -1,6 +1,6 @@
 //! Class files that are listed.
 
-use crate::calls::{call, damaged};
+use crate::calls::{Ended, call, damaged};
 use class_model::Bytes;
 use mt_edge::MemTree;
 use sample_classes::{A, A_BARE, T};
@@ -9,14 +9,14 @@ use std::sync::Wait;
 use std::test::Fail;
 use std::thread::Threads;
 
-// The status number and the output of a call, where the tree holds these bytes at A.class.
+// How a call ends, where the tree holds these bytes at A.class.
 fn called(
     rt: &(impl Threads + Wait + Sync + AllocGlobal),
     words: &[&str],
     bytes: &[u8],
     tree_fails: &[u64],
     sink_fails: &[u64],
-) -> Result<(i32, Bytes), Fail> {
+) -> Result<Ended, Fail> {
     let alloc = rt.alloc();
     let mut files = Vec::new(alloc);
     files.push((
@@ -24,39 +24,32 @@ fn called(
         Bytes::from_slice(alloc, bytes)?,
     ))?;
     let mut tree = MemTree::new(alloc, files, tree_fails.to_vec(alloc)?)?;
-    let told = call(rt, words, &mut tree, sink_fails)?;
-    Ok((told.0, told.1))
+    call(rt, words, &mut tree, sink_fails)
 }
 
 #[test]
 fn the_mutants_of_a_class_are_listed(rt: HostRuntime) -> Result<(), Fail> {
     let lines =
-        b"A.f(I)Z@1:CONDITIONALS_BOUNDARY\nA.f(I)Z@1:NEGATE_CONDITIONALS\nA.f(I)Z@3:FALSE_RETURNS\nA.f(I)Z@3:TRUE_RETURNS\nA.f(I)Z@5:FALSE_RETURNS\nA.f(I)Z@5:TRUE_RETURNS\n".as_slice();
+        "A.f(I)Z@1:CONDITIONALS_BOUNDARY\nA.f(I)Z@1:NEGATE_CONDITIONALS\nA.f(I)Z@3:FALSE_RETURNS\nA.f(I)Z@3:TRUE_RETURNS\nA.f(I)Z@5:FALSE_RETURNS\nA.f(I)Z@5:TRUE_RETURNS\n";
     let bare = called(&rt, &["list", "A.class"], &A_BARE, &[], &[])?;
-    assert_eq!(rt; bare.0, 0);
-    assert_eq!(rt; bare.1.as_slice(), lines);
+    assert!(rt; bare.is(0, lines, 0));
     let whole = called(&rt, &["list", "A.class"], &A, &[], &[])?;
-    assert_eq!(rt; whole.0, 0);
-    assert_eq!(rt; whole.1.as_slice(), lines);
+    assert!(rt; whole.is(0, lines, 0));
     // A jump that compares for equality has no boundary.
     let equal = damaged(rt.alloc(), 126, 0x99)?;
     let others = called(&rt, &["list", "A.class"], equal.as_slice(), &[], &[])?;
-    assert_eq!(rt;
-        others.1.as_slice(),
-        b"A.f(I)Z@1:NEGATE_CONDITIONALS\nA.f(I)Z@3:FALSE_RETURNS\nA.f(I)Z@3:TRUE_RETURNS\nA.f(I)Z@5:FALSE_RETURNS\nA.f(I)Z@5:TRUE_RETURNS\n".as_slice()
-    );
+    let lines =
+        "A.f(I)Z@1:NEGATE_CONDITIONALS\nA.f(I)Z@3:FALSE_RETURNS\nA.f(I)Z@3:TRUE_RETURNS\nA.f(I)Z@5:FALSE_RETURNS\nA.f(I)Z@5:TRUE_RETURNS\n";
+    assert!(rt; others.is(0, lines, 0));
     Ok(())
 }
 
 #[test]
 fn a_class_of_tests_is_read(rt: HostRuntime) -> Result<(), Fail> {
     let read = called(&rt, &["list", "A.class"], &T, &[], &[])?;
-    assert_eq!(rt; read.0, 0);
     // The constructor's call of another constructor is no call that may go.
-    assert_eq!(rt;
-        read.1.as_slice(),
-        b"T.neg()V@2:VOID_METHOD_CALLS\nT.zero()V@2:VOID_METHOD_CALLS\n".as_slice()
-    );
+    let lines = "T.neg()V@2:VOID_METHOD_CALLS\nT.zero()V@2:VOID_METHOD_CALLS\n";
+    assert!(rt; read.is(0, lines, 0));
     Ok(())
 }
 
@@ -73,8 +66,7 @@ fn other_words_are_refused(rt: HostRuntime) -> Result<(), Fail> {
     ];
     for words in calls {
         let told = called(&rt, words, &A, &[], &[])?;
-        assert_eq!(rt; told.0, 2);
-        assert_eq!(rt; told.1.as_slice(), b"mutest: Usage\n".as_slice());
+        assert!(rt; told.is(2, "mutest: Usage\n", 0));
     }
     Ok(())
 }
@@ -82,20 +74,11 @@ fn other_words_are_refused(rt: HostRuntime) -> Result<(), Fail> {
 #[test]
 fn faults_of_the_outside_are_told(rt: HostRuntime) -> Result<(), Fail> {
     let absent = called(&rt, &["list", "B.class"], &A, &[], &[])?;
-    assert_eq!(rt; absent.0, 3);
-    assert_eq!(rt;
-        absent.1.as_slice(),
-        b"mutest: NotFound B.class\n".as_slice()
-    );
+    assert!(rt; absent.is(3, "mutest: NotFound B.class\n", 0));
     let unread = called(&rt, &["list", "A.class"], &A, &[0], &[])?;
-    assert_eq!(rt; unread.0, 10);
-    assert_eq!(rt; unread.1.as_slice(), b"mutest: ReadFault\n".as_slice());
+    assert!(rt; unread.is(10, "mutest: ReadFault\n", 0));
     let unwritten = called(&rt, &["list", "A.class"], &A, &[], &[0])?;
-    assert_eq!(rt; unwritten.0, 11);
-    assert_eq!(rt;
-        unwritten.1.as_slice(),
-        b"mutest: WriteFault output\n".as_slice()
-    );
+    assert!(rt; unwritten.is(11, "mutest: WriteFault output\n", 0));
     Ok(())
 }
 
@@ -109,8 +92,7 @@ fn damaged_files_are_refused_at_their_place(rt: HostRuntime) -> Result<(), Fail>
     ];
     for (length, text) in cuts {
         let told = called(&rt, &["list", "A.class"], &A[..length.min(160)], &[], &[])?;
-        assert_eq!(rt; told.0, 5);
-        assert_eq!(rt; told.1.as_slice(), text.as_bytes());
+        assert!(rt; told.is(5, text, 0));
     }
     let puts: [(usize, u8, i32, &str); 5] = [
         // An item that crosses the end of Code alone is named by Code, not by the table inside it.
@@ -123,17 +105,12 @@ fn damaged_files_are_refused_at_their_place(rt: HostRuntime) -> Result<(), Fail>
     for (at, byte, status, text) in puts {
         let bytes = damaged(rt.alloc(), at, byte)?;
         let told = called(&rt, &["list", "A.class"], bytes.as_slice(), &[], &[])?;
-        assert_eq!(rt; told.0, status);
-        assert_eq!(rt; told.1.as_slice(), text.as_bytes());
+        assert!(rt; told.is(status, text, 0));
     }
     let mut longer = A.to_vec(rt.alloc())?;
     longer.push(0)?;
     let told = called(&rt, &["list", "A.class"], longer.as_slice(), &[], &[])?;
-    assert_eq!(rt; told.0, 5);
-    assert_eq!(rt;
-        told.1.as_slice(),
-        b"mutest: BadClass A.class 19 160\n".as_slice()
-    );
+    assert!(rt; told.is(5, "mutest: BadClass A.class 19 160\n", 0));
     Ok(())
 }
 
@@ -142,13 +119,9 @@ fn a_file_past_the_limit_is_refused_unread(rt: HostRuntime) -> Result<(), Fail> 
     // Reading it would fail.
     let bytes = vec![in rt.alloc(); 0u8; 4_194_305]?;
     let told = called(&rt, &["list", "A.class"], bytes.as_slice(), &[0], &[])?;
-    assert_eq!(rt; told.0, 12);
-    assert_eq!(rt;
-        told.1.as_slice(),
-        b"mutest: TooMany class 4194305\n".as_slice()
-    );
+    assert!(rt; told.is(12, "mutest: TooMany class 4194305\n", 0));
     let most = vec![in rt.alloc(); 0u8; 4_194_304]?;
     let last = called(&rt, &["list", "A.class"], most.as_slice(), &[], &[])?;
-    assert_eq!(rt; last.0, 5);
+    assert_eq!(rt; last.status, 5);
     Ok(())
 }

@@ -1,6 +1,6 @@
 //! The steps that a suite takes: those of the runs that its mutants need.
 
-use crate::calls::call;
+use crate::calls::{Ended, call};
 use class_model::Bytes;
 use mt_edge::MemTree;
 use sample_classes::{A, T};
@@ -79,7 +79,7 @@ const WORDS: [&str; 9] = [
 fn run_of(
     rt: &(impl Threads + Wait + Sync + AllocGlobal),
     files: &[(&str, &[u8])],
-) -> Result<(i32, Bytes, u64), Fail> {
+) -> Result<Ended, Fail> {
     let alloc = rt.alloc();
     let mut held = Vec::new(alloc);
     for (path, bytes) in files {
@@ -100,12 +100,13 @@ fn mutants_that_no_test_reaches_take_no_step(rt: HostRuntime) -> Result<(), Fail
         ("t/T.class", T.as_slice()),
     ];
     let told = run_of(&rt, &files)?;
-    assert_eq!(rt; told.0, 0);
-    assert_eq!(rt;
-        told.1.as_slice(),
-        b"mutants 8 killed 4 survived 2 no_coverage 2 timed_out 0 non_viable 0 errors 0 reused 0\n".as_slice()
+    assert!(rt;
+        told.is(
+            0,
+            "mutants 8 killed 4 survived 2 no_coverage 2 timed_out 0 non_viable 0 errors 0 reused 0\n",
+            188
+        )
     );
-    assert_eq!(rt; told.2, 188);
     Ok(())
 }
 
@@ -116,13 +117,14 @@ fn a_mutant_without_end_takes_its_limit(rt: HostRuntime) -> Result<(), Fail> {
         ("t/WTest.class", W_TEST.as_slice()),
     ];
     let told = run_of(&rt, &files)?;
-    assert_eq!(rt; told.0, 0);
-    assert_eq!(rt;
-        told.1.as_slice(),
-        b"mutants 4 killed 3 survived 0 no_coverage 0 timed_out 1 non_viable 0 errors 0 reused 0\n".as_slice()
-    );
     // The original takes 29 steps, so the limit is 100,036; the three that are killed take 34, 19
     // and 31.
-    assert_eq!(rt; told.2, 100_149);
+    assert!(rt;
+        told.is(
+            0,
+            "mutants 4 killed 3 survived 0 no_coverage 0 timed_out 1 non_viable 0 errors 0 reused 0\n",
+            100_149
+        )
+    );
     Ok(())
 }

@@ -1,6 +1,7 @@
 //! Suites: what `run` tells, writes and counts.
 
-use crate::calls::{call, damaged};
+use crate::calls::{Ended, call, damaged};
+use crate::history::FIRST;
 use class_model::Bytes;
 use mt_edge::MemTree;
 use mutest_engine::{Halt, Refusal, load_suite};
@@ -85,7 +86,7 @@ fn run_of(
     class: &[u8],
     test: &[u8],
     fails: &[u64],
-) -> Result<(i32, Bytes, u64), Fail> {
+) -> Result<Ended, Fail> {
     let alloc = rt.alloc();
     let mut tree = suite(alloc, class, test, fails)?;
     call(rt, &WORDS, &mut tree, &[])
@@ -95,14 +96,9 @@ fn run_of(
 fn tests_run_until_one_detects_the_mutant(rt: HostRuntime) -> Result<(), Fail> {
     let mut tree = suite(rt.alloc(), &A, &T, &[])?;
     let told = call(&rt, &WORDS, &mut tree, &[])?;
-    assert_eq!(rt; told.0, 0);
-    assert_eq!(rt;
-        told.1.as_slice(),
-        b"mutants 6 killed 4 survived 2 no_coverage 0 timed_out 0 non_viable 0 errors 0 reused 0\n".as_slice()
-    );
     // Of fourteen runs two aren't needed, behind one that detects its mutant. Each takes 15 steps,
     // and 2 more where another value is returned.
-    assert_eq!(rt; told.2, 188);
+    assert!(rt; told.is(0, FIRST, 188));
     let report =
         br#"{"files":{"A.java":{"language":"java","mutants":[{"coveredBy":["T.neg","T.zero"],"id":"A.f(I)Z@1:CONDITIONALS_BOUNDARY","killedBy":["T.zero"],"location":{"end":{"column":2,"line":3},"start":{"column":1,"line":3}},"mutatorName":"CONDITIONALS_BOUNDARY","status":"Killed","statusReason":"java.lang.AssertionError"},{"coveredBy":["T.neg","T.zero"],"id":"A.f(I)Z@1:NEGATE_CONDITIONALS","killedBy":["T.neg"],"location":{"end":{"column":2,"line":3},"start":{"column":1,"line":3}},"mutatorName":"NEGATE_CONDITIONALS","status":"Killed","statusReason":"java.lang.AssertionError"},{"coveredBy":["T.neg","T.zero"],"id":"A.f(I)Z@3:FALSE_RETURNS","killedBy":["T.neg"],"location":{"end":{"column":2,"line":3},"start":{"column":1,"line":3}},"mutatorName":"FALSE_RETURNS","status":"Killed","statusReason":"java.lang.AssertionError"},{"coveredBy":["T.neg","T.zero"],"id":"A.f(I)Z@3:TRUE_RETURNS","location":{"end":{"column":2,"line":3},"start":{"column":1,"line":3}},"mutatorName":"TRUE_RETURNS","status":"Survived"},{"coveredBy":["T.neg","T.zero"],"id":"A.f(I)Z@5:FALSE_RETURNS","location":{"end":{"column":2,"line":3},"start":{"column":1,"line":3}},"mutatorName":"FALSE_RETURNS","status":"Survived"},{"coveredBy":["T.neg","T.zero"],"id":"A.f(I)Z@5:TRUE_RETURNS","killedBy":["T.zero"],"location":{"end":{"column":2,"line":3},"start":{"column":1,"line":3}},"mutatorName":"TRUE_RETURNS","status":"Killed","statusReason":"java.lang.AssertionError"}],"source":""}},"schemaVersion":"1","testFiles":{"T.java":{"tests":[{"id":"T.neg","name":"neg"},{"id":"T.zero","name":"zero"}]}},"thresholds":{"high":80,"low":60}}"#.as_slice();
     match tree.held("r.json") {
@@ -116,12 +112,7 @@ fn tests_run_until_one_detects_the_mutant(rt: HostRuntime) -> Result<(), Fail> {
 fn a_report_that_cannot_be_replaced_is_told(rt: HostRuntime) -> Result<(), Fail> {
     // Two folders are listed before, and two files are read.
     let told = run_of(&rt, &A, &T, &[4])?;
-    assert_eq!(rt; told.0, 11);
-    assert_eq!(rt;
-        told.1.as_slice(),
-        b"mutest: WriteFault report\n".as_slice()
-    );
-    assert_eq!(rt; told.2, 188);
+    assert!(rt; told.is(11, "mutest: WriteFault report\n", 188));
     Ok(())
 }
 
@@ -139,8 +130,7 @@ fn options_stand_in_any_order(rt: HostRuntime) -> Result<(), Fail> {
         "c",
     ];
     let told = call(&rt, &words, &mut tree, &[])?;
-    assert_eq!(rt; told.0, 0);
-    assert_eq!(rt; told.2, 188);
+    assert!(rt; told.is(0, FIRST, 188));
     assert!(rt; tree.held("r.json").is_some());
     Ok(())
 }
@@ -175,8 +165,7 @@ fn other_options_are_refused(rt: HostRuntime) -> Result<(), Fail> {
         let words = words_with(rt.alloc(), options)?;
         let mut tree = suite(rt.alloc(), &A, &T, &[])?;
         let told = call(&rt, words.as_slice(), &mut tree, &[])?;
-        assert_eq!(rt; told.0, 2);
-        assert_eq!(rt; told.1.as_slice(), b"mutest: Usage\n".as_slice());
+        assert!(rt; told.is(2, "mutest: Usage\n", 0));
     }
     Ok(())
 }
@@ -196,8 +185,7 @@ fn archives_are_refused(rt: HostRuntime) -> Result<(), Fail> {
         "new.mth",
     ];
     let told = call(&rt, &words, &mut tree, &[])?;
-    assert_eq!(rt; told.0, 4);
-    assert_eq!(rt; told.1.as_slice(), b"mutest: Archive app.jar\n".as_slice());
+    assert!(rt; told.is(4, "mutest: Archive app.jar\n", 0));
     Ok(())
 }
 
@@ -209,11 +197,7 @@ fn a_test_that_fails_is_told(rt: HostRuntime) -> Result<(), Fail> {
         test[NEG_ASSERTS] = 23;
     }
     let told = run_of(&rt, &A, test.as_slice(), &[])?;
-    assert_eq!(rt; told.0, 8);
-    assert_eq!(rt;
-        told.1.as_slice(),
-        b"mutest: NotGreen T.neg Failed\n".as_slice()
-    );
+    assert!(rt; told.is(8, "mutest: NotGreen T.neg Failed\n", told.steps));
     Ok(())
 }
 
@@ -221,20 +205,14 @@ fn a_test_that_fails_is_told(rt: HostRuntime) -> Result<(), Fail> {
 fn refused_code_is_no_program(rt: HostRuntime) -> Result<(), Fail> {
     let refused = damaged(rt.alloc(), 132, 0xb1)?;
     let told = run_of(&rt, refused.as_slice(), &T, &[])?;
-    assert_eq!(rt; told.0, 6);
-    assert_eq!(rt;
-        told.1.as_slice(),
-        b"mutest: BadProgram V11 A f(I)Z 5\n".as_slice()
-    );
+    assert!(rt; told.is(6, "mutest: BadProgram V11 A f(I)Z 5\n", 0));
     Ok(())
 }
 
 #[test]
 fn two_classes_of_one_name_are_no_program(rt: HostRuntime) -> Result<(), Fail> {
     let told = run_of(&rt, &T, &T, &[])?;
-    assert_eq!(rt; told.0, 6);
-    assert_eq!(rt; told.1.as_slice(), b"mutest: BadProgram 13 T\n".as_slice());
-    assert_eq!(rt; told.2, 0);
+    assert!(rt; told.is(6, "mutest: BadProgram 13 T\n", 0));
     Ok(())
 }
 
@@ -259,9 +237,7 @@ fn what_is_wrong_with_a_test_is_told(rt: HostRuntime) -> Result<(), Fail> {
             }
         }
         let told = run_of(&rt, &A, test.as_slice(), &[])?;
-        assert_eq!(rt; told.0, 7);
-        assert_eq!(rt; told.1.as_slice(), text.as_bytes());
-        assert_eq!(rt; told.2, 0);
+        assert!(rt; told.is(7, text, 0));
     }
     Ok(())
 }
@@ -285,9 +261,7 @@ fn wrong_supers_are_no_program(rt: HostRuntime) -> Result<(), Fail> {
             test[in_test] = test_byte;
         }
         let told = run_of(&rt, class.as_slice(), test.as_slice(), &[])?;
-        assert_eq!(rt; told.0, 6);
-        assert_eq!(rt; told.1.as_slice(), text.as_bytes());
-        assert_eq!(rt; told.2, 0);
+        assert!(rt; told.is(6, text, 0));
     }
     Ok(())
 }
@@ -307,10 +281,6 @@ fn too_many_classes_are_told(rt: HostRuntime) -> Result<(), Fail> {
     ))?;
     let mut tree = MemTree::new(rt.alloc(), files, Vec::new(rt.alloc()))?;
     let told = call(&rt, &WORDS, &mut tree, &[])?;
-    assert_eq!(rt; told.0, 12);
-    assert_eq!(rt;
-        told.1.as_slice(),
-        b"mutest: TooMany classes 20001\n".as_slice()
-    );
+    assert!(rt; told.is(12, "mutest: TooMany classes 20001\n", 0));
     Ok(())
 }

@@ -1,6 +1,7 @@
 //! Suites with a folder of sources: what `run` reads of it, and what it tells.
 
 use crate::calls::call;
+use crate::history::FIRST;
 use class_model::Bytes;
 use mt_edge::MemTree;
 use sample_classes::{A, T};
@@ -44,8 +45,7 @@ fn source(alloc: Global) -> Result<Bytes, Fail> {
 fn a_file_has_its_source(rt: HostRuntime) -> Result<(), Fail> {
     let mut tree = suite(rt.alloc(), source(rt.alloc())?, &[])?;
     let told = call(&rt, &WORDS, &mut tree, &[])?;
-    assert_eq!(rt; told.0, 0);
-    assert_eq!(rt; told.2, 188);
+    assert!(rt; told.is(0, FIRST, 188));
     let end =
         br#"],"source":"class A {}\n"}},"schemaVersion":"1","testFiles":{"T.java":{"tests":[{"id":"T.neg","name":"neg"},{"id":"T.zero","name":"zero"}]}},"thresholds":{"high":80,"low":60}}"#.as_slice();
     match tree.held("r.json") {
@@ -70,7 +70,7 @@ fn a_folder_without_sources_is_no_fault(rt: HostRuntime) -> Result<(), Fail> {
         "--sources=none",
     ];
     let told = call(&rt, &words, &mut tree, &[])?;
-    assert_eq!(rt; told.0, 0);
+    assert!(rt; told.is(0, FIRST, 188));
     Ok(())
 }
 
@@ -80,9 +80,7 @@ fn a_fault_at_the_sources_comes_behind_the_runs(rt: HostRuntime) -> Result<(), F
     for fails in [4u64, 5] {
         let mut tree = suite(rt.alloc(), source(rt.alloc())?, [fails].as_slice())?;
         let told = call(&rt, &WORDS, &mut tree, &[])?;
-        assert_eq!(rt; told.0, 10);
-        assert_eq!(rt; told.1.as_slice(), b"mutest: ReadFault\n".as_slice());
-        assert_eq!(rt; told.2, 188);
+        assert!(rt; told.is(10, "mutest: ReadFault\n", 188));
         assert!(rt; tree.held("r.json").is_none());
     }
     Ok(())
@@ -93,12 +91,7 @@ fn too_many_bytes_of_sources_are_told(rt: HostRuntime) -> Result<(), Fail> {
     let bytes = vec![in rt.alloc(); 32u8; 67_108_865]?;
     let mut tree = suite(rt.alloc(), Bytes::from_vec(bytes), &[])?;
     let told = call(&rt, &WORDS, &mut tree, &[])?;
-    assert_eq!(rt; told.0, 12);
-    assert_eq!(rt;
-        told.1.as_slice(),
-        b"mutest: TooMany sources 67108865\n".as_slice()
-    );
-    assert_eq!(rt; told.2, 188);
+    assert!(rt; told.is(12, "mutest: TooMany sources 67108865\n", 188));
     Ok(())
 }
 
@@ -117,8 +110,6 @@ fn an_archive_of_sources_is_refused(rt: HostRuntime) -> Result<(), Fail> {
         "--sources=src.zip/",
     ];
     let told = call(&rt, &words, &mut tree, &[])?;
-    assert_eq!(rt; told.0, 4);
-    assert_eq!(rt; told.1.as_slice(), b"mutest: Archive src.zip\n".as_slice());
-    assert_eq!(rt; told.2, 0);
+    assert!(rt; told.is(4, "mutest: Archive src.zip\n", 0));
     Ok(())
 }

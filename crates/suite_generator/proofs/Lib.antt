@@ -1,1 +1,2 @@
 mod SuiteLaws
+mod StatedLaws

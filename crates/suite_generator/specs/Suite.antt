@@ -1,8 +1,6 @@
 -- The suite that is made: class files that are assembled from their texts (this project's own).
-use Rattle.std.specs.Prelude.{◌≡◌, ◌≢◌, ◌<◌, ◌⊎◌, ℕ, suc, List, [], ◌∷◌, length, Err}
-use Rattle.class_asm.specs.Assembled.{AssembledClass, IsAssembled}
-use Rattle.class_asm.specs.declared.fault.AsmFault.{AsmFault}
-use Rattle.class_asm.specs.declared.fault.AsmFault.TheVariants as asm_fault
+use Rattle.std.specs.Prelude.{◌≡◌, ℕ, suc, List, [], ◌∷◌, length}
+use Rattle.class_asm.specs.Assembled.{IsAssembled}
 use Rattle.suite_generator.specs.Texts.{class_text, test_text}
 use Rattle.suite_generator.specs.declared.suite.Suite.{Suite}
 
@@ -20,10 +18,3 @@ AreFilesOf text count files = (length files ≡ count) × AreAssembled text 0 fi
 abbrev pub IsSuite : ℕ → Suite → Type 0
 IsSuite count suite =
     AreFilesOf class_text count suite.classes.items × AreFilesOf test_text count suite.tests.items
-
--- Memory has run out, or one of the texts states no class.
-abbrev pub StatesNone : ℕ → AsmFault → Type 0
-StatesNone count fault = fault ≢ asm_fault.Memory
-    → (number : ℕ) × (number < count)
-    × ((AssembledClass (class_text number) ≡ Err fault)
-    ⊎ (AssembledClass (test_text number) ≡ Err fault))

@@ -1,14 +1,14 @@
 //! The class files of the suite.
 
-ghost use Rattle.std.specs.Prelude.{◌≡◌, ◌≢◌, ◌≤◌, MatchResult, Err};
-ghost use Rattle.class_asm.specs.Assembled.{AssembledClass, IsAssembled};
-ghost use Rattle.class_asm.specs.declared.fault.AsmFault.TheVariants as asm_fault;
+ghost use Rattle.std.specs.Prelude.{◌≡◌, ◌<◌, ◌≤◌, IfOk};
+ghost use Rattle.class_asm.specs.Assembled.{IsAssembled};
+ghost use Rattle.suite_generator.specs.Stated.{StatesClass, TextsStateClasses};
 ghost use Rattle.suite_generator.specs.Texts.{class_text, test_text};
-ghost use Rattle.suite_generator.specs.Suite.{IsSuite, StatesNone};
+ghost use Rattle.suite_generator.specs.Suite.{IsSuite};
 
 use crate::texts::{class_text, test_text};
 use class_asm::{AsmFault, assemble};
-use class_model::Bytes;
+use class_model::{Bytes, Memory};
 use std::alloc::Global;
 
 /// The class files of a suite: those of the classes, and those of their tests.
@@ -18,40 +18,52 @@ pub struct Suite {
     pub tests: Vec<Bytes>,
 }
 
-fn class_file(alloc: Global, number: u32) -> Result<Bytes, AsmFault>
-    ensures { MatchResult result (IsAssembled (class_text number))
-        (λ fault. fault ≢ asm_fault.Memory → AssembledClass (class_text number) ≡ Err fault) }
+/// Each of the texts of a suite states a class.
+pub fn texts_state_classes()
+    ensures { TextsStateClasses }
+{}
+
+// The class file of a text that states a class.
+fn assembled(alloc: Global, text: &str) -> Result<Bytes, Memory>
+    requires { StatesClass text.now }
+    ensures { IfOk result (IsAssembled text.now) }
 {
-    let text = class_text(alloc, number)?;
-    assemble(alloc, text.as_bytes())
+    match assemble(alloc, text.as_bytes()) {
+        Ok(bytes) => Ok(bytes),
+        Err(AsmFault::Memory) => Err(Memory),
+        Err(AsmFault::Line { line: _ }) => unreachable!(),
+    }
 }
 
-fn test_file(alloc: Global, number: u32) -> Result<Bytes, AsmFault>
-    requires { number ≤ 200 }
-    ensures { MatchResult result (IsAssembled (test_text number))
-        (λ fault. fault ≢ asm_fault.Memory → AssembledClass (test_text number) ≡ Err fault) }
+fn class_file(alloc: Global, number: u32) -> Result<Bytes, Memory>
+    requires { number < 200 }
+    ensures { IfOk result (IsAssembled (class_text number)) }
 {
+    texts_state_classes();
+    let text = class_text(alloc, number)?;
+    assembled(alloc, text.as_str())
+}
+
+fn test_file(alloc: Global, number: u32) -> Result<Bytes, Memory>
+    requires { number < 200 }
+    ensures { IfOk result (IsAssembled (test_text number)) }
+{
+    texts_state_classes();
     let text = test_text(alloc, number)?;
-    assemble(alloc, text.as_bytes())
+    assembled(alloc, text.as_str())
 }
 
 /// The suite of so many classes, each with its test.
-pub fn made_suite(alloc: Global, count: u32) -> Result<Suite, AsmFault>
+pub fn made_suite(alloc: Global, count: u32) -> Result<Suite, Memory>
     requires { count ≤ 200 }
-    ensures { MatchResult result (IsSuite count) (StatesNone count) }
+    ensures { IfOk result (IsSuite count) }
 {
     let mut classes = Vec::new(alloc);
     let mut tests = Vec::new(alloc);
     for number in 0..count {
-        let class = match class_file(alloc, number) {
-            Ok(class) => class,
-            Err(fault) => return Err(fault),
-        };
+        let class = class_file(alloc, number)?;
         classes.push(class)?;
-        let test = match test_file(alloc, number) {
-            Ok(test) => test,
-            Err(fault) => return Err(fault),
-        };
+        let test = test_file(alloc, number)?;
         tests.push(test)?;
     }
     Ok(Suite { classes, tests })

@@ -11,14 +11,14 @@ use Rattle.class_table.specs.declared.scripted.Test.{Test}
 use Rattle.class_table.specs.Table.{look}
 use Rattle.mutator_ops.specs.declared.mutant.Mutant.{Mutant}
 use Rattle.mutator_ops.specs.declared.mutant.State.{State}
-use Rattle.suite_records.specs.Below.{SelectedAlwaysSuffice, UnreachedIsAlike, original_run, edited_run, AllPass, ReachingIsAlike, with_class, mutant_run, reaches, detected}
+use Rattle.suite_records.specs.Below.{SelectedAlwaysSuffice, UnreachedIsAlike, original_run, AllPass, ReachingIsAlike, with_class, mutant_run, reaches, detected}
 use Rattle.record_rules.specs.declared.record.RunRecord.{RunRecord}
 use Rattle.record_rules.specs.Records.{Asked, run}
 use Rattle.reuse_laws.specs.Jobs.{AreTrue}
 use Rattle.class_records.specs.Profile.{profile}
 use Rattle.suite_records.specs.Suites.{mutant_asked}
 use Rattle.job_rules.specs.Tried.{Tried, known, saying, detections_in}
-use Rattle.suite_jobs.specs.Jobs.{Suite, Allowed, IsOfFile, IsAccepted, says, has_reached, numbered, original_tried, covering, viable_file, mutant_tried, every_run, reaching, detecting}
+use Rattle.suite_jobs.specs.Jobs.{Suite, Allowed, IsOfFile, IsAccepted, says, has_reached, numbered, original_tried, covering, viable_file, mutant_tried, detecting}
 use Rattle.suite_jobs.specs.Laws.{RecordsSayRuns, SaysAllTests, DetectionsAreOfAllTests}
 use Rattle.suite_jobs.proofs.Own.{Given, is_safe_mutant, whole}
 use Rattle.suite_jobs.proofs.Verdicts.{original_said, mutant_said}

@@ -13,7 +13,7 @@ use Rattle.machine_rules.specs.Steps.{is_reached}
 use Rattle.machine_laws.specs.Consulted.{IsLibraryWhole}
 use Rattle.machine_laws.specs.Walks.{LinesAreListed, RunsListLines}
 use Rattle.mutator_ops.specs.declared.mutant.Mutant.{Mutant}
-use Rattle.suite_records.specs.Below.{is_at, reaches, detected_by, detected}
+use Rattle.suite_records.specs.Below.{is_at, detected_by, detected}
 use Rattle.record_rules.specs.Profiles.{Held}
 use Rattle.record_rules.specs.Outcomes.{outcome_at}
 use Rattle.record_rules.specs.Records.{run, place_in, is_before, put_pair, with_bytes}

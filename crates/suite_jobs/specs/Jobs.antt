@@ -178,10 +178,12 @@ trials_of a s m =
 abbrev pub every_run : Allowed → Suite → Class × List ℕ → List (ℕ × Ran)
 every_run a s made =
     map
-    (λ t. (t.0,
-    run
-    (mutant_asked s.files s.program made t.1 a.limits
-    (limit_of (original_run s.program t.1 a.limits a.steps).steps))))
+    (λ t. (
+      t.0,
+      run
+          (mutant_asked s.files s.program made t.1 a.limits
+          (limit_of (original_run s.program t.1 a.limits a.steps).steps)),
+    ))
     (numbered s)
 
 -- The tests whose runs reach a mutant's line,

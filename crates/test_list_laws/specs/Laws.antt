@@ -1,5 +1,5 @@
 -- What is said of the list of tests, over its definition alone.
-use Rattle.std.specs.Prelude.{◌≡◌, ◌⊎◌, ℕ, true, false, List, [], ◌∷◌, ◌++◌, map, Some, slice_get, Ok}
+use Rattle.std.specs.Prelude.{◌≡◌, ◌⊎◌, ℕ, true, false, List, [], ◌∷◌, ◌++◌, map, codes, Some, slice_get, Ok}
 use Rattle.class_model.specs.declared.class.Class.{Class}
 use Rattle.class_model.specs.declared.class.Member.{Member}
 use Rattle.program_rules.specs.Names.{Name}
@@ -67,3 +67,13 @@ TestsStandOnce =
     DeclareOnce files → Tests most files names ≡ Ok tests → (i j : ℕ) (t u : Test) →
     slice_get tests i ≡ Some t → slice_get tests j ≡ Some u → t.class ≡ u.class →
     t.method ≡ u.method → i ≡ j
+
+-- Class files of which this is said, and among them a test: the method `t` of a class `T`.
+pub record AreMet : Type 0 where
+  pub files : Files
+  pub names : List Name
+  pub tests : List Test
+  pub named : AreNamed files
+  pub once : DeclareOnce files
+  pub found : Tests 1 files names ≡ Ok tests
+  pub listed : IsListed tests (codes "T") (codes "t")
