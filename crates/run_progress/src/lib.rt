@@ -11,9 +11,9 @@ use std::time::Instant;
 const PAUSE: u64 = 125;
 
 /// A gate that counts the cells that have ended and shows what is done: first the classes and their
-/// tests, then, once it is opened, how many cells of all, in what time, and about how long the
-/// others take, and behind the last cell the report. Nothing that is written wrong stops a run: its
-/// errors are dropped.
+/// tests, then, once it is opened, how many cells of all, how many mutants are detected so far, in
+/// what time, and about how long the others take, and behind the last cell the report. Nothing that
+/// is written wrong stops a run: its errors are dropped.
 #[derive(Drop)]
 pub struct Progress<'a, R: Clock + Eprint> {
     rt: &'a R,
@@ -21,6 +21,8 @@ pub struct Progress<'a, R: Clock + Eprint> {
     began: Option<Instant>,
     cells: AtomicU64,
     ended: AtomicU64,
+    // How many cells were the first that their worker saw to detect their mutant.
+    detected: AtomicU64,
     // In milliseconds since the beginning: when the cells were begun, and when the line was last
     // written.
     opened: AtomicU64,
@@ -47,6 +49,7 @@ impl<'a, R: Clock + Eprint> Progress<'a, R> {
             began,
             cells: AtomicU64::new(0),
             ended: AtomicU64::new(0),
+            detected: AtomicU64::new(0),
             opened: AtomicU64::new(0),
             written: AtomicU64::new(0),
         }
@@ -80,16 +83,17 @@ impl<'a, R: Clock + Eprint> Progress<'a, R> {
     fn show(&self, millis: u64, ended: u64, cells: u64) {
         let seconds = millis / 1000;
         let (minutes, seconds) = (seconds / 60, seconds % 60);
+        let detected = self.detected.load(Ordering::SeqCst);
         if ended >= cells {
             let _shown = eprint!(self.rt;
-                "\rmutest: {ended} of {cells} runs on mutants, {minutes}:{seconds:02}, \
-                 writing the report\x1b[K"
+                "\rmutest: {ended} of {cells} runs, {detected} detected, \
+                 {minutes}:{seconds:02}, writing the report\x1b[K"
             );
             return;
         }
         if ended == 0 {
             let _shown = eprint!(self.rt;
-                "\rmutest: 0 of {cells} runs on mutants, {minutes}:{seconds:02}\x1b[K"
+                "\rmutest: 0 of {cells} runs, {minutes}:{seconds:02}\x1b[K"
             );
             return;
         }
@@ -97,8 +101,8 @@ impl<'a, R: Clock + Eprint> Progress<'a, R> {
         let more = seconds_left(millis.saturating_sub(opened), ended, cells - ended);
         let (more_minutes, more) = (more / 60, more % 60);
         let _shown = eprint!(self.rt;
-            "\rmutest: {ended} of {cells} runs on mutants, {minutes}:{seconds:02}, \
-             about {more_minutes}:{more:02} left\x1b[K"
+            "\rmutest: {ended} of {cells} runs, {detected} detected, \
+             {minutes}:{seconds:02}, about {more_minutes}:{more:02} left\x1b[K"
         );
     }
 }
@@ -114,6 +118,10 @@ impl<'a, R: Clock + Eprint> Gate for Progress<'a, R> {
     }
 
     fn begin(&self, _worker: u64, _cell: u64) {}
+
+    fn detect(&self, _worker: u64, _cell: u64) {
+        self.detected.fetch_add(1, Ordering::SeqCst);
+    }
 
     fn end(&self, _worker: u64, _cell: u64) {
         let ended = self.ended.fetch_add(1, Ordering::SeqCst).saturating_add(1);

@@ -12,6 +12,7 @@ const TURNS: u64 = 100_000_000;
 #[derive(Drop)]
 pub struct HeldGate {
     opened: AtomicU64,
+    detected: AtomicU64,
     ended: AtomicU64,
     late: AtomicBool,
 }
@@ -20,6 +21,7 @@ impl HeldGate {
     pub fn new() -> HeldGate {
         HeldGate {
             opened: AtomicU64::new(0),
+            detected: AtomicU64::new(0),
             ended: AtomicU64::new(0),
             late: AtomicBool::new(false),
         }
@@ -28,6 +30,11 @@ impl HeldGate {
     /// The number of cells that it was told at first.
     pub fn opened(&self) -> u64 {
         self.opened.load(Ordering::SeqCst)
+    }
+
+    /// How many cells were told as the first that are seen to detect their mutant.
+    pub fn detected(&self) -> u64 {
+        self.detected.load(Ordering::SeqCst)
     }
 
     /// How many cells have ended.
@@ -58,6 +65,10 @@ impl Gate for HeldGate {
         if cell == 0 {
             self.wait();
         }
+    }
+
+    fn detect(&self, _worker: u64, _cell: u64) {
+        self.detected.fetch_add(1, Ordering::SeqCst);
     }
 
     fn end(&self, _worker: u64, _cell: u64) {

@@ -179,6 +179,7 @@ fn cells_are_shared_among_threads(rt: HostRuntime) -> Result<(), Fail> {
     assert!(rt; !gate.is_late());
     assert_eq!(rt; gate.opened(), 12);
     assert_eq!(rt; gate.ended(), 12);
+    assert_eq!(rt; gate.detected(), 4);
     assert!(rt; detects_alike(&ends));
     Ok(())
 }
