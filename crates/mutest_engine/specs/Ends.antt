@@ -1,6 +1,6 @@
 -- How a call may end: each status with its number and its line, when it comes, what it leaves in
 -- the sink and in the tree, and the meter (this project's own).
-use Rattle.std.specs.Prelude.{◌≡◌, ◌⊎◌, ℕ, ◌+◌, ◌≤◌, List, [], ◌∷◌, Option, IfSome, Result, Ok, Err, MatchResult, ◌++◌, map, option_map, codes}
+use Rattle.std.specs.Prelude.{◌≡◌, ◌⊎◌, ℕ, ◌≤◌, List, [], ◌∷◌, Option, IfSome, Result, Ok, Err, MatchResult, ◌++◌, map, option_map, codes}
 use Rattle.mutest_words.specs.Words.{Command, RunOptions}
 use Rattle.mutest_engine.specs.Answers.{Answered, Write, answered, write_of}
 use Rattle.mutest_engine.specs.Refusals.{MayRefuse, IsBeforeRuns, IsOfSources, refusal_line, refusal_number}
