@@ -1,9 +1,9 @@
 -- What the value under the lock keeps, where a record is added.
-use Rattle.std.proofs.Common.{◌≡◌, ◌∙◌, ℕ, zero, suc, ◌+◌, ◌<◌, ◌≤◌, ◌^◌, Bool, true, false, List, [], ◌∷◌, ◌++◌, length, take, drop, Option, Some, None, Result, Ok, Err, refl, sym, ap, subst, append_assoc, length-append, arith}
+use Rattle.std.proofs.Common.{◌≡◌, append-nil, ◌∙◌, ℕ, zero, suc, ◌+◌, ◌<◌, ◌≤◌, ◌^◌, Bool, true, false, List, [], ◌∷◌, ◌++◌, length, take, drop, Option, Some, None, Result, Ok, Err, refl, sym, ap, subst, append_assoc, length-append, arith}
 use Rattle.std.specs.Prelude.{⊥, IfSome, IsSomeAnd, OnOk, OnErr, option_map, slice_get}
 use Rattle.mt_edge.specs.Pieces.{Grows, GrowsBy}
 use Rattle.std.specs.List.{AllByRecursion}
-use Rattle.std.proofs.lemmas.List.{take-append-le, drop-append-le}
+use Rattle.std.proofs.lemmas.List.{take-append-drop, take-append-le, drop-append-le}
 use mathlib.Core.List.{IsPrefix}
 use Rattle.record_rules.specs.declared.record.RunRecord.{RunRecord}
 use Rattle.history_rules.specs.Histories.{classes_used}
@@ -16,7 +16,7 @@ use Rattle.job_journal.specs.Opening.{Opens}
 use Rattle.run_journal.specs.Laws.{Begins, SaysFirst}
 use Rattle.job_journal.specs.Adding.{added_bytes, known_with}
 use Rattle.job_journal.specs.Tables.{StandsAmong, IsTables, Adds}
-use Rattle.job_journal.specs.Keeping.{records_in, added_in, HoldsBehind, IsBacked, Stands, Keeps, IsAdded, GainsOnce, HasGrown, HasLoaded, IsAcknowledged, TellsKnown, IsSafe}
+use Rattle.job_journal.specs.Keeping.{records_in, added_in, HoldsBehind, IsBacked, Stands, Keeps, IsAdded, GainsOnce, HasGrown, HasLoaded, IsAcknowledged, TellsKnown, IsSafe, StopsLoseNothing}
 use Rattle.job_journal.specs.declared.tables.Tables.{Tables}
 use Rattle.run_journal.proofs.Chunks.{take_whole}
 use Rattle.run_journal.proofs.Steps.{on_append, says_first}
@@ -224,6 +224,30 @@ not_again profile durable loaded (Some bytes) t u piece r h a is = (a.3 (added_i
 pub safe_stands : (profile durable loaded : ℕ) (t : Tables) (kept : Option (List ℕ)) → IfSome kept (Stands profile durable loaded t) → IfSome kept (IsSafe profile durable)
 safe_stands profile durable loaded t None h = tt
 safe_stands profile durable loaded t (Some bytes) h = record { whole = h.whole; is_durable = h.is_durable }
+
+-- ---- what a stop leaves
+
+take_behind : (n : ℕ) (xs ys : List ℕ) → length xs ≤ n → (rest : List ℕ) × (take n (xs ++ ys) ≡ xs ++ rest)
+take_behind n [] ys le = (take n ys, refl)
+take_behind zero (x ∷ xs) ys le = absurd (omega (arith, le))
+take_behind (suc n) (x ∷ xs) ys le =
+    let h = take_behind n xs ys (omega (arith, le)) in
+    (h.0, ap (λ (zs : List ℕ). x ∷ zs) h.1)
+
+pub stops_lose_nothing : StopsLoseNothing
+stops_lose_nothing profile durable count r bytes more ack read le =
+    let all = bytes ++ more in
+    let left = take count all in
+    let split : left ++ drop count all ≡ all = take-append-drop count all in
+    let first = beginnings_are_read profile left (drop count all) (subst (λ (x : List ℕ). IsRead (reading_of profile x)) (sym split) read) in
+    let d = ack.is_durable in
+    let behind = take_behind count bytes more (omega (arith, d, le)) in
+    let grown = grown_first profile bytes behind.0 in
+    let there : StandsAmong r (records_in profile (bytes ++ behind.0)) = subst (λ (rs : List RunRecord). StandsAmong r rs) (sym grown.records.is) (among_front (records_in profile bytes) grown.records.more r ack.among) in (
+      first.0,
+      subst (λ (x : List ℕ). StandsAmong r (records_in profile x)) (sym behind.1) there,
+      subst (λ (x : List ℕ). SaysFirst (reading_of profile left) (reading_of profile x)) split first.1,
+    )
 
 -- ---- the opening
 

@@ -7,7 +7,7 @@ use Rattle.mt_edge.specs.Pieces.{Grows}
 use Rattle.mt_edge.specs.declared.outside.EdgeFault.{EdgeFault}
 use Rattle.mt_edge.specs.declared.outside.EdgeFault.TheVariants.{Failed, Memory}
 use Rattle.record_rules.specs.declared.record.RunRecord.{RunRecord}
-use Rattle.run_journal.specs.Laws.{Begins}
+use Rattle.run_journal.specs.Laws.{Begins, SaysFirst}
 use Rattle.run_journal.specs.Reading.{reading_of, IsRead, IsWhole}
 use Rattle.job_journal.specs.Adding.{added_bytes}
 use Rattle.job_journal.specs.Tables.{StandsAmong, IsTables}
@@ -122,3 +122,17 @@ pub record IsSafe (profile durable : ℕ) (bytes : List ℕ) : Type 0 where
 abbrev pub RecordsAll : {M : Type 0} → ℕ → (M → RunRecord) → List M → List ℕ → Type 0
 RecordsAll {M} profile entry due bytes =
     (k : ℕ) (m : M) → slice_get due k ≡ Some m → StandsAmong (entry m) (records_in profile bytes)
+
+-- ---- what a stop leaves
+
+-- A stop leaves a beginning of what is kept, with all that was durable. A record that was acknowledged
+-- before stands in it, and its records are the first of what is kept.
+abbrev pub StopsLoseNothing : Type 0
+StopsLoseNothing =
+    (profile durable count : ℕ) (r : RunRecord) (bytes more : List ℕ) →
+    IsAcknowledged profile durable r bytes → IsRead (reading_of profile (bytes ++ more)) →
+    durable ≤ count →
+    IsRead (reading_of profile (take count (bytes ++ more)))
+    × StandsAmong r (records_in profile (take count (bytes ++ more)))
+    × SaysFirst (reading_of profile (take count (bytes ++ more)))
+    (reading_of profile (bytes ++ more))

@@ -6,6 +6,7 @@
 #![tactic(auto)]
 
 ghost use Rattle.job_journal.specs.Adding.{RecordIsRead, WrittenTellsRecords, AddedIsRead};
+ghost use Rattle.job_journal.specs.Keeping.{StopsLoseNothing};
 
 mod adding;
 mod journal;
@@ -38,4 +39,9 @@ pub fn written_tells_records()
 /// What is added to a whole journal makes a whole one that says the record, too.
 pub fn added_is_read()
     ensures { AddedIsRead }
+{}
+
+/// What a stop leaves is read, and no record is lost that was acknowledged.
+pub fn stops_lose_nothing()
+    ensures { StopsLoseNothing }
 {}

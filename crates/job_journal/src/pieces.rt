@@ -29,9 +29,8 @@ pub fn complete<K: Keeper>(keeper: &mut K, closing: &[u8]) -> Result<(), EdgeFau
     ensures cause { HasCause (K.writing keeper.old) (K.writing keeper.new) result }
     ensures other { K.reading keeper.new ≡ K.reading keeper.old }
 {
-    if !closing.is_empty() {
-        keeper.append(closing)?;
+    if closing.is_empty() {
+        return keeper.sync();
     }
-    keeper.sync()?;
-    Ok(())
+    put_piece(keeper, closing)
 }

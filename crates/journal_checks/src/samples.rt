@@ -1,10 +1,16 @@
-//! Two records of runs of a test class `T`.
+//! Two records of runs of a test class `T`, and a journal without any.
 
-ghost use Rattle.std.specs.Prelude.{◌≡◌, ◌∷◌, [], Some, None, IfOk};
+ghost use Rattle.std.specs.Prelude.{◌≡◌, ◌∷◌, [], Some, None, IfOk, IfSome};
+ghost use Rattle.mt_edge.specs.Shown.{keeper_kept};
+ghost use Rattle.record_rules.specs.declared.profile_number.TheConstants.{PROFILE_NUMBER};
+ghost use Rattle.job_journal.specs.Keeping.{HasLoaded};
 ghost use Rattle.journal_checks.specs.Samples.{first_record, second_record};
 
+use crate::calls::open;
 use crate::made::Made;
 use class_model::{Bytes, Memory, Name, Outcome, Seq, SharedBytes};
+use job_journal::JournalState;
+use mt_edge::MemKeeper;
 use record_rules::RunRecord;
 use std::alloc::Global;
 
@@ -98,4 +104,16 @@ pub fn second(alloc: Global) -> Result<Made, Memory>
         reached,
     });
     Ok(made)
+}
+
+/// An empty journal's state.
+pub fn begun(alloc: Global) -> Result<JournalState<MemKeeper, Made>, Memory>
+    ensures { IfOk result (λ s.
+        IfSome (keeper_kept s.keeper) (HasLoaded PROFILE_NUMBER s.loaded [])) }
+{
+    let keeper = MemKeeper::new(Bytes::new(alloc), Vec::new(alloc));
+    match open(alloc, keeper) {
+        Ok((state, _records)) => Ok(state),
+        Err((_keeper, _fault)) => Err(Memory),
+    }
 }

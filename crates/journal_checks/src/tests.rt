@@ -2,7 +2,7 @@
 
 use crate::calls::{add, open};
 use crate::made::{Made, NoneLoaded};
-use crate::samples::{first, second};
+use crate::samples::{begun, first, second};
 use class_model::Bytes;
 use job_journal::{Journal, JournalFault, JournalState};
 use mt_edge::{EdgeFault, MemKeeper, Recorder};
@@ -136,7 +136,7 @@ fn two_threads_keep_their_records(rt: HostRuntime) -> Result<(), Fail> {
     let alloc = rt.alloc();
     let made = first(alloc)?;
     let other = second(alloc)?;
-    let (state, _) = opened(alloc, &[], &[])?;
+    let state = begun(alloc)?;
     let journal: Journal<MemKeeper, Made, NoneLoaded> = Journal::new(state);
     let (one, two) = join(
         &rt,
