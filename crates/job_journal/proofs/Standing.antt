@@ -1,6 +1,7 @@
 -- What the value under the lock keeps, where a record is added.
 use Rattle.std.proofs.Common.{◌≡◌, append-nil, ◌∙◌, ℕ, zero, suc, ◌+◌, ◌<◌, ◌≤◌, ◌^◌, Bool, true, false, List, [], ◌∷◌, ◌++◌, length, take, drop, Option, Some, None, Result, Ok, Err, refl, sym, ap, subst, append_assoc, length-append, arith}
-use Rattle.std.specs.Prelude.{⊥, IfSome, IsSomeAnd, OnOk, OnErr, option_map, slice_get}
+use Rattle.std.proofs.lemmas.List.Elements.{All-weaker, All-more}
+use Rattle.std.specs.Prelude.{⊥, All, get_or, IfSome, IsSomeAnd, OnOk, OnErr, option_map, slice_get}
 use Rattle.mt_edge.specs.Pieces.{Grows, GrowsBy}
 use Rattle.std.specs.List.{AllByRecursion}
 use Rattle.std.proofs.lemmas.List.{take-append-drop, take-append-le, drop-append-le}
@@ -16,7 +17,7 @@ use Rattle.job_journal.specs.Opening.{Opens}
 use Rattle.run_journal.specs.Laws.{Begins, SaysFirst}
 use Rattle.job_journal.specs.Adding.{added_bytes, known_with}
 use Rattle.job_journal.specs.Tables.{StandsAmong, IsTables, Adds}
-use Rattle.job_journal.specs.Keeping.{records_in, added_in, HoldsBehind, IsBacked, Stands, Keeps, IsAdded, GainsOnce, HasGrown, HasLoaded, IsAcknowledged, TellsKnown, IsSafe, StopsLoseNothing}
+use Rattle.job_journal.specs.Keeping.{records_in, added_in, HoldsBehind, IsBacked, Stands, Keeps, IsAdded, GainsOnce, HasGrown, HasLoaded, IsAcknowledged, RecordsAll, TellsKnown, IsSafe, StopsLoseNothing}
 use Rattle.job_journal.specs.declared.tables.Tables.{Tables}
 use Rattle.run_journal.proofs.Chunks.{take_whole}
 use Rattle.run_journal.proofs.Steps.{on_append, says_first}
@@ -180,6 +181,18 @@ still_among profile (Some bytes) new r g a =
     let first = grown_first profile bytes g.more in
     subst (λ (k : Option (List ℕ)). IfSome k (λ x. StandsAmong r (records_in profile x))) (sym g.is)
     (subst (λ (rs : List RunRecord). StandsAmong r rs) (sym first.records.is) (among_front (records_in profile bytes) first.records.more r a))
+
+pub one_more_stands : {D : Type 0} (profile durable : ℕ) (entry : D → RunRecord) (due : List D) (i : ℕ) (d : D) (kept new : Option (List ℕ)) → i < length due → HasGrown kept new → IfSome kept (RecordsAll profile entry (take i due)) → IfSome new (IsAcknowledged profile durable (entry (get_or due i d))) → IfSome new (RecordsAll profile entry (take (i + 1) due))
+one_more_stands profile durable entry due i d None new lt g h a = subst (λ (k : Option (List ℕ)). IfSome k (RecordsAll profile entry (take (i + 1) due))) (sym g.is) tt
+one_more_stands {D} profile durable entry due i d (Some bytes) new lt g h a =
+    let all = bytes ++ g.more in
+    let first = grown_first profile bytes g.more in
+    let ack : IsAcknowledged profile durable (entry (get_or due i d)) all = subst (λ (k : Option (List ℕ)). IfSome k (IsAcknowledged profile durable (entry (get_or due i d)))) g.is a in
+    let P : D → Type 0 = λ x. StandsAmong (entry x) (records_in profile bytes) in
+    let Q : D → Type 0 = λ x. StandsAmong (entry x) (records_in profile all) in
+    let grown : (x : D) → P x → Q x = λ x p. subst (λ (rs : List RunRecord). StandsAmong (entry x) rs) (sym first.records.is) (among_front (records_in profile bytes) first.records.more (entry x) p) in
+    let before : All Q (take i due) = All-weaker P Q grown (take i due) h in
+    subst (λ (k : Option (List ℕ)). IfSome k (RecordsAll profile entry (take (i + 1) due))) (sym g.is) (All-more Q due i d lt before ack.among)
 
 pub still_loaded : (profile count : ℕ) (rs : List RunRecord) (kept new : Option (List ℕ)) → HasGrown kept new → IfSome kept (HasLoaded profile count rs) → IfSome new (HasLoaded profile count rs)
 still_loaded profile count rs None new g h = subst (λ (k : Option (List ℕ)). IfSome k (HasLoaded profile count rs)) (sym g.is) tt

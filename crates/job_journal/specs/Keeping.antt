@@ -1,6 +1,6 @@
 -- What the value under a journal's lock keeps (this project's own).
 use Rattle.std.specs.Prelude.{◌≡◌, ◌≤◌, ◌==◌, ℕ, Bool, true, false, List, ◌++◌, take, drop, length}
-use Rattle.std.specs.Prelude.{Option, Some, IfSome, Result, Ok, Err, Unit, tt, ⊥, slice_get}
+use Rattle.std.specs.Prelude.{Option, Some, IfSome, Result, Ok, Err, Unit, tt, ⊥, All}
 use Rattle.std.specs.Prelude.{if◌then◌else◌}
 use Rattle.std.specs.List.{AllByRecursion}
 use Rattle.mt_edge.specs.Pieces.{Grows}
@@ -118,10 +118,9 @@ pub record IsSafe (profile durable : ℕ) (bytes : List ℕ) : Type 0 where
   pub whole : IsWhole (reading_of profile bytes)
   pub is_durable : length bytes ≤ durable
 
--- All of these records stand there.
-abbrev pub RecordsAll : {M : Type 0} → ℕ → (M → RunRecord) → List M → List ℕ → Type 0
-RecordsAll {M} profile entry due bytes =
-    (k : ℕ) (m : M) → slice_get due k ≡ Some m → StandsAmong (entry m) (records_in profile bytes)
+-- The records of all of these stand there.
+abbrev pub RecordsAll : {D : Type 0} → ℕ → (D → RunRecord) → List D → List ℕ → Type 0
+RecordsAll profile entry due bytes = All (λ d. StandsAmong (entry d) (records_in profile bytes)) due
 
 -- ---- what a stop leaves
 

@@ -1,6 +1,6 @@
 //! A journal that several threads add to.
 
-ghost use Rattle.std.specs.Prelude.{◌≡◌, ◌≤◌, ◌<◌, Ok, OnOk, IfSome, IsErrOf};
+ghost use Rattle.std.specs.Prelude.{◌≡◌, ◌≤◌, ◌<◌, OnOk, IfSome, IsErrOf};
 ghost use Rattle.mt_edge.specs.declared.outside.EdgeFault.TheVariants.{Failed};
 ghost use Rattle.record_rules.specs.declared.profile_number.TheConstants.{PROFILE_NUMBER};
 ghost use Rattle.job_journal.specs.Keeping.{HasLoaded, IsBeginning, IsSafe, RecordsAll, TellsKnown, told_by};
@@ -35,7 +35,7 @@ impl<K: Keeper, M: KnownRecord, J: Loaded> Journal<K, M, J> {
 
     /// Takes the state out of the lock and adds what is due: the keeper, how many of its calls have
     /// failed since the opening, and whether all that was ever added stands there.
-    pub fn close(self, due: &[M]) -> (K, u64, Result<(), EdgeFault>)
+    pub fn close(self, due: &[&M]) -> (K, u64, Result<(), EdgeFault>)
         ensures text { IsBeginning PROFILE_NUMBER (K.kept result.0) }
         ensures known { IfSome (K.kept result.0)
             (TellsKnown M.holds PROFILE_NUMBER J.records) }
@@ -44,7 +44,7 @@ impl<K: Keeper, M: KnownRecord, J: Loaded> Journal<K, M, J> {
         ensures safe { OnOk result.2
             (IfSome (K.kept result.0) (IsSafe PROFILE_NUMBER (K.durable result.0))) }
         ensures stands { OnOk result.2
-            (IfSome (K.kept result.0) (RecordsAll PROFILE_NUMBER M.entry due.now)) }
+            (IfSome (K.kept result.0) (RecordsAll PROFILE_NUMBER (λ m. M.entry m.now) due.now)) }
         ensures cause { IsErrOf result.2 Failed → 0 < result.1 }
     {
         let Journal { state } = self;
@@ -58,11 +58,11 @@ impl<K: Keeper, M: KnownRecord, J: Loaded> Journal<K, M, J> {
 // Adds all that is due, up to the first that fails, and tells whether any ever did.
 fn add_all<K: Keeper, M: KnownRecord, J: Loaded>(
     state: &mut LockedState<K, M, J>,
-    due: &[M],
+    due: &[&M],
 ) -> Result<(), EdgeFault>
     ensures told { result ≡ told_by state.new.failed state.new.marked }
     ensures stands { OnOk result (IfSome (K.kept state.new.keeper)
-        (RecordsAll PROFILE_NUMBER M.entry due.now)) }
+        (RecordsAll PROFILE_NUMBER (λ m. M.entry m.now) due.now)) }
 {
     for made in due {
         state.add(made)?;

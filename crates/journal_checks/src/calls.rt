@@ -63,7 +63,7 @@ pub fn add<K: Keeper, M: KnownRecord>(
 /// `Journal::close`, of a journal of this state.
 pub fn close<K: Keeper, M: KnownRecord, J: Loaded>(
     state: JournalState<K, M>,
-    due: &[M],
+    due: &[&M],
 ) -> (K, u64, Result<(), EdgeFault>)
     requires { IfSome (K.kept state.keeper)
         (HasLoaded PROFILE_NUMBER state.loaded J.records) }
@@ -74,7 +74,7 @@ pub fn close<K: Keeper, M: KnownRecord, J: Loaded>(
     ensures safe { OnOk result.2
         (IfSome (K.kept result.0) (IsSafe PROFILE_NUMBER (K.durable result.0))) }
     ensures stands { OnOk result.2
-        (IfSome (K.kept result.0) (RecordsAll PROFILE_NUMBER M.entry due.now)) }
+        (IfSome (K.kept result.0) (RecordsAll PROFILE_NUMBER (λ m. M.entry m.now) due.now)) }
     ensures cause { IsErrOf result.2 Failed → 0 < result.1 }
 {
     let journal: Journal<K, M, J> = Journal::new(state);

@@ -144,7 +144,7 @@ fn two_threads_keep_their_records(rt: HostRuntime) -> Result<(), Fail> {
         || journal.keep(&rt, &other).is_ok(),
     );
     assert!(rt; one && two);
-    let (keeper, marked, added) = journal.close(&[made]);
+    let (keeper, marked, added) = journal.close(&[&made]);
     assert_eq!(rt; marked, 0);
     assert!(rt; added.is_ok());
     assert_eq!(rt; loaded_of(alloc, keeper.bytes())?, 2);
