@@ -1,7 +1,7 @@
 -- What the value under the lock keeps, where a record is added.
-use Rattle.std.proofs.Common.{◌≡◌, append-nil, ◌∙◌, ℕ, zero, suc, ◌+◌, ◌<◌, ◌≤◌, ◌^◌, Bool, true, false, List, [], ◌∷◌, ◌++◌, length, take, drop, Option, Some, None, Result, Ok, Err, refl, sym, ap, subst, append_assoc, length-append, arith}
+use Rattle.std.proofs.Common.{◌≡◌, append-nil, get_or, ◌∙◌, ℕ, zero, suc, ◌+◌, ◌<◌, ◌≤◌, ◌^◌, Bool, true, false, List, [], ◌∷◌, ◌++◌, length, take, drop, Option, Some, None, Result, Ok, Err, refl, sym, ap, subst, append_assoc, length-append, arith}
 use Rattle.std.proofs.lemmas.List.Elements.{All-weaker, All-more}
-use Rattle.std.specs.Prelude.{⊥, All, get_or, IfSome, IsSomeAnd, OnOk, OnErr, option_map, slice_get}
+use Rattle.std.specs.Prelude.{All, IfSome, IsSomeAnd, OnOk, OnErr, option_map, slice_get}
 use Rattle.mt_edge.specs.Pieces.{Grows, GrowsBy}
 use Rattle.std.specs.List.{AllByRecursion}
 use Rattle.std.proofs.lemmas.List.{take-append-drop, take-append-le, drop-append-le}
@@ -17,7 +17,7 @@ use Rattle.job_journal.specs.Opening.{Opens}
 use Rattle.run_journal.specs.Laws.{Begins, SaysFirst}
 use Rattle.job_journal.specs.Adding.{added_bytes, known_with}
 use Rattle.job_journal.specs.Tables.{StandsAmong, IsTables, Adds}
-use Rattle.job_journal.specs.Keeping.{records_in, added_in, HoldsBehind, IsBacked, Stands, Keeps, IsAdded, GainsOnce, HasGrown, HasLoaded, IsAcknowledged, RecordsAll, TellsKnown, IsSafe, StopsLoseNothing}
+use Rattle.job_journal.specs.Keeping.{IsBeginning, records_in, added_in, HoldsBehind, IsBacked, Stands, Keeps, IsAdded, GainsOnce, HasGrown, HasLoaded, IsAcknowledged, RecordsAll, TellsKnown, IsSafe, StopsLoseNothing}
 use Rattle.job_journal.specs.declared.tables.Tables.{Tables}
 use Rattle.run_journal.proofs.Chunks.{take_whole}
 use Rattle.run_journal.proofs.Steps.{on_append, says_first}
@@ -311,6 +311,40 @@ opened Holds profile (Some bytes) new durable writing t loaded parts read grows 
       subst (λ (k : Option (List ℕ)). Keeps Holds profile k durable writing t loaded false 0) (sym is) keeps,
       record { read = s.0; said = ap (λ (x : Parts). x.known.records) (sym s.1); completed = is },
     )
+
+pub opened_loaded : (profile : ℕ) (kept new : Option (List ℕ)) (loaded : ℕ) (parts : Parts) → IfSome kept (λ bytes. journal_in profile bytes ≡ Ok parts) → new ≡ option_map (λ bytes. bytes ++ parts.closing) kept → loaded ≡ length parts.known.records → IfSome new (HasLoaded profile loaded parts.known.records)
+opened_loaded profile None new loaded parts read grows count = subst (λ (k : Option (List ℕ)). IfSome k (HasLoaded profile loaded parts.known.records)) (sym grows) tt
+opened_loaded profile (Some bytes) new loaded parts read grows count =
+    let p = reading_of profile bytes in
+    let s = stage_parts p.known p.stage parts read in
+    let law = closing_is_read profile bytes s.0 in
+    let closing : closing_of p.stage ≡ parts.closing = ap (λ (x : Parts). x.closing) s.1 in
+    let records : records_in profile (bytes ++ parts.closing) ≡ parts.known.records =
+    ap (λ (x : List ℕ). records_in profile (bytes ++ x)) (sym closing) ∙ ap (λ (k : Known). k.records) law.1 ∙ ap (λ (x : Parts). x.known.records) s.1 in
+    subst (λ (k : Option (List ℕ)). IfSome k (HasLoaded profile loaded parts.known.records)) (sym grows)
+    (record { count_is = count; begins = record { more = []; is = records ∙ sym (append-nil parts.known.records) } })
+
+-- what a closing that fails leaves begins a journal
+pub torn_begins : (profile : ℕ) (kept new : Option (List ℕ)) (parts : Parts) → IfSome kept (λ bytes. journal_in profile bytes ≡ Ok parts) → GrowsBy kept new parts.closing → IsBeginning profile kept × IsBeginning profile new
+torn_begins profile None new parts read g = (tt, subst (λ (k : Option (List ℕ)). IsBeginning profile k) (sym g.2) tt)
+torn_begins profile (Some bytes) new parts read g =
+    let p = reading_of profile bytes in
+    let s = stage_parts p.known p.stage parts read in
+    let law = closing_is_read profile bytes s.0 in
+    let closing : closing_of p.stage ≡ parts.closing = ap (λ (x : Parts). x.closing) s.1 in
+    let cut : bytes ++ closing_of p.stage ≡ (bytes ++ g.0) ++ g.1.0 = ap (λ (x : List ℕ). bytes ++ x) (closing ∙ sym g.1.1) ∙ sym (append_assoc bytes g.0 g.1.0) in
+    let read_all : IsRead (reading_of profile ((bytes ++ g.0) ++ g.1.0)) = subst (λ (x : List ℕ). IsRead (reading_of profile x)) cut (whole_read (reading_of profile (bytes ++ closing_of p.stage)) law.0) in
+    (s.0, subst (λ (k : Option (List ℕ)). IsBeginning profile k) (sym g.2) (beginnings_are_read profile (bytes ++ g.0) g.1.0 read_all).0)
+
+-- ---- while nothing has failed
+
+pub as_open : (Holds : RunRecord → Type 0) (profile : ℕ) (kept : Option (List ℕ)) (durable writing : ℕ) (t : Tables) (loaded : ℕ) (failed : Bool) (marked : ℕ) → failed ≡ false → Keeps Holds profile kept durable writing t loaded failed marked → Keeps Holds profile kept durable writing t loaded false 0
+as_open Holds profile kept durable writing t loaded failed marked e h =
+    subst (λ (n : ℕ). Keeps Holds profile kept durable writing t loaded false n) (h.unmarked e) (subst (λ (b : Bool). Keeps Holds profile kept durable writing t loaded b marked) e h)
+
+pub as_kept : (Holds : RunRecord → Type 0) (profile : ℕ) (kept : Option (List ℕ)) (durable writing : ℕ) (t : Tables) (loaded : ℕ) (failed : Bool) (marked : ℕ) → failed ≡ false → marked ≡ 0 → Keeps Holds profile kept durable writing t loaded false 0 → Keeps Holds profile kept durable writing t loaded failed marked
+as_kept Holds profile kept durable writing t loaded failed marked e f h =
+    subst (λ (n : ℕ). Keeps Holds profile kept durable writing t loaded failed n) (sym f) (subst (λ (b : Bool). Keeps Holds profile kept durable writing t loaded b 0) (sym e) h)
 
 -- ---- by what a call answered
 

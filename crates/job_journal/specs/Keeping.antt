@@ -1,6 +1,6 @@
 -- What the value under a journal's lock keeps (this project's own).
 use Rattle.std.specs.Prelude.{◌≡◌, ◌≤◌, ◌==◌, ℕ, Bool, true, false, List, ◌++◌, take, drop, length}
-use Rattle.std.specs.Prelude.{Option, Some, IfSome, Result, Ok, Err, Unit, tt, ⊥, All}
+use Rattle.std.specs.Prelude.{Option, Some, IfSome, Result, Ok, Err, All}
 use Rattle.std.specs.Prelude.{if◌then◌else◌}
 use Rattle.std.specs.List.{AllByRecursion}
 use Rattle.mt_edge.specs.Pieces.{Grows}

@@ -1,6 +1,6 @@
 //! Records of which nothing is known but their form.
 
-ghost use Rattle.std.specs.Prelude.{◌≡◌, [], Unit};
+ghost use Rattle.std.specs.Prelude.{◌≡◌, []};
 ghost use Rattle.history_rules.specs.Laws.{IsFormed};
 
 use job_journal::{KnownRecord, Loaded};
