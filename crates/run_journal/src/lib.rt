@@ -1,5 +1,4 @@
-//! A journal of runs: its text, what each beginning of one says, and what is appended to one while
-//! runs are made.
+//! A journal of runs: its text, and what each beginning of one says.
 //!
 //! The definitions are in `specs/`: a further kind of entry goes to `Contents`, `content` (read) and
 //! `entry` (written).
