@@ -13,6 +13,9 @@ pub trait Gate {
     /// A worker begins a cell.
     fn begin(&self, worker: u64, cell: u64);
 
+    /// Its cell detects a mutant of which the worker had seen no detection.
+    fn detect(&self, _worker: u64, _cell: u64) {}
+
     /// It has ended it.
     fn end(&self, worker: u64, cell: u64);
 }

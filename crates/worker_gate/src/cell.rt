@@ -1,6 +1,6 @@
 //! One cell.
 
-ghost use Rattle.std.specs.Prelude.{◌≡◌, ◌<◌, ◌≤◌, ◌+◌, ◌^◌, ◌≢◌, IfOk, OnOk, OnErr, Some, None};
+ghost use Rattle.std.specs.Prelude.{◌≡◌, ◌<◌, ◌≤◌, ◌+◌, ◌^◌, ◌≢◌, ◌&&◌, IfOk, OnOk, OnErr, Some, None, is_none};
 ghost use Rattle.claim_core.specs.Claims.{no_place};
 ghost use Rattle.job_rules.specs.Ended.{cost_of_end};
 ghost use Rattle.mutant_table.specs.Seats.{IsSeatOf, mutants_of};
@@ -149,7 +149,18 @@ fn note_end<C: Hands>(
     }
 }
 
-// One cell, whose number the worker drew.
+// Whether a cell is the first that is seen to detect its mutant.
+fn detects_first<C: Hands>(seen: Option<u64>, end: &CellEnd<C::Made, C::Found>) -> bool
+    ensures { result ≡ is_none seen && detects_so C.reading end.now }
+{
+    match seen {
+        None => detects::<C>(end),
+        Some(_) => false,
+    }
+}
+
+// One cell, whose number the worker drew: whether it is the first that is seen to detect its
+// mutant, which is for the gate and in no clause.
 pub fn do_cell<W: Wait, C: Hands, R: Recorder<C::Made>>(
     rt: &W,
     end: &mut WorkEnd<C, C::Made, C::Found>,
@@ -159,7 +170,7 @@ pub fn do_cell<W: Wait, C: Hands, R: Recorder<C::Made>>(
     all: bool,
     table: &ClaimTable,
     rec: &R,
-) -> Result<(), Memory>
+) -> Result<bool, Memory>
     requires seat { IsSeatOf table.now end.old.job.seat }
     requires mutant { mutant < mutants_of table.now }
     requires test { test < no_place }
@@ -178,7 +189,8 @@ pub fn do_cell<W: Wait, C: Hands, R: Recorder<C::Made>>(
     end.cells.reserve(1)?;
     let seen = table.look(&mut end.job.seat, mutant);
     let ended = end_of(rt, end, seen, mutant, test, all, rec)?;
+    let first = detects_first::<C>(seen, &ended);
     note_end::<C>(table, &mut end.job.seat, mutant, test, &ended);
     end.cells.push_reserved((number, ended));
-    Ok(())
+    Ok(first)
 }

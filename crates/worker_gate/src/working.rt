@@ -31,6 +31,14 @@ fn drawn_cell(plan: &Plan, drawn: u64) -> DrawnCell
     }
 }
 
+// Tells the gate how a cell has ended.
+fn tell_end<G: Gate>(gate: &G, worker: u64, drawn: u64, first: &Result<bool, Memory>) {
+    if matches!(first, Ok(true)) {
+        gate.detect(worker, drawn);
+    }
+    gate.end(worker, drawn);
+}
+
 // A worker's next cell, if one is left.
 fn turn<W: Wait, C: Hands, R: Recorder<C::Made>, G: Gate>(
     rt: &W,
@@ -64,9 +72,9 @@ fn turn<W: Wait, C: Hands, R: Recorder<C::Made>, G: Gate>(
         table,
         rec,
     );
-    gate.end(end.job.worker, drawn);
+    tell_end(gate, end.job.worker, drawn, &did);
     match did {
-        Ok(()) => Ok(true),
+        Ok(_) => Ok(true),
         Err(Memory) => Err(Memory),
     }
 }
