@@ -45,6 +45,18 @@ use Rattle.suite_workers.proofs.Shared.{all_ascend, cost_within, places_of}
 
 -- ---- numbers from one on
 
+range_more : (a n : ℕ) → range_with_len a (suc n) ≡ range_with_len a n ++ (a + n) ∷ []
+range_more a zero = ap (λ k. k ∷ []) (omega arith)
+range_more a (suc n) =
+    let same : (a + 1) + n ≡ a + suc n = omega arith in
+    ap (λ l. a ∷ l) (range_more (a + 1) n ∙ ap (λ k. range_with_len (a + 1) n ++ k ∷ []) same)
+
+pub range_next : (n : ℕ) → range_with_len 0 (n + 1) ≡ range_with_len 0 n ++ n ∷ []
+range_next n =
+    let next : n + 1 ≡ suc n = omega arith in
+    let same : 0 + n ≡ n = omega arith in
+    ap (range_with_len 0) next ∙ range_more 0 n ∙ ap (λ k. range_with_len 0 n ++ k ∷ []) same
+
 ascend_from : (a n : ℕ) → AllPairs ◌<◌ (range_with_len a n)
 ascend_from a n = λ i j d lt within.
     let long = length-range_with_len a n in
@@ -94,7 +106,7 @@ module _ (p : List Info) (x : OriginalSetup) where
   run_of : (mutant test : ℕ) (t : Tried RunRecord) → IsRunOf runs mutant test t → RunOf test t
   run_of zero test t is =
       let at = from_numbers tried 0 (length x.tests.now) is.place t is.stands in
-      let same : is.place ≡ test = sym (ap (λ (r : Tried RunRecord). r.test) at.1) ∙ is.test_is in
+      let same : 0 + is.place ≡ test = sym (ap (λ (r : Tried RunRecord). r.test) at.1) ∙ is.test_is in
       let less = at.0 in
       record { within = omega (arith, less, same); is = at.1 ∙ ap tried same }
   run_of (suc mutant) test t is = let none = is.stands in absurd cc

@@ -1,8 +1,9 @@
 -- What is told of parts of a list is told of the list.
-use Rattle.std.proofs.Common.{◌≡◌, ◌∙◌, sym, refl, ap, ap₂, ℕ, zero, suc, ◌+◌, ◌*◌, ◌<◌, ◌≤◌, Bool, List, [], ◌∷◌, ◌++◌, length, map, take, drop, slice_index_or, arith}
+use Rattle.std.proofs.Common.{◌≡◌, ◌∙◌, sym, refl, ap, ap₂, ℕ, zero, suc, ◌+◌, ◌*◌, ◌/◌, ◌%◌, ◌<◌, ◌≤◌, min, Bool, List, [], ◌∷◌, ◌++◌, length, map, take, drop, slice_index_or, arith}
 use Rattle.std.specs.Prelude.{IfOk, Result, Ok, Err}
 use Rattle.std.specs.Fork.{slice_chunk}
-use Rattle.std.proofs.Math.Nat.{suc-mul}
+use Rattle.std.proofs.Math.Nat.{suc-mul, zero-mul}
+use Rattle.std.proofs.lemmas.Nat.{div-add-mod', mod_below}
 use Rattle.std.proofs.lemmas.List.{append_assoc, drop-drop, map-append}
 use Rattle.class_model.specs.declared.memory.Memory.{Memory}
 use Rattle.suite_workers.specs.Viability.{told_by, with_rest}
@@ -44,6 +45,7 @@ module _ {X : Type 0} (f : X → Bool) (size : ℕ) (xs : List X) where
     where
       subst_place : IsPart (n + 0) (Ok told) → told ≡ map f (slice_chunk xs size n)
       subst_place h = h ∙ ap (λ m. map f (slice_chunk xs size m)) (omega arith)
+
       next : (k : ℕ) (d : Result (List Bool) Memory) → IsPart (n + suc k) (slice_index_or (Ok told ∷ rs) (suc k) d) → IsPart (suc n + k) (slice_index_or rs k d)
       next k d h = moved (slice_index_or rs k d) h
         where
@@ -59,3 +61,39 @@ one_more all told (Err memory) = refl
 pub none_more : (r : Result (List Bool) Memory) → with_rest [] r ≡ r
 none_more (Ok rest) = refl
 none_more (Err memory) = refl
+
+-- What is told of a list that is a part.
+pub part_of : {X : Type 0} (f : X → Bool) (size : ℕ) (xs : List X) (n : ℕ) (part : List X) → part ≡ take size (drop (n * size) xs) → (r : Result (List Bool) Memory) → IfOk r (λ told. told ≡ map f part) → IsPart f size xs n r
+part_of f size xs n part is (Ok told) h = h ∙ ap (map f) is
+part_of f size xs n part is (Err memory) h = tt
+
+-- All are in so many parts.
+covered : (count len size : ℕ) → 0 < size → count ≡ len / size + min 1 (len % size) → len ≤ count * size
+covered count len size some is = by_rest (len % size) refl
+  where
+    by_rest : (r : ℕ) → len % size ≡ r → len ≤ count * size
+    by_rest zero e =
+        let whole = div-add-mod' len size in
+        let parts : count ≡ len / size = omega (arith, is, e) in
+        let same = ap (λ n. n * size) parts in
+        omega (arith, whole, e, same)
+    by_rest (suc r) e =
+        let whole = div-add-mod' len size in
+        let rest = mod_below len size some in
+        let parts : count ≡ suc (len / size) = omega (arith, is, e) in
+        let same = ap (λ n. n * size) parts ∙ suc-mul (len / size) size in
+        omega (arith, whole, rest, same)
+
+-- All parts together.
+pub all_told : {X : Type 0} (f : X → Bool) (size : ℕ) (xs : List X) (rs : List (Result (List Bool) Memory)) → 0 < size → length rs ≡ length xs / size + min 1 (length xs % size) → ((k : ℕ) (d : Result (List Bool) Memory) → k < length rs → IsPart f size xs k (slice_index_or rs k d)) → (all : Result (List Bool) Memory) → IfOk all (λ told. told_by rs ≡ Ok told) → IfOk all (λ told. told ≡ map f xs)
+all_told f size xs rs some count each (Err memory) is = tt
+all_told f size xs rs some count each (Ok told) is =
+    let within = covered (length rs) (length xs) size some count in
+    let none : 0 + length rs ≡ length rs = omega arith in
+    let start : (0 + length rs) * size ≡ length rs * size = ap (λ n. n * size) none in
+    let zeroth : 0 * size ≡ 0 = zero-mul size in
+    parts_told f size xs 0 rs told (omega (arith, within, start)) (λ k d lt. placed k (slice_index_or rs k d) (each k d lt)) is ∙ ap (λ n. map f (drop n xs)) zeroth
+  where
+    placed : (k : ℕ) (r : Result (List Bool) Memory) → IsPart f size xs k r → IsPart f size xs (0 + k) r
+    placed k (Ok t) h = h ∙ ap (λ m. map f (slice_chunk xs size m)) (omega arith)
+    placed k (Err e) h = tt

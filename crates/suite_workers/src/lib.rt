@@ -24,7 +24,6 @@ pub use run_records::fits_fields;
 pub use said::{CellsSaid, KnownRun};
 pub use setup::{JobSetup, OriginalSetup};
 pub use suite_jobs::{
-    ProgramEnd, ProgramFault, covering_tests, mutants_are_of, not_viable, program_of,
-    ready_may_run,
+    ProgramEnd, ProgramFault, covering_tests, mutants_are_of, not_viable, program_of, ready_may_run,
 };
 pub use viability::viable_by_workers;

@@ -13,11 +13,7 @@ use std::thread::Threads;
 use suite_jobs::viable;
 
 // Which of these mutants are viable, asked on a program of its own, whose classes are shared.
-fn viable_on_copy(
-    alloc: Global,
-    program: &Program,
-    mutants: &[Mutant],
-) -> Result<Seq<bool>, Memory>
+fn viable_on_copy(alloc: Global, program: &Program, mutants: &[Mutant]) -> Result<Seq<bool>, Memory>
     requires { MayBeAsked program.now mutants.now }
     ensures { IfOk result (AreViable program.now mutants.now) }
 {
