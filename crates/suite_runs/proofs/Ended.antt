@@ -37,8 +37,6 @@ use Rattle.suite_runs.specs.declared.prepared.Prepared.{Prepared}
 use Rattle.suite_runs.specs.Ending.{AreTooMany, CannotBeKept, EndsAs, EndsOf, HasUnfit, IsDone, IsSuiteOf, MeterBy, MeterRose, allowed_in, names_added, numbered_in, suite_of}
 use Rattle.suite_runs.specs.Judging.{verdicts_from}
 use Rattle.suite_runs.specs.Keeping.{AreKept, CannotKeep, FinishEnds, IsFinished, KeepTooMany, all_known, kept_as, names_kept}
-use Rattle.suite_runs.specs.Originals.{all_tried, original_cost}
-use Rattle.suite_workers.specs.Originals.{AreKnown}
 use Rattle.suite_runs.specs.Preparing.{AreGreen, IsReadied, RisesBy}
 use Rattle.suite_runs.proofs.Suited.{answers, covering_is, runs_alike, viable_is}
 use Rattle.suite_runs.proofs.VerdictsAlike.{verdicts_alike}

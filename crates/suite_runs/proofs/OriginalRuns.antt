@@ -1,10 +1,9 @@
 -- The runs of tests on a program as it is, and what they cost.
-use Rattle.std.proofs.Common.{◌≡◌, ◌∙◌, ℕ, ◌+◌, ◌*◌, ◌<◌, ◌≤◌, ◌^◌, List, [], ◌∷◌, length, map, replicate, Option, None, Some, sym, ap, subst, arith}
-use Rattle.std.specs.Prelude.{is_some, if◌then◌else◌, Result, Ok, Err}
+use Rattle.std.proofs.Common.{◌≡◌, ◌∙◌, ℕ, ◌*◌, ◌≤◌, List, [], ◌∷◌, length, map, replicate, Option, None, Some, sym, ap, subst, arith}
+use Rattle.std.specs.Prelude.{is_some, if◌then◌else◌}
 use Rattle.std.specs.List.{range_with_len}
 use Rattle.std.proofs.Math.Nat.{suc-mul}
 use Rattle.std.proofs.lemmas.List.FromFn.{length-range_with_len}
-use Rattle.class_model.specs.declared.memory.Memory.{Memory}
 use Rattle.class_table.specs.declared.scripted.Test.{Test}
 use Rattle.machine_laws.specs.Walks.{RunsKeepLimits}
 use Rattle.machine_rules.specs.declared.machine.Limits.{Limits}
@@ -12,15 +11,13 @@ use Rattle.class_link.specs.Info.{Info}
 use Rattle.suite_workers.specs.Below.{IsReady, steps_of}
 use Rattle.suite_workers.specs.Jobs.{most_steps}
 use Rattle.record_rules.specs.declared.record.RunRecord.{RunRecord}
-use Rattle.job_rules.specs.Tried.{Tried, cost_of_run, cost_of}
-use Rattle.suite_workers.specs.Old.{AreLookUps, history_of, old_of}
-use Rattle.suite_workers.specs.Originals.{KnowsOriginals, MayRunOriginals, MayRunTests, RunsOriginals, StartsOriginals, originals_of, tests_tried}
+use Rattle.job_rules.specs.Tried.{cost_of_run, cost_of}
+use Rattle.suite_workers.specs.Old.{AreLookUps, old_of}
+use Rattle.suite_workers.specs.Originals.{MayRunTests, StartsOriginals, originals_of, tests_tried}
 use Rattle.suite_workers.specs.declared.look_ups.LookUps.{LookUps}
-use Rattle.suite_workers.specs.declared.said.KnownRun.{KnownRun}
 use Rattle.suite_workers.specs.declared.setup.OriginalSetup.{OriginalSetup}
 use Rattle.suite_runs.specs.declared.job.SuiteJob.{SuiteJob}
-use Rattle.suite_runs.specs.Originals.{IsOriginalSetup, original_cost, run_asked, run_tried, same_steps}
-use Rattle.suite_runs.specs.Preparing.{RoseAtMost}
+use Rattle.suite_runs.specs.Originals.{IsOriginalSetup, original_cost, run_asked, run_tried}
 
 cost_case : (found : Option RunRecord) (steps most : ℕ) → steps ≤ most → (if is_some found then 0 else steps) ≤ most
 cost_case None steps most le = le

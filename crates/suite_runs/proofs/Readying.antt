@@ -1,6 +1,6 @@
 -- What is prepared for the cells of a job, step by step.
 use Rattle.std.proofs.Common.{◌≡◌, ◌∙◌, ℕ, zero, suc, ◌+◌, ◌*◌, ◌<◌, ◌≤◌, ◌^◌, Bool, true, false, List, [], ◌∷◌, ◌++◌, length, map, replicate, get_or, nat_eq, Option, Some, None, inl, inr, refl, sym, ap, ap₂, subst, arith}
-use Rattle.std.specs.Prelude.{All, IfOk, OnOk, Result, Ok, Err, is_some, if◌then◌else◌, nat_le, nat_lt, zip}
+use Rattle.std.specs.Prelude.{All, Result, Ok, Err, is_some, if◌then◌else◌, nat_le, nat_lt}
 use Rattle.std.specs.Io.Iter.{u64_saturate}
 use Rattle.std.specs.List.{AllByRecursion, range_with_len}
 use Rattle.std.specs.Option.{option_map, unwrap_or}
@@ -18,7 +18,6 @@ use Rattle.class_link.specs.Info.{Info}
 use Rattle.class_link.specs.declared.loaded.Loaded.{Loaded}
 use Rattle.class_table.specs.declared.scripted.Test.{Test}
 use Rattle.class_table.specs.Table.{look}
-use Rattle.jvm_world.specs.View.{test_of}
 use Rattle.line_coverage.specs.Coverage.{Covered}
 use Rattle.mutator_ops.specs.declared.mutant.Mutant.{Mutant}
 use Rattle.suite_workers.specs.Below.{ReadyMayRun}
@@ -56,7 +55,7 @@ use Rattle.suite_runs.specs.declared.fault.JobFault.TheVariants as fault
 use Rattle.suite_runs.specs.declared.job.SuiteJob.{SuiteJob}
 use Rattle.suite_runs.specs.declared.prepared.Prepared.{Prepared}
 use Rattle.suite_runs.specs.declared.reached.NamedClasses.{NamedClasses}
-use Rattle.suite_runs.specs.Ending.{IsSuiteOf, MayRunJob, allowed_in, suite_of}
+use Rattle.suite_runs.specs.Ending.{MayRunJob, allowed_in, suite_of}
 use Rattle.suite_runs.specs.Failing.{failed_among}
 use Rattle.suite_runs.specs.Originals.{IsOriginalSetup, MayMakeOriginals, all_tried, original_cost, run_asked, run_tried, same_steps}
 use Rattle.suite_runs.specs.Placing.{AreNamed, IsNamedFor, texts_in}

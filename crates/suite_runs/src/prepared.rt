@@ -1,6 +1,6 @@
 //! What a job needs before its cells are run.
 
-ghost use Rattle.std.specs.Prelude.{◌≡◌, ◌+◌, ◌≤◌, ◌<◌, ◌^◌, length, zip, All, IfOk, OnOk};
+ghost use Rattle.std.specs.Prelude.{◌≡◌, ◌+◌, ◌<◌, ◌^◌, length, zip, All, IfOk};
 ghost use Rattle.suite_workers.specs.Old.{AreByName, AreLookUps, history_in, history_of, old_of};
 ghost use Rattle.suite_workers.specs.Old.{records_in};
 ghost use Rattle.suite_workers.specs.Said.{IsKnownIn};

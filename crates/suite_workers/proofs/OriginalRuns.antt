@@ -1,5 +1,5 @@
 -- Runs of tests on a program as it is, as the cells of one mutant.
-use Rattle.std.proofs.Common.{◌≡◌, ◌∙◌, sym, refl, ap, subst, ℕ, zero, suc, ◌+◌, ◌*◌, ◌<◌, ◌≤◌, ◌^◌, Bool, true, false, List, [], ◌∷◌, ◌++◌, Option, None, Some, IfSome, All, length, map, replicate, slice_get, slice_index_or, arith}
+use Rattle.std.proofs.Common.{◌≡◌, ◌∙◌, sym, refl, ap, subst, ℕ, zero, suc, ◌+◌, ◌*◌, ◌<◌, ◌≤◌, ◌^◌, true, List, [], ◌∷◌, ◌++◌, Option, Some, IfSome, All, length, map, replicate, slice_get, arith}
 use Rattle.std.specs.Prelude.{AllPairs, IfOk, OnOk, Result, Ok, Err, Vec, is_some}
 use Rattle.std.specs.declared.alloc.Global.{Global}
 use Rattle.std.specs.List.{range_with_len}
@@ -7,12 +7,10 @@ use Rattle.std.specs.Option.{option_map}
 use Rattle.std.proofs.lemmas.List.{append-nil, get_or-replicate}
 use Rattle.std.proofs.lemmas.List.FromFn.{length-range_with_len, get_or-range_with_len}
 use Rattle.claim_core.specs.Claims.{no_place}
-use Rattle.claim_core.specs.Ending.{Cell}
 use Rattle.class_model.specs.declared.memory.Memory.{Memory}
 use Rattle.machine_laws.specs.Walks.{RunsKeepLimits}
 use Rattle.class_link.specs.Info.{Info}
 use Rattle.class_table.specs.declared.scripted.Test.{Test}
-use Rattle.history_file.specs.Rows.{Numbered}
 use Rattle.record_rules.specs.declared.record.RunRecord.{RunRecord}
 use Rattle.record_rules.specs.Records.{record_of}
 use Rattle.job_rules.specs.Gathered.{flat}
@@ -27,19 +25,19 @@ use Rattle.worker_gate.specs.Sharing.{AreCellsOf, AreEndsOf, MayShare, Shared, S
 use Rattle.worker_gate.specs.declared.ends.JobCells.{JobCells}
 use Rattle.suite_workers.specs.Cells.{AreListed}
 use Rattle.suite_workers.specs.Jobs.{most_steps}
-use Rattle.suite_workers.specs.Marks.{Marked, mark_made, marked, run_reading}
+use Rattle.suite_workers.specs.Marks.{Marked, mark_made, run_reading}
 use Rattle.suite_workers.specs.Old.{FindsOriginal, IsIn, found_in, found_record, history_of, old_of, test_at}
-use Rattle.suite_workers.specs.Originals.{AreKnown, CostsForEach, KnowsOriginals, MayRunOriginals, MayRunTests, RunsOriginals, StartsOriginals, originals_from, originals_of, test_asked, test_tried, tests_tried}
+use Rattle.suite_workers.specs.Originals.{MayRunOriginals, MayRunTests, RunsOriginals, StartsOriginals, originals_from, originals_of, test_asked, test_tried}
 use Rattle.suite_workers.specs.Said.{CostsOf}
-use Rattle.suite_workers.specs.Saying.{RunEnd, SaysAll, kept_all, told_all}
+use Rattle.suite_workers.specs.Saying.{RunEnd, kept_all, told_all}
 use Rattle.suite_workers.specs.declared.old_records.FoundRun.{FoundRun}
 use Rattle.suite_workers.specs.declared.said.CellsSaid.{CellsSaid}
 use Rattle.suite_workers.specs.declared.said.KnownRun.{KnownRun}
 use Rattle.suite_workers.specs.declared.setup.OriginalSetup.{OriginalSetup}
-use Rattle.suite_workers.proofs.Lists.{all_one, at_default, at_map, long_map}
+use Rattle.suite_workers.proofs.Lists.{all_one, long_map}
 use Rattle.suite_workers.proofs.Marking.{all_ascend_marked, cell_unmarked, cells_marked, costs_marked, found_marked, unmark}
 use Rattle.suite_workers.proofs.RunAll.{once_most, times_most}
-use Rattle.suite_workers.proofs.RunsAt.{HasTests, long_tests, mutants_listed, tests_listed}
+use Rattle.suite_workers.proofs.RunsAt.{HasTests, mutants_listed, tests_listed}
 use Rattle.suite_workers.proofs.Sayings.{costs_so, said_so}
 use Rattle.suite_workers.proofs.Shared.{all_ascend, cost_within, places_of}
 

@@ -1,10 +1,10 @@
 -- What workers share.
 use denote.Ref.{NamedLft}
-use denote.Param.Send.{IsSend, IsSync, sendable, recorded_send, recorded_sync}
+use denote.Param.Send.{IsSend, IsSync, sendable, recorded_sync}
 use Rattle.std.proofs.Crossing.{crosses}
 use Rattle.std.proofs.MapsCrossing.{crosses as maps_cross}
 use Rattle.suite_workers.proofs.Rings.{seq_sync}
-use Rattle.suite_workers.proofs.ProgramParts.{program_send, program_sync}
+use Rattle.suite_workers.proofs.ProgramParts.{program_send}
 use Rattle.suite_workers.proofs.Crosses.{stand_fields_send, stand_send, tables_fields_send, tables_send}
 use Rattle.class_table.specs.contracts.scripted.Test as Test
 use Rattle.mutator_ops.specs.contracts.mutant.Mutant as Mutant

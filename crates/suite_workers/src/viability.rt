@@ -1,6 +1,6 @@
 //! Which mutants are viable, asked by workers.
 
-ghost use Rattle.std.specs.Prelude.{◌≡◌, ◌<◌, ◌≤◌, ◌*◌, IfOk, Ok, length};
+ghost use Rattle.std.specs.Prelude.{◌≡◌, ◌<◌, ◌≤◌, ◌*◌, IfOk, Ok};
 ghost use Rattle.suite_jobs.specs.Below.{AreViable};
 ghost use Rattle.suite_workers.specs.Viability.{MayBeAsked, told_by};
 
