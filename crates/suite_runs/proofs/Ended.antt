@@ -37,7 +37,6 @@ use Rattle.suite_runs.specs.declared.prepared.Prepared.{Prepared}
 use Rattle.suite_runs.specs.Ending.{AreTooMany, CannotBeKept, EndsAs, EndsOf, HasUnfit, IsDone, IsSuiteOf, MeterBy, MeterRose, allowed_in, names_added, numbered_in, suite_of}
 use Rattle.suite_runs.specs.Judging.{verdicts_from}
 use Rattle.suite_runs.specs.Keeping.{AreKept, CannotKeep, FinishEnds, IsFinished, KeepTooMany, all_known, kept_as, names_kept}
-use Rattle.suite_runs.specs.Originals.{AreKnown, all_tried, original_cost}
 use Rattle.suite_runs.specs.Preparing.{AreGreen, IsReadied, RisesBy}
 use Rattle.suite_runs.proofs.Suited.{answers, covering_is, runs_alike, viable_is}
 use Rattle.suite_runs.proofs.VerdictsAlike.{verdicts_alike}
@@ -191,13 +190,11 @@ refused_ends a s old all refusal e = subst (λ (o : Result JobAnswer JobRefusal)
 once_or_more : (w n : ℕ) → 0 < w → n ≤ w * n
 once_or_more w n some = let le = le-mul_of_pos_right n some in let e = mul_comm n w in omega (arith, le, e)
 
-pub early_meter : (all : Bool) (j : JobRuns RunRecord) (o : Result JobAnswer JobRefusal) (w before after : ℕ) → 0 < w → before ≤ after → after ≤ before + cost_of steps_of j.originals → MeterBy (cost_by all j o) w before after (Err fault.Memory)
-early_meter all j (Ok x) w before after some from most =
-    let more = once_or_more w (most_cost steps_of j) some in
-    (from, omega (arith, most, more))
-early_meter all j (Err refusal) w before after some from most =
-    let more = once_or_more w (cost_of steps_of j.originals) some in
-    (from, omega (arith, most, more))
+pub early_meter : (all : Bool) (j : JobRuns RunRecord) (o : Result JobAnswer JobRefusal) (w before after : ℕ) → before ≤ after → after ≤ before + w * cost_of steps_of j.originals → MeterBy (cost_by all j o) w before after (Err fault.Memory)
+early_meter all j (Ok x) w before after from most =
+    let both = mul-add w (cost_of steps_of j.originals) (cost_of_all steps_of j.mutants) in
+    (from, omega (arith, most, both))
+early_meter all j (Err refusal) w before after from most = (from, most)
 
 pub refused_meter : (all : Bool) (j : JobRuns RunRecord) (o : Result JobAnswer JobRefusal) (refusal : JobRefusal) (w before after : ℕ) → o ≡ Err refusal → after ≡ before + cost_of steps_of j.originals → MeterBy (cost_by all j o) w before after (Err (fault.Refused refusal))
 refused_meter all j o refusal w before after e is =

@@ -1,9 +1,10 @@
 -- What is prepared for the cells of a job, step by step.
-use Rattle.std.proofs.Common.{◌≡◌, ◌∙◌, ℕ, zero, suc, ◌+◌, ◌<◌, ◌≤◌, ◌^◌, Bool, true, false, List, [], ◌∷◌, ◌++◌, length, map, replicate, get_or, nat_eq, Option, Some, None, inl, inr, refl, sym, ap, ap₂, subst, arith}
-use Rattle.std.specs.Prelude.{All, IfOk, OnOk, Result, Ok, Err, is_some, if◌then◌else◌, nat_le, nat_lt, zip}
+use Rattle.std.proofs.Common.{◌≡◌, ◌∙◌, ℕ, zero, suc, ◌+◌, ◌*◌, ◌<◌, ◌≤◌, ◌^◌, Bool, true, false, List, [], ◌∷◌, ◌++◌, length, map, replicate, get_or, nat_eq, Option, Some, None, inl, inr, refl, sym, ap, ap₂, subst, arith}
+use Rattle.std.specs.Prelude.{All, Result, Ok, Err, is_some, if◌then◌else◌, nat_le, nat_lt}
 use Rattle.std.specs.Io.Iter.{u64_saturate}
 use Rattle.std.specs.List.{AllByRecursion, range_with_len}
 use Rattle.std.specs.Option.{option_map, unwrap_or}
+use Rattle.std.proofs.Math.Nat.{suc-mul}
 use Rattle.std.proofs.lemmas.Bool.{eqb-true, leb-true, lt-ltb, ltb-false, ltb-true}
 use Rattle.std.proofs.lemmas.List.{get_or-replicate, length-map}
 use Rattle.std.proofs.lemmas.List.Elements.{All-from_recursion, recursion_from_All}
@@ -17,7 +18,6 @@ use Rattle.class_link.specs.Info.{Info}
 use Rattle.class_link.specs.declared.loaded.Loaded.{Loaded}
 use Rattle.class_table.specs.declared.scripted.Test.{Test}
 use Rattle.class_table.specs.Table.{look}
-use Rattle.jvm_world.specs.View.{test_of}
 use Rattle.line_coverage.specs.Coverage.{Covered}
 use Rattle.mutator_ops.specs.declared.mutant.Mutant.{Mutant}
 use Rattle.suite_workers.specs.Below.{ReadyMayRun}
@@ -31,16 +31,18 @@ use Rattle.record_rules.specs.Matching.{first_match, is_timed_out, matches}
 use Rattle.record_rules.specs.Records.{Asked}
 use Rattle.history_rules.specs.Laws.{IsFormed}
 use Rattle.history_file.specs.Rows.{Numbered}
-use Rattle.suite_workers.specs.Below.{made_by, tried_on, asked_on}
-use Rattle.job_rules.specs.Tried.{known, knowns}
+use Rattle.suite_workers.specs.Below.{made_by, tried_on, asked_on, steps_of}
+use Rattle.job_rules.specs.Tried.{Tried, cost_of, known, knowns}
 use Rattle.suite_workers.specs.Jobs.{CellJob, covering_numbers}
 use Rattle.suite_workers.specs.Laws.{BoundsAreByName}
 use Rattle.suite_workers.specs.Old.{AreByName, AreLookUps, history_in, history_of, no_test, old_of, records_in, test_at}
+use Rattle.suite_workers.specs.Originals.{AreKnown, MayRunOriginals, RunsOriginals, originals_of}
 use Rattle.suite_workers.specs.Said.{IsKnownIn, known_record}
 use Rattle.suite_workers.specs.declared.look_ups.LookUps.{LookUps}
 use Rattle.suite_workers.specs.declared.old_records.OldRecords.{OldRecords}
 use Rattle.suite_workers.specs.declared.old_records.OldRecords.TheVariants as old
 use Rattle.suite_workers.specs.declared.said.KnownRun.{KnownRun}
+use Rattle.suite_workers.specs.declared.setup.OriginalSetup.{OriginalSetup}
 use Rattle.suite_workers.specs.declared.said.KnownRun.TheVariants as run
 use Rattle.job_answers.specs.declared.refusal.FailedTest.{FailedTest}
 use Rattle.job_answers.specs.declared.refusal.JobRefusal.{JobRefusal}
@@ -53,14 +55,14 @@ use Rattle.suite_runs.specs.declared.fault.JobFault.TheVariants as fault
 use Rattle.suite_runs.specs.declared.job.SuiteJob.{SuiteJob}
 use Rattle.suite_runs.specs.declared.prepared.Prepared.{Prepared}
 use Rattle.suite_runs.specs.declared.reached.NamedClasses.{NamedClasses}
-use Rattle.suite_runs.specs.Ending.{IsSuiteOf, MayRunJob, allowed_in, suite_of}
+use Rattle.suite_runs.specs.Ending.{MayRunJob, allowed_in, suite_of}
 use Rattle.suite_runs.specs.Failing.{failed_among}
-use Rattle.suite_runs.specs.Originals.{AreKnown, MayMakeOriginals, MayRunOriginals, all_tried, original_cost, run_asked, run_tried, same_steps}
+use Rattle.suite_runs.specs.Originals.{IsOriginalSetup, MayMakeOriginals, all_tried, original_cost, run_asked, run_tried, same_steps}
 use Rattle.suite_runs.specs.Placing.{AreNamed, IsNamedFor, texts_in}
-use Rattle.suite_runs.specs.Preparing.{AreBoundsBy, AreGreen, AreOriginals, GreenEnds, MayBeRun, Prepares, ReadyEnds, RefusesFailed, RisesBy}
+use Rattle.suite_runs.specs.Preparing.{AreBoundsBy, AreGreen, AreOriginals, GreenEnds, MayBeRun, OriginalEnds, Prepares, ReadyEnds, RefusesFailed, RisesBy, RoseAtMost}
 use Rattle.suite_runs.specs.Reaching.{CoversKnown, lines_in}
 use Rattle.suite_runs.proofs.MutantsFit.{mutants_fit}
-use Rattle.suite_runs.proofs.OriginalRuns.{cost_most}
+use Rattle.suite_runs.proofs.OriginalRuns.{runs_are, starts}
 use Rattle.suite_runs.proofs.Suited.{bounds_are}
 
 -- ---- the runs of the tests
@@ -226,47 +228,59 @@ refused_runs f = Err f
 abbrev pub refused_all : JobFault → Result Prepared JobFault
 refused_all f = Err f
 
-pub rises_alike : (cost before after : ℕ) (f : JobFault) → RisesBy cost before after (refused_runs f) → RisesBy cost before after (refused_all f)
-rises_alike cost before after (fault.Refused r) h = h
-rises_alike cost before after fault.Unwritable h = h
-rises_alike cost before after fault.Memory h = h
+pub rises_alike : (workers cost before after : ℕ) (f : JobFault) → RisesBy workers cost before after (refused_runs f) → RisesBy workers cost before after (refused_all f)
+rises_alike workers cost before after (fault.Refused r) h = h
+rises_alike workers cost before after fault.Unwritable h = h
+rises_alike workers cost before after fault.Memory h = h
 
-pub rises_after : (p : List Info) (j : SuiteJob) (old : OldRecords) (cost before after : ℕ) (result : Result Prepared JobFault) → ReadyEnds p j old result → after ≡ before + cost → RisesBy cost before after result
-rises_after p j old cost before after (Ok x) h e = e
-rises_after p j old cost before after (Err (fault.Refused r)) h e = e
-rises_after p j old cost before after (Err fault.Unwritable) h e = h
-rises_after p j old cost before after (Err fault.Memory) h e = (omega (arith, e), omega (arith, e))
+once_most : (n c : ℕ) → 0 < n → c ≤ n * c
+once_most zero c some = absurd (omega (arith, some))
+once_most (suc n) c some = let one = suc-mul n c in omega (arith, one)
+
+-- One that rose by just this rose by at most this for each worker.
+pub rose_once : (workers cost before after : ℕ) → 0 < workers → after ≡ before + cost → RoseAtMost workers cost before after
+rose_once workers cost before after some e = let once = once_most workers cost some in record { from = omega (arith, e); most = omega (arith, e, once) }
+
+-- It hasn't risen.
+pub rose_none : (workers cost before : ℕ) → RoseAtMost workers cost before before
+rose_none workers cost before = record { from = omega arith; most = omega arith }
+
+pub rises_after : (p : List Info) (j : SuiteJob) (old : OldRecords) (cost before after : ℕ) → 0 < j.workers → (result : Result Prepared JobFault) → ReadyEnds p j old result → after ≡ before + cost → RisesBy j.workers cost before after result
+rises_after p j old cost before after some (Ok x) h e = e
+rises_after p j old cost before after some (Err (fault.Refused r)) h e = e
+rises_after p j old cost before after some (Err fault.Unwritable) h e = h
+rises_after p j old cost before after some (Err fault.Memory) h e = rose_once j.workers cost before after some e
 
 -- ---- the original runs
 
-module _ (keep : RunsKeepLimits) (p : List Info) (j : SuiteJob) (old : OldRecords) (be : MayBeRun p j old) (l : LookUps) (same : old_of l ≡ records_in old) (history : history_of l ≡ history_in old) where
-  pub originals_are : (r : Result (List KnownRun) Memory) → IfOk r (λ runs. AreKnown (all_tried p j (old_of l)) runs) → IfOk r (λ runs. All (IsKnownIn (history_of l)) runs) → IfOk r (AreOriginals p j old)
-  originals_are (Ok runs) known histories =
-      let may = be.1 in
-      let own : AreKnown (all_tried p j (records_in old)) runs = subst (λ (rs : List RunRecord). AreKnown (all_tried p j rs) runs) same known in
+module _ (keep : RunsKeepLimits) (p : List Info) (j : SuiteJob) (old : OldRecords) (before : ℕ) (may : MayRunJob p j old before) (l : LookUps) (same : old_of l ≡ records_in old) (history : history_of l ≡ history_in old) (x : OriginalSetup) (set : IsOriginalSetup j.tests.now j.limits j.steps l x) where
+  pub may_run_originals : MayMakeOriginals p j → AreLookUps p j.tests.now j.limits (same_steps j) l → MayRunOriginals p x j.workers before
+  may_run_originals make are =
+      let low = may.meter_is in
       record {
-        known = own;
-        histories = subst (λ (o : Option Numbered). All (IsKnownIn o) runs) history histories;
-        within = all_within keep p j may.steps_fit (records_in old) may.formed runs own;
+        starts = starts p j.tests.now j.limits j.steps l x set may.ready make are;
+        some = may.some_workers;
+        few = may.few_workers;
+        meter_is = omega (arith, low);
       }
-  originals_are (Err e) known histories = tt
 
-  cost_alike : original_cost p j (old_of l) ≡ original_cost p j (records_in old)
-  cost_alike = ap (original_cost p j) same
+  runs_same : originals_of p x ≡ all_tried p j (records_in old)
+  runs_same = runs_are p j.tests.now j.limits j.steps l x set ∙ ap (all_tried p j) same
 
-  pub originals_cost : (r : Result (List KnownRun) Memory) (before part after : ℕ) → after ≡ before + part → OnOk r (part ≡ original_cost p j (old_of l)) → OnOk r (after ≡ before + original_cost p j (records_in old))
-  originals_cost (Ok runs) before part after joined is = joined ∙ ap (λ (n : ℕ). before + n) (is ∙ cost_alike)
-  originals_cost (Err e) before part after joined is = tt
+  cost_same : cost_of steps_of (originals_of p x) ≡ original_cost p j (records_in old)
+  cost_same = ap (cost_of steps_of) runs_same
 
-  pub originals_most : (before part after : ℕ) → after ≡ before + part → part ≤ original_cost p j (old_of l) → after ≤ before + original_cost p j (records_in old)
-  originals_most before part after joined most = let e = cost_alike in omega (arith, joined, most, e)
+  history_same : history_of x.look_ups.now ≡ history_in old
+  history_same = ap history_of set.look_ups_are ∙ history
 
-  pub joins : (before part : ℕ) → before < 2 ^ 62 → part ≤ original_cost p j (old_of l) → before + part < 2 ^ 64
-  joins before part start most =
-      let may = be.1 in
-      let e = cost_alike in
-      let all = cost_most p j (records_in old) keep may.steps_fit may.few_tests in
-      omega (arith, start, most, e, all)
-
-  pub may_run_originals : MayMakeOriginals p j → AreLookUps p j.tests.now j.limits (same_steps j) l → MayRunOriginals p j l
-  may_run_originals make are = record { make = make; look_ups = are }
+  pub originals_end : (after : ℕ) (r : Result (List KnownRun) Memory) → RunsOriginals p x j.workers before after r → OriginalEnds p j old before after r
+  originals_end after (Ok runs) knows =
+      let own : AreKnown (all_tried p j (records_in old)) runs = subst (λ (ts : List (Tried RunRecord)). AreKnown ts runs) runs_same knows.known in (
+        record {
+          known = own;
+          histories = subst (λ (o : Option Numbered). All (IsKnownIn o) runs) history_same knows.histories;
+          within = all_within keep p j may.steps_fit (records_in old) may.formed runs own;
+        },
+        knows.meter ∙ ap (λ (n : ℕ). before + n) cost_same,
+      )
+  originals_end after (Err memory) costs = record { from = costs.from; most = subst (λ (n : ℕ). after ≤ before + j.workers * n) cost_same costs.most }

@@ -49,17 +49,17 @@ module _ (p : List Info) (j : SuiteJob) (old : OldRecords) where
   starts : (files : List Loaded) → IsSuiteOf files p j → (before after : ℕ) → after ≡ before + original_cost p j (records_in old) → after ≡ before + cost_of steps_of (job_runs (allowed_in j) (suite_of files p j) (records_in old)).originals
   starts files is before after e = e ∙ ap (λ (n : ℕ). before + n) (cost_is files is)
 
-  pub prepared_meter : (before after : ℕ) → 0 < j.workers → (f : JobFault) → Prepares p j old (Err f) → RisesBy {X = Prepared} (original_cost p j (records_in old)) before after (Err f) → JobMeters p j old before after (Err f)
-  prepared_meter before after some (fault.Refused r) (inl h) m files is =
+  pub prepared_meter : (before after : ℕ) (f : JobFault) → Prepares p j old (Err f) → RisesBy {X = Prepared} j.workers (original_cost p j (records_in old)) before after (Err f) → JobMeters p j old before after (Err f)
+  prepared_meter before after (fault.Refused r) (inl h) m files is =
       refused_meter j.all (job_runs (allowed_in j) (suite_of files p j) (records_in old)) (job_answer (allowed_in j) (suite_of files p j) (records_in old) j.all) r j.workers before after
       (failed_refuses files p j old is r h j.all) (starts files is before after m)
-  prepared_meter before after some (fault.Refused r) (inr h) m files is =
+  prepared_meter before after (fault.Refused r) (inr h) m files is =
       refused_meter j.all (job_runs (allowed_in j) (suite_of files p j) (records_in old)) (job_answer (allowed_in j) (suite_of files p j) (records_in old) j.all) r j.workers before after
       (many_refuses files p j old is r h j.all) (starts files is before after m)
-  prepared_meter before after some fault.Unwritable h m files is = absurd h
-  prepared_meter before after some fault.Memory h m files is =
-      early_meter j.all (job_runs (allowed_in j) (suite_of files p j) (records_in old)) (job_answer (allowed_in j) (suite_of files p j) (records_in old) j.all) j.workers before after some m.0
-      (subst (λ (n : ℕ). after ≤ before + n) (cost_is files is) m.1)
+  prepared_meter before after fault.Unwritable h m files is = absurd h
+  prepared_meter before after fault.Memory h m files is =
+      early_meter j.all (job_runs (allowed_in j) (suite_of files p j) (records_in old)) (job_answer (allowed_in j) (suite_of files p j) (records_in old) j.all) j.workers before after m.from
+      (subst (λ (n : ℕ). after ≤ before + j.workers * n) (cost_is files is) m.most)
 
   pub no_memory : JobEnds p j old (Err fault.Memory)
   no_memory files is = memory_ends (allowed_in j) (suite_of files p j) old j.all

@@ -1,6 +1,7 @@
 -- What is prepared for the cells of a job (this project's own).
-use Rattle.std.specs.Prelude.{◌≡◌, ◌≤◌, ◌+◌, ◌⊎◌, ℕ, Bool, true, false, List, [], map, nat_lt, zip}
+use Rattle.std.specs.Prelude.{◌≡◌, ◌≤◌, ◌+◌, ◌*◌, ◌⊎◌, ℕ, Bool, true, false, List, [], map, nat_lt, zip}
 use Rattle.std.specs.Prelude.{All, Result, Ok, Err}
+use Rattle.class_model.specs.declared.memory.Memory.{Memory}
 use Rattle.machine_rules.specs.declared.machine.Limits.{Limits}
 use Rattle.machine_rules.specs.Runs.{limit_of}
 use Rattle.class_link.specs.Info.{Info}
@@ -10,6 +11,7 @@ use Rattle.mutator_ops.specs.declared.mutant.Mutant.{Mutant}
 use Rattle.suite_workers.specs.Below.{AreViable}
 use Rattle.suite_workers.specs.Jobs.{most_steps}
 use Rattle.suite_workers.specs.Old.{AreLookUps, history_in, history_of, old_of, records_in}
+use Rattle.suite_workers.specs.Originals.{AreKnown}
 use Rattle.suite_workers.specs.Said.{IsKnownIn, known_record}
 use Rattle.suite_workers.specs.declared.old_records.OldRecords.{OldRecords}
 use Rattle.suite_workers.specs.declared.said.KnownRun.{KnownRun}
@@ -24,7 +26,7 @@ use Rattle.suite_runs.specs.declared.prepared.Prepared.{Prepared}
 use Rattle.suite_runs.specs.Covering.{count_all, numbers_of}
 use Rattle.suite_runs.specs.Ending.{MayRunJob}
 use Rattle.suite_runs.specs.Failing.{failed_among}
-use Rattle.suite_runs.specs.Originals.{AreKnown, all_tried}
+use Rattle.suite_runs.specs.Originals.{all_tried, original_cost}
 use Rattle.suite_runs.specs.Reaching.{CoversKnown}
 
 -- How many steps the runs of tests on mutants may take, by what is known of those on the program.
@@ -108,12 +110,25 @@ module _ (p : List Info) (j : SuiteJob) (old : OldRecords) where
   Prepares (Err fault.Unwritable) = ⊥
   Prepares (Err fault.Memory) = Unit {0}
 
--- The meter rose by this, or by at most this where memory ran out.
-abbrev pub RisesBy : {X : Type 0} → ℕ → ℕ → ℕ → Result X JobFault → Type 0
-RisesBy cost before after (Ok x) = after ≡ before + cost
-RisesBy cost before after (Err (fault.Refused refusal)) = after ≡ before + cost
-RisesBy cost before after (Err fault.Unwritable) = ⊥
-RisesBy cost before after (Err fault.Memory) = (before ≤ after) × (after ≤ before + cost)
+-- The meter rose by at most this for each worker.
+pub record RoseAtMost (workers cost before after : ℕ) : Type 0 where
+  pub from : before ≤ after
+  pub most : after ≤ before + workers * cost
+
+-- It rose by this, or by at most this for each worker where memory ran out.
+abbrev pub RisesBy : {X : Type 0} → ℕ → ℕ → ℕ → ℕ → Result X JobFault → Type 0
+RisesBy workers cost before after (Ok x) = after ≡ before + cost
+RisesBy workers cost before after (Err (fault.Refused refusal)) = after ≡ before + cost
+RisesBy workers cost before after (Err fault.Unwritable) = ⊥
+RisesBy workers cost before after (Err fault.Memory) = RoseAtMost workers cost before after
+
+-- How the original runs end.
+abbrev pub OriginalEnds :
+    List Info → SuiteJob → OldRecords → ℕ → ℕ → Result (List KnownRun) Memory → Type 0
+OriginalEnds p j old before after (Ok runs) =
+    AreOriginals p j old runs × (after ≡ before + original_cost p j (records_in old))
+OriginalEnds p j old before after (Err memory) =
+    RoseAtMost j.workers (original_cost p j (records_in old)) before after
 
 -- What the workers share is of what is prepared.
 pub record IsSetupFor

@@ -7,7 +7,6 @@ mod failed;
 mod fault;
 mod finished;
 mod job;
-mod originals;
 mod prepared;
 mod reached;
 mod records;

@@ -1,14 +1,14 @@
 //! What a job needs before its cells are run.
 
-ghost use Rattle.std.specs.Prelude.{◌≡◌, ◌+◌, ◌≤◌, ◌<◌, ◌^◌, length, zip, All, IfOk, OnOk};
+ghost use Rattle.std.specs.Prelude.{◌≡◌, ◌+◌, ◌<◌, ◌^◌, length, zip, All, IfOk};
 ghost use Rattle.suite_workers.specs.Old.{AreByName, AreLookUps, history_in, history_of, old_of};
 ghost use Rattle.suite_workers.specs.Old.{records_in};
 ghost use Rattle.suite_workers.specs.Said.{IsKnownIn};
 ghost use Rattle.suite_runs.specs.Covering.{CoversFew};
 ghost use Rattle.suite_runs.specs.Ending.{MayRunJob};
-ghost use Rattle.suite_runs.specs.Originals.{MayMakeOriginals, original_cost, same_steps};
+ghost use Rattle.suite_runs.specs.Originals.{IsOriginalSetup, MayMakeOriginals, original_cost, same_steps};
 ghost use Rattle.suite_runs.specs.Preparing.{AreBoundsBy, AreGreen, AreOriginals, GreenEnds};
-ghost use Rattle.suite_runs.specs.Preparing.{MayBeRun, Prepares, ReadyEnds, RisesBy};
+ghost use Rattle.suite_runs.specs.Preparing.{MayBeRun, OriginalEnds, Prepares, ReadyEnds, RisesBy};
 ghost use Rattle.suite_runs.specs.Reaching.{CoversKnown};
 
 use crate::bounds::bounds_of;
@@ -16,21 +16,25 @@ use crate::covering::{cell_count, covering_all, refuse_many};
 use crate::failed::{failed_of, refuse_failed};
 use crate::fault::JobFault;
 use crate::job::SuiteJob;
-use crate::originals::originals_of;
 use crate::reached::{NamedClasses, coverage_of};
 use class_model::{Memory, Seq};
-use class_table::Program;
+use class_table::{Program, Test};
 use class_writer::what_is_spelled_is_written;
 use job_answers::originals_have_records;
 use line_coverage::Coverage;
 use machine_laws::runs_keep_limits;
+use machine_rules::Limits;
 use mt_edge::Meter;
 use mutator_ops::Mutant;
+use record_rules::RunRecord;
 use std::alloc::Global;
+use std::sync::Wait;
+use std::thread::Threads;
 use suite_workers::{
-    KnownRun, LookUps, OldRecords, Tables, bounds_are_by_name, mutants_are_of, ready_may_run,
-    viable,
+    KnownRun, LookUps, OldRecords, OriginalSetup, bounds_are_by_name, mutants_are_of,
+    ready_may_run, run_originals, viable_by_workers,
 };
+use worker_gate::Recorder;
 
 /// What is known of the original runs; which mutants are viable, and which tests cover each; what
 /// runs on mutants may take, and what look-ups of them go by.
@@ -68,49 +72,59 @@ fn may_make(program: &Program, job: &SuiteJob, old: OldRecords)
     originals_have_records();
 }
 
+// What the workers of original runs share.
+fn original_setup<'c, 'r, 'h>(
+    tests: &'c [Test],
+    limits: Limits,
+    steps: u64,
+    look_ups: &'c LookUps<'r, 'h>,
+) -> OriginalSetup<'c, 'r, 'h>
+    ensures { IsOriginalSetup tests.entry.now limits steps look_ups.entry.now result }
+{
+    OriginalSetup {
+        tests,
+        limits,
+        steps,
+        look_ups,
+    }
+}
+
 // What is known of the original runs. The steps of those that are made are counted in the meter.
-#[tactic(auto, using(suite_workers::proofs::Below::not_lacking))]
-fn original_runs<'a, 'h>(
+fn original_runs<'a, 'h, W: Threads + Wait + Sync, R: Recorder<RunRecord> + Sync>(
+    rt: &W,
     alloc: Global,
     program: &Program,
-    job: &SuiteJob,
+    job: &SuiteJob<'a>,
     old: OldRecords<'a, 'h>,
+    rec: &R,
     meter: &mut Meter,
 ) -> Result<Seq<KnownRun<'a, 'h>>, Memory>
     requires { MayRunJob program.now job.now old meter.old }
-    ensures are { IfOk result (AreOriginals program.now job.now old.entry) }
-    ensures steps { OnOk result
-        (meter.new ≡ meter.old + original_cost program.now job.now (records_in old.entry)) }
-    ensures from { meter.old ≤ meter.new }
-    ensures most { meter.new
-        ≤ meter.old + original_cost program.now job.now (records_in old.entry) }
+    ensures { OriginalEnds program.now job.now old.entry meter.old meter.new result }
 {
     runs_keep_limits();
     may_make(program, job, old);
     let look_ups = original_look_ups(alloc, program, job, old)?;
-    let Some(mut tables) = Tables::find(alloc, program)? else {
-        unreachable!()
-    };
-    let mut part = meter.split();
-    let runs = originals_of(alloc, program, &mut tables, &look_ups, job, &mut part);
-    meter.join(part);
-    runs
+    let setup = original_setup(job.tests, job.limits, job.steps, &look_ups);
+    run_originals(rt, alloc, job.workers, program, &setup, rec, meter)
 }
 
 // What is known of them where all tests pass.
-fn green_runs<'a, 'h>(
+fn green_runs<'a, 'h, W: Threads + Wait + Sync, R: Recorder<RunRecord> + Sync>(
+    rt: &W,
     alloc: Global,
     program: &Program,
-    job: &SuiteJob,
+    job: &SuiteJob<'a>,
     old: OldRecords<'a, 'h>,
+    rec: &R,
     meter: &mut Meter,
 ) -> Result<Seq<KnownRun<'a, 'h>>, JobFault>
     requires { MayRunJob program.now job.now old meter.old }
     ensures ends { GreenEnds program.now job.now old.entry result }
-    ensures meter { RisesBy (original_cost program.now job.now (records_in old.entry))
-        meter.old meter.new result }
+    ensures meter { RisesBy job.now.workers
+        (original_cost program.now job.now (records_in old.entry)) meter.old meter.new result }
 {
-    let runs = original_runs(alloc, program, job, old, meter)?;
+    let runs = original_runs(rt, alloc, program, job, old, rec, meter)?;
     let failed = failed_of(alloc, runs.as_slice())?;
     refuse_failed(failed)?;
     Ok(runs)
@@ -167,21 +181,21 @@ fn bounds_by_name(
 }
 
 // The rest of what cells need, by what is known of the original runs.
-fn readied<'a, 'h>(
+fn readied<'a, 'h, W: Threads + Sync>(
+    rt: &W,
     alloc: Global,
-    program: &mut Program,
+    program: &Program,
     job: &SuiteJob<'a>,
     old: OldRecords<'a, 'h>,
     runs: Seq<KnownRun<'a, 'h>>,
 ) -> Result<Prepared<'a, 'h>, JobFault>
-    requires may { MayBeRun program.old job.now old }
-    requires green { AreGreen program.old job.now old runs }
-    ensures ends { ReadyEnds program.old job.now old.entry result }
-    ensures same { program.new ≡ program.old }
+    requires may { MayBeRun program.now job.now old }
+    requires green { AreGreen program.now job.now old runs }
+    ensures { ReadyEnds program.now job.now old.entry result }
 {
     what_is_spelled_is_written();
     mutants_are_of();
-    let viable = viable(alloc, program, job.mutants)?;
+    let viable = viable_by_workers(rt, alloc, job.workers, program, job.mutants)?;
     let cover = coverage(alloc, program, old, runs.as_slice())?;
     let covering = few_covering(alloc, program, &cover, job.mutants, viable.as_slice())?;
     let bounds = bounds_of(alloc, runs.as_slice())?;
@@ -204,19 +218,20 @@ fn readied<'a, 'h>(
 }
 
 /// What the cells of a job need, or why it is refused.
-pub fn prepare<'a, 'h>(
+pub fn prepare<'a, 'h, W: Threads + Wait + Sync, R: Recorder<RunRecord> + Sync>(
+    rt: &W,
     alloc: Global,
-    program: &mut Program,
+    program: &Program,
     job: &SuiteJob<'a>,
     old: OldRecords<'a, 'h>,
+    rec: &R,
     meter: &mut Meter,
 ) -> Result<Prepared<'a, 'h>, JobFault>
-    requires { MayRunJob program.old job.now old meter.old }
-    ensures ends { Prepares program.old job.now old.entry result }
-    ensures meter { RisesBy (original_cost program.old job.now (records_in old.entry))
-        meter.old meter.new result }
-    ensures same { program.new ≡ program.old }
+    requires { MayRunJob program.now job.now old meter.old }
+    ensures ends { Prepares program.now job.now old.entry result }
+    ensures meter { RisesBy job.now.workers
+        (original_cost program.now job.now (records_in old.entry)) meter.old meter.new result }
 {
-    let runs = green_runs(alloc, program, job, old, meter)?;
-    readied(alloc, program, job, old, runs)
+    let runs = green_runs(rt, alloc, program, job, old, rec, meter)?;
+    readied(rt, alloc, program, job, old, runs)
 }

@@ -69,7 +69,7 @@ pub fn run_job<'a, 'h, W: Threads + Wait + Sync, R: Recorder<RunRecord> + Sync, 
     accepted_may_run();
     cells_are_of_suite();
     answers_can_be_written();
-    let ready = prepare(alloc, program, job, old, meter)?;
+    let ready = prepare(rt, alloc, program, job, old, rec, meter)?;
     let setup = setup_of(job.mutants, job.tests, job.limits, job.all, &ready);
     let said = run_cells(rt, alloc, job.workers, program, &setup, rec, gate, meter)?;
     finish(alloc, old, &ready, said)

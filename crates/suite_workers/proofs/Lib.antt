@@ -20,3 +20,5 @@ mod TableParts
 mod Crosses
 mod RunAll
 pub mod Below
+mod OriginalRuns
+mod PartsTold

@@ -46,7 +46,7 @@ all_joined P [] ys h g k d lt = g k d lt
 all_joined P (x ∷ xs) ys h g zero d lt = h zero d (omega arith)
 all_joined P (x ∷ xs) ys h g (suc k) d lt = all_joined P xs ys (λ i e l. h (suc i) e (omega (arith, l))) g k d (omega (arith, lt))
 
-all_one : {X : Type 0} (P : X → Type 0) (x : X) → P x → All P (x ∷ [])
+pub all_one : {X : Type 0} (P : X → Type 0) (x : X) → P x → All P (x ∷ [])
 all_one P x p zero d lt = p
 all_one P x p (suc k) d lt = absurd (omega (arith, lt))
 

@@ -28,7 +28,7 @@ use Rattle.suite_workers.proofs.Shared.{ascend_for, cells_for, cost_most}
 
 -- ---- room on the meter
 
-times_most : (n c m : ℕ) → c ≤ m → n * c ≤ n * m
+pub times_most : (n c m : ℕ) → c ≤ m → n * c ≤ n * m
 times_most zero c m le = omega arith
 times_most (suc n) c m le =
     let more = times_most n c m le in
@@ -36,7 +36,7 @@ times_most (suc n) c m le =
     let two = suc-mul n m in
     omega (arith, more, one, two, le)
 
-once_most : (n c : ℕ) → 0 < n → c ≤ n * c
+pub once_most : (n c : ℕ) → 0 < n → c ≤ n * c
 once_most zero c some = absurd (omega (arith, some))
 once_most (suc n) c some = let one = suc-mul n c in omega (arith, one)
 

@@ -141,7 +141,7 @@ tests_of_one : (k : ℕ) (ts : List (Tried RunRecord)) → map place_at (map (ce
 tests_of_one k [] = refl
 tests_of_one k (t ∷ ts) = ap (λ l. t.test ∷ l) (tests_of_one k ts)
 
-mutants_listed : (k : ℕ) (ms : List (List (Tried RunRecord))) (covering : List (List ℕ)) → HasTests ms covering → map mutant_at (cells_from k ms) ≡ mutants_from k covering
+pub mutants_listed : (k : ℕ) (ms : List (List (Tried RunRecord))) (covering : List (List ℕ)) → HasTests ms covering → map mutant_at (cells_from k ms) ≡ mutants_from k covering
 mutants_listed k [] [] h = refl
 mutants_listed k [] (ks ∷ covering) h = absurd h
 mutants_listed k (ts ∷ ms) [] h = absurd h
@@ -150,7 +150,7 @@ mutants_listed k (ts ∷ ms) (ks ∷ covering) h =
     ∙ ap (λ l. l ++ map mutant_at (cells_from (suc k) ms)) (mutants_of_one k ts ∙ ap (λ n. replicate n k) (sym (long_map (λ (t : Tried RunRecord). t.test) ts) ∙ ap length h.0))
     ∙ ap (λ l. replicate (length ks) k ++ l) (mutants_listed (suc k) ms covering h.1)
 
-tests_listed : (k : ℕ) (ms : List (List (Tried RunRecord))) (covering : List (List ℕ)) → HasTests ms covering → map place_at (cells_from k ms) ≡ flat covering
+pub tests_listed : (k : ℕ) (ms : List (List (Tried RunRecord))) (covering : List (List ℕ)) → HasTests ms covering → map place_at (cells_from k ms) ≡ flat covering
 tests_listed k [] [] h = refl
 tests_listed k [] (ks ∷ covering) h = absurd h
 tests_listed k (ts ∷ ms) [] h = absurd h
@@ -159,7 +159,7 @@ tests_listed k (ts ∷ ms) (ks ∷ covering) h =
     ∙ ap (λ l. l ++ map place_at (cells_from (suc k) ms)) (tests_of_one k ts ∙ h.0)
     ∙ ap (λ l. ks ++ l) (tests_listed (suc k) ms covering h.1)
 
-long_tests : (ms : List (List (Tried RunRecord))) (covering : List (List ℕ)) → HasTests ms covering → length ms ≡ length covering
+pub long_tests : (ms : List (List (Tried RunRecord))) (covering : List (List ℕ)) → HasTests ms covering → length ms ≡ length covering
 long_tests [] [] h = refl
 long_tests [] (ks ∷ covering) h = absurd h
 long_tests (ts ∷ ms) [] h = absurd h

@@ -54,14 +54,14 @@ ascend_of ts ks is h = λ i j d lt within.
     let less = h i j d.test lt (omega (arith, within, long, same)) in
     omega (arith, one, two, less)
 
-all_ascend : (ms : List (List (Tried RunRecord))) (covering : List (List ℕ)) → HasTests ms covering → All (AllPairs ◌<◌) covering → All Ascend ms
+pub all_ascend : (ms : List (List (Tried RunRecord))) (covering : List (List ℕ)) → HasTests ms covering → All (AllPairs ◌<◌) covering → All Ascend ms
 all_ascend [] [] has h k d lt = absurd (omega (arith, lt))
 all_ascend [] (ks ∷ covering) has h k d lt = absurd has
 all_ascend (ts ∷ ms) [] has h k d lt = absurd has
 all_ascend (ts ∷ ms) (ks ∷ covering) has h zero d lt = ascend_of ts ks has.0 (h zero ks (omega arith))
 all_ascend (ts ∷ ms) (ks ∷ covering) has h (suc k) d lt = all_ascend ms covering has.1 (λ i e l. h (suc i) e (omega (arith, l))) k d (omega (arith, lt))
 
-places_of : (cells : List Cell) (n : ℕ) → n ≤ 65535 → All (λ k. k < n) (map place_at cells) → All (λ cell. cell.place < no_place) cells
+pub places_of : (cells : List Cell) (n : ℕ) → n ≤ 65535 → All (λ k. k < n) (map place_at cells) → All (λ cell. cell.place < no_place) cells
 places_of cells n few h = λ k d lt.
     let long = long_map place_at cells in
     let is = at_map place_at cells k d lt in
@@ -74,7 +74,7 @@ cost_case : (found : Option RunRecord) (steps most : ℕ) → steps ≤ most →
 cost_case None steps most le = le
 cost_case (Some r) steps most le = omega arith
 
-cost_within : (most : ℕ) (ts : List (Tried RunRecord)) → All (λ (t : Tried RunRecord). t.made.steps ≤ most) ts → cost_of steps_of ts ≤ length ts * most
+pub cost_within : (most : ℕ) (ts : List (Tried RunRecord)) → All (λ (t : Tried RunRecord). t.made.steps ≤ most) ts → cost_of steps_of ts ≤ length ts * most
 cost_within most [] h = omega arith
 cost_within most (t ∷ ts) h =
     let one = cost_case t.found t.made.steps most (h zero t (omega arith)) in

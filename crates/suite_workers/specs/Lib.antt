@@ -9,3 +9,6 @@ pub mod Laws
 pub mod Said
 pub mod Saying
 pub mod Below
+pub mod Originals
+pub mod OriginalWorkers
+pub mod Viability

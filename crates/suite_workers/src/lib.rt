@@ -6,20 +6,24 @@ mod cell_list;
 mod laws;
 mod look_ups;
 mod old_records;
+mod original_worker;
+mod originals;
 mod run;
 mod said;
 mod setup;
 mod standing;
+mod viability;
 mod worker;
 
 pub use laws::{accepted_may_run, bounds_are_by_name, cells_are_of_suite};
 pub use look_ups::LookUps;
 pub use old_records::{FoundRun, OldRecords};
+pub use originals::run_originals;
 pub use run::run_cells;
-pub use run_records::{Tables, fits_fields, make_record};
+pub use run_records::fits_fields;
 pub use said::{CellsSaid, KnownRun};
-pub use setup::JobSetup;
+pub use setup::{JobSetup, OriginalSetup};
 pub use suite_jobs::{
-    ProgramEnd, ProgramFault, covering_tests, mutants_are_of, not_viable, program_of,
-    ready_may_run, viable,
+    ProgramEnd, ProgramFault, covering_tests, mutants_are_of, not_viable, program_of, ready_may_run,
 };
+pub use viability::viable_by_workers;

@@ -20,3 +20,13 @@ pub struct JobSetup<'a, 'r, 'h> {
     pub all: bool,
     pub look_ups: &'a LookUps<'r, 'h>,
 }
+
+/// The runs of a suite's tests on its program as it is: the tests, the limits of all runs, how many
+/// steps each may take, and what old records have of them.
+#[derive(Drop)]
+pub struct OriginalSetup<'a, 'r, 'h> {
+    pub tests: &'a [Test],
+    pub limits: Limits,
+    pub steps: u64,
+    pub look_ups: &'a LookUps<'r, 'h>,
+}

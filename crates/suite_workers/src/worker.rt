@@ -87,7 +87,7 @@ fn is_program(program: &Program)
     let _count = program.len();
 }
 
-fn is_detecting(outcome: &Outcome) -> bool
+pub fn is_detecting(outcome: &Outcome) -> bool
     ensures { result ≡ is_some (detected_by outcome.now) }
 {
     !matches!(outcome, Outcome::Passed)
@@ -119,7 +119,7 @@ fn find_in<'a, 'r, 'h>(
 }
 
 // The test of this number.
-fn test_at(tests: &[Test], number: usize) -> &Test
+pub fn test_at(tests: &[Test], number: usize) -> &Test
     requires { number < length tests.now }
     ensures { result.now ≡ test_at tests.now number }
 {

@@ -1,27 +1,16 @@
-use Rattle.std.proofs.Common.{ℕ, ◌+◌, ◌<◌, ◌^◌, ◌∙◌, ap, subst, sym}
-use Rattle.suite_runs.proofs.Readying.{joins, may_run_originals, originals_are, originals_cost, originals_most}
+use Rattle.suite_workers.specs.Old.{records_in}
+use Rattle.suite_runs.specs.Originals.{original_cost}
+use Rattle.suite_runs.proofs.Readying.{may_run_originals, originals_end, rose_none}
 use Rattle.suite_runs.proofs.prepared.original_runs.Goals as goal
 
 pub may_make-requires : goal.may_make-requires
-may_make-requires c = (c.args.meter.now, c.requires)
+may_make-requires g c = (c.args.meter.now, c.requires)
 
-pub originals_of-runs-requires-clause-may : goal.originals_of-runs-requires-clause-may
-originals_of-runs-requires-clause-may c = may_run_originals c.runs_keep_limits.ensures c.args.program.now c.args.job.now c.args.old (c.args.meter.now, c.requires) c.in_ok-look_ups.look_ups c.in_ok-look_ups.ensures.old c.in_ok-look_ups.ensures.history c.may_make.ensures c.in_ok-look_ups.ensures.of
+pub returns-in_err-look_ups : goal.returns-in_err-look_ups
+returns-in_err-look_ups g c = rose_none c.args.job.now.workers (original_cost c.args.program.now c.args.job.now (records_in c.args.old)) c.args.meter.now
 
-pub join-requires : goal.join-requires
-join-requires c =
-    subst (λ (n : ℕ). n + c.originals_of-runs.new.part < 2 ^ 64) (sym c.split-part.ensures.same)
-    (joins c.runs_keep_limits.ensures c.args.program.now c.args.job.now c.args.old (c.args.meter.now, c.requires) c.in_ok-look_ups.look_ups c.in_ok-look_ups.ensures.old c.in_ok-look_ups.ensures.history c.args.meter.now c.originals_of-runs.new.part c.requires.meter_is c.originals_of-runs.ensures.memory)
+pub run_originals-requires-after_bounds : goal.run_originals-requires-after_bounds
+run_originals-requires-after_bounds g c κs within = may_run_originals c.runs_keep_limits.ensures c.args.program.now c.args.job.now c.args.old c.args.meter.now c.requires c.in_ok-look_ups.look_ups c.in_ok-look_ups.ensures.old c.in_ok-look_ups.ensures.history c.original_setup-setup.result c.original_setup-setup.ensures c.may_make.ensures c.in_ok-look_ups.ensures.of
 
-pub returns-clause-are : goal.returns-clause-are
-returns-clause-are c = originals_are c.runs_keep_limits.ensures c.args.program.now c.args.job.now c.args.old (c.args.meter.now, c.requires) c.in_ok-look_ups.look_ups c.in_ok-look_ups.ensures.old c.in_ok-look_ups.ensures.history c.originals_of-runs.result c.originals_of-runs.ensures.known c.originals_of-runs.ensures.histories
-
-pub returns-clause-steps : goal.returns-clause-steps
-returns-clause-steps c =
-    originals_cost c.runs_keep_limits.ensures c.args.program.now c.args.job.now c.args.old (c.args.meter.now, c.requires) c.in_ok-look_ups.look_ups c.in_ok-look_ups.ensures.old c.in_ok-look_ups.ensures.history c.originals_of-runs.result c.args.meter.now c.originals_of-runs.new.part c.join.new.self
-    (c.join.ensures ∙ ap (λ (n : ℕ). n + c.originals_of-runs.new.part) c.split-part.ensures.same) c.originals_of-runs.ensures.steps
-
-pub returns-clause-most : goal.returns-clause-most
-returns-clause-most c =
-    originals_most c.runs_keep_limits.ensures c.args.program.now c.args.job.now c.args.old (c.args.meter.now, c.requires) c.in_ok-look_ups.look_ups c.in_ok-look_ups.ensures.old c.in_ok-look_ups.ensures.history c.args.meter.now c.originals_of-runs.new.part c.join.new.self
-    (c.join.ensures ∙ ap (λ (n : ℕ). n + c.originals_of-runs.new.part) c.split-part.ensures.same) c.originals_of-runs.ensures.memory
+pub returns : goal.returns
+returns g c = originals_end c.runs_keep_limits.ensures c.args.program.now c.args.job.now c.args.old c.args.meter.now c.requires c.in_ok-look_ups.look_ups c.in_ok-look_ups.ensures.old c.in_ok-look_ups.ensures.history c.original_setup-setup.result c.original_setup-setup.ensures c.run_originals.new.meter c.run_originals.result c.run_originals.ensures
