@@ -12,13 +12,12 @@ use std::thread;
 use std::thread::Threads;
 use suite_jobs::viable;
 
-// Which of these mutants are viable, asked on a program of its own, whose classes are shared.
-fn viable_on_copy(alloc: Global, program: &Program, mutants: &[Mutant]) -> Result<Seq<bool>, Memory>
+// Which of these mutants are viable.
+fn viable_among(alloc: Global, program: &Program, mutants: &[Mutant]) -> Result<Seq<bool>, Memory>
     requires { MayBeAsked program.now mutants.now }
     ensures { IfOk result (AreViable program.now mutants.now) }
 {
-    let mut own = program.copy()?;
-    viable(alloc, &mut own, mutants)
+    viable(alloc, program, mutants)
 }
 
 // How many mutants each worker is asked of, so that all are.
@@ -43,7 +42,7 @@ fn joined(alloc: Global, parts: Vec<Result<Seq<bool>, Memory>>) -> Result<Seq<bo
 }
 
 /// Whether each mutant is viable: its class has a layout and is accepted. So many workers are asked
-/// at most, each of mutants that follow one another, and on a program of its own.
+/// at most, each of mutants that follow one another.
 pub fn viable_by_workers<W: Threads + Sync>(
     rt: &W,
     alloc: Global,
@@ -64,7 +63,7 @@ pub fn viable_by_workers<W: Threads + Sync>(
         &|_, part: &[Mutant]| -> Result<Seq<bool>, Memory>
             requires { MayBeAsked program.now part.now }
             ensures { IfOk result (AreViable program.entry.now part.entry.now) }
-        { viable_on_copy(alloc, program, part) },
+        { viable_among(alloc, program, part) },
     )?;
     joined(alloc, parts)
 }
