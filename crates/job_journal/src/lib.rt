@@ -24,6 +24,7 @@ pub use journal::Journal;
 pub use locked::Loaded;
 pub use made::KnownRecord;
 pub use opening::JournalFault;
+pub use pieces::put_piece;
 pub use state::JournalState;
 
 /// A record under classes with all of its own is read as it is written.

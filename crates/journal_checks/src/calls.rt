@@ -1,7 +1,9 @@
 //! The calls under their contracts, whose bodies `must-fail` turns wrong.
 
-ghost use Rattle.std.specs.Prelude.{◌≡◌, ◌≢◌, ◌≤◌, ◌<◌, true, false, OnOk, IfOk, IfErr, IfSome, IsSomeAnd, IsErrOf};
-ghost use Rattle.mt_edge.specs.Causes.{Rose};
+ghost use Rattle.std.specs.Prelude.{◌≡◌, ◌≢◌, ◌≤◌, ◌<◌, true, false, OnOk, OnErr, IfOk, IfErr, IfSome, IsSomeAnd, IsErrOf};
+ghost use Rattle.mt_edge.specs.Causes.{HasCause, Rose};
+ghost use Rattle.mt_edge.specs.Keeping.{IsAllDurable};
+ghost use Rattle.mt_edge.specs.Pieces.{Grows, GrowsBy};
 ghost use Rattle.mt_edge.specs.declared.outside.EdgeFault.TheVariants.{Failed};
 ghost use Rattle.record_rules.specs.declared.profile_number.TheConstants.{PROFILE_NUMBER};
 ghost use Rattle.job_journal.specs.Opening.{Opens, FailsToOpen};
@@ -9,10 +11,22 @@ ghost use Rattle.job_journal.specs.Keeping.{GainsOnce, HasGrown, HasLoaded, IsAc
 ghost use Rattle.job_journal.specs.Keeping.{IsBeginning, IsSafe, RecordsAll, TellsKnown, told_by};
 
 use class_model::Seq;
-use job_journal::{Journal, JournalFault, JournalState, KnownRecord, Loaded};
+use job_journal::{Journal, JournalFault, JournalState, KnownRecord, Loaded, put_piece};
 use mt_edge::{EdgeFault, Keeper};
 use record_rules::RunRecord;
 use std::alloc::Global;
+
+/// `put_piece`.
+pub fn put<K: Keeper>(keeper: &mut K, piece: &[u8]) -> Result<(), EdgeFault>
+    ensures ok { OnOk result (Grows (K.kept keeper.old) (K.kept keeper.new) piece.now) }
+    ensures synced { OnOk result (IsAllDurable (K.kept keeper.new) (K.durable keeper.new)) }
+    ensures err { OnErr result (GrowsBy (K.kept keeper.old) (K.kept keeper.new) piece.now) }
+    ensures durable { K.durable keeper.old ≤ K.durable keeper.new }
+    ensures cause { HasCause (K.writing keeper.old) (K.writing keeper.new) result }
+    ensures other { K.reading keeper.new ≡ K.reading keeper.old }
+{
+    put_piece(keeper, piece)
+}
 
 /// `JournalState::open`.
 pub fn open<K: Keeper, M: KnownRecord>(

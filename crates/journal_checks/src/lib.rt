@@ -8,6 +8,6 @@ mod samples;
 #[cfg(test)]
 mod tests;
 
-pub use calls::{add, close, open};
+pub use calls::{add, close, open, put};
 pub use made::{Made, NoneLoaded};
 pub use samples::{first, second};
