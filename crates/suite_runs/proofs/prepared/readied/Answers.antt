@@ -4,11 +4,11 @@ use Rattle.suite_workers.specs.declared.said.KnownRun.{KnownRun}
 use Rattle.suite_runs.proofs.Readying.{all_fit, few_tests, runs_long}
 use Rattle.suite_runs.proofs.prepared.readied.Goals as goal
 
-pub viable_by_workers-viable-requires-clause-some : goal.viable_by_workers-viable-requires-clause-some
-viable_by_workers-viable-requires-clause-some g c κs within = c.requires.may.1.some_workers
+pub viable_by_workers-requires-clause-some : goal.viable_by_workers-requires-clause-some
+viable_by_workers-requires-clause-some g c κs within = c.requires.may.1.some_workers
 
-pub viable_by_workers-viable-requires-clause-asked : goal.viable_by_workers-viable-requires-clause-asked
-viable_by_workers-viable-requires-clause-asked g c κs within = record {
+pub viable_by_workers-requires-clause-asked : goal.viable_by_workers-requires-clause-asked
+viable_by_workers-requires-clause-asked g c κs within = record {
   ready = c.requires.may.1.ready;
   fit = all_fit c.args.program.now c.args.job.now c.args.old c.what_is_spelled_is_written.ensures c.mutants_are_of.ensures c.requires.may;
 }
