@@ -1,11 +1,14 @@
 -- The two records have the form of a history, and an empty journal says none.
-use Rattle.std.proofs.Common.{◌≡◌, ℕ, ◌<◌, ◌^◌, List, [], ◌∷◌, Option, Some, None, refl, sym, subst, arith}
+use Rattle.std.proofs.Common.{◌≡◌, ℕ, ◌<◌, ◌^◌, List, [], ◌∷◌, Option, refl, sym, subst, arith}
+use Rattle.std.specs.Prelude.{IfSome}
 use Rattle.class_model.specs.declared.outcome.Outcome.TheVariants.{Passed, TimedOut}
 use Rattle.program_rules.specs.Names.{Name}
 use Rattle.record_rules.specs.declared.record.RunRecord.{RunRecord}
 use Rattle.history_rules.specs.Items.{IsText}
 use Rattle.history_rules.specs.Entries.{Entry}
 use Rattle.history_rules.specs.Laws.{IsFormed}
+use Rattle.job_journal.specs.Keeping.{HasLoaded}
+use Rattle.job_journal.specs.Opening.{Opens}
 use Rattle.journal_checks.specs.Samples.{first_record, second_record}
 
 letter_84 : IsText (84 ∷ [])
@@ -71,3 +74,10 @@ formed_first r is = subst (λ (x : RunRecord). IsFormed x) (sym is) first_formed
 
 pub formed_second : (r : RunRecord) → r ≡ second_record → IsFormed r
 formed_second r is = subst (λ (x : RunRecord). IsFormed x) (sym is) second_formed
+
+-- of no bytes no record is loaded
+pub none_loaded : (profile loaded : ℕ) (bytes : List ℕ) (now : Option (List ℕ)) (records : List RunRecord) → bytes ≡ [] → Opens profile now records bytes → IfSome now (HasLoaded profile loaded records) → IfSome now (HasLoaded profile loaded [])
+none_loaded profile loaded bytes now records e o h =
+    let none = subst (λ (bs : List ℕ). Opens profile now records bs) e o in
+    let said : records ≡ [] = none.said in
+    subst (λ (rs : List RunRecord). IfSome now (HasLoaded profile loaded rs)) said h

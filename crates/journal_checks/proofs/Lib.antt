@@ -1,1 +1,1 @@
-mod Formed
+pub mod Formed

@@ -107,6 +107,7 @@ pub fn second(alloc: Global) -> Result<Made, Memory>
 }
 
 /// An empty journal's state.
+#[tactic(auto, using(crate::proofs::Formed::none_loaded))]
 pub fn begun(alloc: Global) -> Result<JournalState<MemKeeper, Made>, Memory>
     ensures { IfOk result (λ s.
         IfSome (keeper_kept s.keeper) (HasLoaded PROFILE_NUMBER s.loaded [])) }
