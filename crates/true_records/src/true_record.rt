@@ -5,7 +5,6 @@ ghost use Rattle.record_rules.specs.Jobs.{with_limit};
 ghost use Rattle.record_rules.specs.Matching.{fits_limit};
 ghost use Rattle.true_records.specs.Truth.{IsTrueAndFormed};
 
-use job_journal::KnownRecord;
 use record_rules::RunRecord;
 use reuse_laws::true_under_limits;
 use std::marker::Model;
@@ -26,19 +25,6 @@ impl Model for TrueRecord {
     ghost view = { λ r. r.entry };
 
     ghost invariant = { λ r. IsTrueAndFormed r.entry };
-}
-
-impl KnownRecord for TrueRecord {
-    ghost use Rattle.record_rules.specs.Truth.{IsTrueRecord};
-    ghost use Rattle.class_records.specs.Profile.{profile};
-
-    ghost entry = { λ r. r };
-
-    ghost holds = { λ r. IsTrueRecord profile r };
-
-    fn entry(&self) -> &RunRecord {
-        &self.entry
-    }
 }
 
 // A record with another limit.
