@@ -1,6 +1,6 @@
 //! Texts that are assembled.
 
-use crate::calls::{Ended, call};
+use crate::calls::call;
 use class_model::Bytes;
 use mt_edge::MemTree;
 use sample_classes::A;
@@ -36,17 +36,20 @@ fn held(alloc: Global, text: &[u8], fails: &[u64]) -> Result<MemTree, Fail> {
     Ok(MemTree::new(alloc, files, fails.to_vec(alloc)?)?)
 }
 
-// How a call ends, and whether something stands at A.class behind it.
-fn called(
+// Whether a call ends so, with something at A.class behind it or not.
+fn ends(
     rt: &(impl Threads + Wait + Sync + AllocGlobal),
     words: &[&str],
     text: &[u8],
     fails: &[u64],
-) -> Result<(Ended, bool), Fail> {
+    status: i32,
+    line: &str,
+    stands: bool,
+) -> Result<bool, Fail> {
     let alloc = rt.alloc();
     let mut tree = held(alloc, text, fails)?;
     let told = call(rt, words, &mut tree, &[])?;
-    Ok((told, tree.held("A.class").is_some()))
+    Ok(told.is(status, line, 0) && tree.held("A.class").is_some() == stands)
 }
 
 #[test]
@@ -74,16 +77,15 @@ iload_0
 ireturn
 end
 ";
-    let told = called(&rt, &WORDS, text.as_bytes(), &[])?;
-    assert!(rt; !told.1 && told.0.is(15, "mutest: AsmRefused 3\n", 0));
+    let line = "mutest: AsmRefused 3\n";
+    assert!(rt; ends(&rt, &WORDS, text.as_bytes(), &[], 15, line, false)?);
     Ok(())
 }
 
 #[test]
 fn the_option_may_stand_before_the_text(rt: HostRuntime) -> Result<(), Fail> {
     let words = ["asm", "--out", "A.class", "A.txt"];
-    let told = called(&rt, &words, TEXT.as_bytes(), &[])?;
-    assert!(rt; told.1 && told.0.is(0, "", 0));
+    assert!(rt; ends(&rt, &words, TEXT.as_bytes(), &[], 0, "", true)?);
     Ok(())
 }
 
@@ -99,23 +101,24 @@ fn other_words_for_a_text_are_refused(rt: HostRuntime) -> Result<(), Fail> {
         &["asm", "A.txt", "--out=A.class", "x"],
     ];
     for words in calls {
-        let told = called(&rt, words, TEXT.as_bytes(), &[])?;
-        assert!(rt; !told.1 && told.0.is(2, "mutest: Usage\n", 0));
+        let line = "mutest: Usage\n";
+        assert!(rt; ends(&rt, words, TEXT.as_bytes(), &[], 2, line, false)?);
     }
     Ok(())
 }
 
 #[test]
 fn what_else_may_fail_is_told(rt: HostRuntime) -> Result<(), Fail> {
+    let text = TEXT.as_bytes();
     let words = ["asm", "B.txt", "--out", "A.class"];
-    let absent = called(&rt, &words, TEXT.as_bytes(), &[])?;
-    assert!(rt; !absent.1 && absent.0.is(3, "mutest: NotFound B.txt\n", 0));
-    let unread = called(&rt, &WORDS, TEXT.as_bytes(), &[0])?;
-    assert!(rt; !unread.1 && unread.0.is(10, "mutest: ReadFault\n", 0));
-    let unwritten = called(&rt, &WORDS, TEXT.as_bytes(), &[1])?;
-    assert!(rt; !unwritten.1 && unwritten.0.is(11, "mutest: WriteFault assembled\n", 0));
+    let line = "mutest: NotFound B.txt\n";
+    assert!(rt; ends(&rt, &words, text, &[], 3, line, false)?);
+    let line = "mutest: ReadFault\n";
+    assert!(rt; ends(&rt, &WORDS, text, &[0], 10, line, false)?);
+    let line = "mutest: WriteFault assembled\n";
+    assert!(rt; ends(&rt, &WORDS, text, &[1], 11, line, false)?);
     let blanks = vec![in rt.alloc(); b'\n'; 4_194_305]?;
-    let long = called(&rt, &WORDS, blanks.as_slice(), &[])?;
-    assert!(rt; !long.1 && long.0.is(12, "mutest: TooMany class 4194305\n", 0));
+    let line = "mutest: TooMany class 4194305\n";
+    assert!(rt; ends(&rt, &WORDS, blanks.as_slice(), &[], 12, line, false)?);
     Ok(())
 }

@@ -1,6 +1,6 @@
 //! Class files that are listed.
 
-use crate::calls::{Ended, call, damaged};
+use crate::calls::{call, damaged};
 use class_model::Bytes;
 use mt_edge::MemTree;
 use sample_classes::{A, A_BARE, T};
@@ -9,14 +9,18 @@ use std::sync::Wait;
 use std::test::Fail;
 use std::thread::Threads;
 
-// How a call ends, where the tree holds these bytes at A.class.
-fn called(
+const LIST: [&str; 2] = ["list", "A.class"];
+
+// Whether a call ends so where the tree holds these bytes at A.class.
+fn ends(
     rt: &(impl Threads + Wait + Sync + AllocGlobal),
     words: &[&str],
     bytes: &[u8],
     tree_fails: &[u64],
     sink_fails: &[u64],
-) -> Result<Ended, Fail> {
+    status: i32,
+    text: &str,
+) -> Result<bool, Fail> {
     let alloc = rt.alloc();
     let mut files = Vec::new(alloc);
     files.push((
@@ -24,32 +28,29 @@ fn called(
         Bytes::from_slice(alloc, bytes)?,
     ))?;
     let mut tree = MemTree::new(alloc, files, tree_fails.to_vec(alloc)?)?;
-    call(rt, words, &mut tree, sink_fails)
+    let told = call(rt, words, &mut tree, sink_fails)?;
+    Ok(told.is(status, text, 0))
 }
 
 #[test]
 fn the_mutants_of_a_class_are_listed(rt: HostRuntime) -> Result<(), Fail> {
     let lines =
         "A.f(I)Z@1:CONDITIONALS_BOUNDARY\nA.f(I)Z@1:NEGATE_CONDITIONALS\nA.f(I)Z@3:FALSE_RETURNS\nA.f(I)Z@3:TRUE_RETURNS\nA.f(I)Z@5:FALSE_RETURNS\nA.f(I)Z@5:TRUE_RETURNS\n";
-    let bare = called(&rt, &["list", "A.class"], &A_BARE, &[], &[])?;
-    assert!(rt; bare.is(0, lines, 0));
-    let whole = called(&rt, &["list", "A.class"], &A, &[], &[])?;
-    assert!(rt; whole.is(0, lines, 0));
+    assert!(rt; ends(&rt, &LIST, &A_BARE, &[], &[], 0, lines)?);
+    assert!(rt; ends(&rt, &LIST, &A, &[], &[], 0, lines)?);
     // A jump that compares for equality has no boundary.
     let equal = damaged(rt.alloc(), 126, 0x99)?;
-    let others = called(&rt, &["list", "A.class"], equal.as_slice(), &[], &[])?;
     let lines =
         "A.f(I)Z@1:NEGATE_CONDITIONALS\nA.f(I)Z@3:FALSE_RETURNS\nA.f(I)Z@3:TRUE_RETURNS\nA.f(I)Z@5:FALSE_RETURNS\nA.f(I)Z@5:TRUE_RETURNS\n";
-    assert!(rt; others.is(0, lines, 0));
+    assert!(rt; ends(&rt, &LIST, equal.as_slice(), &[], &[], 0, lines)?);
     Ok(())
 }
 
 #[test]
 fn a_class_of_tests_is_read(rt: HostRuntime) -> Result<(), Fail> {
-    let read = called(&rt, &["list", "A.class"], &T, &[], &[])?;
     // The constructor's call of another constructor is no call that may go.
     let lines = "T.neg()V@2:VOID_METHOD_CALLS\nT.zero()V@2:VOID_METHOD_CALLS\n";
-    assert!(rt; read.is(0, lines, 0));
+    assert!(rt; ends(&rt, &LIST, &T, &[], &[], 0, lines)?);
     Ok(())
 }
 
@@ -65,20 +66,19 @@ fn other_words_are_refused(rt: HostRuntime) -> Result<(), Fail> {
         &["list", "A.class", "A.class"],
     ];
     for words in calls {
-        let told = called(&rt, words, &A, &[], &[])?;
-        assert!(rt; told.is(2, "mutest: Usage\n", 0));
+        assert!(rt; ends(&rt, words, &A, &[], &[], 2, "mutest: Usage\n")?);
     }
     Ok(())
 }
 
 #[test]
 fn faults_of_the_outside_are_told(rt: HostRuntime) -> Result<(), Fail> {
-    let absent = called(&rt, &["list", "B.class"], &A, &[], &[])?;
-    assert!(rt; absent.is(3, "mutest: NotFound B.class\n", 0));
-    let unread = called(&rt, &["list", "A.class"], &A, &[0], &[])?;
-    assert!(rt; unread.is(10, "mutest: ReadFault\n", 0));
-    let unwritten = called(&rt, &["list", "A.class"], &A, &[], &[0])?;
-    assert!(rt; unwritten.is(11, "mutest: WriteFault output\n", 0));
+    let line = "mutest: NotFound B.class\n";
+    assert!(rt; ends(&rt, &["list", "B.class"], &A, &[], &[], 3, line)?);
+    let line = "mutest: ReadFault\n";
+    assert!(rt; ends(&rt, &LIST, &A, &[0], &[], 10, line)?);
+    let line = "mutest: WriteFault output\n";
+    assert!(rt; ends(&rt, &LIST, &A, &[], &[0], 11, line)?);
     Ok(())
 }
 
@@ -91,8 +91,8 @@ fn damaged_files_are_refused_at_their_place(rt: HostRuntime) -> Result<(), Fail>
         (159, "mutest: BadClass A.class 3 158\n"),
     ];
     for (length, text) in cuts {
-        let told = called(&rt, &["list", "A.class"], &A[..length.min(160)], &[], &[])?;
-        assert!(rt; told.is(5, text, 0));
+        let cut = &A[..length.min(160)];
+        assert!(rt; ends(&rt, &LIST, cut, &[], &[], 5, text)?);
     }
     let puts: [(usize, u8, i32, &str); 5] = [
         // An item that crosses the end of Code alone is named by Code, not by the table inside it.
@@ -104,13 +104,12 @@ fn damaged_files_are_refused_at_their_place(rt: HostRuntime) -> Result<(), Fail>
     ];
     for (at, byte, status, text) in puts {
         let bytes = damaged(rt.alloc(), at, byte)?;
-        let told = called(&rt, &["list", "A.class"], bytes.as_slice(), &[], &[])?;
-        assert!(rt; told.is(status, text, 0));
+        assert!(rt; ends(&rt, &LIST, bytes.as_slice(), &[], &[], status, text)?);
     }
     let mut longer = A.to_vec(rt.alloc())?;
     longer.push(0)?;
-    let told = called(&rt, &["list", "A.class"], longer.as_slice(), &[], &[])?;
-    assert!(rt; told.is(5, "mutest: BadClass A.class 19 160\n", 0));
+    let line = "mutest: BadClass A.class 19 160\n";
+    assert!(rt; ends(&rt, &LIST, longer.as_slice(), &[], &[], 5, line)?);
     Ok(())
 }
 
@@ -118,10 +117,10 @@ fn damaged_files_are_refused_at_their_place(rt: HostRuntime) -> Result<(), Fail>
 fn a_file_past_the_limit_is_refused_unread(rt: HostRuntime) -> Result<(), Fail> {
     // Reading it would fail.
     let bytes = vec![in rt.alloc(); 0u8; 4_194_305]?;
-    let told = called(&rt, &["list", "A.class"], bytes.as_slice(), &[0], &[])?;
-    assert!(rt; told.is(12, "mutest: TooMany class 4194305\n", 0));
+    let line = "mutest: TooMany class 4194305\n";
+    assert!(rt; ends(&rt, &LIST, bytes.as_slice(), &[0], &[], 12, line)?);
     let most = vec![in rt.alloc(); 0u8; 4_194_304]?;
-    let last = called(&rt, &["list", "A.class"], most.as_slice(), &[], &[])?;
-    assert_eq!(rt; last.status, 5);
+    let line = "mutest: BadClass A.class 17 0\n";
+    assert!(rt; ends(&rt, &LIST, most.as_slice(), &[], &[], 5, line)?);
     Ok(())
 }
