@@ -1,4 +1,5 @@
-//! A journal of runs: its text, and what each beginning of one says.
+//! A journal of runs: its text, what each beginning of one says, and what is appended to one while
+//! runs are made.
 //!
 //! The definitions are in `specs/`: a further kind of entry goes to `Contents`, `content` (read) and
 //! `entry` (written).

@@ -1,6 +1,0 @@
-pub mod Again
-pub mod Added
-pub mod Numbered
-pub mod Putting
-pub mod ContentsApart
-pub mod Standing
