@@ -1,6 +1,6 @@
 -- Shard files are read as they are spelled.
 use Rattle.std.proofs.Common.{◌≡◌, ℕ, ◌+◌, ◌<◌, ◌≤◌, ◌^◌, Bool, true, false, cond, List, ◌++◌, length, Result, Ok, Err, refl, sym, ap, subst, ◌∙◌, arith}
-use Rattle.std.specs.Prelude.{◌==◌, nat_lt}
+use Rattle.std.specs.Prelude.{◌==◌, ◌||◌, nat_lt}
 use Rattle.std.specs.Int.{w16, w32, to_be_bytes}
 use Rattle.std.proofs.lemmas.Bool.{eqb-true, le-ltb}
 use Rattle.std.proofs.lemmas.List.{length-append}
@@ -47,7 +47,7 @@ version_read at v rest lt = ap (λ (z : Result (ℕ × Input) HeadFault). z >>= 
 version_fits : (n : ℕ) → is_version n ≡ true → n < 2 ^ 16
 version_fits n h = either_of (n == 1) (n == 2) refl refl h
   where
-    either_of : (a b : Bool) → a ≡ (n == 1) → b ≡ (n == 2) → (cond a true b) ≡ true → n < 2 ^ 16
+    either_of : (a b : Bool) → a ≡ (n == 1) → b ≡ (n == 2) → a || b ≡ true → n < 2 ^ 16
     either_of true b e f h = omega (arith, eqb-true n 1 (sym e))
     either_of false b e f h = omega (arith, eqb-true n 2 (sym f ∙ h))
 

@@ -6,14 +6,14 @@ use Rattle.std.proofs.lemmas.Bool.{eqb-true, ltb-true, ltb-false, lt-ltb, le-ltb
 use Rattle.codec_rules.specs.Input.{Input, IsBytes}
 use Rattle.codec_rules.specs.Sequence.{◌>>=◌, unless}
 use Rattle.codec_rules.specs.Spelling.{Takes, IsCodecAt, input_at}
-use Rattle.codec_rules.proofs.Sequence.{bind_ok, ok_is, unless_ok}
+use Rattle.codec_rules.proofs.Sequence.{bind_ok, unless_ok}
 use Rattle.codec_rules.proofs.Codec.{chain, renamed}
 use Rattle.codec_rules.proofs.Numbers.{number_codec, wide16, wide32}
 use Rattle.history_rules.proofs.Codecs.{tested_from}
 use Rattle.shard_rules.specs.declared.head.Head.{Head}
 use Rattle.shard_rules.specs.declared.head.HeadFault.{HeadFault}
 use Rattle.shard_rules.specs.declared.head.HeadFault.TheVariants.{Bad}
-use Rattle.shard_rules.specs.Heads.{FrontReader, u2_at, u4_at, where_at, magic, most_shards, number_fault, head_at, head_bytes, IsHead}
+use Rattle.shard_rules.specs.Heads.{FrontReader, u2_at, u4_at, where_at, magic, most_shards, number_fault, head_of, head_at, head_bytes, IsHead}
 use Rattle.shard_rules.specs.Laws.{HeadsAreReadAsSpelled}
 
 pub u2_codec : IsCodecAt u2_at (λ at. to_be_bytes w16) (λ n. n < 2 ^ 16)
@@ -27,11 +27,8 @@ where_codec read spell P test codec = tested_from read spell P test (λ input. B
 
 -- ---- the number of shards
 
-abbrev head_of : ℕ → ℕ → Head
-head_of index of = record { index = index; of = of }
-
 abbrev from_of : ℕ → ℕ → FrontReader Head
-from_of at index j = u2_at j >>= λ of. unless (number_fault at j.at index of.0) tt >>= λ fits. Ok (head_of index of.0, of.1)
+from_of at index j = u2_at j >>= λ of. unless (number_fault at j.at index of.0) (head_of index of.0, of.1)
 
 none_of : (a b : Bool) (x y : HeadFault) → (if a then Some x else if b then Some y else None) ≡ None → (a ≡ false) × (b ≡ false)
 none_of true b x y e = absurd cc
@@ -47,21 +44,20 @@ fits_of at j index of le few =
 of_codec : (at index : ℕ) → 0 < index → IsCodecAt (from_of at index) (λ place h. to_be_bytes w16 h.of) (λ h. IsHead h × (h.index ≡ index))
 of_codec at index some = record {
   takes = λ input y rest bytes e.
-      let a = bind_ok (u2_at input) (λ of. unless (number_fault at input.at index of.0) tt >>= λ fits. Ok (head_of index of.0, of.1)) (y, rest) e in
-      let b = bind_ok (unless (number_fault at input.at index a.0.0) tt) (λ fits. Ok (head_of index a.0.0, a.0.1)) (y, rest) a.2 in
-      let c = unless_ok (number_fault at input.at index a.0.0) tt b.0 b.1 in
+      let a = bind_ok (u2_at input) (λ of. unless (number_fault at input.at index of.0) (head_of index of.0, of.1)) (y, rest) e in
+      let m : Head × Input = (head_of index a.0.0, a.0.1) in
+      let c = unless_ok (number_fault at input.at index a.0.0) m (y, rest) a.2 in
       let d = none_of (nat_lt a.0.0 index) (nat_lt most_shards a.0.0) (Bad at) (Bad input.at) c.0 in
       let t = u2_codec.takes input a.0.0 a.0.1 bytes a.1 in
-      let m : Head × Input = (head_of index a.0.0, a.0.1) in
-      subst (λ (z : Head × Input). Takes input (to_be_bytes w16 z.0.of) z.1 × (IsHead z.0 × (z.0.index ≡ index))) (ok_is {F = HeadFault} m (y, rest) b.2)
+      subst (λ (z : Head × Input). Takes input (to_be_bytes w16 z.0.of) z.1 × (IsHead z.0 × (z.0.index ≡ index))) c.1
       (t.0, (record { first = some; last = ltb-false a.0.0 index d.0; few = ltb-false most_shards a.0.0 d.1 }, refl));
   again = λ y place rest q.
       let few = q.0.few in
       let small : y.of < 2 ^ 16 = omega (arith, few) in
       let fits : number_fault at place index y.of ≡ None = fits_of at place index y.of (subst (λ (k : ℕ). k ≤ y.of) q.1 q.0.last) few in
       let read = u2_codec.again y.of place rest small in
-      ap (λ (z : Result (ℕ × Input) HeadFault). z >>= λ of. unless (number_fault at place index of.0) tt >>= λ fits. Ok (head_of index of.0, of.1)) read
-      ∙ ap (λ (o : Option HeadFault). unless o tt >>= λ fits. Ok (head_of index y.of, input_at (place + length (to_be_bytes w16 y.of)) rest)) fits
+      ap (λ (z : Result (ℕ × Input) HeadFault). z >>= λ of. unless (number_fault at place index of.0) (head_of index of.0, of.1)) read
+      ∙ ap (λ (o : Option HeadFault). unless o (head_of index y.of, input_at (place + length (to_be_bytes w16 y.of)) rest)) fits
       ∙ ap (λ (k : ℕ). Ok (head_of k y.of, input_at (place + length (to_be_bytes w16 y.of)) rest)) (sym q.1);
 }
 

@@ -42,6 +42,9 @@ number_fault index_at of_at index of =
     if nat_lt of index then Some (Bad index_at)
     else if nat_lt most_shards of then Some (Bad of_at) else None
 
+abbrev pub head_of : ℕ → ℕ → Head
+head_of index of = record { index = index; of = of }
+
 -- The magic number, the version, which is 1, the index, from 1, and the number of shards.
 unfoldable pub head_at : FrontReader Head
 head_at input = do
@@ -49,8 +52,7 @@ head_at input = do
   version ← where_at u2_at (λ n. n == 1) first.1
   index ← where_at u2_at (λ n. nat_lt 0 n) version.1
   of ← u2_at index.1
-  fits ← unless (number_fault version.1.at index.1.at index.0 of.0) tt
-  Ok (record { index = index.0; of = of.0 }, of.1)
+  unless (number_fault version.1.at index.1.at index.0 of.0) (head_of index.0 of.0, of.1)
 
 abbrev pub head_bytes : Head → List ℕ
 head_bytes h =
