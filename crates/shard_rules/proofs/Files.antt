@@ -1,9 +1,9 @@
 -- Shard files are read as they are spelled.
-use Rattle.std.proofs.Common.{◌≡◌, ℕ, ◌+◌, ◌<◌, ◌≤◌, ◌^◌, Bool, true, false, cond, List, ◌++◌, length, Result, Ok, Err, refl, sym, ap, subst, ◌∙◌, arith}
+use Rattle.std.proofs.Common.{◌≡◌, ℕ, ◌+◌, ◌<◌, ◌≤◌, ◌^◌, Bool, true, false, cond, List, ◌++◌, length, drop, Result, Ok, Err, refl, sym, ap, subst, ◌∙◌, arith}
 use Rattle.std.specs.Prelude.{◌==◌, ◌||◌, nat_lt}
 use Rattle.std.specs.Int.{w16, w32, to_be_bytes}
 use Rattle.std.proofs.lemmas.Bool.{eqb-true, le-ltb}
-use Rattle.std.proofs.lemmas.List.{length-append}
+use Rattle.std.proofs.lemmas.List.{drop_at, length-append}
 use Rattle.codec_rules.specs.Input.{Input, IsBytes}
 use Rattle.codec_rules.specs.Sequence.{◌>>=◌, or_fault}
 use Rattle.codec_rules.specs.Spelling.{input_at}
@@ -23,7 +23,7 @@ use Rattle.shard_rules.specs.declared.head.Head.{Head}
 use Rattle.shard_rules.specs.declared.head.HeadFault.{HeadFault}
 use Rattle.shard_rules.specs.declared.head.HeadFault.TheVariants.{Bad}
 use Rattle.shard_rules.specs.Heads.{u2_at, u4_at, where_at, head_at, head_bytes, IsHead, magic}
-use Rattle.shard_rules.specs.Files.{Shard, front_at, bad_from, records_from, shard_at, most, shard_of, ShardText}
+use Rattle.shard_rules.specs.Files.{Shard, front_at, second_at, bad_from, records_from, shard_at, most, shard_of, ShardText}
 use Rattle.shard_rules.specs.Laws.{AreReadAsSpelled, IsShardFile, ShardsAreReadAsSpelled}
 use Rattle.shard_rules.proofs.Heads.{head_codec, u2_codec, u4_codec}
 
@@ -71,13 +71,13 @@ record IsFront (input : Input) (front : Head × Input) : Type 0 where
   version_is : where_at u2_at (λ n. n == 2) first.1 ≡ Ok version
 
 front_parts : (input : Input) (front : Head × Input) → front_at input ≡ Ok front → IsFront input front
-unfolding front_at
+unfolding front_at second_at
 front_parts input front e =
-    let a = bind_ok (head_at input) (λ head. where_at u4_at (λ n. n == history.magic) head.1 >>= λ first. where_at u2_at (λ n. n == 2) first.1 >>= λ version. Ok head) front e in
-    let b = bind_ok (where_at u4_at (λ n. n == history.magic) a.0.1) (λ first. where_at u2_at (λ n. n == 2) first.1 >>= λ version. Ok a.0) front a.2 in
-    let c = bind_ok (where_at u2_at (λ n. n == 2) b.0.1) (λ version. Ok a.0) front b.2 in
-    let same : a.0 ≡ front = ok_is {F = HeadFault} a.0 front c.2 in
-    subst (IsFront input) same (record { head = a.1; first = b.0; version = c.0; magic_is = b.1; version_is = c.1 })
+    let a = bind_ok (head_at input) (λ head. (where_at u4_at (λ n. n == history.magic) head.1 >>= λ first. where_at u2_at (λ n. n == 2) first.1) >>= λ version. Ok head) front e in
+    let b = bind_ok (where_at u4_at (λ n. n == history.magic) a.0.1 >>= λ first. where_at u2_at (λ n. n == 2) first.1) (λ version. Ok a.0) front a.2 in
+    let c = bind_ok (where_at u4_at (λ n. n == history.magic) a.0.1) (λ first. where_at u2_at (λ n. n == 2) first.1) b.0 b.1 in
+    let same : a.0 ≡ front = ok_is {F = HeadFault} a.0 front b.2 in
+    subst (IsFront input) same (record { head = a.1; first = c.0; version = b.0; magic_is = c.1; version_is = c.2 })
 
 record AreParts (profile : ℕ) (bytes : List ℕ) (s : Shard) : Type 0 where
   front : Head × Input
@@ -121,7 +121,7 @@ taken profile bytes s fits e =
 
 -- ---- what is spelled is read
 
-head_len : (h : Head) → length (head_bytes h) ≡ 10
+pub head_len : (h : Head) → length (head_bytes h) ≡ 10
 head_len h =
     let a : length (to_be_bytes w32 magic) ≡ 4 = wide32.len magic in
     let b : length (to_be_bytes w16 1) ≡ 2 = wide16.len 1 in
@@ -133,15 +133,15 @@ head_len h =
     omega (arith, a, b, c, d, ab, bc, cd)
 
 front_read : (profile : ℕ) (h : Head) (rs : List RunRecord) → IsHead h → front_at (at_front (ShardText profile h rs)) ≡ Ok (h, input_at (0 + length (head_bytes h)) (HistoryText profile rs))
-unfolding front_at
+unfolding front_at second_at
 front_read profile h rs is =
     let text = HistoryText profile rs in
     let at : ℕ = 0 + length (head_bytes h) in
     let c = contents_with 2 profile rs in
     let first = magic_read at c in
     let second = version_read (at_version at) 2 (behind_version c) (omega arith) in
-    ap (λ (z : Result (Head × Input) HeadFault). z >>= λ head. where_at u4_at (λ n. n == history.magic) head.1 >>= λ first. where_at u2_at (λ n. n == 2) first.1 >>= λ version. Ok head) (head_codec.again h 0 text is)
-    ∙ ap (λ (z : Result (ℕ × Input) HeadFault). z >>= λ first. where_at u2_at (λ n. n == 2) first.1 >>= λ version. Ok (h, input_at at text)) first
+    ap (λ (z : Result (Head × Input) HeadFault). z >>= λ head. (where_at u4_at (λ n. n == history.magic) head.1 >>= λ first. where_at u2_at (λ n. n == 2) first.1) >>= λ version. Ok head) (head_codec.again h 0 text is)
+    ∙ ap (λ (z : Result (ℕ × Input) HeadFault). (z >>= λ first. where_at u2_at (λ n. n == 2) first.1) >>= λ version. Ok (h, input_at at text)) first
     ∙ ap (λ (z : Result (ℕ × Input) HeadFault). z >>= λ version. Ok (h, input_at at text)) second
 
 read_again : (profile : ℕ) (h : Head) (rs : List RunRecord) → profile < 2 ^ 16 → IsHead h → AreWritable rs → length (HistoryText profile rs) ≤ history.most → shard_of profile (ShardText profile h rs) ≡ Ok (record { head = h; records = rs })
@@ -158,3 +158,16 @@ read_again profile h rs small is writable short =
 
 pub shards_are_read : ShardsAreReadAsSpelled
 shards_are_read = record { takes = taken; again = read_again }
+
+-- ---- what stands behind a head
+
+pub behind_head : (bytes : List ℕ) (x : Head × Input) → IsBytes bytes → head_at (at_front bytes) ≡ Ok x → (10 ≤ length bytes) × (x.1 ≡ input_at 10 (drop 10 bytes))
+behind_head bytes x fits e =
+    let t = (head_codec.takes (at_front bytes) x.0 x.1 fits e).0 in
+    let len = head_len x.0 in
+    let parts = t.parts in
+    let place : x.1.at ≡ 10 = t.place ∙ (omega (arith, len)) in
+    let all = length-append (head_bytes x.0) x.1.bytes in
+    let long : length bytes ≡ length (head_bytes x.0 ++ x.1.bytes) = ap length parts in
+    let rest : drop 10 bytes ≡ x.1.bytes = ap (drop 10) parts ∙ drop_at (head_bytes x.0) x.1.bytes 10 len in
+    (omega (arith, len, all, long), (λ i. record { at = place i; bytes = sym rest i }))

@@ -21,14 +21,15 @@ pub record Shard : Type 0 where
 
 -- ---- reading
 
--- The head, up to the history; that has the version that is written, and is told at its version
--- where it hasn't.
+-- The front of a history of the version that is written: another version is told at its place.
+unfoldable pub second_at : FrontReader ℕ
+second_at input = do
+  first ← where_at u4_at (λ n. n == history.magic) input
+  where_at u2_at (λ n. n == 2) first.1
+
+-- The head, up to such a history.
 unfoldable pub front_at : FrontReader Head
-front_at input = do
-  head ← head_at input
-  first ← where_at u4_at (λ n. n == history.magic) head.1
-  version ← where_at u2_at (λ n. n == 2) first.1
-  Ok head
+front_at input = head_at input >>= λ head. second_at head.1 >>= λ version. Ok head
 
 -- A fault of a history that begins at this place. To read one has no other fault than the first
 -- of these.

@@ -1,9 +1,10 @@
 -- The first bytes of a shard file: of which shard it is (this project's own).
-use Rattle.std.specs.Prelude.{◌<◌, ◌≤◌, ℕ, Bool, List, ◌++◌, Option, Some, None, Ok, Err, ◌==◌}
+use Rattle.std.specs.Prelude.{◌<◌, ◌≤◌, ℕ, Bool, List, ◌++◌, Option, Some, None, Result, Ok, Err, ◌==◌}
 use Rattle.std.specs.Prelude.{nat_lt, if◌then◌else◌}
 use Rattle.std.specs.Int.{w16, w32, to_be_bytes}
 use Rattle.codec_rules.specs.Reading.{Reader, number_at}
 use Rattle.codec_rules.specs.Sequence.{◌>>=◌, or_fault, unless}
+use Rattle.history_rules.specs.Histories.{at_front}
 use Rattle.shard_rules.specs.declared.head.Head.{Head}
 use Rattle.shard_rules.specs.declared.head.HeadFault.{HeadFault}
 use Rattle.shard_rules.specs.declared.head.HeadFault.TheVariants.{Bad}
@@ -53,6 +54,10 @@ head_at input = do
   index ← where_at u2_at (λ n. nat_lt 0 n) version.1
   of ← u2_at index.1
   unless (number_fault version.1.at index.1.at index.0 of.0) (head_of index.0 of.0, of.1)
+
+-- The head that bytes begin with, or the first fault.
+abbrev pub head_in : List ℕ → Result Head HeadFault
+head_in bytes = head_at (at_front bytes) >>= λ read. Ok read.0
 
 abbrev pub head_bytes : Head → List ℕ
 head_bytes h =
