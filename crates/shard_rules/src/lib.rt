@@ -12,9 +12,11 @@ ghost use Rattle.shard_rules.specs.Worked.{places_cut, places_with, sets, told_c
 ghost use Rattle.shard_rules.specs.Worked.{told_of_sets, told_zero};
 
 mod head;
+mod lack;
 mod set_fault;
 
 pub use head::{Head, HeadFault};
+pub use lack::Lack;
 pub use set_fault::SetFault;
 
 /// A head is read exactly where it is spelled, whatever comes behind it.
