@@ -1,0 +1,6 @@
+mod Alike
+mod Found
+mod Shard
+mod Complete
+mod Merged
+mod All
