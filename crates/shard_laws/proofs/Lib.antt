@@ -4,3 +4,4 @@ mod Shard
 mod Complete
 mod Merged
 mod All
+mod Kept

@@ -1,5 +1,5 @@
 -- What is said of shards and of their merge.
-use Rattle.std.specs.Prelude.{◌≡◌, ◌<◌, ◌≤◌, ℕ, Bool, false, List, [], All, length, nat_lt, Some, None, Ok}
+use Rattle.std.specs.Prelude.{◌≡◌, ◌<◌, ◌≤◌, ℕ, Bool, false, List, [], All, length, map, nat_lt, Some, None, Ok}
 use Rattle.class_records.specs.Profile.{profile}
 use Rattle.record_rules.specs.declared.record.RunRecord.{RunRecord}
 use Rattle.record_rules.specs.Histories.{reused}
@@ -15,7 +15,8 @@ use Rattle.shard_rules.specs.Laws.{IsWholeSet}
 use Rattle.shard_rules.specs.Owners.{all_records}
 use Rattle.shard_rules.specs.Sets.{set_fault}
 use Rattle.shard_laws.specs.Shards.{ShardCost, ShardNeed, shard_records, shard_suite}
-use Rattle.shard_laws.specs.Merges.{count_of, heads_of, lacking_mutant, lacking_original}
+use Rattle.shard_laws.specs.Merges.{KeepsEnough, count_of, heads_of, kept_of}
+use Rattle.shard_laws.specs.Merges.{lacking_mutant, lacking_original}
 use Rattle.shard_laws.specs.Merges.{merge_answer, merge_runs, merged_by}
 
 -- ---- a shard
@@ -65,6 +66,13 @@ MergesAreComplete =
     (a : Allowed) (s : Suite) (ss : List Shard) (all : Bool) → LacksNothing a s ss all →
     nat_lt most_cells (cell_total (merge_runs a s ss)) ≡ false →
     merge_answer a s ss all ≡ Ok (merged_by a s ss all)
+
+-- Records that no run of the merge can match may be left out, file by file.
+abbrev pub MergesGoByKept : Type 0
+MergesGoByKept =
+    (a : Allowed) (s : Suite) (ss : List Shard) (all : Bool) (keep : Shard → RunRecord → Bool) →
+    KeepsEnough a s (count_of ss) keep →
+    merge_answer a s (map (kept_of keep) ss) all ≡ merge_answer a s ss all
 
 -- ---- the files of all shards
 

@@ -1,5 +1,6 @@
 -- What a merge of shard files answers, by the records of the files (this project's own).
-use Rattle.std.specs.Prelude.{ℕ, Bool, List, [], Option, Some, None, Result, Ok, Err, find, map, is_none}
+use Rattle.std.specs.Prelude.{◌≡◌, ℕ, Bool, true, List, [], Option, Some, None, Result, Ok, Err, find}
+use Rattle.std.specs.Prelude.{map, filter, is_none, slice_get}
 use Rattle.std.specs.Prelude.{option_map}
 use Rattle.std.specs.List.{enumerate_from, flat_map}
 use Rattle.std.specs.Option.{option_map_or}
@@ -11,7 +12,7 @@ use Rattle.mutator_ops.specs.declared.mutant.Mutant.{Mutant}
 use Rattle.mutator_ops.specs.declared.mutant.Verdict.{Verdict}
 use Rattle.record_rules.specs.declared.record.RunRecord.{RunRecord}
 use Rattle.record_rules.specs.Histories.{same_record}
-use Rattle.record_rules.specs.Matching.{first_match}
+use Rattle.record_rules.specs.Matching.{first_match, matches}
 use Rattle.job_rules.specs.Tried.{JobRuns, Tried, known, need, needed, records_once}
 use Rattle.suite_jobs.specs.Below.{mutant_asked, not_viable, original_asked}
 use Rattle.suite_jobs.specs.Jobs.{Allowed, Suite, covering, numbered, original_tried, says, tried_on}
@@ -121,3 +122,22 @@ merge_answer a s ss all =
     (unless_failed (failed_tests (merge_runs a s ss))
     (unless_many (cell_total (merge_runs a s ss)) (Ok (merged_by a s ss all))))
     >>= λ x. unless_lacking (lacking_mutant (count_of ss) all (merge_runs a s ss).mutants) (Ok x))
+
+-- ---- what may be left out
+
+-- Of each file only some records are kept.
+abbrev pub kept_of : (Shard → RunRecord → Bool) → Shard → Shard
+kept_of keep f = record { head = f.head; records = filter (keep f) f.records }
+
+-- Kept are the records that match a run on the program, and of each file those that match, under some
+-- limit, a run on a viable mutant that its shard owns.
+pub record KeepsEnough (a : Allowed) (s : Suite) (n : ℕ) (keep : Shard → RunRecord → Bool) : Type 0
+  where
+    pub originals :
+        (f : Shard) (r : RunRecord) (t : Test) →
+        matches r (original_asked s.files s.program t a.limits a.steps) ≡ true → keep f r ≡ true
+    pub mutants :
+        (f : Shard) (k : ℕ) (m : Mutant) → slice_get s.mutants k ≡ Some m →
+        f.head.index ≡ owner_of k n → (made : Class × List ℕ) →
+        viable_file s.program m ≡ Some made → (r : RunRecord) (t : Test) (limit : ℕ) →
+        matches r (mutant_asked s.files s.program made t a.limits limit) ≡ true → keep f r ≡ true

@@ -5,7 +5,7 @@
 #![tactic(auto)]
 
 ghost use Rattle.shard_laws.specs.Laws.{FilesOfAllMayBeMerged, MergesAreAsOneCall};
-ghost use Rattle.shard_laws.specs.Laws.{MergesAreComplete, ShardsRunAsAsked};
+ghost use Rattle.shard_laws.specs.Laws.{MergesAreComplete, MergesGoByKept, ShardsRunAsAsked};
 
 mod refusal;
 
@@ -16,7 +16,7 @@ use job_answers::{
 };
 use program_laws::ordered_is_built;
 pub use refusal::MergeRefusal;
-use reuse_laws::records_match_their_runs;
+use reuse_laws::{indices_may_leave_out, records_match_their_runs};
 use shard_rules::whole_sets_have_no_fault;
 use suite_jobs::{
     found_are_own_tests, found_tests_fit, mutants_are_reusable, originals_are_reusable,
@@ -55,6 +55,14 @@ pub fn merges_are_as_one_call()
 pub fn merges_are_complete()
     ensures { MergesAreComplete }
 {}
+
+/// A merge answers the same where of each file only the records are kept that match a run on the
+/// program, or one on a viable mutant that the shard owns.
+pub fn merges_go_by_kept()
+    ensures { MergesGoByKept }
+{
+    indices_may_leave_out();
+}
 
 /// The files that calls on all shards left, each with true old records, are a set without fault, in
 /// any order, and a merge of them lacks nothing.
