@@ -36,7 +36,7 @@ use Rattle.shard_rules.specs.Laws.{IsWholeSet, WholeSetsPass}
 use Rattle.shard_rules.specs.Owners.{all_records, owner_of, records_of}
 use Rattle.shard_rules.specs.Sets.{has_index, shard_count}
 use Rattle.shard_laws.specs.Shards.{shard_suite}
-use Rattle.shard_laws.specs.Merges.{count_of, heads_of, is_lacking, lack_of, lacking_mutant, lacking_original, merge_runs, merged_at, merged_on, merged_tried, placed_mutants}
+use Rattle.shard_laws.specs.Merges.{count_of, heads_of, is_lacking, lack_of, lacking_mutant, lacking_original, merge_runs, merged_at, merged_on, merged_tried, original_lack, placed_mutants}
 use Rattle.shard_laws.specs.Laws.{AreFilesOf, FilesOfAllMayBeMerged, IsFileOf, LacksNothing, MayBeMerged}
 use Rattle.shard_laws.proofs.Alike.{AreAlike, IsAlike, Runs, needed_alike}
 use Rattle.shard_laws.proofs.Found.{IsFound, all_of_owner, finds_none, is_here, join_all, none_lacking, still_there}
@@ -167,7 +167,7 @@ all_true law a s n all (f ∷ fs) h q =
 
 -- The heads tell how many shards there are.
 count_is : (n : ℕ) (hs : List Head) → 0 < n → IsWholeSet n hs → n ≡ shard_count hs
-count_is n [] some w = let no_head = w.each 1 (omega arith) (omega (arith, some)) in absurd cc
+count_is n [] some w = let no_head : false ≡ true = w.each 1 (omega arith) (omega (arith, some)) in absurd cc
 count_is n (h ∷ hs) some w = sym (w.count 0 h (omega arith))
 
 -- ---- one shard
@@ -251,7 +251,7 @@ module _ (same : ReuseChangesNothing) (g : Given) (kept : KeptRunsAreFound) (is_
   abbrev count : ℕ
   count = count_of ss
 
-  abbrev trues : (i : ℕ) → AllByRecursion (IsTrueRecord profile) (records_of ss i)
+  trues : (i : ℕ) → AllByRecursion (IsTrueRecord profile) (records_of ss i)
   trues i = all_of_owner (IsTrueRecord profile) ss i true_all
 
   -- The records that the mutants of a shard need, from a place on.
@@ -294,7 +294,7 @@ module _ (same : ReuseChangesNothing) (g : Given) (kept : KeptRunsAreFound) (is_
   unfolding job_runs
   none_original =
       let q = shard 1 (omega arith) (omega (arith, some)) in
-      ap (option_map (λ (t : ℕ × Test). record { index = 1; test = t.0; mutant = None }))
+      ap (option_map original_lack)
       (finds_none (is_lacking a s (records_of ss 1)) (numbered s)
       (originals_found same g kept is_profile a s h count all (all_records ss) true_all 1 (records_of ss 1) (trues 1) q (numbered s) good
       (λ r has. known_left (map (original_tried a s q.old) (numbered s)) (needed_of_all says all (map (mutant_runs a s q.old) (owned_from 1 count 0 s.mutants))) r has)))

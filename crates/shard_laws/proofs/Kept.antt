@@ -28,7 +28,7 @@ use Rattle.shard_rules.specs.Owners.{all_records, owner_of, records_of}
 use Rattle.shard_rules.specs.Sets.{shard_count}
 use Rattle.shard_laws.specs.declared.refusal.MergeRefusal.{MergeRefusal}
 use Rattle.shard_laws.specs.declared.refusal.MergeRefusal.TheVariants.{Refused}
-use Rattle.shard_laws.specs.Merges.{KeepsEnough, count_of, heads_of, is_lacking, kept_of, lacking_mutant, lacking_original, merge_answer, merge_runs, merged_at, merged_by, merged_on, merged_tried, merged_verdict, placed_mutants, unless_lacking}
+use Rattle.shard_laws.specs.Merges.{KeepsEnough, count_of, heads_of, is_lacking, kept_of, lacking_mutant, lacking_original, merge_answer, merge_runs, merged_at, merged_by, merged_on, merged_tried, merged_verdict, original_lack, placed_mutants, unless_lacking}
 use Rattle.shard_laws.specs.Laws.{MergesGoByKept}
 
 -- ---- matches
@@ -151,6 +151,6 @@ go_by_kept enough a s ss all keep yes =
     let same_count = count_alike enough a s ss keep yes in
     λ i.
     let runs : JobRuns RunRecord = record { originals = map (same_originals i) (numbered s); mutants = same_mutants i } in
-    unless_lacking (option_map (λ (t : ℕ × Test). record { index = 1; test = t.0; mutant = None }) (find (same_lacking i) (numbered s)))
+    unless_lacking (option_map original_lack (find (same_lacking i) (numbered s)))
     (or_fault Refused (unless_failed (failed_tests runs) (unless_many (cell_total runs) (Ok (record { verdicts = same_verdicts i; records = records_once same_record (need says all runs) }))))
     >>= λ x. unless_lacking (lacking_mutant (same_count i) all (same_mutants i)) (Ok x))

@@ -28,7 +28,7 @@ use Rattle.job_answers.specs.Laws.{AnswersAreFromScratch, HasRecord}
 use Rattle.job_answers.proofs.Recorded.{Given, IsGood, IsRecordable, good_tests, mutant, original}
 use Rattle.shard_rules.specs.Files.{Shard}
 use Rattle.shard_rules.specs.Owners.{all_records, owner_of, records_of}
-use Rattle.shard_laws.specs.Merges.{count_of, is_lacking, lack_of, lacking_mutant, lacking_original, merge_answer, merge_runs, merged_at, merged_by, merged_on, merged_tried, merged_verdict, placed_mutants, wanted}
+use Rattle.shard_laws.specs.Merges.{count_of, is_lacking, lack_of, lacking_mutant, lacking_original, merge_answer, merge_runs, merged_at, merged_by, merged_on, merged_tried, merged_verdict, original_lack, placed_mutants, wanted}
 use Rattle.shard_laws.specs.Laws.{IsAsOneCall, MergesAreAsOneCall}
 use Rattle.shard_laws.proofs.Alike.{AllAlike, AreAlike, IsAlike, Runs, all_needed_alike, append_alike, detections_alike, knowns_alike, once_alike, tests_alike, totals_alike}
 use Rattle.shard_laws.proofs.Complete.{merged_is}
@@ -172,7 +172,7 @@ module _ (same : ReuseChangesNothing) (g : Given) (a : Allowed) (s : Suite) (h :
       (still_there (with_limit x.limit) (first_match (all_records ss) x) ∙ match_all ss 1 x (is_there (first_match (records_of ss 1) x) q.0), found_from ts q.1)
 
   originals_found : lacking_original a s ss ≡ None → AllByRecursion IsFound originals
-  originals_found e = found_from (numbered s) (none_passes (is_lacking a s (records_of ss 1)) (numbered s) (unmapped (λ (t : ℕ × Test). record { index = 1; test = t.0; mutant = None }) (find (is_lacking a s (records_of ss 1)) (numbered s)) e))
+  originals_found e = found_from (numbered s) (none_passes (is_lacking a s (records_of ss 1)) (numbered s) (unmapped original_lack (find (is_lacking a s (records_of ss 1)) (numbered s)) e))
 
   mutants_found : (all : Bool) → lacking_mutant (count_of ss) all (merge_runs a s ss).mutants ≡ None → AllByRecursion IsFound (needed_of_all says all merged_mutants)
   unfolding merge_runs
@@ -204,5 +204,5 @@ as_one_call same g scratch a s ss all x h true_all e =
       answer = answer;
       scratch = sym from.answer ∙ answer;
       reused_are = all_reused call_need all_there ∙ ap (λ (y : JobAnswer). length y.records) is;
-      cost = omega (arith, none_made, none_needed);
+      cost = λ i. none_made i + none_needed i;
     }

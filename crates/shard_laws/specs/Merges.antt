@@ -74,9 +74,12 @@ abbrev pub is_lacking : Allowed → Suite → List RunRecord → ℕ × Test →
 is_lacking a s own t =
     is_none (first_match own (original_asked s.files s.program t.1 a.limits a.steps))
 
+abbrev pub original_lack : ℕ × Test → Lack
+original_lack t = record { index = 1; test = t.0; mutant = None }
+
 abbrev pub lacking_original : Allowed → Suite → List Shard → Option Lack
 lacking_original a s ss =
-    option_map (λ t. record { index = 1; test = t.0; mutant = None })
+    option_map original_lack
     (find (is_lacking a s (records_of ss 1)) (numbered s))
 
 -- The runs that mutants need, each with the place of its mutant.
