@@ -35,7 +35,8 @@ pub fn owned<T: Drop>(alloc: Global, index: u16, of: u16, items: Seq<T>) -> Resu
     let mut own = Seq::new(alloc);
     let mut place = 0u64;
     for item in items.into_vec() {
-        keep_if(owns(place, index, of), item, &mut own)?;
+        let is_own = owns(place, index, of);
+        keep_if(is_own, item, &mut own)?;
         place += 1;
     }
     Ok(own)
