@@ -1,12 +1,13 @@
 //! The first bytes of a shard file.
 
 ghost use Rattle.std.specs.Prelude.{◌≡◌, None, Some, MatchResult};
+ghost use Rattle.codec_rules.specs.Input.{IsBytes};
 ghost use Rattle.shard_rules.specs.Files.{second_at};
 ghost use Rattle.shard_rules.specs.Heads.{head_at, head_in, number_fault};
 ghost use Rattle.shard_merge.specs.Files.{ReadsFront, SplitsFront};
 
 use mt_bytes::Cursor;
-use shard_rules::{Head, HeadFault, heads_are_read_as_spelled};
+use shard_rules::{Head, HeadFault};
 
 const SHARDS_LIMIT: u16 = 64;
 
@@ -82,11 +83,18 @@ fn second_at(cur: &mut Cursor) -> Result<u16, HeadFault>
     Ok(version)
 }
 
+// Bytes are below 256. Only the prover reads this.
+fn are_bytes(bytes: &[u8])
+    ensures { IsBytes bytes.now }
+{
+    let _bytes = bytes;
+}
+
 /// The head, and behind it what begins as a history of the version that is written does.
 pub fn split_front<'a>(bytes: &'a [u8]) -> Result<(Head, &'a [u8]), HeadFault>
     ensures { SplitsFront bytes.entry.now result }
 {
-    heads_are_read_as_spelled();
+    are_bytes(bytes);
     let mut cur = Cursor::new(bytes, 0);
     let head = head_at(&mut cur)?;
     let (_front, rest) = bytes.split_at(HEAD_LENGTH);
