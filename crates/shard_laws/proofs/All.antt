@@ -111,7 +111,7 @@ left_from seen (t ∷ ts) r q =
     let behind = firsts_after same_record seen ts in
     let others = firsts_after same_record (t ∷ seen) ts in
     ⊎_elim
-    (λ e. subst (λ (k : RunRecord). Left seen (if b then behind else t ∷ others) k) e (head_case b seen t behind others (λ yes. listed (known t) (map known seen) (among seen t ∙ yes))))
+    (λ e. subst (λ (k : RunRecord). Left seen (if b then behind else t ∷ others) k) e (head_case b seen t behind others (λ so. listed (known t) (map known seen) (among seen t ∙ so))))
     (λ h. tail_case b seen t behind others r (left_from seen ts r h) (left_from (t ∷ seen) ts r h))
     q
 
@@ -136,11 +136,11 @@ file_at a s n all i [] q some = absurd cc
 file_at a s n all i (f ∷ fs) q some = file_case a s n all i f fs (nat_eq f.head.index i) refl q.0 (file_at a s n all i fs q.1) some
 
 -- What a shard's file holds: the records of the runs that its job needs.
-record HasNeed (a : Allowed) (s : Suite) (n : ℕ) (all : Bool) (i : ℕ) (own : List RunRecord) : Type 0 where
-  old : List RunRecord
-  true_old : AllByRecursion (IsTrueRecord profile) old
-  green : failed_tests (job_runs a (shard_suite i n s) old) ≡ []
-  own_is : own ≡ records_once same_record (need says all (job_runs a (shard_suite i n s) old))
+pub record HasNeed (a : Allowed) (s : Suite) (n : ℕ) (all : Bool) (i : ℕ) (own : List RunRecord) : Type 0 where
+  pub old : List RunRecord
+  pub true_old : AllByRecursion (IsTrueRecord profile) old
+  pub green : failed_tests (job_runs a (shard_suite i n s) old) ≡ []
+  pub own_is : own ≡ records_once same_record (need says all (job_runs a (shard_suite i n s) old))
 
 need_of_file : (a : Allowed) (s : Suite) (n : ℕ) (all : Bool) (i : ℕ) (own : List RunRecord) → FileAt a s n all i own → HasNeed a s n all i own
 need_of_file a s n all i own f =

@@ -50,11 +50,11 @@ module _ (enough : KeptAreEnough) (keep : Shard → RunRecord → Bool) (x : Ask
   -- All that match are kept, of all files, or of those of one shard.
   all_kept : (ss : List Shard) → ((f : Shard) (r : RunRecord) → matches r x ≡ true → keep f r ≡ true) → first_match (all_records (map (kept_of keep) ss)) x ≡ first_match (all_records ss) x
   unfolding first_match
-  all_kept [] yes = refl
-  all_kept (f ∷ ss) yes =
+  all_kept [] fits = refl
+  all_kept (f ∷ ss) fits =
       ap (λ (rs : List RunRecord). first_match rs x) (flat_map-cons (λ (f : Shard). f.records) (kept_of keep f) (map (kept_of keep) ss))
       ∙ match_in (filter (keep f) f.records) (all_records (map (kept_of keep) ss)) x
-      ∙ (λ i. option_or (enough f.records x (keep f) (yes f) i) (all_kept ss yes i))
+      ∙ (λ i. option_or (enough f.records x (keep f) (fits f) i) (all_kept ss fits i))
       ∙ sym (match_in f.records (all_records ss) x)
       ∙ ap (λ (rs : List RunRecord). first_match rs x) (sym (flat_map-cons (λ (f : Shard). f.records) f ss))
 
@@ -65,9 +65,9 @@ module _ (enough : KeptAreEnough) (keep : Shard → RunRecord → Bool) (x : Ask
 
   own_kept : (i : ℕ) (ss : List Shard) → ((f : Shard) (r : RunRecord) → f.head.index ≡ i → matches r x ≡ true → keep f r ≡ true) → first_match (records_of (map (kept_of keep) ss) i) x ≡ first_match (records_of ss i) x
   unfolding first_match
-  own_kept i [] yes = refl
-  own_kept i (f ∷ ss) yes =
-      owner_case f i f.records (records_of ss i) (filter (keep f) f.records) (nat_eq f.head.index i) refl (λ is. enough f.records x (keep f) (λ r m. yes f r is m)) (records_of (map (kept_of keep) ss) i) (own_kept i ss yes)
+  own_kept i [] fits = refl
+  own_kept i (f ∷ ss) fits =
+      owner_case f i f.records (records_of ss i) (filter (keep f) f.records) (nat_eq f.head.index i) refl (λ is. enough f.records x (keep f) (λ r m. fits f r is m)) (records_of (map (kept_of keep) ss) i) (own_kept i ss fits)
 
 -- ---- runs
 
@@ -83,20 +83,20 @@ behind whole k m ms up j n e = let at : k + suc j ≡ k + 1 + j = omega arith in
 tried_alike : (own other : List RunRecord) (k : ℕ) (x : Asked) → first_match own x ≡ first_match other x → tried_on own k x ≡ tried_on other k x
 tried_alike own other k x e = λ i. record { test = k; found = option_map (with_limit x.limit) (e i); made = made_by x }
 
-module _ (enough : KeptAreEnough) (a : Allowed) (s : Suite) (ss : List Shard) (keep : Shard → RunRecord → Bool) (yes : KeepsEnough a s (count_of ss) keep) where
+module _ (enough : KeptAreEnough) (a : Allowed) (s : Suite) (ss : List Shard) (keep : Shard → RunRecord → Bool) (fits : KeepsEnough a s (count_of ss) keep) where
   abbrev kept : List Shard
   kept = map (kept_of keep) ss
 
   original_alike : (t : ℕ × Test) → original_tried a s (all_records kept) t ≡ original_tried a s (all_records ss) t
   original_alike t =
       let x = original_asked s.files s.program t.1 a.limits a.steps in
-      tried_alike (all_records kept) (all_records ss) t.0 x (all_kept enough keep x ss (λ f r m. yes.originals f r t.1 m))
+      tried_alike (all_records kept) (all_records ss) t.0 x (all_kept enough keep x ss (λ f r m. fits.originals f r t.1 m))
 
   originals_alike : original_tried a s (all_records kept) ≡ original_tried a s (all_records ss)
   originals_alike = λ i t. original_alike t i
 
   lacking_alike : is_lacking a s (records_of kept 1) ≡ is_lacking a s (records_of ss 1)
-  lacking_alike = λ i t. is_none (own_kept enough keep (original_asked s.files s.program t.1 a.limits a.steps) 1 ss (λ f r is m. yes.originals f r t.1 m) i)
+  lacking_alike = λ i t. is_none (own_kept enough keep (original_asked s.files s.program t.1 a.limits a.steps) 1 ss (λ f r is m. fits.originals f r t.1 m) i)
 
   count_alike : count_of kept ≡ count_of ss
   count_alike = ap shard_count (heads_kept keep ss)
@@ -121,7 +121,7 @@ module _ (enough : KeptAreEnough) (a : Allowed) (s : Suite) (ss : List Shard) (k
         λ t.
         let limit = limit_of (known (original_tried a s (all_records ss) t)).steps in
         let x = mutant_asked s.files s.program made t.1 a.limits limit in
-        tried_alike (records_of kept owner) (records_of ss owner) t.0 x (own_kept enough keep x owner ss (λ f r is yes_it. yes.mutants f k m at is made e r t.1 limit yes_it)) in
+        tried_alike (records_of kept owner) (records_of ss owner) t.0 x (own_kept enough keep x owner ss (λ f r is is_match. fits.mutants f k m at is made e r t.1 limit is_match)) in
         λ i. map (λ t. one t i) (covering a s (all_records ss) m)
 
     at_alike : merged_at a s kept (k, m) ≡ merged_at a s ss (k, m)
@@ -142,13 +142,13 @@ module _ (enough : KeptAreEnough) (a : Allowed) (s : Suite) (ss : List Shard) (k
 
 pub go_by_kept : KeptAreEnough → MergesGoByKept
 unfolding merge_answer merge_runs
-go_by_kept enough a s ss all keep yes =
+go_by_kept enough a s ss all keep fits =
     let kept = map (kept_of keep) ss in
-    let same_mutants : map (merged_at a s kept) (placed_mutants s) ≡ map (merged_at a s ss) (placed_mutants s) = mutants_alike enough a s ss keep yes 0 s.mutants (λ j m e. e) in
-    let same_verdicts : map (merged_verdict a s kept all) (placed_mutants s) ≡ map (merged_verdict a s ss all) (placed_mutants s) = verdicts_alike enough a s ss keep yes all 0 s.mutants (λ j m e. e) in
-    let same_originals = originals_alike enough a s ss keep yes in
-    let same_lacking = lacking_alike enough a s ss keep yes in
-    let same_count = count_alike enough a s ss keep yes in
+    let same_mutants : map (merged_at a s kept) (placed_mutants s) ≡ map (merged_at a s ss) (placed_mutants s) = mutants_alike enough a s ss keep fits 0 s.mutants (λ j m e. e) in
+    let same_verdicts : map (merged_verdict a s kept all) (placed_mutants s) ≡ map (merged_verdict a s ss all) (placed_mutants s) = verdicts_alike enough a s ss keep fits all 0 s.mutants (λ j m e. e) in
+    let same_originals = originals_alike enough a s ss keep fits in
+    let same_lacking = lacking_alike enough a s ss keep fits in
+    let same_count = count_alike enough a s ss keep fits in
     λ i.
     let runs : JobRuns RunRecord = record { originals = map (same_originals i) (numbered s); mutants = same_mutants i } in
     unless_lacking (option_map original_lack (find (same_lacking i) (numbered s)))
