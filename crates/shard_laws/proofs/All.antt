@@ -67,7 +67,7 @@ has_right (y ∷ xs) ys x q = inr (has_right xs ys x q)
 
 contains : {X : Type 0} (xs : List X) (x : X) → Has xs x → Contains xs x
 contains [] x q = absurd q
-contains (y ∷ xs) x q = ⊎_elim (λ e. (0, (omega arith, e))) (λ h. let c = contains xs x h in let lt = c.1 in (suc c.0, (omega (arith, lt), c.2))) q
+contains (y ∷ xs) x q = ⊎_elim (λ e. (0, omega arith, e)) (λ h. let c = contains xs x h in let lt = c.1 in (suc c.0, omega (arith, lt), c.2)) q
 
 joined : (ts us : Runs) → map known (ts ++ us) ≡ map known ts ++ map known us
 joined [] us = refl

@@ -80,6 +80,9 @@ here whole k m ms up = let at : k + 0 ≡ k = omega arith in subst (λ (j : ℕ)
 behind : (whole : List Mutant) (k : ℕ) (m : Mutant) (ms : List Mutant) → Stands whole k (m ∷ ms) → Stands whole (k + 1) ms
 behind whole k m ms up j n e = let at : k + suc j ≡ k + 1 + j = omega arith in subst (λ (i : ℕ). slice_get whole i ≡ Some n) at (up (suc j) n e)
 
+whole_stands : (whole : List Mutant) → Stands whole 0 whole
+whole_stands whole j m e = let at : j ≡ 0 + j = omega arith in subst (λ (i : ℕ). slice_get whole i ≡ Some m) at e
+
 tried_alike : (own other : List RunRecord) (k : ℕ) (x : Asked) → first_match own x ≡ first_match other x → tried_on own k x ≡ tried_on other k x
 tried_alike own other k x e = λ i. record { test = k; found = option_map (with_limit x.limit) (e i); made = made_by x }
 
@@ -144,8 +147,8 @@ pub go_by_kept : KeptAreEnough → MergesGoByKept
 unfolding merge_answer merge_runs
 go_by_kept enough a s ss all keep fits =
     let kept = map (kept_of keep) ss in
-    let same_mutants : map (merged_at a s kept) (placed_mutants s) ≡ map (merged_at a s ss) (placed_mutants s) = mutants_alike enough a s ss keep fits 0 s.mutants (λ j m e. e) in
-    let same_verdicts : map (merged_verdict a s kept all) (placed_mutants s) ≡ map (merged_verdict a s ss all) (placed_mutants s) = verdicts_alike enough a s ss keep fits all 0 s.mutants (λ j m e. e) in
+    let same_mutants : map (merged_at a s kept) (placed_mutants s) ≡ map (merged_at a s ss) (placed_mutants s) = mutants_alike enough a s ss keep fits 0 s.mutants (whole_stands s.mutants) in
+    let same_verdicts : map (merged_verdict a s kept all) (placed_mutants s) ≡ map (merged_verdict a s ss all) (placed_mutants s) = verdicts_alike enough a s ss keep fits all 0 s.mutants (whole_stands s.mutants) in
     let same_originals = originals_alike enough a s ss keep fits in
     let same_lacking = lacking_alike enough a s ss keep fits in
     let same_count = count_alike enough a s ss keep fits in
