@@ -1,5 +1,5 @@
 -- A shard file is read as it is defined.
-use Rattle.std.proofs.Common.{◌≡◌, ◌∙◌, ℕ, Bool, true, false, cond, List, drop, length, Result, Ok, Err, refl, sym, ap, subst}
+use Rattle.std.proofs.Common.{◌≡◌, ◌∙◌, ℕ, Bool, true, false, cond, List, drop, length, Result, Ok, Err, sym, ap}
 use Rattle.std.specs.Prelude.{◌≢◌, ◌≤◌, nat_lt}
 use Rattle.codec_rules.specs.Input.{Input, IsBytes}
 use Rattle.codec_rules.specs.Sequence.{◌>>=◌, or_fault}
@@ -16,7 +16,7 @@ use Rattle.shard_rules.specs.Files.{Shard, front_at, most, records_from, second_
 use Rattle.shard_rules.specs.Laws.{FaultsArePlaced}
 use Rattle.shard_rules.proofs.Files.{behind_head}
 use Rattle.shard_merge.specs.declared.fault.ShardFault.{ShardFault}
-use Rattle.shard_merge.specs.declared.fault.ShardFault.TheVariants.{Bad, Memory}
+use Rattle.shard_merge.specs.declared.fault.ShardFault.TheVariants.{Bad}
 use Rattle.shard_merge.specs.Files.{MayBeTold, fault_of}
 
 -- ---- the front

@@ -1,11 +1,10 @@
 -- What calls that read shard files give (this project's own).
-use Rattle.std.specs.Prelude.{◌≡◌, ℕ, drop, List, Result, Ok, Err}
+use Rattle.std.specs.Prelude.{◌≡◌, ℕ, List, Result, Ok, Err}
 use Rattle.std.specs.Borrow.{Bor}
 use Rattle.codec_rules.specs.Input.{Input}
 use Rattle.codec_rules.specs.Meets.{Gives}
 use Rattle.codec_rules.specs.Sequence.{or_fault}
 use Rattle.codec_rules.specs.Spelling.{input_at}
-use Rattle.record_rules.specs.declared.record.RunRecord.{RunRecord}
 use Rattle.history_rules.specs.declared.fault.HistoryFault.{HistoryFault}
 use Rattle.history_rules.specs.declared.fault.HistoryFault.TheVariants as history_fault
 use Rattle.history_rules.specs.Histories.{at_front}
