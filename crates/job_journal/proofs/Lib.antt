@@ -1,0 +1,6 @@
+pub mod Again
+pub mod Added
+pub mod Numbered
+pub mod Putting
+pub mod ContentsApart
+pub mod Standing
