@@ -94,12 +94,12 @@ used_more cs (e ∷ es) =
 -- a content that is there is that of a record that is there
 found_record : (P : RunRecord → Type 0) (f : RunRecord → List ℕ) (rs : List RunRecord) (q : List ℕ) → AllByRecursion P rs → is_listed q (map f rs) ≡ true → (r : RunRecord) × P r × (f r ≡ q) × StandsAmong r rs
 found_record P f [] q all e = absurd cc
-found_record P f (r ∷ rs) q all e = by (same (f r) q) refl e
+found_record P f (r ∷ rs) q all e = by (same (f r) q) refl (found_record P f rs q all.1) e
   where
-    by : (b : Bool) → same (f r) q ≡ b → b || is_listed q (map f rs) ≡ true → (x : RunRecord) × P x × (f x ≡ q) × StandsAmong x (r ∷ rs)
-    by true is h = (r, all.0, bytes_are (f r) q is, record { place = 0; stands = refl })
-    by false is h =
-        let more = found_record P f rs q all.1 h in
+    by : (b : Bool) → same (f r) q ≡ b → (is_listed q (map f rs) ≡ true → (x : RunRecord) × P x × (f x ≡ q) × StandsAmong x rs) → b || is_listed q (map f rs) ≡ true → (x : RunRecord) × P x × (f x ≡ q) × StandsAmong x (r ∷ rs)
+    by true is deep h = (r, all.0, bytes_are (f r) q is, record { place = 0; stands = refl })
+    by false is deep h =
+        let more = deep h in
         (more.0, more.1, more.2, record { place = suc more.3.place; stands = more.3.stands })
 
 contents_stay : (cs more : List (List ℕ)) (rs : List RunRecord) → AllByRecursion (λ (r : RunRecord). IsFormed r × HasNumbers cs r) rs → map (record_content (cs ++ more)) rs ≡ map (record_content cs) rs
