@@ -1,6 +1,6 @@
 //! The state of a journal, with the records that were loaded, by name.
 
-ghost use Rattle.std.specs.Prelude.{◌≡◌, ◌≤◌, List, true, false, OnOk, IfSome};
+ghost use Rattle.std.specs.Prelude.{◌≡◌, ◌≤◌, List, [], true, false, OnOk, IfSome};
 ghost use Rattle.record_rules.specs.declared.profile_number.TheConstants.{PROFILE_NUMBER};
 ghost use Rattle.record_rules.specs.declared.record.RunRecord.{RunRecord};
 ghost use Rattle.job_journal.specs.Keeping.{HasGrown, HasLoaded, IsAcknowledged, IsBeginning, IsSafe};
@@ -9,12 +9,17 @@ ghost use Rattle.job_journal.specs.Keeping.{TellsKnown, told_by};
 use crate::made::KnownRecord;
 use crate::state::JournalState;
 use mt_edge::{EdgeFault, Keeper};
-use std::marker::{Model, PhantomData};
+use std::marker::{Brand, Model, PhantomData};
 
 /// Which records were loaded when a journal was opened. Who opens it picks them: behind a lock nothing
 /// else tells them.
 pub trait Loaded {
     ghost records: { List RunRecord };
+}
+
+// None, unless the call that names them picks others.
+impl Loaded for Brand {
+    ghost records = { [] };
 }
 
 /// What lies under the lock.
