@@ -1,6 +1,7 @@
 //! A journal that several threads add to.
 
-ghost use Rattle.std.specs.Prelude.{◌≡◌, ◌≤◌, ◌<◌, OnOk, IfSome, IsErrOf};
+ghost use Rattle.std.specs.Prelude.{◌≡◌, ◌≤◌, ◌<◌, All, OnOk, IfSome, IsErrOf};
+ghost use Rattle.history_rules.specs.Laws.{IsFormed};
 ghost use Rattle.mt_edge.specs.declared.outside.EdgeFault.TheVariants.{Failed};
 ghost use Rattle.record_rules.specs.declared.profile_number.TheConstants.{PROFILE_NUMBER};
 ghost use Rattle.job_journal.specs.Keeping.{HasLoaded, IsBeginning, IsSafe, RecordsAll, TellsKnown, told_by};
@@ -11,13 +12,16 @@ use crate::state::JournalState;
 use mt_edge::{EdgeFault, Keeper, Recorder};
 use std::sync::{Mutex, Wait};
 
-/// A journal, under a lock.
+/// A journal, under a lock. A record that hasn't the form of a history isn't kept.
 pub struct Journal<K: Keeper, M: KnownRecord, J: Loaded> {
     state: Mutex<LockedState<K, M, J>>,
 }
 
 impl<K: Keeper, M: KnownRecord, J: Loaded> Recorder<M> for Journal<K, M, J> {
     fn keep<W: Wait>(&self, rt: &W, made: &M) -> Result<(), EdgeFault> {
+        if !made.is_formed() {
+            return Ok(());
+        }
         self.state.lock(rt).add(made)
     }
 }
@@ -36,6 +40,7 @@ impl<K: Keeper, M: KnownRecord, J: Loaded> Journal<K, M, J> {
     /// Takes the state out of the lock and adds what is due: the keeper, how many of its calls have
     /// failed since the opening, and whether all that was ever added stands there.
     pub fn close(self, due: &[&M]) -> (K, u64, Result<(), EdgeFault>)
+        requires { All (λ m. IsFormed (M.entry m.now)) due.now }
         ensures text { IsBeginning PROFILE_NUMBER (K.kept result.0) }
         ensures known { IfSome (K.kept result.0)
             (TellsKnown M.holds PROFILE_NUMBER J.records) }
@@ -60,6 +65,7 @@ fn add_all<K: Keeper, M: KnownRecord, J: Loaded>(
     state: &mut LockedState<K, M, J>,
     due: &[&M],
 ) -> Result<(), EdgeFault>
+    requires { All (λ m. IsFormed (M.entry m.now)) due.now }
     ensures told { result ≡ told_by state.new.failed state.new.marked }
     ensures stands { OnOk result (IfSome (K.kept state.new.keeper)
         (RecordsAll PROFILE_NUMBER (λ m. M.entry m.now) due.now)) }

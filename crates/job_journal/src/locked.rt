@@ -1,6 +1,7 @@
 //! The state of a journal, with the records that were loaded, by name.
 
 ghost use Rattle.std.specs.Prelude.{◌≡◌, ◌≤◌, List, [], true, false, OnOk, IfSome};
+ghost use Rattle.history_rules.specs.Laws.{IsFormed};
 ghost use Rattle.record_rules.specs.declared.profile_number.TheConstants.{PROFILE_NUMBER};
 ghost use Rattle.record_rules.specs.declared.record.RunRecord.{RunRecord};
 ghost use Rattle.job_journal.specs.Keeping.{HasGrown, HasLoaded, IsAcknowledged, IsBeginning, IsSafe};
@@ -56,6 +57,7 @@ impl<K: Keeper, M: KnownRecord, J: Loaded> LockedState<K, M, J> {
 
     /// `add` of the state.
     pub fn add(&mut self, made: &M) -> Result<(), EdgeFault>
+        requires { IsFormed (M.entry made.now) }
         ensures told { result ≡ told_by self.new.failed self.new.marked }
         ensures kept { OnOk result (IfSome (K.kept self.new.keeper)
             (IsAcknowledged PROFILE_NUMBER (K.durable self.new.keeper) (M.entry made.now))) }

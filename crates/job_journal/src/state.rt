@@ -1,6 +1,7 @@
 //! The value under a journal's lock.
 
 ghost use Rattle.std.specs.Prelude.{◌≡◌, ◌≢◌, ◌≤◌, ◌⊎◌, ℕ, true, false, length, OnOk, OnErr, IfOk, IfErr, IfSome, IsSomeAnd};
+ghost use Rattle.history_rules.specs.Laws.{IsFormed};
 ghost use Rattle.mt_edge.specs.Causes.{HasCause, Rose};
 ghost use Rattle.record_rules.specs.declared.profile_number.TheConstants.{PROFILE_NUMBER};
 ghost use Rattle.job_journal.specs.Opening.{Opens, FailsToOpen};
@@ -54,8 +55,9 @@ fn add_entry<K: Keeper, M: KnownRecord>(
     loaded: usize,
     made: &M,
 ) -> Result<(), EdgeFault>
-    requires { Keeps M.holds PROFILE_NUMBER (K.kept keeper.old) (K.durable keeper.old)
+    requires keeps { Keeps M.holds PROFILE_NUMBER (K.kept keeper.old) (K.durable keeper.old)
         (K.writing keeper.old) tables.old loaded false 0 }
+    requires form { IsFormed (M.entry made.now) }
     ensures ok { OnOk result (Keeps M.holds PROFILE_NUMBER (K.kept keeper.new)
         (K.durable keeper.new) (K.writing keeper.new) tables.new loaded false 0) }
     ensures err { OnErr result ((more : ℕ) → more ≤ K.writing keeper.new →
@@ -128,6 +130,7 @@ impl<K: Keeper, M: KnownRecord> JournalState<K, M> {
     /// Adds a record as one piece and makes it durable, unless it was added before. Once that has
     /// failed, no call of the keeper is made any more.
     pub fn add(&mut self, made: &M) -> Result<(), EdgeFault>
+        requires { IsFormed (M.entry made.now) }
         ensures told { result ≡ told_by self.new.failed self.new.marked }
         ensures kept { OnOk result (IfSome (K.kept self.new.keeper)
             (IsAcknowledged PROFILE_NUMBER (K.durable self.new.keeper) (M.entry made.now))) }

@@ -1,6 +1,7 @@
 //! The calls under their contracts, whose bodies `must-fail` turns wrong.
 
-ghost use Rattle.std.specs.Prelude.{◌≡◌, ◌≢◌, ◌≤◌, ◌<◌, true, false, OnOk, OnErr, IfOk, IfErr, IfSome, IsSomeAnd, IsErrOf};
+ghost use Rattle.std.specs.Prelude.{◌≡◌, ◌≢◌, ◌≤◌, ◌<◌, true, false, OnOk, OnErr, IfOk, IfErr, IfSome, IsSomeAnd, IsErrOf, All};
+ghost use Rattle.history_rules.specs.Laws.{IsFormed};
 ghost use Rattle.mt_edge.specs.Causes.{HasCause, Rose};
 ghost use Rattle.mt_edge.specs.Keeping.{IsAllDurable};
 ghost use Rattle.mt_edge.specs.Pieces.{Grows, GrowsBy};
@@ -54,6 +55,7 @@ pub fn add<K: Keeper, M: KnownRecord>(
     state: &mut JournalState<K, M>,
     made: &M,
 ) -> Result<(), EdgeFault>
+    requires { IsFormed (M.entry made.now) }
     ensures told { result ≡ told_by state.new.failed state.new.marked }
     ensures kept { OnOk result (IfSome (K.kept state.new.keeper)
         (IsAcknowledged PROFILE_NUMBER (K.durable state.new.keeper) (M.entry made.now))) }
@@ -79,8 +81,9 @@ pub fn close<K: Keeper, M: KnownRecord, J: Loaded>(
     state: JournalState<K, M>,
     due: &[&M],
 ) -> (K, u64, Result<(), EdgeFault>)
-    requires { IfSome (K.kept state.keeper)
+    requires loaded { IfSome (K.kept state.keeper)
         (HasLoaded PROFILE_NUMBER state.loaded J.records) }
+    requires form { All (λ m. IsFormed (M.entry m.now)) due.now }
     ensures text { IsBeginning PROFILE_NUMBER (K.kept result.0) }
     ensures known { IfSome (K.kept result.0) (TellsKnown M.holds PROFILE_NUMBER J.records) }
     ensures marks { result.1 ≤ K.writing result.0 }

@@ -1,6 +1,7 @@
 //! Two records of runs of a test class `T`, and a journal without any.
 
 ghost use Rattle.std.specs.Prelude.{◌≡◌, ◌∷◌, [], Some, None, IfOk, IfSome};
+ghost use Rattle.history_rules.specs.Laws.{IsFormed};
 ghost use Rattle.mt_edge.specs.Shown.{keeper_kept};
 ghost use Rattle.record_rules.specs.declared.profile_number.TheConstants.{PROFILE_NUMBER};
 ghost use Rattle.job_journal.specs.Keeping.{HasLoaded};
@@ -63,7 +64,8 @@ fn reached(alloc: Global) -> Result<Seq<(u32, u16)>, Memory>
 
 /// `T.a` passed in 7 steps, and asked for `X`, which isn't there.
 pub fn first(alloc: Global) -> Result<Made, Memory>
-    ensures { IfOk result (λ made. made ≡ first_record) }
+    ensures value { IfOk result (λ made. made ≡ first_record) }
+    ensures form { IfOk result IsFormed }
 {
     let test_class = letter(alloc, 84)?;
     let test_method = letter(alloc, 97)?;
@@ -85,7 +87,8 @@ pub fn first(alloc: Global) -> Result<Made, Memory>
 
 /// `T.b` ran into its limit of 9 steps, and asked for `U`, which has a class file.
 pub fn second(alloc: Global) -> Result<Made, Memory>
-    ensures { IfOk result (λ made. made ≡ second_record) }
+    ensures value { IfOk result (λ made. made ≡ second_record) }
+    ensures form { IfOk result IsFormed }
 {
     let test_class = letter(alloc, 84)?;
     let test_method = letter(alloc, 98)?;
