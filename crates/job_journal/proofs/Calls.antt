@@ -26,7 +26,10 @@ told_failed true (suc m) r is h = omega arith
 
 -- ---- a text that begins no journal
 
-bad_at : (a b : ℕ) → Err {T = Parts} (HistoryBad a) ≡ Err (HistoryBad b) → a ≡ b
+abbrev bad : ℕ → Result Parts HistoryFault
+bad at = Err (HistoryBad at)
+
+bad_at : (a b : ℕ) → bad a ≡ bad b → a ≡ b
 bad_at a b e = cc
 
 bad_stage : (k : Known) (s : Stage) (at : ℕ) → parts_in k s ≡ Err (HistoryBad at) → s ≡ Bad at
