@@ -1,7 +1,8 @@
 -- What calls answer, and when a journal isn't opened.
 use Rattle.std.proofs.Common.{◌≡◌, ◌∙◌, ℕ, zero, suc, ◌+◌, ◌<◌, ◌≤◌, Bool, true, false, List, [], ◌∷◌, ◌++◌, length, take, Option, Some, None, Result, Ok, Err, refl, sym, ap, subst, arith}
-use Rattle.std.specs.Prelude.{All, IfSome, OnOk, IsErrOf}
+use Rattle.std.specs.Prelude.{All, IfSome, OnOk, OnErr, IsErrOf}
 use Rattle.std.proofs.lemmas.List.Elements.{All-nil}
+use Rattle.mt_edge.specs.Causes.{Rose}
 use Rattle.mt_edge.specs.declared.outside.EdgeFault.{EdgeFault}
 use Rattle.mt_edge.specs.declared.outside.EdgeFault.TheVariants.{Failed, Memory}
 use Rattle.record_rules.specs.declared.record.RunRecord.{RunRecord}
@@ -53,3 +54,11 @@ none_due profile entry (Some bytes) = All-nil _
 
 pub safe_kept : (Holds : RunRecord → Type 0) (profile : ℕ) (kept : Option (List ℕ)) (durable writing : ℕ) (t : Tables) (loaded : ℕ) (failed : Bool) (marked : ℕ) → Keeps Holds profile kept durable writing t loaded failed marked → failed ≡ false → IfSome kept (IsSafe profile durable)
 safe_kept Holds profile kept durable writing t loaded failed marked h e = safe_stands profile durable loaded t kept (h.current e)
+
+-- ---- a call of the keeper that fails
+
+pub one_rose : (before now : ℕ) → Rose before now → 1 ≤ now
+one_rose before now h = omega (arith, h)
+
+pub err_is : {T E : Type 0} {P : Type 0} (r : Result T E) (e : E) → r ≡ Err e → OnErr r P → P
+err_is {T} {E} {P} r e is h = subst (λ (x : Result T E). OnErr x P) is h

@@ -356,6 +356,10 @@ pub on_err : {T E : Type 0} {P R : Type 0} (r : Result T E) → (P → R) → On
 on_err (Ok x) f p = tt
 on_err (Err e) f p = f p
 
+pub by_err : {T E : Type 0} {P : Type 0} (r : Result T E) → P → OnErr r P
+by_err (Ok x) p = tt
+by_err (Err e) p = p
+
 pub grown_either : {T E : Type 0} (r : Result T E) (kept new : Option (List ℕ)) (piece : List ℕ) → OnOk r (Grows kept new piece) → OnErr r (GrowsBy kept new piece) → HasGrown kept new
 grown_either (Ok x) kept new piece p q = record { more = piece; is = p }
 grown_either (Err e) kept new piece p q = record { more = q.0; is = q.2 }

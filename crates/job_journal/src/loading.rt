@@ -21,6 +21,7 @@ fn load_text<K: Keeper>(alloc: Global, keeper: &mut K) -> Result<JournalRead, Jo
     ensures read { IfOk result (λ read. IfSome (K.kept keeper.old)
         (λ bytes. journal_in PROFILE_NUMBER bytes ≡ Ok (parts_of read))) }
     ensures same { K.kept keeper.new ≡ K.kept keeper.old }
+    ensures other { K.writing keeper.new ≡ K.writing keeper.old }
     ensures fault { IfErr result (λ fault. FailsToOpen PROFILE_NUMBER fault
         (K.reading keeper.old) (K.reading keeper.new) (K.writing keeper.old)
         (K.writing keeper.new) (K.kept keeper.old) (K.kept keeper.new)) }

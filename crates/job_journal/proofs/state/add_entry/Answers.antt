@@ -2,12 +2,13 @@ use Rattle.std.proofs.Common.{◌≡◌, ◌≤◌, ℕ, List, Option, Some, Non
 use Rattle.record_rules.specs.declared.profile_number.TheConstants.{PROFILE_NUMBER}
 use Rattle.record_rules.specs.declared.record.RunRecord.{RunRecord}
 use Rattle.job_journal.specs.Tables.{Adds}
-use Rattle.job_journal.proofs.Standing.{stopped, found_keeps, grown_keeps, broken_keeps, on_ok, on_err, grown_either, same_grown, gains, found_gains, not_again}
+use Rattle.job_journal.proofs.Standing.{stopped, found_keeps, grown_keeps, broken_keeps, on_ok, on_err, by_err, grown_either, same_grown, gains, found_gains, not_again}
 use Rattle.job_journal.proofs.state.add_entry.Goals as goal
 
 pub returns-in_err-added-clause-err : goal.returns-in_err-added-clause-err
-returns-in_err-added-clause-err g c = λ more le.
-    stopped g.M.KnownRecord.holds PROFILE_NUMBER (g.K.Keeper.kept c.args.keeper.now) (g.K.Keeper.durable c.args.keeper.now) (g.K.Keeper.writing c.args.keeper.now) (g.K.Keeper.writing c.args.keeper.now) c.args.tables.now c.add.new.self c.args.loaded false 0 more c.requires.keeps le
+returns-in_err-added-clause-err g c =
+    by_err c.from_residual.result
+    (λ more le. stopped g.M.KnownRecord.holds PROFILE_NUMBER (g.K.Keeper.kept c.args.keeper.now) (g.K.Keeper.durable c.args.keeper.now) (g.K.Keeper.writing c.args.keeper.now) (g.K.Keeper.writing c.args.keeper.now) c.args.tables.now c.add.new.self c.args.loaded false 0 more c.requires.keeps le)
 
 pub returns-in_err-added-clause-longer : goal.returns-in_err-added-clause-longer
 returns-in_err-added-clause-longer g c = same_grown (g.K.Keeper.kept c.args.keeper.now)
