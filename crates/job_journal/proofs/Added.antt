@@ -1,7 +1,7 @@
 -- What is added to a whole journal is read.
-use Rattle.std.proofs.Common.{◌≡◌, ◌∙◌, ℕ, zero, suc, ◌+◌, ◌<◌, ◌≤◌, ◌^◌, Bool, true, false, List, [], ◌∷◌, ◌++◌, length, take, get_or, Option, Some, None, refl, sym, ap, subst, append_assoc, append-nil, arith}
+use Rattle.std.proofs.Common.{◌≡◌, ◌∙◌, ℕ, suc, ◌+◌, ◌<◌, ◌≤◌, ◌^◌, Bool, true, false, List, [], ◌∷◌, ◌++◌, length, take, get_or, Option, Some, None, refl, sym, ap, subst, append_assoc, append-nil, arith}
 use Rattle.std.specs.Prelude.{◌||◌, if◌then◌else◌}
-use Rattle.std.specs.List.{flat_map, AllByRecursion}
+use Rattle.std.specs.List.{AllByRecursion}
 use Rattle.program_rules.specs.Names.{same, is_listed}
 use Rattle.record_rules.specs.declared.record.RunRecord.{RunRecord}
 use Rattle.history_rules.specs.Items.{AllBy}
@@ -12,9 +12,9 @@ use Rattle.history_rules.specs.Laws.{HasShortClass, IsNewEntry, with_name, IsFor
 use Rattle.history_rules.proofs.Pools.{same_self}
 use Rattle.run_journal.specs.Entries.{entry_bytes, content_of, good_entry}
 use Rattle.run_journal.specs.Contents.{Item, ClassFile, Run, Known, item_of, with_item, class_content, record_content}
-use Rattle.run_journal.specs.Reading.{Stage, Open, Progress, start, read_on, reading_of, IsWhole}
+use Rattle.run_journal.specs.Reading.{Progress, start, read_on, reading_of, IsWhole}
 use Rattle.run_journal.specs.Laws.{SaysSomething, with_said, with_entry}
-use Rattle.job_journal.specs.Adding.{class_entry, class_entries, added_bytes, known_with, HasNumber, HasNumbers, AddedIsRead}
+use Rattle.job_journal.specs.Adding.{class_entry, class_entries, added_bytes, known_with, HasNumber, AddedIsRead}
 use Rattle.job_journal.specs.Tables.{PutsClasses}
 use Rattle.std.proofs.lemmas.List.{take_more}
 use Rattle.run_journal.proofs.Steps.{on_append}

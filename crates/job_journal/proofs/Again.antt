@@ -1,6 +1,6 @@
 -- What is written of classes and records is read again, whatever classes stand in a journal.
-use Rattle.std.proofs.Common.{◌≡◌, ◌∙◌, ℕ, zero, suc, ◌+◌, ◌<◌, ◌≤◌, ◌^◌, max, Bool, true, false, List, [], ◌∷◌, ◌++◌, length, Option, Some, None, Result, Ok, Err, refl, sym, ap, subst, append_assoc, append-nil, arith}
-use Rattle.std.specs.Prelude.{◌&&◌, ◌==◌, nat_le, if◌then◌else◌}
+use Rattle.std.proofs.Common.{◌≡◌, ◌∙◌, ℕ, suc, ◌+◌, ◌<◌, ◌≤◌, ◌^◌, max, Bool, true, false, List, [], ◌∷◌, ◌++◌, length, Option, Some, None, Result, Ok, refl, sym, ap, append_assoc, append-nil, arith}
+use Rattle.std.specs.Prelude.{◌&&◌, nat_le}
 use Rattle.std.specs.List.{flat_map, AllByRecursion}
 use Rattle.std.specs.Int.{w8, w32, w64, to_be_bytes}
 use Rattle.codec_rules.specs.Input.{Input}
@@ -13,9 +13,9 @@ use Rattle.class_model.specs.declared.outcome.Outcome.{Outcome}
 use Rattle.record_rules.specs.declared.record.RunRecord.{RunRecord}
 use Rattle.history_rules.specs.declared.fault.HistoryFault.{HistoryFault}
 use Rattle.history_rules.specs.declared.fault.HistoryFault.TheVariants.{HistoryBad}
-use Rattle.history_rules.specs.Items.{FileReader, u1_at, u4_at, u8_at, take_at, where_at, text_at, text_where, text_bytes, IsText, counted_by, counted_bytes, many_by, AllBy}
+use Rattle.history_rules.specs.Items.{FileReader, u1_at, u4_at, u8_at, take_at, where_at, text_at, text_where, text_bytes, IsText, counted_bytes, many_by, AllBy}
 use Rattle.history_rules.specs.Classes.{class_bytes, number_of, class_of}
-use Rattle.history_rules.specs.Entries.{Entry, Used, is_number, is_new, entry_at, with_entry, entry_bytes, pair_bytes}
+use Rattle.history_rules.specs.Entries.{Entry, is_number, is_new, entry_at, with_entry, entry_bytes, pair_bytes}
 use Rattle.history_rules.specs.Reading.{outcome_at, are_steps, entries_at, pairs_at, record_at}
 use Rattle.history_rules.specs.Spelling.{outcome_bytes, record_bytes}
 use Rattle.history_rules.specs.Histories.{at_front}
@@ -23,7 +23,7 @@ use Rattle.history_rules.specs.Laws.{IsNewEntry, with_name, IsFormed}
 use Rattle.history_rules.proofs.Codecs.{u1_codec, u4_codec, u8_codec, where_codec, text_codec, text_where_codec}
 use Rattle.history_rules.proofs.Parts.{outcome_codec, pairs_codec}
 use Rattle.history_rules.proofs.Pools.{class_number}
-use Rattle.run_journal.specs.Contents.{Item, ClassFile, Run, class_file_at, class_item_at, run_item_at, item_at, item_of, whole_item, class_content, record_content}
+use Rattle.run_journal.specs.Contents.{Item, ClassFile, Run, class_file_at, class_item_at, run_item_at, item_at, item_of, class_content}
 use Rattle.run_journal.specs.Seen.{used_all}
 use Rattle.job_journal.specs.Adding.{HasNumber, HasNumbers, RecordIsRead, WrittenTellsRecords}
 

@@ -1,16 +1,16 @@
 -- What calls answer, and when a journal isn't opened.
-use Rattle.std.proofs.Common.{◌≡◌, ◌∙◌, ℕ, zero, suc, ◌+◌, ◌<◌, ◌≤◌, Bool, true, false, List, [], ◌∷◌, ◌++◌, length, take, Option, Some, None, Result, Ok, Err, refl, sym, ap, subst, arith}
-use Rattle.std.specs.Prelude.{All, IfSome, OnOk, OnErr, IsErrOf}
+use Rattle.std.proofs.Common.{◌≡◌, ◌∙◌, ℕ, zero, suc, ◌<◌, ◌≤◌, Bool, true, false, List, [], Option, Some, None, Result, Err, refl, sym, ap, subst, arith}
+use Rattle.std.specs.Prelude.{IfSome, OnOk, OnErr, IsErrOf}
 use Rattle.std.proofs.lemmas.List.Elements.{All-nil}
 use Rattle.mt_edge.specs.Causes.{Rose}
 use Rattle.mt_edge.specs.declared.outside.EdgeFault.{EdgeFault}
-use Rattle.mt_edge.specs.declared.outside.EdgeFault.TheVariants.{Failed, Memory}
+use Rattle.mt_edge.specs.declared.outside.EdgeFault.TheVariants.{Failed}
 use Rattle.record_rules.specs.declared.record.RunRecord.{RunRecord}
 use Rattle.history_rules.specs.declared.fault.HistoryFault.{HistoryFault}
 use Rattle.history_rules.specs.declared.fault.HistoryFault.TheVariants.{HistoryBad}
 use Rattle.run_journal.specs.Contents.{Known}
 use Rattle.run_journal.specs.Reading.{Stage, Head, Open, Chunk, Ended, Bad, Parts, parts_in, journal_in, reading_of}
-use Rattle.job_journal.specs.Keeping.{told_by, RecordsAll, Stands, IsSafe, Keeps}
+use Rattle.job_journal.specs.Keeping.{told_by, RecordsAll, IsSafe, Keeps}
 use Rattle.job_journal.specs.declared.tables.Tables.{Tables}
 use Rattle.job_journal.proofs.Standing.{safe_stands}
 

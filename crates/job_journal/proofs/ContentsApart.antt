@@ -1,13 +1,10 @@
 -- Records that were added, by their contents, while classes come to those that are there.
-use Rattle.std.proofs.Common.{◌≡◌, ◌∙◌, ℕ, zero, suc, ◌+◌, ◌<◌, ◌≤◌, ◌^◌, Bool, true, false, not, List, [], ◌∷◌, ◌++◌, length, map, Option, Some, None, is_some, refl, sym, ap, subst, append_assoc, append-nil, length-append, arith}
+use Rattle.std.proofs.Common.{◌≡◌, ◌∙◌, ℕ, zero, suc, ◌<◌, ◌≤◌, ◌^◌, Bool, true, false, List, [], ◌∷◌, ◌++◌, length, map, Option, Some, None, is_some, refl, sym, ap, subst, append_assoc, append-nil, length-append, arith}
 use Rattle.std.specs.Prelude.{◌||◌, slice_get, if◌then◌else◌}
 use Rattle.std.specs.List.{flat_map, AllByRecursion}
 use Rattle.std.specs.Int.{w32, w64, to_be_bytes}
-use Rattle.std.specs.BTreeMap as tree
 use Rattle.std.specs.BTreeMap.{BTreeMap}
 use Rattle.std.specs.Global.{Vec}
-use Rattle.std.specs.Cmp.Lexicographic.{slice_cmp}
-use Rattle.std.specs.Ordering.{nat_cmp}
 use Rattle.std.specs.Prelude.{All}
 use Rattle.std.proofs.lemmas.List.Elements.{All-nil, All-cons}
 use Rattle.program_rules.specs.Names.{Name, same, is_listed}
@@ -15,13 +12,13 @@ use Rattle.record_rules.specs.declared.record.RunRecord.{RunRecord}
 use Rattle.history_rules.specs.Items.{AllBy, text_bytes, counted_bytes}
 use Rattle.history_rules.specs.Classes.{place_of, number_of}
 use Rattle.history_rules.specs.Entries.{Entry, entry_bytes, pair_bytes}
-use Rattle.history_rules.specs.Spelling.{outcome_bytes, record_bytes}
+use Rattle.history_rules.specs.Spelling.{outcome_bytes}
 use Rattle.history_rules.specs.Histories.{class_put, classes_used}
 use Rattle.history_rules.specs.Laws.{IsNewEntry, with_name, IsFormed}
 use Rattle.history_rules.proofs.Pools.{bytes_are, same_self}
 use Rattle.run_journal.specs.Contents.{record_content}
 use Rattle.run_journal.specs.Laws.{Begins}
-use Rattle.job_journal.specs.Adding.{class_entry, class_entries, added_bytes, HasNumber, HasNumbers}
+use Rattle.job_journal.specs.Adding.{HasNumber, HasNumbers}
 use Rattle.job_journal.specs.Numbers.{kept_at}
 use Rattle.job_journal.specs.Tables.{HasAdded, StandsAmong, IsShort}
 use Rattle.job_journal.proofs.Numbered.{number_listed}

@@ -1,5 +1,5 @@
 -- Classes by their bytes, with a class more.
-use Rattle.std.proofs.Common.{◌≡◌, ◌∙◌, ℕ, zero, suc, ◌+◌, ◌-◌, ◌<◌, ◌≤◌, ◌^◌, Bool, true, false, cond, List, [], ◌∷◌, ◌++◌, length, Option, Some, None, is_some, refl, sym, ap, subst, length-append, arith}
+use Rattle.std.proofs.Common.{◌≡◌, ◌∙◌, ℕ, suc, ◌-◌, ◌<◌, ◌≤◌, ◌^◌, Bool, true, false, List, [], ◌∷◌, ◌++◌, length, Option, Some, None, is_some, refl, sym, ap, subst, length-append, arith}
 use Rattle.std.specs.Prelude.{◌||◌, if◌then◌else◌}
 use Rattle.std.specs.BTreeMap as tree
 use Rattle.std.specs.BTreeMap.{BTreeMap}
@@ -11,7 +11,7 @@ use Rattle.std.proofs.lemmas.Cmp.{eq_by_cmp_equiv, nat_list_cmp_total, nat_list_
 use Rattle.std.proofs.lemmas.Map.Text.{is_eq-slice_cmp}
 use Rattle.program_rules.specs.Names.{same, is_listed}
 use Rattle.history_rules.specs.Classes.{place_of, number_of}
-use Rattle.history_rules.proofs.Pools.{bytes_are, same_self}
+use Rattle.history_rules.proofs.Pools.{bytes_are}
 use Rattle.job_journal.specs.Adding.{first_number}
 use Rattle.job_journal.specs.Numbers.{kept_at, AreNumbers}
 

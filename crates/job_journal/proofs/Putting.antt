@@ -1,12 +1,12 @@
 -- Items that are written one behind the other.
-use Rattle.std.proofs.Common.{◌≡◌, ◌∙◌, ℕ, zero, suc, ◌+◌, ◌<◌, ◌≤◌, ◌^◌, List, [], ◌∷◌, ◌++◌, length, Option, Some, None, refl, sym, ap, subst, append_assoc, arith}
-use Rattle.std.specs.Prelude.{All, if◌then◌else◌}
+use Rattle.std.proofs.Common.{◌≡◌, ◌∙◌, ℕ, List, [], ◌∷◌, ◌++◌, ap, append_assoc, arith}
+use Rattle.std.specs.Prelude.{All}
 use Rattle.std.specs.List.{AllByRecursion}
 use Rattle.std.proofs.lemmas.List.Elements.{All-cons}
-use Rattle.history_rules.specs.Items.{AllBy, IsText}
+use Rattle.history_rules.specs.Items.{AllBy}
 use Rattle.history_rules.specs.Entries.{Entry}
 use Rattle.history_rules.specs.Laws.{IsNewEntry, with_name}
-use Rattle.program_rules.specs.Names.{Name, is_listed}
+use Rattle.program_rules.specs.Names.{Name}
 use Rattle.job_journal.specs.Adding.{HasNumber, IsWritten}
 
 pub then_written : (a b c x ys : List ℕ) → b ≡ a ++ x → c ≡ b ++ ys → c ≡ a ++ (x ++ ys)

@@ -14,10 +14,10 @@ use Rattle.codec_rules.proofs.Sequence.{ok_is}
 use Rattle.history_rules.specs.declared.fault.HistoryFault.{HistoryFault}
 use Rattle.run_journal.specs.Reading.{Stage, Head, Open, Chunk, Ended, Bad, Progress, Parts, parts_in, journal_in, closing_of, start, reading_of, is_bad, IsRead, IsWhole}
 use Rattle.job_journal.specs.Opening.{Opens}
-use Rattle.run_journal.specs.Laws.{Begins, SaysFirst}
+use Rattle.run_journal.specs.Laws.{SaysFirst}
 use Rattle.job_journal.specs.Adding.{added_bytes, known_with}
 use Rattle.job_journal.specs.Tables.{StandsAmong, IsTables, Adds}
-use Rattle.job_journal.specs.Keeping.{IsBeginning, records_in, added_in, HoldsBehind, IsBacked, Stands, Keeps, IsAdded, GainsOnce, HasGrown, HasLoaded, IsAcknowledged, RecordsAll, TellsKnown, IsSafe, StopsLoseNothing}
+use Rattle.job_journal.specs.Keeping.{IsBeginning, records_in, added_in, HoldsBehind, Stands, Keeps, IsAdded, GainsOnce, HasGrown, HasLoaded, IsAcknowledged, RecordsAll, TellsKnown, IsSafe, StopsLoseNothing}
 use Rattle.job_journal.specs.declared.tables.Tables.{Tables}
 use Rattle.run_journal.proofs.Chunks.{take_whole}
 use Rattle.run_journal.proofs.Steps.{on_append, says_first}

@@ -10,7 +10,7 @@ use Rattle.history_rules.specs.Entries.{Entry}
 use Rattle.history_rules.specs.Histories.{class_put, classes_used}
 use Rattle.history_rules.specs.Laws.{IsFormed}
 use Rattle.run_journal.specs.Entries.{entry_bytes, good_entry}
-use Rattle.run_journal.specs.Contents.{Item, Run, Known, item_of, class_content, record_content}
+use Rattle.run_journal.specs.Contents.{Run, Known, item_of, class_content, record_content}
 use Rattle.run_journal.specs.Reading.{reading_of, IsWhole}
 
 -- The number of a class in a journal, if it stands there: that of the first of equal ones.

@@ -4,7 +4,7 @@ use Rattle.record_rules.specs.declared.record.RunRecord.{RunRecord}
 use Rattle.mt_edge.specs.Causes.{Rose}
 use Rattle.mt_edge.specs.Keeping.{IsAllDurable}
 use Rattle.mt_edge.specs.Pieces.{Grows}
-use Rattle.run_journal.specs.Reading.{Bad, Parts, reading_of, journal_in, IsRead, closing_of}
+use Rattle.run_journal.specs.Reading.{Bad, reading_of, journal_in, IsRead, closing_of}
 use Rattle.job_journal.specs.Keeping.{IsBeginning}
 use Rattle.job_journal.specs.declared.opening.JournalFault.{JournalFault}
 use Rattle.job_journal.specs.declared.opening.JournalFault.TheVariants as fault

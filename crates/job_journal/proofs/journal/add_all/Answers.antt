@@ -1,7 +1,6 @@
-use Rattle.std.proofs.Common.{◌≡◌, get_or, ℕ, sym, ap, subst}
+use Rattle.std.proofs.Common.{subst}
 use Rattle.std.specs.Prelude.{IfSome}
 use Rattle.record_rules.specs.declared.profile_number.TheConstants.{PROFILE_NUMBER}
-use Rattle.record_rules.specs.declared.record.RunRecord.{RunRecord}
 use Rattle.job_journal.specs.Keeping.{IsAcknowledged}
 use Rattle.job_journal.proofs.Standing.{one_more_stands}
 use Rattle.job_journal.proofs.journal.add_all.Goals as goal

@@ -1,4 +1,4 @@
-use Rattle.std.proofs.Common.{◌≡◌, ◌∙◌, ◌⊎◌, inl, inr, ℕ, List, Option, Ok, Err, refl, sym, ap, subst}
+use Rattle.std.proofs.Common.{inr, ℕ, List, Option, Err, ap, subst}
 use Rattle.mt_edge.specs.Causes.{Rose}
 use Rattle.mt_edge.specs.declared.outside.EdgeFault.{EdgeFault}
 use Rattle.mt_edge.specs.Pieces.{GrowsBy}

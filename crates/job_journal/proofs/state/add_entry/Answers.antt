@@ -1,4 +1,4 @@
-use Rattle.std.proofs.Common.{◌≡◌, ◌≤◌, ℕ, List, Option, Some, None, false, refl, sym, subst, ap, ◌∙◌}
+use Rattle.std.proofs.Common.{ℕ, List, Option, Some, false, refl, sym, subst}
 use Rattle.record_rules.specs.declared.profile_number.TheConstants.{PROFILE_NUMBER}
 use Rattle.record_rules.specs.declared.record.RunRecord.{RunRecord}
 use Rattle.job_journal.specs.Tables.{Adds}

@@ -1,4 +1,4 @@
-use Rattle.std.proofs.Common.{◌≡◌, ℕ, sym, subst}
+use Rattle.std.proofs.Common.{ℕ, sym, subst}
 use Rattle.std.specs.Prelude.{IfSome}
 use Rattle.record_rules.specs.declared.profile_number.TheConstants.{PROFILE_NUMBER}
 use Rattle.job_journal.specs.Keeping.{HasLoaded}

@@ -1,4 +1,4 @@
-use Rattle.std.proofs.Common.{◌≡◌, ◌∙◌, ℕ, Ok, Err, refl, sym, ap, subst, rules}
+use Rattle.std.proofs.Common.{◌≡◌, ◌∙◌, Err, ap, rules}
 use Rattle.mt_edge.specs.declared.outside.EdgeFault.{EdgeFault}
 use Rattle.mt_edge.specs.declared.outside.EdgeFault.TheVariants.{Failed}
 use Rattle.job_journal.proofs.Calls.{one_rose, err_is}

@@ -1,4 +1,4 @@
-use Rattle.std.proofs.Common.{◌≡◌, ℕ, false, List, Option, refl}
+use Rattle.std.proofs.Common.{refl}
 use Rattle.record_rules.specs.declared.profile_number.TheConstants.{PROFILE_NUMBER}
 use Rattle.run_journal.specs.Reading.{Parts}
 use Rattle.job_journal.proofs.Standing.{opened, opened_loaded, safe_stands}
