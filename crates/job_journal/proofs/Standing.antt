@@ -17,7 +17,7 @@ use Rattle.job_journal.specs.Opening.{Opens}
 use Rattle.run_journal.specs.Laws.{SaysFirst}
 use Rattle.job_journal.specs.Adding.{added_bytes, known_with}
 use Rattle.job_journal.specs.Tables.{StandsAmong, IsTables, Adds}
-use Rattle.job_journal.specs.Keeping.{IsBeginning, records_in, added_in, HoldsBehind, Stands, Keeps, IsAdded, GainsOnce, HasGrown, HasLoaded, IsAcknowledged, RecordsAll, TellsKnown, IsSafe, StopsLoseNothing}
+use Rattle.job_journal.specs.Keeping.{IsBeginning, records_in, added_in, Stands, Keeps, IsAdded, GainsOnce, HasGrown, HasLoaded, IsAcknowledged, RecordsAll, IsSafe, StopsLoseNothing}
 use Rattle.job_journal.specs.declared.tables.Tables.{Tables}
 use Rattle.run_journal.proofs.Chunks.{take_whole}
 use Rattle.run_journal.proofs.Steps.{on_append, says_first}
@@ -175,13 +175,6 @@ among_front (x ∷ xs) ys r a = by a.place a.stands (among_front xs ys r)
     by zero e h = record { place = 0; stands = e }
     by (suc k) e h = let b = h (record { place = k; stands = e }) in record { place = suc b.place; stands = b.stands }
 
-pub still_among : (profile : ℕ) (kept new : Option (List ℕ)) (r : RunRecord) → HasGrown kept new → IfSome kept (λ bytes. StandsAmong r (records_in profile bytes)) → IfSome new (λ bytes. StandsAmong r (records_in profile bytes))
-still_among profile None new r g a = subst (λ (k : Option (List ℕ)). IfSome k (λ bytes. StandsAmong r (records_in profile bytes))) (sym g.is) tt
-still_among profile (Some bytes) new r g a =
-    let first = grown_first profile bytes g.more in
-    subst (λ (k : Option (List ℕ)). IfSome k (λ x. StandsAmong r (records_in profile x))) (sym g.is)
-    (subst (λ (rs : List RunRecord). StandsAmong r rs) (sym first.records.is) (among_front (records_in profile bytes) first.records.more r a))
-
 pub one_more_stands : {D : Type 0} (profile durable : ℕ) (entry : D → RunRecord) (due : List D) (i : ℕ) (d : D) (kept new : Option (List ℕ)) → i < length due → HasGrown kept new → IfSome kept (RecordsAll profile entry (take i due)) → IfSome new (IsAcknowledged profile durable (entry (get_or due i d))) → IfSome new (RecordsAll profile entry (take (i + 1) due))
 one_more_stands profile durable entry due i d None new lt g h a = subst (λ (k : Option (List ℕ)). IfSome k (RecordsAll profile entry (take (i + 1) due))) (sym g.is) tt
 one_more_stands {D} profile durable entry due i d (Some bytes) new lt g h a =
@@ -208,17 +201,6 @@ still_loaded profile count rs (Some bytes) new g h =
 pub same_grown : (kept : Option (List ℕ)) → HasGrown kept kept
 same_grown None = record { more = []; is = refl }
 same_grown (Some bytes) = record { more = []; is = ap (λ (x : List ℕ). Some x) (sym (append-nil bytes)) }
-
-drop_front : (rs more : List RunRecord) → drop (length rs) (rs ++ more) ≡ more
-drop_front [] more = refl
-drop_front (r ∷ rs) more = drop_front rs more
-
-pub tells_known : (Holds : RunRecord → Type 0) (profile count : ℕ) (rs : List RunRecord) (kept : Option (List ℕ)) → IfSome kept (HasLoaded profile count rs) → IfSome kept (HoldsBehind Holds profile count) → IfSome kept (TellsKnown Holds profile rs)
-tells_known Holds profile count rs None h a = tt
-tells_known Holds profile count rs (Some bytes) h a =
-    let b = h.begins in
-    let is : added_in profile count bytes ≡ b.more = ap (λ (n : ℕ). drop n (records_in profile bytes)) h.count_is ∙ ap (λ (xs : List RunRecord). drop (length rs) xs) b.is ∙ drop_front rs b.more in
-    record { added = b.more; records = b.is; hold = subst (λ (xs : List RunRecord). AllByRecursion Holds xs) is a }
 
 -- ---- what adding a record gives
 
@@ -335,16 +317,6 @@ torn_begins profile (Some bytes) new parts read g =
     let cut : bytes ++ closing_of p.stage ≡ (bytes ++ g.0) ++ g.1.0 = ap (λ (x : List ℕ). bytes ++ x) (closing ∙ sym g.1.1) ∙ sym (append_assoc bytes g.0 g.1.0) in
     let read_all : IsRead (reading_of profile ((bytes ++ g.0) ++ g.1.0)) = subst (λ (x : List ℕ). IsRead (reading_of profile x)) cut (whole_read (reading_of profile (bytes ++ closing_of p.stage)) law.0) in
     (s.0, subst (λ (k : Option (List ℕ)). IsBeginning profile k) (sym g.2) (beginnings_are_read profile (bytes ++ g.0) g.1.0 read_all).0)
-
--- ---- while nothing has failed
-
-pub as_open : (Holds : RunRecord → Type 0) (profile : ℕ) (kept : Option (List ℕ)) (durable writing : ℕ) (t : Tables) (loaded : ℕ) (failed : Bool) (marked : ℕ) → failed ≡ false → Keeps Holds profile kept durable writing t loaded failed marked → Keeps Holds profile kept durable writing t loaded false 0
-as_open Holds profile kept durable writing t loaded failed marked e h =
-    subst (λ (n : ℕ). Keeps Holds profile kept durable writing t loaded false n) (h.unmarked e) (subst (λ (b : Bool). Keeps Holds profile kept durable writing t loaded b marked) e h)
-
-pub as_kept : (Holds : RunRecord → Type 0) (profile : ℕ) (kept : Option (List ℕ)) (durable writing : ℕ) (t : Tables) (loaded : ℕ) (failed : Bool) (marked : ℕ) → failed ≡ false → marked ≡ 0 → Keeps Holds profile kept durable writing t loaded false 0 → Keeps Holds profile kept durable writing t loaded failed marked
-as_kept Holds profile kept durable writing t loaded failed marked e f h =
-    subst (λ (n : ℕ). Keeps Holds profile kept durable writing t loaded failed n) (sym f) (subst (λ (b : Bool). Keeps Holds profile kept durable writing t loaded b 0) (sym e) h)
 
 -- ---- by what a call answered
 
