@@ -40,7 +40,7 @@ first_formed = record {
   steps = omega arith;
   within = refl;
   few_names = two_bytes;
-  names = ((letter_84, (refl, two_bytes)), ((letter_88, (refl, tt)), tt));
+  names = ((letter_84, refl, two_bytes), ((letter_88, refl, tt), tt));
   few_lines = (let one : 1 < 2 ^ 32 = omega arith in one);
   lines = (record { place_fits = omega arith; place = refl; line_fits = omega arith; line = refl }, tt);
 }
@@ -56,7 +56,7 @@ second_formed = record {
   steps = omega arith;
   within = refl;
   few_names = two_bytes;
-  names = ((letter_84, (refl, two_bytes)), ((letter_85, (refl, two_bytes)), tt));
+  names = ((letter_84, refl, two_bytes), ((letter_85, refl, two_bytes), tt));
   few_lines = (let one : 1 < 2 ^ 32 = omega arith in one);
   lines = (record { place_fits = omega arith; place = refl; line_fits = omega arith; line = refl }, tt);
 }

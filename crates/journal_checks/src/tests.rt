@@ -1,5 +1,7 @@
 //! What is appended, cut and told.
 
+ghost use Rattle.history_rules.specs.Laws.{IsFormed};
+
 use crate::calls::{add, open};
 use crate::made::{Made, NoneLoaded};
 use crate::samples::{begun, first, second};
@@ -87,6 +89,25 @@ fn a_record_is_appended_once_with_its_class(rt: HostRuntime) -> Result<(), Fail>
     Ok(())
 }
 
+// How many records a journal of these bytes loads, whether two more are added to it, and how many it
+// loads then.
+fn gone_on(
+    alloc: Global,
+    kept: &[u8],
+    made: &Made,
+    other: &Made,
+) -> Result<(usize, bool, usize), Fail>
+    requires made { IsFormed made.now }
+    requires other { IsFormed other.now }
+{
+    let (mut state, loaded) = opened(alloc, kept, &[])?;
+    let first = add(&mut state, other).is_ok();
+    let second = add(&mut state, made).is_ok();
+    let keeper = state.into_keeper();
+    let now = loaded_of(alloc, keeper.bytes())?;
+    Ok((loaded, first && second, now))
+}
+
 #[test]
 fn each_cut_goes_on(rt: HostRuntime) -> Result<(), Fail> {
     let alloc = rt.alloc();
@@ -94,12 +115,8 @@ fn each_cut_goes_on(rt: HostRuntime) -> Result<(), Fail> {
     let other = second(alloc)?;
     let whole = whole(alloc)?;
     for len in 0..whole.len() {
-        let (mut state, loaded) = opened(alloc, &whole.as_slice()[..len], &[])?;
-        assert_eq!(rt; loaded, 0);
-        assert!(rt; add(&mut state, &other).is_ok());
-        assert!(rt; add(&mut state, &made).is_ok());
-        let keeper = state.into_keeper();
-        assert_eq!(rt; loaded_of(alloc, keeper.bytes())?, 2);
+        let told = gone_on(alloc, &whole.as_slice()[..len], &made, &other)?;
+        assert!(rt; told == (0, true, 2));
     }
     assert_eq!(rt; loaded_of(alloc, whole.as_slice())?, 1);
     Ok(())
@@ -112,22 +129,38 @@ fn no_journal_is_left_as_it_is(rt: HostRuntime) -> Result<(), Fail> {
     Ok(())
 }
 
+// Whether two records fail to be added where this call of the keeper fails, and how many calls have
+// failed then.
+fn fails_at(alloc: Global, call: u64, made: &Made, other: &Made) -> Result<(bool, u64), Fail>
+    requires made { IsFormed made.now }
+    requires other { IsFormed other.now }
+{
+    let (mut state, _loaded) = opened(alloc, &[], &[call])?;
+    let first = add(&mut state, made);
+    let second = add(&mut state, other);
+    let marked = state.marked();
+    let _keeper = state.into_keeper();
+    let fail = matches!(first, Err(EdgeFault::Failed)) && matches!(second, Err(EdgeFault::Failed));
+    Ok((fail, marked))
+}
+
 #[test]
-fn calls_that_fail_are_told(rt: HostRuntime) -> Result<(), Fail> {
+fn an_opening_that_fails_is_told(rt: HostRuntime) -> Result<(), Fail> {
+    let alloc = rt.alloc();
+    assert!(rt; refused(alloc, &[], &[0])? == Some((JournalFault::Load, 0)));
+    assert!(rt; refused(alloc, &[], &[1])? == Some((JournalFault::Write, 0)));
+    assert!(rt; refused(alloc, &[], &[2])? == Some((JournalFault::Write, 8)));
+    assert!(rt; refused(alloc, &[], &[3])?.is_none());
+    Ok(())
+}
+
+#[test]
+fn an_add_that_fails_is_told(rt: HostRuntime) -> Result<(), Fail> {
     let alloc = rt.alloc();
     let made = first(alloc)?;
     let other = second(alloc)?;
-    assert_eq!(rt; refused(alloc, &[], &[0])?, Some((JournalFault::Load, 0)));
-    assert_eq!(rt; refused(alloc, &[], &[1])?, Some((JournalFault::Write, 0)));
-    assert_eq!(rt; refused(alloc, &[], &[2])?, Some((JournalFault::Write, 8)));
-    assert_eq!(rt; refused(alloc, &[], &[3])?, None);
-    for call in 3..5 {
-        let (mut state, _) = opened(alloc, &[], &[call])?;
-        assert!(rt; matches!(add(&mut state, &made), Err(EdgeFault::Failed)));
-        assert!(rt; matches!(add(&mut state, &other), Err(EdgeFault::Failed)));
-        assert_eq!(rt; state.marked(), 1);
-        let _keeper = state.into_keeper();
-    }
+    assert!(rt; fails_at(alloc, 3, &made, &other)? == (true, 1));
+    assert!(rt; fails_at(alloc, 4, &made, &other)? == (true, 1));
     Ok(())
 }
 
