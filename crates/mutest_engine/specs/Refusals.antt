@@ -126,7 +126,8 @@ IsOfFile path r = ⊥
 
 -- by the text at this path: it is read as a class file is, and has a first line at fault
 abbrev pub IsOfText : List ℕ → Refusal → Type 0
-IsOfText path (AsmRefused line) = (text : List ℕ) × (AssembledClass text ≡ Err (asm_fault.Line line))
+IsOfText path (AsmRefused line) =
+    (text : List ℕ) × (AssembledClass text ≡ Err (asm_fault.Line line))
 IsOfText path (BadClass p fault) = ⊥
 IsOfText path r = IsOfFile path r
 

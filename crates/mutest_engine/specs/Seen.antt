@@ -91,7 +91,7 @@ module _ (o : RunOptions) (s : Seen) where
   scratch_bounds_seen =
       bounds_behind (known_seen s) (λ known. scratch_bounds_in o known.0 known.1)
 
--- where all these records of the history are true.
+-- where all old records are true: those of the history, or none where that is refused.
 abbrev pub records_or_none : Result (List RunRecord) Refusal → List RunRecord
 records_or_none (Ok old) = old
 records_or_none (Err refusal) = []
@@ -177,9 +177,10 @@ MayBeStated (Err refusal) stated = stated ≡ without_runs (Err refusal)
 -- ---- what a step answers
 
 -- This is answered and counted.
-pub record AnswersStated (stated : Stated) (before after : ℕ) (result : Result Answer Halt) : Type 0
-  where
-    pub answer : ReadsBy answered stated.answer result
-    pub meter : AnswerMeters before after stated.bounds result
-    pub scratch : AreTrue profile stated.old → ReadsBy answered stated.scratch result
-    pub scratch_meter : AreTrue profile stated.old → AnswerMeters before after stated.scratch_bounds result
+pub record AnswersStated (stated : Stated) (before after : ℕ) (result : Result Answer Halt)
+    : Type 0 where
+  pub answer : ReadsBy answered stated.answer result
+  pub meter : AnswerMeters before after stated.bounds result
+  pub scratch : AreTrue profile stated.old → ReadsBy answered stated.scratch result
+  pub scratch_meter : AreTrue profile stated.old →
+      AnswerMeters before after stated.scratch_bounds result

@@ -274,13 +274,15 @@ fn finish<T: Tree, S: Sink>(
 
 /// Does what the words behind the program's name say. `list FILE` puts the identifiers of the
 /// mutants of the class file FILE, one per line. `run --classes DIR --tests DIR --report FILE
-/// --new-history FILE` runs the tests of a suite on each of its mutants that they cover, but for the
-/// runs that the history of `--history FILE` has; it replaces the report and the new history, and
-/// puts the summary. The runs are shared by the workers of `--workers N`, and each may take the words
-/// of `--heap N` and the frames of `--depth N`. `asm FILE --out FILE` replaces the second file by the
-/// class file that the text of the first states. `generate N` runs the tests of a suite of N classes
-/// that is made, and puts the summary alone; it has workers, too. Options stand in any order. The
-/// gate is told what workers do. The keeper is handed back untouched.
+/// --new-history FILE` runs the tests of a suite on each of its mutants that they cover, but for
+/// the runs that the history of `--history FILE` has; it replaces the report, with the sources of
+/// `--sources DIR`, and the new history, and puts the summary. With `--matrix` it runs all of these
+/// tests, and not those alone up to the first that detects the mutant. The runs are shared by the
+/// workers of `--workers N`, and each may take the steps of `--steps N`, the words of `--heap N`
+/// and the frames of `--depth N`. `asm FILE --out FILE` replaces the second file by the class file
+/// that the text of the first states. `generate N` runs the tests of a suite of N classes that is
+/// made, and puts the summary alone; it takes the options on runs, too. Options stand in any order.
+/// The gate is told what workers do. The keeper is handed back untouched.
 pub fn run<W: Threads + Wait + Sync, T: Tree, S: Sink, G: Gate + Sync, K: Keeper + Send>(
     rt: &W,
     alloc: Global,

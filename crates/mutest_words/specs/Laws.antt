@@ -22,11 +22,13 @@ pub record IsSmall (o : GenerateOptions) : Type 0 where
 
 abbrev pub OptionsAreLimited : Type 0
 OptionsAreLimited =
-    (words : List Text) (o : RunOptions) → command_of words ≡ Some (run_suite o) → AreLimited o
+    (words : List Text) (o : RunOptions) →
+    command_of words ≡ Some (run_suite o) → AreLimited o
 
 abbrev pub SuitesAreSmall : Type 0
 SuitesAreSmall =
-    (words : List Text) (o : GenerateOptions) → command_of words ≡ Some (generate_suite o) → IsSmall o
+    (words : List Text) (o : GenerateOptions) →
+    command_of words ≡ Some (generate_suite o) → IsSmall o
 
 -- ---- commands of which this is said
 

@@ -25,7 +25,8 @@ list_of (item data_in others) = data_in ∷ list_of others
 
 -- the members of the object at a name, none where there is no object
 abbrev pub object_at : List ℕ → Data → Members
-object_at name json = option_map_or (λ members. members) (option_and_then as_object (get name json)) no_members
+object_at name json =
+    option_map_or (λ members. members) (option_and_then as_object (get name json)) no_members
 
 -- the items of the array at a name, none where there is no array
 abbrev pub array_at : List ℕ → Data → List Data

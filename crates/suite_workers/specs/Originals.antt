@@ -88,9 +88,10 @@ pub record KnowsOriginals
   pub meter : after ≡ before + cost_of steps_of ts
 
 -- Where memory runs out, it rose by at most that for each worker.
-pub record CostsForEach (workers : ℕ) (ts : List (Tried RunRecord)) (before after : ℕ) : Type 0 where
-  pub from : before ≤ after
-  pub most : after ≤ before + workers * cost_of steps_of ts
+pub record CostsForEach (workers : ℕ) (ts : List (Tried RunRecord)) (before after : ℕ) : Type 0
+  where
+    pub from : before ≤ after
+    pub most : after ≤ before + workers * cost_of steps_of ts
 
 abbrev pub RunsOriginals :
     List Info → OriginalSetup → ℕ → ℕ → ℕ → Result (List KnownRun) Memory → Type 0

@@ -151,7 +151,8 @@ fn run_in(
     ensures made { IfOk result (Makes run_reading (runs_for setup.now stand.old) mutant test) }
     ensures steps { OnOk result
         (Counts run_reading (runs_for setup.now stand.old) mutant test part.old part.new) }
-    ensures most { CountsAtMost run_reading (runs_for setup.now stand.old) mutant test part.old part.new }
+    ensures most { CountsAtMost run_reading (runs_for setup.now stand.old) mutant test part.old
+        part.new }
 {
     place(alloc, stand, &setup.look_ups.history, setup.mutants, mutant)?;
     is_program(&stand.program);

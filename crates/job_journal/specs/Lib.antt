@@ -1,0 +1,5 @@
+pub mod Adding
+pub mod Numbers
+pub mod Tables
+pub mod Keeping
+pub mod Opening
