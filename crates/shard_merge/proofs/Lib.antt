@@ -1,0 +1,3 @@
+mod Owning
+mod Finding
+mod Reading

@@ -1,0 +1,6 @@
+pub mod Heads
+pub mod Files
+pub mod Sets
+pub mod Owners
+pub mod Laws
+pub mod Worked
