@@ -1,0 +1,7 @@
+mod Alike
+mod Found
+mod Shard
+mod Complete
+mod Merged
+mod All
+mod Kept
