@@ -1,3 +1,4 @@
+pub mod Adapters
 pub mod Profiles
 pub mod Outcomes
 pub mod Records

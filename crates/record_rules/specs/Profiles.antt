@@ -16,15 +16,21 @@ pub record Profile : Type 0 where
   pub class : Name → List ℕ → Option Linked
   -- the classes of the library, which are the same beside all class files
   pub library : Look
+  -- the adapters of the sites of these class files: the name of one tells its class
+  pub adapters : Held → Look
   -- the test that a method of a class is, with its script, if it is one
   pub test : Held → Name → Name → Option Test
   -- whether class files are a program with the library: they have no fault of names and supers
   pub builds : List (Name × List ℕ) → Bool
 
--- The class of a name, among class files and the library.
-abbrev pub class_by : Profile → Held → Look
-class_by m held n = first_of (option_and_then (m.class n) (held n)) (m.library n)
+-- The class of a name among class files and the library, adapters apart.
+abbrev pub plain_by : Profile → Held → Look
+plain_by m held n = first_of (option_and_then (m.class n) (held n)) (m.library n)
 
--- These class files and the library are the program.
+-- The class of a name, among class files, the library and the adapters of their sites.
+abbrev pub class_by : Profile → Held → Look
+class_by m held n = first_of (plain_by m held n) (m.adapters held n)
+
+-- These class files, the library and the adapters are the program.
 abbrev pub IsProgramOf : Profile → Held → Look → Type 0
 IsProgramOf m held p = p ≡ class_by m held

@@ -39,13 +39,14 @@ bytes_own (Some b) = nat_list_eq_equiv.refl b
 no_class : (m : Profile) → IsProfile m → (held : Held) (n : Name) → is_library (class_by m held n) ≡ false → (is_some (held n) || is_none (class_by m held n)) ≡ true
 no_class m ok held n h = held_case (held n) h
   where
-    library_case : (o : Option Linked) → ((c : Linked) → o ≡ Some c → c.library ≡ true) → is_library o ≡ false → is_none o ≡ true
-    library_case None own h = refl
-    library_case (Some c) own h = let e : c.library ≡ true = own c refl in absurd cc
+    library_case : (o a : Option Linked) → ((c : Linked) → o ≡ Some c → c.library ≡ true) → ((c : Linked) → a ≡ Some c → c.library ≡ true) → is_library (first_of o a) ≡ false → is_none (first_of o a) ≡ true
+    library_case None None own made h = refl
+    library_case None (Some c) own made h = let e : c.library ≡ true = made c refl in absurd cc
+    library_case (Some c) a own made h = let e : c.library ≡ true = own c refl in absurd cc
 
-    held_case : (o : Option (List ℕ)) → is_library (first_of (option_and_then (m.class n) o) (m.library n)) ≡ false → (is_some o || is_none (first_of (option_and_then (m.class n) o) (m.library n))) ≡ true
+    held_case : (o : Option (List ℕ)) → is_library (first_of (first_of (option_and_then (m.class n) o) (m.library n)) (m.adapters held n)) ≡ false → (is_some o || is_none (first_of (first_of (option_and_then (m.class n) o) (m.library n)) (m.adapters held n))) ≡ true
     held_case (Some b) h = refl
-    held_case None h = library_case (m.library n) (ok.alone n) h
+    held_case None h = library_case (m.library n) (m.adapters held n) (ok.alone n) (ok.made held n) h
 
 holds_own : (m : Profile) → IsProfile m → (held : Held) (ns : List Name) → ((n : Name) → is_listed n ns ≡ true → is_library (class_by m held n) ≡ false) → holds_all (class_by m held) held (with_bytes held ns) ≡ true
 holds_own m ok held [] h = refl

@@ -1,7 +1,7 @@
+pub mod Adapters
 pub mod Tests
 pub mod Held
 pub mod Matched
-pub mod Growing
 pub mod Reused
 pub mod Made
 pub mod Jobs

@@ -4,6 +4,7 @@
 //! programs, the machine and records alone, and stand on the frame law and the law of limits.
 #![tactic(auto)]
 
+ghost use Rattle.reuse_laws.specs.Adapters.{AdaptersAreTold, ToldAreOfLibrary, PlainTellNone};
 ghost use Rattle.reuse_laws.specs.Reuse.{MatchingRecordsAreRuns, TrueUnderLimits};
 ghost use Rattle.reuse_laws.specs.Reuse.{RecordsOfRunsAreTrue, RecordsMatchTheirRuns};
 ghost use Rattle.reuse_laws.specs.Reuse.{KeptRunsAreFound};
@@ -57,7 +58,7 @@ pub fn need_costs_no_more()
 
 /// What a run consulted are different names, none of the library, and with each class all that
 /// stands above it. So its class files are a program by themselves, where its program is one: under
-/// each name that was consulted that program has the same class, with the same supers.
+/// each name that it knows that program has the same class, with the same supers.
 pub fn runs_are_closed()
     ensures closed { RunsAreClosed }
     ensures alike { OwnProgramsAreAlike }
@@ -68,4 +69,12 @@ pub fn runs_are_closed()
 pub fn indices_may_leave_out()
     ensures enough { KeptAreEnough }
     ensures held { MatchesHold }
+{}
+
+/// Class files and the library with the adapters that their names tell have the adapters of all
+/// sites. So the class that a name means is a function of the class files that are held.
+pub fn adapters_are_told()
+    ensures has { AdaptersAreTold }
+    ensures library { ToldAreOfLibrary }
+    ensures plain { PlainTellNone }
 {}
