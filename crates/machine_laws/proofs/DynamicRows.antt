@@ -12,7 +12,8 @@ use Rattle.program_rules.specs.Linked.{Linked, Bootstrap, parents_of, is_library
 use Rattle.program_rules.specs.declared.fault.Fault.TheVariants.{IncompatibleClassChangeError}
 use Rattle.program_rules.specs.Outlines.{is_interface_class}
 use Rattle.program_rules.specs.Programs.{Look, concat_over, supers_within, supers}
-use Rattle.program_rules.specs.Sites.{Site, is_site_name, site_of, site_by, site_given, if_formed, adapter, is_interface_at, site_name}
+use Rattle.program_rules.specs.Sites.{Site, is_site_name, site_of, site_by, site_given, if_formed, adapter, site_name}
+use Rattle.program_rules.specs.Adapters.{is_interface_at}
 use Rattle.program_rules.specs.Adapted.{IsSite}
 use Rattle.machine_rules.specs.State.{Frame, World}
 use Rattle.machine_rules.specs.Effects.{Effect, on_some, allocate}

@@ -1,4 +1,4 @@
--- A program of classes with the adapters of their sites has them, where no two have one name.
+-- The adapters of a class's sites, in a list: each site has its own there, and nothing else is.
 use Rattle.std.proofs.Common.{◌≡◌, ◌⊎◌, inl, inr, ⊎_elim, ℕ, zero, suc, ◌+◌, ◌++◌, Bool, true, false, List, [], ◌∷◌, Option, Some, None, refl, sym, ap, ◌∙◌, subst, arith}
 use Rattle.std.specs.Prelude.{if◌then◌else◌, slice_get}
 use Rattle.std.specs.List.{list_any}
@@ -9,7 +9,8 @@ use Rattle.program_rules.specs.Linked.{Linked, LinkedMethod, LinkedCode, HasCode
 use Rattle.program_rules.specs.Outlines.{outline_of, is_interface_class}
 use Rattle.program_rules.specs.Programs.{Look}
 use Rattle.program_rules.specs.Library.{library_classes, class_among, first_of, with_library}
-use Rattle.program_rules.specs.Sites.{Site, is_dynamic, dynamics_before, site_of, site_name, adapter, adapter_method, adapter_code, code_or_none, is_interface_at, adapter_if, adapters_in_code, adapters_in_body, adapters_in_methods, adapters_of, with_sites}
+use Rattle.program_rules.specs.Sites.{Site, is_dynamic, dynamics_before, site_of, site_name, adapter, adapter_method, adapter_code, code_or_none}
+use Rattle.program_rules.specs.Adapters.{is_interface_at, adapter_if, adapters_in_code, adapters_in_body, adapters_in_methods, adapters_of, with_sites}
 use Rattle.program_rules.specs.Adapted.{IsSite, HasAdapters}
 use Rattle.machine_laws.specs.Sited.{AreDistinct, AreApart, SitedHaveAdapters}
 use Rattle.machine_laws.specs.Whole.{is_plain_class, is_plain_instruction, is_plain_code}
@@ -54,10 +55,6 @@ found n c (y ∷ ys) d i =
     let rest = found n c ys d.1 j in
     found_if (same y.0 n) y n c (class_among ys n) refl (λ h. gone (class_among ys n) c (ap (class_among ys) (sym (same_text y.0 n (sym h))) ∙ d.0) rest) rest)
     i
-
-apart : (p : Look) (n : Name) (c : Linked) (xs : List Class) → AreApart p xs → In (n, c) xs → p n ≡ None
-apart p n c [] a i = absurd i
-apart p n c (y ∷ ys) a i = ⊎_elim (λ e. ap (λ (z : Class). p z.0) (sym e) ∙ a.0) (λ j. apart p n c ys a.1 j) i
 
 among_if : (b : Bool) (y : Class) (ys : List Class) (n : Name) (c : Linked) → b ≡ same y.0 n → ((class_among ys n ≡ Some c) → In (n, c) ys) → (if b then Some y.1 else class_among ys n) ≡ Some c → In (n, c) (y ∷ ys)
 among_if true y ys n c h go e = let same_class : y.1 ≡ c = cc in inl (ap (λ m. (m, y.1)) (same_text y.0 n h) ∙ ap (λ d. (n, d)) same_class)
@@ -265,7 +262,7 @@ module _ (p : Look) where
             subst (λ b. In (Entry s (j + (if b then suc (dynamics_before at is) else dynamics_before at is))) (adapters_in_code p class bs k j (i ∷ is))) (sym h)
             (subst (In (Entry s (j + dynamics_before at is))) (sym (step_case p class bs k j i is h)) a)
 
-  -- ---- of the methods, and of classes
+  -- ---- of the methods
 
   body_adapters : (class : Name) (bs : List (Option Bootstrap)) (k : ℕ) (o : Option LinkedCode) → AllAdapters (adapters_in_body p class bs k o)
   body_adapters class bs k None = tt
@@ -274,10 +271,6 @@ module _ (p : Look) where
   pub methods_adapters : (class : Name) (bs : List (Option Bootstrap)) (k : ℕ) (ms : List LinkedMethod) → AllAdapters (adapters_in_methods p class bs k ms)
   methods_adapters class bs k [] = tt
   methods_adapters class bs k (m ∷ ms) = all_both (adapters_in_body p class bs k (code_in m.body)) (adapters_in_methods p class bs (suc k) ms) (body_adapters class bs k (code_in m.body)) (methods_adapters class bs (suc k) ms)
-
-  classes_adapters : (cs : List Class) → AllAdapters (adapters_of p cs)
-  classes_adapters [] = tt
-  classes_adapters (c ∷ cs) = all_both (adapters_in_methods p c.0 c.1.bootstraps 0 c.1.methods) (adapters_of p cs) (methods_adapters c.0 c.1.bootstraps 0 c.1.methods) (classes_adapters cs)
 
   pub in_methods : (class : Name) (bs : List (Option Bootstrap)) (x : Class) (m : LinkedMethod) (k0 k : ℕ) (ms : List LinkedMethod) → slice_get ms k ≡ Some m → In x (adapters_in_body p class bs (k0 + k) (code_in m.body)) → In x (adapters_in_methods p class bs k0 ms)
   in_methods class bs x m k0 k [] e i = cc
@@ -291,26 +284,12 @@ module _ (p : Look) where
       in_right x (adapters_in_body p class bs k0 (code_in n.body)) (adapters_in_methods p class bs (suc k0) ms)
       (in_methods class bs x m (suc k0) k ms e (subst (λ z. In x (adapters_in_body p class bs z (code_in m.body))) number i))
 
-  in_classes : (x : Class) (n : Name) (c : Linked) (cs : List Class) → In (n, c) cs → In x (adapters_in_methods p n c.bootstraps 0 c.methods) → In x (adapters_of p cs)
-  in_classes x n c [] i g = absurd i
-  in_classes x n c (d ∷ cs) i g =
-      ⊎_elim (λ e. in_left x (adapters_in_methods p d.0 d.1.bootstraps 0 d.1.methods) (adapters_of p cs) (subst (λ (z : Class). In x (adapters_in_methods p z.0 z.1.bootstraps 0 z.1.methods)) (sym e) g))
-      (λ j. in_right x (adapters_in_methods p d.0 d.1.bootstraps 0 d.1.methods) (adapters_of p cs) (in_classes x n c cs j g)) i
-
--- ---- who has sites
+-- ---- an adapter has no site
 
 no_dynamic : (is : List Instruction) (at : ℕ) (r : DynamicRef) → list_any is_dynamic is ≡ false → slice_get is at ≡ Some (InvokeDynamic r) → ⊥
 no_dynamic [] at r h e = cc
 no_dynamic (i ∷ is) zero r h e = let same_one : i ≡ InvokeDynamic r = cc in let no : is_dynamic i ≡ true = ap is_dynamic same_one in let yes = first_of_or (is_dynamic i) (list_any is_dynamic is) h in cc
 no_dynamic (i ∷ is) (suc at) r h e = no_dynamic is at r (rest_of_or (is_dynamic i) (list_any is_dynamic is) h) e
-
-no_plain : (r : DynamicRef) → is_plain_instruction (InvokeDynamic r) ≡ true → ⊥
-no_plain r h = cc
-
-of_plain : (c : Linked) (k at : ℕ) (m : LinkedMethod) (code : LinkedCode) (r : DynamicRef) → is_plain_class c ≡ true → slice_get c.methods k ≡ Some m → m.body ≡ HasCode code → slice_get code.instructions at ≡ Some (InvokeDynamic r) → ⊥
-of_plain c k at m code r h e b i =
-    let whole : is_plain_code (Some code) ≡ true = ap (λ z. is_plain_code (code_in z)) (sym b) ∙ all_at (λ z. is_plain_code (code_in z.body)) c.methods k m (first_true _ _ h) e in
-    no_plain r (all_at is_plain_instruction code.instructions at (InvokeDynamic r) (first_true _ _ whole) i)
 
 one_method : (own : Name) (s : Site) (k : ℕ) (m : LinkedMethod) → slice_get (adapter_method s (code_or_none (adapter_code own s)) ∷ []) k ≡ Some m → adapter_method s (code_or_none (adapter_code own s)) ≡ m
 one_method own s zero m e = (let z : adapter_method s (code_or_none (adapter_code own s)) ≡ m = cc in z)
@@ -322,50 +301,3 @@ of_adapter c k at m code r a e b i =
     let body : HasCode (record { max_stack = _; max_locals = _; instructions = code_or_none (adapter_code a.own a.site); rows = []; lines = []; frames = [] }) ≡ HasCode code = ap (λ (z : LinkedMethod). z.body) only ∙ b in
     let list : code_or_none (adapter_code a.own a.site) ≡ code.instructions = cc in
     no_dynamic code.instructions at r (ap (list_any is_dynamic) (sym list) ∙ adapters_siteless a.own a.site) i
-
-module _ (cs : List Class) (distinct : AreDistinct (adapters_of (with_library cs) cs)) (away : AreApart (with_library cs) (adapters_of (with_library cs) cs)) where
-  abbrev p : Look
-  p = with_library cs
-
-  abbrev made : List Class
-  made = adapters_of p cs
-
-  -- an adapter is no interface
-  interface_same : (o q : Option Linked) → ((a : Linked) → q ≡ Some a → IsAdapter a) → is_interface_class (outline_of (first_of o q)) ≡ is_interface_class (outline_of o)
-  interface_same (Some c) q h = refl
-  interface_same None None h = refl
-  interface_same None (Some a) h = let x = h a refl in ap (λ (z : Linked). is_interface_class (outline_of (Some z))) x.same_class
-
-  made_is : (n : Name) (a : Linked) → class_among made n ≡ Some a → IsAdapter a
-  made_is n a e = all_in (n, a) made (classes_adapters p cs) (among_in n a made e)
-
-  of_class : (own : Name) (s : Site) (x : IsSite (with_sites cs) own s) (o q g : Option Linked) → class_among cs x.owner ≡ o → class_among library_classes x.owner ≡ q → class_among made x.owner ≡ g → first_of (first_of o q) g ≡ Some x.class → In (x.owner, x.class) cs
-  of_class own s x (Some c) q g h k l e = among_in x.owner x.class cs (h ∙ e)
-  of_class own s x None (Some c) g h k l e =
-      absurd (of_plain x.class x.method x.at x.member x.code x.dynamic (found_all is_plain_class library_classes x.owner x.class library_classes_plain (k ∙ e)) x.has_method x.has_code x.has_dynamic)
-  of_class own s x None None g h k l e =
-      absurd (of_adapter x.class x.method x.at x.member x.code x.dynamic (made_is x.owner x.class (l ∙ e)) x.has_method x.has_code x.has_dynamic)
-
-  pub sited : HasAdapters (with_sites cs)
-  sited own s x =
-      let here = of_class own s x (class_among cs x.owner) (class_among library_classes x.owner) (class_among made x.owner) refl refl refl x.has_class in
-      let name = site_name x.owner x.method (dynamics_before x.at x.code.instructions) in
-      let number = dynamics_before x.at x.code.instructions in
-      let none : 0 + number ≡ number = omega arith in
-      let zero_more : x.method ≡ 0 + x.method = omega arith in
-      let coded =
-      subst (λ j. In (site_name x.owner x.method j, adapter (site_name x.owner x.method j) (is_interface_at p s.interface) s) (adapters_in_code p x.owner x.class.bootstraps x.method 0 x.code.instructions)) none
-      (in_code p x.owner x.class.bootstraps x.method 0 x.at x.code.instructions x.dynamic s x.has_dynamic x.means) in
-      let listed : In (name, adapter name (is_interface_at p s.interface) s) made =
-      in_classes p _ x.owner x.class cs here
-      (in_methods p x.owner x.class.bootstraps _ x.member 0 x.method x.class.methods x.has_method
-      (subst (λ b. In (name, adapter name (is_interface_at p s.interface) s) (adapters_in_body p x.owner x.class.bootstraps (0 + x.method) (code_in b))) (sym x.has_code)
-      (subst (λ k. In (name, adapter name (is_interface_at p s.interface) s) (adapters_in_code p x.owner x.class.bootstraps k 0 x.code.instructions)) zero_more coded))) in
-      let look : with_sites cs name ≡ Some (adapter name (is_interface_at p s.interface) s) =
-      ap (λ o. first_of o (class_among made name)) (apart p name _ made away listed) ∙ found name _ made distinct listed in
-      let interface : is_interface_at (with_sites cs) s.interface ≡ is_interface_at p s.interface = interface_same (p s.interface) (class_among made s.interface) (made_is s.interface) in
-      subst (λ n. with_sites cs n ≡ Some (adapter n (is_interface_at (with_sites cs) s.interface) s)) (sym x.named)
-      (look ∙ ap (λ b. Some (adapter name b s)) (sym interface))
-
-pub sited_have_adapters : SitedHaveAdapters
-sited_have_adapters cs distinct away = sited cs distinct away

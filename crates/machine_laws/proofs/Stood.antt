@@ -9,7 +9,8 @@ use Rattle.program_rules.specs.Instructions.{Instruction, DynamicRef, Nop, NullC
 use Rattle.program_rules.specs.Linked.{Linked, LinkedMethod, LinkedCode, HasCode}
 use Rattle.program_rules.specs.Outlines.{outline_of, is_interface_class}
 use Rattle.program_rules.specs.Programs.{Look}
-use Rattle.program_rules.specs.Sites.{Site, is_dynamic, dynamics_before, site_of, site_name, is_interface_at, adapter}
+use Rattle.program_rules.specs.Sites.{Site, is_dynamic, dynamics_before, site_of, site_name, adapter}
+use Rattle.program_rules.specs.Adapters.{is_interface_at}
 use Rattle.program_rules.specs.Adapted.{IsSite, HasAdapters}
 use Rattle.machine_laws.specs.Edit.{Edit, moved_place, relocate, replaced_at, edited_code, edited_method, edited_class, IsEdited}
 use Rattle.machine_laws.proofs.Places.{set_same, set_other}

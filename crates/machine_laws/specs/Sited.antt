@@ -1,31 +1,26 @@
--- A program of classes, the library and the adapters of their sites.
-use Rattle.std.specs.Prelude.{◌≡◌, ◌<◌, ◌^◌, ℕ, List, [], ◌∷◌, length, Option, Some, None, slice_get}
+-- A program with the adapters of its sites.
+use Rattle.std.specs.Prelude.{◌≡◌, ◌<◌, ◌^◌, ℕ, Bool, true, false, nat_eq, List, [], ◌∷◌, length, Option, Some, None, slice_get}
+use Rattle.std.specs.List.{list_any}
 use Rattle.program_rules.specs.Names.{Name}
 use Rattle.program_rules.specs.Linked.{Linked, LinkedMethod, LinkedCode, HasCode, Bootstrap}
 use Rattle.program_rules.specs.Programs.{Look}
-use Rattle.program_rules.specs.Library.{class_among, with_library}
-use Rattle.program_rules.specs.Sites.{adapters_in_methods, adapters_of, with_sites}
+use Rattle.program_rules.specs.Library.{class_among}
+use Rattle.program_rules.specs.Adapters.{adapters_in_methods, adapters_in_class, adapters_of, adapters_by, with_adapters}
 use Rattle.program_rules.specs.Adapted.{HasAdapters}
+use Rattle.machine_laws.specs.Plain.{IsPlain}
+
+-- ---- names
+
+-- Whether a text has a semicolon.
+abbrev pub has_semicolon : Name → Bool
+has_semicolon n = list_any (λ c. nat_eq c 59) n
 
 -- No two of these classes have one name.
 abbrev pub AreDistinct : List (Name × Linked) → Type 0
 AreDistinct [] = Unit {0}
 AreDistinct (c ∷ cs) = (class_among cs c.0 ≡ None) × AreDistinct cs
 
--- No class of the program has the name of one of these.
-abbrev pub AreApart : Look → List (Name × Linked) → Type 0
-AreApart p [] = Unit {0}
-AreApart p (c ∷ cs) = (p c.0 ≡ None) × AreApart p cs
-
--- A program that is made with the adapters of its sites has them, where no two of its classes have
--- one name.
-abbrev pub SitedHaveAdapters : Type 0
-SitedHaveAdapters =
-    (cs : List (Name × Linked)) → AreDistinct (adapters_of (with_library cs) cs) →
-    AreApart (with_library cs) (adapters_of (with_library cs) cs) → HasAdapters (with_sites cs)
-
--- A class has fewer than 2^16 methods, and each code fewer instructions. Who links class files gives
--- this (JVMS 4.1, 4.7.3).
+-- A class has fewer than 2^16 methods, and each code fewer instructions.
 pub record IsCounted (ms : List LinkedMethod) : Type 0 where
   pub methods : length ms < 2 ^ 16
   pub codes :
@@ -37,3 +32,35 @@ abbrev pub SitesGiveNames : Type 0
 SitesGiveNames =
     (p : Look) (class : Name) (bs : List (Option Bootstrap)) (ms : List LinkedMethod) →
     IsCounted ms → AreDistinct (adapters_in_methods p class bs 0 ms)
+
+-- ---- programs
+
+-- No class has a semicolon in its name (JVMS 4.2.1), or more methods and code than a class file
+-- (4.1, 4.7.3). Who builds a program of class files and the library gives this.
+pub record IsOfFiles (p : Look) : Type 0 where
+  pub names : (n : Name) (c : Linked) → p n ≡ Some c → has_semicolon n ≡ false
+  pub counted : (n : Name) (c : Linked) → p n ≡ Some c → IsCounted c.methods
+
+-- Such a program, with the adapters that their names tell, has the adapters of all its sites.
+abbrev pub AdaptersAreTold : Type 0
+AdaptersAreTold = (p : Look) → IsOfFiles p → HasAdapters (with_adapters p)
+
+-- What is told so is of the library.
+abbrev pub ToldAreOfLibrary : Type 0
+ToldAreOfLibrary =
+    (p : Look) (n : Name) (c : Linked) → adapters_by p n ≡ Some c → c.library ≡ true
+
+-- Only names of adapters tell anything.
+abbrev pub PlainTellNone : Type 0
+PlainTellNone = (p : Look) (n : Name) → IsPlain n → adapters_by p n ≡ None
+
+-- These are the classes of the program that have sites, perhaps with others.
+pub record HasSitesOf (p : Look) (cs : List (Name × Linked)) : Type 0 where
+  pub there : (n : Name) (c : Linked) → class_among cs n ≡ Some c → p n ≡ Some c
+  pub others : (n : Name) → class_among cs n ≡ None → adapters_in_class p n (p n) ≡ []
+
+-- The adapters of such classes in a list are those that their names tell.
+abbrev pub ListedAreTold : Type 0
+ListedAreTold =
+    (p : Look) (cs : List (Name × Linked)) → IsOfFiles p → AreDistinct cs → HasSitesOf p cs →
+    (n : Name) → class_among (adapters_of p cs) n ≡ adapters_by p n

@@ -7,7 +7,7 @@ use Rattle.program_rules.specs.declared.operation.Operation.TheVariants.{Plus, T
 use Rattle.program_rules.specs.declared.operation.Comparison.TheVariants.{IsEqual}
 use Rattle.program_rules.specs.declared.operation.Conversion.TheVariants.{IntToLong, LongToInt}
 use Rattle.program_rules.specs.Linked.{Linked, Bootstrap, NoBody}
-use Rattle.program_rules.specs.Sites.{with_sites}
+use Rattle.program_rules.specs.Adapters.{with_sites}
 use Rattle.machine_rules.specs.Outcomes.{Passed, MemoryOut}
 use Rattle.machine_rules.specs.Runs.{With, Ran, run_of}
 use Rattle.machine_tries.specs.Tries.{told, thrown_by, a_field, a_method, a_code, a_member, a_linked_field, a_class, asserts_true, starts_object, plain_start, of_t}

@@ -18,7 +18,9 @@ use Rattle.machine_laws.specs.Consulted.{IsWhole}
 use Rattle.machine_laws.specs.Plain.{TestPlain}
 use Rattle.machine_laws.specs.Walks.{LinesAreListed}
 use Rattle.machine_laws.proofs.Walks.{runs_lines, runs_keep}
-use Rattle.record_rules.specs.Profiles.{Held, Profile, class_by}
+use Rattle.machine_laws.proofs.Told.{told_library}
+use Rattle.program_rules.specs.Adapters.{adapters_by}
+use Rattle.record_rules.specs.Profiles.{Held, Profile, plain_by, class_by}
 use Rattle.record_rules.specs.Records.{Asked, run, place_in, is_before, put_pair, reached_in, with_bytes}
 use Rattle.reuse_laws.specs.Asking.{IsProfile}
 use Rattle.reuse_laws.specs.Closing.{AreDifferentNames}
@@ -116,8 +118,8 @@ no_file None None alone made h = cc
 no_file None (Some c) alone made h = let e : (if c.library then false else true) ≡ false = ap (λ (b : Bool). if b then false else true) (made c refl) in cc
 no_file (Some c) a alone made h = let e : (if c.library then false else true) ≡ false = ap (λ (b : Bool). if b then false else true) (alone c refl) in cc
 
-held_case : (m : Profile) → IsProfile m → (held : Held) (n : Name) (o : Option (List ℕ)) → is_from_file (first_of (first_of (option_and_then (m.class n) o) (m.library n)) (m.adapters held n)) ≡ true → (bytes : List ℕ) × (o ≡ Some bytes)
-held_case m ok held n None h = absurd (no_file (m.library n) (m.adapters held n) (ok.alone n) (ok.made held n) h)
+held_case : (m : Profile) → IsProfile m → (held : Held) (n : Name) (o : Option (List ℕ)) → is_from_file (first_of (first_of (option_and_then (m.class n) o) (m.library n)) (adapters_by (plain_by m held) n)) ≡ true → (bytes : List ℕ) × (o ≡ Some bytes)
+held_case m ok held n None h = absurd (no_file (m.library n) (adapters_by (plain_by m held) n) (ok.alone n) (told_library (plain_by m held) n) h)
 held_case m ok held n (Some b) h = (b, refl)
 
 own_reached : (x : Name × ℕ) (rs : List (Name × ℕ)) → is_reached x.0 x.1 (x ∷ rs) ≡ true

@@ -1,4 +1,3 @@
-pub mod Adapters
 pub mod Profiles
 pub mod Outcomes
 pub mod Records

@@ -5,6 +5,7 @@ use Rattle.program_rules.specs.Linked.{Linked}
 use Rattle.program_rules.specs.Programs.{Look}
 use Rattle.program_rules.specs.Tests.{Test}
 use Rattle.program_rules.specs.Library.{first_of}
+use Rattle.program_rules.specs.Adapters.{with_adapters}
 
 -- The bytes of the class file of each name.
 abbrev pub Held : Type 0
@@ -16,8 +17,6 @@ pub record Profile : Type 0 where
   pub class : Name → List ℕ → Option Linked
   -- the classes of the library, which are the same beside all class files
   pub library : Look
-  -- the adapters of the sites of these class files: the name of one tells its class
-  pub adapters : Held → Look
   -- the test that a method of a class is, with its script, if it is one
   pub test : Held → Name → Name → Option Test
   -- whether class files are a program with the library: they have no fault of names and supers
@@ -29,7 +28,7 @@ plain_by m held n = first_of (option_and_then (m.class n) (held n)) (m.library n
 
 -- The class of a name, among class files, the library and the adapters of their sites.
 abbrev pub class_by : Profile → Held → Look
-class_by m held n = first_of (plain_by m held n) (m.adapters held n)
+class_by m held = with_adapters (plain_by m held)
 
 -- These class files, the library and the adapters are the program.
 abbrev pub IsProgramOf : Profile → Held → Look → Type 0

@@ -8,6 +8,7 @@ use Rattle.program_rules.specs.Programs.{Look}
 use Rattle.program_rules.specs.Library.{first_of}
 use Rattle.machine_laws.specs.Consulted.{IsKnown, AllKnown, AllSeen}
 use Rattle.machine_laws.specs.Plain.{IsPlain, ArePlain}
+use Rattle.machine_laws.proofs.Told.{tell_none}
 use Rattle.record_rules.specs.Profiles.{Held, Profile, plain_by, class_by}
 use Rattle.record_rules.specs.Records.{with_bytes}
 use Rattle.record_rules.specs.Matching.{same_bytes, holds_as, holds_all}
@@ -31,16 +32,16 @@ first_alone None = refl
 first_alone (Some c) = refl
 
 -- under a name that is none of an adapter, adapters have no part
-plain_class : (m : Profile) → IsProfile m → (held : Held) (n : Name) → IsPlain n → class_by m held n ≡ plain_by m held n
-plain_class m ok held n plain = ap (λ (o : Option Linked). first_of (plain_by m held n) o) (ok.named held n plain) ∙ first_alone (plain_by m held n)
+plain_class : (m : Profile) (held : Held) (n : Name) → IsPlain n → class_by m held n ≡ plain_by m held n
+plain_class m held n plain = ap (λ (o : Option Linked). first_of (plain_by m held n) o) (tell_none (plain_by m held) n plain) ∙ first_alone (plain_by m held n)
 
 -- so there the class is the same where the class file is
-pub class_same : (m : Profile) → IsProfile m → (held held' : Held) (n : Name) → IsPlain n → held' n ≡ held n → class_by m held' n ≡ class_by m held n
-class_same m ok held held' n plain e =
-    plain_class m ok held' n plain ∙ ap (λ (o : Option (List ℕ)). first_of (option_and_then (m.class n) o) (m.library n)) e ∙ sym (plain_class m ok held n plain)
+pub class_same : (m : Profile) (held held' : Held) (n : Name) → IsPlain n → held' n ≡ held n → class_by m held' n ≡ class_by m held n
+class_same m held held' n plain e =
+    plain_class m held' n plain ∙ ap (λ (o : Option (List ℕ)). first_of (option_and_then (m.class n) o) (m.library n)) e ∙ sym (plain_class m held n plain)
 
 pub library_name : (m : Profile) → IsProfile m → (held : Held) → AreApart m held → (n : Name) → IsPlain n → is_library (class_by m held n) ≡ true → (held n ≡ None) × (is_library (m.library n) ≡ true)
-library_name m ok held apart n plain h = name_case m ok n (held n) (λ b e. (apart n b e).0) (ap is_library (sym (plain_class m ok held n plain)) ∙ h)
+library_name m ok held apart n plain h = name_case m ok n (held n) (λ b e. (apart n b e).0) (ap is_library (sym (plain_class m held n plain)) ∙ h)
 
 none_case : (m : Profile) (n : Name) (o : Option (List ℕ)) → ((bytes : List ℕ) → o ≡ Some bytes → m.library n ≡ None) → is_library (m.library n) ≡ true → o ≡ None
 none_case m n None apart h = refl

@@ -1,4 +1,3 @@
-pub mod Adapters
 pub mod Tests
 pub mod Held
 pub mod Matched

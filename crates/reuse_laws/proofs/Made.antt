@@ -57,7 +57,7 @@ module _ (m : Profile) (ok : IsProfile m) (held : Held) (t : Test) (q : Limits) 
   agree =
       adapters_agree (class_by m held) (class_by m less) names whole.names whole.adapters
       (ok.whole less (fewer_apart m held apart names)).adapters
-      (λ k p s. class_same m ok held less k p (less_same k p s))
+      (λ k p s. class_same m held less k p (less_same k p s))
 
   seen_above : (k : Name) → IsPlain k → IsKnown (class_by m held) (supers (class_by m held) t.class) k → IsKnown (class_by m held) names k
   seen_above k p s =

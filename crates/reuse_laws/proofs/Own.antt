@@ -52,7 +52,7 @@ module _ (m : Profile) (ok : IsProfile m) (held : Held) (apart : AreApart m held
 
   pub alike_on : AreClosed p ns → IsAlike p (class_by m (held_in (with_bytes held ns))) ns
   alike_on closed = record {
-    same = λ n plain s. class_same m ok held (held_in (with_bytes held ns)) n plain (less_same n plain s);
+    same = λ n plain s. class_same m held (held_in (with_bytes held ns)) n plain (less_same n plain s);
     above = above_of closed;
     differ = closed.differ;
     apart = closed.apart;

@@ -124,7 +124,7 @@ module _ (m : Profile) (ok : IsProfile m) (x : Asked) (r : RunRecord) (asked : I
       subst (λ (p : Look). Agree own.look p (run own).consulted) (sym asked.program)
       (adapters_agree own.look (class_by m x.held) (run own).consulted own_whole.names own_whole.adapters
       (ok.whole x.held asked.apart).adapters
-      (λ k plain s. class_same m ok own.held x.held k plain (held_same k plain s)))
+      (λ k plain s. class_same m own.held x.held k plain (held_same k plain s)))
 
   class_is : own.test.class ≡ r.test_class
   class_is = ap (λ (z : RunRecord). z.test_class) has.made

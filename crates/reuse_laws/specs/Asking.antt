@@ -32,10 +32,6 @@ pub record IsProfile (m : Profile) : Type 0 where
       (n : Name) (bytes : List ℕ) (c : Linked) → m.class n bytes ≡ Some c → c.library ≡ false
   -- and the library's are
   pub alone : (n : Name) (c : Linked) → m.library n ≡ Some c → c.library ≡ true
-  -- and so are adapters, which have names of their own
-  pub made :
-      (held : Held) (n : Name) (c : Linked) → m.adapters held n ≡ Some c → c.library ≡ true
-  pub named : (held : Held) (n : Name) → IsPlain n → m.adapters held n ≡ None
   -- class files that are a program have no names of library classes or adapters
   pub apart : (fs : List (Name × List ℕ)) → m.builds fs ≡ true → All (λ f. IsApart m f.0) fs
   -- beside class files that have none of its names the library is closed, no class names an

@@ -4,7 +4,6 @@
 //! programs, the machine and records alone, and stand on the frame law and the law of limits.
 #![tactic(auto)]
 
-ghost use Rattle.reuse_laws.specs.Adapters.{AdaptersAreTold, ToldAreOfLibrary, PlainTellNone};
 ghost use Rattle.reuse_laws.specs.Reuse.{MatchingRecordsAreRuns, TrueUnderLimits};
 ghost use Rattle.reuse_laws.specs.Reuse.{RecordsOfRunsAreTrue, RecordsMatchTheirRuns};
 ghost use Rattle.reuse_laws.specs.Reuse.{KeptRunsAreFound};
@@ -69,12 +68,4 @@ pub fn runs_are_closed()
 pub fn indices_may_leave_out()
     ensures enough { KeptAreEnough }
     ensures held { MatchesHold }
-{}
-
-/// Class files and the library with the adapters that their names tell have the adapters of all
-/// sites. So the class that a name means is a function of the class files that are held.
-pub fn adapters_are_told()
-    ensures has { AdaptersAreTold }
-    ensures library { ToldAreOfLibrary }
-    ensures plain { PlainTellNone }
 {}

@@ -8,7 +8,8 @@ use Rattle.program_rules.specs.Types.{VType}
 use Rattle.program_rules.specs.Instructions.{DynamicRef, InvokeDynamic}
 use Rattle.program_rules.specs.Linked.{Linked, LinkedMethod, LinkedCode, code_in, method_place}
 use Rattle.program_rules.specs.Programs.{Look}
-use Rattle.program_rules.specs.Sites.{Site, site_name, dynamics_before, is_interface_at, adapter, adapter_method, adapter_code, code_or_none, most_words, words_of_kinds}
+use Rattle.program_rules.specs.Sites.{Site, site_name, dynamics_before, adapter, adapter_method, adapter_code, code_or_none, most_words, words_of_kinds}
+use Rattle.program_rules.specs.Adapters.{is_interface_at}
 use Rattle.type_rules.specs.References.{Classes, classes_of}
 use Rattle.type_rules.specs.Assignability.{FrameTypes, assignable, height}
 use Rattle.type_rules.specs.Frames.{FullFrame, expand, first_items, type_of}

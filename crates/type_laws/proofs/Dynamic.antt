@@ -13,7 +13,8 @@ use Rattle.program_rules.specs.declared.fault.Fault.TheVariants.{IncompatibleCla
 use Rattle.program_rules.specs.Objects.{Object, Plain}
 use Rattle.program_rules.specs.Outlines.{outline, outline_of, is_interface_class, fields_in}
 use Rattle.program_rules.specs.Programs.{Look, Rising, concat_over, option_list, superclass_in, nodes_within, nodes, family}
-use Rattle.program_rules.specs.Sites.{Site, site_of, site_by, site_given, if_formed, adapter, captured_fields, site_name, dynamics_before, is_interface_at}
+use Rattle.program_rules.specs.Sites.{Site, site_of, site_by, site_given, if_formed, adapter, captured_fields, site_name, dynamics_before}
+use Rattle.program_rules.specs.Adapters.{is_interface_at}
 use Rattle.program_rules.specs.Adapted.{IsSite}
 use Rattle.machine_rules.specs.State.{Frame, World}
 use Rattle.machine_rules.specs.Effects.{Effect, on_args, allocate}

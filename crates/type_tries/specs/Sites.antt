@@ -5,7 +5,7 @@ use Rattle.program_rules.specs.Instructions.{NullConstant, IntConstant, IntLoad,
 use Rattle.program_rules.specs.declared.operation.Operation.TheVariants.{Plus, Times, Divide}
 use Rattle.program_rules.specs.declared.operation.Conversion.TheVariants.{IntToLong, LongToInt}
 use Rattle.program_rules.specs.Linked.{NoBody}
-use Rattle.program_rules.specs.Sites.{with_sites}
+use Rattle.program_rules.specs.Adapters.{with_sites}
 use Rattle.machine_tries.specs.Tries.{a_field, a_method, a_code, a_member, a_linked_field, a_class, starts_object, plain_start}
 use Rattle.program_rules.specs.Programs.{Look}
 use Rattle.machine_tries.specs.SiteTries.{a_bootstrap, a_dynamic, with_bootstraps}
